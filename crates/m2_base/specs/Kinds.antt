@@ -1,0 +1,86 @@
+-- The kinds of token: what spells the reserved words and the symbols.
+use Rattle.std.specs.Prelude.{ℕ, List, [], ◌∷◌, Option, option_map, find, codes}
+use Rattle.std.specs.Str.{bytes_eq}
+use Rattle.m2_base.specs.declared.kind.TokenKind.{TokenKind}
+use Rattle.m2_base.specs.declared.kind.TokenKind.TheVariants.{And, Array, Begin, By, Case, Const, Definition, Div, Do, Else, Elsif, End, Exit, Export, For, From, If, Implementation, Import, In, Loop, Mod, Module, Not, Of, Or, Pointer, Procedure, Qualified, Record, Repeat, Return, Set, Then, To, «Type», Until, Var, While, With, Plus, Minus, Times, Slash, Becomes, Period, Comma, Semicolon, LeftParenthesis, LeftBracket, LeftBrace, Arrow, Equal, Unequal, Less, Greater, LessEqual, GreaterEqual, Ellipsis, Colon, RightParenthesis, RightBracket, RightBrace, Bar}
+
+-- the kind that the table has for these bytes
+abbrev pub kind_in : List (List ℕ × TokenKind) → List ℕ → Option TokenKind
+kind_in table spelling = option_map (λ entry. entry.1) (find (λ entry. bytes_eq spelling entry.0) table)
+
+-- the reserved words, in the order of their kinds
+abbrev pub reserved_words : List (List ℕ × TokenKind)
+reserved_words =
+    (codes "AND", And)
+    ∷ (codes "ARRAY", Array)
+    ∷ (codes "BEGIN", Begin)
+    ∷ (codes "BY", By)
+    ∷ (codes "CASE", Case)
+    ∷ (codes "CONST", Const)
+    ∷ (codes "DEFINITION", Definition)
+    ∷ (codes "DIV", Div)
+    ∷ (codes "DO", Do)
+    ∷ (codes "ELSE", Else)
+    ∷ (codes "ELSIF", Elsif)
+    ∷ (codes "END", End)
+    ∷ (codes "EXIT", Exit)
+    ∷ (codes "EXPORT", Export)
+    ∷ (codes "FOR", For)
+    ∷ (codes "FROM", From)
+    ∷ (codes "IF", If)
+    ∷ (codes "IMPLEMENTATION", Implementation)
+    ∷ (codes "IMPORT", Import)
+    ∷ (codes "IN", In)
+    ∷ (codes "LOOP", Loop)
+    ∷ (codes "MOD", Mod)
+    ∷ (codes "MODULE", Module)
+    ∷ (codes "NOT", Not)
+    ∷ (codes "OF", Of)
+    ∷ (codes "OR", Or)
+    ∷ (codes "POINTER", Pointer)
+    ∷ (codes "PROCEDURE", Procedure)
+    ∷ (codes "QUALIFIED", Qualified)
+    ∷ (codes "RECORD", Record)
+    ∷ (codes "REPEAT", Repeat)
+    ∷ (codes "RETURN", Return)
+    ∷ (codes "SET", Set)
+    ∷ (codes "THEN", Then)
+    ∷ (codes "TO", To)
+    ∷ (codes "TYPE", «Type»)
+    ∷ (codes "UNTIL", Until)
+    ∷ (codes "VAR", Var)
+    ∷ (codes "WHILE", While)
+    ∷ (codes "WITH", With)
+    ∷ []
+
+-- the symbols; three have a second spelling
+abbrev pub symbols : List (List ℕ × TokenKind)
+symbols =
+    (codes "+", Plus)
+    ∷ (codes "-", Minus)
+    ∷ (codes "*", Times)
+    ∷ (codes "/", Slash)
+    ∷ (codes ":=", Becomes)
+    ∷ (codes ".", Period)
+    ∷ (codes ",", Comma)
+    ∷ (codes ";", Semicolon)
+    ∷ (codes "(", LeftParenthesis)
+    ∷ (codes "[", LeftBracket)
+    ∷ (codes "{", LeftBrace)
+    ∷ (codes "^", Arrow)
+    ∷ (codes "=", Equal)
+    ∷ (codes "#", Unequal)
+    ∷ (codes "<", Less)
+    ∷ (codes ">", Greater)
+    ∷ (codes "<=", LessEqual)
+    ∷ (codes ">=", GreaterEqual)
+    ∷ (codes "..", Ellipsis)
+    ∷ (codes ":", Colon)
+    ∷ (codes ")", RightParenthesis)
+    ∷ (codes "]", RightBracket)
+    ∷ (codes "}", RightBrace)
+    ∷ (codes "|", Bar)
+    ∷ (codes "<>", Unequal)
+    ∷ (codes "&", And)
+    ∷ (codes "~", Not)
+    ∷ []

@@ -1,0 +1,10 @@
+//! Which tokens does a text have?
+//!
+//! `lex` gives the tokens of a text by the definition in `m2_base` (`Tokens`): one pass, one lexeme at a time, each the
+//! longest match. The layer above uses the one contract of `lex`: what it gives are the text's tokens, and the names are
+//! numbered on from those that it was given.
+#![tactic(auto)]
+
+mod lexer;
+
+pub use lexer::{LexFault, lex};
