@@ -1,1 +1,3 @@
 mod KindTables
+pub mod Numbers
+mod Texts
