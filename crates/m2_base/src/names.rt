@@ -136,7 +136,8 @@ impl Names {
         Ok(number as u32)
     }
 
-    /// Makes ready for the names of a text: its names can't be chosen so that finding their numbers grows slow.
+    /// Makes ready for the names of a text: its names can't be chosen so that finding their numbers grows slow. It reads
+    /// the text and the names so far, so call it once for each text. The names stay, also where memory runs out.
     pub fn prepare(&mut self, alloc: Global, text: &[u8]) -> Result<(), Memory>
         ensures { self.new ≡ self.old }
     {
