@@ -1,5 +1,5 @@
 mod KindTables
 pub mod Numbers
-mod OneList
+pub mod OneList
 pub mod OneReading
 mod Texts

@@ -99,3 +99,8 @@ IsDistinct-with_names old (b ∷ new) differ =
 pub IsDistinct-standard_names : IsDistinct bytes_eq standard_names
 unfolding standard_names IsDistinct
 IsDistinct-standard_names = IsDistinct-with_names [] standard_names tt
+
+-- how many names each unit begins with
+pub length-standard_names : length standard_names ≡ 28
+unfolding standard_names
+length-standard_names = refl

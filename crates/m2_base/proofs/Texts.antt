@@ -1,6 +1,6 @@
 -- The set of names, and the list of their texts that contracts see.
-use Rattle.std.proofs.Common.{◌≡◌, ℕ, ◌+◌, ◌<◌, Bool, true, false, cond, not, ◌||◌, List, [], ◌∷◌, ◌++◌, Some, None, map, length, take, get_or, slice_get, sym, ◌∙◌, ap, refl}
-use Rattle.std.specs.Prelude.{position, option_map, nat_lt}
+use Rattle.std.proofs.Common.{◌≡◌, ℕ, ◌+◌, ◌<◌, Bool, true, false, cond, not, ◌||◌, List, [], ◌∷◌, ◌++◌, Some, None, map, length, take, get_or, slice_get, sym, ◌∙◌, ap, subst, refl}
+use Rattle.std.specs.Prelude.{IsSome, position, option_map, nat_lt}
 use Rattle.std.specs.List.{list_any, position_or_len, IsDistinct, AllByRecursion}
 use Rattle.std.specs.Str.{bytes_eq}
 use Rattle.std.specs.Cmp.Lexicographic.{on_texts_equal}
@@ -53,6 +53,10 @@ module _ {V : Type 0} (items : V → List ℕ) where
     number_in-map ks =
         ap (λ n. cond (nat_lt n (length (map items ks))) (Some n) None) (first-map ks)
         ∙ ap (λ len. cond (nat_lt (position_or_len (λ k. bytes_eq b (items k)) ks) len) (Some (position_or_len (λ k. bytes_eq b (items k)) ks)) None) (length-map ks items)
+
+    -- a text that the set lacks has no number
+    pub number_in-lacks : (ks : List V) → position (λ k. bytes_eq b (items k)) ks ≡ None → IsSome (number_in (map items ks) b) → ⊥
+    number_in-lacks ks lacks known = let wrong : false ≡ true = subst IsSome (number_in-map ks ∙ lacks) known in cc
 
     -- the place of a key with this text is the number
     pub number_in-place : (ks : List V) (n : ℕ) (k : V) → IsDistinct same_text ks → slice_get ks n ≡ Some k → bytes_eq b (items k) ≡ true → number_in (map items ks) b ≡ Some n

@@ -1,5 +1,7 @@
 //! Names as numbers.
-ghost use Rattle.std.specs.Prelude.{◌≡◌, ◌+◌, ◌-◌, ◌^◌, ◌<◌, ◌≤◌, List, [], ℕ, length, map, slice_get, Some, IfOk, OnOk, OnErr};
+ghost use Rattle.std.specs.Prelude.{◌≡◌, ◌+◌, ◌-◌, ◌^◌, ◌<◌, ◌≤◌, List, [], ℕ, length, map, slice_get, Some, IsSome, IsOk, IfOk, OnOk, OnErr};
+ghost use Rattle.std.specs.Hash.DefaultHasher.{initial, write};
+ghost use Rattle.sha2.specs.Sha512.{sha512};
 ghost use Rattle.m2_base.specs.Names.{with_name, with_names, number_in, standard_names};
 
 use crate::memory::Memory;
@@ -49,14 +51,18 @@ struct NameHasher {
 
 impl NameHasher {
     /// Of no text.
-    fn new() -> NameHasher {
+    fn new() -> NameHasher
+        ensures { result.start ≡ initial }
+    {
         NameHasher {
             start: DefaultHasher::new(),
         }
     }
 
     /// Of one more text.
-    fn with_text(self, text: &[u8]) -> NameHasher {
+    fn with_text(self, text: &[u8]) -> NameHasher
+        ensures { result.start ≡ write self.start (sha512 text.now) }
+    {
         let mut start = self.start;
         start.write(&Sha512::digest(text));
         NameHasher { start }
@@ -118,6 +124,9 @@ impl Names {
         ensures number { IfOk result (λ number. number_in self.new bytes.now ≡ Some number) }
         ensures names { OnOk result (self.new ≡ with_name self.old bytes.now) }
         ensures err { OnErr result (self.new ≡ self.old) }
+
+        // A text that has a number needs no memory.
+        ensures known { IsSome (number_in self.old bytes.now) → IsOk result }
     {
         if let Some(number) = self.texts.get_index_of(bytes) {
             return Ok(number as u32);
@@ -127,7 +136,8 @@ impl Names {
         Ok(number as u32)
     }
 
-    /// Makes ready for the names of a text: its names can't be chosen so that finding their numbers grows slow.
+    /// Makes ready for the names of a text: its names can't be chosen so that finding their numbers grows slow. It reads
+    /// the text and the names so far, so call it once for each text. The names stay, also where memory runs out.
     pub fn prepare(&mut self, alloc: Global, text: &[u8]) -> Result<(), Memory>
         ensures { self.new ≡ self.old }
     {
@@ -152,5 +162,36 @@ impl Names {
         ensures number { number_in self.now result.now ≡ Some name }
     {
         self.texts.as_slice()[name as usize].as_slice()
+    }
+}
+
+#[cfg(test)]
+mod tests {
+    use super::*;
+    use std::test::Fail;
+
+    #[test]
+    fn numbers_texts(rt: HostRuntime) -> Result<(), Fail> {
+        let alloc = rt.alloc();
+        let mut names = Names::new(alloc)?;
+        assert_eq!(rt; names.count(), 28);
+        let cases: [(&[u8], u32); 7] = [
+            (b"INTEGER", 1),
+            (b"InOut", 27),
+            (b"x", 28),
+            (b"inout", 29),
+            (b"x", 28),
+            (b"", 0),
+            (b"\xff\0", 30),
+        ];
+        for (text, number) in cases {
+            names.prepare(alloc, text)?;
+            assert!(rt; names.count() < 100);
+            assert_eq!(rt; names.intern(alloc, text)?, number);
+            assert!(rt; number < names.count());
+            assert!(rt; names.bytes(number) == text, "number {number}");
+        }
+        assert_eq!(rt; names.count(), 31);
+        Ok(())
     }
 }
