@@ -1,5 +1,5 @@
 //! A shelf over a real folder. It tells nothing of its texts.
-ghost use Rattle.std.specs.Prelude.{◌≡◌, ◌≤◌, ◌↔◌, ℕ, None, Option, IfOk, IfSome, IsTrue, IsErr, IsErrOf, vec_len, string_bytes};
+ghost use Rattle.std.specs.Prelude.{◌≡◌, ◌≤◌, ◌↔◌, None, Option, IfOk, IfSome, IsTrue, IsErr, IsErrOf, vec_len, string_bytes};
 ghost use Rattle.std.specs.Path.{path_buf_bytes, path_join};
 ghost use Rattle.m2_io.specs.Causes.{RoseWhere};
 ghost use Rattle.m2_io.specs.PlainName.{IsPlainName};
@@ -12,6 +12,12 @@ use std::rt::Runtime;
 use std::{fs, io};
 
 impl From<io::Error> for ShelfError {
+    ghost use Rattle.std.specs.IoError.{error_kind};
+    ghost use Rattle.std.specs.declared.io.ErrorKind.TheVariants.{OutOfMemory};
+    ghost use Rattle.m2_io.specs.declared.shelf.ShelfError.TheVariants.{Memory};
+
+    ghost from_gives = { λ error e. (e ≡ Memory) ↔ (error_kind error ≡ OutOfMemory) };
+
     fn from(error: io::Error) -> Self {
         match error.kind() {
             ErrorKind::OutOfMemory => ShelfError::Memory,
@@ -95,7 +101,8 @@ impl<R: Runtime> Shelf for FolderShelf<R> {
         ensures refused { ¬ IsPlainName name.now → IsErrOf result ShelfError.Failed }
 
         // It counts each answer that isn't Ok.
-        ensures faults { RoseWhere (IsErr result) (⟦<Self as Shelf>⟧.faults self.old) (⟦<Self as Shelf>⟧.faults self.new) }
+        ensures faults { RoseWhere (IsErr result)
+            (⟦<Self as Shelf>⟧.faults self.old) (⟦<Self as Shelf>⟧.faults self.new) }
         ensures later { ⟦<Self as Shelf>⟧.faults self.old ≤ ⟦<Self as Shelf>⟧.faults self.new }
         ensures put_faults { ⟦<Self as Shelf>⟧.put_faults self.new ≡ ⟦<Self as Shelf>⟧.put_faults self.old }
     {
@@ -110,7 +117,8 @@ impl<R: Runtime> Shelf for FolderShelf<R> {
         ensures refused { ¬ IsPlainName name.now → IsErrOf result ShelfError.Failed }
 
         // It counts each answer that isn't Ok.
-        ensures put_faults { RoseWhere (IsErr result) (⟦<Self as Shelf>⟧.put_faults self.old) (⟦<Self as Shelf>⟧.put_faults self.new) }
+        ensures put_faults { RoseWhere (IsErr result)
+            (⟦<Self as Shelf>⟧.put_faults self.old) (⟦<Self as Shelf>⟧.put_faults self.new) }
         ensures later { ⟦<Self as Shelf>⟧.put_faults self.old ≤ ⟦<Self as Shelf>⟧.put_faults self.new }
         ensures faults { ⟦<Self as Shelf>⟧.faults self.new ≡ ⟦<Self as Shelf>⟧.faults self.old }
     {

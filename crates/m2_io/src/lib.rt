@@ -1,10 +1,11 @@
 //! Where do the compiler's bytes come from, and where do they go?
 //!
-//! A `Shelf` keeps texts under names, a `Sink` takes bytes, a `Source` gives bytes, and a `Gate` is passed by
-//! whoever makes a turn of a task. Each object in memory tells what it holds; one over the real thing tells
-//! nothing of that. The layers above use one contract: an answer that isn't `Ok` says that the object counted a
-//! fault in this call, or that memory ran out, and what the object holds is then as before or has a part of what
-//! it was given. `specs/` has the words: `Causes` for the counts, `Files`, `Written` and `Left` for what is held.
+//! A `Shelf` keeps texts under names, a `Sink` takes bytes, a `Source` gives bytes, and a `Gate` is
+//! passed by whoever makes a turn of a task. An object in memory tells what it holds; one over the real
+//! thing tells nothing of that. The layers above use one contract: an answer that isn't `Ok` says that
+//! the object counted a fault in this call, or that memory ran out, and what the object holds is then as
+//! before or has a part of what it was given. `specs/` has the words: `Causes` for the counts of faults,
+//! `Files`, `Written` and `Left` for what is held, `Calls` for the calls of an object in memory.
 #![tactic(auto)]
 
 mod calls;

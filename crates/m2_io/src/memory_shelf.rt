@@ -1,9 +1,9 @@
 //! A shelf in memory.
-ghost use Rattle.std.specs.Prelude.{◌≡◌, ◌≤◌, ◌↔◌, ℕ, Some, Option, option_map, IfOk, OnOk, OnErr, IsOk, IsErrOf, IsOkUnless, IfSome, take, vec_len};
+ghost use Rattle.std.specs.Prelude.{◌≡◌, ◌≤◌, ◌↔◌, Some, Option, option_map, IfOk, OnOk, OnErr, IsOk, IsErrOf, IsOkUnless, IfSome, take, vec_len};
 ghost use Rattle.std.specs.FinMap.{get, insert};
 ghost use Rattle.m2_io.specs.Calls.{calls_that_fail_at, NextFails, after_call};
 ghost use Rattle.m2_io.specs.Causes.{RoseWhere};
-ghost use Rattle.m2_io.specs.Files.{front_of, with_file};
+ghost use Rattle.m2_io.specs.Files.{front_of};
 ghost use Rattle.m2_io.specs.FilesOf.{files_of};
 ghost use Rattle.m2_io.specs.declared.shelf.ShelfError.TheVariants.{Memory as OutOfMemory};
 
@@ -25,8 +25,8 @@ pub struct MemShelf {
 impl MemShelf {
     ghost use Rattle.m2_io.specs.MemShelf.{calls_of, keep_of};
 
-    /// A shelf with these texts. Its calls are numbered from 1, those numbered in `fails` fail, and a `put` that
-    /// fails leaves the first `keep` of its bytes.
+    /// A shelf with these texts. Its calls are numbered from 1, those numbered in `fails` fail, and a
+    /// `put` that fails leaves the first `keep` of its bytes.
     pub fn new(files: BTreeMap<String, Vec<u8>>, fails: Vec<u32>, keep: usize) -> MemShelf
         ensures holds { ⟦<MemShelf as Shelf>⟧.holds result ≡ Some (files_of files) }
         ensures faults { ⟦<MemShelf as Shelf>⟧.faults result ≡ 0 }
@@ -73,7 +73,8 @@ impl Shelf for MemShelf {
 
         // It fails exactly where the number of the call is among those that fail.
         ensures failed { IsErrOf result ShelfError.Failed ↔ NextFails (calls_of self.old) }
-        ensures faults { RoseWhere (NextFails (calls_of self.old)) (faults_of self.old) (faults_of self.new) }
+        ensures faults { RoseWhere (NextFails (calls_of self.old))
+            (faults_of self.old) (faults_of self.new) }
         ensures later { faults_of self.old ≤ faults_of self.new }
         ensures put_faults { put_faults_of self.new ≡ put_faults_of self.old }
         ensures calls { calls_of self.new ≡ after_call (calls_of self.old) }
@@ -101,7 +102,8 @@ impl Shelf for MemShelf {
         // It fails exactly where the number of the call is among those that fail, want of memory aside.
         ensures failed { IsErrOf result ShelfError.Failed → NextFails (calls_of self.old) }
         ensures passed { IsOk result → ¬ NextFails (calls_of self.old) }
-        ensures put_faults { RoseWhere (IsErrOf result ShelfError.Failed) (put_faults_of self.old) (put_faults_of self.new) }
+        ensures put_faults { RoseWhere (IsErrOf result ShelfError.Failed)
+            (put_faults_of self.old) (put_faults_of self.new) }
         ensures later { put_faults_of self.old ≤ put_faults_of self.new }
         ensures faults { faults_of self.new ≡ faults_of self.old }
         ensures calls { calls_of self.new ≡ after_call (calls_of self.old) }

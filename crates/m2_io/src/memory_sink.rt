@@ -1,8 +1,7 @@
 //! A sink in memory.
-ghost use Rattle.std.specs.Prelude.{◌≡◌, ◌≤◌, ◌++◌, ◌⊎◌, ◌↔◌, ◌≢◌, ◌-◌, ℕ, [], Some, Option, IfOk, IsErr, OnErr, IfSome, vec_capacity, length, take, min};
+ghost use Rattle.std.specs.Prelude.{◌≡◌, ◌≤◌, ◌++◌, ◌⊎◌, ◌↔◌, ◌≢◌, ◌-◌, [], Some, IfOk, IsErr, OnErr, vec_capacity, length, take, min};
 ghost use Rattle.m2_io.specs.Calls.{calls_that_fail_at, NextFails, after_call};
 ghost use Rattle.m2_io.specs.Causes.{RoseWhere};
-ghost use Rattle.m2_io.specs.Written.{with_bytes};
 
 use crate::calls::Calls;
 use crate::sink::{Sink, SinkError};
@@ -24,8 +23,8 @@ pub struct MemSink {
 impl MemSink {
     ghost use Rattle.m2_io.specs.MemSink.{calls_of, most_of, room_of};
 
-    /// An empty sink. Its calls are numbered from 1, and those numbered in `fails` fail. A write takes at most
-    /// `most` bytes, and all of them take at most `room`.
+    /// An empty sink. Its calls are numbered from 1, and those numbered in `fails` fail. A write takes
+    /// at most `most` bytes, and all of them take at most `room`.
     pub fn new(alloc: Global, fails: Vec<u32>, most: usize, room: usize) -> Result<MemSink, Memory>
         requires { 1 ≤ most }
         ensures written { IfOk result (λ sink. ⟦<MemSink as Sink>⟧.written sink ≡ Some []) }
@@ -61,13 +60,16 @@ impl Sink for MemSink {
 
     fn write(&mut self, bytes: &[u8]) -> Result<usize, SinkError>
         // It takes the least of the piece, what one write takes and the room that is free.
-        ensures count { IfOk result (λ n. n ≡ min (min (length bytes.now) (most_of self.old)) (free_room self.old)) }
+        ensures count { IfOk result (λ n.
+            n ≡ min (min (length bytes.now) (most_of self.old)) (free_room self.old)) }
         ensures some { IfOk result (λ n. n ≡ 0 → bytes.now ≡ []) }
         ensures ok { IfOk result (λ n. bytes_of self.new ≡ bytes_of self.old ++ take n bytes.now) }
         ensures err { OnErr result (bytes_of self.new ≡ bytes_of self.old) }
 
-        // It fails exactly where the number of the call is among those that fail, or a piece that isn't empty finds no room.
-        ensures failed { IsErr result ↔ (NextFails (calls_of self.old) ⊎ (free_room self.old ≡ 0 × bytes.now ≢ [])) }
+        // It fails exactly where the number of the call is among those that fail, or a piece that isn't
+        // empty finds no room.
+        ensures failed { IsErr result ↔
+            (NextFails (calls_of self.old) ⊎ (free_room self.old ≡ 0 × bytes.now ≢ [])) }
         ensures faults { RoseWhere (IsErr result) (faults_of self.old) (faults_of self.new) }
         ensures later { faults_of self.old ≤ faults_of self.new }
         ensures calls { calls_of self.new ≡ after_call (calls_of self.old) }

@@ -1,8 +1,7 @@
 //! A source in memory.
-ghost use Rattle.std.specs.Prelude.{◌≡◌, ◌≤◌, ◌<◌, ◌↔◌, ◌++◌, ℕ, [], Some, Option, IfOk, IsErr, OnErr, IfSome, vec_len, length, take, drop, min};
+ghost use Rattle.std.specs.Prelude.{◌≡◌, ◌≤◌, ◌<◌, ◌↔◌, ◌++◌, Some, IfOk, IsErr, OnErr, vec_len, length, take, drop, min};
 ghost use Rattle.m2_io.specs.Calls.{calls_that_fail_at, NextFails, after_call};
 ghost use Rattle.m2_io.specs.Causes.{RoseWhere};
-ghost use Rattle.m2_io.specs.Left.{with_front};
 
 use crate::calls::Calls;
 use crate::source::{Source, SourceError};

@@ -60,11 +60,13 @@ pub trait Shelf {
         ensures ok { OnOk result (holds self.new ≡ with_file (holds self.old) name.now bytes.now) }
 
         // After `Failed` a prefix of the bytes may be there, and all else is as before.
-        ensures part { IsErrOf result ShelfError.Failed → HasPart (holds self.old) name.now bytes.now (holds self.new) }
+        ensures part { IsErrOf result ShelfError.Failed →
+            HasPart (holds self.old) name.now bytes.now (holds self.new) }
         ensures memory { IsErrOf result ShelfError.Memory → holds self.new ≡ holds self.old }
 
         // It fails only where it counts a fault.
-        ensures failed { IsErrOf result ShelfError.Failed → Rose (put_faults self.old) (put_faults self.new) }
+        ensures failed { IsErrOf result ShelfError.Failed →
+            Rose (put_faults self.old) (put_faults self.new) }
         ensures later { put_faults self.old ≤ put_faults self.new }
         ensures faults { faults self.new ≡ faults self.old };
 }

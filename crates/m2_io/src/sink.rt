@@ -19,7 +19,8 @@ pub trait Sink {
     fn write(&mut self, bytes: &[u8]) -> Result<usize, SinkError>
         ensures bound { IfOk result (λ n. n ≤ length bytes.now) }
         ensures some { IfOk result (λ n. n ≡ 0 → bytes.now ≡ []) }
-        ensures ok { IfOk result (λ n. written self.new ≡ with_bytes (written self.old) (take n bytes.now)) }
+        ensures ok { IfOk result (λ n.
+            written self.new ≡ with_bytes (written self.old) (take n bytes.now)) }
         ensures err { OnErr result (written self.new ≡ written self.old) }
 
         // It fails only where it counts a fault.

@@ -1,5 +1,5 @@
 //! A sink over any writer and a source over any reader. They tell nothing of what was written and what is left.
-ghost use Rattle.std.specs.Prelude.{◌≡◌, ℕ, None, Option};
+ghost use Rattle.std.specs.Prelude.{◌≡◌, None};
 
 use crate::sink::{Sink, SinkError};
 use crate::source::{Source, SourceError};
