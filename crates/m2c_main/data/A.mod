@@ -1,0 +1,1 @@
+MODULE A; VAR x: INTEGER; BEGIN x := x + 1 END A.

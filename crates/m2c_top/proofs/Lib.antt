@@ -1,0 +1,11 @@
+mod CodeSizes
+mod Ends
+mod Fronts
+mod Obeying
+mod Outcomes
+mod PlainTexts
+mod ReadSpelled
+mod Sizes
+mod SpelledRead
+mod Table
+mod Words

@@ -1,0 +1,86 @@
+-- When a text is that of a plain module.
+use Rattle.std.proofs.Common.{◌≡◌, ℕ, ◌+◌, ◌<◌, ◌≤◌, Bool, true, false, List, [], ◌∷◌, ◌++◌, Option, Some, None, length, map, refl, sym, ◌∙◌, ap, subst, arith}
+use Rattle.std.specs.Prelude.{option_map, Result, Ok, Err, IfOk, IfSome, IfNone, MatchOption}
+use Rattle.std.specs.List.{AllZip}
+use Rattle.m2_base.specs.Names.{standard_names}
+use Rattle.m2_base.specs.Tokens.{AreTokens, IsToken, Placed, placed}
+use Rattle.m2_base.specs.declared.token.Token.{Token}
+use Rattle.m2_base.proofs.OneReading.{one_list_of_lexemes}
+use Rattle.m2_base.proofs.OneList.{one_list_of_names, one_list_of_tokens}
+use Rattle.m2_lex.specs.Faults.{HasTooMany}
+use Rattle.m2c_top.specs.Grammar.{Spells}
+use Rattle.m2c_top.specs.Plain.{IsPlain, is_meant}
+use Rattle.m2c_top.specs.Reading.{module_at}
+use Rattle.m2c_top.specs.Symbols.{symbol_of}
+use Rattle.m2c_top.specs.Trees.{PlainModule}
+use Rattle.m2c_top.proofs.Fronts.{some_is}
+use Rattle.m2c_top.proofs.SpelledRead.{spelled_read}
+
+same_length : {A B : Type 0} (R : A → B → Type 0) (xs : List A) (ys : List B) → AllZip R xs ys → length xs ≡ length ys
+same_length R [] [] h = refl
+same_length R [] (y ∷ ys) h = absurd h
+same_length R (x ∷ xs) [] h = absurd h
+same_length R (x ∷ xs) (y ∷ ys) h = omega (arith, same_length R xs ys h.1)
+
+-- a text of too many tokens is no plain module's
+pub too_many_plain : (name text : List ℕ) (m : PlainModule) → HasTooMany text → IsPlain name text m → ⊥
+too_many_plain name text m many plain =
+    let tokens = plain.are_tokens in
+    let same : tokens.lexemes ≡ many.0 = one_list_of_lexemes text tokens.lexemes many.0 tokens.split many.1 in
+    let count : length (placed tokens.lexemes) ≡ length plain.tokens = same_length (IsToken plain.names) (placed tokens.lexemes) plain.tokens tokens.each in
+    let many_placed : 1048576 < length (placed tokens.lexemes) = subst (λ lexemes. 1048576 < length (placed lexemes)) (sym same) many.2 in
+    omega (arith, plain.few, count, many_placed)
+
+none_some : {A : Type 0} (x : A) → None ≡ Some x → ⊥
+none_some x e = cc
+
+both : (b : Bool) → b ≡ true → b ≡ false → ⊥
+both b p q = cc
+
+-- what isn't read isn't spelled
+pub unread : {V : Type 0} (view : V → PlainModule) (found : Option V) (tokens : List Token) (m : PlainModule)
+    → option_map view found ≡ module_at (map symbol_of tokens) → found ≡ None → Spells m (map symbol_of tokens) → ⊥
+unread view found tokens m read none spells =
+    none_some m (ap (option_map view) (sym none) ∙ read ∙ spelled_read m (map symbol_of tokens) spells)
+
+-- the tokens spell the tree that is read and no other
+pub only_tree : (tree m : PlainModule) (tokens : List Token) → Some tree ≡ module_at (map symbol_of tokens) → Spells m (map symbol_of tokens) → tree ≡ m
+only_tree tree m tokens read spells = some_is tree m (read ∙ spelled_read m (map symbol_of tokens) spells)
+
+-- the only tokens that a plain text can have
+pub these_tokens : (name text : List ℕ) (m : PlainModule) (names : List (List ℕ)) (tokens : List Token) → AreTokens standard_names names text tokens
+    → IsPlain name text m → Spells m (map symbol_of tokens) × (is_meant names name m ≡ true)
+these_tokens name text m names tokens are plain =
+    let same_tokens = one_list_of_tokens standard_names plain.names names text plain.tokens tokens plain.are_tokens are in
+    let same_names = one_list_of_names standard_names plain.names names text plain.tokens tokens plain.are_tokens are in
+    (subst (λ ts. Spells m (map symbol_of ts)) same_tokens plain.spelled, subst (λ ns. is_meant ns name m ≡ true) same_names plain.meant)
+
+-- tokens that spell no module that is meant so
+pub not_plain : (name text : List ℕ) (names : List (List ℕ)) (tokens : List Token) → AreTokens standard_names names text tokens
+    → ((m : PlainModule) → Spells m (map symbol_of tokens) → is_meant names name m ≡ false) → (m : PlainModule) → IsPlain name text m → ⊥
+not_plain name text names tokens are none m plain =
+    let these = these_tokens name text m names tokens are plain in
+    both (is_meant names name m) these.1 (none m these.0)
+
+pub is_plain : (name text : List ℕ) (m : PlainModule) (names : List (List ℕ)) (tokens : List Token) → length text ≤ 1048576 → length tokens ≤ 1048576
+    → AreTokens standard_names names text tokens → Spells m (map symbol_of tokens) → is_meant names name m ≡ true → IsPlain name text m
+is_plain name text m names tokens short few are spells meant = record {
+  short = short;
+  names = names;
+  tokens = tokens;
+  few = few;
+  are_tokens = are;
+  spelled = spells;
+  meant = meant;
+}
+
+-- what the tokens tell of a text
+pub text_tells : {V E : Type 0} (view : V → PlainModule) (r : Result (Option V) E) (name text : List ℕ) (names : List (List ℕ)) (tokens : List Token)
+    → length text ≤ 1048576 → length tokens ≤ 1048576 → AreTokens standard_names names text tokens
+    → IfOk r (λ found. IfNone found ((m : PlainModule) → Spells m (map symbol_of tokens) → is_meant names name m ≡ false))
+    → IfOk r (λ found. IfSome found (λ plain. Spells (view plain) (map symbol_of tokens)))
+    → IfOk r (λ found. IfSome found (λ plain. is_meant names name (view plain) ≡ true))
+    → IfOk r (λ found. MatchOption found ((m : PlainModule) → IsPlain name text m → ⊥) (λ plain. IsPlain name text (view plain)))
+text_tells view (Err e) name text names tokens short few are none spells meant = tt
+text_tells view (Ok None) name text names tokens short few are none spells meant = not_plain name text names tokens are none
+text_tells view (Ok (Some plain)) name text names tokens short few are none spells meant = is_plain name text (view plain) names tokens short few are spells meant

@@ -1,0 +1,11 @@
+use Rattle.std.proofs.Common.{◌≡◌, map, length}
+use Rattle.m2c_top.specs.Symbols.{symbol_of}
+use Rattle.m2c_top.specs.Reading.{statements_at, with_front}
+use Rattle.m2c_top.specs.declared.plain.reader.Writing.TheVariants.{Start}
+use Rattle.m2c_top.proofs.plain.reader.statements_at.Given as goal
+
+abbrev pub invariant-loop-rest : goal.invariant-loop-rest
+invariant-loop-rest l = with_front l.statements.items (statements_at l.place (map symbol_of l.rest)) ≡ statements_at Start (map symbol_of l.tokens)
+
+abbrev pub decreases-loop-rest : goal.decreases-loop-rest
+decreases-loop-rest l = length l.rest

@@ -1,0 +1,80 @@
+use Rattle.std.proofs.Common.{◌≡◌, ◌⊎◌, ◌∙◌, List, ℕ, sym, ap, subst, map, string_bytes, IfSome}
+use Rattle.m2_io.specs.Files.{Files}
+use Rattle.m2_io.specs.Causes.{Rose}
+use Rattle.m2c_top.specs.Command.{IsNoCommand}
+use Rattle.m2c_top.specs.Outcome.{Gives, AsksToCompile, LacksText, HasPlainText, HasOtherText, Leaves, PrintsPart, PutsPart}
+use Rattle.m2c_top.specs.Statuses.{status_number, IsFault, IsStatus, Exactly}
+use Rattle.m2c_top.specs.Trees.{PlainModule}
+use Rattle.m2c_top.proofs.Ends.{number_of, ends_leaving, ends_no_text, ends_done, ends_not_built, ends_as_no_command, ends_with_status, ends_stopped, ends_by_reading, ends_by_writing, ends_keeping}
+use Rattle.m2c_top.proofs.top.m2c.Given as given
+use Rattle.m2c_top.proofs.top.m2c.Goals as goal
+
+-- the status is the number that the work ends with
+numbered : (g : given.Over) (c : goal.After-number g) → c.number.result ≡ number_of c.obey.result
+numbered g c = c.number.ensures ∙ ap status_number c.status_of.ensures
+
+pub returns-clause-leaves : goal.returns-clause-leaves
+returns-clause-leaves g c =
+    let holds = g.H.Shelf.holds c.args.shelf.now in
+    let after = g.H.Shelf.holds c.obey.new.shelf in
+    let old = g.P.Sink.written c.args.print.now in
+    let new = g.P.Sink.written c.obey.new.print in
+    let words = map string_bytes c.args.words.now in
+    subst (λ n. IsFault n ⊎ IfSome holds (λ files. Leaves (Gives words files) n after old new)) (sym (numbered g c)) (ends_leaving words holds after old new c.obey.result c.obey.ensures.leaves)
+
+pub returns-clause-no_command : goal.returns-clause-no_command
+returns-clause-no_command g c =
+    let words = map string_bytes c.args.words.now in
+    subst (λ n. Exactly n 2 (IsNoCommand words)) (sym (numbered g c)) (ends_as_no_command words c.obey.result c.obey.ensures.status)
+
+pub returns-clause-no_text : goal.returns-clause-no_text
+returns-clause-no_text g c =
+    let holds = g.H.Shelf.holds c.args.shelf.now in
+    let words = map string_bytes c.args.words.now in
+    subst (λ n. IfSome holds (λ files. Exactly n 3 (AsksToCompile words (λ name. LacksText name files)))) (sym (numbered g c))
+    (ends_no_text words holds (g.H.Shelf.holds c.obey.new.shelf) (g.P.Sink.written c.args.print.now) (g.P.Sink.written c.obey.new.print) c.obey.result c.obey.ensures.leaves)
+
+pub returns-clause-done : goal.returns-clause-done
+returns-clause-done g c =
+    let holds = g.H.Shelf.holds c.args.shelf.now in
+    let words = map string_bytes c.args.words.now in
+    subst (λ n. IfSome holds (λ files. Exactly n 0 (AsksToCompile words (λ name. (m : PlainModule) × HasPlainText name files m)))) (sym (numbered g c))
+    (ends_done words holds (g.H.Shelf.holds c.obey.new.shelf) (g.P.Sink.written c.args.print.now) (g.P.Sink.written c.obey.new.print) c.obey.result c.obey.ensures.leaves)
+
+pub returns-clause-not_built : goal.returns-clause-not_built
+returns-clause-not_built g c =
+    let holds = g.H.Shelf.holds c.args.shelf.now in
+    let words = map string_bytes c.args.words.now in
+    subst (λ n. IfSome holds (λ files. Exactly n 11 (AsksToCompile words (λ name. HasOtherText name files)))) (sym (numbered g c))
+    (ends_not_built words holds (g.H.Shelf.holds c.obey.new.shelf) (g.P.Sink.written c.args.print.now) (g.P.Sink.written c.obey.new.print) c.obey.result c.obey.ensures.leaves)
+
+pub returns-clause-read : goal.returns-clause-read
+returns-clause-read g c four =
+    ends_by_reading (map string_bytes c.args.words.now) (Rose (g.H.Shelf.faults c.args.shelf.now) (g.H.Shelf.faults c.obey.new.shelf)) c.obey.result c.obey.ensures.status c.obey.ensures.read (sym (numbered g c) ∙ four)
+
+pub returns-clause-write : goal.returns-clause-write
+returns-clause-write g c five =
+    ends_by_writing (map string_bytes c.args.words.now)
+    (Rose (g.H.Shelf.put_faults c.args.shelf.now) (g.H.Shelf.put_faults c.obey.new.shelf) ⊎ Rose (g.P.Sink.faults c.args.print.now) (g.P.Sink.faults c.obey.new.print))
+    c.obey.result c.obey.ensures.status c.obey.ensures.write (sym (numbered g c) ∙ five)
+
+pub returns-clause-status : goal.returns-clause-status
+returns-clause-status g c = subst IsStatus (sym (numbered g c)) (ends_with_status (map string_bytes c.args.words.now) c.obey.result c.obey.ensures.status)
+
+pub returns-clause-prints : goal.returns-clause-prints
+returns-clause-prints g c fault =
+    let words = map string_bytes c.args.words.now in
+    ends_stopped words (IfSome (g.H.Shelf.holds c.args.shelf.now) (λ files. PrintsPart (Gives words files) (g.P.Sink.written c.args.print.now) (g.P.Sink.written c.obey.new.print)))
+    c.obey.result c.obey.ensures.status c.obey.ensures.prints (subst IsFault (numbered g c) fault)
+
+pub returns-clause-kept : goal.returns-clause-kept
+returns-clause-kept g c not_done not_written =
+    ends_keeping (g.H.Shelf.holds c.obey.new.shelf ≡ g.H.Shelf.holds c.args.shelf.now) c.obey.result c.obey.ensures.kept c.obey.ensures.unread c.obey.ensures.memory
+    (λ e. not_done (numbered g c ∙ e)) (λ e. not_written (numbered g c ∙ e))
+
+pub returns-clause-part : goal.returns-clause-part
+returns-clause-part g c five =
+    let holds = g.H.Shelf.holds c.args.shelf.now in
+    let after = g.H.Shelf.holds c.obey.new.shelf in
+    let words = map string_bytes c.args.words.now in
+    ends_by_writing words ((after ≡ holds) ⊎ AsksToCompile words (λ name. PutsPart name holds after)) c.obey.result c.obey.ensures.status c.obey.ensures.part (sym (numbered g c) ∙ five)

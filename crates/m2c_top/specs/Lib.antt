@@ -1,0 +1,12 @@
+pub mod Code
+pub mod Command
+pub mod Ending
+pub mod Grammar
+pub mod Object
+pub mod Outcome
+pub mod Plain
+pub mod Reading
+pub mod Sound
+pub mod Statuses
+pub mod Symbols
+pub mod Trees

@@ -1,0 +1,81 @@
+-- What a command leaves: its status, what it prints, and the files of the shelf. No command reads the input yet.
+use Rattle.std.specs.Prelude.{◌≡◌, ◌⊎◌, ℕ, List, [], ◌∷◌, ◌++◌, Option, Some, None, IfSome, take, codes}
+use Rattle.std.specs.FinMap.{get, insert}
+use Rattle.m2_io.specs.Files.{Files, with_file}
+use Rattle.m2_io.specs.Written.{with_bytes, WritesPart}
+use Rattle.m2c_top.specs.Command.{Command, compile, Asks, IsNoCommand}
+use Rattle.m2c_top.specs.Object.{object_bytes}
+use Rattle.m2c_top.specs.Plain.{IsPlain}
+use Rattle.m2c_top.specs.Statuses.{status_number}
+use Rattle.m2c_top.specs.Trees.{PlainModule}
+use Rattle.m2c_top.specs.declared.status.Status.{Status}
+use Rattle.m2c_top.specs.declared.status.Status.TheVariants.{Done, NoCommand, NoText, NotBuilt}
+
+pub record Outcome : Type 0 where
+  pub status : Status
+  pub printed : List ℕ
+  pub files : Files
+
+abbrev pub text_name : List ℕ → List ℕ
+text_name name = name ++ codes ".mod"
+
+abbrev pub object_name : List ℕ → List ℕ
+object_name name = name ++ codes ".m2o"
+
+abbrev pub line : List ℕ → List ℕ
+line text = text ++ 10 ∷ []
+
+-- the shelf lacks the module's text
+abbrev pub LacksText : List ℕ → Files → Type 0
+LacksText name files = get files (text_name name) ≡ None
+
+-- the shelf has the module's text, and it is that of this plain module
+abbrev pub HasPlainText : List ℕ → Files → PlainModule → Type 0
+HasPlainText name files m = (text : List ℕ) × (get files (text_name name) ≡ Some text) × IsPlain name text m
+
+-- the shelf has the module's text, and it is that of no plain module
+abbrev pub HasOtherText : List ℕ → Files → Type 0
+HasOtherText name files = (text : List ℕ) × (get files (text_name name) ≡ Some text) × ((m : PlainModule) → IsPlain name text m → ⊥)
+
+-- The outcome of compiling a module of these files: one row of the table of statuses each.
+pub data Compiles (name : List ℕ) (files : Files) : Outcome → Type 0 where
+  compiled : (m : PlainModule) → HasPlainText name files m → Compiles name files (record { status = Done; printed = []; files = insert files (object_name name) (object_bytes name m) })
+  no_text : LacksText name files → Compiles name files (record { status = NoText; printed = line (codes "no text " ++ text_name name); files = files })
+  not_built : HasOtherText name files → Compiles name files (record { status = NotBuilt; printed = line (codes "not built yet"); files = files })
+
+-- The outcome of the words over these files.
+pub data Gives (words : List (List ℕ)) (files : Files) : Outcome → Type 0 where
+  no_command : IsNoCommand words → Gives words files (record { status = NoCommand; printed = line (codes "usage: m2c compile NAME"); files = files })
+  compiles : (name : List ℕ) (outcome : Outcome) → Asks words (compile name) → Compiles name files outcome → Gives words files outcome
+
+-- the words ask to compile a module of which this holds
+abbrev pub AsksToCompile : List (List ℕ) → (List ℕ → Type 0) → Type 0
+AsksToCompile words P = (name : List ℕ) × Asks words (compile name) × P name
+
+-- the words are a command
+abbrev pub Commands : List (List ℕ) → Type 0
+Commands words = (command : Command) × Asks words command
+
+-- what is left, where the files are told: the status, the files, and what was printed behind what was written before
+pub record Leaves (given : Outcome → Type 0) (status : ℕ) (files : Option Files) (old new : Option (List ℕ)) : Type 0 where
+  pub outcome : Outcome
+  pub is_given : given outcome
+  pub status_is : status ≡ status_number outcome.status
+  pub files_are : files ≡ Some outcome.files
+  pub printed_is : new ≡ with_bytes old outcome.printed
+
+-- a front of what the definition prints
+abbrev pub PrintsPart : (Outcome → Type 0) → Option (List ℕ) → Option (List ℕ) → Type 0
+PrintsPart given old new = (outcome : Outcome) → given outcome → WritesPart old outcome.printed new
+
+-- the bytes are the object of the module's text
+abbrev pub IsObjectOf : List ℕ → Files → List ℕ → Type 0
+IsObjectOf name files bytes = (m : PlainModule) × HasPlainText name files m × (bytes ≡ object_bytes name m)
+
+-- a front of the module's object is put under its name, and all else stays
+abbrev pub PutsPart : List ℕ → Option Files → Option Files → Type 0
+PutsPart name old new = (bytes : List ℕ) × IfSome old (λ files. IsObjectOf name files bytes) × ((kept : ℕ) × (new ≡ with_file old (object_name name) (take kept bytes)))
+
+-- all files stay, but that a front of the module's object may be put
+abbrev pub KeepsButObject : List ℕ → Option Files → Option Files → Type 0
+KeepsButObject name old new = (new ≡ old) ⊎ PutsPart name old new

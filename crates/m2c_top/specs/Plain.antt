@@ -1,0 +1,30 @@
+-- The texts that are compiled.
+use Rattle.std.specs.Prelude.{◌≡◌, ℕ, ◌≤◌, Bool, false, ◌&&◌, List, length, map, Some, slice_get, IsTrue}
+use Rattle.std.specs.Option.{option_map_or}
+use Rattle.std.specs.Str.{bytes_eq}
+use Rattle.m2_base.specs.Names.{standard_names}
+use Rattle.m2_base.specs.Tokens.{AreTokens}
+use Rattle.m2_base.specs.declared.token.Token.{Token}
+use Rattle.m2c_top.specs.Grammar.{Spells}
+use Rattle.m2c_top.specs.Sound.{is_sound}
+use Rattle.m2c_top.specs.Symbols.{symbol_of}
+use Rattle.m2c_top.specs.Trees.{PlainModule}
+
+-- the name of that number is this one
+abbrev pub is_named : List (List ℕ) → List ℕ → ℕ → Bool
+is_named names name number = option_map_or (bytes_eq name) (slice_get names number) false
+
+-- the module has this name at its beginning and at its end, and it is sound
+abbrev pub is_meant : List (List ℕ) → List ℕ → PlainModule → Bool
+is_meant names name m = is_named names name m.name.name && is_named names name m.close.name && is_sound m
+
+-- The text is that of this plain module with this name: it passes no limit, its tokens spell the module, and the module
+-- is sound.
+pub record IsPlain (name text : List ℕ) (m : PlainModule) : Type 0 where
+  pub short : length text ≤ 1048576
+  pub names : List (List ℕ)
+  pub tokens : List Token
+  pub few : length tokens ≤ 1048576
+  pub are_tokens : AreTokens standard_names names text tokens
+  pub spelled : Spells m (map symbol_of tokens)
+  pub meant : IsTrue (is_meant names name m)

@@ -1,0 +1,18 @@
+//! What does a command line do to a shelf of texts?
+//!
+//! `m2c` reads the words (`command`), does what they ask, and answers a status. What it leaves, the status, what is
+//! printed, the texts and the objects of the shelf, is defined in `specs/Outcome`, with one constructor for each row of the table of
+//! statuses; its clause `leaves` says that `m2c` leaves just that.
+#![tactic(auto)]
+
+mod code;
+mod command;
+mod object;
+mod plain;
+mod status;
+mod top;
+
+pub use top::m2c;
+
+#[cfg(test)]
+mod tests;

@@ -1,0 +1,32 @@
+//! The statuses that a command ends with.
+ghost use Rattle.std.specs.Prelude.{◌≡◌};
+ghost use Rattle.m2c_top.specs.Statuses.{status_number};
+
+/// How a command ended.
+#[derive(Clone, Copy, Debug, PartialEq, Eq)]
+pub enum Status {
+    Done,
+    NoCommand,
+    NoText,
+    ReadFault,
+    WriteFault,
+    NoMemory,
+    NotBuilt,
+}
+
+impl Status {
+    /// The number that the program ends with.
+    pub fn number(self) -> u8
+        ensures { result ≡ status_number self }
+    {
+        match self {
+            Status::Done => 0,
+            Status::NoCommand => 2,
+            Status::NoText => 3,
+            Status::ReadFault => 4,
+            Status::WriteFault => 5,
+            Status::NoMemory => 6,
+            Status::NotBuilt => 11,
+        }
+    }
+}
