@@ -1,0 +1,14 @@
+pub mod KindSets
+pub mod Beginnings
+pub mod Checks
+pub mod Soundness
+pub mod FirstTokens
+pub mod OneTree
+pub mod FirstFault
+pub mod Productive
+pub mod Viable
+pub mod Rests
+pub mod OneFault
+pub mod Total
+pub mod Nesting
+pub mod Decided

@@ -1,0 +1,2 @@
+-- Reading by descent, as a function.
+use Rattle.std.specs.Prelude.{ℕ}
