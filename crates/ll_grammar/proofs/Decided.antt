@@ -51,7 +51,7 @@ module _ {T : Type 0} (g : Grammar T) (r : Rule) where
     }
 
     -- what is accepted whole is a sentence
-    pub whole_sentence : {n : ℕ} {d : Tree T} → Accepts g n r d [] → (ts : List T) → ts ≡ tokens d ++ [] → Sentence g n r ts
+    abbrev pub whole_sentence : {n : ℕ} {d : Tree T} → Accepts g n r d [] → (ts : List T) → ts ≡ tokens d ++ [] → Sentence g n r ts
     whole_sentence {n} {d} p ts e = record { tree = d; derives = accepts_derives g p; spells = sym (append-nil (tokens d)) ∙ sym e; within = accepts_within g p }
 
     pub is_decided : IsDecided g r

@@ -12,3 +12,7 @@ pub mod OneFault
 pub mod Total
 pub mod Nesting
 pub mod Decided
+pub mod Link
+pub mod Repetitions
+pub mod Loops
+pub mod Answering

@@ -4,4 +4,5 @@ pub mod Sentences
 pub mod LookAhead
 pub mod Reading
 pub mod Readers
+pub mod Texts
 pub mod Laws
