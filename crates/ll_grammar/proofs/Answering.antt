@@ -1,12 +1,11 @@
 -- What reading a whole text by descent answers is what the text is.
-use Rattle.std.proofs.Common.{◌≡◌, ℕ, List, [], ◌∷◌, ◌++◌, Result, Ok, Err, Option, Some, None, refl, sym, ap, ◌∙◌, subst, IfOk}
-use Rattle.std.proofs.lemmas.List.{append-nil}
+use Rattle.std.proofs.Common.{◌≡◌, ℕ, List, [], ◌∷◌, Result, Ok, Err, refl, sym, ap, ◌∙◌}
 use Rattle.ll_grammar.specs.Grammar.{Rule, Grammar}
-use Rattle.ll_grammar.specs.Derivations.{Tree, tokens}
+use Rattle.ll_grammar.specs.Derivations.{Tree}
 use Rattle.ll_grammar.specs.LookAhead.{IsLL1, IsRoot}
 use Rattle.ll_grammar.specs.Sentences.{Fault, Syntax}
-use Rattle.ll_grammar.specs.Readers.{◌>>=◌, whole, Gives, Fails, Ends}
-use Rattle.ll_grammar.specs.Texts.{Spells, IsFirstFault, Reading}
+use Rattle.ll_grammar.specs.Readers.{◌>>=◌, whole}
+use Rattle.ll_grammar.specs.Texts.{Spells, Reading}
 use Rattle.ll_grammar.proofs.Decided.{whole_sentence, behind_sentence, derivation_accepted, derivation_not_refused}
 use Rattle.ll_grammar.proofs.OneFault.{fault_of}
 use Rattle.ll_grammar.proofs.Link.{Reads, Accepted, Outcome, IsAt}

@@ -1,5 +1,5 @@
 -- What each numbered rule of a grammar that passes the checks has.
-use Rattle.std.proofs.Common.{◌≡◌, ℕ, zero, Bool, true, false, List, [], not, ◌&&◌}
+use Rattle.std.proofs.Common.{◌≡◌, ℕ, true, false, [], not, ◌&&◌}
 use Rattle.ll_grammar.specs.Grammar.{Rule, Grammar}
 use Rattle.ll_grammar.specs.LookAhead.{nullable, subset, first, firsts, clear, complete, productive_within, IsLL1, IsRoot}
 use Rattle.ll_grammar.proofs.KindSets.{and_l, and_r, not_is, Within, subset_within}

@@ -1,17 +1,17 @@
 -- The laws of grammars that one token of look-ahead reads.
-use Rattle.std.proofs.Common.{◌≡◌, ℕ, zero, List, [], ◌∷◌, ◌++◌, refl, sym, ap, ◌∙◌, subst, ◌⊎◌, inl, inr, Option, Some, None, arith}
+use Rattle.std.proofs.Common.{◌≡◌, ℕ, List, [], ◌∷◌, ◌++◌, sym, ◌∙◌, subst, ◌⊎◌, inl, inr, None, arith}
 use Rattle.std.proofs.lemmas.List.{append-nil}
 use Rattle.ll_grammar.specs.Grammar.{Rule, Grammar}
 use Rattle.ll_grammar.specs.Derivations.{Tree, tokens, Derives, over}
 use Rattle.ll_grammar.specs.LookAhead.{IsLL1, IsRoot}
-use Rattle.ll_grammar.specs.Sentences.{Fault, Syntax, TooDeep, SameHead, Begins, Sentence, NoSentence, Faulty}
+use Rattle.ll_grammar.specs.Sentences.{Fault, Syntax, TooDeep, Begins, Sentence, Faulty}
 use Rattle.ll_grammar.specs.Reading.{Accepts, Refuses, Answer, accepted, refused}
 use Rattle.ll_grammar.specs.Laws.{IsSound, IsTotal, IsUnambiguous, RefusesFirstFault, IsDecided, HasOneFault}
 use Rattle.ll_grammar.proofs.Beginnings.{begins_self, begins_whole, same_refl}
 use Rattle.ll_grammar.proofs.Checks.{root_clear}
 use Rattle.ll_grammar.proofs.Soundness.{accepts_derives, accepts_within}
 use Rattle.ll_grammar.proofs.OneTree.{one_tree}
-use Rattle.ll_grammar.proofs.FirstFault.{Verdict, verdict}
+use Rattle.ll_grammar.proofs.FirstFault.{Verdict}
 use Rattle.ll_grammar.proofs.OneFault.{fault_of, one_fault, no_fault, none_some, root_verdict}
 use Rattle.ll_grammar.proofs.Total.{total}
 use Rattle.ll_grammar.proofs.Nesting.{count, within_count}

@@ -1,15 +1,15 @@
 -- What a refusal says of every sentence that begins with the refused token.
-use Rattle.std.proofs.Common.{◌≡◌, ℕ, zero, suc, Bool, true, false, List, [], ◌∷◌, ◌++◌, refl, sym, ap, ◌∙◌, subst, true≢false, append_assoc, Option, Some, None}
-use Rattle.ll_grammar.specs.Grammar.{Rule, then, or, many, Grammar}
-use Rattle.ll_grammar.specs.Derivations.{Tree, both, more, tokens, Derives, of_empty, of_token, of_then, of_left, of_right, of_last, of_more, of_deep, of_sub, over, first_of}
-use Rattle.ll_grammar.specs.LookAhead.{member, first, firsts, heads, starts, clear, IsLL1}
+use Rattle.std.proofs.Common.{◌≡◌, ℕ, zero, true, List, ◌∷◌, ◌++◌, refl, sym, ap, ◌∙◌, subst, true≢false, append_assoc, Some, None}
+use Rattle.ll_grammar.specs.Grammar.{Rule, Grammar}
+use Rattle.ll_grammar.specs.Derivations.{Tree, both, more, tokens, Derives, of_token, of_then, of_left, of_right, of_last, of_more, of_deep, of_sub, over, first_of}
+use Rattle.ll_grammar.specs.LookAhead.{first, firsts, heads, clear, IsLL1}
 use Rattle.ll_grammar.specs.Sentences.{Fault, Syntax, TooDeep, SameHead, Begins}
-use Rattle.ll_grammar.specs.Reading.{Accepts, Refuses, refuse_token, refuse_then, refuse_later, refuse_left, refuse_right, refuse_many, refuse_more, refuse_deep, refuse_sub, refuse_limit, refuse_none}
+use Rattle.ll_grammar.specs.Reading.{Refuses, refuse_token, refuse_then, refuse_later, refuse_left, refuse_right, refuse_many, refuse_more, refuse_deep, refuse_sub, refuse_limit, refuse_none}
 use Rattle.ll_grammar.proofs.Beginnings.{MayStart, starts_apart, starts_same, starts_cons, same_apart, begins_less, begins_drop, begins_head}
 use Rattle.ll_grammar.proofs.Checks.{rule_clear}
 use Rattle.ll_grammar.proofs.Soundness.{accepts_within}
 use Rattle.ll_grammar.proofs.FirstTokens.{may_start, starts_first}
-use Rattle.ll_grammar.proofs.OneTree.{one_tree, Choice, choice, Again, again, then_one, then_other, may_follow}
+use Rattle.ll_grammar.proofs.OneTree.{one_tree, choice, again, then_one, then_other, may_follow}
 
 -- there is no such sentence, or the refused token is the first that is nested too deep in it
 abbrev pub Verdict : {T : Type 0} → Fault → ℕ → Tree T → List T → Type 0

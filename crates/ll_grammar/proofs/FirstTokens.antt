@@ -1,8 +1,8 @@
 -- With which tokens the sentences of a right side begin.
-use Rattle.std.proofs.Common.{◌≡◌, ℕ, zero, Bool, true, false, List, [], ◌++◌, refl, sym, ap, subst, ◌&&◌, ◌||◌, true≢false, append_assoc, ⊎_elim, length, ◌+◌, ◌≤◌, suc, arith, length-append, ◌∷◌}
-use Rattle.ll_grammar.specs.Grammar.{Rule, then, or, many, Grammar}
+use Rattle.std.proofs.Common.{◌≡◌, ℕ, zero, true, false, List, [], ◌++◌, sym, ap, subst, true≢false, append_assoc, ⊎_elim, length, ◌≤◌, suc, arith, length-append, ◌∷◌}
+use Rattle.ll_grammar.specs.Grammar.{Rule, then, Grammar}
 use Rattle.ll_grammar.specs.Derivations.{Tree, tokens, Derives, of_empty, of_token, of_then, of_left, of_right, of_last, of_more, of_deep, of_sub}
-use Rattle.ll_grammar.specs.LookAhead.{member, nullable, first, firsts, heads, starts, IsLL1}
+use Rattle.ll_grammar.specs.LookAhead.{nullable, first, firsts, heads, starts, IsLL1}
 use Rattle.ll_grammar.proofs.KindSets.{Within, member_left, member_right, within_then, within_left, within_right, within_more, within_solid, and_false, or_false_l, or_false_r}
 use Rattle.ll_grammar.proofs.Beginnings.{MayStart, may_within, IsFilled, filled_left, filled_right, starts_filled}
 use Rattle.ll_grammar.proofs.Checks.{solid, first_within}

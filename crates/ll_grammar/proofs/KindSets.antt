@@ -1,5 +1,5 @@
 -- Sets of kinds, as lists.
-use Rattle.std.proofs.Common.{◌≡◌, ℕ, zero, Bool, true, false, List, [], ◌∷◌, ◌++◌, refl, sym, ap, ◌∙◌, ◌||◌, ◌&&◌, not, ◌==◌, true≢false, ◌⊎◌, inl, inr, ⊎_elim, eqb-true}
+use Rattle.std.proofs.Common.{◌≡◌, ℕ, Bool, true, false, List, [], ◌∷◌, ◌++◌, refl, sym, ap, ◌∙◌, ◌||◌, ◌&&◌, not, ◌==◌, true≢false, ◌⊎◌, inl, inr, ⊎_elim, eqb-true}
 use Rattle.ll_grammar.specs.LookAhead.{member, disjoint, subset, if_so}
 
 pub and_l : (a b : Bool) → (a && b) ≡ true → a ≡ true

@@ -16,3 +16,5 @@ pub mod Link
 pub mod Repetitions
 pub mod Loops
 pub mod Answering
+pub mod Example
+pub mod ExampleReaders

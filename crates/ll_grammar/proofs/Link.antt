@@ -1,5 +1,5 @@
 -- Reading by descent is what the grammar says: a combinator for each form of a right side.
-use Rattle.std.proofs.Common.{◌≡◌, ℕ, zero, suc, Bool, true, false, List, [], ◌∷◌, ◌++◌, Result, Ok, Err, Option, Some, None, refl, sym, ap, ◌∙◌, subst, append_assoc, ◌||◌, cond}
+use Rattle.std.proofs.Common.{◌≡◌, ℕ, zero, suc, Bool, true, false, List, [], ◌∷◌, ◌++◌, Result, Ok, Err, refl, sym, ap, ◌∙◌, subst, append_assoc, cond}
 use Rattle.std.specs.Prelude.{◌==◌}
 use Rattle.ll_grammar.specs.Grammar.{Rule, empty, token, then, or, deep, sub, one, Grammar}
 use Rattle.ll_grammar.specs.Derivations.{Tree, nothing, leaf, both, left, right, inner, part, tokens}

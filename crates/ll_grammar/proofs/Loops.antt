@@ -1,7 +1,7 @@
 -- Reading again and again, as a loop of code does.
-use Rattle.std.proofs.Common.{◌≡◌, ℕ, zero, suc, ◌-◌, ◌+◌, ◌≤◌, ◌<◌, Bool, true, false, List, [], ◌∷◌, ◌++◌, Result, Ok, Err, Option, Some, None, refl, sym, ap, ◌∙◌, append_assoc, arith}
+use Rattle.std.proofs.Common.{◌≡◌, ℕ, suc, ◌-◌, ◌+◌, ◌≤◌, ◌<◌, Bool, true, false, List, [], ◌++◌, Result, Ok, Err, Option, Some, None, refl, sym, ap, ◌∙◌, append_assoc, arith}
 use Rattle.std.proofs.lemmas.List.{append-nil}
-use Rattle.ll_grammar.specs.Readers.{◌>>=◌, Ends, Fails, Reader, skip, behind, repeat, separated}
+use Rattle.ll_grammar.specs.Readers.{◌>>=◌, Ends, Reader, skip, repeat, separated}
 
 -- what was read before, and what is still read
 abbrev pub with_front : {T F Y : Type 0} → List Y → Result (List Y × List T) F → Result (List Y × List T) F

@@ -1,10 +1,10 @@
 -- A text has one fault, and none among tokens that a sentence within the depth begins with.
-use Rattle.std.proofs.Common.{◌≡◌, ℕ, zero, suc, true, List, [], ◌∷◌, ◌++◌, refl, sym, ap, ◌∙◌, subst, append_assoc, inl, inr, Option, Some, None, length, ◌+◌, arith, length-append}
+use Rattle.std.proofs.Common.{◌≡◌, ℕ, List, [], ◌∷◌, ◌++◌, refl, sym, ap, ◌∙◌, subst, append_assoc, inl, inr, Some, None, length, arith, length-append}
 use Rattle.std.proofs.lemmas.List.{append-nil}
 use Rattle.ll_grammar.specs.Grammar.{Rule, Grammar}
 use Rattle.ll_grammar.specs.Derivations.{Tree, tokens, Derives, over}
 use Rattle.ll_grammar.specs.LookAhead.{IsLL1, IsRoot}
-use Rattle.ll_grammar.specs.Sentences.{Fault, Syntax, TooDeep, SameHead, Begins, Kept, Sentence, Beginning, Refusal, OnlyDeeper, Faulty}
+use Rattle.ll_grammar.specs.Sentences.{Fault, Syntax, TooDeep, SameHead, Begins, Kept, Sentence, Beginning, Refusal, Faulty}
 use Rattle.ll_grammar.specs.Reading.{Refuses}
 use Rattle.ll_grammar.proofs.Beginnings.{begins_self, same_refl}
 use Rattle.ll_grammar.proofs.Checks.{root_clear, root_complete}

@@ -1,8 +1,8 @@
 -- What is accepted is the only derivation of a text that begins with it and the next token.
-use Rattle.std.proofs.Common.{◌≡◌, ℕ, zero, suc, Bool, true, false, List, [], ◌++◌, refl, sym, ap, ◌∙◌, subst, ◌&&◌, not, append_assoc}
+use Rattle.std.proofs.Common.{◌≡◌, ℕ, zero, true, false, List, ◌++◌, refl, ap, ◌∙◌, subst, not, append_assoc}
 use Rattle.ll_grammar.specs.Grammar.{Rule, then, or, many, Grammar}
 use Rattle.ll_grammar.specs.Derivations.{Tree, leaf, both, left, right, more, inner, part, tokens, Derives, of_empty, of_token, of_then, of_left, of_right, of_last, of_more, of_deep, of_sub}
-use Rattle.ll_grammar.specs.LookAhead.{nullable, disjoint, first, heads, starts, clear, IsLL1}
+use Rattle.ll_grammar.specs.LookAhead.{nullable, disjoint, first, heads, clear, IsLL1}
 use Rattle.ll_grammar.specs.Sentences.{SameHead, Begins}
 use Rattle.ll_grammar.specs.Reading.{Accepts, accept_empty, accept_token, accept_then, accept_left, accept_right, accept_last, accept_more, accept_deep, accept_sub}
 use Rattle.ll_grammar.proofs.KindSets.{and_l, and_r, not_is, subset_within}

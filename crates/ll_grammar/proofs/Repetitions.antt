@@ -1,15 +1,15 @@
 -- Reading again and again is what the grammar says of { .. }.
-use Rattle.std.proofs.Common.{◌≡◌, ℕ, zero, suc, ◌+◌, ◌≤◌, Bool, true, false, List, [], ◌∷◌, ◌++◌, Result, Ok, Err, Option, Some, None, refl, sym, ap, ◌∙◌, subst, append_assoc, arith, length, cond, ◌||◌}
+use Rattle.std.proofs.Common.{◌≡◌, ℕ, zero, suc, ◌≤◌, Bool, true, false, List, [], ◌∷◌, ◌++◌, Result, Ok, Err, Some, None, refl, sym, ap, ◌∙◌, subst, append_assoc, arith, length, cond}
 use Rattle.std.specs.Prelude.{◌==◌}
-use Rattle.ll_grammar.specs.Grammar.{Rule, token, then, many, one, Grammar}
-use Rattle.ll_grammar.specs.Derivations.{Tree, leaf, both, last, more, tokens, Derives}
+use Rattle.ll_grammar.specs.Grammar.{Rule, then, many, one, Grammar}
+use Rattle.ll_grammar.specs.Derivations.{Tree, both, last, more, tokens, Derives}
 use Rattle.ll_grammar.specs.LookAhead.{nullable, starts, first, IsLL1}
 use Rattle.ll_grammar.specs.Sentences.{Fault}
-use Rattle.ll_grammar.specs.Reading.{Accepts, accept_last, accept_more, Refuses, refuse_many, refuse_more}
-use Rattle.ll_grammar.specs.Readers.{◌>>=◌, Reader, next_is, skip, behind, expect, repeat, separated}
+use Rattle.ll_grammar.specs.Reading.{Accepts, accept_last, accept_more, refuse_many, refuse_more}
+use Rattle.ll_grammar.specs.Readers.{◌>>=◌, Reader, next_is, behind, expect, repeat, separated}
 use Rattle.ll_grammar.proofs.Soundness.{accepts_derives}
 use Rattle.ll_grammar.proofs.FirstTokens.{rest_shorter}
-use Rattle.ll_grammar.proofs.Link.{Accepted, Refused, Outcome, Reads, IsLeaf, IsAt, seq, final, a_kind, next_starts}
+use Rattle.ll_grammar.proofs.Link.{Accepted, Outcome, Reads, IsAt, seq, a_kind, next_starts}
 
 -- What a repetition is about: a right side r, read by `item` where `begins` says so, and what that says of the values.
 module _ {T F X Y : Type 0} (g : Grammar T) (tell : Fault → List T → F) (n : ℕ) (r : Rule) (P : Tree T → X → List T → Type 0) (Q : Tree T → List Y → List T → Type 0) (begins : List T → Bool) (item : Reader T F X) (parts : X → List Y) where
@@ -118,7 +118,7 @@ module _ {T F X Y : Type 0} {g : Grammar T} {tell : Fault → List T → F} wher
   list_loop {n} {r} {value} {item} ok k values parts nil cons reads ts =
       subst (Reads g tell (many (then (one k) r)) (IsAt values) n ts) (sym (separated_is g tell k item parts (length ts) ts))
       (repeated g tell n (then (one k) r) (Behind (IsAt value)) (IsAt values) (next_is g.kind k) (with_token g tell k item parts) parts ok refl (next_starts g k)
-       (λ ts. seq (a_kind k ts) (λ s d e. reads s.1)) nil on_more_values ts)
+      (λ ts. seq (a_kind k ts) (λ s d e. reads s.1)) nil on_more_values ts)
     where
       on_more_values : (d : Tree T) (x : X) (ds : Tree T) (ys : List Y) (w : List T) → Derives g (then (one k) r) d → Behind (IsAt value) d x (tokens ds ++ w) → values ds w ≡ ys → values (more d ds) w ≡ parts x ++ ys
       on_more_values (both s d) x ds ys w h p q = cons s d ds w ∙ (λ i. parts (p i) ++ q i)

@@ -1,5 +1,5 @@
 -- Of what follows, reading sees the first token alone.
-use Rattle.std.proofs.Common.{◌≡◌, ℕ, zero, suc, true, false, List, [], ◌++◌, sym, ◌∙◌}
+use Rattle.std.proofs.Common.{ℕ, List, ◌++◌, sym, ◌∙◌}
 use Rattle.ll_grammar.specs.Grammar.{Rule, Grammar}
 use Rattle.ll_grammar.specs.Derivations.{Tree, tokens}
 use Rattle.ll_grammar.specs.Sentences.{Fault, SameHead}

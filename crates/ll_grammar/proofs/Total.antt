@@ -1,9 +1,9 @@
 -- Every list is accepted up to a rest, or refused.
-use Rattle.std.proofs.Common.{◌≡◌, ℕ, zero, suc, Bool, true, false, List, [], ◌∷◌, ◌++◌, refl, sym, ap, ◌∙◌, subst, true≢false, append_assoc, length, ◌≤◌, ◌+◌, ◌&&◌, ◌||◌, arith, length-append}
+use Rattle.std.proofs.Common.{◌≡◌, ℕ, zero, suc, Bool, true, false, List, [], ◌∷◌, ◌++◌, refl, sym, ap, ◌∙◌, subst, true≢false, append_assoc, length, ◌≤◌, ◌&&◌, ◌||◌, arith, length-append}
 use Rattle.ll_grammar.specs.Grammar.{Rule, empty, token, then, or, many, deep, sub, Grammar}
 use Rattle.ll_grammar.specs.Derivations.{Tree, tokens}
 use Rattle.ll_grammar.specs.LookAhead.{member, nullable, sub_first, starts, first, firsts, heads, clear, IsLL1}
-use Rattle.ll_grammar.specs.Reading.{Accepts, accept_empty, accept_token, accept_then, accept_left, accept_right, accept_last, accept_more, accept_deep, accept_sub, Refuses, refuse_token, refuse_then, refuse_later, refuse_left, refuse_right, refuse_many, refuse_more, refuse_deep, refuse_sub, refuse_limit, refuse_none, Answer, accepted, refused}
+use Rattle.ll_grammar.specs.Reading.{Accepts, accept_empty, accept_token, accept_then, accept_left, accept_right, accept_last, accept_more, accept_deep, accept_sub, refuse_token, refuse_then, refuse_later, refuse_left, refuse_right, refuse_many, refuse_more, refuse_deep, refuse_sub, refuse_limit, refuse_none, Answer, accepted, refused}
 use Rattle.ll_grammar.proofs.Beginnings.{starts_nil, starts_cons}
 use Rattle.ll_grammar.proofs.Checks.{rule_clear}
 use Rattle.ll_grammar.proofs.Soundness.{accepts_derives}

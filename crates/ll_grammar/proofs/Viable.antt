@@ -1,6 +1,6 @@
 -- What was read before a refused token goes on to a sentence.
-use Rattle.std.proofs.Common.{◌≡◌, ℕ, zero, suc, Bool, true, false, List, [], ◌∷◌, ◌++◌, refl, sym, ap, ◌∙◌, subst, ◌&&◌, append_assoc, inl, inr, Option, Some, None}
-use Rattle.ll_grammar.specs.Grammar.{Rule, then, or, many, deep, Grammar}
+use Rattle.std.proofs.Common.{◌≡◌, ℕ, zero, true, List, [], ◌∷◌, ◌++◌, refl, sym, ap, ◌∙◌, subst, append_assoc, inl, inr, Option, Some, None}
+use Rattle.ll_grammar.specs.Grammar.{Rule, then, many, deep, Grammar}
 use Rattle.ll_grammar.specs.Derivations.{Tree, both, left, right, last, more, inner, part, tokens, Derives, of_then, of_left, of_right, of_last, of_more, of_deep, of_sub, over, first_of}
 use Rattle.ll_grammar.specs.LookAhead.{starts, firsts, complete, IsLL1}
 use Rattle.ll_grammar.specs.Sentences.{Fault, Syntax, TooDeep, SameHead, Kept}
@@ -9,7 +9,7 @@ use Rattle.ll_grammar.proofs.KindSets.{and_l, and_r}
 use Rattle.ll_grammar.proofs.Beginnings.{starts_some, IsFilled}
 use Rattle.ll_grammar.proofs.Checks.{rule_complete}
 use Rattle.ll_grammar.proofs.Soundness.{accepts_derives, accepts_within}
-use Rattle.ll_grammar.proofs.Productive.{SomeTree, some_tree, Leads, rule_leads}
+use Rattle.ll_grammar.proofs.Productive.{SomeTree, some_tree, rule_leads}
 
 module _ {T : Type 0} where
   pub kept_nil : (n : ℕ) (d : Tree T) → Kept n d []

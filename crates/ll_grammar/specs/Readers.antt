@@ -1,5 +1,5 @@
 -- Reading by descent, as functions: a value and the tokens behind it, or the fault.
-use Rattle.std.specs.Prelude.{◌≡◌, ℕ, zero, suc, Bool, true, false, List, [], ◌∷◌, ◌++◌, Result, Ok, Err, Option, Some, None, if◌then◌else◌, ◌==◌}
+use Rattle.std.specs.Prelude.{◌≡◌, ℕ, zero, suc, Bool, false, List, [], ◌∷◌, ◌++◌, Result, Ok, Err, Option, Some, None, if◌then◌else◌, ◌==◌}
 use Rattle.ll_grammar.specs.LookAhead.{member}
 use Rattle.ll_grammar.specs.Sentences.{Fault, Syntax, TooDeep}
 

@@ -1,5 +1,5 @@
 -- Sentences, their beginnings, and the first token of a text that is at fault.
-use Rattle.std.specs.Prelude.{◌≡◌, ℕ, List, [], ◌∷◌, ◌++◌, Option, Some, None, ◌⊎◌}
+use Rattle.std.specs.Prelude.{◌≡◌, ℕ, List, [], ◌∷◌, ◌++◌, Some, None, ◌⊎◌}
 use Rattle.ll_grammar.specs.Grammar.{Rule, Grammar}
 use Rattle.ll_grammar.specs.Derivations.{Tree, tokens, Derives, over}
 
