@@ -4,11 +4,11 @@ use Rattle.std.specs.Prelude.{if◌then◌else◌}
 use Rattle.ll_grammar.specs.Grammar.{Rule, optional}
 use Rattle.ll_grammar.specs.Derivations.{Tree, leaf, both, left, right, more, inner, tokens}
 use Rattle.ll_grammar.specs.Sentences.{Fault, Syntax, TooDeep}
-use Rattle.ll_grammar.specs.Readers.{Reader, ◌>>=◌, next_is, next_in, expect, at_depth, separated, all}
-use Rattle.ll_grammar.specs.Texts.{Spells, Reading}
+use Rattle.ll_grammar.specs.Readers.{Reader, ◌>>=◌, next_is, next_in, expect, at_depth, separated, all, ended}
+use Rattle.ll_grammar.specs.Texts.{Spells, IsAnswer}
 use Rattle.ll_grammar.proofs.Link.{Reads, Is, IsAt, seq, seq_at, final, either, no_part, deeper, at_limit, a_kind, next_starts, next_in_starts}
 use Rattle.ll_grammar.proofs.Repetitions.{list_loop}
-use Rattle.ll_grammar.proofs.Answering.{answers, is_read, ended}
+use Rattle.ll_grammar.proofs.Answering.{answers, is_read}
 use Rattle.ll_grammar.proofs.Example.{Word, factor, statement, statements, grammar, is_ll1, text, text_is_root}
 
 -- a fault is told by the number of words that are left, and by its reason
@@ -135,7 +135,7 @@ text_at : ℕ → List Word → Result (List ℕ) (Fault × ℕ)
 text_at n ts = ended tell (before_end n ts)
 
 -- what is read is spelled, a fault is the first, and what is spelled is read
-text_answers : (n : ℕ) (ts : List Word) → Reading grammar n text text_of tell ts (text_at n ts)
+text_answers : (n : ℕ) (ts : List Word) → IsAnswer grammar n text text_of tell ts (text_at n ts)
 unfolding text_at
 text_answers n ts = answers grammar is_ll1 text text_is_root tell text_of n ts (before_end n ts) (text_read n ts)
 

@@ -45,6 +45,10 @@ module _ {T F : Type 0} (tell : Fault → List T → F) where
   whole x [] = Ok x
   whole x (t ∷ ts) = Err (tell Syntax (t ∷ ts))
 
+  -- what was read, where nothing stands behind it
+  abbrev pub ended : {X : Type 0} → Result (X × List T) F → Result X F
+  ended o = o >>= λ x. whole x.0 x.1
+
   module _ (kind : T → ℕ) where
     -- a token of this kind
     abbrev pub expect : ℕ → Reader T F T

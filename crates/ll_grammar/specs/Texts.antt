@@ -1,5 +1,5 @@
 -- What a parser promises of a text: its value, or the first token at fault.
-use Rattle.std.specs.Prelude.{◌≡◌, ℕ, List, [], Result, Ok, Err}
+use Rattle.std.specs.Prelude.{◌≡◌, ℕ, List, [], Result, Ok, Err, Option, Some, None}
 use Rattle.ll_grammar.specs.Grammar.{Rule, Grammar}
 use Rattle.ll_grammar.specs.Derivations.{Tree}
 use Rattle.ll_grammar.specs.Sentences.{Fault, Sentence, Faulty}
@@ -18,6 +18,11 @@ module _ {T : Type 0} (g : Grammar T) (n : ℕ) (r : Rule) where
     pub told : e ≡ tell fault rest
 
   -- what reading a text answers
-  abbrev pub Reading : {X F : Type 0} → (Tree T → List T → X) → (Fault → List T → F) → List T → Result X F → Type 0
-  Reading value tell ts (Ok x) = Spells value x ts
-  Reading value tell ts (Err e) = IsFirstFault tell e ts
+  abbrev pub IsAnswer : {X F : Type 0} → (Tree T → List T → X) → (Fault → List T → F) → List T → Result X F → Type 0
+  IsAnswer value tell ts (Ok x) = Spells value x ts
+  IsAnswer value tell ts (Err e) = IsFirstFault tell e ts
+
+  -- The fault that an error tells of is the first, where memory is not out.
+  abbrev pub TellsFirst : {F : Type 0} → (Fault → List T → F) → List T → Option F → Type 0
+  TellsFirst tell ts None = Unit {0}
+  TellsFirst tell ts (Some f) = IsFirstFault tell f ts
