@@ -76,7 +76,8 @@ module _ {T : Type 0} (g : Grammar T) where
   starts_cons ks t ts b h = h
 
   -- the first token of a list that starts with one of the kinds
-  pub starts_some : (ks : List ℕ) (ts : List T) → starts g ks ts ≡ true → (t : T) × (v : List T) × (ts ≡ t ∷ v) × (member (g.kind t) ks ≡ true)
+  pub starts_some : (ks : List ℕ) (ts : List T) → starts g ks ts ≡ true
+      → (t : T) × (v : List T) × (ts ≡ t ∷ v) × (member (g.kind t) ks ≡ true)
   unfolding starts
   starts_some ks [] h = absurd (true≢false (sym h))
   starts_some ks (t ∷ ts) h = (t, ts, refl, h)

@@ -31,8 +31,10 @@ module _ {T : Type 0} (g : Grammar T) (r : Rule) where
     refuses_first_fault f n u rest ts p e = fault_of g ok n r root f u rest ts p e
 
     -- the only derivation of a text that begins with what is accepted and the next token
-    pub root_tree : {n : ℕ} {d : Tree T} {rest : List T} → Accepts g n r d rest → (e : Tree T) → Derives g r e → Begins (tokens d) rest (tokens e) → e ≡ d
-    root_tree {n} {d} {rest} p e k b = one_tree g ok p k [] [] (root_clear g r root) tt (subst (Begins (tokens d) rest) (sym (append-nil (tokens e))) b)
+    pub root_tree : {n : ℕ} {d : Tree T} {rest : List T} → Accepts g n r d rest → (e : Tree T) → Derives g r e
+        → Begins (tokens d) rest (tokens e) → e ≡ d
+    root_tree {n} {d} {rest} p e k b =
+        one_tree g ok p k [] [] (root_clear g r root) tt (subst (Begins (tokens d) rest) (sym (append-nil (tokens e))) b)
 
     -- a derivation of what is read, or its beginning
     begins_of : (d : Tree T) (u rest : List T) → tokens d ≡ u ++ rest → Begins u rest (tokens d)
@@ -42,17 +44,20 @@ module _ {T : Type 0} (g : Grammar T) (r : Rule) where
     no_more u t ts b = (let e = begins_whole u (t ∷ ts) b in cc)
 
     -- what stands behind a whole sentence is a fault
-    pub behind_sentence : {n : ℕ} {d : Tree T} {t : T} {rest : List T} → Accepts g n r d (t ∷ rest) → (ts : List T) → ts ≡ tokens d ++ (t ∷ rest) → Faulty g n r Syntax ts (t ∷ rest)
+    pub behind_sentence : {n : ℕ} {d : Tree T} {t : T} {rest : List T} → Accepts g n r d (t ∷ rest) → (ts : List T)
+        → ts ≡ tokens d ++ (t ∷ rest) → Faulty g n r Syntax ts (t ∷ rest)
     behind_sentence {n} {d} {t} {rest} p ts e = record {
       before = tokens d;
       is = e;
-      beginning = record { tree = d; derives = accepts_derives g p; behind = []; spells = sym (append-nil (tokens d)); within = inl (accepts_within g p) };
+      beginning =
+          record { tree = d; derives = accepts_derives g p; behind = []; spells = sym (append-nil (tokens d)); within = inl (accepts_within g p) };
       refusal = λ c k b. no_more (tokens d) t rest (subst (λ z. Begins (tokens d) (t ∷ rest) (tokens z)) (root_tree p c k b) b);
     }
 
     -- what is accepted whole is a sentence
     abbrev pub whole_sentence : {n : ℕ} {d : Tree T} → Accepts g n r d [] → (ts : List T) → ts ≡ tokens d ++ [] → Sentence g n r ts
-    whole_sentence {n} {d} p ts e = record { tree = d; derives = accepts_derives g p; spells = sym (append-nil (tokens d)) ∙ sym e; within = accepts_within g p }
+    whole_sentence {n} {d} p ts e =
+        record { tree = d; derives = accepts_derives g p; spells = sym (append-nil (tokens d)) ∙ sym e; within = accepts_within g p }
 
     pub is_decided : IsDecided g r
     is_decided n ts = on (is_total n ts)
@@ -63,14 +68,16 @@ module _ {T : Type 0} (g : Grammar T) (r : Rule) where
         on (refused {f = f} {u = u} {rest = rest} p e) = inr (f, rest, fault_of g ok n r root f u rest ts p e)
 
     -- a derivation of the whole text is what is accepted
-    pub derivation_accepted : {n : ℕ} {d : Tree T} {rest : List T} → Accepts g n r d rest → (e : Tree T) → Derives g r e → tokens e ≡ tokens d ++ rest → (e ≡ d) × (rest ≡ [])
+    pub derivation_accepted : {n : ℕ} {d : Tree T} {rest : List T} → Accepts g n r d rest → (e : Tree T) → Derives g r e
+        → tokens e ≡ tokens d ++ rest → (e ≡ d) × (rest ≡ [])
     derivation_accepted {n} {d} {rest} p e k h =
         let b = begins_of e (tokens d) rest h in
         let same = root_tree p e k b in
         (same, begins_whole (tokens d) rest (subst (λ z. Begins (tokens d) rest (tokens z)) same b))
 
     -- no derivation within the depth is refused
-    pub derivation_not_refused : {n : ℕ} {f : Fault} {u rest : List T} → Refuses g f n r u rest → (e : Tree T) → Derives g r e → tokens e ≡ u ++ rest → over n e ≡ None → ⊥
+    pub derivation_not_refused : {n : ℕ} {f : Fault} {u rest : List T} → Refuses g f n r u rest → (e : Tree T) → Derives g r e
+        → tokens e ≡ u ++ rest → over n e ≡ None → ⊥
     derivation_not_refused {n} {f} {u} {rest} p e k h o = no f (root_verdict g ok n r root f p e k (begins_of e u rest h))
       where
         no : (f : Fault) → Verdict f n e u → ⊥

@@ -84,10 +84,12 @@ abbrev empty_block : Tree Word
 empty_block = both (leaf (word 7)) (both last (both (both (right nothing) last) (leaf (word 8))))
 
 abbrev assignment : Tree Word
-assignment = inner (left (both (leaf (word 1)) (both (leaf (word 3)) (inner (right (both (leaf (word 5)) (both (inner (left (leaf (word 2)))) (leaf (word 6)))))))))
+assignment =
+    inner (left (both (leaf (word 1)) (both (leaf (word 3)) (inner (right (both (leaf (word 5)) (both (inner (left (leaf (word 2)))) (leaf (word 6)))))))))
 
 abbrev derivation : Tree Word
-derivation = both (part (both (leaf (word 7)) (both (more (both (part empty_block) (leaf (word 4))) last) (both (both (left assignment) last) (leaf (word 8)))))) (leaf (word 0))
+derivation =
+    both (part (both (leaf (word 7)) (both (more (both (part empty_block) (leaf (word 4))) last) (both (both (left assignment) last) (leaf (word 8)))))) (leaf (word 0))
 
 derivation_derives : Derives grammar program derivation
 derivation_derives =

@@ -15,7 +15,8 @@ use Rattle.ll_grammar.proofs.Example.{Word, factor, statement, statements, gramm
 abbrev tell : Fault → List Word → Fault × ℕ
 tell f rest = (f, length rest)
 
-abbrev Reads' : {X : Type 0} → Rule → (Tree Word → X → List Word → Type 0) → ℕ → List Word → Result (X × List Word) (Fault × ℕ) → Type 0
+abbrev Reads' : {X : Type 0} → Rule → (Tree Word → X → List Word → Type 0) → ℕ → List Word → Result (X × List Word) (Fault × ℕ)
+    → Type 0
 Reads' = Reads grammar tell
 
 abbrev Read : Type 0 → Type 0
@@ -82,7 +83,8 @@ module _ (statement_reader : Read (List ℕ)) where
   optional_with ts = if next_in kind (1 ∷ 9 ∷ []) ts then (statement_reader ts >>= λ x. Ok (x.0, x.1)) else Ok (place ts ∷ [], ts)
 
   statements_with : Read (List ℕ)
-  statements_with ts = optional_with ts >>= λ x. separated kind 4 optional_with all (length x.1) x.1 >>= λ xs. Ok (x.0 ++ xs.0, xs.1)
+  statements_with ts =
+      optional_with ts >>= λ x. separated kind 4 optional_with all (length x.1) x.1 >>= λ xs. Ok (x.0 ++ xs.0, xs.1)
 
   module _ (n : ℕ) (statement_reads : (ts : List Word) → Reads' statement (IsAt statement_of) n ts (statement_reader ts)) where
     optional_read : (ts : List Word) → Reads' (optional statement) (IsAt optional_of) n ts (optional_with ts)

@@ -13,31 +13,39 @@ filled_length (t ∷ u) h = omega arith
 
 module _ {T : Type 0} (g : Grammar T) (ok : IsLL1 g) where
   numbered_within : (n : ℕ) (follow : List ℕ) → Within (heads g (g.rule n) follow) (firsts g n ++ [])
-  numbered_within n follow = within_solid (nullable (g.rule n)) (first g (g.rule n)) follow _ (solid g ok n) (λ k h. member_left k (firsts g n) [] (first_within g ok n k h))
+  numbered_within n follow =
+      within_solid (nullable (g.rule n)) (first g (g.rule n)) follow _ (solid g ok n) (λ k h. member_left k (firsts g n) [] (first_within g ok n k h))
 
   -- a sentence with something behind it begins as its right side and what follows may
-  pub may_start : {r : Rule} {d : Tree T} → Derives g r d → (follow : List ℕ) (rest : List T) → MayStart g follow rest → MayStart g (heads g r follow) (tokens d ++ rest)
+  pub may_start : {r : Rule} {d : Tree T} → Derives g r d → (follow : List ℕ) (rest : List T) → MayStart g follow rest
+      → MayStart g (heads g r follow) (tokens d ++ rest)
   may_start of_empty follow rest h = h
   may_start (of_token {ks} {t} m) follow rest h = member_left (g.kind t) ks [] m
   may_start (of_then {r} {s} {d} {e} p q) follow rest h =
       let i = may_start p (heads g s follow) (tokens e ++ rest) (may_start q follow rest h) in
       subst (MayStart g (heads g (then r s) follow)) (sym (append_assoc (tokens d) (tokens e) rest))
       (may_within g _ _ (within_then (nullable r) (nullable s) (first g r) (first g s) follow) (tokens d ++ (tokens e ++ rest)) i)
-  may_start (of_left {r} {s} {d} p) follow rest h = may_within g _ _ (within_left (nullable r) (nullable s) (first g r) (first g s) follow) (tokens d ++ rest) (may_start p follow rest h)
-  may_start (of_right {r} {s} {d} p) follow rest h = may_within g _ _ (within_right (nullable r) (nullable s) (first g r) (first g s) follow) (tokens d ++ rest) (may_start p follow rest h)
-  may_start (of_last {r}) follow rest h = may_within g follow (first g r ++ follow) (λ k m. member_right k (first g r) follow m) rest h
+  may_start (of_left {r} {s} {d} p) follow rest h =
+      may_within g _ _ (within_left (nullable r) (nullable s) (first g r) (first g s) follow) (tokens d ++ rest) (may_start p follow rest h)
+  may_start (of_right {r} {s} {d} p) follow rest h =
+      may_within g _ _ (within_right (nullable r) (nullable s) (first g r) (first g s) follow) (tokens d ++ rest) (may_start p follow rest h)
+  may_start (of_last {r}) follow rest h =
+      may_within g follow (first g r ++ follow) (λ k m. member_right k (first g r) follow m) rest h
   may_start (of_more {r} {d} {ds} p q) follow rest h =
       let i = may_start p (first g r ++ follow) (tokens ds ++ rest) (may_start q follow rest h) in
       subst (MayStart g (first g r ++ follow)) (sym (append_assoc (tokens d) (tokens ds) rest))
       (may_within g _ _ (within_more (nullable r) (first g r) follow) (tokens d ++ (tokens ds ++ rest)) i)
-  may_start (of_deep {n} {d} p) follow rest h = may_within g _ _ (numbered_within n follow) (tokens d ++ rest) (may_start p follow rest h)
-  may_start (of_sub {d} p) follow rest h = may_within g _ _ (numbered_within zero follow) (tokens d ++ rest) (may_start p follow rest h)
+  may_start (of_deep {n} {d} p) follow rest h =
+      may_within g _ _ (numbered_within n follow) (tokens d ++ rest) (may_start p follow rest h)
+  may_start (of_sub {d} p) follow rest h =
+      may_within g _ _ (numbered_within zero follow) (tokens d ++ rest) (may_start p follow rest h)
 
   -- a right side that is not nullable has no empty sentence
   pub filled : {r : Rule} {d : Tree T} → Derives g r d → nullable r ≡ false → IsFilled (tokens d)
   filled of_empty h = absurd (true≢false h)
   filled (of_token m) h = tt
-  filled (of_then {r} {s} {d} {e} p q) h = ⊎_elim (λ i. filled_left (tokens d) (tokens e) (filled p i)) (λ i. filled_right (tokens d) (tokens e) (filled q i)) (and_false (nullable r) (nullable s) h)
+  filled (of_then {r} {s} {d} {e} p q) h =
+      ⊎_elim (λ i. filled_left (tokens d) (tokens e) (filled p i)) (λ i. filled_right (tokens d) (tokens e) (filled q i)) (and_false (nullable r) (nullable s) h)
   filled (of_left {r} {s} p) h = filled p (or_false_l (nullable r) (nullable s) h)
   filled (of_right {r} {s} p) h = filled p (or_false_r (nullable r) (nullable s) h)
   filled of_last h = absurd (true≢false h)
@@ -46,10 +54,13 @@ module _ {T : Type 0} (g : Grammar T) (ok : IsLL1 g) where
   filled (of_sub p) h = filled p (solid g ok zero)
 
   -- such a sentence begins with a token of the first set
-  pub starts_first : {r : Rule} {d : Tree T} → Derives g r d → nullable r ≡ false → (follow : List ℕ) (rest : List T) → MayStart g follow rest → starts g (first g r) (tokens d ++ rest) ≡ true
+  pub starts_first : {r : Rule} {d : Tree T} → Derives g r d → nullable r ≡ false → (follow : List ℕ) (rest : List T)
+      → MayStart g follow rest → starts g (first g r) (tokens d ++ rest) ≡ true
   starts_first {r} {d} p e follow rest h =
       starts_filled g (first g r) (tokens d) rest (filled p e) (may_within g _ _ (within_solid (nullable r) (first g r) follow (first g r) e (λ k m. m)) (tokens d ++ rest) (may_start p follow rest h))
 
   -- what follows such a sentence is shorter than the whole
-  pub rest_shorter : {r : Rule} {d : Tree T} → Derives g r d → nullable r ≡ false → (ts rest : List T) → ts ≡ tokens d ++ rest → suc (length rest) ≤ length ts
-  rest_shorter {d = d} p e ts rest h = let l = filled_length (tokens d) (filled p e) in let m = ap length h in omega (arith, l, m, length-append (tokens d) rest)
+  pub rest_shorter : {r : Rule} {d : Tree T} → Derives g r d → nullable r ≡ false → (ts rest : List T) → ts ≡ tokens d ++ rest
+      → suc (length rest) ≤ length ts
+  rest_shorter {d = d} p e ts rest h =
+      let l = filled_length (tokens d) (filled p e) in let m = ap length h in omega (arith, l, m, length-append (tokens d) rest)

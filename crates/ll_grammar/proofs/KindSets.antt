@@ -48,7 +48,8 @@ not_true false h g = true≢false (sym g)
 
 pub member_left : (k : ℕ) (xs ys : List ℕ) → member k xs ≡ true → member k (xs ++ ys) ≡ true
 member_left k [] ys h = absurd (true≢false (sym h))
-member_left k (x ∷ xs) ys h = ⊎_elim (λ e. or_l (k == x) _ e) (λ e. or_r (k == x) _ (member_left k xs ys e)) (or_cases (k == x) (member k xs) h)
+member_left k (x ∷ xs) ys h =
+    ⊎_elim (λ e. or_l (k == x) _ e) (λ e. or_r (k == x) _ (member_left k xs ys e)) (or_cases (k == x) (member k xs) h)
 
 pub member_right : (k : ℕ) (xs ys : List ℕ) → member k ys ≡ true → member k (xs ++ ys) ≡ true
 member_right k [] ys h = h
@@ -91,16 +92,19 @@ within_then true n a b f =
 within_then false n a b f = λ k h. member_left k (a ++ []) [] h
 
 pub within_left : (m n : Bool) (a b f : List ℕ) → Within (a ++ if_so m f) ((a ++ b) ++ if_so (m || n) f)
-within_left true n a b f = within_join a f _ (λ k h. member_left k (a ++ b) _ (member_left k a b h)) (λ k h. member_right k (a ++ b) _ h)
+within_left true n a b f =
+    within_join a f _ (λ k h. member_left k (a ++ b) _ (member_left k a b h)) (λ k h. member_right k (a ++ b) _ h)
 within_left false n a b f = within_join a [] _ (λ k h. member_left k (a ++ b) _ (member_left k a b h)) (within_nil _)
 
 pub within_right : (m n : Bool) (a b f : List ℕ) → Within (b ++ if_so n f) ((a ++ b) ++ if_so (m || n) f)
-within_right true n a b f = within_join b (if_so n f) _ (λ k h. member_left k (a ++ b) _ (member_right k a b h)) (λ k h. member_right k (a ++ b) _ (if_less n k h))
+within_right true n a b f =
+    within_join b (if_so n f) _ (λ k h. member_left k (a ++ b) _ (member_right k a b h)) (λ k h. member_right k (a ++ b) _ (if_less n k h))
   where
     if_less : (n : Bool) (k : ℕ) → member k (if_so n f) ≡ true → member k f ≡ true
     if_less true k h = h
     if_less false k h = absurd (true≢false (sym h))
-within_right false n a b f = within_join b (if_so n f) _ (λ k h. member_left k (a ++ b) _ (member_right k a b h)) (λ k h. member_right k (a ++ b) _ h)
+within_right false n a b f =
+    within_join b (if_so n f) _ (λ k h. member_left k (a ++ b) _ (member_right k a b h)) (λ k h. member_right k (a ++ b) _ h)
 
 pub within_more : (m : Bool) (a f : List ℕ) → Within (a ++ if_so m (a ++ f)) (a ++ f)
 within_more true a f = within_join a (a ++ f) (a ++ f) (λ k h. member_left k a f h) (λ k h. h)

@@ -15,7 +15,8 @@ module _ {T F Y : Type 0} where
   no_front (Ok x) = refl
   no_front (Err f) = refl
 
-  regroup : (front part : List Y) (read : Result (List Y × List T) F) → with_front front (read >>= λ ys. Ok (part ++ ys.0, ys.1)) ≡ with_front (front ++ part) read
+  regroup : (front part : List Y) (read : Result (List Y × List T) F)
+      → with_front front (read >>= λ ys. Ok (part ++ ys.0, ys.1)) ≡ with_front (front ++ part) read
   regroup front part (Ok x) = ap (λ (ys : List Y). Ok (ys, x.1)) (simp append_assoc)
   regroup front part (Err f) = refl
 
@@ -23,13 +24,16 @@ module _ {T F Y : Type 0} where
   no_more front ts = ap (λ (ys : List Y). Ok (ys, ts)) (append-nil front)
 
 -- A loop that reads { item }: `front` is what it has, i of `count` rounds are behind it, ts is still to be read, and `total` is what the whole reads.
-pub record RepeatSoFar {T F X Y : Type 0} (begins : List T → Bool) (item : Reader T F X) (parts : X → List Y) (front : List Y) (count i : ℕ) (ts : List T) (total : Result (List Y × List T) F) : Type 0 where
+pub record RepeatSoFar {T F X Y : Type 0} (begins : List T → Bool) (item : Reader T F X) (parts : X → List Y) (front : List Y)
+    (count i : ℕ) (ts : List T) (total : Result (List Y × List T) F) : Type 0 where
   pub so_far : with_front front (repeat begins item parts (count - i) ts) ≡ total
 
 module _ {T F X Y : Type 0} {begins : List T → Bool} {item : Reader T F X} {parts : X → List Y} where
   -- before the first round
-  pub repeat_starts : {front : List Y} {count : ℕ} {ts : List T} {total : Result (List Y × List T) F} → front ≡ [] → total ≡ repeat begins item parts count ts → RepeatSoFar begins item parts front count 0 ts total
-  repeat_starts {count = count} {ts = ts} none h = let e : count - 0 ≡ count = omega arith in record { so_far = rw (none, e, h) (no_front (repeat begins item parts count ts)) }
+  pub repeat_starts : {front : List Y} {count : ℕ} {ts : List T} {total : Result (List Y × List T) F} → front ≡ []
+      → total ≡ repeat begins item parts count ts → RepeatSoFar begins item parts front count 0 ts total
+  repeat_starts {count = count} {ts = ts} none h =
+      let e : count - 0 ≡ count = omega arith in record { so_far = rw (none, e, h) (no_front (repeat begins item parts count ts)) }
 
   -- an item was read
   pub repeat_goes_on : {front new : List Y} {count i : ℕ} {ts after : List T} {total : Result (List Y × List T) F} {x : X} {b : Bool}
@@ -60,7 +64,8 @@ module _ {T F X Y : Type 0} {begins : List T → Bool} {item : Reader T F X} {pa
       sym s.so_far ∙ same
 
   -- each round was gone
-  pub repeat_is_done : {front : List Y} {count i : ℕ} {ts : List T} {total : Result (List Y × List T) F} → RepeatSoFar begins item parts front count i ts total → count ≤ i → total ≡ Ok (front, ts)
+  pub repeat_is_done : {front : List Y} {count i : ℕ} {ts : List T} {total : Result (List Y × List T) F}
+      → RepeatSoFar begins item parts front count i ts total → count ≤ i → total ≡ Ok (front, ts)
   unfolding repeat
   repeat_is_done {front = front} {count = count} {i = i} {ts = ts} s le =
       let e : count - i ≡ 0 = omega arith in
@@ -68,12 +73,15 @@ module _ {T F X Y : Type 0} {begins : List T → Bool} {item : Reader T F X} {pa
       sym s.so_far ∙ same
 
 -- The same of a loop that reads { k item }.
-pub record SeparatedSoFar {T F X Y : Type 0} (kind : T → ℕ) (k : ℕ) (item : Reader T F X) (parts : X → List Y) (front : List Y) (count i : ℕ) (ts : List T) (total : Result (List Y × List T) F) : Type 0 where
+pub record SeparatedSoFar {T F X Y : Type 0} (kind : T → ℕ) (k : ℕ) (item : Reader T F X) (parts : X → List Y) (front : List Y)
+    (count i : ℕ) (ts : List T) (total : Result (List Y × List T) F) : Type 0 where
   pub so_far : with_front front (separated kind k item parts (count - i) ts) ≡ total
 
 module _ {T F X Y : Type 0} {kind : T → ℕ} {k : ℕ} {item : Reader T F X} {parts : X → List Y} where
-  pub separated_starts : {front : List Y} {count : ℕ} {ts : List T} {total : Result (List Y × List T) F} → front ≡ [] → total ≡ separated kind k item parts count ts → SeparatedSoFar kind k item parts front count 0 ts total
-  separated_starts {count = count} {ts = ts} none h = let e : count - 0 ≡ count = omega arith in record { so_far = rw (none, e, h) (no_front (separated kind k item parts count ts)) }
+  pub separated_starts : {front : List Y} {count : ℕ} {ts : List T} {total : Result (List Y × List T) F} → front ≡ []
+      → total ≡ separated kind k item parts count ts → SeparatedSoFar kind k item parts front count 0 ts total
+  separated_starts {count = count} {ts = ts} none h =
+      let e : count - 0 ≡ count = omega arith in record { so_far = rw (none, e, h) (no_front (separated kind k item parts count ts)) }
 
   pub separated_goes_on : {front new : List Y} {count i : ℕ} {ts part after : List T} {total : Result (List Y × List T) F} {x : X}
       → SeparatedSoFar kind k item parts front count i ts total → i < count → Some part ≡ skip kind k ts → item part ≡ Ok (x, after) → new ≡ front ++ parts x → SeparatedSoFar kind k item parts new count (i + 1) after total
@@ -92,14 +100,16 @@ module _ {T F X Y : Type 0} {kind : T → ℕ} {k : ℕ} {item : Reader T F X} {
       let same : with_front front (separated kind k item parts (count - i) ts) ≡ Err f = rw (e, ← h, j) refl in
       sym s.so_far ∙ same
 
-  pub separated_stops : {front : List Y} {count i : ℕ} {ts : List T} {total : Result (List Y × List T) F} → SeparatedSoFar kind k item parts front count i ts total → i < count → None ≡ skip kind k ts → total ≡ Ok (front, ts)
+  pub separated_stops : {front : List Y} {count i : ℕ} {ts : List T} {total : Result (List Y × List T) F}
+      → SeparatedSoFar kind k item parts front count i ts total → i < count → None ≡ skip kind k ts → total ≡ Ok (front, ts)
   unfolding separated
   separated_stops {front = front} {count = count} {i = i} {ts = ts} s lt h =
       let e : count - i ≡ suc (count - (i + 1)) = omega arith in
       let same : with_front front (separated kind k item parts (count - i) ts) ≡ Ok (front, ts) = rw (e, ← h) (no_more front ts) in
       sym s.so_far ∙ same
 
-  pub separated_is_done : {front : List Y} {count i : ℕ} {ts : List T} {total : Result (List Y × List T) F} → SeparatedSoFar kind k item parts front count i ts total → count ≤ i → total ≡ Ok (front, ts)
+  pub separated_is_done : {front : List Y} {count i : ℕ} {ts : List T} {total : Result (List Y × List T) F}
+      → SeparatedSoFar kind k item parts front count i ts total → count ≤ i → total ≡ Ok (front, ts)
   unfolding separated
   separated_is_done {front = front} {count = count} {i = i} {ts = ts} s le =
       let e : count - i ≡ 0 = omega arith in

@@ -17,7 +17,8 @@ module _ {T : Type 0} where
   first_none u (Some v) p h = absurd (none_some _ h)
 
   -- the first too deep token lies in the one part or in the other
-  pub first_some : (u : List T) (o p : Option (List T)) (v : List T) → first_of u o p ≡ Some v → (o ≡ Some v) ⊎ ((o ≡ None) × ((w : List T) × (p ≡ Some w) × (v ≡ u ++ w)))
+  pub first_some : (u : List T) (o p : Option (List T)) (v : List T) → first_of u o p ≡ Some v
+      → (o ≡ Some v) ⊎ ((o ≡ None) × ((w : List T) × (p ≡ Some w) × (v ≡ u ++ w)))
   first_some u (Some x) p v h = inl h
   first_some u None None v h = absurd (none_some v (sym h))
   first_some u None (Some x) v h = inr (refl, (x, refl, sym (some_is (u ++ x) v h)))
@@ -57,10 +58,12 @@ pub record DeepToken {T : Type 0} (g : Grammar T) (d : Tree T) (u : List T) : Ty
 
 module _ {T : Type 0} (g : Grammar T) where
   in_first : (d e : Tree T) (u : List T) → DeepToken g d u → DeepToken g (both d e) u
-  in_first d e u i = record { number = i.number; token = i.token; behind = i.behind ++ tokens e; is = ap (λ w. w ++ tokens e) i.is ∙ append_assoc u (i.token ∷ i.behind) (tokens e); begins = i.begins }
+  in_first d e u i =
+      record { number = i.number; token = i.token; behind = i.behind ++ tokens e; is = ap (λ w. w ++ tokens e) i.is ∙ append_assoc u (i.token ∷ i.behind) (tokens e); begins = i.begins }
 
   in_second : (d e : Tree T) (u v : List T) → v ≡ tokens d ++ u → DeepToken g e u → DeepToken g (both d e) v
-  in_second d e u v h i = record { number = i.number; token = i.token; behind = i.behind; is = ap (λ w. tokens d ++ w) i.is ∙ sym (append_assoc (tokens d) u (i.token ∷ i.behind)) ∙ ap (λ w. w ++ (i.token ∷ i.behind)) (sym h); begins = i.begins }
+  in_second d e u v h i =
+      record { number = i.number; token = i.token; behind = i.behind; is = ap (λ w. tokens d ++ w) i.is ∙ sym (append_assoc (tokens d) u (i.token ∷ i.behind)) ∙ ap (λ w. w ++ (i.token ∷ i.behind)) (sym h); begins = i.begins }
 
   as_is : (d e : Tree T) (u : List T) → tokens e ≡ tokens d → DeepToken g d u → DeepToken g e u
   as_is d e u h i = record { number = i.number; token = i.token; behind = i.behind; is = h ∙ i.is; begins = i.begins }
@@ -74,11 +77,13 @@ module _ {T : Type 0} (g : Grammar T) where
     pub deep_token : {r : Rule} {d : Tree T} → Derives g r d → (n : ℕ) (u : List T) → over n d ≡ Some u → DeepToken g d u
     deep_token of_empty n u h = absurd (none_some u (sym h))
     deep_token (of_token m) n u h = absurd (none_some u (sym h))
-    deep_token (of_then {d = d} {e = e} p q) n u h = ⊎_elim (λ i. in_first d e u (deep_token p n u i)) (λ i. in_second d e i.1.0 u i.1.2 (deep_token q n i.1.0 i.1.1)) (first_some (tokens d) (over n d) (over n e) u h)
+    deep_token (of_then {d = d} {e = e} p q) n u h =
+        ⊎_elim (λ i. in_first d e u (deep_token p n u i)) (λ i. in_second d e i.1.0 u i.1.2 (deep_token q n i.1.0 i.1.1)) (first_some (tokens d) (over n d) (over n e) u h)
     deep_token (of_left {d = d} p) n u h = as_is d (left d) u refl (deep_token p n u h)
     deep_token (of_right {d = d} p) n u h = as_is d (right d) u refl (deep_token p n u h)
     deep_token of_last n u h = absurd (none_some u (sym h))
-    deep_token (of_more {d = d} {ds = ds} p q) n u h = as_is (both d ds) (more d ds) u refl (⊎_elim (λ i. in_first d ds u (deep_token p n u i)) (λ i. in_second d ds i.1.0 u i.1.2 (deep_token q n i.1.0 i.1.1)) (first_some (tokens d) (over n d) (over n ds) u h))
+    deep_token (of_more {d = d} {ds = ds} p q) n u h =
+        as_is (both d ds) (more d ds) u refl (⊎_elim (λ i. in_first d ds u (deep_token p n u i)) (λ i. in_second d ds i.1.0 u i.1.2 (deep_token q n i.1.0 i.1.1)) (first_some (tokens d) (over n d) (over n ds) u h))
     deep_token (of_deep {n = m} p) zero u h = at_limit m u p (some_is [] u h)
     deep_token (of_deep {d = d} p) (suc n) u h = as_is d (inner d) u refl (deep_token p n u h)
     deep_token (of_sub {d = d} p) n u h = as_is d (part d) u refl (deep_token p n u h)

@@ -30,7 +30,8 @@ module _ {T : Type 0} where
   pub fork : (u rest v w : List T) → u ++ rest ≡ v ++ w → Fork u rest v w
   fork u rest [] w h = longer u refl (sym h)
   fork [] rest (t ∷ v) w h = shorter t v refl h
-  fork (x ∷ u) rest (y ∷ v) w h = let e : x ≡ y = cc in let f : u ++ rest ≡ v ++ w = cc in subst (λ q. Fork (x ∷ u) rest (q ∷ v) w) e (fork_cons x u rest v w (fork u rest v w f))
+  fork (x ∷ u) rest (y ∷ v) w h =
+      let e : x ≡ y = cc in let f : u ++ rest ≡ v ++ w = cc in subst (λ q. Fork (x ∷ u) rest (q ∷ v) w) e (fork_cons x u rest v w (fork u rest v w f))
 
   too_long : (u v : List T) (t : T) (z : List T) → u ≡ (u ++ (t ∷ z)) ++ v → ⊥
   too_long [] v t z h = cc
@@ -53,7 +54,8 @@ module _ {T : Type 0} where
 
 module _ {T : Type 0} (g : Grammar T) (n : ℕ) (r : Rule) where
   -- no fault lies among the first tokens of a sentence, where these are not too deep
-  pub not_before : (f : Fault) (ts rest v w : List T) → Faulty g n r f ts rest → Beginning g n r v → ts ≡ v ++ w → (z : List T) × (w ≡ z ++ rest)
+  pub not_before : (f : Fault) (ts rest v w : List T) → Faulty g n r f ts rest → Beginning g n r v → ts ≡ v ++ w
+      → (z : List T) × (w ≡ z ++ rest)
   not_before f ts rest v w a b e = on (fork a.before rest v w (sym a.is ∙ e))
     where
       kept : (t : T) (z : List T) → v ≡ a.before ++ (t ∷ z) → over n b.tree ≡ Some a.before → Kept n b.tree v → ⊥
@@ -61,7 +63,8 @@ module _ {T : Type 0} (g : Grammar T) (n : ℕ) (r : Rule) where
       kept t z h o (inr k) = too_long a.before k.0 t z (some_is a.before _ (sym o ∙ k.1 ∙ ap (λ q. Some (q ++ k.0)) h))
 
       begins : (t : T) (z : List T) → v ≡ a.before ++ (t ∷ z) → rest ≡ t ∷ (z ++ w) → Begins a.before rest (tokens b.tree)
-      begins t z h k = subst (Begins a.before rest) (sym (b.spells ∙ ap (λ q. q ++ b.behind) h ∙ append_assoc a.before (t ∷ z) b.behind)) (begins_self a.before rest (t ∷ (z ++ b.behind)) (subst (SameHead (t ∷ (z ++ b.behind))) (sym k) refl))
+      begins t z h k =
+          subst (Begins a.before rest) (sym (b.spells ∙ ap (λ q. q ++ b.behind) h ∙ append_assoc a.before (t ∷ z) b.behind)) (begins_self a.before rest (t ∷ (z ++ b.behind)) (subst (SameHead (t ∷ (z ++ b.behind))) (sym k) refl))
 
       no : (f : Fault) → Refusal g n r f a.before rest → (t : T) (z : List T) → v ≡ a.before ++ (t ∷ z) → rest ≡ t ∷ (z ++ w) → ⊥
       no Syntax q t z h k = q b.tree b.derives (begins t z h k)
@@ -72,7 +75,8 @@ module _ {T : Type 0} (g : Grammar T) (n : ℕ) (r : Rule) where
       on (shorter t z h k) = absurd (no f a.refusal t z h k)
 
   -- a text has one fault
-  pub one_fault : (f f' : Fault) (ts rest rest' : List T) → Faulty g n r f ts rest → Faulty g n r f' ts rest' → (rest' ≡ rest) × (f' ≡ f)
+  pub one_fault : (f f' : Fault) (ts rest rest' : List T) → Faulty g n r f ts rest → Faulty g n r f' ts rest'
+      → (rest' ≡ rest) × (f' ≡ f)
   one_fault f f' ts rest rest' a b =
       let x = not_before f' ts rest' a.before rest b a.beginning a.is in
       let y = not_before f ts rest b.before rest' a b.beginning b.is in
@@ -98,8 +102,10 @@ module _ {T : Type 0} (g : Grammar T) (n : ℕ) (r : Rule) where
       no TooDeep q = none_some a.before (sym (q.each s.tree s.derives begins) ∙ s.within)
 
 module _ {T : Type 0} (g : Grammar T) (ok : IsLL1 g) (n : ℕ) (r : Rule) (root : IsRoot g r) where
-  pub root_verdict : (f : Fault) {u rest : List T} → Refuses g f n r u rest → (d : Tree T) → Derives g r d → Begins u rest (tokens d) → Verdict f n d u
-  root_verdict f {u} {rest} p d k b = verdict g ok p k [] [] (root_clear g r root) tt (subst (Begins u rest) (sym (append-nil (tokens d))) b)
+  pub root_verdict : (f : Fault) {u rest : List T} → Refuses g f n r u rest → (d : Tree T) → Derives g r d
+      → Begins u rest (tokens d) → Verdict f n d u
+  root_verdict f {u} {rest} p d k b =
+      verdict g ok p k [] [] (root_clear g r root) tt (subst (Begins u rest) (sym (append-nil (tokens d))) b)
 
   -- the token at which reading is refused is the text's fault
   pub fault_of : (f : Fault) (u rest ts : List T) → Refuses g f n r u rest → ts ≡ u ++ rest → Faulty g n r f ts rest
@@ -109,4 +115,5 @@ module _ {T : Type 0} (g : Grammar T) (ok : IsLL1 g) (n : ℕ) (r : Rule) (root 
     where
       why : (f : Fault) → Refuses g f n r u rest → Reaches g f n r u rest → Refusal g n r f u rest
       why Syntax p x = λ d k b. root_verdict Syntax p d k b
-      why TooDeep p x = record { tree = x.tree; derives = x.derives; begins = subst (Begins u rest) (sym x.spells) (begins_self u rest x.behind x.on.1); each = λ d k b. root_verdict TooDeep p d k b }
+      why TooDeep p x =
+          record { tree = x.tree; derives = x.derives; begins = subst (Begins u rest) (sym x.spells) (begins_self u rest x.behind x.on.1); each = λ d k b. root_verdict TooDeep p d k b }

@@ -42,11 +42,14 @@ module _ {T : Type 0} (g : Grammar T) where
   then_other r s follow c = and_r (clear g r (heads g s follow)) _ c
 
   -- what follows a numbered rule is among its follows
-  pub may_follow : (n : ℕ) (follow : List ℕ) (rest : List T) → clear g (Rule.deep n) follow ≡ true → MayStart g follow rest → MayStart g (g.follows n) rest
+  pub may_follow : (n : ℕ) (follow : List ℕ) (rest : List T) → clear g (Rule.deep n) follow ≡ true → MayStart g follow rest
+      → MayStart g (g.follows n) rest
   may_follow n follow rest c h = may_within g follow (g.follows n) (subset_within follow (g.follows n) c) rest h
 
   module _ (ok : IsLL1 g) where
-    pub one_tree : {n : ℕ} {r : Rule} {d e : Tree T} {rest : List T} → Accepts g n r d rest → Derives g r e → (follow : List ℕ) (w : List T) → clear g r follow ≡ true → MayStart g follow w → Begins (tokens d) rest (tokens e ++ w) → e ≡ d
+    pub one_tree : {n : ℕ} {r : Rule} {d e : Tree T} {rest : List T} → Accepts g n r d rest → Derives g r e
+        → (follow : List ℕ) (w : List T) → clear g r follow ≡ true → MayStart g follow w → Begins (tokens d) rest (tokens e ++ w)
+        → e ≡ d
     one_tree accept_empty of_empty follow w c h b = refl
     one_tree (accept_token m) (of_token m') follow w c h b = ap leaf b.0
     one_tree {rest = rest} (accept_then {r = r} {s = s} {d = x} {e = y} p q) (of_then {d = x'} {e = y'} i j) follow w c h b =
@@ -55,12 +58,14 @@ module _ {T : Type 0} (g : Grammar T) where
         let b2 = subst (λ z. Begins (tokens x ++ tokens y) rest (tokens z ++ (tokens y' ++ w))) ex b1 in
         let ey = one_tree q j follow w (then_other r s follow c) h (begins_drop (tokens x) (tokens y) rest _ b2) in
         (λ k. both (ex k) (ey k))
-    one_tree (accept_left {r = r} {s = s} m p) (of_left i) follow w c h b = ap left (one_tree p i follow w (choice r s follow c).one h b)
+    one_tree (accept_left {r = r} {s = s} m p) (of_left i) follow w c h b =
+        ap left (one_tree p i follow w (choice r s follow c).one h b)
     one_tree {rest = rest} (accept_left {r = r} {s = s} {d = x} m p) (of_right {d = e} i) follow w c h b =
         absurd (starts_apart g (first g r) (heads g s follow) (tokens e ++ w) (choice r s follow c).apart (starts_same g _ _ _ (begins_head (tokens x) rest _ b) ∙ m) (may_start g ok i follow w h))
     one_tree {rest = rest} (accept_right {r = r} {s = s} {d = x} m p) (of_left {d = e} i) follow w c h b =
         absurd (same_apart g (first g r) (tokens e ++ w) (tokens x ++ rest) (begins_head (tokens x) rest _ b) m (starts_first g ok i (choice r s follow c).solid follow w h))
-    one_tree (accept_right {r = r} {s = s} m p) (of_right i) follow w c h b = ap right (one_tree p i follow w (choice r s follow c).other h b)
+    one_tree (accept_right {r = r} {s = s} m p) (of_right i) follow w c h b =
+        ap right (one_tree p i follow w (choice r s follow c).other h b)
     one_tree (accept_last m) of_last follow w c h b = refl
     one_tree {rest = rest} (accept_last {r = r} m) (of_more {d = x} {ds = xs} i j) follow w c h b =
         let s = starts_first g ok i (again r follow c).solid (first g r ++ follow) (tokens xs ++ w) (may_start g ok j follow w h) in
@@ -74,5 +79,7 @@ module _ {T : Type 0} (g : Grammar T) where
         let b2 = subst (λ z. Begins (tokens x ++ tokens xs) rest (tokens z ++ (tokens xs' ++ w))) ex b1 in
         let ey = one_tree q j follow w c h (begins_drop (tokens x) (tokens xs) rest _ b2) in
         (λ k. more (ex k) (ey k))
-    one_tree (accept_deep {m = m} p) (of_deep i) follow w c h b = ap inner (one_tree p i (g.follows m) w (rule_clear g ok m) (may_follow m follow w c h) b)
-    one_tree (accept_sub p) (of_sub i) follow w c h b = ap part (one_tree p i (g.follows zero) w (rule_clear g ok zero) (may_follow zero follow w c h) b)
+    one_tree (accept_deep {m = m} p) (of_deep i) follow w c h b =
+        ap inner (one_tree p i (g.follows m) w (rule_clear g ok m) (may_follow m follow w c h) b)
+    one_tree (accept_sub p) (of_sub i) follow w c h b =
+        ap part (one_tree p i (g.follows zero) w (rule_clear g ok zero) (may_follow zero follow w c h) b)

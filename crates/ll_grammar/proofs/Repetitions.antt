@@ -12,19 +12,25 @@ use Rattle.ll_grammar.proofs.FirstTokens.{rest_shorter}
 use Rattle.ll_grammar.proofs.Link.{Accepted, Outcome, Reads, IsAt, seq, a_kind, next_starts}
 
 -- What a repetition is about: a right side r, read by `item` where `begins` says so, and what that says of the values.
-module _ {T F X Y : Type 0} (g : Grammar T) (tell : Fault → List T → F) (n : ℕ) (r : Rule) (P : Tree T → X → List T → Type 0) (Q : Tree T → List Y → List T → Type 0) (begins : List T → Bool) (item : Reader T F X) (parts : X → List Y) where
+module _ {T F X Y : Type 0} (g : Grammar T) (tell : Fault → List T → F) (n : ℕ) (r : Rule) (P : Tree T → X → List T → Type 0)
+    (Q : Tree T → List Y → List T → Type 0) (begins : List T → Bool) (item : Reader T F X) (parts : X → List Y) where
   -- no value of no items, and the values of one more item
   abbrev pub None_holds : Type 0
   None_holds = (w : List T) → Q last [] w
 
   abbrev pub More_holds : Type 0
-  More_holds = (d : Tree T) (x : X) (ds : Tree T) (ys : List Y) (w : List T) → Derives g r d → P d x (tokens ds ++ w) → Q ds ys w → Q (more d ds) (parts x ++ ys) w
+  More_holds =
+      (d : Tree T) (x : X) (ds : Tree T) (ys : List Y) (w : List T) → Derives g r d → P d x (tokens ds ++ w) → Q ds ys w → Q (more d ds) (parts x ++ ys) w
 
-  module _ (ok : IsLL1 g) (solid : nullable r ≡ false) (test : (ts : List T) → begins ts ≡ starts g (first g r) ts) (reads : (ts : List T) → Reads g tell r P n ts (item ts)) (nil : None_holds) (cons : More_holds) where
-    on_more : (ts : List T) → starts g (first g r) ts ≡ true → (x : X × List T) → Accepted g tell r P n ts x → (o : Result (List Y × List T) F) → Outcome g tell (many r) Q n x.1 o → Outcome g tell (many r) Q n ts (o >>= λ ys. Ok (parts x.0 ++ ys.0, ys.1))
+  module _ (ok : IsLL1 g) (solid : nullable r ≡ false) (test : (ts : List T) → begins ts ≡ starts g (first g r) ts)
+      (reads : (ts : List T) → Reads g tell r P n ts (item ts)) (nil : None_holds) (cons : More_holds) where
+    on_more : (ts : List T) → starts g (first g r) ts ≡ true → (x : X × List T) → Accepted g tell r P n ts x
+        → (o : Result (List Y × List T) F) → Outcome g tell (many r) Q n x.1 o
+        → Outcome g tell (many r) Q n ts (o >>= λ ys. Ok (parts x.0 ++ ys.0, ys.1))
     on_more ts h x p (Ok ys) q = record {
       tree = more p.tree q.tree;
-      by = accept_more (subst (λ w. starts g (first g r) w ≡ true) (p.is ∙ ap (λ w. tokens p.tree ++ w) q.is) h) (subst (Accepts g n r p.tree) q.is p.by) q.by;
+      by =
+          accept_more (subst (λ w. starts g (first g r) w ≡ true) (p.is ∙ ap (λ w. tokens p.tree ++ w) q.is) h) (subst (Accepts g n r p.tree) q.is p.by) q.by;
       is = p.is ∙ ap (λ w. tokens p.tree ++ w) q.is ∙ sym (append_assoc (tokens p.tree) (tokens q.tree) ys.1);
       says = cons p.tree x.0 q.tree ys.0 ys.1 (accepts_derives g p.by) (subst (P p.tree x.0) q.is p.says) q.says;
     }
@@ -32,20 +38,25 @@ module _ {T F X Y : Type 0} (g : Grammar T) (tell : Fault → List T → F) (n :
       fault = q.fault;
       before = tokens p.tree ++ q.before;
       rest = q.rest;
-      by = refuse_more (subst (λ w. starts g (first g r) w ≡ true) (p.is ∙ ap (λ w. tokens p.tree ++ w) q.is) h) (subst (Accepts g n r p.tree) q.is p.by) q.by;
+      by =
+          refuse_more (subst (λ w. starts g (first g r) w ≡ true) (p.is ∙ ap (λ w. tokens p.tree ++ w) q.is) h) (subst (Accepts g n r p.tree) q.is p.by) q.by;
       is = p.is ∙ ap (λ w. tokens p.tree ++ w) q.is ∙ sym (append_assoc (tokens p.tree) q.before q.rest);
       told = q.told;
     }
 
-    on_item : (ts : List T) (k : ℕ) → starts g (first g r) ts ≡ true → ((x : X × List T) → Accepted g tell r P n ts x → Outcome g tell (many r) Q n x.1 (repeat begins item parts k x.1)) → (o : Result (X × List T) F) → Outcome g tell r P n ts o
+    on_item : (ts : List T) (k : ℕ) → starts g (first g r) ts ≡ true
+        → ((x : X × List T) → Accepted g tell r P n ts x → Outcome g tell (many r) Q n x.1 (repeat begins item parts k x.1))
+        → (o : Result (X × List T) F) → Outcome g tell r P n ts o
         → Outcome g tell (many r) Q n ts (o >>= λ x. repeat begins item parts k x.1 >>= λ ys. Ok (parts x.0 ++ ys.0, ys.1))
     on_item ts k h go (Ok x) p = on_more ts h x p (repeat begins item parts k x.1) (go x p)
-    on_item ts k h go (Err e) p = record { fault = p.fault; before = p.before; rest = p.rest; by = refuse_many (subst (λ w. starts g (first g r) w ≡ true) p.is h) p.by; is = p.is; told = p.told }
+    on_item ts k h go (Err e) p =
+        record { fault = p.fault; before = p.before; rest = p.rest; by = refuse_many (subst (λ w. starts g (first g r) w ≡ true) p.is h) p.by; is = p.is; told = p.told }
 
     no_more : (ts : List T) → starts g (first g r) ts ≡ false → Outcome g tell (many r) Q n ts (Ok ([], ts))
     no_more ts h = record { tree = last; by = accept_last h; is = refl; says = nil ts }
 
-    on_test : (ts : List T) (k : ℕ) (b : Bool) → starts g (first g r) ts ≡ b → ((x : X × List T) → Accepted g tell r P n ts x → Outcome g tell (many r) Q n x.1 (repeat begins item parts k x.1))
+    on_test : (ts : List T) (k : ℕ) (b : Bool) → starts g (first g r) ts ≡ b
+        → ((x : X × List T) → Accepted g tell r P n ts x → Outcome g tell (many r) Q n x.1 (repeat begins item parts k x.1))
         → Outcome g tell (many r) Q n ts (cond b (item ts >>= λ x. repeat begins item parts k x.1 >>= λ ys. Ok (parts x.0 ++ ys.0, ys.1)) (Ok ([], ts)))
     on_test ts k true h go = on_item ts k h go (item ts) (reads ts).outcome
     on_test ts k false h go = no_more ts h
@@ -83,7 +94,8 @@ module _ {T F X Y : Type 0} (g : Grammar T) (tell : Fault → List T → F) (k :
   abbrev taken : T → List T → Bool → Result (T × List T) F
   taken t ts b = cond b (Ok (t, ts)) (Err (tell Fault.Syntax (t ∷ ts)))
 
-  on_items : (o : Result (X × List T) F) (p q : List T → Result (List Y × List T) F) → ((ts : List T) → p ts ≡ q ts) → (o >>= λ x. add x.0 (p x.1)) ≡ (o >>= λ x. add x.0 (q x.1))
+  on_items : (o : Result (X × List T) F) (p q : List T → Result (List Y × List T) F) → ((ts : List T) → p ts ≡ q ts)
+      → (o >>= λ x. add x.0 (p x.1)) ≡ (o >>= λ x. add x.0 (q x.1))
   on_items (Ok x) p q h = ap (add x.0) (h x.1)
   on_items (Err e) p q h = refl
 
@@ -97,7 +109,8 @@ module _ {T F X Y : Type 0} (g : Grammar T) (tell : Fault → List T → F) (k :
   unfolding separated repeat
   separated_is zero ts = refl
   separated_is (suc n) [] = refl
-  separated_is (suc n) (t ∷ ts) = on_skip t ts (g.kind t == k) (λ w. separated g.kind k item parts n w) (λ w. repeat (next_is g.kind k) with_token parts n w) (λ w. separated_is n w)
+  separated_is (suc n) (t ∷ ts) =
+      on_skip t ts (g.kind t == k) (λ w. separated g.kind k item parts n w) (λ w. repeat (next_is g.kind k) with_token parts n w) (λ w. separated_is n w)
 
 module _ {T F X Y : Type 0} {g : Grammar T} {tell : Fault → List T → F} where
   -- { r }, where the values are a function of the derivation
@@ -120,6 +133,7 @@ module _ {T F X Y : Type 0} {g : Grammar T} {tell : Fault → List T → F} wher
       (repeated g tell n (then (one k) r) (Behind (IsAt value)) (IsAt values) (next_is g.kind k) (with_token g tell k item parts) parts ok refl (next_starts g k)
       (λ ts. seq (a_kind k ts) (λ s d e. reads s.1)) nil on_more_values ts)
     where
-      on_more_values : (d : Tree T) (x : X) (ds : Tree T) (ys : List Y) (w : List T) → Derives g (then (one k) r) d → Behind (IsAt value) d x (tokens ds ++ w) → values ds w ≡ ys → values (more d ds) w ≡ parts x ++ ys
+      on_more_values : (d : Tree T) (x : X) (ds : Tree T) (ys : List Y) (w : List T) → Derives g (then (one k) r) d
+          → Behind (IsAt value) d x (tokens ds ++ w) → values ds w ≡ ys → values (more d ds) w ≡ parts x ++ ys
       on_more_values (both s d) x ds ys w h p q = cons s d ds w ∙ (λ i. parts (p i) ++ q i)
       on_more_values _ x ds ys w h p q = absurd p

@@ -25,11 +25,13 @@ module _ {T : Type 0} where
     where
       on : (o : Option (List T)) → over n e ≡ o → Kept n (both d e) u
       on None i = inl (ap (λ o. first_of (tokens d) o (over n e)) k ∙ ap (first_of (tokens d) None) i)
-      on (Some z) i = inr (v ++ z, ap (λ o. first_of (tokens d) o (over n e)) k ∙ ap (first_of (tokens d) None) i ∙ ap (λ w. Some (w ++ z)) h ∙ ap Some (append_assoc u v z))
+      on (Some z) i =
+          inr (v ++ z, ap (λ o. first_of (tokens d) o (over n e)) k ∙ ap (first_of (tokens d) None) i ∙ ap (λ w. Some (w ++ z)) h ∙ ap Some (append_assoc u v z))
 
   pub kept_back : (n : ℕ) (d e : Tree T) (u : List T) → over n d ≡ None → Kept n e u → Kept n (both d e) (tokens d ++ u)
   kept_back n d e u o (inl k) = inl (ap (λ z. first_of (tokens d) z (over n e)) o ∙ ap (first_of (tokens d) None) k)
-  kept_back n d e u o (inr k) = inr (k.0, ap (λ z. first_of (tokens d) z (over n e)) o ∙ ap (first_of (tokens d) None) k.1 ∙ ap Some (sym (append_assoc (tokens d) u k.0)))
+  kept_back n d e u o (inr k) =
+      inr (k.0, ap (λ z. first_of (tokens d) z (over n e)) o ∙ ap (first_of (tokens d) None) k.1 ∙ ap Some (sym (append_assoc (tokens d) u k.0)))
 
   -- where only the depth is at fault, the sentence goes on with the refused token
   abbrev pub GoesOn : Fault → List T → List T → Type 0
@@ -58,7 +60,8 @@ pub record Reaches {T : Type 0} (g : Grammar T) (f : Fault) (n : ℕ) (r : Rule)
   pub kept : Kept n tree u
 
 module _ {T : Type 0} (g : Grammar T) where
-  abbrev in_front : {f : Fault} {n : ℕ} {r s : Rule} {u rest : List T} → Reaches g f n r u rest → (e : Tree T) → Derives g s e → Reaches g f n (then r s) u rest
+  abbrev in_front : {f : Fault} {n : ℕ} {r s : Rule} {u rest : List T} → Reaches g f n r u rest → (e : Tree T) → Derives g s e
+      → Reaches g f n (then r s) u rest
   in_front {f} {n} {r} {s} {u} {rest} x e k = record {
     tree = both x.tree e;
     derives = of_then x.derives k;
@@ -68,7 +71,8 @@ module _ {T : Type 0} (g : Grammar T) where
     kept = kept_front n x.tree e u x.behind x.spells x.kept;
   }
 
-  abbrev in_back : {f : Fault} {n : ℕ} {r s : Rule} {u rest : List T} (d : Tree T) → Derives g r d → over n d ≡ None → Reaches g f n s u rest → Reaches g f n (then r s) (tokens d ++ u) rest
+  abbrev in_back : {f : Fault} {n : ℕ} {r s : Rule} {u rest : List T} (d : Tree T) → Derives g r d → over n d ≡ None
+      → Reaches g f n s u rest → Reaches g f n (then r s) (tokens d ++ u) rest
   in_back {f} {n} {r} {s} {u} {rest} d k o y = record {
     tree = both d y.tree;
     derives = of_then k y.derives;
@@ -88,15 +92,24 @@ module _ {T : Type 0} (g : Grammar T) where
         let x = rule_leads g ok m s.0 s.3 in
         record { tree = inner x.0; derives = of_deep x.2; behind = tokens x.0; spells = refl; on = subst (GoesOn TooDeep (tokens x.0)) (sym s.2) (goes_on_with s.0 x.1 s.1 (tokens x.0) x.3); kept = kept_nil zero (inner x.0) }
 
-    pub reaches : {f : Fault} {n : ℕ} {r : Rule} {u rest : List T} → Refuses g f n r u rest → complete g r ≡ true → Reaches g f n r u rest
+    pub reaches : {f : Fault} {n : ℕ} {r : Rule} {u rest : List T} → Refuses g f n r u rest → complete g r ≡ true
+        → Reaches g f n r u rest
     reaches {n = n} {r = r} {rest = rest} (refuse_token m) c = by_nothing n rest (some_tree g ok r c)
-    reaches (refuse_then {r = r} {s = s} p) c = let y = some_tree g ok s (and_r (complete g r) _ c) in in_front (reaches p (and_l _ _ c)) y.0 y.1
-    reaches (refuse_later {r = r} {d = d} p q) c = in_back d (accepts_derives g p) (accepts_within g p) (reaches q (and_r (complete g r) _ c))
-    reaches (refuse_left m p) c = let x = reaches p (and_l _ _ c) in record { tree = left x.tree; derives = of_left x.derives; behind = x.behind; spells = x.spells; on = x.on; kept = x.kept }
-    reaches (refuse_right {r = r} m p) c = let x = reaches p (and_r (complete g r) _ c) in record { tree = right x.tree; derives = of_right x.derives; behind = x.behind; spells = x.spells; on = x.on; kept = x.kept }
-    reaches (refuse_many {r = r} m p) c = let x = in_front {s = many r} (reaches p c) last of_last in record { tree = more (reaches p c).tree last; derives = of_more (reaches p c).derives of_last; behind = x.behind; spells = x.spells; on = x.on; kept = x.kept }
-    reaches (refuse_more {r = r} {d = d} m p q) c = let y = in_back {r = r} d (accepts_derives g p) (accepts_within g p) (reaches q c) in record { tree = more d (reaches q c).tree; derives = of_more (accepts_derives g p) (reaches q c).derives; behind = y.behind; spells = y.spells; on = y.on; kept = y.kept }
-    reaches (refuse_deep {m = m} p) c = let x = reaches p (rule_complete g ok m) in record { tree = inner x.tree; derives = of_deep x.derives; behind = x.behind; spells = x.spells; on = x.on; kept = x.kept }
-    reaches (refuse_sub p) c = let x = reaches p (rule_complete g ok zero) in record { tree = part x.tree; derives = of_sub x.derives; behind = x.behind; spells = x.spells; on = x.on; kept = x.kept }
+    reaches (refuse_then {r = r} {s = s} p) c =
+        let y = some_tree g ok s (and_r (complete g r) _ c) in in_front (reaches p (and_l _ _ c)) y.0 y.1
+    reaches (refuse_later {r = r} {d = d} p q) c =
+        in_back d (accepts_derives g p) (accepts_within g p) (reaches q (and_r (complete g r) _ c))
+    reaches (refuse_left m p) c =
+        let x = reaches p (and_l _ _ c) in record { tree = left x.tree; derives = of_left x.derives; behind = x.behind; spells = x.spells; on = x.on; kept = x.kept }
+    reaches (refuse_right {r = r} m p) c =
+        let x = reaches p (and_r (complete g r) _ c) in record { tree = right x.tree; derives = of_right x.derives; behind = x.behind; spells = x.spells; on = x.on; kept = x.kept }
+    reaches (refuse_many {r = r} m p) c =
+        let x = in_front {s = many r} (reaches p c) last of_last in record { tree = more (reaches p c).tree last; derives = of_more (reaches p c).derives of_last; behind = x.behind; spells = x.spells; on = x.on; kept = x.kept }
+    reaches (refuse_more {r = r} {d = d} m p q) c =
+        let y = in_back {r = r} d (accepts_derives g p) (accepts_within g p) (reaches q c) in record { tree = more d (reaches q c).tree; derives = of_more (accepts_derives g p) (reaches q c).derives; behind = y.behind; spells = y.spells; on = y.on; kept = y.kept }
+    reaches (refuse_deep {m = m} p) c =
+        let x = reaches p (rule_complete g ok m) in record { tree = inner x.tree; derives = of_deep x.derives; behind = x.behind; spells = x.spells; on = x.on; kept = x.kept }
+    reaches (refuse_sub p) c =
+        let x = reaches p (rule_complete g ok zero) in record { tree = part x.tree; derives = of_sub x.derives; behind = x.behind; spells = x.spells; on = x.on; kept = x.kept }
     reaches (refuse_limit {m = m} {rest = rest} h) c = at_limit m rest h
     reaches {n = n} {r = r} {rest = rest} (refuse_none m) c = by_nothing n rest (some_tree g ok r c)

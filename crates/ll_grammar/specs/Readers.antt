@@ -64,12 +64,14 @@ module _ {T F X Y : Type 0} where
   -- an item as long as one begins, at most n of them: { item }; `parts` is what an item adds to the list
   unfoldable pub repeat : (List T → Bool) → Reader T F X → (X → List Y) → ℕ → Reader T F (List Y)
   repeat begins item parts zero ts = Ok ([], ts)
-  repeat begins item parts (suc n) ts = if begins ts then (item ts >>= λ x. repeat begins item parts n x.1 >>= λ ys. Ok (parts x.0 ++ ys.0, ys.1)) else Ok ([], ts)
+  repeat begins item parts (suc n) ts =
+      if begins ts then (item ts >>= λ x. repeat begins item parts n x.1 >>= λ ys. Ok (parts x.0 ++ ys.0, ys.1)) else Ok ([], ts)
 
   -- an item behind each token of kind k, at most n of them: { k item }
   unfoldable pub separated : (T → ℕ) → ℕ → Reader T F X → (X → List Y) → ℕ → Reader T F (List Y)
   separated kind k item parts zero ts = Ok ([], ts)
-  separated kind k item parts (suc n) ts = behind (skip kind k ts) (λ after. item after >>= λ x. separated kind k item parts n x.1 >>= λ ys. Ok (parts x.0 ++ ys.0, ys.1)) (Ok ([], ts))
+  separated kind k item parts (suc n) ts =
+      behind (skip kind k ts) (λ after. item after >>= λ x. separated kind k item parts n x.1 >>= λ ys. Ok (parts x.0 ++ ys.0, ys.1)) (Ok ([], ts))
 
 -- an item adds itself
 abbrev pub itself : {X : Type 0} → X → List X
