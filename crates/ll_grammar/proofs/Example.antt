@@ -1,5 +1,5 @@
 -- A small language, on which the checks compute and the laws speak.
-use Rattle.std.proofs.Common.{◌≡◌, ℕ, zero, suc, true, List, [], ◌∷◌, refl}
+use Rattle.std.proofs.Common.{◌≡◌, map, ℕ, zero, suc, true, List, [], ◌∷◌, refl}
 use Rattle.ll_grammar.specs.Grammar.{Rule, or, many, deep, sub, Grammar, one, ◌⨾◌, optional, list}
 use Rattle.ll_grammar.specs.Derivations.{Tree, leaf, both, left, right, last, more, inner, part, nothing, Derives, of_empty, of_token, of_then, of_left, of_right, of_last, of_more, of_deep, of_sub, over}
 use Rattle.ll_grammar.specs.LookAhead.{IsLL1, IsRoot, firsts}
@@ -39,7 +39,7 @@ follows (suc (suc zero)) = 4 ∷ 8 ∷ 0 ∷ 6 ∷ 10 ∷ []
 follows (suc (suc (suc n))) = []
 
 abbrev pub grammar : Grammar Word
-grammar = record { kind = λ t. t.kind; sample = λ k. record { kind = k; value = 0 }; rule = rule; follows = follows; rounds = 2 }
+grammar = record { kind = λ t. t.kind; samples = map (λ k. record { kind = k; value = 0 }) (0 ∷ 1 ∷ 2 ∷ 3 ∷ 4 ∷ 5 ∷ 6 ∷ 7 ∷ 8 ∷ 9 ∷ 10 ∷ []); rule = rule; follows = follows; rounds = 2 }
 
 pub is_ll1 : IsLL1 grammar
 is_ll1 = record { rules = rules; ends = refl }

@@ -1,9 +1,9 @@
 -- Each part of a right side has a sentence, and one that begins with each kind of its first set.
-use Rattle.std.proofs.Common.{◌≡◌, ℕ, zero, suc, Bool, true, false, List, [], ◌∷◌, ◌++◌, refl, sym, ap, ◌∙◌, ◌==◌, true≢false, ⊎_elim}
+use Rattle.std.proofs.Common.{◌≡◌, ℕ, zero, suc, Bool, true, false, List, [], ◌∷◌, ◌++◌, refl, sym, ap, ◌∙◌, true≢false, ⊎_elim}
 use Rattle.ll_grammar.specs.Grammar.{Rule, empty, token, then, or, many, deep, sub, Grammar}
 use Rattle.ll_grammar.specs.Derivations.{Tree, nothing, leaf, both, left, right, last, more, inner, part, tokens, Derives, of_empty, of_token, of_then, of_left, of_right, of_last, of_more, of_deep, of_sub}
-use Rattle.ll_grammar.specs.LookAhead.{member, nullable, if_so, first_by, firsts_within, firsts, sampled, complete, productive_by, productive_within, IsLL1}
-use Rattle.ll_grammar.proofs.KindSets.{and_l, and_r, or_l, or_r, or_cases, member_cases}
+use Rattle.ll_grammar.specs.LookAhead.{member, nullable, if_so, first_by, firsts_within, firsts, has_kind, complete, productive_by, productive_within, IsLL1}
+use Rattle.ll_grammar.proofs.KindSets.{and_l, and_r, or_cases, member_cases}
 use Rattle.ll_grammar.proofs.Checks.{rule_complete, rule_productive}
 
 module _ {T : Type 0} (g : Grammar T) where
@@ -15,17 +15,14 @@ module _ {T : Type 0} (g : Grammar T) where
   abbrev pub Leads : Rule → T → Type 0
   Leads r t = (d : Tree T) × (v : List T) × Derives g r d × (tokens d ≡ t ∷ v)
 
-  some_token : (ks : List ℕ) → sampled g ks ≡ true → (t : T) × (member (g.kind t) ks ≡ true)
-  some_token [] h = absurd (true≢false (sym h))
-  some_token (k ∷ ks) h = ⊎_elim
-      (λ e. (g.sample k, or_l (g.kind (g.sample k) == k) _ e))
-      (λ e. let i = some_token ks e in (i.0, or_r (g.kind i.0 == k) _ i.1))
-      (or_cases (g.kind (g.sample k) == k) (sampled g ks) h)
+  some_token : (ts : List T) (ks : List ℕ) → has_kind g ts ks ≡ true → (t : T) × (member (g.kind t) ks ≡ true)
+  some_token [] ks h = absurd (true≢false (sym h))
+  some_token (t ∷ ts) ks h = ⊎_elim (λ e. (t, e)) (λ e. some_token ts ks e) (or_cases (member (g.kind t) ks) (has_kind g ts ks) h)
 
   productive_tree : (known : ℕ → Bool) → ((m : ℕ) → known m ≡ true → SomeTree (g.rule m)) → (r : Rule)
       → productive_by g known r ≡ true → SomeTree r
   productive_tree known k empty h = (nothing, of_empty)
-  productive_tree known k (token ks) h = let i = some_token ks h in (leaf i.0, of_token i.1)
+  productive_tree known k (token ks) h = let i = some_token g.samples ks h in (leaf i.0, of_token i.1)
   productive_tree known k (then r s) h =
       let x = productive_tree known k r (and_l _ _ h) in let y = productive_tree known k s (and_r (productive_by g known r) _ h) in (both x.0 y.0, of_then x.1 y.1)
   productive_tree known k (or r s) h = ⊎_elim
@@ -66,7 +63,7 @@ module _ {T : Type 0} (g : Grammar T) where
 
     pub some_tree : (r : Rule) → complete g r ≡ true → SomeTree r
     some_tree empty h = (nothing, of_empty)
-    some_tree (token ks) h = let i = some_token ks h in (leaf i.0, of_token i.1)
+    some_tree (token ks) h = let i = some_token g.samples ks h in (leaf i.0, of_token i.1)
     some_tree (then r s) h =
         let x = some_tree r (and_l _ _ h) in let y = some_tree s (and_r (complete g r) _ h) in (both x.0 y.0, of_then x.1 y.1)
     some_tree (or r s) h = let x = some_tree r (and_l _ _ h) in (left x.0, of_left x.1)

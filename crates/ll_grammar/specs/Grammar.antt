@@ -22,8 +22,8 @@ pub data Rule : Type 0 where
 pub record Grammar (T : Type 0) : Type 0 where
   -- the kind of a token
   pub kind : T → ℕ
-  -- a token of each kind that a rule names, and any token for another number
-  pub sample : ℕ → T
+  -- the alphabet: a token of each kind that the rules name
+  pub samples : List T
   -- the rules that a right side may go back to, by number
   pub rule : ℕ → Rule
   -- the kinds that may follow a sentence of each numbered rule

@@ -84,15 +84,15 @@ module _ {T : Type 0} (g : Grammar T) where
   clear (deep n) follow = subset follow (g.follows n)
   clear sub follow = subset follow (g.follows zero)
 
-  -- the grammar has a token of one of these kinds
-  abbrev pub sampled : List ℕ → Bool
-  sampled [] = false
-  sampled (k ∷ ks) = (g.kind (g.sample k) == k) || sampled ks
+  -- one of the tokens is of one of these kinds
+  abbrev pub has_kind : List T → List ℕ → Bool
+  has_kind [] ks = false
+  has_kind (t ∷ ts) ks = let b : Bool = has_kind ts ks in member (g.kind t) ks || b
 
   -- each part of the right side has a sentence, where each numbered rule has one
   abbrev pub complete : Rule → Bool
   complete empty = true
-  complete (token ks) = sampled ks
+  complete (token ks) = has_kind g.samples ks
   complete (then r s) = complete r && complete s
   complete (or r s) = complete r && complete s
   complete (many r) = complete r
@@ -102,7 +102,7 @@ module _ {T : Type 0} (g : Grammar T) where
   -- the right side has a sentence, where it is told which numbered rules have one
   abbrev pub productive_by : (ℕ → Bool) → Rule → Bool
   productive_by known empty = true
-  productive_by known (token ks) = sampled ks
+  productive_by known (token ks) = has_kind g.samples ks
   productive_by known (then r s) = let b : Bool = productive_by known s in productive_by known r && b
   productive_by known (or r s) = let b : Bool = productive_by known s in productive_by known r || b
   productive_by known (many r) = true
