@@ -2,9 +2,9 @@
 --
 -- Such a loop goes `for _ in 0..count` over the rest of the tokens. Its invariant is `RepeatSoFar` or `SeparatedSoFar`
 -- of what it has, its counter, the rest and what the whole reads; each goal of the loop is one of the lemmas below.
-use Rattle.std.proofs.Common.{◌≡◌, ℕ, zero, suc, ◌-◌, ◌+◌, ◌≤◌, ◌<◌, Bool, true, false, List, [], ◌∷◌, ◌++◌, Result, Ok, Err, Option, Some, None, refl, sym, ap, ◌∙◌, append_assoc, arith}
+use Rattle.std.proofs.Common.{◌≡◌, ℕ, suc, ◌-◌, ◌+◌, ◌≤◌, ◌<◌, Bool, true, false, List, [], ◌++◌, Result, Ok, Err, Option, Some, None, refl, sym, ap, ◌∙◌, append_assoc, arith}
 use Rattle.std.proofs.lemmas.List.{append-nil}
-use Rattle.ll_grammar.specs.Readers.{◌>>=◌, Ends, Reader, skip, behind, repeat, separated}
+use Rattle.ll_grammar.specs.Readers.{◌>>=◌, Ends, Reader, skip, repeat, separated}
 
 -- what was read before, and what is still read
 abbrev pub with_front : {T F Y : Type 0} → List Y → Result (List Y × List T) F → Result (List Y × List T) F

@@ -8,8 +8,14 @@
 //! reading by it accepts a beginning of the text or refuses a token (`Reading`).
 //!
 //! The functions below are laws: they do nothing, and their contracts hold of every grammar over every type of
-//! token. A parser proves of its own readers that they read so, rule by rule, with `proofs/Link` and
-//! `proofs/Loops`; what its answer says of the text is then a line of `proofs/Decided`.
+//! token. `proofs/Decided` has them as lemmas.
+//!
+//! A parser plugs in its grammar so. It writes the rules as a `Grammar` over its tokens, and shows `IsLL1` of it
+//! and `IsRoot` of each right side that texts are read by: both compute, `refl` for each numbered rule. Beside each
+//! rule it writes a reader in the words of `specs/Readers`, which its code mirrors, and links the two by the
+//! combinators of `proofs/Link` and `proofs/Repetitions`, a line for each part of the rule. The lemmas of
+//! `proofs/Answering` then say of the reader's answer what its text is (`specs/Texts`), and `proofs/Loops` has the
+//! invariants of its code's loops. `proofs/Example` and `proofs/ExampleReaders` do all of this for a small language.
 #![tactic(auto)]
 
 ghost use Rattle.ll_grammar.specs.Grammar.{Grammar, Rule};
