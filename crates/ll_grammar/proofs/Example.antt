@@ -127,7 +127,8 @@ abbrev assignment : Tree Word
 assignment = inner (left (both (leaf (word Name)) (both (leaf (word Becomes)) brackets)))
 
 abbrev block : Tree Word
-block = both (leaf (word Begin)) (both (more (both (part empty_block) (leaf (word Semicolon))) last) (both (both (left assignment) last) (leaf (word End))))
+block =
+    both (leaf (word Begin)) (both (more (both (part empty_block) (leaf (word Semicolon))) last) (both (both (left assignment) last) (leaf (word End))))
 
 abbrev derivation : Tree Word
 derivation = both (part block) (leaf (word Stop))

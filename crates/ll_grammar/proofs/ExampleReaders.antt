@@ -105,7 +105,8 @@ module _ (statement_reader : Read (List ℕ)) where
     others ← separated kind_of (number Semicolon) optional_with all (length s.1) s.1
     Ok (s.0 ++ others.0, others.1)
 
-  module _ (n : ℕ) (statement_reads : (ts : List Word) → Reads grammar tell statement (IsAt statement_of) n ts (statement_reader ts)) where
+  module _ (n : ℕ)
+      (statement_reads : (ts : List Word) → Reads grammar tell statement (IsAt statement_of) n ts (statement_reader ts)) where
     optional_read : (ts : List Word) → Reads grammar tell (optional statement) (IsAt optional_of) n ts (optional_with ts)
     unfolding optional_with
     optional_read ts =
@@ -220,5 +221,7 @@ atom_read : (n : ℕ) (ts : List Word) → Reads grammar tell atom (Is atom_of) 
 unfolding atom_at
 atom_read n ts = final (λ t. t.0.value) (a_token (1 ∷ 2 ∷ []) ts) (λ t d e. ap atom_of e)
 
-atoms_read : (n : ℕ) (ts : List Word) → Reads grammar tell (many atom) (IsAt atoms_of) n ts (repeat (readers.next_in kind_of (1 ∷ 2 ∷ [])) atom_at itself (length ts) ts)
-atoms_read n ts = loop is_ll1 atoms_of itself refl (next_in_starts grammar (1 ∷ 2 ∷ [])) (λ w. refl) (λ d ds w h. refl) (atom_read n) ts
+atoms_read : (n : ℕ) (ts : List Word)
+    → Reads grammar tell (many atom) (IsAt atoms_of) n ts (repeat (readers.next_in kind_of (1 ∷ 2 ∷ [])) atom_at itself (length ts) ts)
+atoms_read n ts =
+    loop is_ll1 atoms_of itself refl (next_in_starts grammar (1 ∷ 2 ∷ [])) (λ w. refl) (λ d ds w h. refl) (atom_read n) ts

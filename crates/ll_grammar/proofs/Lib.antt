@@ -16,5 +16,6 @@ pub mod Link
 pub mod Repetitions
 pub mod Loops
 pub mod Answering
+pub mod OneAnswer
 pub mod Example
 pub mod ExampleReaders

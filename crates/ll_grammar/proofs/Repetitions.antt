@@ -20,7 +20,8 @@ module _ {T F X Y : Type 0} (g : Grammar T) (tell : Fault → List T → F) (n :
 
   abbrev pub More_holds : Type 0
   More_holds =
-      (d : Tree T) (x : X) (ds : Tree T) (ys : List Y) (w : List T) → Derives g r d → P d x (tokens ds ++ w) → Q ds ys w → Q (more d ds) (parts x ++ ys) w
+      (d : Tree T) (x : X) (ds : Tree T) (ys : List Y) (w : List T) → Derives g r d → P d x (tokens ds ++ w) → Q ds ys w
+      → Q (more d ds) (parts x ++ ys) w
 
   module _ (ok : IsLL1 g) (solid : nullable r ≡ false) (test : (ts : List T) → begins ts ≡ starts g (first g r) ts)
       (reads : (ts : List T) → Reads g tell r P n ts (item ts)) (nil : None_holds) (cons : More_holds) where

@@ -28,14 +28,14 @@ pub record Grammar (T : Type 0) : Type 0 where
   pub rule : ℕ → Rule
   -- the kinds that may follow a sentence of each numbered rule
   pub follows : ℕ → List ℕ
-  -- through how many numbered rules a first token, or the shortest sentence, may lie
+  -- through how many numbered rules the checks look for a first token, and for a shortest sentence
   pub rounds : ℕ
 
 -- a token of this kind
 abbrev pub one : ℕ → Rule
 one k = token (k ∷ [])
 
--- r and s
+-- r and then s
 infixr 5 ◌⨾◌
 abbrev pub ◌⨾◌ : Rule → Rule → Rule
 r ⨾ s = then r s

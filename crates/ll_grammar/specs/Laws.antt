@@ -1,8 +1,9 @@
 -- What one token of look-ahead gives, for every such grammar.
-use Rattle.std.specs.Prelude.{◌≡◌, ℕ, List, ◌++◌, ◌⊎◌, None}
+use Rattle.std.specs.Prelude.{◌≡◌, ℕ, List, ◌++◌, ◌⊎◌, None, Result}
 use Rattle.ll_grammar.specs.Grammar.{Rule, Grammar}
 use Rattle.ll_grammar.specs.Derivations.{Tree, tokens, Derives, over}
 use Rattle.ll_grammar.specs.Sentences.{Fault, Sentence, Faulty}
+use Rattle.ll_grammar.specs.Texts.{IsAnswer}
 use Rattle.ll_grammar.specs.Reading.{Accepts, Refuses, Answer}
 
 module _ {T : Type 0} (g : Grammar T) (r : Rule) where
@@ -30,3 +31,12 @@ module _ {T : Type 0} (g : Grammar T) (r : Rule) where
   abbrev pub HasOneFault : Type 0
   HasOneFault = (n : ℕ) (ts : List T) (f : Fault) (rest : List T) → Faulty g n r f ts rest
       → (Sentence g n r ts → ⊥) × ((f' : Fault) (rest' : List T) → Faulty g n r f' ts rest' → (rest' ≡ rest) × (f' ≡ f))
+
+  -- where a parser's answer is a value of the derivation or what is told of the first fault, each text has one
+  abbrev pub HasAnswer : {X F : Type 0} → (Tree T → List T → X) → (Fault → List T → F) → Type 0
+  HasAnswer {X} {F} value tell = (n : ℕ) (ts : List T) → (answer : Result X F) × IsAnswer g n r value tell ts answer
+
+  -- and no other
+  abbrev pub HasOneAnswer : {X F : Type 0} → (Tree T → List T → X) → (Fault → List T → F) → Type 0
+  HasOneAnswer {X} {F} value tell =
+      (n : ℕ) (ts : List T) (a b : Result X F) → IsAnswer g n r value tell ts a → IsAnswer g n r value tell ts b → a ≡ b

@@ -17,6 +17,7 @@ abbrev pub subset : List ℕ → List ℕ → Bool
 subset [] ys = true
 subset (x ∷ xs) ys = member x ys && subset xs ys
 
+-- the kinds, where it is so
 abbrev pub if_so : Bool → List ℕ → List ℕ
 if_so true ks = ks
 if_so false ks = []
@@ -123,11 +124,11 @@ module _ {T : Type 0} (g : Grammar T) where
       && (complete (g.rule n)
       && productive_within g.rounds n)))
 
-  -- one token of look-ahead tells what to read
+  -- one token of look-ahead tells what to read, and a token stands before each further `sub`
   pub record IsLL1 : Type 0 where
     pub rules : (n : ℕ) → passes n ≡ true
     pub ends : sub_first (g.rule zero) ≡ false
 
-  -- a right side that texts are read by
+  -- a right side that texts are read by: nothing follows it
   abbrev pub IsRoot : Rule → Type 0
   IsRoot r = (clear r [] && complete r) ≡ true

@@ -18,9 +18,12 @@
 //! invariants of its code's loops. `proofs/Example` and `proofs/ExampleReaders` do all of this for a small language.
 #![tactic(auto)]
 
+ghost use Rattle.std.specs.Prelude.{List};
+ghost use Rattle.ll_grammar.specs.Derivations.{Tree};
 ghost use Rattle.ll_grammar.specs.Grammar.{Grammar, Rule};
-ghost use Rattle.ll_grammar.specs.Laws.{HasOneFault, IsDecided, IsSound, IsTotal, IsUnambiguous, RefusesFirstFault};
+ghost use Rattle.ll_grammar.specs.Laws.{HasAnswer, HasOneAnswer, HasOneFault, IsDecided, IsSound, IsTotal, IsUnambiguous, RefusesFirstFault};
 ghost use Rattle.ll_grammar.specs.LookAhead.{IsLL1, IsRoot};
+ghost use Rattle.ll_grammar.specs.Sentences.{Fault};
 
 /// What is accepted is a derivation, and nothing in it is nested too deep.
 pub fn reading_is_sound<T>()
@@ -50,4 +53,13 @@ pub fn text_is_decided<T>()
 /// A text is never both, and has one fault.
 pub fn fault_is_unique<T>()
     ensures { (g : Grammar T) (r : Rule) → HasOneFault g r }
+{}
+
+/// Where a parser answers with a value of the derivation, or with what it tells of the first fault, each text has
+/// one answer.
+pub fn answer_is_unique<T, X, F>()
+    ensures exists { (g : Grammar T) (r : Rule) (value : Tree T → List T → X) (tell : Fault → List T → F)
+        → IsLL1 g → IsRoot g r → HasAnswer g r value tell }
+    ensures one { (g : Grammar T) (r : Rule) (value : Tree T → List T → X) (tell : Fault → List T → F)
+        → IsLL1 g → IsRoot g r → HasOneAnswer g r value tell }
 {}
