@@ -5,10 +5,10 @@ use Rattle.ll_grammar.specs.Grammar.{Rule, token, many, optional}
 use Rattle.ll_grammar.specs.Derivations.{Tree, leaf, both, left, right, more, inner, tokens}
 use Rattle.ll_grammar.specs.Sentences.{Fault, Syntax, TooDeep}
 use Rattle.ll_grammar.specs.Readers as readers
-use Rattle.ll_grammar.specs.Readers.{◌>>=◌, separated, repeat, all, itself}
+use Rattle.ll_grammar.specs.Readers.{◌>>=◌, separated, listed, repeat, all, itself}
 use Rattle.ll_grammar.specs.Texts.{Spells, IsAnswer}
 use Rattle.ll_grammar.proofs.Link.{Reads, Is, IsAt, seq, seq_at, final, either, no_part, deeper, at_limit, a_token, a_kind, next_starts, next_in_starts}
-use Rattle.ll_grammar.proofs.Repetitions.{loop, list_loop}
+use Rattle.ll_grammar.proofs.Repetitions.{loop, list_read}
 use Rattle.ll_grammar.proofs.Answering.{answers, is_read}
 use Rattle.ll_grammar.proofs.Example.{Kind, Stop, Name, Number, Becomes, Semicolon, Open, Close, End, While, Do, number, Word, kind_of, word, grammar, is_ll1, factor, statement, statements, text, text_is_root}
 
@@ -100,10 +100,7 @@ module _ (statement_reader : Read (List ℕ)) where
     Ok (s.0, s.1)) else Ok (place ts ∷ [], ts)
 
   statements_with : Read (List ℕ)
-  statements_with ts = do
-    s ← optional_with ts
-    others ← separated kind_of (number Semicolon) optional_with all (length s.1) s.1
-    Ok (s.0 ++ others.0, others.1)
+  statements_with ts = listed kind_of (number Semicolon) optional_with all ts
 
   module _ (n : ℕ)
       (statement_reads : (ts : List Word) → Reads grammar tell statement (IsAt statement_of) n ts (statement_reader ts)) where
@@ -116,10 +113,7 @@ module _ (statement_reader : Read (List ℕ)) where
 
     statements_read : (ts : List Word) → Reads grammar tell statements (IsAt statements_of) n ts (statements_with ts)
     unfolding statements_with
-    statements_read ts =
-        seq_at (optional_read ts) (λ s d h.
-        final (λ others. s.0 ++ others.0) (list_loop is_ll1 4 more_of all (λ w. refl) (λ s d ds w. refl) optional_read s.1) (λ others e k is.
-        (λ i. (ap (optional_of d) (sym is) ∙ h) i ++ k i)))
+    statements_read ts = list_read is_ll1 4 statements_of more_of all (λ w. refl) (λ s d ds w. refl) (λ d ds w. refl) optional_read ts
 
 -- Statement = name ":=" Factor | WHILE Factor DO Statements END
 inner_statement : ℕ → Read (List ℕ) → Read (List ℕ)

@@ -2,9 +2,9 @@
 --
 -- Such a loop goes `for _ in 0..count` over the rest of the tokens. Its invariant is `RepeatSoFar` or `SeparatedSoFar`
 -- of what it has, its counter, the rest and what the whole reads; each goal of the loop is one of the lemmas below.
-use Rattle.std.proofs.Common.{◌≡◌, ℕ, suc, ◌-◌, ◌+◌, ◌≤◌, ◌<◌, Bool, true, false, List, [], ◌++◌, Result, Ok, Err, Option, Some, None, refl, sym, ap, ◌∙◌, append_assoc, arith}
+use Rattle.std.proofs.Common.{◌≡◌, ℕ, suc, ◌-◌, ◌+◌, ◌≤◌, ◌<◌, Bool, true, false, List, [], ◌++◌, length, Result, Ok, Err, Option, Some, None, refl, sym, ap, ◌∙◌, append_assoc, arith}
 use Rattle.std.proofs.lemmas.List.{append-nil}
-use Rattle.ll_grammar.specs.Readers.{◌>>=◌, Ends, Reader, skip, repeat, separated}
+use Rattle.ll_grammar.specs.Readers.{◌>>=◌, Ends, Reader, skip, repeat, separated, listed}
 
 -- what was read before, and what is still read
 abbrev pub with_front : {T F Y : Type 0} → List Y → Result (List Y × List T) F → Result (List Y × List T) F
@@ -82,6 +82,10 @@ module _ {T F X Y : Type 0} {kind : T → ℕ} {k : ℕ} {item : Reader T F X} {
       → total ≡ separated kind k item parts count ts → SeparatedSoFar kind k item parts front count 0 ts total
   separated_starts {count = count} {ts = ts} none h =
       let e : count - 0 ≡ count = omega arith in record { so_far = rw (none, e, h) (no_front (separated kind k item parts count ts)) }
+
+  -- before the first round of a loop that reads item { k item }, behind the first item
+  pub listed_starts : {front : List Y} {rest : List T} {x : X} (ts : List T) → item ts ≡ Ok (x, rest) → front ≡ parts x → SeparatedSoFar kind k item parts front (length rest) 0 rest (listed kind k item parts ts)
+  listed_starts {front = front} {rest = rest} {x = x} ts h first = let e : length rest - 0 ≡ length rest = omega arith in record { so_far = rw (e, h, first) refl }
 
   pub separated_goes_on : {front new : List Y} {count i : ℕ} {ts part after : List T} {total : Result (List Y × List T) F} {x : X}
       → SeparatedSoFar kind k item parts front count i ts total → i < count → Some part ≡ skip kind k ts → item part ≡ Ok (x, after) → new ≡ front ++ parts x → SeparatedSoFar kind k item parts new count (i + 1) after total

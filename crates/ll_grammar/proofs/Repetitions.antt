@@ -1,15 +1,15 @@
 -- Reading again and again is what the grammar says of { .. }.
 use Rattle.std.proofs.Common.{◌≡◌, ℕ, zero, suc, ◌≤◌, Bool, true, false, List, [], ◌∷◌, ◌++◌, Result, Ok, Err, Some, None, refl, sym, ap, ◌∙◌, subst, append_assoc, arith, length, cond}
 use Rattle.std.specs.Prelude.{◌==◌}
-use Rattle.ll_grammar.specs.Grammar.{Rule, then, many, one, Grammar}
+use Rattle.ll_grammar.specs.Grammar.{Rule, list, then, many, one, Grammar}
 use Rattle.ll_grammar.specs.Derivations.{Tree, both, last, more, tokens, Derives}
 use Rattle.ll_grammar.specs.LookAhead.{nullable, starts, first, IsLL1}
 use Rattle.ll_grammar.specs.Sentences.{Fault}
 use Rattle.ll_grammar.specs.Reading.{Accepts, accept_last, accept_more, refuse_many, refuse_more}
-use Rattle.ll_grammar.specs.Readers.{◌>>=◌, Reader, next_is, behind, expect, repeat, separated}
+use Rattle.ll_grammar.specs.Readers.{◌>>=◌, Reader, next_is, behind, expect, repeat, separated, listed}
 use Rattle.ll_grammar.proofs.Soundness.{accepts_derives}
 use Rattle.ll_grammar.proofs.FirstTokens.{rest_shorter}
-use Rattle.ll_grammar.proofs.Link.{Accepted, Outcome, Reads, IsAt, seq, a_kind, next_starts}
+use Rattle.ll_grammar.proofs.Link.{Accepted, seq_at, final, Outcome, Reads, IsAt, seq, a_kind, next_starts}
 
 -- What a repetition is about: a right side r, read by `item` where `begins` says so, and what that says of the values.
 module _ {T F X Y : Type 0} (g : Grammar T) (tell : Fault → List T → F) (n : ℕ) (r : Rule) (P : Tree T → X → List T → Type 0)
@@ -138,3 +138,14 @@ module _ {T F X Y : Type 0} {g : Grammar T} {tell : Fault → List T → F} wher
           → Behind (IsAt value) d x (tokens ds ++ w) → values ds w ≡ ys → values (more d ds) w ≡ parts x ++ ys
       on_more_values (both s d) x ds ys w h p q = cons s d ds w ∙ (λ i. parts (p i) ++ q i)
       on_more_values _ x ds ys w h p q = absurd p
+
+  -- r { k r }, where the values are a function of the derivation
+  pub list_read : {n : ℕ} {r : Rule} {value : Tree T → List T → X} {item : Reader T F X} (ok : IsLL1 g) (k : ℕ) (values more_values : Tree T → List T → List Y) (parts : X → List Y)
+      → ((w : List T) → more_values last w ≡ []) → ((s d ds : Tree T) (w : List T) → more_values (more (both s d) ds) w ≡ parts (value d (tokens ds ++ w)) ++ more_values ds w)
+      → ((d ds : Tree T) (w : List T) → values (both d ds) w ≡ parts (value d (tokens ds ++ w)) ++ more_values ds w)
+      → ((ts : List T) → Reads g tell r (IsAt value) n ts (item ts))
+      → (ts : List T) → Reads g tell (list r k) (IsAt values) n ts (listed g.kind k item parts ts)
+  list_read {value = value} ok k values more_values parts nil cons whole reads ts =
+      seq_at (reads ts) (λ x d h.
+      final (λ ys. parts x.0 ++ ys.0) (list_loop ok k more_values parts nil cons reads x.1) (λ ys ds j is.
+      whole d ds ys.1 ∙ (λ i. parts ((ap (value d) (sym is) ∙ h) i) ++ j i)))

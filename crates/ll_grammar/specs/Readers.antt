@@ -1,5 +1,5 @@
 -- Reading by descent, as functions: a value and the tokens behind it, or the fault.
-use Rattle.std.specs.Prelude.{◌≡◌, ℕ, zero, suc, Bool, false, List, [], ◌∷◌, ◌++◌, Result, Ok, Err, Option, Some, None, if◌then◌else◌, ◌==◌}
+use Rattle.std.specs.Prelude.{◌≡◌, ℕ, zero, suc, Bool, false, List, [], ◌∷◌, ◌++◌, Result, Ok, Err, Option, Some, None, if◌then◌else◌, ◌==◌, length}
 use Rattle.ll_grammar.specs.LookAhead.{member}
 use Rattle.ll_grammar.specs.Sentences.{Fault, Syntax, TooDeep}
 
@@ -72,6 +72,10 @@ module _ {T F X Y : Type 0} where
   separated kind k item parts zero ts = Ok ([], ts)
   separated kind k item parts (suc n) ts =
       behind (skip kind k ts) (λ after. item after >>= λ x. separated kind k item parts n x.1 >>= λ ys. Ok (parts x.0 ++ ys.0, ys.1)) (Ok ([], ts))
+
+  -- an item, and another behind each token of kind k: item { k item }
+  abbrev pub listed : (T → ℕ) → ℕ → Reader T F X → (X → List Y) → Reader T F (List Y)
+  listed kind k item parts ts = item ts >>= λ x. separated kind k item parts (length x.1) x.1 >>= λ ys. Ok (parts x.0 ++ ys.0, ys.1)
 
 -- an item adds itself
 abbrev pub itself : {X : Type 0} → X → List X
