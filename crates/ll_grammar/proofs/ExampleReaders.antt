@@ -113,7 +113,8 @@ module _ (statement_reader : Read (List ℕ)) where
 
     statements_read : (ts : List Word) → Reads grammar tell statements (IsAt statements_of) n ts (statements_with ts)
     unfolding statements_with
-    statements_read ts = list_read is_ll1 4 statements_of more_of all (λ w. refl) (λ s d ds w. refl) (λ d ds w. refl) optional_read ts
+    statements_read ts =
+        list_read is_ll1 4 statements_of more_of all (λ w. refl) (λ s d ds w. refl) (λ d ds w. refl) optional_read ts
 
 -- Statement = name ":=" Factor | WHILE Factor DO Statements END
 inner_statement : ℕ → Read (List ℕ) → Read (List ℕ)

@@ -84,8 +84,10 @@ module _ {T F X Y : Type 0} {kind : T → ℕ} {k : ℕ} {item : Reader T F X} {
       let e : count - 0 ≡ count = omega arith in record { so_far = rw (none, e, h) (no_front (separated kind k item parts count ts)) }
 
   -- before the first round of a loop that reads item { k item }, behind the first item
-  pub listed_starts : {front : List Y} {rest : List T} {x : X} (ts : List T) → item ts ≡ Ok (x, rest) → front ≡ parts x → SeparatedSoFar kind k item parts front (length rest) 0 rest (listed kind k item parts ts)
-  listed_starts {front = front} {rest = rest} {x = x} ts h first = let e : length rest - 0 ≡ length rest = omega arith in record { so_far = rw (e, h, first) refl }
+  pub listed_starts : {front : List Y} {rest : List T} {x : X} (ts : List T) → item ts ≡ Ok (x, rest) → front ≡ parts x
+      → SeparatedSoFar kind k item parts front (length rest) 0 rest (listed kind k item parts ts)
+  listed_starts {front = front} {rest = rest} {x = x} ts h first =
+      let e : length rest - 0 ≡ length rest = omega arith in record { so_far = rw (e, h, first) refl }
 
   pub separated_goes_on : {front new : List Y} {count i : ℕ} {ts part after : List T} {total : Result (List Y × List T) F} {x : X}
       → SeparatedSoFar kind k item parts front count i ts total → i < count → Some part ≡ skip kind k ts → item part ≡ Ok (x, after) → new ≡ front ++ parts x → SeparatedSoFar kind k item parts new count (i + 1) after total
