@@ -15,16 +15,16 @@ use Rattle.ll_grammar.proofs.Link.{Accepted, seq_at, final, Outcome, Reads, IsAt
 module _ {T F X Y : Type 0} (g : Grammar T) (tell : Fault → List T → F) (n : ℕ) (r : Rule) (P : Tree T → X → List T → Type 0)
     (Q : Tree T → List Y → List T → Type 0) (begins : List T → Bool) (item : Reader T F X) (parts : X → List Y) where
   -- no value of no items, and the values of one more item
-  abbrev pub None_holds : Type 0
-  None_holds = (w : List T) → Q last [] w
+  abbrev pub NoneHolds : Type 0
+  NoneHolds = (w : List T) → Q last [] w
 
-  abbrev pub More_holds : Type 0
-  More_holds =
+  abbrev pub MoreHolds : Type 0
+  MoreHolds =
       (d : Tree T) (x : X) (ds : Tree T) (ys : List Y) (w : List T) → Derives g r d → P d x (tokens ds ++ w) → Q ds ys w
       → Q (more d ds) (parts x ++ ys) w
 
   module _ (ok : IsLL1 g) (solid : nullable r ≡ false) (test : (ts : List T) → begins ts ≡ starts g (first g r) ts)
-      (reads : (ts : List T) → Reads g tell r P n ts (item ts)) (nil : None_holds) (cons : More_holds) where
+      (reads : (ts : List T) → Reads g tell r P n ts (item ts)) (nil : NoneHolds) (cons : MoreHolds) where
     on_more : (ts : List T) → starts g (first g r) ts ≡ true → (x : X × List T) → Accepted g tell r P n ts x
         → (o : Result (List Y × List T) F) → Outcome g tell (many r) Q n x.1 o
         → Outcome g tell (many r) Q n ts (o >>= λ ys. Ok (parts x.0 ++ ys.0, ys.1))
