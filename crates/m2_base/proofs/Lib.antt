@@ -1,1 +1,5 @@
 mod KindTables
+pub mod Numbers
+pub mod OneList
+pub mod OneReading
+mod Texts

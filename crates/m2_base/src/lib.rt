@@ -7,12 +7,14 @@
 #![tactic(auto)]
 
 mod kind;
+mod laws;
 mod letters;
 mod memory;
 mod names;
 mod token;
 
 pub use kind::{TokenKind, reserved_kind, symbol_kind};
+pub use laws::one_list_of_tokens;
 pub use letters::{goes_on, is_blank, is_digit, is_letter};
 pub use memory::Memory;
 pub use names::Names;

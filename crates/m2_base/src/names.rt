@@ -1,16 +1,88 @@
 //! Names as numbers.
-ghost use Rattle.std.specs.Prelude.{◌≡◌, ◌+◌, ◌-◌, ◌^◌, ◌<◌, List, [], ℕ, length, slice_get, Some, IfOk, OnOk, OnErr};
-ghost use Rattle.m2_base.specs.Names.{with_name, number_in, standard_names};
+ghost use Rattle.std.specs.Prelude.{◌≡◌, ◌+◌, ◌-◌, ◌^◌, ◌<◌, ◌≤◌, List, [], ℕ, length, map, slice_get, Some, IsSome, IsOk, IfOk, OnOk, OnErr};
+ghost use Rattle.std.specs.Hash.DefaultHasher.{initial, write};
+ghost use Rattle.sha2.specs.Sha512.{sha512};
+ghost use Rattle.m2_base.specs.Names.{with_name, with_names, number_in, standard_names};
 
 use crate::memory::Memory;
 use indexmap::IndexSet;
+use sha2::{Digest, Sha512};
 use std::alloc::Global;
+use std::hash::{BuildHasher, DefaultHasher, Hasher};
 use std::marker::Model;
+
+/// The names that each unit begins with, each at its number.
+const STANDARD_NAMES: [&[u8]; 28] = [
+    b"",
+    b"INTEGER",
+    b"CARDINAL",
+    b"CHAR",
+    b"BOOLEAN",
+    b"BITSET",
+    b"PROC",
+    b"TRUE",
+    b"FALSE",
+    b"NIL",
+    b"ABS",
+    b"CAP",
+    b"CHR",
+    b"DEC",
+    b"DISPOSE",
+    b"EXCL",
+    b"HALT",
+    b"HIGH",
+    b"INC",
+    b"INCL",
+    b"MAX",
+    b"MIN",
+    b"NEW",
+    b"ODD",
+    b"ORD",
+    b"SIZE",
+    b"VAL",
+    b"InOut",
+];
+
+/// What the names are hashed from: each is fed to a copy of one hasher, which was fed with the digests of the texts.
+#[derive(Clone, Copy)]
+struct NameHasher {
+    start: DefaultHasher,
+}
+
+impl NameHasher {
+    /// Of no text.
+    fn new() -> NameHasher
+        ensures { result.start ≡ initial }
+    {
+        NameHasher {
+            start: DefaultHasher::new(),
+        }
+    }
+
+    /// Of one more text.
+    fn with_text(self, text: &[u8]) -> NameHasher
+        ensures { result.start ≡ write self.start (sha512 text.now) }
+    {
+        let mut start = self.start;
+        start.write(&Sha512::digest(text));
+        NameHasher { start }
+    }
+}
+
+impl BuildHasher for NameHasher {
+    type Hasher = DefaultHasher;
+
+    ghost build_hasher = { λ names. names.start };
+
+    fn build_hasher(&self) -> DefaultHasher {
+        self.start
+    }
+}
 
 /// The names of a unit, each under its number. They are seen as the list of their texts, which all differ.
 #[derive(Drop)]
 pub struct Names {
-    texts: IndexSet<Vec<u8>>,
+    texts: IndexSet<Vec<u8>, NameHasher>,
 }
 
 impl Model for Names {
@@ -28,7 +100,22 @@ impl Names {
     pub fn new(alloc: Global) -> Result<Names, Memory>
         ensures { IfOk result (λ names. names ≡ standard_names) }
     {
-        Err(Memory)
+        let mut names = Names {
+            texts: IndexSet::with_hasher(alloc, NameHasher::new()),
+        };
+        names.intern_all(alloc, &STANDARD_NAMES)?;
+        Ok(names)
+    }
+
+    /// Gives each of these texts a number.
+    fn intern_all(&mut self, alloc: Global, texts: &[&[u8]]) -> Result<(), Memory>
+        requires { length self.old + length texts.now < 2 ^ 32 }
+        ensures { OnOk result (self.new ≡ with_names self.old (map (λ text. text.now) texts.now)) }
+    {
+        for text in texts {
+            self.intern(alloc, *text)?;
+        }
+        Ok(())
     }
 
     /// The number of a text. A new one comes last, and old numbers stay.
@@ -37,15 +124,28 @@ impl Names {
         ensures number { IfOk result (λ number. number_in self.new bytes.now ≡ Some number) }
         ensures names { OnOk result (self.new ≡ with_name self.old bytes.now) }
         ensures err { OnErr result (self.new ≡ self.old) }
+
+        // A text that has a number needs no memory.
+        ensures known { IsSome (number_in self.old bytes.now) → IsOk result }
     {
-        Err(Memory)
+        if let Some(number) = self.texts.get_index_of(bytes) {
+            return Ok(number as u32);
+        }
+        let text = bytes.to_vec(alloc)?;
+        let (number, _) = self.texts.insert_full(text)?;
+        Ok(number as u32)
     }
 
-    /// Makes ready for the names of a text: its names can't be chosen so that finding their numbers grows slow.
+    /// Makes ready for the names of a text: its names can't be chosen so that finding their numbers grows slow. It reads
+    /// the text and the names so far, so call it once for each text. The names stay, also where memory runs out.
     pub fn prepare(&mut self, alloc: Global, text: &[u8]) -> Result<(), Memory>
         ensures { self.new ≡ self.old }
     {
-        Err(Memory)
+        let hasher = self.texts.hasher().with_text(text);
+        let mut texts = IndexSet::with_capacity_and_hasher(alloc, self.texts.len(), hasher)?;
+        texts.append(&mut self.texts)?;
+        self.texts = texts;
+        Ok(())
     }
 
     /// How many there are.
@@ -58,8 +158,40 @@ impl Names {
     /// The text of a number.
     pub fn bytes(&self, name: u32) -> &[u8]
         requires { name < length self.now }
-        ensures { slice_get self.now name ≡ Some result.now }
+        ensures text { slice_get self.now name ≡ Some result.now }
+        ensures number { number_in self.now result.now ≡ Some name }
     {
-        self.texts[name as usize].as_slice()
+        self.texts.as_slice()[name as usize].as_slice()
+    }
+}
+
+#[cfg(test)]
+mod tests {
+    use super::*;
+    use std::test::Fail;
+
+    #[test]
+    fn numbers_texts(rt: HostRuntime) -> Result<(), Fail> {
+        let alloc = rt.alloc();
+        let mut names = Names::new(alloc)?;
+        assert_eq!(rt; names.count(), 28);
+        let cases: [(&[u8], u32); 7] = [
+            (b"INTEGER", 1),
+            (b"InOut", 27),
+            (b"x", 28),
+            (b"inout", 29),
+            (b"x", 28),
+            (b"", 0),
+            (b"\xff\0", 30),
+        ];
+        for (text, number) in cases {
+            names.prepare(alloc, text)?;
+            assert!(rt; names.count() < 100);
+            assert_eq!(rt; names.intern(alloc, text)?, number);
+            assert!(rt; number < names.count());
+            assert!(rt; names.bytes(number) == text, "number {number}");
+        }
+        assert_eq!(rt; names.count(), 31);
+        Ok(())
     }
 }

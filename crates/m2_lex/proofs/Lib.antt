@@ -1,0 +1,4 @@
+mod Digits
+mod Lexing
+mod LongestRuns
+mod LongestSymbols

@@ -6,5 +6,10 @@
 #![tactic(auto)]
 
 mod lexer;
+mod longest;
+mod meaning;
+mod position;
+#[cfg(test)]
+mod tests;
 
 pub use lexer::{LexFault, lex};

@@ -1,0 +1,3 @@
+mod FilesLemmas
+mod LeftLemmas
+mod Loops

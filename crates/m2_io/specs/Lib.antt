@@ -1,0 +1,10 @@
+pub mod Calls
+pub mod Causes
+pub mod Files
+pub mod FilesOf
+pub mod Left
+pub mod MemShelf
+pub mod MemSink
+pub mod MemSource
+pub mod PlainName
+pub mod Written
