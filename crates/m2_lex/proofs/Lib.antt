@@ -1,0 +1,5 @@
+mod Digits
+mod Lexing
+mod LongestRuns
+mod LongestSymbols
+mod OneReading

@@ -1,1 +1,5 @@
+pub mod Adding
 pub mod Faults
+pub mod Places
+pub mod Symbols
+pub mod Understood

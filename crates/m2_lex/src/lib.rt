@@ -6,5 +6,8 @@
 #![tactic(auto)]
 
 mod lexer;
+mod longest;
+mod meaning;
+mod position;
 
 pub use lexer::{LexFault, lex};

@@ -1,0 +1,46 @@
+use Rattle.std.proofs.Common.{◌≡◌, ◌≤◌, ◌<◌, ◌++◌, List, ℕ, sym, ◌∙◌, ap, subst, arith, rules, length, drop, take}
+use Rattle.std.proofs.lemmas.List.{take-append-drop}
+use Rattle.m2_base.specs.Lexemes.{IsLongest}
+use Rattle.m2_base.specs.Positions.{Position}
+use Rattle.m2_lex.specs.Places.{place_of}
+use Rattle.m2_lex.proofs.Lexing.{IsLexing, lexing_begins, lexing_goes_on, lexing_ends, too_many, not_too_many}
+use Rattle.m2_lex.proofs.lexer.lex.Goals as goal
+
+pub loop-rest-init : goal.loop-rest-init
+loop-rest-init c = lexing_begins c.args.names.now c.args.text.now c.prepare.new.self c.new-tokens.result.items (place_of c.first-position.result) c.prepare.ensures c.new-tokens.ensures.items c.first-position.ensures
+
+pub loop-rest-preserved : goal.loop-rest-preserved
+loop-rest-preserved c =
+    let rest = c.loop-rest.rest.now in
+    let n = c.lexeme_len.result in
+    let lexeme = c.split_at.result.0.now in
+    let after = c.split_at.result.1.now in
+    let front : lexeme ≡ take n rest = c.split_at.ensures.front in
+    let back : after ≡ drop n rest = c.split_at.ensures.back in
+    let parts : rest ≡ lexeme ++ after = sym (ap (λ (s : List ℕ). s ++ after) front ∙ ap (λ (a : List ℕ). take n rest ++ a) back ∙ take-append-drop n rest) in
+    let longest : IsLongest lexeme after = subst (λ (s : List ℕ). IsLongest s after) (sym front) (subst (IsLongest (take n rest)) (sym back) c.lexeme_len.ensures.longest) in
+    let some : 1 ≤ length lexeme = omega (arith, c.split_at.ensures.front_len, c.lexeme_len.ensures.some) in
+    let position = place_of c.loop-rest.position in
+    let new = c.add_token.new.names in
+    let all = c.add_token.new.tokens.items in
+    subst (λ (p : Position). IsLexing c.args.names.now c.args.text.now new all p after) (sym c.after-position.ensures)
+    (lexing_goes_on c.args.names.now c.args.text.now c.loop-rest.names c.loop-rest.tokens.items position rest lexeme after new all
+    c.loop-rest.invariant parts some longest c.in_ok-add_token.ensures.names c.in_ok-add_token.ensures.token)
+
+pub returns-then-len-eq-MOST_TOKENS-clause-too_many : goal.returns-then-len-eq-MOST_TOKENS-clause-too_many
+returns-then-len-eq-MOST_TOKENS-clause-too_many c =
+    let none : length c.loop-rest.rest.now ≡ 0 = search rules in
+    let many : length c.loop-rest.tokens.items ≡ 1048576 = search rules in
+    λ _. too_many c.args.names.now c.args.text.now c.loop-rest.names c.loop-rest.tokens.items (place_of c.loop-rest.position) c.loop-rest.rest.now c.loop-rest.invariant none many
+
+pub returns-clause-tokens : goal.returns-clause-tokens
+returns-clause-tokens c =
+    let none : length c.loop-rest.rest.now ≡ 0 = search rules in
+    lexing_ends c.args.names.now c.args.text.now c.loop-rest.names c.loop-rest.tokens.items (place_of c.loop-rest.position) c.loop-rest.rest.now c.add_token-2.new.names c.add_token-2.new.tokens.items
+    c.loop-rest.invariant none c.in_ok-add_token-2.ensures.names c.in_ok-add_token-2.ensures.token
+
+pub returns-clause-not_too_many : goal.returns-clause-not_too_many
+returns-clause-not_too_many c =
+    let none : length c.loop-rest.rest.now ≡ 0 = search rules in
+    let few : length c.loop-rest.tokens.items < 1048576 = omega (arith, c.loop-rest.invariant.room, c.requires.short) in
+    λ _. not_too_many c.args.names.now c.args.text.now c.loop-rest.names c.loop-rest.tokens.items (place_of c.loop-rest.position) c.loop-rest.rest.now c.loop-rest.invariant none few
