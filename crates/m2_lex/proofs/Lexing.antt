@@ -1,22 +1,19 @@
 -- What the loop over the lexemes keeps.
-use Rattle.std.proofs.Common.{◌≡◌, ℕ, suc, ◌+◌, ◌<◌, ◌≤◌, Bool, true, false, cond, List, [], ◌∷◌, ◌++◌, length, Some, None, not, refl, sym, ◌∙◌, ap, subst, append_assoc, length-append, arith}
+use Rattle.std.proofs.Common.{◌≡◌, ℕ, suc, ◌+◌, ◌<◌, ◌≤◌, Bool, true, false, cond, List, [], ◌∷◌, ◌++◌, length, refl, sym, ◌∙◌, ap, subst, append_assoc, length-append, arith}
 use Rattle.std.proofs.lemmas.List.{append-nil}
-use Rattle.std.proofs.lemmas.List.Sums.{fold-append}
-use Rattle.std.proofs.lemmas.Bool.{lt-ltb}
-use borrow.Author.Tests.{ltb-true}
 use Rattle.std.proofs.Math.Seq.{append_snoc}
-use Rattle.std.specs.Prelude.{position, nat_lt, ◌==◌}
-use Rattle.std.specs.List.{AllZip, list_any, prefix_len}
-use Rattle.std.specs.Str.{bytes_eq}
+use Rattle.std.specs.Prelude.{◌==◌}
+use Rattle.std.specs.List.{AllZip}
 use Rattle.m2_base.specs.Lexemes.{AreLexemes, IsLongest}
 use Rattle.m2_base.specs.Meanings.{Meaning, blank, name, number, fixed, bad, meaning_of, is_blank_lexeme}
-use Rattle.m2_base.specs.Names.{with_name, with_names}
+use Rattle.m2_base.specs.Names.{with_names}
 use Rattle.m2_base.specs.Positions.{Position, first_position, after_byte, after_bytes}
 use Rattle.m2_base.specs.Tokens.{Placed, placed_from, placed, names_of, names_in, IsToken, Means, AreTokens}
 use Rattle.m2_base.specs.declared.token.Token.{Token}
 use Rattle.m2_lex.specs.Adding.{placed_one, AddsToken}
 use Rattle.m2_lex.specs.Faults.{Extends, HasTooMany}
-use Rattle.m2_lex.proofs.OneReading.{one_list_of_lexemes}
+use Rattle.m2_base.proofs.Numbers.{number_in-append, with_names-grows, with_names-append, length-with_names}
+use Rattle.m2_base.proofs.OneReading.{one_list_of_lexemes}
 
 -- the state of the loop: what is done of the text, and what holds of the rest
 pub record IsLexing (old : List (List ℕ)) (text : List ℕ) (names : List (List ℕ)) (tokens : List Token) (position : Position) (rest : List ℕ) : Type 0 where
@@ -65,35 +62,9 @@ join R (x ∷ xs) (y ∷ ys) us vs h k = (h.0, join R xs ys us vs h.1 k)
 
 -- names keep their numbers
 
-prefix_len-kept : (p : List ℕ → Bool) (names more : List (List ℕ)) → prefix_len p names < length names → prefix_len p (names ++ more) ≡ prefix_len p names
-prefix_len-kept p [] more h = absurd (omega arith)
-prefix_len-kept p (x ∷ names) more h = elim (p x) as (λ b. cond b (1 + prefix_len p names) 0 < suc (length names) → cond b (1 + prefix_len p (names ++ more)) 0 ≡ cond b (1 + prefix_len p names) 0) [
-  | true ↦ λ within. ap (λ (n : ℕ). 1 + n) (prefix_len-kept p names more (omega arith))
-  | false ↦ λ within. refl
-] h
-
-nat_lt_position : (n m v : ℕ) → cond (nat_lt n m) (Some n) None ≡ Some v → (n < m) × (n ≡ v)
-nat_lt_position n m v h = elim (nat_lt n m) as (λ b. nat_lt n m ≡ b → cond b (Some n) None ≡ Some v → (n < m) × (n ≡ v)) [
-  | true ↦ λ e found. (ltb-true n m e, cc)
-  | false ↦ λ e found. absurd cc
-] refl h
-
-some_if : (b : Bool) (n : ℕ) → b ≡ true → cond b (Some n) None ≡ Some n
-some_if true n e = refl
-some_if false n e = cc
-
-position-kept : (p : List ℕ → Bool) (names more : List (List ℕ)) (v : ℕ) → position p names ≡ Some v → position p (names ++ more) ≡ Some v
-position-kept p names more v h =
-    let q : List ℕ → Bool = λ name. not (p name) in
-    let found = nat_lt_position (prefix_len q names) (length names) v h in
-    let same : prefix_len q (names ++ more) ≡ prefix_len q names = prefix_len-kept q names more found.0 in
-    let within : prefix_len q (names ++ more) < length (names ++ more) = omega (arith, same, found.0, length-append names more) in
-    some_if (nat_lt (prefix_len q (names ++ more)) (length (names ++ more))) (prefix_len q (names ++ more)) (lt-ltb (prefix_len q (names ++ more)) (length (names ++ more)) within)
-    ∙ ap Some (same ∙ found.1)
-
 means-kept : (names more : List (List ℕ)) (m : Meaning) (token : Token) → Means names m token → Means (names ++ more) m token
 means-kept names more blank token h = h
-means-kept names more (name text) token h = (h.0, position-kept (bytes_eq text) names more token.value h.1)
+means-kept names more (name text) token h = (h.0, number_in-append names more text token.value h.1)
 means-kept names more (number value) token h = h
 means-kept names more (fixed kind) token h = h
 means-kept names more (bad code) token h = h
@@ -113,25 +84,18 @@ extends_same names = ([], sym (append-nil names))
 pub extends_more : (a b c : List (List ℕ)) → Extends a b → Extends b c → Extends a c
 extends_more a b c h k = (h.0 ++ k.0, k.1 ∙ ap (λ (n : List (List ℕ)). n ++ k.0) h.1 ∙ append_assoc a h.0 k.0)
 
-with_name_by : (b : Bool) (names : List (List ℕ)) (bytes : List ℕ) → Extends names (cond b names (names ++ bytes ∷ [])) × (length (cond b names (names ++ bytes ∷ [])) ≤ length names + 1)
-with_name_by true names bytes = (extends_same names, omega arith)
-with_name_by false names bytes = ((bytes ∷ [], refl), omega (arith, length-append names (bytes ∷ [])))
-
-with_name-extends : (names : List (List ℕ)) (bytes : List ℕ) → Extends names (with_name names bytes) × (length (with_name names bytes) ≤ length names + 1)
-with_name-extends names bytes = with_name_by (list_any (bytes_eq bytes) names) names bytes
-
-meaning-extends : (names : List (List ℕ)) (m : Meaning) → Extends names (with_names names (names_of m)) × (length (with_names names (names_of m)) ≤ length names + 1)
-meaning-extends names blank = (extends_same names, omega arith)
-meaning-extends names (name text) = with_name-extends names text
-meaning-extends names (number value) = (extends_same names, omega arith)
-meaning-extends names (fixed kind) = (extends_same names, omega arith)
-meaning-extends names (bad code) = (extends_same names, omega arith)
-
 pub extends_by : (old new : List (List ℕ)) (m : Meaning) → new ≡ with_names old (names_of m) → Extends old new
-extends_by old new m e = subst (Extends old) (sym e) (meaning-extends old m).0
+extends_by old new m e = let grown = with_names-grows old (names_of m) in (grown.0, e ∙ grown.1)
+
+length-names_of : (m : Meaning) → length (names_of m) ≤ 1
+length-names_of blank = omega arith
+length-names_of (name text) = omega arith
+length-names_of (number value) = omega arith
+length-names_of (fixed kind) = omega arith
+length-names_of (bad code) = omega arith
 
 one_name : (old new : List (List ℕ)) (m : Meaning) → new ≡ with_names old (names_of m) → length new ≤ length old + 1
-one_name old new m e = subst (λ (n : List (List ℕ)). length n ≤ length old + 1) (sym e) (meaning-extends old m).1
+one_name old new m e = omega (arith, ap length e, length-with_names old (names_of m), length-names_of m)
 
 names_in-append : (xs ys : List (List ℕ)) → names_in (xs ++ ys) ≡ names_in xs ++ names_in ys
 names_in-append [] ys = refl
@@ -144,7 +108,7 @@ named_on : (old names new : List (List ℕ)) (lexemes : List (List ℕ)) (lexeme
     → new ≡ with_names old (names_in (lexemes ++ lexeme ∷ []))
 named_on old names new lexemes lexeme h e =
     e ∙ ap (λ (n : List (List ℕ)). with_names n (names_of (meaning_of lexeme))) h
-    ∙ sym (fold-append with_name old (names_in lexemes) (names_of (meaning_of lexeme)))
+    ∙ sym (with_names-append old (names_in lexemes) (names_of (meaning_of lexeme)))
     ∙ ap (with_names old) (sym (names_in_push lexemes lexeme))
 
 -- a place goes on by no more than the bytes behind it

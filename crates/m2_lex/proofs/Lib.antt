@@ -2,4 +2,3 @@ mod Digits
 mod Lexing
 mod LongestRuns
 mod LongestSymbols
-mod OneReading
