@@ -9,5 +9,7 @@ mod lexer;
 mod longest;
 mod meaning;
 mod position;
+#[cfg(test)]
+mod tests;
 
 pub use lexer::{LexFault, lex};
