@@ -1,36 +1,22 @@
 -- Two bytes that spell a symbol are the longest match, since no symbol has three.
-use Rattle.std.proofs.Common.{◌≡◌, ℕ, suc, zero, ◌<◌, ◌≤◌, Bool, true, false, cond, ◌&&◌, List, [], ◌∷◌, length, take, drop, get_or, Some, None, refl, sym, ◌∙◌, ap, subst, arith}
-use Rattle.std.specs.Prelude.{nat_le, nat_eq, ◌||◌, is_some, option_map, find}
-use Rattle.std.specs.List.{list_all}
+use Rattle.std.proofs.Common.{◌≡◌, ℕ, suc, zero, ◌<◌, ◌≤◌, Bool, true, false, cond, ◌&&◌, List, [], ◌∷◌, length, take, drop, get_or, None, refl, sym, ◌∙◌, ap, subst, arith}
+use Rattle.std.specs.Prelude.{nat_le, nat_eq, ◌||◌, is_some}
 use Rattle.std.specs.Str.{bytes_eq}
-use Rattle.std.proofs.lemmas.Bool.{and_parts, leb-true, le-leb}
+use Rattle.std.proofs.lemmas.Bool.{leb-true, le-leb}
 use Rattle.m2_base.specs.Comments.{opens_comment, behind_comment, is_all, is_comment}
 use Rattle.m2_base.specs.Kinds.{kind_in, symbols}
 use Rattle.m2_base.specs.Letters.{is_digit, is_letter, is_blank, is_quote}
 use Rattle.m2_base.specs.Lexemes.{IsLongest, is_lexeme}
-use Rattle.m2_base.specs.declared.kind.TokenKind.{TokenKind}
+use Rattle.m2_base.proofs.KindTables.{kind_in-none}
 use Rattle.m2_lex.specs.Symbols.{symbol_length}
+use Rattle.m2_lex.proofs.LongestFrom.{false_from}
 
 and_false : (b : Bool) → (b && false) ≡ false
 and_false true = refl
 and_false false = refl
 
-longer_differs : (xs ys : List ℕ) → length ys < length xs → bytes_eq xs ys ≡ false
-longer_differs [] ys h = absurd (omega arith)
-longer_differs (x ∷ xs) [] h = refl
-longer_differs (x ∷ xs) (y ∷ ys) h = ap (λ (t : Bool). nat_eq x y && t) (longer_differs xs ys (omega arith)) ∙ and_false (nat_eq x y)
-
--- a table of entries of at most n bytes has no longer one
-kind_in-long : (n : ℕ) (table : List (List ℕ × TokenKind)) (xs : List ℕ) → list_all (λ entry. nat_le (length entry.0) n) table ≡ true → n < length xs → kind_in table xs ≡ None
-kind_in-long n [] xs short long = refl
-kind_in-long n (entry ∷ table) xs short long =
-    let parts = and_parts (nat_le (length entry.0) n) (list_all (λ e. nat_le (length e.0) n) table) short in
-    let within : length entry.0 ≤ n = leb-true (length entry.0) n parts.0 in
-    let differs : bytes_eq xs entry.0 ≡ false = longer_differs xs entry.0 (omega arith) in
-    ap (λ (t : Bool). option_map (λ (e : List ℕ × TokenKind). e.1) (cond t (Some entry) (find (λ e. bytes_eq xs e.0) table))) differs ∙ kind_in-long n table xs parts.1 long
-
 no_long : (a b c : ℕ) (ds : List ℕ) → kind_in symbols (a ∷ b ∷ c ∷ ds) ≡ None
-no_long a b c ds = kind_in-long 2 symbols (a ∷ b ∷ c ∷ ds) refl (omega arith)
+no_long a b c ds = kind_in-none (λ xs. nat_le (length xs) 2) symbols (a ∷ b ∷ c ∷ ds) refl (false_from (nat_le (length (a ∷ b ∷ c ∷ ds)) 2) (λ e. let short : length (a ∷ b ∷ c ∷ ds) ≤ 2 = leb-true (length (a ∷ b ∷ c ∷ ds)) 2 e in omega arith))
 
 longer_none : (a b : ℕ) (cs : List ℕ) (k : ℕ) → 0 < k → k ≤ length cs → is_some (kind_in symbols (a ∷ b ∷ take k cs)) ≡ false
 longer_none a b [] k some room = absurd (omega arith)

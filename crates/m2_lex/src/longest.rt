@@ -1,9 +1,9 @@
 //! The longest lexeme at the front of a text.
-ghost use Rattle.std.specs.Prelude.{◌≡◌, ◌≤◌, ◌<◌, ◌+◌, ℕ, length, take, drop, slice_index, IsTrue, MatchOption};
+ghost use Rattle.std.specs.Prelude.{◌≡◌, ◌≤◌, ◌<◌, ◌+◌, ℕ, length, take, drop, slice_index, is_some, IsTrue, MatchOption};
 ghost use Rattle.std.specs.List.{prefix_len};
 ghost use Rattle.m2_base.specs.Letters.{is_hexadecimal_digit as spec_hexadecimal_digit, is_digit as spec_digit, is_quote as spec_quote};
-ghost use Rattle.m2_base.specs.Lexemes.{IsLongest, is_lexeme};
-ghost use Rattle.m2_base.specs.Comments.{opens_comment as spec_opens_comment};
+ghost use Rattle.m2_base.specs.Kinds.{kind_in, symbols};
+ghost use Rattle.m2_base.specs.Lexemes.{IsLongest};
 ghost use Rattle.m2_lex.specs.Ahead.{IsPlain, ShowsH};
 ghost use Rattle.m2_lex.specs.Numerals.{plain_length};
 ghost use Rattle.m2_lex.specs.Symbols.{symbol_length};
@@ -112,9 +112,17 @@ fn symbol_len(text: &[u8]) -> usize
     ensures some { 1 ≤ result }
     ensures symbol { result ≡ symbol_length text.now }
 {
-    if text.len() >= 2 && symbol_kind(&text[..2]).is_some() {
+    if text.len() >= 2 && begins_with_pair(text) {
         2
     } else {
         1
     }
+}
+
+/// Whether a symbol of two bytes stands at the front. Only few bytes end one, so that the table is seldom looked at.
+fn begins_with_pair(text: &[u8]) -> bool
+    requires { 2 ≤ length text.now }
+    ensures { result ≡ is_some (kind_in symbols (take 2 text.now)) }
+{
+    matches!(text[1], b'=' | b'>' | b'.') && symbol_kind(&text[..2]).is_some()
 }
