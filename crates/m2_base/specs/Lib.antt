@@ -1,7 +1,9 @@
+pub mod Comments
 pub mod Kinds
 pub mod Lexemes
 pub mod Letters
 pub mod Meanings
 pub mod Names
 pub mod Positions
+pub mod Runs
 pub mod Tokens

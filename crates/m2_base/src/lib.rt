@@ -15,7 +15,10 @@ mod token;
 
 pub use kind::{TokenKind, reserved_kind, symbol_kind};
 pub use laws::one_list_of_tokens;
-pub use letters::{goes_on, is_blank, is_digit, is_letter};
+pub use letters::{
+    goes_on, is_blank, is_digit, is_hexadecimal_digit, is_letter, is_octal_digit, is_quote,
+    stays_in,
+};
 pub use memory::Memory;
 pub use names::Names;
 pub use token::Token;

@@ -5,10 +5,15 @@
 //! numbered on from those that it was given.
 #![tactic(auto)]
 
+mod comment;
 mod lexer;
 mod longest;
 mod meaning;
 mod position;
+<<<<<<< HEAD
+=======
+mod runs;
+>>>>>>> 6c58f6444abe061a121fe78da54d48540b83c53e
 #[cfg(test)]
 mod tests;
 

@@ -160,14 +160,3 @@ fn numbers_the_tokens(rt: HostRuntime) -> Result<(), Fail> {
     assert_eq!(rt; tokens.len(), 5);
     Ok(())
 }
-
-#[test]
-fn counts_the_tokens(rt: HostRuntime) -> Result<(), Fail> {
-    let most = vec![in rt.alloc(); b';'; 1048575]?;
-    let tokens = tokens_of(&rt, rt.alloc(), most.as_slice())?;
-    assert_eq!(rt; tokens.len(), 1048576);
-    let more = vec![in rt.alloc(); b';'; 1048576]?;
-    let fault = tokens_of(&rt, rt.alloc(), more.as_slice()).err();
-    assert!(rt; matches!(fault, Some(LexFault::TooManyTokens)));
-    Ok(())
-}
