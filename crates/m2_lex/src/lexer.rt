@@ -67,8 +67,6 @@ fn token_of(
             let number = names.intern(alloc, text)?;
             Ok(Some(position.token(at, TokenKind::Identifier, u64::from(number))))
         }
-<<<<<<< HEAD
-=======
         Meaning::String(bytes) => {
             let number = names.intern(alloc, bytes)?;
             Ok(Some(position.token(at, TokenKind::String, u64::from(number))))
@@ -76,7 +74,6 @@ fn token_of(
         Meaning::Character(value) => {
             Ok(Some(position.token(at, TokenKind::Character, u64::from(value))))
         }
->>>>>>> 6c58f6444abe061a121fe78da54d48540b83c53e
         Meaning::Number(value) => Ok(Some(position.token(at, TokenKind::Number, u64::from(value)))),
         Meaning::Fixed(kind) => Ok(Some(position.token(at, kind, 0))),
         Meaning::Bad(code) => Ok(Some(position.token(at, TokenKind::Bad, code))),
@@ -123,14 +120,9 @@ pub fn lex(alloc: Global, text: &[u8], names: &mut Names) -> Result<Vec<Token>, 
     let mut tokens = Vec::new(alloc);
     let mut rest = text;
     let mut position = Position::first();
-<<<<<<< HEAD
-    while !rest.is_empty() {
-        let (lexeme, after) = rest.split_at(lexeme_len(rest));
-=======
     let mut plain = 0;
     while !rest.is_empty() {
         let (lexeme, after) = rest.split_at(lexeme_len(rest, &mut plain));
->>>>>>> 6c58f6444abe061a121fe78da54d48540b83c53e
         add_token(alloc, names, &mut tokens, lexeme, position)?;
         position = position.after(lexeme);
         rest = after;

@@ -10,10 +10,7 @@ mod lexer;
 mod longest;
 mod meaning;
 mod position;
-<<<<<<< HEAD
-=======
 mod runs;
->>>>>>> 6c58f6444abe061a121fe78da54d48540b83c53e
 #[cfg(test)]
 mod tests;
 

@@ -1,28 +1,4 @@
 //! The longest lexeme at the front of a text.
-<<<<<<< HEAD
-ghost use Rattle.std.specs.Prelude.{◌≡◌, ◌≤◌, ◌<◌, length, take, drop};
-ghost use Rattle.std.specs.List.{prefix_len};
-ghost use Rattle.m2_base.specs.Letters.{is_digit as spec_digit, goes_on as spec_goes_on, is_blank as spec_blank, is_letter as spec_letter};
-ghost use Rattle.m2_base.specs.Lexemes.{IsLongest};
-ghost use Rattle.m2_lex.specs.Symbols.{symbol_length};
-
-use m2_base::{goes_on, is_blank, is_digit, is_letter, symbol_kind};
-
-/// The length of the longest lexeme at the front.
-pub fn lexeme_len(text: &[u8]) -> usize
-    requires { 1 ≤ length text.now }
-    ensures within { result ≤ length text.now }
-    ensures some { 1 ≤ result }
-    ensures longest { IsLongest (take result text.now) (drop result text.now) }
-{
-    let first = text[0];
-    if is_blank(first) {
-        blanks(text)
-    } else if is_letter(first) {
-        word_len(text)
-    } else if is_digit(first) {
-        digits(text)
-=======
 ghost use Rattle.std.specs.Prelude.{◌≡◌, ◌≤◌, ◌<◌, ◌+◌, ℕ, length, take, drop, slice_index, is_some, IsTrue, MatchOption};
 ghost use Rattle.std.specs.List.{prefix_len};
 ghost use Rattle.m2_base.specs.Letters.{is_hexadecimal_digit as spec_hexadecimal_digit, is_digit as spec_digit, is_quote as spec_quote};
@@ -63,36 +39,11 @@ pub fn lexeme_len(text: &[u8], plain: &mut usize) -> usize
         string_len(text)
     } else if opens_comment(text) {
         comment_len(text).unwrap_or(text.len())
->>>>>>> 6c58f6444abe061a121fe78da54d48540b83c53e
     } else {
         symbol_len(text)
     }
 }
 
-<<<<<<< HEAD
-/// How many blanks stand at the front.
-fn blanks(text: &[u8]) -> usize
-    ensures count { result ≡ prefix_len spec_blank text.now }
-    ensures within { result ≤ length text.now }
-{
-    text.iter().take_while(|byte| is_blank(**byte)).count()
-}
-
-/// How many digits stand at the front.
-fn digits(text: &[u8]) -> usize
-    ensures count { result ≡ prefix_len spec_digit text.now }
-    ensures within { result ≤ length text.now }
-{
-    text.iter().take_while(|byte| is_digit(**byte)).count()
-}
-
-/// How many letters and digits stand at the front.
-fn word_len(text: &[u8]) -> usize
-    ensures count { result ≡ prefix_len spec_goes_on text.now }
-    ensures within { result ≤ length text.now }
-{
-    text.iter().take_while(|byte| goes_on(**byte)).count()
-=======
 /// The length of the longest numeral at the front.
 fn numeral_len(text: &[u8], plain: &mut usize) -> usize
     requires digit { IsTrue (spec_digit (slice_index text.now 0)) }
@@ -152,7 +103,6 @@ fn string_len(text: &[u8]) -> usize
     } else {
         1 + inside
     }
->>>>>>> 6c58f6444abe061a121fe78da54d48540b83c53e
 }
 
 /// The length of the symbol at the front, or 1 for a byte that no token has.
@@ -162,18 +112,12 @@ fn symbol_len(text: &[u8]) -> usize
     ensures some { 1 ≤ result }
     ensures symbol { result ≡ symbol_length text.now }
 {
-<<<<<<< HEAD
-    if text.len() >= 2 && symbol_kind(&text[..2]).is_some() {
-=======
     if text.len() >= 2 && begins_with_pair(text) {
->>>>>>> 6c58f6444abe061a121fe78da54d48540b83c53e
         2
     } else {
         1
     }
 }
-<<<<<<< HEAD
-=======
 
 /// Whether a symbol of two bytes stands at the front. Only few bytes end one, so that the table is seldom looked at.
 fn begins_with_pair(text: &[u8]) -> bool
@@ -182,4 +126,3 @@ fn begins_with_pair(text: &[u8]) -> bool
 {
     matches!(text[1], b'=' | b'>' | b'.') && symbol_kind(&text[..2]).is_some()
 }
->>>>>>> 6c58f6444abe061a121fe78da54d48540b83c53e

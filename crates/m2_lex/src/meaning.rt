@@ -1,12 +1,4 @@
 //! What a lexeme stands for.
-<<<<<<< HEAD
-ghost use Rattle.std.specs.Prelude.{◌≡◌, ◌<◌, ◌≤◌, MatchOption};
-ghost use Rattle.m2_base.specs.Kinds.{kind_in, reserved_words, symbols};
-ghost use Rattle.m2_base.specs.Meanings.{meaning_of as spec_meaning, decimal as spec_decimal, number_of, fixed_or, name, bad};
-ghost use Rattle.m2_lex.specs.Understood.{stands_for};
-
-use m2_base::{TokenKind, is_blank, is_digit, is_letter, reserved_kind, symbol_kind};
-=======
 ghost use Rattle.std.specs.Prelude.{◌≡◌, ◌<◌, ◌≤◌, length, MatchOption};
 ghost use Rattle.m2_base.specs.Kinds.{kind_in, reserved_words, symbols};
 ghost use Rattle.m2_base.specs.Meanings.{meaning_of as spec_meaning, numeral_meaning as spec_numeral, string_meaning as spec_string, comment_meaning as spec_comment, value_in as spec_value_in, digit_value as spec_digit_value, number_of, character_of, fixed_or, name, bad};
@@ -15,14 +7,10 @@ ghost use Rattle.m2_lex.specs.Understood.{stands_for};
 use crate::comment::{comment_len, opens_comment};
 use crate::runs::{hexadecimal_digits, octal_digits, string_bytes};
 use m2_base::{TokenKind, is_blank, is_digit, is_letter, is_quote, reserved_kind, symbol_kind};
->>>>>>> 6c58f6444abe061a121fe78da54d48540b83c53e
 
 /// The code of a byte that no token has.
 const STRAY_BYTE: u64 = 10;
 
-<<<<<<< HEAD
-/// The code of a number that is too great.
-=======
 /// The code of a comment that isn't closed.
 const OPEN_COMMENT: u64 = 11;
 
@@ -30,26 +18,18 @@ const OPEN_COMMENT: u64 = 11;
 const OPEN_STRING: u64 = 12;
 
 /// The code of a number or a character that is too great.
->>>>>>> 6c58f6444abe061a121fe78da54d48540b83c53e
 const TOO_GREAT: u64 = 13;
 
 /// The greatest number.
 const MOST: u64 = 4_294_967_295;
 
-<<<<<<< HEAD
-/// Nothing, a name, a number, a token of a kind that says all, or a fault with its code.
-=======
 /// Nothing, a name, a number, a character, a string, a token of a kind that says all, or a fault with its code.
->>>>>>> 6c58f6444abe061a121fe78da54d48540b83c53e
 pub enum Meaning<'a> {
     Blank,
     Name(&'a [u8]),
     Number(u32),
-<<<<<<< HEAD
-=======
     Character(u8),
     String(&'a [u8]),
->>>>>>> 6c58f6444abe061a121fe78da54d48540b83c53e
     Fixed(TokenKind),
     Bad(u64),
 }
@@ -67,15 +47,11 @@ pub fn meaning_of(lexeme: &[u8]) -> Meaning<'_>
     } else if is_letter(first) {
         word_meaning(lexeme)
     } else if is_digit(first) {
-<<<<<<< HEAD
-        number_meaning(lexeme)
-=======
         numeral_meaning(lexeme)
     } else if is_quote(first) {
         string_meaning(first, &lexeme[1..])
     } else if opens_comment(lexeme) {
         comment_meaning(lexeme)
->>>>>>> 6c58f6444abe061a121fe78da54d48540b83c53e
     } else {
         symbol_meaning(lexeme)
     }
@@ -91,13 +67,6 @@ fn word_meaning(word: &[u8]) -> Meaning<'_>
     }
 }
 
-<<<<<<< HEAD
-/// What a number stands for: its value, unless that is too great.
-fn number_meaning(digits: &[u8]) -> Meaning<'_>
-    ensures { stands_for result ≡ number_of (spec_decimal digits.now) }
-{
-    match decimal(digits) {
-=======
 /// What a numeral stands for, by its last letter.
 fn numeral_meaning(numeral: &[u8]) -> Meaning<'_>
     ensures { stands_for result ≡ spec_numeral numeral.now }
@@ -123,14 +92,11 @@ fn number_meaning(base: u64, digits: &[u8]) -> Meaning<'_>
     ensures { stands_for result ≡ number_of (spec_value_in base digits.now) }
 {
     match value_in(base, digits) {
->>>>>>> 6c58f6444abe061a121fe78da54d48540b83c53e
         Some(value) => Meaning::Number(value),
         None => Meaning::Bad(TOO_GREAT),
     }
 }
 
-<<<<<<< HEAD
-=======
 /// The character that octal digits say, unless it is too great.
 fn character_meaning(digits: &[u8]) -> Meaning<'_>
     ensures { stands_for result ≡ character_of (spec_value_in 8 digits.now) }
@@ -164,7 +130,6 @@ fn comment_meaning(comment: &[u8]) -> Meaning<'_>
     }
 }
 
->>>>>>> 6c58f6444abe061a121fe78da54d48540b83c53e
 /// What any other byte or two stand for: a symbol, or a fault.
 fn symbol_meaning(spelling: &[u8]) -> Meaning<'_>
     ensures { stands_for result ≡ fixed_or (kind_in symbols spelling.now) (bad 10) }
@@ -175,15 +140,6 @@ fn symbol_meaning(spelling: &[u8]) -> Meaning<'_>
     }
 }
 
-<<<<<<< HEAD
-/// The value of decimal digits, if it is at most that of 32 bits.
-fn decimal(digits: &[u8]) -> Option<u32>
-    ensures { MatchOption result (4294967295 < spec_decimal digits.now) (λ value. (value ≡ spec_decimal digits.now) × (value ≤ 4294967295)) }
-{
-    let mut value = 0u64;
-    for digit in digits {
-        value = value * 10 + u64::from(digit.saturating_sub(b'0'));
-=======
 /// The value of digits to a base, if it is at most that of 32 bits.
 fn value_in(base: u64, digits: &[u8]) -> Option<u32>
     requires some { 1 ≤ base }
@@ -193,15 +149,12 @@ fn value_in(base: u64, digits: &[u8]) -> Option<u32>
     let mut value = 0;
     for digit in digits {
         value = value * base + u64::from(digit_value(*digit));
->>>>>>> 6c58f6444abe061a121fe78da54d48540b83c53e
         if value > MOST {
             return None;
         }
     }
     Some(value as u32)
 }
-<<<<<<< HEAD
-=======
 
 /// The value of a digit, where A stands for ten.
 fn digit_value(digit: u8) -> u8
@@ -213,4 +166,3 @@ fn digit_value(digit: u8) -> u8
         digit.saturating_sub(b'A' - 10)
     }
 }
->>>>>>> 6c58f6444abe061a121fe78da54d48540b83c53e
