@@ -1,4 +1,5 @@
 //! The part that compiles a plain module.
+use crate::stopwatch::Stopwatch;
 use anyhow::{Context, Result};
 use m2_io::{MemShelf, MemSink, MemSource, NoGate};
 use m2c_top::m2c;
@@ -6,8 +7,7 @@ use std::alloc::{AllocError, Global};
 use std::collections::BTreeMap;
 use std::fmt;
 use std::fmt::Write;
-use std::rt::Clock;
-use std::time::Instant;
+use std::time::CpuClock;
 
 /// The bytes of a module without variables.
 const FRAME_BYTES: u32 = 27;
@@ -96,11 +96,11 @@ pub fn print_counts<R: AllocGlobal + Print>(rt: &R, bytes: u32) -> Result<()> {
 }
 
 /// Prints what a module is compiled to, and in what time.
-pub fn print_time<R: AllocGlobal + Print + Clock>(rt: &R, bytes: u32) -> Result<()> {
+pub fn print_time<R: AllocGlobal + Print + CpuClock>(rt: &R, bytes: u32) -> Result<()> {
     let mut desk = Desk::new(rt.alloc(), bytes)?;
-    let start = Instant::now(rt)?;
+    let stopwatch = Stopwatch::start(rt)?;
     let status = desk.compile(rt.alloc());
-    let milliseconds = start.elapsed(rt)?.as_secs_f64() * 1e3;
+    let milliseconds = stopwatch.seconds(rt)? * 1e3;
     let counts = desk.counts(status);
     println!(rt; "{counts}, {milliseconds:.3} ms")?;
     Ok(())

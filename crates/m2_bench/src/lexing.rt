@@ -1,12 +1,12 @@
 //! The part that lexes a text of one kind.
 use crate::kind::Kind;
+use crate::stopwatch::Stopwatch;
 use anyhow::{Result, bail, ensure};
 use m2_base::Names;
 use m2_lex::lex;
 use std::alloc::Global;
 use std::fmt;
-use std::rt::Clock;
-use std::time::Instant;
+use std::time::CpuClock;
 
 /// The most bytes of a text that is lexed.
 const MOST_BYTES: usize = 1_048_576;
@@ -44,11 +44,11 @@ pub fn print_counts<R: AllocGlobal + Print>(rt: &R, kind: Kind, bytes: u32) -> R
 }
 
 /// Prints what a text is lexed to, and in what time.
-pub fn print_time<R: AllocGlobal + Print + Clock>(rt: &R, kind: Kind, bytes: u32) -> Result<()> {
+pub fn print_time<R: AllocGlobal + Print + CpuClock>(rt: &R, kind: Kind, bytes: u32) -> Result<()> {
     let text = kind.text(rt.alloc(), bytes)?;
-    let start = Instant::now(rt)?;
+    let stopwatch = Stopwatch::start(rt)?;
     let counts = count(rt.alloc(), kind, text.as_slice())?;
-    let seconds = start.elapsed(rt)?.as_secs_f64();
+    let seconds = stopwatch.seconds(rt)?;
     let milliseconds = seconds * 1e3;
     let rate = f64::from(bytes) / 1e6 / seconds;
     println!(rt; "{counts}, {milliseconds:.3} ms, {rate:.1} MB/s")?;

@@ -1,15 +1,16 @@
 //! How long does a call of one crate take, by the size of its input?
 //!
 //! `m2_bench lex KIND BYTES` times `lex` over a text of one kind, and `m2_bench compile BYTES` times `m2c compile A` over
-//! a plain module, both in memory. The inputs are made from the words. With no words a small run of each part prints its
-//! counts alone, which are the same at every run. Each part stands in a module of its own; a part to come adds a
-//! variant to `Command`.
+//! a plain module, both in memory. The inputs are made from the words, and the times are those of the processor. With no
+//! words a small run of each part prints its counts alone, which are the same at every run. Each part stands in a module
+//! of its own; a part to come adds a variant to `Command`.
 #![tactic(auto)]
 
 mod command;
 mod compiling;
 mod kind;
 mod lexing;
+mod stopwatch;
 
 use anyhow::Result;
 use command::{Command, USAGE};
