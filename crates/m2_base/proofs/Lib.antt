@@ -1,5 +1,8 @@
+pub mod FinishedLaws
+pub mod Kept
 mod KindTables
+mod NameTexts
 pub mod Numbers
 pub mod OneList
 pub mod OneReading
-mod Texts
+pub mod RowLaws
