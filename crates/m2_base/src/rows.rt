@@ -300,25 +300,17 @@ mod tests {
             scope: 3,
             ordinal: 4_000_000_000,
         };
-        let meanings = [
-            (RowMeaning::Const(here, -2_147_483_648, 7), 1),
-            (RowMeaning::Var(here, Mode::Open, 9), 3),
-            (RowMeaning::Field(here, 1, 2, 30), 7),
-            (RowMeaning::Param(here, true, 5), 8),
-            (RowMeaning::Whole, 10),
-            (RowMeaning::Subrange(here, -5, 4_294_967_295), 12),
-            (RowMeaning::Array(here, here, 6), 13),
-            (RowMeaning::ProcType(None, 0, 6), 18),
-            (RowMeaning::ProcType(Some(here), 1, 2), 18),
-        ];
-        for (meaning, kind) in meanings {
-            let row = write_row(28, 5, meaning);
-            assert_eq!(rt; row.kind, kind);
-            assert_eq!(rt; row.d, 0);
-            assert_eq!(rt; read_row(&row), meaning);
-        }
-        let row = write_row(28, 5, RowMeaning::TypeName(here));
-        assert_eq!(rt; row.a, 3 * 4_294_967_296 + 4_000_000_000);
+        let array = write_row(28, 5, RowMeaning::Array(here, here, 6));
+        assert_eq!(rt; array.kind, 13);
+        assert_eq!(rt; array.a, 3 * 4_294_967_296 + 4_000_000_000);
+        assert_eq!(rt; array.c, 6);
+        assert_eq!(rt; read_row(&array), RowMeaning::Array(here, here, 6));
+        let subrange = write_row(0, 5, RowMeaning::Subrange(here, -5, 4_294_967_295));
+        assert_eq!(rt; subrange.b, -5);
+        assert_eq!(rt;
+            read_row(&subrange),
+            RowMeaning::Subrange(here, -5, 4_294_967_295)
+        );
         Ok(())
     }
 }
