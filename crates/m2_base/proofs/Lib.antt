@@ -1,6 +1,9 @@
+pub mod FinishedLaws
+pub mod Kept
 pub mod KindTables
+mod NameTexts
 pub mod Numbers
 pub mod OneList
 pub mod OneReading
 mod ReservedWords
-mod Texts
+pub mod RowLaws

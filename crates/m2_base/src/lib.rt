@@ -11,6 +11,13 @@ mod laws;
 mod letters;
 mod memory;
 mod names;
+mod notes;
+mod outputs;
+mod replies;
+mod rows;
+mod scopes;
+mod sites;
+mod texts;
 mod token;
 
 pub use kind::{TokenKind, reserved_kind, symbol_kind};
@@ -21,4 +28,11 @@ pub use letters::{
 };
 pub use memory::Memory;
 pub use names::Names;
+pub use notes::{Answer, Diag, Notes};
+pub use outputs::{HeadingNote, Output, ProcCode, StreamFault};
+pub use replies::{Ask, Chain, Head, Reply};
+pub use rows::{Mode, Place, Row, RowMeaning, read_row, write_row};
+pub use scopes::Scopes;
+pub use sites::{Around, Layout, Named, Site, StreamKind};
+pub use texts::{Text, Texts};
 pub use token::Token;
