@@ -2,4 +2,5 @@ mod KindTables
 pub mod Numbers
 pub mod OneList
 pub mod OneReading
+pub mod Seen
 mod Texts

@@ -3,5 +3,8 @@ pub mod Lexemes
 pub mod Letters
 pub mod Meanings
 pub mod Names
+pub mod Operators
 pub mod Positions
 pub mod Tokens
+pub mod Trees
+pub mod Views

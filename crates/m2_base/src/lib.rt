@@ -12,6 +12,7 @@ mod letters;
 mod memory;
 mod names;
 mod token;
+mod trees;
 
 pub use kind::{TokenKind, reserved_kind, symbol_kind};
 pub use laws::one_list_of_tokens;
@@ -19,3 +20,8 @@ pub use letters::{goes_on, is_blank, is_digit, is_letter};
 pub use memory::Memory;
 pub use names::Names;
 pub use token::Token;
+pub use trees::{
+    CaseArm, Decl, Designator, Expr, ExprForm, FieldList, Formal, Heading, Ident, IfArm, Import,
+    Label, Next, Operator, Qual, Section, Selector, Statement, StmtForm, Stream, StreamKind,
+    TypeExpr, TypeForm, VariantArm,
+};
