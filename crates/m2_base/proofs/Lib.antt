@@ -7,3 +7,4 @@ pub mod OneList
 pub mod OneReading
 mod ReservedWords
 pub mod RowLaws
+pub mod Seen

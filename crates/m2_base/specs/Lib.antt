@@ -8,6 +8,7 @@ pub mod Lexemes
 pub mod Lists
 pub mod Meanings
 pub mod Names
+pub mod Operators
 pub mod PlainModules
 pub mod Positions
 pub mod Rows
@@ -17,4 +18,6 @@ pub mod Standard
 pub mod States
 pub mod Tables
 pub mod Tokens
+pub mod Trees
 pub mod Units
+pub mod Views

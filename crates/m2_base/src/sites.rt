@@ -2,14 +2,6 @@
 use crate::replies::Chain;
 use crate::texts::Texts;
 
-/// What a stream is the text of.
-#[derive(Clone, Copy, Debug, PartialEq, Eq)]
-pub enum StreamKind {
-    Main,
-    Definition,
-    Procedure,
-}
-
 /// What surrounds a block.
 #[derive(Drop)]
 pub struct Around {
