@@ -6,3 +6,4 @@ pub mod Numbers
 pub mod OneList
 pub mod OneReading
 pub mod RowLaws
+pub mod StandardLaws

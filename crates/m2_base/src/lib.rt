@@ -17,6 +17,7 @@ mod replies;
 mod rows;
 mod scopes;
 mod sites;
+mod standard;
 mod texts;
 mod token;
 
@@ -31,5 +32,6 @@ pub use replies::{Ask, Chain, Head, Reply};
 pub use rows::{Mode, Place, Row, RowMeaning, read_row, write_row};
 pub use scopes::Scopes;
 pub use sites::{Around, Layout, Named, Site, StreamKind};
+pub use standard::standard_rows;
 pub use texts::{Text, Texts};
 pub use token::Token;
