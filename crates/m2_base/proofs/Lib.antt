@@ -8,3 +8,4 @@ pub mod OneReading
 mod ReservedWords
 pub mod RowLaws
 pub mod Seen
+pub mod StandardLaws

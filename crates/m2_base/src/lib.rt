@@ -19,6 +19,7 @@ mod replies;
 mod rows;
 mod scopes;
 mod sites;
+mod standard;
 mod texts;
 mod token;
 mod trees;
@@ -37,6 +38,7 @@ pub use replies::{Ask, Chain, Head, Reply};
 pub use rows::{Mode, Place, Row, RowMeaning, read_row, write_row};
 pub use scopes::Scopes;
 pub use sites::{Around, Layout, Named, Site};
+pub use standard::standard_rows;
 pub use texts::{Text, Texts};
 pub use token::Token;
 pub use trees::{

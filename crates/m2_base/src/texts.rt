@@ -1,5 +1,5 @@
 //! The texts of a unit: the main text and the definition modules that it rests on.
-ghost use Rattle.std.specs.Prelude.{◌≡◌};
+ghost use Rattle.std.specs.Prelude.{◌≡◌, slice_get, Some};
 ghost use Rattle.m2_base.specs.Units.{IsUnit};
 
 use crate::names::Names;
@@ -57,5 +57,13 @@ impl Texts {
             order,
             own,
         }
+    }
+
+    /// The text of the main module.
+    pub fn main(&self) -> &Text
+        ensures unit { IsUnit self.now }
+        ensures text { slice_get self.now.list 0 ≡ Some result.now }
+    {
+        &self.list[0]
     }
 }
