@@ -1,3 +1,4 @@
+pub mod GrammarChecks
 mod KindTables
 pub mod Numbers
 pub mod OneList

@@ -1,10 +1,16 @@
+pub mod ExpressionsOf
+pub mod Grammar
+pub mod KindNumbers
 pub mod Kinds
-pub mod Lexemes
 pub mod Letters
+pub mod Lexemes
 pub mod Meanings
 pub mod Names
 pub mod Operators
 pub mod Positions
+pub mod StatementsOf
+pub mod StreamsOf
 pub mod Tokens
 pub mod Trees
+pub mod TypesOf
 pub mod Views
