@@ -1,7 +1,7 @@
 -- A text has one list of tokens, and brings one list of names.
 use Rattle.std.proofs.Common.{◌≡◌, ℕ, List, [], ◌∷◌, Some, refl, sym, ◌∙◌, ap, subst}
 use Rattle.std.specs.List.{AllZip}
-use Rattle.m2_base.specs.Meanings.{Meaning, blank, name, number, fixed, bad, meaning_of}
+use Rattle.m2_base.specs.Meanings.{Meaning, blank, name, number, character, string, fixed, bad, meaning_of}
 use Rattle.m2_base.specs.Names.{with_names}
 use Rattle.m2_base.specs.Tokens.{AreTokens, IsToken, Means, Placed, placed, names_in}
 use Rattle.m2_base.specs.declared.token.Token.{Token}
@@ -15,6 +15,8 @@ same_saying : (names : List (List ℕ)) (meaning : Meaning) (this that : Token) 
 same_saying names blank this that p q = absurd p
 same_saying names (name text) this that p q = (p.0 ∙ sym q.0, some_of this.value that.value (sym p.1 ∙ q.1))
 same_saying names (number value) this that p q = (p.0 ∙ sym q.0, p.1 ∙ sym q.1)
+same_saying names (character value) this that p q = (p.0 ∙ sym q.0, p.1 ∙ sym q.1)
+same_saying names (string bytes) this that p q = (p.0 ∙ sym q.0, some_of this.value that.value (sym p.1 ∙ q.1))
 same_saying names (fixed kind) this that p q = (p.0 ∙ sym q.0, p.1 ∙ sym q.1)
 same_saying names (bad code) this that p q = (p.0 ∙ sym q.0, p.1 ∙ sym q.1)
 

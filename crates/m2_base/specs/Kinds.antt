@@ -1,5 +1,6 @@
 -- The kinds of token: what spells the reserved words and the symbols.
-use Rattle.std.specs.Prelude.{ℕ, List, [], ◌∷◌, Option, option_map, find, codes}
+use Rattle.std.specs.Prelude.{ℕ, ◌≤◌, ◌==◌, Bool, false, not, IsTrue, List, [], ◌∷◌, take, drop, Option, option_map, find, codes}
+use Rattle.std.specs.List.{list_all}
 use Rattle.std.specs.Str.{bytes_eq}
 use Rattle.m2_base.specs.declared.kind.TokenKind.{TokenKind}
 use Rattle.m2_base.specs.declared.kind.TokenKind.TheVariants.{And, Array, Begin, By, Case, Const, Definition, Div, Do, Else, Elsif, End, Exit, Export, For, From, If, Implementation, Import, In, Loop, Mod, Module, Not, Of, Or, Pointer, Procedure, Qualified, Record, Repeat, Return, Set, Then, To, «Type», Until, Var, While, With, Plus, Minus, Times, Slash, Becomes, Period, Comma, Semicolon, LeftParenthesis, LeftBracket, LeftBrace, Arrow, Equal, Unequal, Less, Greater, LessEqual, GreaterEqual, Ellipsis, Colon, RightParenthesis, RightBracket, RightBrace, Bar}
@@ -84,3 +85,14 @@ symbols =
     ∷ (codes "&", And)
     ∷ (codes "~", Not)
     ∷ []
+
+abbrev pub begins_with : ℕ → List ℕ → Bool
+begins_with first [] = false
+begins_with first (b ∷ bs) = b == first
+
+-- the reserved words that begin with this byte stand in their table from one place on, and all before another
+pub record IsSpan (first start end : ℕ) : Type 0 where
+  pub order : start ≤ end
+  pub within : end ≤ 40
+  pub before : IsTrue (list_all (λ entry. not (begins_with first entry.0)) (take start reserved_words))
+  pub behind : IsTrue (list_all (λ entry. not (begins_with first entry.0)) (drop end reserved_words))

@@ -1,18 +1,33 @@
 -- The lexemes of a text, as the bytes that spell them.
-use Rattle.std.specs.Prelude.{◌≡◌, ℕ, ◌<◌, ◌≤◌, Bool, false, ◌||◌, is_some, if◌then◌else◌, List, [], ◌∷◌, ◌++◌, length, take, IsTrue}
+use Rattle.std.specs.Prelude.{◌≡◌, ℕ, ◌<◌, ◌≤◌, Bool, false, ◌||◌, is_some, if◌then◌else◌, List, [], ◌∷◌, ◌++◌, length, take, codes, IsTrue}
 use Rattle.std.specs.List.{list_all}
 use Rattle.std.specs.Str.{bytes_eq}
-use Rattle.m2_base.specs.Letters.{is_digit, is_letter, goes_on, is_blank}
+use Rattle.m2_base.specs.Comments.{is_comment}
+use Rattle.m2_base.specs.Letters.{is_digit, is_octal_digit, is_hexadecimal_digit, is_letter, goes_on, is_blank, is_quote, stays_in}
 use Rattle.m2_base.specs.Kinds.{kind_in, symbols}
+use Rattle.m2_base.specs.Runs.{is_run_and}
 
--- Which bytes may follow the first one in a lexeme: blanks a blank, letters and digits a letter, digits a digit. Any
--- other byte stands alone or begins a symbol.
+-- digits; octal digits and `B`, or `C` for a character; or hexadecimal digits and `H`
+abbrev pub is_numeral : List ℕ → Bool
+is_numeral bytes =
+    is_run_and is_digit [] bytes
+    || is_run_and is_octal_digit (codes "B") bytes
+    || is_run_and is_octal_digit (codes "C") bytes
+    || is_run_and is_hexadecimal_digit (codes "H") bytes
+
+-- What follows the quote that opens a string: what it holds, and the quote that closes it, unless it is open.
+abbrev pub fills_string : ℕ → List ℕ → Bool
+fills_string quote bytes = is_run_and (stays_in quote) [] bytes || is_run_and (stays_in quote) (quote ∷ []) bytes
+
+-- Which bytes may follow the first one in a lexeme: blanks a blank, letters and digits a letter, the rest of a numeral a
+-- digit, the rest of a string a quote. Any other byte stands alone, or begins a symbol or a comment.
 abbrev pub continues : ℕ → List ℕ → Bool
 continues b bs =
     if is_blank b then list_all is_blank bs
     else (if is_letter b then list_all goes_on bs
-    else (if is_digit b then list_all is_digit bs
-    else (bytes_eq bs [] || is_some (kind_in symbols (b ∷ bs)))))
+    else (if is_digit b then is_numeral (b ∷ bs)
+    else (if is_quote b then fills_string b bs
+    else (bytes_eq bs [] || is_some (kind_in symbols (b ∷ bs)) || is_comment (b ∷ bs)))))
 
 -- the bytes spell one lexeme
 abbrev pub is_lexeme : List ℕ → Bool

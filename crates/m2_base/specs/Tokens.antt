@@ -2,11 +2,11 @@
 use Rattle.std.specs.Prelude.{◌≡◌, ℕ, ◌+◌, List, [], ◌∷◌, ◌++◌, if◌then◌else◌, Some}
 use Rattle.std.specs.List.{AllZip}
 use Rattle.m2_base.specs.Lexemes.{AreLexemes}
-use Rattle.m2_base.specs.Meanings.{Meaning, blank, name, number, fixed, bad, meaning_of, is_blank_lexeme}
+use Rattle.m2_base.specs.Meanings.{Meaning, blank, name, number, character, string, fixed, bad, meaning_of, is_blank_lexeme}
 use Rattle.m2_base.specs.Names.{number_in, with_names}
 use Rattle.m2_base.specs.Positions.{Position, first_position, after_bytes}
 use Rattle.m2_base.specs.declared.kind.TokenKind.{TokenKind}
-use Rattle.m2_base.specs.declared.kind.TokenKind.TheVariants.{Identifier, Number, Bad}
+use Rattle.m2_base.specs.declared.kind.TokenKind.TheVariants.{Identifier, Number, Character, String as StringKind, Bad}
 use Rattle.m2_base.specs.declared.token.Token.{Token}
 
 -- a lexeme that is a token, with the token's number and the place of its first byte
@@ -25,11 +25,13 @@ placed_from p at (lexeme ∷ lexemes) =
 abbrev pub placed : List (List ℕ) → List Placed
 placed lexemes = placed_from first_position 0 lexemes
 
--- the names that a meaning brings
+-- the names that a meaning brings: a string is numbered as a name is
 abbrev pub names_of : Meaning → List (List ℕ)
 names_of blank = []
 names_of (name text) = text ∷ []
 names_of (number value) = []
+names_of (character value) = []
+names_of (string bytes) = bytes ∷ []
 names_of (fixed kind) = []
 names_of (bad code) = []
 
@@ -42,11 +44,17 @@ names_in (lexeme ∷ lexemes) = names_of (meaning_of lexeme) ++ names_in lexemes
 abbrev pub Says : Token → TokenKind → ℕ → Type 0
 Says token kind value = (token.kind ≡ kind) × (token.value ≡ value)
 
--- the token's kind and value say the meaning; a name is given by its number
+-- the token has this kind and the number of these bytes
+abbrev pub SaysName : List (List ℕ) → Token → TokenKind → List ℕ → Type 0
+SaysName names token kind bytes = (token.kind ≡ kind) × (number_in names bytes ≡ Some token.value)
+
+-- the token's kind and value say the meaning; a name and a string are given by their numbers
 abbrev pub Means : List (List ℕ) → Meaning → Token → Type 0
 Means names blank token = ⊥
-Means names (name text) token = (token.kind ≡ Identifier) × (number_in names text ≡ Some token.value)
+Means names (name text) token = SaysName names token Identifier text
 Means names (number value) token = Says token Number value
+Means names (character value) token = Says token Character value
+Means names (string bytes) token = SaysName names token StringKind bytes
 Means names (fixed kind) token = Says token kind 0
 Means names (bad code) token = Says token Bad code
 

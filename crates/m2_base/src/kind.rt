@@ -1,7 +1,7 @@
 //! The kinds of token, and the one table of what spells them.
 ghost use Rattle.std.specs.Prelude.{◌≡◌, find, map, option_map};
 ghost use Rattle.std.specs.Str.{bytes_eq};
-ghost use Rattle.m2_base.specs.Kinds.{kind_in as spec_kind_in, reserved_words, symbols};
+ghost use Rattle.m2_base.specs.Kinds.{kind_in as spec_kind_in, reserved_words, symbols, IsSpan};
 
 /// A kind of token. Its number is that of the kind in the listing of tokens: `kind as u8`.
 #[derive(Clone, Copy, Debug, PartialEq, Eq)]
@@ -163,11 +163,50 @@ const SYMBOLS: [(&[u8], TokenKind); 27] = [
     (b"~", TokenKind::Not),
 ];
 
-/// The kind of the reserved word that is spelled so.
+/// The kind of the reserved word that is spelled so. Only those with its first letter are looked at.
 pub fn reserved_kind(word: &[u8]) -> Option<TokenKind>
     ensures { result ≡ spec_kind_in reserved_words word.now }
 {
-    kind_in(&RESERVED_WORDS, word)
+    if word.is_empty() || !word[0].is_ascii_uppercase() {
+        return None;
+    }
+    let (start, end) = span_of(word[0]);
+    kind_in(&RESERVED_WORDS[start..end], word)
+}
+
+/// From where to where the reserved words with this first letter stand in their table.
+fn span_of(first: u8) -> (usize, usize)
+    ensures { IsSpan first result.0 result.1 }
+{
+    match first {
+        b'A' => (0, 2),
+        b'B' => (2, 4),
+        b'C' => (4, 6),
+        b'D' => (6, 9),
+        b'E' => (9, 14),
+        b'F' => (14, 16),
+        b'G' => (0, 0),
+        b'H' => (0, 0),
+        b'I' => (16, 20),
+        b'J' => (0, 0),
+        b'K' => (0, 0),
+        b'L' => (20, 21),
+        b'M' => (21, 23),
+        b'N' => (23, 24),
+        b'O' => (24, 26),
+        b'P' => (26, 28),
+        b'Q' => (28, 29),
+        b'R' => (29, 32),
+        b'S' => (32, 33),
+        b'T' => (33, 36),
+        b'U' => (36, 37),
+        b'V' => (37, 38),
+        b'W' => (38, 40),
+        b'X' => (0, 0),
+        b'Y' => (0, 0),
+        b'Z' => (0, 0),
+        _ => (0, 40),
+    }
 }
 
 /// The kind of the symbol that is spelled so.

@@ -1,9 +1,11 @@
-//! What is a text of the language made of, and how are its names numbered?
+//! In which terms do all stages of the compiler speak?
 //!
-//! The terms are those of Wirth's report: a text is a sequence of lexemes, each the longest match at its
-//! place, and its tokens are the lexemes that aren't blanks. `specs/` has that definition (`Lexemes`,
-//! `Meanings`, `Tokens`) and the numbering of names (`Names`). The layers above use `Names` and `Token`,
-//! and the law that a text has one list of tokens.
+//! They are those of Wirth's report. A text is a sequence of lexemes, each the longest match at its place,
+//! and its tokens are the lexemes that aren't blanks (`specs/Lexemes`, `Meanings`, `Tokens`); names are
+//! numbers (`Names`). A text's tree has one type for each rule of the grammar (`trees`), seen as plain data
+//! (`specs/Trees`, `Views`). What a declaration says is a row at a place (`specs/Rows`), and a task searches
+//! the rows of the scopes through the trait `Scopes`, while other tasks still fill them (`specs/States`,
+//! `Scopes`). The layers above use `Names`, `Token`, the trees, the rows and the meanings of `Scopes`.
 #![tactic(auto)]
 
 mod kind;
@@ -11,14 +13,31 @@ mod laws;
 mod letters;
 mod memory;
 mod names;
+mod notes;
+mod outputs;
+mod replies;
+mod rows;
+mod scopes;
+mod sites;
+mod texts;
 mod token;
 mod trees;
 
 pub use kind::{TokenKind, reserved_kind, symbol_kind};
 pub use laws::one_list_of_tokens;
-pub use letters::{goes_on, is_blank, is_digit, is_letter};
+pub use letters::{
+    goes_on, is_blank, is_digit, is_hexadecimal_digit, is_letter, is_octal_digit, is_quote,
+    stays_in,
+};
 pub use memory::Memory;
 pub use names::Names;
+pub use notes::{Answer, Diag, Notes};
+pub use outputs::{HeadingNote, Output, ProcCode, StreamFault};
+pub use replies::{Ask, Chain, Head, Reply};
+pub use rows::{Mode, Place, Row, RowMeaning, read_row, write_row};
+pub use scopes::Scopes;
+pub use sites::{Around, Layout, Named, Site};
+pub use texts::{Text, Texts};
 pub use token::Token;
 pub use trees::{
     CaseArm, Decl, Designator, Expr, ExprForm, FieldList, Formal, Heading, Ident, IfArm, Import,

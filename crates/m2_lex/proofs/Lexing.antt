@@ -5,7 +5,7 @@ use Rattle.std.proofs.Math.Seq.{append_snoc}
 use Rattle.std.specs.Prelude.{◌==◌}
 use Rattle.std.specs.List.{AllZip}
 use Rattle.m2_base.specs.Lexemes.{AreLexemes, IsLongest}
-use Rattle.m2_base.specs.Meanings.{Meaning, blank, name, number, fixed, bad, meaning_of, is_blank_lexeme}
+use Rattle.m2_base.specs.Meanings.{Meaning, blank, name, number, character, string, fixed, bad, meaning_of, is_blank_lexeme}
 use Rattle.m2_base.specs.Names.{with_names}
 use Rattle.m2_base.specs.Positions.{Position, first_position, after_byte, after_bytes}
 use Rattle.m2_base.specs.Tokens.{Placed, placed_from, placed, names_of, names_in, IsToken, Means, AreTokens}
@@ -66,6 +66,8 @@ means-kept : (names more : List (List ℕ)) (m : Meaning) (token : Token) → Me
 means-kept names more blank token h = h
 means-kept names more (name text) token h = (h.0, number_in-append names more text token.value h.1)
 means-kept names more (number value) token h = h
+means-kept names more (character value) token h = h
+means-kept names more (string bytes) token h = (h.0, number_in-append names more bytes token.value h.1)
 means-kept names more (fixed kind) token h = h
 means-kept names more (bad code) token h = h
 
@@ -91,6 +93,8 @@ length-names_of : (m : Meaning) → length (names_of m) ≤ 1
 length-names_of blank = omega arith
 length-names_of (name text) = omega arith
 length-names_of (number value) = omega arith
+length-names_of (character value) = omega arith
+length-names_of (string bytes) = omega arith
 length-names_of (fixed kind) = omega arith
 length-names_of (bad code) = omega arith
 

@@ -1,4 +1,7 @@
 mod Digits
 mod Lexing
+mod LongestFrom
+mod LongestNumerals
 mod LongestRuns
+mod LongestStrings
 mod LongestSymbols

@@ -59,12 +59,6 @@ at_letter true letter x y z e l = cc
 at_letter false true x y z e l = refl
 at_letter false false x y z e l = cc
 
-at_digit : (blank letter digit w x y z : Bool) → blank ≡ false → letter ≡ false → digit ≡ true → cond blank w (cond letter x (cond digit y z)) ≡ y
-at_digit true letter digit w x y z e l d = cc
-at_digit false true digit w x y z e l d = cc
-at_digit false false true w x y z e l d = refl
-at_digit false false false w x y z e l d = cc
-
 or_first : (a b : Bool) → a ≡ true → (a || b) ≡ true
 or_first true b e = refl
 or_first false b e = cc
@@ -77,9 +71,3 @@ pub longest_word : (text : List ℕ) (n : ℕ) → is_blank (get_or text 0 0) �
 longest_word [] n blank letter h = absurd cc
 longest_word (b ∷ bs) n blank letter h =
     longest_run goes_on b bs n (or_first (is_letter b) (is_digit b) letter) (λ cs. at_letter (is_blank b) (is_letter b) _ (list_all goes_on cs) _ blank letter) h
-
-pub longest_number : (text : List ℕ) (n : ℕ) → is_blank (get_or text 0 0) ≡ false → is_letter (get_or text 0 0) ≡ false → is_digit (get_or text 0 0) ≡ true → n ≡ prefix_len is_digit text
-    → IsLongest (take n text) (drop n text)
-longest_number [] n blank letter digit h = absurd cc
-longest_number (b ∷ bs) n blank letter digit h =
-    longest_run is_digit b bs n digit (λ cs. at_digit (is_blank b) (is_letter b) (is_digit b) _ _ (list_all is_digit cs) _ blank letter digit) h

@@ -67,6 +67,13 @@ fn token_of(
             let number = names.intern(alloc, text)?;
             Ok(Some(position.token(at, TokenKind::Identifier, u64::from(number))))
         }
+        Meaning::String(bytes) => {
+            let number = names.intern(alloc, bytes)?;
+            Ok(Some(position.token(at, TokenKind::String, u64::from(number))))
+        }
+        Meaning::Character(value) => {
+            Ok(Some(position.token(at, TokenKind::Character, u64::from(value))))
+        }
         Meaning::Number(value) => Ok(Some(position.token(at, TokenKind::Number, u64::from(value)))),
         Meaning::Fixed(kind) => Ok(Some(position.token(at, kind, 0))),
         Meaning::Bad(code) => Ok(Some(position.token(at, TokenKind::Bad, code))),
@@ -113,8 +120,9 @@ pub fn lex(alloc: Global, text: &[u8], names: &mut Names) -> Result<Vec<Token>, 
     let mut tokens = Vec::new(alloc);
     let mut rest = text;
     let mut position = Position::first();
+    let mut plain = 0;
     while !rest.is_empty() {
-        let (lexeme, after) = rest.split_at(lexeme_len(rest));
+        let (lexeme, after) = rest.split_at(lexeme_len(rest, &mut plain));
         add_token(alloc, names, &mut tokens, lexeme, position)?;
         position = position.after(lexeme);
         rest = after;

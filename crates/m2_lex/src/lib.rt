@@ -5,10 +5,12 @@
 //! numbered on from those that it was given.
 #![tactic(auto)]
 
+mod comment;
 mod lexer;
 mod longest;
 mod meaning;
 mod position;
+mod runs;
 #[cfg(test)]
 mod tests;
 

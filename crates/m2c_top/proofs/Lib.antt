@@ -2,6 +2,7 @@ mod CodeSizes
 mod Ends
 mod Fronts
 mod Obeying
+mod OneOutcome
 mod Outcomes
 mod PlainTexts
 mod ReadSpelled

@@ -8,6 +8,7 @@ use Rattle.m2_base.specs.declared.token.Token.{Token}
 use Rattle.m2_base.proofs.OneReading.{one_list_of_lexemes}
 use Rattle.m2_base.proofs.OneList.{one_list_of_names, one_list_of_tokens}
 use Rattle.m2_lex.specs.Faults.{HasTooMany}
+use Rattle.m2c_top.specs.Bytes.{are_plain_bytes}
 use Rattle.m2c_top.specs.Grammar.{Spells}
 use Rattle.m2c_top.specs.Plain.{IsPlain, is_meant}
 use Rattle.m2c_top.specs.Reading.{module_at}
@@ -62,10 +63,11 @@ not_plain name text names tokens are none m plain =
     let these = these_tokens name text m names tokens are plain in
     both (is_meant names name m) these.1 (none m these.0)
 
-pub is_plain : (name text : List ℕ) (m : PlainModule) (names : List (List ℕ)) (tokens : List Token) → length text ≤ 1048576 → length tokens ≤ 1048576
+pub is_plain : (name text : List ℕ) (m : PlainModule) (names : List (List ℕ)) (tokens : List Token) → length text ≤ 1048576 → are_plain_bytes text ≡ true → length tokens ≤ 1048576
     → AreTokens standard_names names text tokens → Spells m (map symbol_of tokens) → is_meant names name m ≡ true → IsPlain name text m
-is_plain name text m names tokens short few are spells meant = record {
+is_plain name text m names tokens short bytes few are spells meant = record {
   short = short;
+  bytes = bytes;
   names = names;
   tokens = tokens;
   few = few;
@@ -76,11 +78,11 @@ is_plain name text m names tokens short few are spells meant = record {
 
 -- what the tokens tell of a text
 pub text_tells : {V E : Type 0} (view : V → PlainModule) (r : Result (Option V) E) (name text : List ℕ) (names : List (List ℕ)) (tokens : List Token)
-    → length text ≤ 1048576 → length tokens ≤ 1048576 → AreTokens standard_names names text tokens
+    → length text ≤ 1048576 → are_plain_bytes text ≡ true → length tokens ≤ 1048576 → AreTokens standard_names names text tokens
     → IfOk r (λ found. IfNone found ((m : PlainModule) → Spells m (map symbol_of tokens) → is_meant names name m ≡ false))
     → IfOk r (λ found. IfSome found (λ plain. Spells (view plain) (map symbol_of tokens)))
     → IfOk r (λ found. IfSome found (λ plain. is_meant names name (view plain) ≡ true))
     → IfOk r (λ found. MatchOption found ((m : PlainModule) → IsPlain name text m → ⊥) (λ plain. IsPlain name text (view plain)))
-text_tells view (Err e) name text names tokens short few are none spells meant = tt
-text_tells view (Ok None) name text names tokens short few are none spells meant = not_plain name text names tokens are none
-text_tells view (Ok (Some plain)) name text names tokens short few are none spells meant = is_plain name text (view plain) names tokens short few are spells meant
+text_tells view (Err e) name text names tokens short bytes few are none spells meant = tt
+text_tells view (Ok None) name text names tokens short bytes few are none spells meant = not_plain name text names tokens are none
+text_tells view (Ok (Some plain)) name text names tokens short bytes few are none spells meant = is_plain name text (view plain) names tokens short bytes few are spells meant

@@ -13,7 +13,7 @@ use Rattle.m2c_top.specs.declared.status.Status.{Status}
 use Rattle.m2c_top.specs.declared.status.Status.TheVariants.{Done, NoCommand, NoText, ReadFault, WriteFault, NoMemory, NotBuilt}
 use Rattle.m2c_top.proofs.Outcomes.{lacks_has, some_same}
 
-same_name : (words : List (List ℕ)) (a b : List ℕ) → Asks words (compile a) → Asks words (compile b) → a ≡ b
+pub same_name : (words : List (List ℕ)) (a b : List ℕ) → Asks words (compile a) → Asks words (compile b) → a ≡ b
 same_name words a b p q = second (codes "compile") (codes "compile") a b (sym p.0 ∙ q.0)
   where
     second : (u v x y : List ℕ) → u ∷ x ∷ [] ≡ v ∷ y ∷ [] → x ≡ y

@@ -5,6 +5,7 @@ use Rattle.std.specs.Str.{bytes_eq}
 use Rattle.m2_base.specs.Names.{standard_names}
 use Rattle.m2_base.specs.Tokens.{AreTokens}
 use Rattle.m2_base.specs.declared.token.Token.{Token}
+use Rattle.m2c_top.specs.Bytes.{are_plain_bytes}
 use Rattle.m2c_top.specs.Grammar.{Spells}
 use Rattle.m2c_top.specs.Sound.{is_sound}
 use Rattle.m2c_top.specs.Symbols.{symbol_of}
@@ -18,10 +19,11 @@ is_named names name number = option_map_or (bytes_eq name) (slice_get names numb
 abbrev pub is_meant : List (List ℕ) → List ℕ → PlainModule → Bool
 is_meant names name m = is_named names name m.name.name && is_named names name m.close.name && is_sound m
 
--- The text is that of this plain module with this name: it passes no limit, its tokens spell the module, and the module
--- is sound.
+-- The text is that of this plain module with this name: it passes no limit, it has only their bytes, its tokens
+-- spell the module, and the module is sound.
 pub record IsPlain (name text : List ℕ) (m : PlainModule) : Type 0 where
   pub short : length text ≤ 1048576
+  pub bytes : IsTrue (are_plain_bytes text)
   pub names : List (List ℕ)
   pub tokens : List Token
   pub few : length tokens ≤ 1048576

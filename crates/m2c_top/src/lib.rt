@@ -7,11 +7,13 @@
 
 mod code;
 mod command;
+mod laws;
 mod object;
 mod plain;
 mod status;
 mod top;
 
+pub use laws::one_outcome;
 pub use top::m2c;
 
 #[cfg(test)]

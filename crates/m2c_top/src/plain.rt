@@ -1,5 +1,6 @@
 //! The plain modules: INTEGER variables, and assignments of numbers, variables, and what one operator makes of two of them.
 
+mod bytes;
 mod check;
 mod reader;
 mod symbol;

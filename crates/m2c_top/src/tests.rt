@@ -97,84 +97,63 @@ fn compiles_plain_modules(rt: HostRuntime) -> Result<(), Fail> {
 #[test]
 fn says_what_it_cannot_do(rt: HostRuntime) -> Result<(), Fail> {
     let alloc = rt.alloc();
-    let table: [(&[&str], &str, u8, &str); 22] = [
-        (&[], EMPTY_MODULE, 2, USAGE),
-        (&["compile"], EMPTY_MODULE, 2, USAGE),
-        (&["compile", "A", "--workers", "65"], EMPTY_MODULE, 2, USAGE),
-        (&["Compile", "A"], EMPTY_MODULE, 2, USAGE),
-        (&["compile", "MODULE"], EMPTY_MODULE, 2, USAGE),
-        (&["compile", "InOut"], EMPTY_MODULE, 2, USAGE),
-        (&["compile", "1A"], EMPTY_MODULE, 2, USAGE),
-        (&["compile", "../A"], EMPTY_MODULE, 2, USAGE),
-        (&["compile", ""], EMPTY_MODULE, 2, USAGE),
-        (&["compile", "B"], EMPTY_MODULE, 3, "no text B.mod\n"),
-        (&["compile", "A"], "", 11, "not built yet\n"),
-        (
-            &["compile", "A"],
-            "MODULE A; VAR c: CHAR; END A.",
-            11,
-            "not built yet\n",
-        ),
-        (&["compile", "A"], "MODULE B; END B.", 11, "not built yet\n"),
-        (&["compile", "A"], "MODULE A; END B.", 11, "not built yet\n"),
-        (
-            &["compile", "A"],
-            "MODULE A; VAR x, x: INTEGER; END A.",
-            11,
-            "not built yet\n",
-        ),
-        (
-            &["compile", "A"],
-            "MODULE A; VAR CHAR: INTEGER; END A.",
-            11,
-            "not built yet\n",
-        ),
-        (
-            &["compile", "A"],
-            "MODULE A; VAR x: INTEGER; BEGIN y := x END A.",
-            11,
-            "not built yet\n",
-        ),
-        (
-            &["compile", "A"],
-            "MODULE A; VAR x: INTEGER; BEGIN x := y END A.",
-            11,
-            "not built yet\n",
-        ),
-        (
-            &["compile", "A"],
-            "MODULE A; VAR x: INTEGER; BEGIN x := 1 + 2 END A.",
-            11,
-            "not built yet\n",
-        ),
-        (
-            &["compile", "A"],
-            "MODULE A; VAR x: INTEGER; BEGIN x := 2147483648 END A.",
-            11,
-            "not built yet\n",
-        ),
-        (
-            &["compile", "A"],
-            "MODULE A; x: INTEGER; END A.",
-            11,
-            "not built yet\n",
-        ),
-        (
-            &["compile", "A"],
-            "MODULE A; END A. x",
-            11,
-            "not built yet\n",
-        ),
+    let table: [(&[&str], u8, &str); 12] = [
+        (&[], 2, USAGE),
+        (&["compile"], 2, USAGE),
+        (&["compile", "A", "--workers", "65"], 2, USAGE),
+        (&["Compile", "A"], 2, USAGE),
+        (&["compile", "MODULE"], 2, USAGE),
+        (&["compile", "InOut"], 2, USAGE),
+        (&["compile", "1A"], 2, USAGE),
+        (&["compile", "../A"], 2, USAGE),
+        (&["compile", ""], 2, USAGE),
+        (&["compile", "B"], 3, "no text B.mod\n"),
+        (&["compile", "InOut2"], 3, "no text InOut2.mod\n"),
+        (&["compile", "A"], 11, "not built yet\n"),
     ];
-    for (words, text, status, printed) in table {
-        let mut shelf = shelf_of(alloc, text.as_bytes(), &[], 0)?;
+    for (words, status, printed) in table {
+        let mut shelf = shelf_of(alloc, b"", &[], 0)?;
         let mut print = MemSink::new(alloc, Vec::new(alloc), 7, 1000)?;
         assert_eq!(rt;
             run(alloc, words, &mut shelf, &mut print)?,
             status,
+            "{words:?}"
+        );
+        assert!(rt; print.bytes() == printed.as_bytes(), "{words:?}");
+        assert!(rt; shelf.file("A.m2o").is_none(), "{words:?}");
+    }
+    Ok(())
+}
+
+#[test]
+fn builds_only_plain_texts(rt: HostRuntime) -> Result<(), Fail> {
+    let alloc = rt.alloc();
+    let table = [
+        "MODULE A; VAR c: CHAR; END A.",
+        "MODULE B; END B.",
+        "MODULE A; END B.",
+        "MODULE A; VAR x, x: INTEGER; END A.",
+        "MODULE A; VAR CHAR: INTEGER; END A.",
+        "MODULE A; VAR x: INTEGER; BEGIN y := x END A.",
+        "MODULE A; VAR x: INTEGER; BEGIN x := y END A.",
+        "MODULE A; VAR x: INTEGER; BEGIN x := 1 + 2 END A.",
+        "MODULE A; VAR x: INTEGER; BEGIN x := 2147483648 END A.",
+        "MODULE A; VAR x: INTEGER; BEGIN x := 1END A.",
+        "MODULE A; VAR x: INTEGER; BEGIN x := 17B END A.",
+        "MODULE A; VAR x: INTEGER; BEGIN x := (1) END A.",
+        "MODULE A; (* nothing *) END A.",
+        "MODULE A; x: INTEGER; END A.",
+        "MODULE A; END A. x",
+    ];
+    for text in table {
+        let mut shelf = shelf_of(alloc, text.as_bytes(), &[], 0)?;
+        let mut print = MemSink::new(alloc, Vec::new(alloc), 7, 1000)?;
+        assert_eq!(rt;
+            run(alloc, &["compile", "A"], &mut shelf, &mut print)?,
+            11,
             "{text}"
         );
-        assert!(rt; print.bytes() == printed.as_bytes(), "{text}");
+        assert!(rt; print.bytes() == b"not built yet\n".as_slice(), "{text}");
         assert!(rt; shelf.file("A.m2o").is_none(), "{text}");
     }
     Ok(())

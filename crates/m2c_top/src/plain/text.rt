@@ -9,6 +9,7 @@ ghost use Rattle.m2c_top.specs.Sound.{names_of};
 ghost use Rattle.m2c_top.specs.Symbols.{symbol_of};
 ghost use Rattle.m2c_top.specs.Trees.{module_view, PlainModule};
 
+use crate::plain::bytes::has_plain_bytes;
 use crate::plain::check::{Cells, is_sound_body};
 use crate::plain::reader::module_at;
 use crate::plain::tree::Module;
@@ -32,7 +33,7 @@ pub fn plain_module(alloc: Global, name: &[u8], text: &[u8]) -> Result<Option<Pl
     ensures cells { IfOk result (λ found. IfSome found (λ plain. plain.cells ≡ names_of plain.module.variables.items)) }
     ensures small { IfOk result (λ found. IfSome found (λ plain. vec_len plain.module.body ≤ 1048576)) }
 {
-    if text.len() > MOST_BYTES {
+    if text.len() > MOST_BYTES || !has_plain_bytes(text) {
         return Ok(None);
     }
     let mut names = Names::new(alloc)?;

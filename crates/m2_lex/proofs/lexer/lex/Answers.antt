@@ -1,13 +1,16 @@
-use Rattle.std.proofs.Common.{◌≡◌, ◌≤◌, ◌<◌, ◌++◌, List, ℕ, sym, ◌∙◌, ap, subst, arith, rules, length, drop, take}
+use Rattle.std.proofs.Common.{◌≡◌, ◌≤◌, ◌<◌, ◌++◌, List, ℕ, sym, ◌∙◌, ap, subst, arith, rules, length, drop, take, refl}
 use Rattle.std.proofs.lemmas.List.{take-append-drop}
 use Rattle.m2_base.specs.Lexemes.{IsLongest}
 use Rattle.m2_base.specs.Positions.{Position}
+use Rattle.m2_lex.specs.Ahead.{IsPlain}
 use Rattle.m2_lex.specs.Places.{place_of}
 use Rattle.m2_lex.proofs.Lexing.{IsLexing, lexing_begins, lexing_goes_on, lexing_ends, too_many, not_too_many}
+use Rattle.m2_lex.proofs.LongestNumerals.{nothing_ahead}
 use Rattle.m2_lex.proofs.lexer.lex.Goals as goal
 
 pub loop-rest-init : goal.loop-rest-init
-loop-rest-init c = lexing_begins c.args.names.now c.args.text.now c.prepare.new.self c.new-tokens.result.items (place_of c.first-position.result) c.prepare.ensures c.new-tokens.ensures.items c.first-position.ensures
+loop-rest-init c =
+    (lexing_begins c.args.names.now c.args.text.now c.prepare.new.self c.new-tokens.result.items (place_of c.first-position.result) c.prepare.ensures c.new-tokens.ensures.items c.first-position.ensures, nothing_ahead 0 c.args.text.now refl)
 
 pub loop-rest-preserved : goal.loop-rest-preserved
 loop-rest-preserved c =
@@ -23,24 +26,27 @@ loop-rest-preserved c =
     let position = place_of c.loop-rest.position in
     let new = c.add_token.new.names in
     let all = c.add_token.new.tokens.items in
-    subst (λ (p : Position). IsLexing c.args.names.now c.args.text.now new all p after) (sym c.after-position.ensures)
-    (lexing_goes_on c.args.names.now c.args.text.now c.loop-rest.names c.loop-rest.tokens.items position rest lexeme after new all
-    c.loop-rest.invariant parts some longest c.in_ok-add_token.ensures.names c.in_ok-add_token.ensures.token)
+    let plain : IsPlain c.lexeme_len.new.plain after = subst (IsPlain c.lexeme_len.new.plain) (sym back) c.lexeme_len.ensures.plain in (
+      subst (λ (p : Position). IsLexing c.args.names.now c.args.text.now new all p after) (sym c.after-position.ensures)
+          (lexing_goes_on c.args.names.now c.args.text.now c.loop-rest.names c.loop-rest.tokens.items position rest lexeme after new all
+          c.loop-rest.invariant.0 parts some longest c.in_ok-add_token.ensures.names c.in_ok-add_token.ensures.token),
+      plain,
+    )
 
 pub returns-then-len-eq-MOST_TOKENS-clause-too_many : goal.returns-then-len-eq-MOST_TOKENS-clause-too_many
 returns-then-len-eq-MOST_TOKENS-clause-too_many c =
     let none : length c.loop-rest.rest.now ≡ 0 = search rules in
     let many : length c.loop-rest.tokens.items ≡ 1048576 = search rules in
-    λ _. too_many c.args.names.now c.args.text.now c.loop-rest.names c.loop-rest.tokens.items (place_of c.loop-rest.position) c.loop-rest.rest.now c.loop-rest.invariant none many
+    λ _. too_many c.args.names.now c.args.text.now c.loop-rest.names c.loop-rest.tokens.items (place_of c.loop-rest.position) c.loop-rest.rest.now c.loop-rest.invariant.0 none many
 
 pub returns-clause-tokens : goal.returns-clause-tokens
 returns-clause-tokens c =
     let none : length c.loop-rest.rest.now ≡ 0 = search rules in
     lexing_ends c.args.names.now c.args.text.now c.loop-rest.names c.loop-rest.tokens.items (place_of c.loop-rest.position) c.loop-rest.rest.now c.add_token-2.new.names c.add_token-2.new.tokens.items
-    c.loop-rest.invariant none c.in_ok-add_token-2.ensures.names c.in_ok-add_token-2.ensures.token
+    c.loop-rest.invariant.0 none c.in_ok-add_token-2.ensures.names c.in_ok-add_token-2.ensures.token
 
 pub returns-clause-not_too_many : goal.returns-clause-not_too_many
 returns-clause-not_too_many c =
     let none : length c.loop-rest.rest.now ≡ 0 = search rules in
-    let few : length c.loop-rest.tokens.items < 1048576 = omega (arith, c.loop-rest.invariant.room, c.requires.short) in
-    λ _. not_too_many c.args.names.now c.args.text.now c.loop-rest.names c.loop-rest.tokens.items (place_of c.loop-rest.position) c.loop-rest.rest.now c.loop-rest.invariant none few
+    let few : length c.loop-rest.tokens.items < 1048576 = omega (arith, c.loop-rest.invariant.0.room, c.requires.short) in
+    λ _. not_too_many c.args.names.now c.args.text.now c.loop-rest.names c.loop-rest.tokens.items (place_of c.loop-rest.position) c.loop-rest.rest.now c.loop-rest.invariant.0 none few

@@ -3,7 +3,7 @@ use Rattle.std.proofs.lemmas.List.{length-map}
 use Rattle.std.proofs.lemmas.Option.{slice_get_read}
 use Rattle.std.proofs.lemmas.Slice.Eq.{bytes_eq-Decides}
 use Rattle.m2_base.specs.Names.{number_in}
-use Rattle.m2_base.proofs.Texts.{number_in-place}
+use Rattle.m2_base.proofs.NameTexts.{number_in-place}
 use Rattle.m2_base.proofs.names.Names.bytes.Goals as goal
 
 pub returns-clause-number : goal.returns-clause-number

@@ -3,7 +3,7 @@ use Rattle.std.specs.Prelude.{is_some, IsSome}
 use Rattle.std.specs.List.{list_any}
 use Rattle.std.specs.Str.{bytes_eq}
 use Rattle.m2_base.specs.Names.{with_name, number_in}
-use Rattle.m2_base.proofs.Texts.{number_in-map, number_in-place, number_in-lacks, with_name-there, with_name-new}
+use Rattle.m2_base.proofs.NameTexts.{number_in-map, number_in-place, number_in-lacks, with_name-there, with_name-new}
 use Rattle.m2_base.proofs.names.Names.intern.Goals as goal
 
 pub returns-in-Some-clause-number : goal.returns-in-Some-clause-number

@@ -2,7 +2,7 @@ use Rattle.std.proofs.Common.{List, [], ℕ, get_or, Bor, ◌≡◌, ◌∙◌, 
 use Rattle.std.proofs.lemmas.List.{length-map}
 use Rattle.m2_base.specs.Names.{with_name}
 use Rattle.m2_base.proofs.Numbers.{length-with_names}
-use Rattle.m2_base.proofs.Texts.{with_names-take}
+use Rattle.m2_base.proofs.NameTexts.{with_names-take}
 use Rattle.m2_base.proofs.names.Names.intern_all.Goals as goal
 
 -- what a read past the texts would give

@@ -1,5 +1,5 @@
 use Rattle.m2_base.specs.Names.{standard_names}
-use Rattle.m2_base.proofs.Texts.{from_none}
+use Rattle.m2_base.proofs.NameTexts.{from_none}
 use Rattle.m2_base.proofs.names.Names.new.Goals as goal
 
 -- the table of the code, numbered from none, is the definition's list

@@ -1,6 +1,6 @@
 use Rattle.std.proofs.Common.{◌≡◌, ◌∙◌, ap, map, subst, length, ◌<◌, ◌^◌, sym}
 use Rattle.indexmap.specs.IndexSet.{insert_all}
-use Rattle.m2_base.proofs.Texts.{insert_all-distinct, same_text}
+use Rattle.m2_base.proofs.NameTexts.{insert_all-distinct, same_text}
 use Rattle.m2_base.proofs.names.Names.prepare.Goals as goal
 use Rattle.m2_base.proofs.names.Names.prepare.Goals.{After-drop-self-inside-4}
 

@@ -1,6 +1,7 @@
-use Rattle.std.proofs.Common.{◌≡◌, ◌≤◌, ◌∙◌, ap, sym, subst, arith, rules, refl, length, vec_len, lit≤}
+use Rattle.std.proofs.Common.{◌≡◌, ◌≤◌, ◌∙◌, ap, sym, subst, arith, rules, refl, length, vec_len, lit≤, true}
 use Rattle.m2_base.specs.Names.{standard_names}
 use Rattle.m2_base.specs.Tokens.{AreTokens}
+use Rattle.m2c_top.specs.Bytes.{are_plain_bytes}
 use Rattle.m2c_top.specs.Trees.{module_view}
 use Rattle.m2c_top.proofs.PlainTexts.{too_many_plain, text_tells}
 use Rattle.m2c_top.proofs.plain.text.plain_module.Goals as goal
@@ -25,5 +26,6 @@ returns-clause-plain c =
     let are : AreTokens standard_names names c.args.text.now tokens =
     subst (λ old. AreTokens old names c.args.text.now tokens) c.in_ok-names.ensures (subst (AreTokens c.in_ok-names.names names c.args.text.now) (sym c.as_slice.ensures.value) lexed) in
     let within : length tokens ≤ 1048576 = omega (arith, few, c.as_slice.ensures.len) in
-    text_tells (λ plain. module_view plain.module) c.module_of.result c.args.name.now c.args.text.now names tokens short within are
+    let bytes : are_plain_bytes c.args.text.now ≡ true = sym c.has_plain_bytes.ensures ∙ c.if-not-has_plain_bytes.false in
+    text_tells (λ plain. module_view plain.module) c.module_of.result c.args.name.now c.args.text.now names tokens short bytes within are
     c.module_of.ensures.none c.module_of.ensures.spells c.module_of.ensures.meant

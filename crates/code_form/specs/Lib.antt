@@ -1,0 +1,6 @@
+pub mod Instructions
+pub mod Bytes
+pub mod Reading
+pub mod Heights
+pub mod Modules
+pub mod Valid

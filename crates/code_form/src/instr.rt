@@ -1,0 +1,94 @@
+//! Instructions.
+ghost use Rattle.std.specs.Prelude.{◌≡◌};
+ghost use Rattle.code_form.specs.Instructions.{line_of};
+
+use crate::effect::Effect;
+use crate::table::instructions;
+
+/// An instruction with its operands.
+#[derive(Clone, Copy, Debug, PartialEq, Eq)]
+pub enum Instr {
+    Push(i64),
+    Local(u32, u32),
+    Global(u32, u32),
+    Str(u32),
+    Load,
+    Store,
+    Move(u32),
+    Dup,
+    Offset(u32),
+    Index(i64, u32, u32),
+    IndexOpen(u32),
+    Check(i64, i64),
+    Nil,
+    Add(u8),
+    Sub(u8),
+    Mul(u8),
+    Div(u8),
+    Mod(u8),
+    Neg,
+    Abs,
+    Not,
+    Eq,
+    Ne,
+    Lt,
+    Le,
+    Gt,
+    Ge,
+    Union,
+    Diff,
+    Inter,
+    SymDiff,
+    Subset,
+    Superset,
+    In,
+    Bit,
+    Span,
+    Jump(i32),
+    JumpFalse(i32),
+    AndJump(i32),
+    OrJump(i32),
+    More(i64),
+    Call(u32, u32),
+    CallX(u32, u32),
+    CallVar(u32, u32),
+    Proc(u32, u32),
+    Return,
+    Trap(u8),
+    New(u32),
+    OpenCopy(u32, u32),
+    Halt,
+    Cap,
+}
+
+macro_rules! effect_arms {
+    (($i:ident) $($code:literal $name:ident $(($($x:ident: $kind:ident),*))? => $effect:expr;)*) => {
+        match $i {
+            $(Instr::$name $(($($x),*))? => $effect,)*
+        }
+    };
+}
+
+macro_rules! name_arms {
+    (($i:ident) $($code:literal $name:ident $(($($x:ident: $kind:ident),*))? => $effect:expr;)*) => {
+        match $i {
+            $(Instr::$name $(($($x),*))? => stringify!($name),)*
+        }
+    };
+}
+
+impl Instr {
+    /// What it does to the stack's height.
+    pub fn effect(&self) -> Effect
+        ensures { result ≡ (line_of self.now).effect }
+    {
+        instructions!(effect_arms(self))
+    }
+
+    /// Its name in the table.
+    pub fn name(&self) -> &'static str
+        ensures { result.now ≡ (line_of self.now).word }
+    {
+        instructions!(name_arms(self))
+    }
+}

@@ -1,0 +1,22 @@
+//! What is an instruction, and which bytes spell it?
+//!
+//! One table (`specs/Instructions`, `src/table.rt`) gives each instruction's opcode, name, operands and effect on the
+//! stack's height. From it come the bytes that spell an instruction, the instruction that bytes begin with, and its
+//! effect. No spelling begins another, so code is one list of instructions at most. The layers above use `encode` and
+//! `decode`, and the definition of valid code (`specs/Valid`).
+#![tactic(auto)]
+
+mod effect;
+mod instr;
+mod laws;
+mod read;
+mod table;
+#[cfg(test)]
+mod tests;
+mod write;
+
+pub use effect::Effect;
+pub use instr::Instr;
+pub use laws::{one_spelling, spelling_size};
+pub use read::decode;
+pub use write::encode;

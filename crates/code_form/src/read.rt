@@ -1,0 +1,121 @@
+//! From bytes to instructions.
+ghost use Rattle.std.specs.Prelude.{◌≡◌, ◌+◌, ◌≤◌, ◌<◌, List, ℕ, length, drop, Some, IfSome, IfNone};
+ghost use Rattle.code_form.specs.Instructions.{Instr as InstrOf};
+ghost use Rattle.code_form.specs.Bytes.{spelling, BeginsWith};
+ghost use Rattle.code_form.specs.Reading.{Reads, number_at, distance_at, value_at, flag_at, trap_at, count_at, instr_at, decoded};
+
+use crate::instr::Instr;
+use crate::table::instructions;
+
+fn number(bytes: &[u8]) -> Option<(u32, &[u8])>
+    ensures { Reads (λ x. (x.0, x.1.now)) result (number_at bytes.now) }
+{
+    if bytes.len() < 4 {
+        return None;
+    }
+    let (front, rest) = bytes.split_at(4);
+    let number = u32::from_le_bytes([front[0], front[1], front[2], front[3]]);
+    Some((number, rest))
+}
+
+#[tactic(auto, unfolding(crate::specs::Reading::distance_at))]
+fn distance(bytes: &[u8]) -> Option<(i32, &[u8])>
+    ensures { Reads (λ x. (x.0, x.1.now)) result (distance_at bytes.now) }
+{
+    let (number, rest) = number(bytes)?;
+    Some((number.cast_signed(), rest))
+}
+
+#[tactic(auto, unfolding(crate::specs::Reading::value_at))]
+fn value(bytes: &[u8]) -> Option<(i64, &[u8])>
+    ensures { Reads (λ x. (x.0, x.1.now)) result (value_at bytes.now) }
+{
+    if bytes.len() < 8 {
+        return None;
+    }
+    let (front, rest) = bytes.split_at(8);
+    let number = i64::from_le_bytes([
+        front[0], front[1], front[2], front[3], front[4], front[5], front[6], front[7],
+    ]);
+    if number < -2147483648 || number > 4294967295 {
+        return None;
+    }
+    Some((number, rest))
+}
+
+#[tactic(auto, unfolding(crate::specs::Reading::flag_at))]
+fn flag(bytes: &[u8]) -> Option<(u8, &[u8])>
+    ensures { Reads (λ x. (x.0, x.1.now)) result (flag_at bytes.now) }
+{
+    match bytes {
+        [b, rest @ ..] if *b < 2 => Some((*b, rest)),
+        _ => None,
+    }
+}
+
+#[tactic(auto, unfolding(crate::specs::Reading::trap_at))]
+fn trap(bytes: &[u8]) -> Option<(u8, &[u8])>
+    ensures { Reads (λ x. (x.0, x.1.now)) result (trap_at bytes.now) }
+{
+    match bytes {
+        [b, rest @ ..] if *b == 7 || *b == 8 => Some((*b, rest)),
+        _ => None,
+    }
+}
+
+#[tactic(auto, unfolding(crate::specs::Reading::count_at))]
+fn count(bytes: &[u8]) -> Option<(u32, &[u8])>
+    ensures { Reads (λ x. (x.0, x.1.now)) result (count_at bytes.now) }
+{
+    let (number, rest) = number(bytes)?;
+    if number == 0 {
+        return None;
+    }
+    Some((number, rest))
+}
+
+macro_rules! read_arms {
+    (($op:ident, $rest:ident) $($code:literal $name:ident $(($($x:ident: $kind:ident),*))? => $effect:expr;)*) => {
+        match $op {
+            $($code => {
+                $($(let ($x, $rest) = $kind($rest)?;)*)?
+                Some((Instr::$name $(($($x),*))?, $rest))
+            })*
+            0x00 => None,
+            0x34..=0xff => None,
+        }
+    };
+}
+
+#[tactic(auto, unfolding(crate::specs::Reading::instr_at, crate::specs::Reading::rows))]
+fn operands(op: u8, rest: &[u8]) -> Option<(Instr, &[u8])>
+    ensures { Reads (λ x. (x.0, x.1.now)) result (instr_at op rest.now) }
+{
+    instructions!(read_arms(op, rest))
+}
+
+#[tactic(auto, unfolding(crate::specs::Reading::decoded))]
+fn instr(bytes: &[u8]) -> Option<(Instr, &[u8])>
+    ensures { Reads (λ x. (x.0, x.1.now)) result (decoded bytes.now) }
+{
+    match bytes {
+        [] => None,
+        [op, rest @ ..] => operands(*op, rest),
+    }
+}
+
+/// The instruction at a place, and the place after it.
+pub fn decode(bytes: &[u8], at: usize) -> Option<(Instr, usize)>
+    requires { at ≤ length bytes.now }
+    ensures found { IfSome result (λ x. BeginsWith (drop at bytes.now) x.0 (drop x.1 bytes.now)) }
+    ensures after { IfSome result (λ x. (at < x.1) × (x.1 ≤ length bytes.now)) }
+    ensures none { IfNone result ((i : InstrOf) (rest : List ℕ) → BeginsWith (drop at bytes.now) i rest → ⊥) }
+    // What was encoded is decoded, whatever follows it.
+    ensures again { (i : InstrOf) (rest : List ℕ) → BeginsWith (drop at bytes.now) i rest → result ≡ Some (i, at + length (spelling i)) }
+{
+    let (_, rest) = bytes.split_at(at);
+    let Some((i, after)) = instr(rest) else {
+        return None;
+    };
+    Some((i, bytes.len() - after.len()))
+}

@@ -1,0 +1,149 @@
+//! The part that compiles a plain module.
+use crate::stopwatch::Stopwatch;
+use anyhow::{Context, Result};
+use m2_io::{MemShelf, MemSink, MemSource, NoGate};
+use m2c_top::m2c;
+use std::alloc::{AllocError, Global};
+use std::collections::BTreeMap;
+use std::fmt;
+use std::fmt::Write;
+use std::time::CpuClock;
+
+/// The bytes of a module without variables.
+const FRAME_BYTES: u32 = 27;
+
+/// How many bytes a module gets with each variable.
+const VARIABLE_BYTES: u32 = 43;
+
+/// How many bytes can be printed.
+const ROOM: usize = 1000;
+
+/// What a module was compiled to.
+#[derive(Clone, Copy)]
+struct Counts {
+    bytes: usize,
+    status: u8,
+    object_bytes: usize,
+}
+
+impl fmt::Display for Counts {
+    fn fmt<W: fmt::Write>(&self, f: &mut fmt::Formatter<W>) -> fmt::Result {
+        let Counts {
+            bytes,
+            status,
+            object_bytes,
+        } = *self;
+        write!(
+            f,
+            "compile: {bytes} bytes, status {status}, object of {object_bytes} bytes"
+        )
+    }
+}
+
+/// What a module of about so many bytes is compiled from.
+#[derive(Drop)]
+struct Desk {
+    words: Vec<String>,
+    bytes: usize,
+    shelf: MemShelf,
+    print: MemSink,
+    keys: MemSource,
+}
+
+impl Desk {
+    fn new(alloc: Global, bytes: u32) -> Result<Desk> {
+        let text = module_text(alloc, bytes)?;
+        Ok(Desk {
+            words: words(alloc)?,
+            bytes: text.len(),
+            shelf: shelf_of(alloc, text)?,
+            print: MemSink::new(alloc, Vec::new(alloc), ROOM, ROOM)
+                .ok()
+                .context("out of memory")?,
+            keys: MemSource::new(Vec::new(alloc), Vec::new(alloc)),
+        })
+    }
+
+    /// Compiles the module, and answers the status.
+    fn compile(&mut self, alloc: Global) -> u8 {
+        m2c(
+            &(),
+            alloc,
+            self.words.as_slice(),
+            &mut self.shelf,
+            &mut self.print,
+            &mut self.keys,
+            &NoGate,
+        )
+    }
+
+    fn counts(&self, status: u8) -> Counts {
+        Counts {
+            bytes: self.bytes,
+            status,
+            object_bytes: self.shelf.file("A.m2o").map_or(0, |object| object.len()),
+        }
+    }
+}
+
+/// Prints what a module is compiled to.
+pub fn print_counts<R: AllocGlobal + Print>(rt: &R, bytes: u32) -> Result<()> {
+    let mut desk = Desk::new(rt.alloc(), bytes)?;
+    let status = desk.compile(rt.alloc());
+    let counts = desk.counts(status);
+    println!(rt; "{counts}")?;
+    Ok(())
+}
+
+/// Prints what a module is compiled to, and in what time.
+pub fn print_time<R: AllocGlobal + Print + CpuClock>(rt: &R, bytes: u32) -> Result<()> {
+    let mut desk = Desk::new(rt.alloc(), bytes)?;
+    let stopwatch = Stopwatch::start(rt)?;
+    let status = desk.compile(rt.alloc());
+    let milliseconds = stopwatch.seconds(rt)? * 1e3;
+    let counts = desk.counts(status);
+    println!(rt; "{counts}, {milliseconds:.3} ms")?;
+    Ok(())
+}
+
+/// The words of the command.
+fn words(alloc: Global) -> Result<Vec<String>, AllocError> {
+    let mut words = Vec::new(alloc);
+    words.push(String::from_str(alloc, "compile")?)?;
+    words.push(String::from_str(alloc, "A")?)?;
+    Ok(words)
+}
+
+/// A shelf with the text of module A.
+fn shelf_of(alloc: Global, text: String) -> Result<MemShelf, AllocError> {
+    let mut files = BTreeMap::new(alloc);
+    files.insert(String::from_str(alloc, "A.mod")?, text.into_bytes())?;
+    Ok(MemShelf::new(files, Vec::new(alloc), 0))
+}
+
+/// A module with as many variables as find room in so many bytes, and an assignment to each.
+fn module_text(alloc: Global, bytes: u32) -> Result<String, AllocError> {
+    let variables = bytes.saturating_sub(FRAME_BYTES) / VARIABLE_BYTES;
+    let mut text = String::from_str(alloc, "MODULE A;\nVAR\n")?;
+    push_declarations(&mut text, variables)?;
+    text.push_str("BEGIN\n")?;
+    push_assignments(&mut text, variables)?;
+    text.push_str("END A.\n")?;
+    Ok(text)
+}
+
+fn push_declarations(text: &mut String, variables: u32) -> Result<(), AllocError> {
+    for number in 0..variables {
+        writeln!(text, "  v{number:05}: INTEGER;")?;
+    }
+    Ok(())
+}
+
+/// The first variable gets its value from the last, and so on.
+fn push_assignments(text: &mut String, variables: u32) -> Result<(), AllocError> {
+    for number in 0..variables {
+        let other = variables - 1 - number;
+        writeln!(text, "  v{number:05} := v{other:05} + 1;")?;
+    }
+    Ok(())
+}

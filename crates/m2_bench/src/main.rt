@@ -1,0 +1,62 @@
+//! How long does a call of one crate take, by the size of its input?
+//!
+//! `m2_bench lex KIND BYTES` times `lex` over a text of one kind, and `m2_bench compile BYTES` times `m2c compile A` over
+//! a plain module, both in memory. The inputs are made from the words, and the times are those of the processor. With no
+//! words a small run of each part prints its counts alone, which are the same at every run. Each part stands in a module
+//! of its own; a part to come adds a variant to `Command`.
+#![tactic(auto)]
+
+mod command;
+mod compiling;
+mod kind;
+mod lexing;
+mod stopwatch;
+
+use anyhow::Result;
+use command::{Command, USAGE};
+use kind::Kind;
+use std::env;
+use std::process::ExitCode;
+
+/// The status where the words are no command.
+const NO_COMMAND: u8 = 2;
+
+/// How many bytes each text of the small run has.
+const FEW_BYTES: u32 = 1000;
+
+fn main(rt: HostRuntime) -> Result<ExitCode> {
+    let words = words_of(&rt)?;
+    match Command::from_words(words.as_slice()) {
+        Some(command) => obey(&rt, command),
+        None => {
+            eprintln!(rt; "{USAGE}")?;
+            Ok(ExitCode::from(NO_COMMAND))
+        }
+    }
+}
+
+/// The words behind the program's name.
+fn words_of(rt: &HostRuntime) -> Result<Vec<String>> {
+    let mut words = Vec::new(rt.alloc());
+    for word in env::args(rt)?.skip(1) {
+        words.push(word)?;
+    }
+    Ok(words)
+}
+
+fn obey(rt: &HostRuntime, command: Command) -> Result<ExitCode> {
+    match command {
+        Command::Counts => print_counts(rt)?,
+        Command::Lex(kind, bytes) => lexing::print_time(rt, kind, bytes)?,
+        Command::Compile(bytes) => compiling::print_time(rt, bytes)?,
+    }
+    Ok(ExitCode::SUCCESS)
+}
+
+/// A small run of each part.
+fn print_counts(rt: &HostRuntime) -> Result<()> {
+    for kind in Kind::ALL {
+        lexing::print_counts(rt, kind, FEW_BYTES)?;
+    }
+    compiling::print_counts(rt, FEW_BYTES)
+}

@@ -1,0 +1,2 @@
+MODULE Empty;
+END Empty.
