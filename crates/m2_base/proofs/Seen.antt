@@ -33,7 +33,7 @@ use Rattle.m2_base.specs.declared.trees.statements.IfArm.{out-IfArm, roll-IfArm,
 use Rattle.m2_base.specs.declared.trees.statements.CaseArm.{out-CaseArm, roll-CaseArm, fold_out-CaseArm, fold-roll-CaseArm}
 use Rattle.m2_base.specs.Trees as plain
 use Rattle.m2_base.specs.Views.{type_view, type_form_view, field_list_view, variant_arm_view, statement_view, stmt_form_view, if_arm_view, case_arm_view, case_else_seen}
-use Rattle.m2_base.specs.Views.{expr_view, form_view, selector_view, designator_view, next_view, label_view, set_of, label_of}
+use Rattle.m2_base.specs.Views.{expr_view, form_view, selector_view, designator_view, next_view, label_view, set_with}
 
 -- Expressions.
 
@@ -49,12 +49,12 @@ pub next_seen : (n : expressions.Next.Next) → next_view n ≡ plain.next n.op 
 unfolding next_view expr_view
 next_seen n = fold_out-Next _ _ _ _ _ _ _ _ _ _ _ _ n
 
-pub label_made : (low : expressions.Expr.Expr) (high : Option expressions.Expr.Expr) → label_view (roll-Label (record { low = low; high = high })) ≡ label_of (expr_view low) (option_map expr_view high)
+pub label_made : (low : expressions.Expr.Expr) (high : Option expressions.Expr.Expr) → label_view (roll-Label (record { low = low; high = high })) ≡ plain.label_with (expr_view low) (option_map expr_view high)
 unfolding label_view expr_view
 label_made low None = fold-roll-Label _ _ _ _ _ _ _ _ _ _ _ _ (record { low = low; high = None })
 label_made low (Some high) = fold-roll-Label _ _ _ _ _ _ _ _ _ _ _ _ (record { low = low; high = Some high })
 
-pub label_seen : (l : expressions.Label.Label) → label_view l ≡ label_of (expr_view (out-Label l).low) (option_map expr_view (out-Label l).high)
+pub label_seen : (l : expressions.Label.Label) → label_view l ≡ plain.label_with (expr_view (out-Label l).low) (option_map expr_view (out-Label l).high)
 label_seen l = ap label_view (sym (roll-out-Label l)) ∙ label_made (out-Label l).low (out-Label l).high
 
 pub number_seen : (n : ℕ) → form_view (Number n) ≡ plain.number_form n
@@ -69,7 +69,7 @@ pub string_seen : (n : ℕ) → form_view (Str n) ≡ plain.string_form n
 unfolding form_view
 string_seen n = ap form_view (sym (rolls-Str n)) ∙ fold-roll-ExprForm _ _ _ _ _ _ _ _ _ _ _ _ _
 
-pub set_seen : (of : Option expressions.Designator.Designator) (items : Vec expressions.Label.Label Global) → form_view (Set of items) ≡ set_of (option_map designator_view of) (map label_view items.items)
+pub set_seen : (of : Option expressions.Designator.Designator) (items : Vec expressions.Label.Label Global) → form_view (Set of items) ≡ set_with (option_map designator_view of) (map label_view items.items)
 unfolding form_view designator_view label_view
 set_seen None items = ap form_view (sym (rolls-Set None items)) ∙ fold-roll-ExprForm _ _ _ _ _ _ _ _ _ _ _ _ _
 set_seen (Some d) items = ap form_view (sym (rolls-Set (Some d) items)) ∙ fold-roll-ExprForm _ _ _ _ _ _ _ _ _ _ _ _ _

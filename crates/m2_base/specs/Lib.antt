@@ -1,7 +1,10 @@
 pub mod Asks
 pub mod Comments
+pub mod ExpressionsOf
 pub mod Finished
 pub mod Gives
+pub mod Grammar
+pub mod KindNumbers
 pub mod Kinds
 pub mod Letters
 pub mod Lexemes
@@ -15,9 +18,12 @@ pub mod Rows
 pub mod Runs
 pub mod Scopes
 pub mod Standard
+pub mod StatementsOf
 pub mod States
+pub mod StreamsOf
 pub mod Tables
 pub mod Tokens
 pub mod Trees
+pub mod TypesOf
 pub mod Units
 pub mod Views

@@ -1,6 +1,6 @@
 -- The trees of a text, as plain data: what the parser gives, with lists of their own.
 -- Each part is a field; `at` is the first token, of an operator its own, of an empty statement the token after it.
-use Rattle.std.specs.Prelude.{ℕ, Bool, List, [], ◌∷◌, Option}
+use Rattle.std.specs.Prelude.{ℕ, Bool, List, [], ◌∷◌, Option, Some, None}
 pub use Rattle.m2_base.specs.declared.trees.Ident.{Ident}
 pub use Rattle.m2_base.specs.declared.trees.Qual.{Qual}
 pub use Rattle.m2_base.specs.declared.trees.operators.Operator.{Operator}
@@ -215,3 +215,21 @@ expr_at (expr at form) = at
 -- a type's first token
 abbrev pub type_at : TypeExpr → ℕ
 type_at (type_expr at form) = at
+
+-- a designator's first token
+abbrev pub designator_at : Designator → ℕ
+designator_at (designator first rest) = first.at
+
+-- one value, or a range
+abbrev pub label_with : Expr → Option Expr → Label
+label_with low None = one_label low
+label_with low (Some high) = range_label low high
+
+-- an expression and the operators behind it, or the expression alone where there are none
+abbrev pub with_operators : Expr → List Next → Expr
+with_operators first [] = first
+with_operators first (n ∷ ns) = expr (expr_at first) (many_form first (nexts (n ∷ ns)))
+
+-- an expression in round brackets, of which the first is this token
+abbrev pub in_brackets : ℕ → Expr → Expr
+in_brackets at (expr inner_at form) = expr at form

@@ -25,7 +25,7 @@ use Rattle.m2_base.specs.declared.trees.statements.StmtForm.TheOpen.{StmtForm-F,
 use Rattle.m2_base.specs.declared.trees.declarations as declarations
 use Rattle.m2_base.specs.declared.trees.declarations.Decl.TheVariants.{Const, Types, Vars, Proc}
 use Rattle.m2_base.specs.Trees as plain
-use Rattle.m2_base.specs.Trees.{Expr, expr, ExprForm, number_form, char_form, string_form, set_form, typed_set_form, name_form, call_form, one_form, many_form, exprs, Next, next, nexts, Designator, designator, Selector, field_selector, index_selector, deref_selector, selectors, Label, one_label, range_label, labels}
+use Rattle.m2_base.specs.Trees.{Expr, expr, ExprForm, number_form, char_form, string_form, set_form, typed_set_form, name_form, call_form, one_form, many_form, exprs, Next, next, nexts, Designator, designator, Selector, field_selector, index_selector, deref_selector, selectors, Label, label_with, labels}
 use Rattle.m2_base.specs.Trees.{TypeExpr, type_expr, TypeForm, named_type, enum_type, sub_type, array_type, record_type, set_type, pointer_type, proc_type, type_exprs, FieldList, plain_fields, case_fields, field_lists, VariantArm, variant_arm, variant_arms}
 use Rattle.m2_base.specs.Trees.{Statement, statement, StmtForm, assign_form, call_statement, if_form, loop_form, exit_form, case_form, while_form, repeat_form, for_form, with_form, return_form, empty_form, IfArm, if_arm, if_arms, CaseArm, case_arm, case_arms, CaseElse, no_case_else, case_else}
 use Rattle.m2_base.specs.Trees.{Decl, const_decl, type_decl, vars_decl, proc_decl}
@@ -33,20 +33,15 @@ use Rattle.m2_base.specs.Trees.{Decl, const_decl, type_decl, vars_decl, proc_dec
 -- Expressions.
 
 -- a set, with its type before the brackets or without
-abbrev pub set_of : Option Designator → List Label → ExprForm
-set_of None items = set_form (labels items)
-set_of (Some d) items = typed_set_form d (labels items)
-
--- one value, or a range
-abbrev pub label_of : Expr → Option Expr → Label
-label_of low None = one_label low
-label_of low (Some high) = range_label low high
+abbrev pub set_with : Option Designator → List Label → ExprForm
+set_with None items = set_form (labels items)
+set_with (Some d) items = typed_set_form d (labels items)
 
 abbrev pub form_step : ExprForm-F ExprForm Selector Designator Expr Label Next → ExprForm
 form_step (Number n) = number_form n
 form_step (Char c) = char_form c
 form_step (Str name) = string_form name
-form_step (Set of items) = set_of of items.items
+form_step (Set of items) = set_with of items.items
 form_step (Name d) = name_form d
 form_step (Call d args) = call_form d (exprs args.items)
 form_step (One op op_at e) = one_form op op_at e.value
@@ -64,7 +59,7 @@ abbrev pub expr_step : Expr-F ExprForm Selector Designator Expr Label Next → E
 expr_step e = expr e.at e.form
 
 abbrev pub label_step : Label-F ExprForm Selector Designator Expr Label Next → Label
-label_step l = label_of l.low l.high
+label_step l = label_with l.low l.high
 
 abbrev pub next_step : Next-F ExprForm Selector Designator Expr Label Next → Next
 next_step n = next n.op n.op_at n.right
