@@ -1,12 +1,9 @@
-<<<<<<< HEAD
 pub mod GrammarChecks
 mod KindTables
-=======
 pub mod FinishedLaws
 pub mod Kept
 pub mod KindTables
 mod NameTexts
->>>>>>> c129879b9384b22290ead50d008e20253f8bbd6c
 pub mod Numbers
 pub mod OneList
 pub mod OneReading
