@@ -1,5 +1,4 @@
 pub mod GrammarChecks
-mod KindTables
 pub mod FinishedLaws
 pub mod Kept
 pub mod KindTables
