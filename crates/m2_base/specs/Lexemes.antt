@@ -10,14 +10,14 @@ use Rattle.m2_base.specs.Runs.{is_run_and}
 -- digits; octal digits and `B`, or `C` for a character; or hexadecimal digits and `H`
 abbrev pub is_numeral : List ℕ → Bool
 is_numeral bytes =
-    is_run_and is_digit [] bytes
+    list_all is_digit bytes
     || is_run_and is_octal_digit (codes "B") bytes
     || is_run_and is_octal_digit (codes "C") bytes
     || is_run_and is_hexadecimal_digit (codes "H") bytes
 
 -- What follows the quote that opens a string: what it holds, and the quote that closes it, unless it is open.
 abbrev pub fills_string : ℕ → List ℕ → Bool
-fills_string quote bytes = is_run_and (stays_in quote) [] bytes || is_run_and (stays_in quote) (quote ∷ []) bytes
+fills_string quote bytes = list_all (stays_in quote) bytes || is_run_and (stays_in quote) (quote ∷ []) bytes
 
 -- Which bytes may follow the first one in a lexeme: blanks a blank, letters and digits a letter, the rest of a numeral a
 -- digit, the rest of a string a quote. Any other byte stands alone, or begins a symbol or a comment.

@@ -1,7 +1,7 @@
 -- Longest matches by the fronts of a text, and the runs among those.
-use Rattle.std.proofs.Common.{◌≡◌, ℕ, suc, zero, ◌+◌, ◌-◌, ◌<◌, ◌≤◌, Bool, true, false, cond, List, [], ◌∷◌, ◌++◌, length, take, drop, get_or, refl, sym, ◌∙◌, ap, arith}
-use Rattle.std.specs.Prelude.{nat_le}
-use Rattle.std.specs.List.{prefix_len}
+use Rattle.std.proofs.Common.{◌≡◌, ℕ, suc, zero, ◌+◌, ◌-◌, ◌<◌, ◌≤◌, Bool, true, false, cond, ◌&&◌, List, [], ◌∷◌, ◌++◌, length, take, drop, get_or, refl, sym, ◌∙◌, ap, arith}
+use Rattle.std.specs.Prelude.{nat_le, ◌||◌}
+use Rattle.std.specs.List.{list_all, prefix_len}
 use Rattle.std.proofs.Math.Seq.{take-append-add, drop-cons}
 use Rattle.std.proofs.lemmas.Bool.{leb-true, leb-false}
 use Rattle.std.proofs.lemmas.List.{get_or_past, take-append-drop, length-take, length-take-le, length-drop}
@@ -9,6 +9,18 @@ use Rattle.std.proofs.lemmas.List.Sums.{prefix_len-le-length}
 use Rattle.std.proofs.lemmas.Slice.Eq.{bytes_eq-Decides}
 use Rattle.m2_base.specs.Lexemes.{IsLongest, is_lexeme}
 use Rattle.m2_base.specs.Runs.{after_run, is_run_and}
+
+pub or_first : (a b : Bool) → a ≡ true → (a || b) ≡ true
+or_first true b e = refl
+or_first false b e = cc
+
+pub or_second : (a b : Bool) → b ≡ true → (a || b) ≡ true
+or_second true b e = refl
+or_second false b e = e
+
+pub and_false : (b : Bool) → (b && false) ≡ false
+and_false true = refl
+and_false false = refl
 
 pub false_from : (b : Bool) → (b ≡ true → ⊥) → b ≡ false
 false_from true no_such = absurd (no_such refl)
@@ -46,18 +58,21 @@ after_run-take p (suc m) (x ∷ xs) =
       | false ↦ let all : suc m - 0 ≡ suc m = omega arith in sym (ap (λ (n : ℕ). take n (x ∷ xs)) all)
     ]
 
--- a front is a run alone only up to the end of the run
-pub run_alone : (p : ℕ → Bool) (xs : List ℕ) (m : ℕ) → m ≤ length xs → is_run_and p [] (take m xs) ≡ true → m ≤ prefix_len p xs
-run_alone p xs m room h =
-    let r = prefix_len p xs in
-    let same : take (m - r) (drop r xs) ≡ [] = sym (after_run-take p m xs) ∙ (bytes_eq-Decides (after_run p (take m xs)) []).0 h in
-    omega (arith, ap length same, length-take (m - r) (drop r xs), length-drop r xs, prefix_len-le-length p xs)
+-- all of a front is of the class only up to the end of the run
+pub all_within : (p : ℕ → Bool) (xs : List ℕ) (m : ℕ) → m ≤ length xs → list_all p (take m xs) ≡ true → m ≤ prefix_len p xs
+all_within p xs zero room h = omega arith
+all_within p [] (suc m) room h = absurd (omega arith)
+all_within p (x ∷ xs) (suc m) room h = elim (p x) as (λ b. (b && list_all p (take m xs)) ≡ true → suc m ≤ cond b (1 + prefix_len p xs) 0) [
+  | true ↦ λ rest. omega (arith, all_within p xs m (omega arith) rest)
+  | false ↦ λ rest. absurd cc
+] h
 
-pub alone_spells : (p : ℕ → Bool) (xs : List ℕ) → is_run_and p [] (take (prefix_len p xs) xs) ≡ true
-alone_spells p xs =
-    let r = prefix_len p xs in
-    let none : r - r ≡ 0 = omega arith in
-    (bytes_eq-Decides (after_run p (take r xs)) []).1 (after_run-take p r xs ∙ ap (λ (n : ℕ). take n (drop r xs)) none)
+pub all_spells : (p : ℕ → Bool) (xs : List ℕ) → list_all p (take (prefix_len p xs) xs) ≡ true
+all_spells p [] = refl
+all_spells p (x ∷ xs) = elim (p x) as (λ b. p x ≡ b → list_all p (take (cond b (1 + prefix_len p xs) 0) (x ∷ xs)) ≡ true) [
+  | true ↦ λ e. ap (λ (n : ℕ). list_all p (take n (x ∷ xs))) (one_more (prefix_len p xs)) ∙ ap (λ (t : Bool). t && list_all p (take (prefix_len p xs) xs)) e ∙ all_spells p xs
+  | false ↦ λ e. refl
+] refl
 
 first_of_drop : (xs : List ℕ) (r : ℕ) → r < length xs → take 1 (drop r xs) ≡ get_or xs r 0 ∷ []
 first_of_drop xs r within = ap (take 1) (drop-cons xs r 0 within)

@@ -1,7 +1,7 @@
 -- The longest numeral.
 use Rattle.std.proofs.Common.{◌≡◌, ℕ, suc, zero, ◌+◌, ◌-◌, ◌<◌, ◌≤◌, Bool, true, false, cond, ◌&&◌, List, [], ◌∷◌, length, take, drop, get_or, refl, sym, ◌∙◌, ap, subst, arith}
 use Rattle.std.specs.Prelude.{◌||◌, ◌==◌, nat_le, codes}
-use Rattle.std.specs.List.{prefix_len}
+use Rattle.std.specs.List.{list_all, prefix_len}
 use Rattle.std.proofs.lemmas.Bool.{and_parts, leb-true, leb-false, le-leb, eqb-true, eq-eqb}
 use Rattle.std.proofs.lemmas.List.{get_or-drop}
 use Rattle.std.proofs.lemmas.List.Sums.{prefix_len-le-length}
@@ -10,7 +10,7 @@ use Rattle.m2_base.specs.Lexemes.{IsLongest, is_lexeme, is_numeral}
 use Rattle.m2_base.specs.Runs.{is_run_and}
 use Rattle.m2_lex.specs.Ahead.{ShowsH, IsPlain}
 use Rattle.m2_lex.specs.Numerals.{plain_length, behind_octal}
-use Rattle.m2_lex.proofs.LongestFrom.{false_from, longest_from, run_alone, alone_spells, run_and_one, one_spells, within_by}
+use Rattle.m2_lex.proofs.LongestFrom.{false_from, longest_from, and_false, or_first, or_second, all_within, all_spells, run_and_one, one_spells, within_by}
 
 -- a digit is no blank and no letter
 
@@ -22,10 +22,6 @@ le_false a b less = false_from (nat_le a b) (λ e. let h : a ≤ b = leb-true a 
 
 eq_false : (a b : ℕ) → (a ≡ b → ⊥) → (a == b) ≡ false
 eq_false a b differ = false_from (a == b) (λ e. differ (eqb-true a b e))
-
-and_false : (b : Bool) → (b && false) ≡ false
-and_false true = refl
-and_false false = refl
 
 digit_no_blank : (b : ℕ) → is_digit b ≡ true → is_blank b ≡ false
 digit_no_blank b e =
@@ -64,14 +60,6 @@ prefix_len-le p q more (x ∷ xs) = elim (p x) as (λ b. p x ≡ b → cond b (1
   | false ↦ λ e. omega arith
 ] refl
 
-or_first : (a b : Bool) → a ≡ true → (a || b) ≡ true
-or_first true b e = refl
-or_first false b e = cc
-
-or_second : (a b : Bool) → b ≡ true → (a || b) ≡ true
-or_second true b e = refl
-or_second false b e = e
-
 octal_is_digit : (x : ℕ) → is_octal_digit x ≡ true → is_digit x ≡ true
 octal_is_digit x e =
     let parts = and_parts (nat_le 48 x) (nat_le x 55) e in
@@ -98,8 +86,8 @@ no_numeral : (text : List ℕ) (m : ℕ) → m ≤ length text → prefix_len is
     → (m ≡ prefix_len is_octal_digit text + 1 → behind_octal text ≡ 66 → ⊥) → (m ≡ prefix_len is_octal_digit text + 1 → behind_octal text ≡ 67 → ⊥)
     → (m ≡ prefix_len is_hexadecimal_digit text + 1 → ShowsH text → ⊥) → is_numeral (take m text) ≡ false
 no_numeral text m room more no_number no_character no_hexadecimal =
-    none_of (is_run_and is_digit [] (take m text)) (is_run_and is_octal_digit (codes "B") (take m text)) (is_run_and is_octal_digit (codes "C") (take m text)) (is_run_and is_hexadecimal_digit (codes "H") (take m text))
-    (false_from (is_run_and is_digit [] (take m text)) (λ e. let h : m ≤ prefix_len is_digit text = run_alone is_digit text m room e in omega arith))
+    none_of (list_all is_digit (take m text)) (is_run_and is_octal_digit (codes "B") (take m text)) (is_run_and is_octal_digit (codes "C") (take m text)) (is_run_and is_hexadecimal_digit (codes "H") (take m text))
+    (false_from (list_all is_digit (take m text)) (λ e. let h : m ≤ prefix_len is_digit text = all_within is_digit text m room e in omega arith))
     (false_from (is_run_and is_octal_digit (codes "B") (take m text)) (λ e. let h = run_and_one is_octal_digit text 66 m room e in no_number h.0 h.1))
     (false_from (is_run_and is_octal_digit (codes "C") (take m text)) (λ e. let h = run_and_one is_octal_digit text 67 m room e in no_character h.0 h.1))
     (false_from (is_run_and is_hexadecimal_digit (codes "H") (take m text)) (λ e. let h = run_and_one is_hexadecimal_digit text 72 m room e in no_hexadecimal h.0 h.1))
@@ -140,14 +128,14 @@ longest_decimal : (text : List ℕ) → is_digit (get_or text 0 0) ≡ true → 
 longest_decimal text digit no_h no_b no_c =
     let d = prefix_len is_digit text in
     longest_from text d (prefix_len-le-length is_digit text)
-    (spelled_by text digit d (some_digits text digit) ∙ or_first _ _ (or_first _ _ (or_first _ _ (alone_spells is_digit text))))
+    (spelled_by text digit d (some_digits text digit) ∙ or_first _ _ (or_first _ _ (or_first _ _ (all_spells is_digit text))))
     (λ m more room. spelled_by text digit m (omega arith) ∙ no_numeral text m room more (λ e t. no_b t) (λ e t. no_c t) (λ e t. no_h t))
 
 number_spells : (xs : List ℕ) → is_run_and is_octal_digit (66 ∷ []) xs ≡ true → is_numeral xs ≡ true
-number_spells xs e = or_first _ _ (or_first _ _ (or_second (is_run_and is_digit [] xs) (is_run_and is_octal_digit (66 ∷ []) xs) e))
+number_spells xs e = or_first _ _ (or_first _ _ (or_second (list_all is_digit xs) (is_run_and is_octal_digit (66 ∷ []) xs) e))
 
 character_spells : (xs : List ℕ) → is_run_and is_octal_digit (67 ∷ []) xs ≡ true → is_numeral xs ≡ true
-character_spells xs e = or_first _ _ (or_second (is_run_and is_digit [] xs || is_run_and is_octal_digit (66 ∷ []) xs) (is_run_and is_octal_digit (67 ∷ []) xs) e)
+character_spells xs e = or_first _ _ (or_second (list_all is_digit xs || is_run_and is_octal_digit (66 ∷ []) xs) (is_run_and is_octal_digit (67 ∷ []) xs) e)
 
 not_eq : (a b : ℕ) → (a == b) ≡ false → a ≡ b → ⊥
 not_eq a b e same = let t : (a == b) ≡ true = eq-eqb a b same in cc

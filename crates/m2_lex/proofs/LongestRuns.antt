@@ -1,54 +1,26 @@
 -- A run of bytes of one class at the front is the longest match.
-use Rattle.std.proofs.Common.{◌≡◌, ℕ, suc, zero, ◌+◌, ◌<◌, ◌≤◌, Bool, true, false, cond, ◌&&◌, List, [], ◌∷◌, ◌++◌, length, take, drop, get_or, refl, sym, ◌∙◌, ap, subst, arith}
-use Rattle.std.specs.Prelude.{◌||◌}
+use Rattle.std.proofs.Common.{◌≡◌, ℕ, suc, zero, ◌+◌, ◌<◌, ◌≤◌, Bool, true, false, cond, ◌&&◌, List, [], ◌∷◌, take, drop, get_or, refl, sym, ◌∙◌, ap, subst, arith}
 use Rattle.std.specs.List.{list_all, prefix_len}
+use Rattle.std.proofs.lemmas.List.Sums.{prefix_len-le-length}
 use Rattle.m2_base.specs.Letters.{is_digit, is_letter, goes_on, is_blank}
 use Rattle.m2_base.specs.Lexemes.{IsLongest, is_lexeme}
+use Rattle.m2_lex.proofs.LongestFrom.{or_first, false_from, longest_from, all_within, all_spells}
 
--- the first n bytes are of the class, and the byte behind them, if there is one, isn't
-record IsRun (p : ℕ → Bool) (xs : List ℕ) (n : ℕ) : Type 0 where
-  passes : list_all p (take n xs) ≡ true
-  stops : (k : ℕ) → 0 < k → k ≤ length (drop n xs) → list_all p (take n xs ++ take k (drop n xs)) ≡ false
+some_first : (p : ℕ → Bool) (b : ℕ) (bs : List ℕ) → p b ≡ true → 0 < prefix_len p (b ∷ bs)
+some_first p b bs first = subst (λ (t : Bool). 0 < cond t (1 + prefix_len p bs) 0) (sym first) (omega arith)
 
-one_more : (n : ℕ) → 1 + n ≡ suc n
-one_more n = omega arith
-
-no_run : (p : ℕ → Bool) (x : ℕ) (xs : List ℕ) → p x ≡ false → IsRun p (x ∷ xs) 0
-no_run p x xs e = record {
-  passes = refl;
-  stops = λ k some room. first k some;
-}
-  where
-    first : (k : ℕ) → 0 < k → list_all p (take k (x ∷ xs)) ≡ false
-    first zero some = absurd (omega arith)
-    first (suc k) some = ap (λ b. b && list_all p (take k xs)) e
-
-longer_run : (p : ℕ → Bool) (x : ℕ) (xs : List ℕ) (n : ℕ) → p x ≡ true → IsRun p xs n → IsRun p (x ∷ xs) (suc n)
-longer_run p x xs n e run = record {
-  passes = ap (λ b. b && list_all p (take n xs)) e ∙ run.passes;
-  stops = λ k some room. ap (λ b. b && list_all p (take n xs ++ take k (drop n xs))) e ∙ run.stops k some room;
-}
-
-run_is : (p : ℕ → Bool) (xs : List ℕ) → IsRun p xs (prefix_len p xs)
-run_is p [] = record { passes = refl; stops = λ k some room. absurd (omega arith) }
-run_is p (x ∷ xs) = elim (p x) as (λ b. p x ≡ b → IsRun p (x ∷ xs) (cond b (1 + prefix_len p xs) 0)) [
-  | true ↦ λ e. subst (IsRun p (x ∷ xs)) (sym (one_more (prefix_len p xs))) (longer_run p x xs (prefix_len p xs) e (run_is p xs))
-  | false ↦ λ e. no_run p x xs e
-] refl
-
-counted : (p : ℕ → Bool) (b : ℕ) (bs : List ℕ) (n : ℕ) → p b ≡ true → n ≡ prefix_len p (b ∷ bs) → n ≡ suc (prefix_len p bs)
-counted p b bs n e h = h ∙ ap (λ t. cond t (1 + prefix_len p bs) 0) e ∙ one_more (prefix_len p bs)
-
--- a first byte of the class, and its run
+-- a first byte of the class, after which the bytes of the class go on
 longest_run : (p : ℕ → Bool) (b : ℕ) (bs : List ℕ) (n : ℕ) → p b ≡ true → ((cs : List ℕ) → is_lexeme (b ∷ cs) ≡ list_all p cs) → n ≡ prefix_len p (b ∷ bs) → IsLongest (take n (b ∷ bs)) (drop n (b ∷ bs))
-longest_run p b bs n first spells h =
-    let m = prefix_len p bs in
-    let run : IsRun p bs m = run_is p bs in
-    let longest : IsLongest (b ∷ take m bs) (drop m bs) = record {
-      spells = spells (take m bs) ∙ run.passes;
-      none_longer = λ k some room. spells (take m bs ++ take k (drop m bs)) ∙ run.stops k some room;
-    } in
-    subst (λ k. IsLongest (take k (b ∷ bs)) (drop k (b ∷ bs))) (sym (counted p b bs n first h)) longest
+longest_run p b bs n first continues count =
+    let r = prefix_len p (b ∷ bs) in
+    subst (λ (k : ℕ). IsLongest (take k (b ∷ bs)) (drop k (b ∷ bs))) (sym count)
+    (longest_from (b ∷ bs) r (prefix_len-le-length p (b ∷ bs))
+    (spells r (some_first p b bs first) ∙ all_spells p (b ∷ bs))
+    (λ m more room. spells m (omega arith) ∙ false_from (list_all p (take m (b ∷ bs))) (λ e. let h : m ≤ r = all_within p (b ∷ bs) m room e in omega arith)))
+  where
+    spells : (m : ℕ) → 0 < m → is_lexeme (take m (b ∷ bs)) ≡ list_all p (take m (b ∷ bs))
+    spells zero some = absurd (omega arith)
+    spells (suc k) some = continues (take k bs) ∙ sym (ap (λ (t : Bool). t && list_all p (take k bs)) first)
 
 at_blank : (blank x y : Bool) → blank ≡ true → cond blank x y ≡ x
 at_blank true x y e = refl
@@ -58,10 +30,6 @@ at_letter : (blank letter x y z : Bool) → blank ≡ false → letter ≡ true 
 at_letter true letter x y z e l = cc
 at_letter false true x y z e l = refl
 at_letter false false x y z e l = cc
-
-or_first : (a b : Bool) → a ≡ true → (a || b) ≡ true
-or_first true b e = refl
-or_first false b e = cc
 
 pub longest_blanks : (text : List ℕ) (n : ℕ) → is_blank (get_or text 0 0) ≡ true → n ≡ prefix_len is_blank text → IsLongest (take n text) (drop n text)
 longest_blanks [] n blank h = absurd cc

@@ -1,7 +1,7 @@
 -- The longest string, and the longest comment.
 use Rattle.std.proofs.Common.{◌≡◌, ◌⊎◌, inl, inr, ℕ, suc, zero, ◌+◌, ◌-◌, ◌<◌, ◌≤◌, Bool, true, false, cond, List, [], ◌∷◌, ◌++◌, length, take, drop, get_or, Option, Some, None, refl, sym, ◌∙◌, ap, subst, arith, length-append}
 use Rattle.std.specs.Prelude.{◌||◌, ◌==◌, unwrap_or, MatchOption}
-use Rattle.std.specs.List.{prefix_len}
+use Rattle.std.specs.List.{list_all, prefix_len}
 use Rattle.std.specs.Str.{bytes_eq}
 use Rattle.std.proofs.Math.Seq.{take-append_seam, take-length, drop-cons}
 use Rattle.std.proofs.lemmas.Bool.{eqb-true, eq-eqb}
@@ -12,7 +12,7 @@ use Rattle.m2_base.specs.Comments.{Depth, one_further, in_comment, after_comment
 use Rattle.m2_base.specs.Letters.{is_quote, stays_in}
 use Rattle.m2_base.specs.Lexemes.{IsLongest, is_lexeme, fills_string}
 use Rattle.m2_base.specs.Runs.{is_run_and}
-use Rattle.m2_lex.proofs.LongestFrom.{false_from, longest_from, run_alone, alone_spells, run_and_one, one_spells, within_by}
+use Rattle.m2_lex.proofs.LongestFrom.{false_from, longest_from, or_first, or_second, all_within, all_spells, run_and_one, one_spells, within_by}
 
 -- strings
 
@@ -38,18 +38,10 @@ string_by q bs e (suc k) some = let less : k ≡ suc k - 1 = omega arith in stri
 or_false_both : (a b : Bool) → a ≡ false → b ≡ false → (a || b) ≡ false
 or_false_both a b ea eb = ap (λ (t : Bool). t || b) ea ∙ eb
 
-or_first : (a b : Bool) → a ≡ true → (a || b) ≡ true
-or_first true b e = refl
-or_first false b e = cc
-
-or_second : (a b : Bool) → b ≡ true → (a || b) ≡ true
-or_second true b e = refl
-or_second false b e = e
-
 no_string : (q : ℕ) (bs : List ℕ) (k : ℕ) → k ≤ length bs → prefix_len (stays_in q) bs < k → (k ≡ prefix_len (stays_in q) bs + 1 → get_or bs (prefix_len (stays_in q) bs) 0 ≡ q → ⊥) → fills_string q (take k bs) ≡ false
 no_string q bs k room more not_closed =
-    or_false_both (is_run_and (stays_in q) [] (take k bs)) (is_run_and (stays_in q) (q ∷ []) (take k bs))
-    (false_from (is_run_and (stays_in q) [] (take k bs)) (λ e. let h : k ≤ prefix_len (stays_in q) bs = run_alone (stays_in q) bs k room e in omega arith))
+    or_false_both (list_all (stays_in q) (take k bs)) (is_run_and (stays_in q) (q ∷ []) (take k bs))
+    (false_from (list_all (stays_in q) (take k bs)) (λ e. let h : k ≤ prefix_len (stays_in q) bs = all_within (stays_in q) bs k room e in omega arith))
     (false_from (is_run_and (stays_in q) (q ∷ []) (take k bs)) (λ e. let h = run_and_one (stays_in q) bs q k room e in not_closed h.0 h.1))
 
 longest_closed : (q : ℕ) (bs : List ℕ) → is_quote q ≡ true → get_or bs (prefix_len (stays_in q) bs) 0 ≡ q
@@ -60,7 +52,7 @@ longest_closed q bs e closed =
     let inner : 2 + r - 1 ≡ r + 1 = omega arith in
     longest_from (q ∷ bs) (2 + r) (omega arith)
     (string_by q bs e (2 + r) (omega arith) ∙ ap (λ (n : ℕ). fills_string q (take n bs)) inner
-    ∙ or_second (is_run_and (stays_in q) [] (take (r + 1) bs)) _ (one_spells (stays_in q) bs q within closed))
+    ∙ or_second (list_all (stays_in q) (take (r + 1) bs)) _ (one_spells (stays_in q) bs q within closed))
     (λ m more room. string_by q bs e m (omega arith) ∙ no_string q bs (m - 1) (omega arith) (omega arith) (λ f s. omega (arith, more, f)))
 
 longest_open : (q : ℕ) (bs : List ℕ) → is_quote q ≡ true → (get_or bs (prefix_len (stays_in q) bs) 0 ≡ q → ⊥)
@@ -71,7 +63,7 @@ longest_open q bs e open_ =
     let inner : 1 + r - 1 ≡ r = omega arith in
     longest_from (q ∷ bs) (1 + r) (omega arith)
     (string_by q bs e (1 + r) (omega arith) ∙ ap (λ (n : ℕ). fills_string q (take n bs)) inner
-    ∙ or_first (is_run_and (stays_in q) [] (take r bs)) _ (alone_spells (stays_in q) bs))
+    ∙ or_first (list_all (stays_in q) (take r bs)) _ (all_spells (stays_in q) bs))
     (λ m more room. string_by q bs e m (omega arith) ∙ no_string q bs (m - 1) (omega arith) (omega arith) (λ f s. open_ s))
 
 behind_quote : (q : ℕ) (bs : List ℕ) (n : ℕ) → get_or (q ∷ bs) (1 + n) 0 ≡ get_or bs n 0

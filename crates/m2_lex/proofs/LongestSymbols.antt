@@ -9,11 +9,7 @@ use Rattle.m2_base.specs.Letters.{is_digit, is_letter, is_blank, is_quote}
 use Rattle.m2_base.specs.Lexemes.{IsLongest, is_lexeme}
 use Rattle.m2_base.proofs.KindTables.{kind_in-none}
 use Rattle.m2_lex.specs.Symbols.{symbol_length}
-use Rattle.m2_lex.proofs.LongestFrom.{false_from}
-
-and_false : (b : Bool) → (b && false) ≡ false
-and_false true = refl
-and_false false = refl
+use Rattle.m2_lex.proofs.LongestFrom.{and_false, false_from}
 
 no_long : (a b c : ℕ) (ds : List ℕ) → kind_in symbols (a ∷ b ∷ c ∷ ds) ≡ None
 no_long a b c ds = kind_in-none (λ xs. nat_le (length xs) 2) symbols (a ∷ b ∷ c ∷ ds) refl (false_from (nat_le (length (a ∷ b ∷ c ∷ ds)) 2) (λ e. let short : length (a ∷ b ∷ c ∷ ds) ≤ 2 = leb-true (length (a ∷ b ∷ c ∷ ds)) 2 e in omega arith))
