@@ -85,19 +85,19 @@ fn meant_cells(
     alloc: Global,
     names: &Names,
     name: &[u8],
-    module: &Module,
+    tree: &Module,
 ) -> Result<Option<Cells>, Memory>
-    requires { vec_len module.now.variables < 2 ^ 32 }
-    ensures meant { IfOk result (λ found. MatchOption found (is_meant names.now name.now (module_view module.now) ≡ false) (λ _. is_meant names.now name.now (module_view module.now) ≡ true)) }
-    ensures cells { IfOk result (λ found. IfSome found (λ cells. cells ≡ names_of module.now.variables.items)) }
+    requires { vec_len tree.now.variables < 2 ^ 32 }
+    ensures meant { IfOk result (λ found. MatchOption found (is_meant names.now name.now (module_view tree.now) ≡ false) (λ _. is_meant names.now name.now (module_view tree.now) ≡ true)) }
+    ensures cells { IfOk result (λ found. IfSome found (λ cells. cells ≡ names_of tree.now.variables.items)) }
 {
-    if !is_named(names, name, module.name.name) || !is_named(names, name, module.close.name) {
+    if !is_named(names, name, tree.name.name) || !is_named(names, name, tree.close.name) {
         return Ok(None);
     }
-    let Some(cells) = Cells::of(alloc, module.variables.as_slice())? else {
+    let Some(cells) = Cells::of(alloc, tree.variables.as_slice())? else {
         return Ok(None);
     };
-    if is_sound_body(&cells, module.body.as_slice()) {
+    if is_sound_body(&cells, tree.body.as_slice()) {
         Ok(Some(cells))
     } else {
         Ok(None)
