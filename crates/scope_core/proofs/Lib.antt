@@ -1,0 +1,5 @@
+pub mod Filling
+pub mod KeptTables
+pub mod Runs
+pub mod Searching
+pub mod Settling

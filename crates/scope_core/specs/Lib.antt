@@ -1,0 +1,4 @@
+pub mod Events
+pub mod Heads
+pub mod Kept
+pub mod PlainScopes
