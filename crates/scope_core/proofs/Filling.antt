@@ -1,20 +1,20 @@
 -- what entering and completing leave of tables that nobody else changes
-use Rattle.std.proofs.Common.{◌≡◌, ◌≢◌, ℕ, ◌<◌, ◌≤◌, ◌+◌, ◌-◌, ◌^◌, Bool, true, false, List, [], ◌∷◌, ◌++◌, Option, Some, None, length, get_or, take, drop, map, refl, sym, ◌∙◌, ap, subst, arith, ◌⊎◌, inl, inr, suc, zero, get_or-set_same, get_or-set_other, length-append, replicate, lit<}
+use Rattle.std.proofs.Common.{◌≡◌, ℕ, ◌<◌, ◌≤◌, ◌+◌, ◌-◌, ◌^◌, Bool, true, List, [], ◌∷◌, ◌++◌, Some, length, get_or, take, drop, refl, sym, ◌∙◌, ap, subst, arith, ◌⊎◌, inl, inr, suc, zero, get_or-set_same, get_or-set_other, length-append, replicate, lit<}
 use Rattle.std.specs.List.{slice_get}
 use Rattle.std.proofs.Math.ListN.{set}
 use Rattle.std.proofs.lemmas.List.{length-set, set-get_or, length-replicate}
-use Rattle.std.proofs.lemmas.Bool.{cases_eq, cases_lt, false≢true}
+use Rattle.std.proofs.lemmas.Bool.{cases_eq, false≢true}
 use Rattle.std.proofs.lemmas.Grind.{common_steps}
 use Rattle.m2_base.specs.declared.rows.Row.{Row}
-use Rattle.m2_base.specs.Finished.{IsTold, finished}
+use Rattle.m2_base.specs.Finished.{finished}
 use Rattle.m2_base.specs.Rows.{at_place, IsWellFormed}
 use Rattle.m2_base.specs.Standard.{standard_rows}
 use Rattle.m2_base.specs.Units.{UnitTexts, IsUnit}
 use Rattle.m2_base.proofs.FinishedLaws.{finished-standard}
 use Rattle.m2_base.proofs.StandardLaws.{IsWellFormed-standard, HasNoRepeats-standard, HasNoRepeats-test}
-use Rattle.m2_base.specs.Lists.{IsPrefixOf, HasNoRepeats}
+use Rattle.m2_base.specs.Lists.{HasNoRepeats}
 use Rattle.m2_base.specs.Tables.{Table, table_at, rows_at, no_rows, head_of}
-use Rattle.m2_base.specs.States.{State, Setting, Frame, IsLater, mark_of}
+use Rattle.m2_base.specs.States.{Setting, Frame, IsLater, mark_of}
 use Rattle.m2_base.specs.Scopes.{CanEnter, Entered, CanComplete, Completed}
 use Rattle.m2_base.proofs.Kept.{IsPrefixOf-refl, IsLater-refl}
 use Rattle.scope_core.specs.declared.kept.Kept.{Kept}

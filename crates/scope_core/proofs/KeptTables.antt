@@ -1,13 +1,11 @@
 -- tables and rooms of what the code keeps
-use Rattle.std.proofs.Common.{◌≡◌, ◌≢◌, ℕ, ◌<◌, ◌≤◌, ◌+◌, ◌^◌, Bool, true, false, List, [], ◌∷◌, ◌++◌, length, get_or, map, refl, sym, ◌∙◌, ap, subst, arith, ◌⊎◌, inl, inr, Vec, vec_capacity, suc, zero, replicate, lit<, get_or-set_same, get_or-set_other, length-append}
+use Rattle.std.proofs.Common.{◌≡◌, ℕ, ◌<◌, ◌≤◌, ◌+◌, ◌^◌, false, List, [], ◌∷◌, ◌++◌, length, get_or, refl, sym, ◌∙◌, ap, subst, arith, vec_capacity, suc, zero, replicate, lit<, length-append}
 use Rattle.std.proofs.Math.ListN.{set}
 use Rattle.std.proofs.lemmas.List.{map-set, map-append}
-use Rattle.std.proofs.lemmas.Bool.{cases_eq}
-use Rattle.std.specs.Global.{Global}
 use Rattle.m2_base.specs.declared.rows.Row.{Row}
 use Rattle.m2_base.specs.Tables.{Table, table_at, no_rows}
 use Rattle.scope_core.specs.declared.kept.Kept.{Kept}
-use Rattle.scope_core.specs.Kept.{table_of, tables_in, rooms_in, with_rows, completed}
+use Rattle.scope_core.specs.Kept.{table_of, tables_in, rooms_in, with_rows}
 
 pub at_kept : (kept : List Kept) (i : ℕ) (d : Kept) → i < length kept → table_at (tables_in kept) i ≡ table_of (get_or kept i d)
 at_kept [] i d h = absurd (omega arith)

@@ -1,4 +1,5 @@
 pub mod Filling
+pub mod Flying
 pub mod KeptTables
 pub mod Runs
 pub mod Searching

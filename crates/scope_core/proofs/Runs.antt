@@ -1,10 +1,9 @@
 -- a run that has happened in part
-use Rattle.std.proofs.Common.{◌≡◌, ℕ, ◌<◌, ◌+◌, List, [], ◌∷◌, ◌++◌, length, get_or, refl, sym, ◌∙◌, ap, subst, arith, append_assoc, suc}
+use Rattle.std.proofs.Common.{◌≡◌, ℕ, ◌<◌, List, [], ◌∷◌, ◌++◌, length, get_or, refl, sym, ◌∙◌, ap, subst, arith, append_assoc}
 use Rattle.std.specs.List.{remove}
-use Rattle.m2_base.specs.declared.replies.Reply.{Reply}
 use Rattle.m2_base.specs.Tables.{Table, table_at, one_thread}
 use Rattle.scope_core.specs.declared.event.Event.{Event}
-use Rattle.scope_core.specs.Events.{after, after_all, IsRun, IsPartOf, AreCountable, Stays, IsLawful}
+use Rattle.scope_core.specs.Events.{after, after_all, IsRun, AreCountable, Stays}
 use Rattle.scope_core.proofs.Settling.{IsGrown, IsGrown-trans, after_grows, one_thread_stays, run_grows, grown_rows}
 
 pub record Part (before tables : List Table) (whole rest : List Event) : Type 0 where

@@ -1,8 +1,7 @@
 -- what a search in tables that nobody else changes shows
-use Rattle.std.proofs.Common.{◌≡◌, ◌≢◌, ℕ, ◌<◌, ◌≤◌, ◌+◌, ◌-◌, ◌^◌, Bool, true, false, ◌==◌, List, [], ◌∷◌, ◌++◌, Option, Some, None, length, get_or, refl, sym, ◌∙◌, ap, subst, arith, ◌⊎◌, inl, inr, suc, zero, if◌then◌else◌}
+use Rattle.std.proofs.Common.{◌≡◌, ℕ, ◌≤◌, ◌+◌, Bool, true, false, ◌==◌, List, [], ◌∷◌, ◌++◌, Option, Some, None, length, refl, sym, ap, subst, arith, ◌⊎◌, inl, inr, suc, zero, if◌then◌else◌}
 use Rattle.std.specs.List.{slice_get}
-use Rattle.std.proofs.lemmas.Option.{slice_get_within, slice_get-get_or}
-use Rattle.std.proofs.lemmas.Bool.{cases_lt}
+use Rattle.std.proofs.lemmas.Option.{slice_get_within}
 use Rattle.std.proofs.lemmas.Grind.{common_steps}
 use Rattle.m2_base.specs.declared.rows.Row.{Row}
 use Rattle.m2_base.specs.declared.rows.Place.{Place}
@@ -12,12 +11,10 @@ use Rattle.m2_base.specs.declared.replies.Reply.TheVariants.{Found, Absent, Dont
 use Rattle.m2_base.specs.declared.replies.Ask.{Ask}
 use Rattle.m2_base.specs.declared.replies.Ask.TheVariants.{Known, DontKnowYet as Waiting}
 use Rattle.m2_base.specs.Finished.{IsTold, finished}
-use Rattle.m2_base.specs.Rows.{at_place, IsWellFormed}
-use Rattle.m2_base.specs.Units.{UnitTexts}
-use Rattle.m2_base.specs.Lists.{IsIn, Each}
-use Rattle.m2_base.specs.Tables.{Table, table_at, rows_at, no_rows, head_of, first_named, one_thread, reply_or, reply_of_heads, Lacks}
-use Rattle.m2_base.specs.States.{State, IsLater, mark_of}
-use Rattle.m2_base.specs.Scopes.{IsLoaded, IsTaken, EndsAt, IsShown, IsFound, IsAbsent, IsUnknown, IsPast, IsFetched, IsNotYet, StopsAt, Replied, Searched, CanSearch, Fetches, Fetched, looks_of}
+use Rattle.m2_base.specs.Rows.{at_place}
+use Rattle.m2_base.specs.Lists.{Each}
+use Rattle.m2_base.specs.Tables.{table_at, rows_at, head_of, first_named, one_thread, reply_or, Lacks}
+use Rattle.m2_base.specs.Scopes.{IsLoaded, IsTaken, EndsAt, IsShown, StopsAt, Replied, Searched, Fetches, Fetched}
 use Rattle.m2_base.proofs.Kept.{IsLater-refl, Keeps-refl}
 use Rattle.scope_core.specs.Heads.{heads_of, heads_after, row_at, fetched_or}
 use Rattle.scope_core.specs.PlainScopes.{Plain, state_of, IsSoundly}

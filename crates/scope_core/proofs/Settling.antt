@@ -1,19 +1,17 @@
 -- replies that stay
-use Rattle.std.proofs.Common.{◌≡◌, ◌≢◌, ℕ, ◌<◌, ◌≤◌, ◌+◌, ◌^◌, Bool, true, false, ◌==◌, List, [], ◌∷◌, ◌++◌, Option, Some, None, length, get_or, take, refl, sym, ◌∙◌, ap, subst, arith, if◌then◌else◌, get_or-set_same, get_or-set_other, ◌⊎◌, inl, inr, length-append}
+use Rattle.std.proofs.Common.{◌≡◌, ◌≢◌, ℕ, ◌<◌, ◌≤◌, ◌+◌, Bool, true, false, ◌==◌, List, [], ◌∷◌, ◌++◌, Option, Some, None, length, take, refl, sym, ◌∙◌, ap, subst, arith, if◌then◌else◌, get_or-set_same, get_or-set_other, ◌⊎◌, inl, inr, length-append}
 use Rattle.std.proofs.lemmas.Bool.{cases_eq, false≢true}
 use Rattle.std.proofs.Math.ListN.{set}
 use Rattle.m2_base.specs.declared.rows.Row.{Row}
 use Rattle.m2_base.specs.declared.rows.Place.{Place}
-use Rattle.m2_base.specs.Rows.{at_place}
 use Rattle.m2_base.specs.declared.replies.Head.{Head}
 use Rattle.m2_base.specs.declared.replies.Reply.{Reply}
-use Rattle.m2_base.specs.declared.replies.Reply.TheVariants.{Found, Absent, DontKnowYet}
+use Rattle.m2_base.specs.declared.replies.Reply.TheVariants.{DontKnowYet}
 use Rattle.m2_base.specs.Lists.{IsPrefixOf}
-use Rattle.m2_base.specs.Tables.{Table, table_at, rows_at, first_named, one_thread, reply_or, found_or, lookup, Settles, reply_of_heads, head_of, no_rows}
+use Rattle.m2_base.specs.Tables.{Table, table_at, rows_at, first_named, one_thread, reply_or, found_or, lookup, Settles, reply_of_heads, head_of}
 use Rattle.m2_base.proofs.Kept.{IsPrefixOf-refl, IsPrefixOf-trans}
 use Rattle.scope_core.specs.declared.event.Event.{Event}
 use Rattle.scope_core.specs.declared.event.Event.TheVariants.{Enter, Complete}
-use Rattle.scope_core.specs.Kept.{with_rows, completed}
 use Rattle.scope_core.specs.Heads.{heads_of, heads_after}
 use Rattle.scope_core.specs.PlainScopes.{IsBegun}
 use Rattle.scope_core.specs.Events.{Stays, IsLawful, IsRun, after, after_all}

@@ -1,7 +1,6 @@
 -- Events, runs of them, and what they leave of tables.
 use Rattle.std.specs.Prelude.{◌≡◌, ◌≢◌, ℕ, ◌<◌, ◌≤◌, ◌^◌, false, List, [], ◌∷◌, ◌++◌, length}
 use Rattle.m2_base.specs.Lists.{HasNoRepeats, Each}
-use Rattle.m2_base.specs.declared.rows.Row.{Row}
 use Rattle.m2_base.specs.Tables.{Table, table_at}
 use Rattle.m2_base.specs.declared.replies.Reply.{Reply}
 use Rattle.m2_base.specs.declared.replies.Reply.TheVariants.{Found, Absent, DontKnowYet}

@@ -1,5 +1,5 @@
 -- What the code keeps of a scope, and how it changes.
-use Rattle.std.specs.Prelude.{ℕ, Bool, true, List, ◌++◌, map, slice_set, vec_capacity}
+use Rattle.std.specs.Prelude.{ℕ, true, List, ◌++◌, map, slice_set, vec_capacity}
 use Rattle.m2_base.specs.declared.rows.Row.{Row}
 use Rattle.m2_base.specs.Tables.{Table, table_at}
 use Rattle.scope_core.specs.declared.kept.Kept.{Kept}

@@ -1,5 +1,5 @@
 -- The Scopes of one thread: tables that nobody else changes.
-use Rattle.std.specs.Prelude.{◌≡◌, ℕ, ◌+◌, ◌-◌, ◌<◌, ◌≤◌, ◌^◌, true, List, ◌∷◌, length, slice_set, slice_index, slice_get, replicate, Some, None}
+use Rattle.std.specs.Prelude.{◌≡◌, ℕ, ◌-◌, ◌<◌, ◌≤◌, ◌^◌, true, List, ◌∷◌, length, slice_set, slice_index, slice_get, replicate, Some, None}
 use Rattle.m2_base.specs.Finished.{IsTold, finished}
 use Rattle.m2_base.specs.Lists.{IsPrefixOf, HasNoRepeats}
 use Rattle.m2_base.specs.Rows.{at_place, IsWellFormed}

@@ -9,10 +9,12 @@
 #![tactic(auto)]
 
 mod event;
+mod flight;
 mod kept;
 mod plain_scopes;
 mod tables;
 
 pub use event::Event;
+pub use flight::{Flight, Load};
 pub use plain_scopes::PlainScopes;
 pub use tables::{Tables, look, settle, step};

@@ -1,4 +1,4 @@
-use Rattle.std.proofs.Common.{refl, sym, ap, true, rules}
+use Rattle.std.proofs.Common.{refl}
 use Rattle.std.proofs.lemmas.Result.{err_from_is_err_and}
 use Rattle.scope_core.proofs.KeptTables.{same_kept, add_kept, rooms_grow}
 use Rattle.scope_core.proofs.kept.add_rows.Goals as goal

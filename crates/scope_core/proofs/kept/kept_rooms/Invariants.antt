@@ -1,6 +1,4 @@
-use Rattle.std.proofs.Common.{◌≡◌, ℕ, ◌≤◌, take, replicate, slice_index, vec_len}
-use Rattle.m2_base.specs.Tables.{no_rows}
-use Rattle.scope_core.specs.Kept.{tables_in, rooms_in}
+use Rattle.std.proofs.Common.{take}
 use Rattle.scope_core.proofs.KeptTables.{HaveRooms}
 use Rattle.scope_core.proofs.kept.kept_rooms.Given as goal
 

@@ -1,4 +1,4 @@
-use Rattle.std.proofs.Common.{refl, sym, ap, arith}
+use Rattle.std.proofs.Common.{refl, arith}
 use Rattle.std.proofs.lemmas.Grind.{common_steps}
 use Rattle.scope_core.proofs.Runs.{part_step, part_stays, part_countable}
 use Rattle.scope_core.proofs.tables.settle.Goals as goal

@@ -1,4 +1,4 @@
-use Rattle.std.proofs.Common.{rules, ◌≡◌, ◌<◌, ◌^◌, ℕ, get_or, sym, subst, arith}
+use Rattle.std.proofs.Common.{rules, ◌≡◌, sym, subst, arith}
 use Rattle.scope_core.specs.Kept.{tables_in, rooms_in}
 use Rattle.scope_core.specs.PlainScopes.{IsHoused}
 use Rattle.scope_core.proofs.Filling.{started_housed}

@@ -1,4 +1,4 @@
-use Rattle.std.proofs.Common.{◌≡◌, replicate, vec_len, ◌≤◌}
+use Rattle.std.proofs.Common.{◌≡◌, replicate}
 use Rattle.m2_base.specs.Tables.{no_rows}
 use Rattle.scope_core.specs.Kept.{tables_in}
 use Rattle.scope_core.proofs.tables.Tables.new.Given as goal
