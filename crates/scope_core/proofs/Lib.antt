@@ -1,0 +1,6 @@
+pub mod Filling
+pub mod Flying
+pub mod KeptTables
+pub mod Runs
+pub mod Searching
+pub mod Settling
