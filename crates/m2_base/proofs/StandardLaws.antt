@@ -152,11 +152,11 @@ IsWellFormed-standard names begin k r e =
         omega (arith, all, standard_count)
 
 -- the number is that of none of these
-abbrev is_new : {A : Type 0} → (A → ℕ) → ℕ → List A → Bool
+abbrev pub is_new : {A : Type 0} → (A → ℕ) → ℕ → List A → Bool
 is_new number n [] = true
 is_new number n (y ∷ ys) = not (n == number y) && is_new number n ys
 
-abbrev are_new : {A : Type 0} → (A → ℕ) → List A → Bool
+abbrev pub are_new : {A : Type 0} → (A → ℕ) → List A → Bool
 are_new number [] = true
 are_new number (x ∷ xs) = (number x == 0 || is_new number (number x) xs) && are_new number xs
 
