@@ -1,3 +1,4 @@
+pub mod Checks
 pub mod Filling
 pub mod Flying
 pub mod KeptTables

@@ -1,11 +1,11 @@
 //! What the code keeps of each scope.
 ghost use Rattle.std.specs.Prelude.{◌≡◌, ℕ, ◌+◌, ◌-◌, ◌<◌, ◌≤◌, ◌^◌, length, slice_index, slice_index_or, OnOk, OnErr, IsOk, IfOk, replicate};
 ghost use Rattle.m2_base.specs.Lists.{Each};
-ghost use Rattle.m2_base.specs.Tables.{first_named, one_thread, table_at, no_rows};
+ghost use Rattle.m2_base.specs.Tables.{first_named, head_of, one_thread, table_at, no_rows};
 ghost use Rattle.m2_base.specs.Standard.{standard_rows as spec_rows};
 ghost use Rattle.scope_core.specs.PlainScopes.{first_tables};
 ghost use Rattle.scope_core.specs.Heads.{row_at};
-ghost use Rattle.scope_core.specs.Kept.{tables_in, rooms_in, with_rows, completed};
+ghost use Rattle.scope_core.specs.Kept.{table_of, tables_in, rooms_in, with_rows, completed};
 
 use m2_base::{Ask, Head, Memory, Place, Reply, Row, standard_rows};
 use std::alloc::{AllocError, Global};
@@ -15,6 +15,20 @@ use std::alloc::{AllocError, Global};
 pub struct Kept {
     pub rows: Vec<Row>,
     pub complete: bool,
+}
+
+impl Kept {
+    /// What it shows now, as the scope of this number.
+    fn head(&self, scope: u32) -> Head
+        requires { length self.now.rows.items < 2 ^ 32 }
+        ensures { result ≡ head_of scope (table_of self.now) }
+    {
+        Head {
+            scope,
+            count: self.rows.len() as u32,
+            complete: self.complete,
+        }
+    }
 }
 
 /// Scopes with room for so many rows each, and none yet.
@@ -81,11 +95,7 @@ pub fn reply_in(kept: &[Kept], chain: &[u32], name: u32) -> Reply
             return Reply::Found(place, row);
         }
         if !table.complete {
-            return Reply::DontKnowYet(Head {
-                scope: *s,
-                count: table.rows.len() as u32,
-                complete: false,
-            });
+            return Reply::DontKnowYet(table.head(*s));
         }
     }
     Reply::Absent
@@ -125,11 +135,7 @@ pub fn row_in(kept: &[Kept], place: Place) -> Ask<Option<Row>>
             if table.complete {
                 Ask::Known(None)
             } else {
-                Ask::DontKnowYet(Head {
-                    scope: place.scope,
-                    count: table.rows.len() as u32,
-                    complete: false,
-                })
+                Ask::DontKnowYet(table.head(place.scope))
             }
         }
     }
