@@ -22,6 +22,8 @@ mod points;
 mod reading;
 mod sizes;
 mod targets;
+#[cfg(test)]
+mod tests;
 mod writing;
 
 pub use fault::ObjectFault;

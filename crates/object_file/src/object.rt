@@ -41,6 +41,14 @@ impl Object {
         Object { parts }
     }
 
+    /// What it says, which is valid.
+    pub fn into_parts(self) -> Parts
+        ensures parts { contents_of result ≡ self }
+        ensures valid { IsValid (contents_of result) }
+    {
+        self.parts
+    }
+
     /// The module's name.
     pub fn name(&self) -> &[u8]
         ensures { result.now ≡ self.now.name }
