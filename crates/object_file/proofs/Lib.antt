@@ -1,0 +1,13 @@
+pub mod Counting
+pub mod Matching
+pub mod Meanings
+pub mod ObjectReads
+pub mod Spelled
+pub mod Linking
+pub mod Listings
+pub mod Places
+pub mod Judging
+pub mod Lengths
+pub mod OneTelling
+pub mod Each
+pub mod Inserting

@@ -1,0 +1,46 @@
+-- Reading an object field by field is reading by its format.
+use Rattle.std.proofs.Common.{◌≡◌, ℕ, List, Result, Ok, refl, ap}
+use Rattle.code_form.specs.Heights.{Callee}
+use Rattle.code_form.specs.Modules.{Import, Procedure}
+use Rattle.object_file.specs.Contents.{Export, Contents, magic, version}
+use Rattle.object_file.specs.Formats.{Bad, ◌>>=◌, counted}
+use Rattle.object_file.specs.Fields.{number_at, text_at, exact_at, valid_at, counted_at, ends_at, ◌then◌, read}
+use Rattle.object_file.specs.ObjectFormat.{any, is_cells, is_own_cells, is_identifier, is_new_name, is_count, export_format, heading_format, import_format, procedure_format, object_format}
+use Rattle.object_file.specs.Reading.{export_at, heading_at, import_at, procedure_at, object_at, whole_at}
+use Rattle.object_file.proofs.Meanings.{then_same, bind_at, read_counted, read_all}
+
+read_export : (before : List Export) (bytes : List ℕ) → read (export_format before) bytes ≡ export_at before bytes
+unfolding read ◌>>=◌ export_format export_at
+read_export before bytes = refl
+
+read_heading : (before : List Callee) (bytes : List ℕ) → read (heading_format before) bytes ≡ heading_at before bytes
+unfolding read ◌>>=◌ heading_format heading_at
+read_heading before bytes = refl
+
+read_import : (before : List Import) (bytes : List ℕ) → read (import_format before) bytes ≡ import_at before bytes
+unfolding read ◌>>=◌ import_format import_at
+read_import before bytes =
+    then_same (text_at bytes) _ _ (λ name. then_same (valid_at (is_new_name before name.0) bytes) _ _ (λ u.
+    then_same (number_at name.1) _ _ (λ cells.
+    bind_at (counted any heading_format) (counted_at any heading_at) _ _ cells.1 (read_counted any heading_format heading_at read_heading) (λ headings bs. refl))))
+
+read_procedure : (exports : List Export) (before : List Procedure) (bytes : List ℕ) → read (procedure_format exports before) bytes ≡ procedure_at exports before bytes
+unfolding read ◌>>=◌ procedure_format procedure_at
+read_procedure exports before bytes = refl
+
+read_object : (bytes : List ℕ) → read object_format bytes ≡ object_at bytes
+unfolding read ◌>>=◌ object_format object_at
+read_object bytes =
+    then_same (exact_at magic bytes) _ _ (λ front. then_same (exact_at version front) _ _ (λ start.
+    then_same (text_at start) _ _ (λ name. then_same (valid_at (is_identifier name.0) start) _ _ (λ u.
+    then_same (number_at name.1) _ _ (λ cells. then_same (valid_at (is_cells cells.0) name.1) _ _ (λ v.
+    then_same (number_at cells.1) _ _ (λ own_cells. then_same (valid_at (is_own_cells cells.0 own_cells.0) cells.1) _ _ (λ w.
+    bind_at (counted any export_format) (counted_at any export_at) _ _ own_cells.1 (read_counted any export_format export_at read_export) (λ exports bs.
+    bind_at (counted any import_format) (counted_at any import_at) _ _ bs (read_counted any import_format import_at read_import) (λ imports cs.
+    bind_at (counted (is_count exports) (procedure_format exports)) (counted_at (is_count exports) (procedure_at exports)) _ _ cs
+    (read_counted (is_count exports) (procedure_format exports) (procedure_at exports) (read_procedure exports)) (λ procedures ds. refl)))))))))))
+
+-- the object that all of the bytes are
+pub read_whole : (bytes : List ℕ) → read_all object_format bytes ≡ whole_at bytes
+unfolding whole_at
+read_whole bytes = ap (λ (r : Result (Contents × List ℕ) Bad). r then λ x. (ends_at x.1 then λ u. Ok x.0)) (read_object bytes)

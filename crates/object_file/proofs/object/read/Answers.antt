@@ -1,0 +1,43 @@
+use Rattle.std.proofs.Common.{arith}
+use Rattle.std.proofs.lemmas.List.{length-map}
+use Rattle.std.proofs.lemmas.Result.{err_from_is_err_and}
+use Rattle.object_file.specs.Views.{procedure_of, contents_of}
+use Rattle.object_file.proofs.OneTelling.{fields_are, fields_told, code_told, few_procedures, procedures_within}
+use Rattle.object_file.proofs.object.read.Goals as goal
+
+pub returns-in_err-parts : goal.returns-in_err-parts
+returns-in_err-parts c =
+    let p = err_from_is_err_and c.from_residual.result c.from_residual.ensures.1 in
+    rw (p.1, p.2) (fields_told contents_of c.args.bytes.now c.in_err-parts.field-0.0 (λ i. omega (arith, c.type_inv.bytes i)) c.in_err-parts.ensures)
+
+pub sizes-size-requires : goal.sizes-size-requires
+sizes-size-requires c =
+    let o = contents_of c.in_ok-parts.parts in
+    let within = procedures_within c.args.bytes.now o (fields_are c.args.bytes.now o (λ i. omega (arith, c.type_inv.bytes i)) c.in_ok-parts.ensures) in
+    rw c.deref.ensures.value (omega (arith, within))
+
+pub check_all-requires-clause-size : goal.check_all-requires-clause-size
+check_all-requires-clause-size c = rw c.sizes-size.ensures (rw c.deref.ensures.value)
+
+pub check_all-requires-clause-few : goal.check_all-requires-clause-few
+check_all-requires-clause-few c =
+    let o = contents_of c.in_ok-parts.parts in
+    let few = few_procedures c.args.bytes.now o (fields_are c.args.bytes.now o (λ i. omega (arith, c.type_inv.bytes i)) c.in_ok-parts.ensures) in
+    omega (arith, few, length-map c.in_ok-parts.parts.procedures.items procedure_of)
+
+pub check_all-requires-clause-short : goal.check_all-requires-clause-short
+check_all-requires-clause-short c =
+    let o = contents_of c.in_ok-parts.parts in
+    let within = procedures_within c.args.bytes.now o (fields_are c.args.bytes.now o (λ i. omega (arith, c.type_inv.bytes i)) c.in_ok-parts.ensures) in
+    rw c.sizes-size.ensures (rw c.deref.ensures.value (omega (arith, within)))
+
+pub returns-in_err-check_all : goal.returns-in_err-check_all
+returns-in_err-check_all c =
+    let p = err_from_is_err_and c.from_residual-in_err-check_all.result c.from_residual-in_err-check_all.ensures.1 in
+    let o = contents_of c.in_ok-parts.parts in
+    rw (p.1, p.2) (code_told contents_of c.args.bytes.now o c.in_err-check_all.field-0.0 (fields_are c.args.bytes.now o (λ i. omega (arith, c.type_inv.bytes i)) c.in_ok-parts.ensures) c.in_err-check_all.ensures)
+
+pub returns : goal.returns
+returns c =
+    let o = contents_of c.in_ok-parts.parts in
+    record { fields = fields_are c.args.bytes.now o (λ i. omega (arith, c.type_inv.bytes i)) c.in_ok-parts.ensures; code = c.in_ok-check_all.ensures }

@@ -1,0 +1,12 @@
+pub mod Contents
+pub mod Formats
+pub mod Fields
+pub mod ObjectFormat
+pub mod Reading
+pub mod Validity
+pub mod Views
+pub mod Targets
+pub mod Points
+pub mod Telling
+pub mod Short
+pub mod Named

@@ -1,0 +1,67 @@
+-- Reading the fields of an object from left to right.
+use Rattle.std.specs.Prelude.{ℕ, List, length, Result, Ok}
+use Rattle.code_form.specs.Heights.{Callee}
+use Rattle.code_form.specs.Modules.{Import, Procedure}
+use Rattle.object_file.specs.Contents.{Export, Contents, magic, version}
+use Rattle.object_file.specs.Formats.{Bad}
+use Rattle.object_file.specs.Fields.{number_at, text_at, exact_at, valid_at, counted_at, ends_at, ◌then◌ as ◌>>=◌}
+use Rattle.object_file.specs.ObjectFormat.{any, is_cells, is_own_cells, is_identifier, is_new_name, is_export, is_count, is_outer, is_params, is_result, is_locals}
+
+unfoldable pub export_at : List Export → List ℕ → Result (Export × List ℕ) Bad
+export_at before bytes = do
+  k ← number_at bytes
+  _ ← valid_at (is_export k.0) bytes
+  params ← number_at k.1
+  result ← number_at params.1
+  Ok ((k.0, params.0, result.0), result.1)
+
+unfoldable pub heading_at : List Callee → List ℕ → Result (Callee × List ℕ) Bad
+heading_at before bytes = do
+  params ← number_at bytes
+  result ← number_at params.1
+  Ok (record { params = params.0; result = result.0 }, result.1)
+
+unfoldable pub import_at : List Import → List ℕ → Result (Import × List ℕ) Bad
+import_at before bytes = do
+  name ← text_at bytes
+  _ ← valid_at (is_new_name before name.0) bytes
+  cells ← number_at name.1
+  headings ← counted_at any heading_at cells.1
+  Ok (record { name = name.0; cells = cells.0; headings = headings.0 }, headings.1)
+
+unfoldable pub procedure_at : List Export → List Procedure → List ℕ → Result (Procedure × List ℕ) Bad
+procedure_at exports before bytes = do
+  outer ← number_at bytes
+  _ ← valid_at (is_outer exports (length before) outer.0) bytes
+  params ← number_at outer.1
+  _ ← valid_at (is_params exports (length before) params.0) outer.1
+  result ← number_at params.1
+  _ ← valid_at (is_result exports (length before) result.0) params.1
+  locals ← number_at result.1
+  _ ← valid_at (is_locals params.0 locals.0) result.1
+  high ← number_at locals.1
+  strings ← text_at high.1
+  code ← text_at strings.1
+  Ok (record { outer = outer.0; params = params.0; result = result.0; locals = locals.0; high = high.0; bytes = strings.0; code = code.0 }, code.1)
+
+unfoldable pub object_at : List ℕ → Result (Contents × List ℕ) Bad
+object_at bytes = do
+  front ← exact_at magic bytes
+  start ← exact_at version front
+  name ← text_at start
+  _ ← valid_at (is_identifier name.0) start
+  cells ← number_at name.1
+  _ ← valid_at (is_cells cells.0) name.1
+  own_cells ← number_at cells.1
+  _ ← valid_at (is_own_cells cells.0 own_cells.0) cells.1
+  exports ← counted_at any export_at own_cells.1
+  imports ← counted_at any import_at exports.1
+  procedures ← counted_at (is_count exports.0) (procedure_at exports.0) imports.1
+  Ok (record { name = name.0; cells = cells.0; own_cells = own_cells.0; exports = exports.0; imports = imports.0; procedures = procedures.0 }, procedures.1)
+
+-- the object that all of the bytes are
+unfoldable pub whole_at : List ℕ → Result Contents Bad
+whole_at bytes = do
+  o ← object_at bytes
+  _ ← ends_at o.1
+  Ok o.0

@@ -1,0 +1,7 @@
+-- The point at a place.
+use Rattle.std.specs.Prelude.{ℤ, List, [], ◌∷◌, Option, Some, None, if◌then◌else◌}
+use Rattle.code_form.specs.Valid.{Point, same_place}
+
+unfoldable pub point_at : List Point → ℤ → Option Point
+point_at [] to = None
+point_at (p ∷ ps) to = if same_place to p.at then Some p else point_at ps to

@@ -1,0 +1,69 @@
+//! Single fields.
+ghost use Rattle.std.specs.Prelude.{◌≡◌};
+ghost use Rattle.object_file.specs.Fields.{Gives, number_at, text_at, exact_at, match_at, valid_at, ends_at};
+
+use crate::fault::Stop;
+use std::alloc::Global;
+
+pub(crate) fn number(bytes: &[u8]) -> Result<(u32, &[u8]), Stop>
+    ensures { Gives (λ x. (x.0, x.1.now)) result (number_at bytes.now) }
+{
+    if bytes.len() < 4 {
+        return Err(Stop::Bad(0, 1));
+    }
+    let (front, rest) = bytes.split_at(4);
+    let number = u32::from_le_bytes([front[0], front[1], front[2], front[3]]);
+    Ok((number, rest))
+}
+
+/// A length and so many bytes.
+#[tactic(auto, unfolding(crate::specs::Fields::text_at))]
+pub(crate) fn text(alloc: Global, bytes: &[u8]) -> Result<(Vec<u8>, &[u8]), Stop>
+    ensures { Gives (λ x. (x.0.items, x.1.now)) result (text_at bytes.now) }
+{
+    let (len, rest) = number(bytes)?;
+    let len = len as usize;
+    if rest.len() < len {
+        return Err(Stop::Bad(0, 1));
+    }
+    let (text, rest) = rest.split_at(len);
+    Ok((Vec::from_slice(alloc, text)?, rest))
+}
+
+/// The expected bytes. Gives those behind them.
+#[tactic(auto, unfolding(crate::specs::Fields::exact_at))]
+pub(crate) fn exact<'b>(expected: &[u8], bytes: &'b [u8]) -> Result<&'b [u8], Stop>
+    ensures { Gives (λ x. x.now) result (exact_at expected.now bytes.now) }
+{
+    if bytes.len() < expected.len() {
+        return Err(Stop::Bad(0, 1));
+    }
+    for i in 0..expected.len() {
+        if bytes[i] != expected[i] {
+            return Err(Stop::Bad(bytes.len() - i, 3));
+        }
+    }
+    let (_, rest) = bytes.split_at(expected.len());
+    Ok(rest)
+}
+
+/// The field that begins these bytes is valid.
+pub(crate) fn valid(ok: bool, bytes: &[u8]) -> Result<bool, Stop>
+    ensures { Gives (λ x. x) result (valid_at ok bytes.now) }
+{
+    if ok {
+        Ok(true)
+    } else {
+        Err(Stop::Bad(bytes.len(), 4))
+    }
+}
+
+/// Nothing follows.
+pub(crate) fn ends(bytes: &[u8]) -> Result<bool, Stop>
+    ensures { Gives (λ x. x) result (ends_at bytes.now) }
+{
+    match bytes {
+        [] => Ok(true),
+        [_, ..] => Err(Stop::Bad(bytes.len(), 2)),
+    }
+}

@@ -1,0 +1,21 @@
+//! An instruction at its place.
+ghost use Rattle.std.specs.Prelude.{◌≡◌, ◌+◌, ◌-◌, ◌^◌, pos, ◌-ℤ◌, ◌≤ℤ◌};
+ghost use Rattle.code_form.specs.Bytes.{size};
+
+use code_form::Instr;
+
+/// An instruction at its place.
+#[derive(Debug, Drop)]
+pub(crate) struct Point {
+    pub(crate) at: usize,
+    /// The place behind it.
+    pub(crate) end: usize,
+    /// The stack's height before it.
+    pub(crate) height: i128,
+    pub(crate) takes: u64,
+    pub(crate) leaves: u64,
+    pub(crate) instr: Instr,
+    ghost ends: { end ≡ at + size instr },
+    ghost low: { (pos 0 -ℤ pos (2 ^ 127 - 2 ^ 64)) ≤ℤ height },
+    ghost high: { height ≤ℤ pos (2 ^ 127 - 2 ^ 64) },
+}
