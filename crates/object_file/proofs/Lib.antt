@@ -11,3 +11,4 @@ pub mod Lengths
 pub mod OneTelling
 pub mod Each
 pub mod Inserting
+pub mod Indexing

@@ -10,3 +10,4 @@ pub mod Points
 pub mod Telling
 pub mod Short
 pub mod Named
+pub mod Exported

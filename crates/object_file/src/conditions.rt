@@ -2,8 +2,9 @@
 ghost use Rattle.std.specs.Prelude.{◌≡◌, ◌==◌, nat_lt};
 ghost use Rattle.std.specs.List.{list_all};
 ghost use Rattle.m2_base.specs.Letters.{goes_on as spec_goes_on};
-ghost use Rattle.object_file.specs.ObjectFormat.{is_identifier as spec_identifier, is_new_name as spec_new_name, is_count as spec_count, as_exported, is_outer as spec_outer, is_params as spec_params, is_result as spec_result, is_locals as spec_locals};
+ghost use Rattle.object_file.specs.ObjectFormat.{is_identifier as spec_identifier, is_new_name as spec_new_name, is_count as spec_count, is_outer as spec_outer, is_params as spec_params, is_result as spec_result, is_locals as spec_locals};
 
+use crate::exports::Exports;
 use crate::imports::Imports;
 use m2_base::{goes_on, is_letter};
 
@@ -46,46 +47,25 @@ pub(crate) fn is_count(exports: &[(u32, u32, u32)], n: u32) -> bool
     1 <= n && are_below(exports, n)
 }
 
-#[tactic(auto, unfolding(crate::specs::ObjectFormat::as_exported))]
-fn is_exported_outer(exports: &[(u32, u32, u32)], k: u32, outer: u32) -> bool
-    ensures { result ≡ as_exported exports.now k (λ e. outer == 0) }
-{
-    exports.iter().all(|e| e.0 != k || outer == 0)
-}
-
-#[tactic(auto, unfolding(crate::specs::ObjectFormat::as_exported))]
-fn are_exported_params(exports: &[(u32, u32, u32)], k: u32, params: u32) -> bool
-    ensures { result ≡ as_exported exports.now k (λ e. params == e.1) }
-{
-    exports.iter().all(|e| e.0 != k || params == e.1)
-}
-
-#[tactic(auto, unfolding(crate::specs::ObjectFormat::as_exported))]
-fn is_exported_result(exports: &[(u32, u32, u32)], k: u32, cells: u32) -> bool
-    ensures { result ≡ as_exported exports.now k (λ e. cells == e.2) }
-{
-    exports.iter().all(|e| e.0 != k || cells == e.2)
-}
-
 /// The outer procedure of procedure k.
-pub(crate) fn is_outer(exports: &[(u32, u32, u32)], k: u32, outer: u32) -> bool
+pub(crate) fn is_outer(exports: &Exports, k: u32, outer: u32) -> bool
     ensures { result ≡ spec_outer exports.now k outer }
 {
-    (outer < k || (k == 0 && outer == 0)) && is_exported_outer(exports, k, outer)
+    (outer < k || (k == 0 && outer == 0)) && exports.admits_outer(k, outer)
 }
 
 /// The cells of the parameters of procedure k.
-pub(crate) fn is_params(exports: &[(u32, u32, u32)], k: u32, params: u32) -> bool
+pub(crate) fn is_params(exports: &Exports, k: u32, params: u32) -> bool
     ensures { result ≡ spec_params exports.now k params }
 {
-    (0 < k || params == 0) && are_exported_params(exports, k, params)
+    (0 < k || params == 0) && exports.admits_params(k, params)
 }
 
 /// The cells of the result of procedure k.
-pub(crate) fn is_result(exports: &[(u32, u32, u32)], k: u32, cells: u32) -> bool
+pub(crate) fn is_result(exports: &Exports, k: u32, cells: u32) -> bool
     ensures { result ≡ spec_result exports.now k cells }
 {
-    cells <= 1 && (0 < k || cells == 0) && is_exported_result(exports, k, cells)
+    cells <= 1 && (0 < k || cells == 0) && exports.admits_result(k, cells)
 }
 
 /// The parameters are among the cells.

@@ -8,6 +8,7 @@
 
 mod code;
 mod conditions;
+mod exports;
 mod fault;
 mod fields;
 mod flow;
@@ -24,6 +25,7 @@ mod sizes;
 mod targets;
 #[cfg(test)]
 mod tests;
+mod wanted;
 mod writing;
 
 pub use fault::ObjectFault;

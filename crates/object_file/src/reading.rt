@@ -8,6 +8,7 @@ ghost use Rattle.object_file.specs.Views.{heading_of, import_of, procedure_of, c
 use crate::conditions::{
     is_count, is_identifier, is_locals, is_new_name, is_outer, is_params, is_result,
 };
+use crate::exports::Exports;
 use crate::fault::Stop;
 use crate::fields::{ends, exact, number, text, valid};
 use crate::imports::Imports;
@@ -25,26 +26,22 @@ fn export(bytes: &[u8]) -> Result<((u32, u32, u32), &[u8]), Stop>
     Ok(((k, params, cells), rest))
 }
 
-fn exports_of(
-    alloc: Global,
-    count: u32,
-    bytes: &[u8],
-) -> Result<(Vec<(u32, u32, u32)>, &[u8]), Stop>
-    ensures { Gives (λ x. (x.0.items, x.1.now)) result (many_at export_at count [] bytes.now) }
+fn exports_of(alloc: Global, count: u32, bytes: &[u8]) -> Result<(Exports, &[u8]), Stop>
+    ensures { Gives (λ x. (x.0, x.1.now)) result (many_at export_at count [] bytes.now) }
 {
-    let mut exports = Vec::new(alloc);
+    let mut exports = Exports::new(alloc);
     let mut rest = bytes;
     for _ in 0..count {
         let (one, after) = export(rest)?;
-        exports.push(one)?;
+        exports = exports.with(one)?;
         rest = after;
     }
     Ok((exports, rest))
 }
 
 #[tactic(auto, unfolding(crate::specs::Fields::counted_at))]
-fn exports(alloc: Global, bytes: &[u8]) -> Result<(Vec<(u32, u32, u32)>, &[u8]), Stop>
-    ensures { Gives (λ x. (x.0.items, x.1.now)) result (counted_at any export_at bytes.now) }
+fn exports(alloc: Global, bytes: &[u8]) -> Result<(Exports, &[u8]), Stop>
+    ensures { Gives (λ x. (x.0, x.1.now)) result (counted_at any export_at bytes.now) }
 {
     let (count, rest) = number(bytes)?;
     exports_of(alloc, count, rest)
@@ -126,7 +123,7 @@ fn imports(alloc: Global, bytes: &[u8]) -> Result<(Vec<ImportNote>, &[u8]), Stop
 #[tactic(auto, unfolding(crate::specs::Reading::procedure_at))]
 fn procedure<'b>(
     alloc: Global,
-    exports: &[(u32, u32, u32)],
+    exports: &Exports,
     before: &[ProcCode],
     bytes: &'b [u8],
 ) -> Result<(ProcCode, &'b [u8]), Stop>
@@ -163,7 +160,7 @@ fn procedure<'b>(
 
 fn procedures_of<'b>(
     alloc: Global,
-    exports: &[(u32, u32, u32)],
+    exports: &Exports,
     count: u32,
     bytes: &'b [u8],
 ) -> Result<(Vec<ProcCode>, &'b [u8]), Stop>
@@ -182,13 +179,13 @@ fn procedures_of<'b>(
 #[tactic(auto, unfolding(crate::specs::Fields::counted_at))]
 fn procedures<'b>(
     alloc: Global,
-    exports: &[(u32, u32, u32)],
+    exports: &Exports,
     bytes: &'b [u8],
 ) -> Result<(Vec<ProcCode>, &'b [u8]), Stop>
     ensures { Gives (λ x. (map procedure_of x.0.items, x.1.now)) result (counted_at (spec_count exports.now) (procedure_at exports.now) bytes.now) }
 {
     let (count, rest) = number(bytes)?;
-    valid(is_count(exports, count), bytes)?;
+    valid(is_count(exports.as_slice(), count), bytes)?;
     procedures_of(alloc, exports, count, rest)
 }
 
@@ -214,7 +211,7 @@ fn object(alloc: Global, bytes: &[u8]) -> Result<(Parts, &[u8]), Stop>
         name,
         cells,
         own_cells,
-        exports,
+        exports: exports.into_vec(),
         imports,
         procedures,
     };
