@@ -1,6 +1,5 @@
 -- a run that has happened in part
-use Rattle.std.proofs.Common.{◌≡◌, ℕ, ◌<◌, List, [], ◌∷◌, ◌++◌, length, get_or, refl, sym, ◌∙◌, ap, subst, arith, append_assoc}
-use Rattle.std.specs.List.{remove}
+use Rattle.std.proofs.Common.{◌≡◌, ℕ, List, [], ◌∷◌, ◌++◌, refl, sym, ◌∙◌, ap, subst, arith, append_assoc}
 use Rattle.m2_base.specs.Tables.{Table, table_at, one_thread}
 use Rattle.scope_core.specs.declared.event.Event.{Event}
 use Rattle.scope_core.specs.Events.{after, after_all, IsRun, AreCountable, Stays}
@@ -18,20 +17,20 @@ after_all-append : (tables : List Table) (done : List Event) (e : Event) → aft
 after_all-append tables [] e = refl
 after_all-append tables (d ∷ done) e = after_all-append (after tables d) done e
 
-pub part_step : (before tables later : List Table) (whole rest left : List Event) (e : Event) → Part before tables whole rest → 0 < length rest → e ≡ get_or rest 0 e → left ≡ remove rest 0 → later ≡ after tables e → Part before later whole left
-part_step before tables later whole [] left e p more is left_is later_is = absurd (omega arith)
-part_step before tables later whole (x ∷ rest) left e p more is left_is later_is =
-    let next : later ≡ after tables x = later_is ∙ ap (after tables) is in
-    let made : Part before (after tables x) whole rest =
+-- the next event happens
+pub part_step : (before tables later : List Table) (whole rest left : List Event) (e : Event) → Part before tables whole rest → rest ≡ e ∷ left → later ≡ after tables e → Part before later whole left
+part_step before tables later whole rest left e part is later_is =
+    let p : Part before tables whole (e ∷ left) = subst (λ r. Part before tables whole r) is part in
+    let made : Part before (after tables e) whole left =
     record {
-      done = p.done ++ x ∷ [];
-      joined = append_assoc p.done (x ∷ []) rest ∙ p.joined;
-      tables_are = ap (λ t. after t x) p.tables_are ∙ sym (after_all-append before p.done x);
+      done = p.done ++ e ∷ [];
+      joined = append_assoc p.done (e ∷ []) left ∙ p.joined;
+      tables_are = ap (λ t. after t e) p.tables_are ∙ sym (after_all-append before p.done e);
       run = p.run.1;
       countable = p.countable;
-      grown = λ s. IsGrown-trans (p.grown s) (after_grows tables x p.run.0 s);
+      grown = λ s. IsGrown-trans (p.grown s) (after_grows tables e p.run.0 s);
     } in
-    subst (λ t. Part before t whole left) (sym next) (subst (λ r. Part before (after tables x) whole r) (sym left_is) made)
+    subst (λ t. Part before t whole left) (sym later_is) made
 
 pub part_stays : (before tables later : List Table) (whole rest : List Event) (chain : List ℕ) (x : ℕ) → Part before tables whole rest → later ≡ tables → Stays (one_thread before chain x) (one_thread later chain x)
 part_stays before tables later whole rest chain x p same =
@@ -45,7 +44,7 @@ countable_before tables run lawful countable s =
     omega (arith, more, few)
 
 -- the next event leaves tables that are countable
-pub part_countable : (before tables : List Table) (whole rest : List Event) (e : Event) → Part before tables whole rest → 0 < length rest → e ≡ get_or rest 0 e → AreCountable (after tables e)
-part_countable before tables whole [] e p more is = absurd (omega arith)
-part_countable before tables whole (x ∷ rest) e p more is =
-    subst (λ t. AreCountable (after tables t)) (sym is) (countable_before (after tables x) rest p.run.1 p.countable)
+pub part_countable : (before tables : List Table) (whole rest left : List Event) (e : Event) → Part before tables whole rest → rest ≡ e ∷ left → AreCountable (after tables e)
+part_countable before tables whole rest left e part is =
+    let p : Part before tables whole (e ∷ left) = subst (λ r. Part before tables whole r) is part in
+    countable_before (after tables e) left p.run.1 p.countable

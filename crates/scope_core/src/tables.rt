@@ -86,9 +86,7 @@ pub fn settle(
     ensures err { OnErr result (IsPartOf tables.old tables.new run.items) }
     ensures stays { Stays (one_thread tables.old chain.now name) (one_thread tables.new chain.now name) }
 {
-    let mut run = run;
-    while !run.is_empty() {
-        let event = run.remove(0);
+    for event in run {
         step(alloc, tables, event)?;
     }
     Ok(())
