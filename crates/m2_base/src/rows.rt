@@ -101,7 +101,7 @@ fn place_from(number: i64) -> Place
 }
 
 /// A place as a row's number.
-fn place_number(place: Place) -> i64
+fn place_as(place: Place) -> i64
     requires { IsSmallScope place }
     ensures { result ≡ number_of place }
 {
@@ -154,7 +154,7 @@ fn result_as(result_type: Option<Place>) -> i64
     ensures { result ≡ result_number result_type }
 {
     match result_type {
-        Some(place) => place_number(place),
+        Some(place) => place_as(place),
         None => -1,
     }
 }
@@ -243,27 +243,17 @@ fn numbers_for(meaning: RowMeaning) -> (u8, i64, i64, i64, i64)
     ensures { result ≡ numbers_of meaning }
 {
     match meaning {
-        RowMeaning::Const(of, value, length) => (1, place_number(of), value, length as i64, 0),
-        RowMeaning::TypeName(of) => (2, place_number(of), 0, 0, 0),
-        RowMeaning::Var(of, mode, offset) => {
-            (3, place_number(of), mode_as(mode), offset as i64, 0)
-        }
-        RowMeaning::Proc(of, number, scope) => {
-            (4, place_number(of), number as i64, scope as i64, 0)
-        }
+        RowMeaning::Const(of, value, length) => (1, place_as(of), value, length as i64, 0),
+        RowMeaning::TypeName(of) => (2, place_as(of), 0, 0, 0),
+        RowMeaning::Var(of, mode, offset) => (3, place_as(of), mode_as(mode), offset as i64, 0),
+        RowMeaning::Proc(of, number, scope) => (4, place_as(of), number as i64, scope as i64, 0),
         RowMeaning::Module(scope) => (5, scope as i64, 0, 0, 0),
-        RowMeaning::Alias(target) => (6, place_number(target), 0, 0, 0),
-        RowMeaning::Field(of, offset, record_row, name) => {
-            (
-                7,
-                place_number(of),
-                offset as i64,
-                record_row as i64,
-                name as i64,
-            )
+        RowMeaning::Alias(target) => (6, place_as(target), 0, 0, 0),
+        RowMeaning::Field(of, offset, record, name) => {
+            (7, place_as(of), offset as i64, record as i64, name as i64)
         }
         RowMeaning::Param(of, by_address, proc_type) => {
-            (8, place_number(of), by_address as i64, proc_type as i64, 0)
+            (8, place_as(of), by_address as i64, proc_type as i64, 0)
         }
         RowMeaning::Standard(name) => (9, name as i64, 0, 0, 0),
         RowMeaning::Broken => (10, 0, 0, 0, 0),
@@ -274,14 +264,12 @@ fn numbers_for(meaning: RowMeaning) -> (u8, i64, i64, i64, i64)
         RowMeaning::Text => (10, 5, 0, 0, 0),
         RowMeaning::Whole => (10, 6, 0, 0, 0),
         RowMeaning::Enum(count) => (11, count as i64, 0, 0, 0),
-        RowMeaning::Subrange(base, low, high) => (12, place_number(base), low, high, 0),
-        RowMeaning::Array(index, of, size) => {
-            (13, place_number(index), place_number(of), size as i64, 0)
-        }
-        RowMeaning::OpenArray(of) => (14, 0, place_number(of), 0, 0),
+        RowMeaning::Subrange(base, low, high) => (12, place_as(base), low, high, 0),
+        RowMeaning::Array(index, of, size) => (13, place_as(index), place_as(of), size as i64, 0),
+        RowMeaning::OpenArray(of) => (14, 0, place_as(of), 0, 0),
         RowMeaning::Record(first, size) => (15, first as i64, 0, size as i64, 0),
-        RowMeaning::Set(of) => (16, place_number(of), 0, 0, 0),
-        RowMeaning::Pointer(to) => (17, place_number(to), 0, 0, 0),
+        RowMeaning::Set(of) => (16, place_as(of), 0, 0, 0),
+        RowMeaning::Pointer(to) => (17, place_as(to), 0, 0, 0),
         RowMeaning::ProcType(gives, count, first) => {
             (18, result_as(gives), count as i64, first as i64, 0)
         }

@@ -2,21 +2,27 @@
 ghost use Rattle.std.specs.Prelude.{◌≡◌};
 ghost use Rattle.m2_base.specs.Standard.{standard_rows as spec_rows};
 
-use crate::rows::Row;
+use crate::rows::{Place, Row, RowMeaning, write_row};
 
-/// A row of the standard scope: its name, its kind, and the numbers a, b and c.
-macro_rules! row {
-    ($name:expr, $kind:expr, $a:expr, $b:expr, $c:expr) => {
-        Row {
-            name: $name,
-            kind: $kind,
-            at: 0,
-            a: $a,
-            b: $b,
-            c: $c,
-            d: 0,
-            e: 0,
+/// A type of scope 0, by its ordinal.
+macro_rules! of {
+    ($ordinal:expr) => {
+        Place {
+            scope: 0,
+            ordinal: $ordinal,
         }
+    };
+}
+
+/// The rows of scope 0: the types without names, then the names with what they mean, then the standard procedures, by
+/// their names.
+macro_rules! scope {
+    (types: $($kind:expr),+; names: $($name:literal = $meaning:expr),+; procedures: $($procedure:literal)+) => {
+        [
+            $(write_row(0, 0, $kind),)+
+            $(write_row($name, 0, $meaning),)+
+            $(write_row($procedure, 0, RowMeaning::Standard($procedure)),)+
+        ]
     };
 }
 
@@ -24,43 +30,55 @@ macro_rules! row {
 pub fn standard_rows() -> [Row; 37]
     ensures { result ≡ spec_rows }
 {
-    [
-        row!(0, 10, 1, 0, 0),
-        row!(0, 10, 2, 0, 0),
-        row!(0, 10, 3, 0, 0),
-        row!(0, 11, 2, 0, 0),
-        row!(0, 12, 1, 0, 31),
-        row!(0, 16, 4, 0, 0),
-        row!(0, 18, -1, 0, 6),
-        row!(0, 10, 4, 0, 0),
-        row!(0, 10, 5, 0, 0),
-        row!(0, 10, 6, 0, 0),
-        row!(0, 10, 0, 0, 0),
-        row!(1, 2, 0, 0, 0),
-        row!(2, 2, 1, 0, 0),
-        row!(3, 2, 2, 0, 0),
-        row!(4, 2, 3, 0, 0),
-        row!(5, 2, 5, 0, 0),
-        row!(6, 2, 6, 0, 0),
-        row!(7, 1, 3, 1, 0),
-        row!(8, 1, 3, 0, 0),
-        row!(9, 1, 7, 0, 0),
-        row!(10, 9, 10, 0, 0),
-        row!(11, 9, 11, 0, 0),
-        row!(12, 9, 12, 0, 0),
-        row!(13, 9, 13, 0, 0),
-        row!(14, 9, 14, 0, 0),
-        row!(15, 9, 15, 0, 0),
-        row!(16, 9, 16, 0, 0),
-        row!(17, 9, 17, 0, 0),
-        row!(18, 9, 18, 0, 0),
-        row!(19, 9, 19, 0, 0),
-        row!(20, 9, 20, 0, 0),
-        row!(21, 9, 21, 0, 0),
-        row!(22, 9, 22, 0, 0),
-        row!(23, 9, 23, 0, 0),
-        row!(24, 9, 24, 0, 0),
-        row!(25, 9, 25, 0, 0),
-        row!(26, 9, 26, 0, 0),
-    ]
+    scope!(
+        types:
+            RowMeaning::Integer,
+            RowMeaning::Cardinal,
+            RowMeaning::Character,
+            RowMeaning::Enum(2),
+            RowMeaning::Subrange(of!(1), 0, 31),
+            RowMeaning::Set(of!(4)),
+            RowMeaning::ProcType(None, 0, 6),
+            RowMeaning::Nil,
+            RowMeaning::Text,
+            RowMeaning::Whole,
+            RowMeaning::Broken;
+        names:
+            1 = RowMeaning::TypeName(of!(0)),
+            2 = RowMeaning::TypeName(of!(1)),
+            3 = RowMeaning::TypeName(of!(2)),
+            4 = RowMeaning::TypeName(of!(3)),
+            5 = RowMeaning::TypeName(of!(5)),
+            6 = RowMeaning::TypeName(of!(6)),
+            7 = RowMeaning::Const(of!(3), 1, 0),
+            8 = RowMeaning::Const(of!(3), 0, 0),
+            9 = RowMeaning::Const(of!(7), 0, 0);
+        procedures: 10 11 12 13 14 15 16 17 18 19 20 21 22 23 24 25 26
+    )
+}
+
+#[cfg(test)]
+mod tests {
+    use super::*;
+    use crate::rows::read_row;
+    use std::test::Fail;
+
+    /// The first and the last name, and some between: ordinal, name and meaning.
+    #[test]
+    fn standard_names_have_their_rows(rt: HostRuntime) -> Result<(), Fail> {
+        let rows = standard_rows();
+        let expected = [
+            (11, 1, RowMeaning::TypeName(of!(0))),
+            (15, 5, RowMeaning::TypeName(of!(5))),
+            (17, 7, RowMeaning::Const(of!(3), 1, 0)),
+            (19, 9, RowMeaning::Const(of!(7), 0, 0)),
+            (36, 26, RowMeaning::Standard(26)),
+        ];
+        for (ordinal, name, meaning) in expected {
+            let row = &rows[ordinal];
+            assert_eq!(rt; row.name, name);
+            assert_eq!(rt; read_row(row), meaning);
+        }
+        Ok(())
+    }
 }

@@ -101,6 +101,19 @@ fn a_source_in_memory_fails_at_its_calls(rt: HostRuntime) -> Result<(), Fail> {
     Ok(())
 }
 
+/// Names that a folder refuses. D.mod is a folder in it.
+const NO_FILES: [&str; 9] = [
+    "",
+    ".",
+    "..",
+    ".A.mod",
+    "../A.mod",
+    "/tmp/A.mod",
+    "D.mod/A.mod",
+    "A.mod\0",
+    "D.mod",
+];
+
 #[test]
 fn a_folder_keeps_to_itself(rt: HostRuntime) -> Result<(), Fail> {
     let alloc = rt.alloc();
@@ -120,18 +133,7 @@ fn a_folder_keeps_to_itself(rt: HostRuntime) -> Result<(), Fail> {
     let stored = fs::read(&rt, format!(in alloc; "{folder}/A.mod")?.as_str())?;
     assert!(rt; stored.as_slice() == b"xy".as_slice());
 
-    let names = [
-        "",
-        ".",
-        "..",
-        ".A.mod",
-        "../A.mod",
-        "/tmp/A.mod",
-        "D.mod/A.mod",
-        "A.mod\0",
-        "D.mod",
-    ];
-    for name in names {
+    for name in NO_FILES {
         assert!(rt;
             matches!(shelf.get(alloc, name, 9), Err(ShelfError::Failed)),
             "get {name}"
