@@ -333,6 +333,10 @@ stream streams.Main = main procedure_cut
 stream streams.Definition = definition
 stream streams.Procedure = procedure_stream
 
+-- how deep a token may be nested
+abbrev pub levels : ℕ
+levels = 100
+
 -- the rules that a right side goes back to
 abbrev pub rule : ℕ → Rule
 rule zero = procedure_rule
