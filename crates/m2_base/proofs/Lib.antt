@@ -10,3 +10,4 @@ mod ReservedWords
 pub mod RowLaws
 pub mod Seen
 pub mod StandardLaws
+pub mod WholeTextChecks

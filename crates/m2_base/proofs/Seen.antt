@@ -74,6 +74,12 @@ unfolding form_view designator_view label_view
 set_seen None items = ap form_view (sym (rolls-Set None items)) ∙ fold-roll-ExprForm _ _ _ _ _ _ _ _ _ _ _ _ _
 set_seen (Some d) items = ap form_view (sym (rolls-Set (Some d) items)) ∙ fold-roll-ExprForm _ _ _ _ _ _ _ _ _ _ _ _ _
 
+pub plain_set_seen : (items : Vec expressions.Label.Label Global) → form_view (Set None items) ≡ plain.set_form (plain.labels (map label_view items.items))
+plain_set_seen items = set_seen None items
+
+pub typed_set_seen : (d : expressions.Designator.Designator) (items : Vec expressions.Label.Label Global) → form_view (Set (Some d) items) ≡ plain.typed_set_form (designator_view d) (plain.labels (map label_view items.items))
+typed_set_seen d items = set_seen (Some d) items
+
 pub name_seen : (d : expressions.Designator.Designator) → form_view (Name d) ≡ plain.name_form (designator_view d)
 unfolding form_view designator_view
 name_seen d = ap form_view (sym (rolls-Name d)) ∙ fold-roll-ExprForm _ _ _ _ _ _ _ _ _ _ _ _ _

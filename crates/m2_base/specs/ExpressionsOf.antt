@@ -1,6 +1,6 @@
 -- The trees of expressions, by their derivations. A derivation of the rule has one of the forms that are named; what is
 -- said of any other form is said of nothing.
-use Rattle.std.specs.Prelude.{List, [], ◌∷◌, Option, Some, None}
+use Rattle.std.specs.Prelude.{ℕ, List, [], ◌∷◌, Option, Some, None}
 use Rattle.m2_base.specs.declared.token.Token.{Token}
 use Rattle.m2_base.specs.declared.trees.operators.Operator.TheVariants.{Not}
 use Rattle.m2_base.specs.Operators.{operator_of}
@@ -37,8 +37,15 @@ qual_of _ = record { first = no_ident; second = None }
 abbrev pub no_expr : Expr
 no_expr = expr 0 (number_form 0)
 
+abbrev pub no_next : Next
+no_next = next Not 0 no_expr
+
 abbrev pub no_designator : Designator
 no_designator = designator no_ident no_selectors
+
+-- a set with no type before it, and its first token
+abbrev pub plain_set : ℕ × List Label → Expr
+plain_set s = expr s.0 (set_form (labels s.1))
 
 -- a set with its type before it, a call, or a designator alone
 abbrev pub typed_set : Designator → List Label → Expr
@@ -52,24 +59,37 @@ name d = expr (designator_at d) (name_form d)
 
 abbrev mutual
   pub factor_of : Tree Token → Expr
-  factor_of (inner (left (leaf t))) = expr t.at (number_form t.value)
-  factor_of (inner (right (left (leaf t)))) = expr t.at (char_form t.value)
-  factor_of (inner (right (right (left (leaf t))))) = expr t.at (string_form t.value)
-  factor_of (inner (right (right (right (left (both (leaf t) (both items close))))))) = expr t.at (set_form (labels (elements_of items)))
-  factor_of (inner (right (right (right (right (left d)))))) = designated_of d
-  factor_of (inner (right (right (right (right (right (left (both (leaf t) (both e close))))))))) = in_brackets t.at (expr_of e)
-  factor_of (inner (right (right (right (right (right (right (both (leaf t) f)))))))) = expr t.at (one_form Not t.at (factor_of f))
+  factor_of (inner d) = factor_rule_of d
   factor_of _ = no_expr
 
+  pub factor_rule_of : Tree Token → Expr
+  factor_rule_of (left (leaf t)) = expr t.at (number_form t.value)
+  factor_rule_of (right (left (leaf t))) = expr t.at (char_form t.value)
+  factor_rule_of (right (right (left (leaf t)))) = expr t.at (string_form t.value)
+  factor_rule_of (right (right (right (left set)))) = plain_set (set_of set)
+  factor_rule_of (right (right (right (right (left d))))) = designated_of d
+  factor_rule_of (right (right (right (right (right (left e)))))) = bracketed_of e
+  factor_rule_of (right (right (right (right (right (right f)))))) = negated_of f
+  factor_rule_of _ = no_expr
+
+  pub bracketed_of : Tree Token → Expr
+  bracketed_of (both (leaf t) (both e close)) = in_brackets t.at (expr_of e)
+  bracketed_of _ = no_expr
+
+  pub negated_of : Tree Token → Expr
+  negated_of (both (leaf t) f) = expr t.at (one_form Not t.at (factor_of f))
+  negated_of _ = no_expr
+
   pub designated_of : Tree Token → Expr
-  designated_of (both d (left set)) = typed_set (designator_of d) (set_items_of set)
+  designated_of (both d (left set)) = typed_set (designator_of d) (set_of set).1
   designated_of (both d (right (left args))) = call (designator_of d) (actuals_of args)
   designated_of (both d (right (right none))) = name (designator_of d)
   designated_of _ = no_expr
 
-  pub set_items_of : Tree Token → List Label
-  set_items_of (both opening (both items close)) = elements_of items
-  set_items_of _ = []
+  -- the first token and the elements
+  pub set_of : Tree Token → ℕ × List Label
+  set_of (both (leaf t) (both items close)) = (t.at, elements_of items)
+  set_of _ = (0, [])
 
   pub elements_of : Tree Token → List Label
   elements_of (left ls) = labels_of ls
@@ -110,8 +130,12 @@ abbrev mutual
   term_of _ = no_expr
 
   pub factors_of : Tree Token → List Next
-  factors_of (more (both (leaf t) f) fs) = next (operator_of t.kind) t.at (factor_of f) ∷ factors_of fs
+  factors_of (more f fs) = next_factor_of f ∷ factors_of fs
   factors_of _ = []
+
+  pub next_factor_of : Tree Token → Next
+  next_factor_of (both (leaf t) f) = next (operator_of t.kind) t.at (factor_of f)
+  next_factor_of _ = no_next
 
   pub first_term_of : Tree Token → Expr
   first_term_of (left (both (leaf t) d)) = expr t.at (one_form (operator_of t.kind) t.at (term_of d))
@@ -123,8 +147,12 @@ abbrev mutual
   sum_of _ = no_expr
 
   pub terms_of : Tree Token → List Next
-  terms_of (more (both (leaf t) d) ds) = next (operator_of t.kind) t.at (term_of d) ∷ terms_of ds
+  terms_of (more d ds) = next_term_of d ∷ terms_of ds
   terms_of _ = []
+
+  pub next_term_of : Tree Token → Next
+  next_term_of (both (leaf t) d) = next (operator_of t.kind) t.at (term_of d)
+  next_term_of _ = no_next
 
   pub relation_of : Tree Token → List Next
   relation_of (left (both (leaf t) s)) = next (operator_of t.kind) t.at (sum_of s) ∷ []

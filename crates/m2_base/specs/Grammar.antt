@@ -155,8 +155,11 @@ abbrev pub formals : Rule
 formals = optional (a LeftParenthesis ⨾ optional (list formal Comma) ⨾ a RightParenthesis ⨾ result)
 
 -- Fields = FieldList {";" FieldList}
+abbrev pub one_field : Rule
+one_field = deep 4
+
 abbrev pub field_list : Rule
-field_list = optional (deep 4)
+field_list = optional one_field
 
 abbrev pub fields : Rule
 fields = list field_list Semicolon
@@ -181,15 +184,19 @@ abbrev pub other_fields : Rule
 other_fields = optional (a Else ⨾ fields)
 
 -- FieldList = [Idents ":" Type | CASE [ident] ":" Qual OF Variant {"|" Variant} [ELSE Fields] END]
+abbrev pub case_fields_rule : Rule
+case_fields_rule = a Case ⨾ optional ident ⨾ a Colon ⨾ qual ⨾ a Of ⨾ list variant Bar ⨾ other_fields ⨾ a End
+
 abbrev pub field_list_rule : Rule
-field_list_rule =
-    idents ⨾ a Colon ⨾ type_expr
-    ∣ a Case ⨾ optional ident ⨾ a Colon ⨾ qual ⨾ a Of ⨾ list variant Bar ⨾ other_fields ⨾ a End
+field_list_rule = idents ⨾ a Colon ⨾ type_expr ∣ case_fields_rule
 
 -- Statements.
 
+abbrev pub one_statement : Rule
+one_statement = deep 2
+
 abbrev pub statement : Rule
-statement = optional (deep 2)
+statement = optional one_statement
 
 -- Stmts = Stmt {";" Stmt}
 abbrev pub statements : Rule
@@ -218,27 +225,33 @@ step = optional (a By ⨾ expr)
 --      | LOOP Stmts END | EXIT | RETURN [Expr]
 --      | FOR ident ":=" Expr TO Expr [BY Expr] DO Stmts END
 --      | WITH Designator DO Stmts END]
+abbrev pub designated_statement : Rule
+designated_statement = designator ⨾ (a Becomes ⨾ expr ∣ optional actuals)
+
 abbrev pub if_rule : Rule
 if_rule = a If ⨾ if_arm ⨾ many (a Elsif ⨾ if_arm) ⨾ otherwise ⨾ a End
 
 abbrev pub case_rule : Rule
 case_rule = a Case ⨾ expr ⨾ a Of ⨾ list arm Bar ⨾ otherwise ⨾ a End
 
+abbrev pub while_rule : Rule
+while_rule = a While ⨾ expr ⨾ a Do ⨾ statements ⨾ a End
+
+abbrev pub repeat_rule : Rule
+repeat_rule = a Repeat ⨾ statements ⨾ a Until ⨾ expr
+
+abbrev pub loop_rule : Rule
+loop_rule = a Loop ⨾ statements ⨾ a End
+
 abbrev pub for_rule : Rule
 for_rule = a For ⨾ ident ⨾ a Becomes ⨾ expr ⨾ a To ⨾ expr ⨾ step ⨾ a Do ⨾ statements ⨾ a End
 
+abbrev pub with_rule : Rule
+with_rule = a With ⨾ designator ⨾ a Do ⨾ statements ⨾ a End
+
 abbrev pub statement_rule : Rule
 statement_rule =
-    designator ⨾ (a Becomes ⨾ expr ∣ optional actuals)
-    ∣ if_rule
-    ∣ case_rule
-    ∣ a While ⨾ expr ⨾ a Do ⨾ statements ⨾ a End
-    ∣ a Repeat ⨾ statements ⨾ a Until ⨾ expr
-    ∣ a Loop ⨾ statements ⨾ a End
-    ∣ a Exit
-    ∣ a Return ⨾ optional expr
-    ∣ for_rule
-    ∣ a With ⨾ designator ⨾ a Do ⨾ statements ⨾ a End
+    designated_statement ∣ if_rule ∣ case_rule ∣ while_rule ∣ repeat_rule ∣ loop_rule ∣ a Exit ∣ a Return ⨾ optional expr ∣ for_rule ∣ with_rule
 
 -- Declarations. What is said of a procedure's block is a parameter: in a text it is the block, in a stream its cut.
 
@@ -319,6 +332,10 @@ abbrev pub stream : StreamKind → Rule
 stream streams.Main = main procedure_cut
 stream streams.Definition = definition
 stream streams.Procedure = procedure_stream
+
+-- how deep a token may be nested
+abbrev pub levels : ℕ
+levels = 100
 
 -- the rules that a right side goes back to
 abbrev pub rule : ℕ → Rule

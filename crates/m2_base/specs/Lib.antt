@@ -1,7 +1,9 @@
 pub mod Asks
 pub mod Comments
 pub mod ExpressionsOf
+pub mod FaultsOf
 pub mod Finished
+pub mod Fronts
 pub mod Gives
 pub mod Grammar
 pub mod KindNumbers
@@ -27,3 +29,4 @@ pub mod Trees
 pub mod TypesOf
 pub mod Units
 pub mod Views
+pub mod WholeTexts

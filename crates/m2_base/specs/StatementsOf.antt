@@ -35,6 +35,23 @@ case_else_with (Some ss) = case_else (statements ss)
 abbrev pub no_statement : Statement
 no_statement = statement 0 empty_form
 
+abbrev pub designated_of : Tree Token → Statement
+designated_of (both d (left (both becomes e))) = assignment (designator_of d) (expr_of e)
+designated_of (both d (right args)) = invocation (designator_of d) (optional_actuals_of args)
+designated_of _ = no_statement
+
+abbrev pub exit_of : Tree Token → Statement
+exit_of (leaf t) = statement t.at exit_form
+exit_of _ = no_statement
+
+abbrev pub return_of : Tree Token → Statement
+return_of (both (leaf t) e) = statement t.at (return_form (optional_expr_of e))
+return_of _ = no_statement
+
+abbrev pub step_of : Tree Token → Option Expr
+step_of (left (both by e)) = Some (expr_of e)
+step_of _ = None
+
 abbrev mutual
   pub statements_of : Tree Token → List Token → List Statement
   statements_of (both s ss) w = optional_statement_of s (tokens ss ++ w) ∷ more_statements_of ss w
@@ -49,19 +66,21 @@ abbrev mutual
   optional_statement_of _ w = statement (place w) empty_form
 
   pub statement_of : Tree Token → List Token → Statement
-  statement_of (inner (left (both d (left (both becomes e))))) w = assignment (designator_of d) (expr_of e)
-  statement_of (inner (left (both d (right args)))) w = invocation (designator_of d) (optional_actuals_of args)
-  statement_of (inner (right (left s))) w = if_of s w
-  statement_of (inner (right (right (left s)))) w = case_of s w
-  statement_of (inner (right (right (right (left s))))) w = while_of s w
-  statement_of (inner (right (right (right (right (left s)))))) w = repeat_of s w
-  statement_of (inner (right (right (right (right (right (left s))))))) w = loop_of s w
-  statement_of (inner (right (right (right (right (right (right (left (leaf t))))))))) w = statement t.at exit_form
-  statement_of (inner (right (right (right (right (right (right (right (left (both (leaf t) e)))))))))) w =
-      statement t.at (return_form (optional_expr_of e))
-  statement_of (inner (right (right (right (right (right (right (right (right (left s)))))))))) w = for_of s w
-  statement_of (inner (right (right (right (right (right (right (right (right (right s)))))))))) w = with_of s w
+  statement_of (inner s) w = statement_rule_of s w
   statement_of _ w = no_statement
+
+  pub statement_rule_of : Tree Token → List Token → Statement
+  statement_rule_of (left s) w = designated_of s
+  statement_rule_of (right (left s)) w = if_of s w
+  statement_rule_of (right (right (left s))) w = case_of s w
+  statement_rule_of (right (right (right (left s)))) w = while_of s w
+  statement_rule_of (right (right (right (right (left s))))) w = repeat_of s w
+  statement_rule_of (right (right (right (right (right (left s)))))) w = loop_of s w
+  statement_rule_of (right (right (right (right (right (right (left s))))))) w = exit_of s
+  statement_rule_of (right (right (right (right (right (right (right (left s)))))))) w = return_of s
+  statement_rule_of (right (right (right (right (right (right (right (right (left s))))))))) w = for_of s w
+  statement_rule_of (right (right (right (right (right (right (right (right (right s))))))))) w = with_of s w
+  statement_rule_of _ w = no_statement
 
   pub if_of : Tree Token → List Token → Statement
   if_of (both (leaf t) (both a (both arms (both other end)))) w =
@@ -74,8 +93,12 @@ abbrev mutual
   if_arm_of d w = if_arm (expr_of d) (statements [])
 
   pub elsifs_of : Tree Token → List Token → List IfArm
-  elsifs_of (more (both elsif a) arms) w = if_arm_of a (tokens arms ++ w) ∷ elsifs_of arms w
+  elsifs_of (more a arms) w = elsif_of a (tokens arms ++ w) ∷ elsifs_of arms w
   elsifs_of _ w = []
+
+  pub elsif_of : Tree Token → List Token → IfArm
+  elsif_of (both elsif a) w = if_arm_of a w
+  elsif_of d w = if_arm (expr_of d) (statements [])
 
   pub otherwise_of : Tree Token → List Token → Option (List Statement)
   otherwise_of (left (both else ss)) w = Some (statements_of ss w)
@@ -115,10 +138,6 @@ abbrev mutual
   for_of (both (leaf t) (both i (both becomes (both low (both to (both high (both by (both doing (both ss end))))))))) w =
       statement t.at (for_form (ident_of i) (expr_of low) (expr_of high) (step_of by) (statements (statements_of ss (tokens end ++ w))))
   for_of _ w = no_statement
-
-  pub step_of : Tree Token → Option Expr
-  step_of (left (both by e)) = Some (expr_of e)
-  step_of _ = None
 
   pub with_of : Tree Token → List Token → Statement
   with_of (both (leaf t) (both d (both doing (both ss end)))) w = statement t.at (with_form (designator_of d) (statements (statements_of ss (tokens end ++ w))))

@@ -16,8 +16,12 @@ abbrev pub more_sections_of : Tree Token → List Section
 more_sections_of (more (both semicolon s) ss) = section_of s ∷ more_sections_of ss
 more_sections_of _ = []
 
+abbrev pub some_sections_of : Tree Token → List Section
+some_sections_of (both s ss) = section_of s ∷ more_sections_of ss
+some_sections_of _ = []
+
 abbrev pub sections_of : Tree Token → List Section
-sections_of (left (both s ss)) = section_of s ∷ more_sections_of ss
+sections_of (left ss) = some_sections_of ss
 sections_of _ = []
 
 -- what stands behind the name of a heading: the sections and the result

@@ -37,9 +37,17 @@ bare_range r = type_expr r.0 (sub_type None r.1 r.2)
 abbrev pub no_type : TypeExpr
 no_type = type_expr 0 (enum_type [])
 
+abbrev pub named_of : Tree Token → TypeExpr
+named_of (both q r) = named (qual_of q) (optional_range_of r)
+named_of _ = no_type
+
+abbrev pub enumeration_of : Tree Token → TypeExpr
+enumeration_of (both (leaf t) (both names close)) = type_expr t.at (enum_type (idents_of names))
+enumeration_of _ = no_type
+
 abbrev pub simple_of : Tree Token → TypeExpr
-simple_of (left (both q r)) = named (qual_of q) (optional_range_of r)
-simple_of (right (left (both (leaf t) (both names close)))) = type_expr t.at (enum_type (idents_of names))
+simple_of (left d) = named_of d
+simple_of (right (left d)) = enumeration_of d
 simple_of (right (right r)) = bare_range (range_of r)
 simple_of _ = no_type
 
@@ -59,8 +67,12 @@ abbrev pub more_formals_of : Tree Token → List Formal
 more_formals_of (more (both comma f) fs) = formal_of f ∷ more_formals_of fs
 more_formals_of _ = []
 
+abbrev pub some_formals_of : Tree Token → List Formal
+some_formals_of (both f fs) = formal_of f ∷ more_formals_of fs
+some_formals_of _ = []
+
 abbrev pub formal_list_of : Tree Token → List Formal
-formal_list_of (left (both f fs)) = formal_of f ∷ more_formals_of fs
+formal_list_of (left fs) = some_formals_of fs
 formal_list_of _ = []
 
 abbrev pub result_of : Tree Token → Option Qual
@@ -76,15 +88,39 @@ abbrev pub tag_of : Tree Token → Option Ident
 tag_of (left i) = Some (ident_of i)
 tag_of _ = None
 
+abbrev pub set_of_of : Tree Token → TypeExpr
+set_of_of (both (leaf t) (both of s)) = type_expr t.at (set_type (simple_of s))
+set_of_of _ = no_type
+
+abbrev pub proc_type_of : Tree Token → TypeExpr
+proc_type_of (both (leaf t) fs) = type_expr t.at (formals_of fs)
+proc_type_of _ = no_type
+
 abbrev mutual
   pub type_of : Tree Token → TypeExpr
-  type_of (inner (left s)) = simple_of s
-  type_of (inner (right (left (both (leaf t) (both ss (both of d)))))) = type_expr t.at (array_type (type_exprs (simples_of ss)) (type_of d))
-  type_of (inner (right (right (left (both (leaf t) (both fs end)))))) = type_expr t.at (record_type (field_lists (fields_of fs)))
-  type_of (inner (right (right (right (left (both (leaf t) (both of s))))))) = type_expr t.at (set_type (simple_of s))
-  type_of (inner (right (right (right (right (left (both (leaf t) (both to d)))))))) = type_expr t.at (pointer_type (type_of d))
-  type_of (inner (right (right (right (right (right (both (leaf t) fs))))))) = type_expr t.at (formals_of fs)
+  type_of (inner d) = type_rule_of d
   type_of _ = no_type
+
+  pub type_rule_of : Tree Token → TypeExpr
+  type_rule_of (left d) = simple_of d
+  type_rule_of (right (left d)) = array_of d
+  type_rule_of (right (right (left d))) = record_of d
+  type_rule_of (right (right (right (left d)))) = set_of_of d
+  type_rule_of (right (right (right (right (left d))))) = pointer_of d
+  type_rule_of (right (right (right (right (right d))))) = proc_type_of d
+  type_rule_of _ = no_type
+
+  pub array_of : Tree Token → TypeExpr
+  array_of (both (leaf t) (both ss (both of d))) = type_expr t.at (array_type (type_exprs (simples_of ss)) (type_of d))
+  array_of _ = no_type
+
+  pub record_of : Tree Token → TypeExpr
+  record_of (both (leaf t) (both fs end)) = type_expr t.at (record_type (field_lists (fields_of fs)))
+  record_of _ = no_type
+
+  pub pointer_of : Tree Token → TypeExpr
+  pointer_of (both (leaf t) (both to d)) = type_expr t.at (pointer_type (type_of d))
+  pointer_of _ = no_type
 
   pub fields_of : Tree Token → List FieldList
   fields_of (both f fs) = optional_field_of f ++ more_fields_of fs
@@ -100,10 +136,22 @@ abbrev mutual
   optional_field_of _ = []
 
   pub field_of : Tree Token → FieldList
-  field_of (inner (left (both names (both colon d)))) = plain_fields (idents_of names) (type_of d)
-  field_of (inner (right (both case (both tag (both colon (both q (both of (both vs (both other end))))))))) =
-      case_fields (tag_of tag) (qual_of q) (variant_arms (variants_of vs)) (field_lists (other_fields_of other))
+  field_of (inner d) = field_rule_of d
   field_of _ = plain_fields [] no_type
+
+  pub field_rule_of : Tree Token → FieldList
+  field_rule_of (left d) = plain_fields_of d
+  field_rule_of (right d) = case_fields_of d
+  field_rule_of _ = plain_fields [] no_type
+
+  pub plain_fields_of : Tree Token → FieldList
+  plain_fields_of (both names (both colon d)) = plain_fields (idents_of names) (type_of d)
+  plain_fields_of _ = plain_fields [] no_type
+
+  pub case_fields_of : Tree Token → FieldList
+  case_fields_of (both case (both tag (both colon (both q (both of (both vs (both other end))))))) =
+      case_fields (tag_of tag) (qual_of q) (variant_arms (variants_of vs)) (field_lists (other_fields_of other))
+  case_fields_of _ = plain_fields [] no_type
 
   pub variants_of : Tree Token → List VariantArm
   variants_of (both v vs) = variant_of v ++ more_variants_of vs

@@ -19,6 +19,9 @@ pub record UnitTexts : Type 0 where
   pub order : List ℕ
   pub own : Option ℕ
 
+abbrev pub unit_of : (names : List (List ℕ)) → List TextOf → (order : List ℕ) → (own : Option ℕ) → UnitTexts
+unit_of names list order own = record { names = names; list = list; order = order; own = own }
+
 -- ** What every unit keeps
 
 -- the bytes are an identifier's
@@ -100,7 +103,7 @@ pub record IsUnit (u : UnitTexts) : Type 0 where
   pub once : AllDiffer u.order
   pub own_text : IsOwn u.list u.own
 
--- ** Whole units
+-- ** Whole units, by what the fronts of the texts say. How a front is read is the grammar's to say: it is a parameter here.
 
 -- What the front of a text says: the module's name, whether it is an implementation, and the modules that it imports.
 pub record Front : Type 0 where

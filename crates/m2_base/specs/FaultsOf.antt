@@ -1,0 +1,19 @@
+-- What is told of a fault, by its reason and the tokens from the refused one on.
+use Rattle.std.specs.Prelude.{ℕ, List, [], ◌∷◌, ◌==◌, if◌then◌else◌}
+use Rattle.m2_base.specs.declared.kind.TokenKind.TheVariants.{Bad}
+use Rattle.m2_base.specs.declared.outputs.StreamFault.{StreamFault}
+use Rattle.m2_base.specs.declared.outputs.StreamFault.TheVariants as faults
+use Rattle.m2_base.specs.declared.token.Token.{Token}
+use Rattle.m2_base.specs.KindNumbers.{kind_number}
+use Rattle.m2_base.specs.StatementsOf.{place}
+use Rattle.ll_grammar.specs.Sentences.{Fault, Syntax, TooDeep}
+
+-- a fault of the text has its own code, any other token is unexpected
+abbrev pub code_of : List Token → ℕ
+code_of [] = 20
+code_of (t ∷ ts) = if kind_number t.kind == kind_number Bad then t.value else 20
+
+-- the fault, in the text of this number
+abbrev pub fault_in : ℕ → Fault → List Token → StreamFault
+fault_in text Syntax rest = faults.Syntax (record { text = text; at = place rest; code = code_of rest })
+fault_in text TooDeep rest = faults.TooDeep text (place rest)

@@ -1,0 +1,16 @@
+use Rattle.std.proofs.Common.{ap, ◌∙◌, map}
+use Rattle.std.proofs.lemmas.List.{map-append}
+use Rattle.ll_grammar.proofs.Loops.{repeat_goes_on, repeat_stops, repeat_is_done}
+use Rattle.m2_base.specs.Views.{decl_view}
+use Rattle.m2_parse.proofs.declarations.declarations.Goals as goal
+
+pub returns-then-not-begins_declaration : goal.returns-then-not-begins_declaration
+returns-then-not-begins_declaration c = repeat_stops c.loop.invariant c.loop-test.true c.if-not-begins_declaration.true c.begins_declaration.ensures
+
+pub loop-preserved : goal.loop-preserved
+loop-preserved c =
+    repeat_goes_on c.loop.invariant c.loop-test.true c.if-not-begins_declaration.false c.begins_declaration.ensures c.in_ok-item.ensures
+    (ap (map decl_view) c.in_ok-append.ensures.items ∙ map-append decl_view c.loop.items.items c.in_ok-item.item.items)
+
+pub returns : goal.returns
+returns c = repeat_is_done c.loop.invariant c.loop-test.false

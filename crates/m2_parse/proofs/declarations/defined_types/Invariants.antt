@@ -1,0 +1,12 @@
+use Rattle.std.proofs.Common.{map}
+use Rattle.ll_grammar.specs.Readers.{itself}
+use Rattle.ll_grammar.proofs.Loops.{RepeatSoFar}
+use Rattle.m2_base.specs.Views.{decl_view}
+use Rattle.m2_base.specs.declared.kind.TokenKind.TheVariants.{Identifier}
+use Rattle.m2_parse.specs.Reading.{next_is}
+use Rattle.m2_parse.specs.ReadStreams.{defined_type_at, defined_types_at}
+use Rattle.m2_parse.proofs.declarations.defined_types.Given as goal
+
+abbrev pub invariant-loop : goal.invariant-loop
+invariant-loop l =
+    RepeatSoFar (next_is Identifier) (defined_type_at l.depth) itself (map decl_view l.items.items) l.count l.counter l.rest.list.now (defined_types_at l.depth l.tokens.list.now)

@@ -1,0 +1,10 @@
+use Rattle.std.proofs.Common.{map}
+use Rattle.ll_grammar.specs.Readers.{all}
+use Rattle.ll_grammar.proofs.Loops.{RepeatSoFar}
+use Rattle.m2_base.specs.Views.{decl_view}
+use Rattle.m2_parse.specs.ReadStreams.{begins_declaration, definition_declaration_at, definition_declarations_at}
+use Rattle.m2_parse.proofs.declarations.definition_declarations.Given as goal
+
+abbrev pub invariant-loop : goal.invariant-loop
+invariant-loop l =
+    RepeatSoFar begins_declaration (definition_declaration_at l.depth) all (map decl_view l.items.items) l.count l.counter l.rest.list.now (definition_declarations_at l.depth l.tokens.list.now)

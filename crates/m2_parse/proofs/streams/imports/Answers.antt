@@ -1,0 +1,16 @@
+use Rattle.std.proofs.Common.{ap, ◌∙◌, map}
+use Rattle.std.proofs.lemmas.List.{map_push}
+use Rattle.ll_grammar.proofs.Loops.{repeat_goes_on, repeat_stops, repeat_is_done}
+use Rattle.m2_base.specs.Views.{import_view}
+use Rattle.m2_parse.proofs.streams.imports.Goals as goal
+
+pub returns-then-not-begins_import : goal.returns-then-not-begins_import
+returns-then-not-begins_import c = repeat_stops c.loop.invariant c.loop-test.true c.if-not-begins_import.true c.begins_import.ensures
+
+pub loop-preserved : goal.loop-preserved
+loop-preserved c =
+    repeat_goes_on c.loop.invariant c.loop-test.true c.if-not-begins_import.false c.begins_import.ensures c.in_ok-item.ensures
+    (ap (map import_view) c.in_ok-push.ensures.items ∙ map_push import_view c.loop.items.items c.in_ok-item.item)
+
+pub returns : goal.returns
+returns c = repeat_is_done c.loop.invariant c.loop-test.false

@@ -1,0 +1,11 @@
+pub mod BlockViews
+pub mod Fitting
+pub mod FrontViews
+pub mod Fronts
+pub mod ReadExpressions
+pub mod ReadNames
+pub mod ReadStatements
+pub mod ReadStreams
+pub mod ReadTypes
+pub mod Reading
+pub mod Streams

@@ -1,0 +1,63 @@
+-- Reading tokens by descent: what the grammar's readers are at this language's tokens and faults.
+use Rattle.std.specs.Prelude.{ℕ, Bool, List, [], ◌∷◌, map, Result, Option, Some, None, ◌==◌, if◌then◌else◌}
+use Rattle.m2_base.specs.declared.kind.TokenKind.{TokenKind}
+use Rattle.m2_base.specs.declared.kind.TokenKind.TheVariants.{Bad}
+use Rattle.m2_base.specs.declared.token.Token.{Token}
+use Rattle.m2_base.specs.KindNumbers.{kind_number}
+use Rattle.m2_base.specs.Grammar.{number_of_token}
+use Rattle.m2_base.specs.StatementsOf as statements
+use Rattle.m2_parse.specs.declared.faults.Refusal.{Refusal}
+use Rattle.m2_parse.specs.declared.faults.Refusal.TheVariants as refusals
+use Rattle.m2_parse.specs.declared.faults.ReadFault.{ReadFault}
+use Rattle.m2_parse.specs.declared.faults.ReadFault.TheVariants.{Memory, Refused}
+use Rattle.ll_grammar.specs.Sentences.{Fault, Syntax, TooDeep}
+use Rattle.ll_grammar.specs.Readers as readers
+
+-- the number of the next token
+abbrev pub place : List Token → ℕ
+place ts = statements.place ts
+
+-- a fault of the text has its own code, any other token is unexpected
+abbrev pub code_of : List Token → ℕ
+code_of [] = 20
+code_of (t ∷ ts) = if kind_number t.kind == kind_number Bad then t.value else 20
+
+-- what is told of a fault, by its reason and the tokens from the refused one on
+abbrev pub tell : Fault → List Token → Refusal
+tell Syntax rest = refusals.Syntax (place rest) (code_of rest)
+tell TooDeep rest = refusals.TooDeep (place rest)
+
+-- what an error tells of
+abbrev pub cause : ReadFault → Option Refusal
+cause Memory = None
+cause (Refused r) = Some r
+
+-- the next token is refused
+abbrev pub syntax_fault : List Token → ReadFault
+syntax_fault ts = Refused (tell Syntax ts)
+
+-- no token of a counted rule may stand here
+abbrev pub depth_fault : Bool → List Token → ReadFault
+depth_fault begins ts = if begins then Refused (tell TooDeep ts) else Refused (tell Syntax ts)
+
+abbrev pub Read : Type 0 → Type 0
+Read X = readers.Reader Token Refusal X
+
+-- what code returned, seen by `view`, is what reading gives, unless memory is out
+abbrev pub Gives : {X Y : Type 0} → (X → Y) → Result X ReadFault → Result Y Refusal → Type 0
+Gives view result read = readers.Gives cause view result read
+
+abbrev pub next_is : TokenKind → List Token → Bool
+next_is kind ts = readers.next_is number_of_token (kind_number kind) ts
+
+abbrev pub next_in : List TokenKind → List Token → Bool
+next_in kinds ts = readers.next_in number_of_token (map kind_number kinds) ts
+
+abbrev pub skip : TokenKind → List Token → Option (List Token)
+skip kind ts = readers.skip number_of_token (kind_number kind) ts
+
+abbrev pub expect : TokenKind → Read Token
+expect kind ts = readers.expect tell number_of_token (kind_number kind) ts
+
+abbrev pub expect_in : List TokenKind → Read Token
+expect_in kinds ts = readers.expect_in tell number_of_token (map kind_number kinds) ts

@@ -1,0 +1,118 @@
+//! Reading the front of a text: the module's name, and the modules that it imports.
+ghost use Rattle.std.specs.Prelude.{◌≡◌, ◌++◌, length, IfOk, IsTrue};
+ghost use Rattle.m2_base.specs.Views.{import_view};
+ghost use Rattle.m2_parse.specs.Fitting.{all_fit};
+ghost use Rattle.m2_parse.specs.Fronts.{definition_head_at, main_head_at, head_at, modules_of, modules_at, imports_behind as spec_imports_behind, front_of};
+ghost use Rattle.m2_parse.specs.FrontViews.{front_view};
+ghost use Rattle.m2_parse.specs.Reading.{Gives};
+
+use crate::faults::ReadFault;
+use crate::heads::Front;
+use crate::names::ident;
+use crate::reading::{expect, skip};
+use crate::streams::{implementation, import};
+use crate::tokens::Tokens;
+use m2_base::{Ident, Import, Memory, Token, TokenKind};
+use std::alloc::Global;
+
+/// DEFINITION MODULE ident
+#[tactic(auto, unfolding(crate::specs::Fronts::definition_head_at))]
+fn definition_head(tokens: Tokens) -> Result<((bool, Ident), Tokens), ReadFault>
+    ensures { Gives (λ x. (x.0, x.1.list.now)) result (definition_head_at tokens.entry.list.now) }
+{
+    let (_definition, rest) = expect(TokenKind::Definition, tokens)?;
+    let (_module, rest) = expect(TokenKind::Module, rest)?;
+    let (name, rest) = ident(rest)?;
+    Ok(((false, name), rest))
+}
+
+/// [IMPLEMENTATION] MODULE ident
+#[tactic(auto, unfolding(crate::specs::Fronts::main_head_at))]
+fn main_head(tokens: Tokens) -> Result<((bool, Ident), Tokens), ReadFault>
+    ensures { Gives (λ x. (x.0, x.1.list.now)) result (main_head_at tokens.entry.list.now) }
+{
+    let (implementation, rest) = implementation(tokens)?;
+    let (_module, rest) = expect(TokenKind::Module, rest)?;
+    let (name, rest) = ident(rest)?;
+    Ok(((implementation, name), rest))
+}
+
+/// The head of a text.
+fn head(tokens: Tokens, definition: bool) -> Result<((bool, Ident), Tokens), ReadFault>
+    ensures { Gives (λ x. (x.0, x.1.list.now)) result (head_at definition tokens.entry.list.now) }
+{
+    if definition {
+        definition_head(tokens)
+    } else {
+        main_head(tokens)
+    }
+}
+
+/// The modules of an import.
+fn modules(alloc: Global, found: Import) -> Result<Vec<Ident>, Memory>
+    ensures { IfOk result (λ v. v.items ≡ modules_of (import_view found)) }
+{
+    match found.from {
+        None => Ok(found.names),
+        Some(module) => {
+            let mut items = Vec::new(alloc);
+            items.push(module)?;
+            Ok(items)
+        }
+    }
+}
+
+/// The modules of the whole imports at the front.
+fn all_modules(alloc: Global, tokens: Tokens) -> Result<Vec<Ident>, Memory>
+    ensures { IfOk result (λ v. v.items ≡ modules_at (length tokens.entry.list.now) tokens.entry.list.now) }
+{
+    let mut items = Vec::new(alloc);
+    let mut rest = tokens;
+    let count = tokens.list.len();
+    for _ in 0..count {
+        let (found, after) = match import(alloc, rest) {
+            Ok(read) => read,
+            Err(ReadFault::Memory) => return Err(Memory),
+            Err(ReadFault::Refused(_)) => return Ok(items),
+        };
+        let mut some = modules(alloc, found)?;
+        items.append(&mut some)?;
+        rest = after;
+    }
+    Ok(items)
+}
+
+/// The modules of the imports behind the name and its ";".
+fn imports_behind(alloc: Global, tokens: Tokens) -> Result<Vec<Ident>, Memory>
+    ensures { IfOk result (λ v. v.items ≡ spec_imports_behind tokens.entry.list.now) }
+{
+    match skip(TokenKind::Semicolon, tokens) {
+        Some(rest) => all_modules(alloc, rest),
+        None => Ok(Vec::new(alloc)),
+    }
+}
+
+/// The front of a text: a definition's, or that of a main text. Where a token is refused before the name, there is no
+/// name and no import; a later one ends the imports.
+pub fn front(alloc: Global, tokens: &[Token], definition: bool) -> Result<Front, Memory>
+    requires { IsTrue (all_fit tokens.now) }
+    ensures { IfOk result (λ f. front_view f ≡ front_of definition tokens.now) }
+{
+    let ((implementation, name), rest) = match head(Tokens { list: tokens }, definition) {
+        Ok(read) => read,
+        Err(ReadFault::Memory) => return Err(Memory),
+        Err(ReadFault::Refused(_)) => {
+            return Ok(Front {
+                name: None,
+                implementation: false,
+                imports: Vec::new(alloc),
+            });
+        }
+    };
+    let imports = imports_behind(alloc, rest)?;
+    Ok(Front {
+        name: Some(name),
+        implementation,
+        imports,
+    })
+}
