@@ -19,7 +19,6 @@ pub mod Folding
 pub mod Functions
 pub mod HeadingRows
 pub mod ImportRows
-pub mod Imports
 pub mod Items
 pub mod Layouts
 pub mod Lookup
@@ -33,6 +32,7 @@ pub mod ProcedureTypes
 pub mod Ranges
 pub mod SameForm
 pub mod Sets
+pub mod ShapedRows
 pub mod Shapes
 pub mod Subranges
 pub mod Targets

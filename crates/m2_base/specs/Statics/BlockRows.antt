@@ -3,12 +3,11 @@ use Rattle.std.specs.Prelude.{ℕ, ◌+◌, List, [], ◌∷◌, Option, Some, N
 use Rattle.m2_base.specs.Rows.{Row, RowMeaning, Var, row_meaning}
 use Rattle.m2_base.specs.Statics.Blocks.{BlockTree}
 use Rattle.m2_base.specs.Statics.Cells.{capped}
-use Rattle.m2_base.specs.Statics.Contexts.{Block, Context, Named, Scene, Source, counting}
+use Rattle.m2_base.specs.Statics.Contexts.{Block, Context, Scene, Source, counting}
 use Rattle.m2_base.specs.Statics.Declarations.{declare}
 use Rattle.m2_base.specs.Statics.Effects.{BlockEffects, no_effects, joined_effects}
-use Rattle.m2_base.specs.Statics.Imports.{brought_by}
 use Rattle.m2_base.specs.Statics.Items.{Item, items_of}
-use Rattle.m2_base.specs.Statics.Layouts.{Brought, layout_of}
+use Rattle.m2_base.specs.Statics.Layouts.{layout_of}
 use Rattle.m2_base.specs.Statics.Makes.{Makes, make_then, makes}
 use Rattle.m2_base.specs.Statics.Types.{meaning_at, size_by}
 use Rattle.m2_base.specs.Tables.{rows_at}
@@ -19,11 +18,11 @@ abbrev pub at_item : Context → ℕ → Context
 at_item c i = record c { item = Some i }
 
 -- the items from this one on, each from the rows of those before, with variables from this cell on
-abbrev pub declare_items : Context → StreamKind → List Brought → (item : ℕ) → (cell : ℕ) → List Item → Makes BlockEffects
-declare_items c kind brought i cell [] = makes (no_effects cell)
-declare_items c kind brought i cell (x ∷ items) =
-    make_then c (declare (at_item c i) kind brought i x cell) (λ d e.
-    make_then d (declare_items d kind brought (i + 1) e.cell items) (λ f es.
+abbrev pub declare_items : Context → StreamKind → (item cell : ℕ) → List Item → Makes BlockEffects
+declare_items c kind i cell [] = makes (no_effects cell)
+declare_items c kind i cell (x ∷ items) =
+    make_then c (declare (at_item c i) kind x cell) (λ d e.
+    make_then d (declare_items d kind (i + 1) e.cell items) (λ f es.
     makes (joined_effects e es)))
 
 -- the next cell after these variables
@@ -45,15 +44,12 @@ abbrev pub scene_of : List (List Row) → Block → Scene
 scene_of tables b = counting tables b []
 
 -- the context of a block's declarations
-abbrev pub context_of : Source → List (List Row) → Block → List Named → Context
-context_of source tables b names = record { source = source; scene = scene_of tables b; layout = names; item = None }
-
--- what a block declares, over the finished scopes before it, where its imports bring these names
-abbrev pub declare_with : Source → List (List Row) → List Brought → BlockTree → Makes BlockEffects
-declare_with source tables brought b =
-    declare_items (context_of source tables b.block (layout_of b.tree brought).names) b.tree.kind brought 0
-    (first_cell (scene_of tables b.block) b.tree.kind b.block.own) (items_of b.tree)
+abbrev pub context_of : Source → List (List Row) → BlockTree → Context
+context_of source tables b =
+    record { source = source; scene = scene_of tables b.block; layout = (layout_of b.tree).names; item = None }
 
 -- what a block declares, over the finished scopes before it
 unfoldable pub declare_block : Source → List (List Row) → BlockTree → Makes BlockEffects
-declare_block source tables b = declare_with source tables (brought_by source (scene_of tables b.block) b.tree) b
+declare_block source tables b =
+    declare_items (context_of source tables b) b.tree.kind 0
+    (first_cell (scene_of tables b.block) b.tree.kind b.block.own) (items_of b.tree)

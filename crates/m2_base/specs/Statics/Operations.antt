@@ -1,13 +1,13 @@
 -- What an operator gives of its operands: which types it takes, the type that it gives, and the value where all
 -- operands are constant.
-use Rattle.std.specs.Prelude.{Bool, None, Option, Some, false, is_some, neg_ℤ, pos, true, ℕ, ℤ, if◌then◌else◌, ◌==◌, ◌^◌, ◌&&◌, ◌||◌, ◌-ℤ◌, ◌/◌, ◌%◌}
+use Rattle.std.specs.Prelude.{Bool, None, Option, Some, false, is_some, neg_ℤ, pos, true, ℕ, ℤ, if◌then◌else◌, ◌==◌, ◌^◌, ◌&&◌, ◌||◌, ◌/◌, ◌%◌}
 use Rattle.m2_base.specs.Gives.{Gives, and_then, gives}
 use Rattle.m2_base.specs.Rows.{Place, RowMeaning, Set, is_same_place, natural}
 use Rattle.m2_base.specs.Standard.{boolean, integer, whole}
 use Rattle.m2_base.specs.Statics.Compatible.{is_compatible, is_integer_or_cardinal, is_number_type, is_pointer, taken_beside}
 use Rattle.m2_base.specs.Statics.Contexts.{Context, refuse}
 use Rattle.m2_base.specs.Statics.Diagnostics.{out_of_range, wrong_operands}
-use Rattle.m2_base.specs.Statics.Folding.{fold, is_arithmetic, is_equality, is_relation, number_kind, truth, where_in}
+use Rattle.m2_base.specs.Statics.Folding.{fold, is_arithmetic, is_equal, is_equality, is_relation, number_kind, truth, where_in}
 use Rattle.m2_base.specs.Statics.Operands.{constant_of_operand, is_bad, is_procedure, operand_type, worse}
 use Rattle.m2_base.specs.Statics.Ranges.{Range, integer_range, is_in, is_within, whole_range}
 use Rattle.m2_base.specs.Statics.Types.{base_of, is_broken, is_same, kind_of, range_of}
@@ -172,9 +172,9 @@ operate c op op_at x x_at y y_at =
     if is_procedure x || is_procedure y then wrong c op_at else
     operate_by c op op_at x x_at y y_at
 
--- NOT of a BOOLEAN
+-- NOT of a BOOLEAN: TRUE where that is FALSE
 abbrev pub negated : Operand → Operand
-negated (Constant t v) = Constant boolean (pos 1 -ℤ v)
+negated (Constant t v) = Constant boolean (truth (is_equal v (pos 0)))
 negated o = Computed boolean
 
 -- a value with its sign

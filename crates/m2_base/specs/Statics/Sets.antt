@@ -44,9 +44,9 @@ element_of c base at o =
     checked_element c base at (taken_beside c.source c.scene o (Computed base))
     else refuse c at not_assignable InError
 
--- the bits from low to high, none where low is above high
+-- the bits from low to high, of those that a set has; none where low is above high
 abbrev pub span : ℕ → ℕ → ℕ
-span low high = if nat_le low high then 2 ^ (high + 1) - 2 ^ low else 0
+span low high = if nat_le low high && nat_le high 31 then 2 ^ (high + 1) - 2 ^ low else 0
 
 -- a set with the elements from low to high too
 abbrev pub with_elements : Operand → (low high : Operand) → Operand
