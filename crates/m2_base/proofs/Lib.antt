@@ -9,5 +9,11 @@ pub mod OneReading
 mod ReservedWords
 pub mod RowLaws
 pub mod Seen
+pub mod ItemLaws
+pub mod LayoutLaws
+pub mod ShapeLaws
 pub mod StandardLaws
 pub mod WholeTextChecks
+pub mod TypeLaws
+pub mod UnitTerms
+pub mod units

@@ -22,6 +22,7 @@ pub mod Scopes
 pub mod Standard
 pub mod StatementsOf
 pub mod States
+pub mod Statics
 pub mod StreamsOf
 pub mod Tables
 pub mod Tokens

@@ -8,22 +8,26 @@
 //! `Scopes`). The layers above use `Names`, `Token`, the trees, the rows and the meanings of `Scopes`.
 #![tactic(auto)]
 
+mod builtins;
 mod kind;
 mod laws;
 mod letters;
 mod memory;
 mod names;
 mod notes;
+mod operands;
 mod outputs;
 mod replies;
 mod rows;
 mod scopes;
 mod sites;
 mod standard;
+mod static_laws;
 mod texts;
 mod token;
 mod trees;
 
+pub use builtins::{Builtin, standard_procedure};
 pub use kind::{TokenKind, reserved_kind, symbol_kind};
 pub use laws::one_list_of_tokens;
 pub use letters::{
@@ -33,12 +37,14 @@ pub use letters::{
 pub use memory::Memory;
 pub use names::Names;
 pub use notes::{Answer, Diag, Notes};
+pub use operands::{FoldKind, Operand};
 pub use outputs::{HeadingNote, Output, ProcCode, StreamFault};
 pub use replies::{Ask, Chain, Head, Reply};
 pub use rows::{Mode, Place, Row, RowMeaning, read_row, write_row};
 pub use scopes::Scopes;
 pub use sites::{Around, Layout, Named, Site};
 pub use standard::standard_rows;
+pub use static_laws::{ranges_are_whole, rows_have_their_shapes, same_is_an_equivalence};
 pub use texts::{Text, Texts};
 pub use token::Token;
 pub use trees::{

@@ -1,0 +1,47 @@
+-- A unit, with what its declarations give. Names are numbered from 28 on as they come here.
+--
+-- A.mod:
+--     MODULE A; PROCEDURE P; VAR a, b: ARRAY [0..8999999] OF CHAR; END P; END A.
+use Rattle.std.specs.Prelude.{◌≡◌, pos, negsuc, false, List, [], ◌∷◌, ◌++◌, Some, None}
+use Rattle.std.proofs.Common.{refl}
+use Rattle.m2_base.specs.Names.{standard_names}
+use Rattle.m2_base.specs.Rows.{Row, numbers_row}
+use Rattle.m2_base.specs.Standard.{standard_rows}
+use Rattle.m2_base.specs.Statics.BlockRows.{declare_block}
+use Rattle.m2_base.specs.Statics.Blocks.{UnitTrees, blocks_of}
+use Rattle.m2_base.specs.Statics.UnitNotes.{declaration_diags, declaration_answers}
+use Rattle.m2_base.specs.Statics.UnitRows.{unit_rows}
+use Rattle.m2_base.specs.Trees.{Stream, Main, Procedure, expr, number_form, type_expr, named_type, sub_type, array_type, type_exprs, vars_decl, proc_decl, statements}
+use Rattle.m2_base.proofs.UnitTerms.{ident, qual, heading, stream, sorted_diags, sorted_answers}
+
+abbrev tree_1 : Stream
+tree_1 = stream Main false (Some (ident 28 1)) ([]) None ((proc_decl (heading (ident 29 4) ([]) None) 2) ∷ []) (statements []) (ident 28 24)
+
+abbrev tree_2 : Stream
+tree_2 = stream Procedure false None [] (Some (heading (ident 29 4) ([]) None)) ((vars_decl ((ident 30 7) ∷ (ident 31 9) ∷ []) (type_expr 11 (array_type (type_exprs ((type_expr 12 (sub_type None (expr 13 (number_form 0)) (expr 15 (number_form 8999999)))) ∷ [])) (type_expr 18 (named_type (qual (ident 3 18) None)))))) ∷ []) (statements []) (ident 29 21)
+
+abbrev rows_1 : List Row
+rows_1 = ((numbers_row 0 4 18 (negsuc 0) (pos 0) (pos 0) (pos 0)) ∷ (numbers_row 29 4 4 (pos 4294967296) (pos 1) (pos 2) (pos 0)) ∷ [])
+
+abbrev rows_2 : List Row
+rows_2 = ((numbers_row 0 12 12 (pos 1) (pos 0) (pos 8999999) (pos 0)) ∷ (numbers_row 0 11 13 (pos 8589934592) (pos 2) (pos 9000000) (pos 0)) ∷ (numbers_row 30 7 3 (pos 8589934593) (pos 0) (pos 0) (pos 0)) ∷ (numbers_row 31 9 3 (pos 8589934593) (pos 0) (pos 9000000) (pos 0)) ∷ [])
+
+abbrev unit : UnitTrees
+unit = record {
+  source = record { spellings = standard_names ++ ((65 ∷ []) ∷ (80 ∷ []) ∷ (97 ∷ []) ∷ (98 ∷ []) ∷ []); definitions = ([]) };
+  own = None;
+  definitions = ([]);
+  main = (tree_1 ∷ tree_2 ∷ []);
+}
+
+pub rows_are : unit_rows unit ≡ standard_rows ∷ (rows_1 ∷ rows_2 ∷ [])
+unfolding unit_rows declare_block blocks_of standard_names
+rows_are = refl
+
+pub diagnostics_are : sorted_diags (declaration_diags unit) ≡ ([])
+unfolding unit_rows declare_block blocks_of declaration_diags standard_names
+diagnostics_are = refl
+
+pub answers_are : sorted_answers (declaration_answers unit) ≡ ([])
+unfolding unit_rows declare_block blocks_of declaration_answers standard_names
+answers_are = refl

@@ -1,0 +1,40 @@
+-- What an item gives beside its rows: the next free cell, what its procedure's body copies first, and a note of its
+-- heading.
+use Rattle.std.specs.Prelude.{ℕ, List, [], ◌∷◌, ◌++◌, Option, Some, None}
+use Rattle.m2_base.specs.declared.outputs.HeadingNote.{HeadingNote}
+
+-- What a procedure's body copies first: a structured value parameter, whose address is in a cell, into cells of its
+-- own; or an open array by value, whose address is in a cell.
+pub data ParamCopy : Type 0 where
+  own_copy : (own cell size : ℕ) → ParamCopy
+  open_copy : (cell elem_size : ℕ) → ParamCopy
+
+-- what an item gives beside its rows
+pub record Effect : Type 0 where
+  pub cell : ℕ
+  pub prologue : List ParamCopy
+  pub heading : Option HeadingNote
+
+-- the next free cell, and nothing else
+abbrev pub only_cell : ℕ → Effect
+only_cell n = record { cell = n; prologue = []; heading = None }
+
+-- what the items of a block give beside their rows
+pub record BlockEffects : Type 0 where
+  pub cell : ℕ
+  pub prologue : List ParamCopy
+  pub headings : List HeadingNote
+
+-- of no item: the next free cell
+abbrev pub no_effects : (cell : ℕ) → BlockEffects
+no_effects cell = record { cell = cell; prologue = []; headings = [] }
+
+-- the note of a heading, if there is one
+abbrev pub heading_list : Option HeadingNote → List HeadingNote
+heading_list None = []
+heading_list (Some h) = h ∷ []
+
+-- what an item gives, with what the items after it give
+abbrev pub joined_effects : Effect → BlockEffects → BlockEffects
+joined_effects e es =
+    record { cell = es.cell; prologue = e.prologue ++ es.prologue; headings = heading_list e.heading ++ es.headings }

@@ -1,0 +1,40 @@
+-- Ranges of whole numbers: the values of a type.
+use Rattle.std.specs.Prelude.{Bool, None, Option, Some, int_le, negsuc, pos, true, ℕ, ℤ, ◌+◌, ◌&&◌, ◌-ℤ◌}
+
+-- the values from low to high, both with them
+pub record Range : Type 0 where
+  pub low : ℤ
+  pub high : ℤ
+
+-- the range from low to high
+abbrev pub range : ℤ → ℤ → Range
+range low high = record { low = low; high = high }
+
+-- the values of INTEGER
+abbrev pub integer_range : Range
+integer_range = range (negsuc 2147483647) (pos 2147483647)
+
+-- the values of CARDINAL
+abbrev pub cardinal_range : Range
+cardinal_range = range (pos 0) (pos 4294967295)
+
+-- the values of whole constants
+abbrev pub whole_range : Range
+whole_range = range (negsuc 2147483647) (pos 4294967295)
+
+-- the value is in the range
+abbrev pub is_in : Range → ℤ → Bool
+is_in r v = int_le r.low v && int_le v r.high
+
+-- where there is a range, the value is in it
+abbrev pub is_within : Option Range → ℤ → Bool
+is_within None v = true
+is_within (Some r) v = is_in r v
+
+-- the number of values of a range
+abbrev pub count_of : Range → ℕ
+count_of r = count (r.high -ℤ r.low)
+  where
+    count : ℤ → ℕ
+    count (pos n) = n + 1
+    count (negsuc n) = 0

@@ -1,0 +1,33 @@
+//! Laws on the static rules, each the contract of a function that does nothing.
+ghost use Rattle.std.specs.Prelude.{◌≡◌, ℕ, List, Option, Some, true, length, flat_map};
+ghost use Rattle.m2_base.specs.Rows.{Row, Place, IsWellFormed, IsValue};
+ghost use Rattle.m2_base.specs.Statics.BlockRows.{declare_block};
+ghost use Rattle.m2_base.specs.Statics.Blocks.{BlockTree};
+ghost use Rattle.m2_base.specs.Statics.Contexts.{Context, Scene, Source, row_at};
+ghost use Rattle.m2_base.specs.Statics.Declarations.{declare};
+ghost use Rattle.m2_base.specs.Statics.Items.{Item, items_of};
+ghost use Rattle.m2_base.specs.Statics.Ranges.{Range};
+ghost use Rattle.m2_base.specs.Statics.ShapedRows.{AreShaped};
+ghost use Rattle.m2_base.specs.Statics.Shapes.{item_shapes};
+ghost use Rattle.m2_base.specs.Statics.Types.{is_same, stands_for, range_of};
+ghost use Rattle.m2_base.specs.Trees.{StreamKind as KindOfStream};
+
+/// That two types are the same is an equivalence.
+pub fn same_is_an_equivalence()
+    ensures reflexive { (scene : Scene) (t : Place) → is_same scene t t ≡ true }
+    ensures symmetric { (scene : Scene) (t u : Place) → is_same scene t u ≡ true → is_same scene u t ≡ true }
+    ensures transitive { (scene : Scene) (t u v : Place) → is_same scene t u ≡ true → is_same scene u v ≡ true → is_same scene t v ≡ true }
+{}
+
+/// The range of a type lies within the values of whole constants.
+pub fn ranges_are_whole()
+    ensures { (scene : Scene) (t : Place) (r : Range) (names : ℕ) → IsWellFormed names (stands_for scene t) (row_at scene.tables (stands_for scene t)) → range_of scene t ≡ Some r → IsValue r.low × IsValue r.high }
+{}
+
+/// The rows of an item, and those of a block, are as many as the syntax says, and each has its name or none, its kind
+/// and its token.
+pub fn rows_have_their_shapes()
+    ensures items { (c : Context) (kind : KindOfStream) (x : Item) (cell : ℕ) → AreShaped (item_shapes x) (declare c kind x cell).rows }
+    ensures blocks { (source : Source) (tables : List (List Row)) (b : BlockTree) → AreShaped (flat_map item_shapes (items_of b.tree)) (declare_block source tables b).rows }
+    ensures count { (source : Source) (tables : List (List Row)) (b : BlockTree) → length (declare_block source tables b).rows ≡ length (flat_map item_shapes (items_of b.tree)) }
+{}
