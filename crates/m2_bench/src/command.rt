@@ -1,17 +1,21 @@
 //! What the words ask for.
 use crate::kind::Kind;
+use crate::shape::Shape;
 
-pub const USAGE: &str = "usage: m2_bench [lex KIND BYTES | compile BYTES], \
-    where KIND is ordinary, names, digits, blanks or symbols, and BYTES is at most 1048576";
+pub const USAGE: &str = "usage: m2_bench [lex KIND BYTES | parse SHAPE TOKENS | compile BYTES], \
+    where KIND is ordinary, names, digits, blanks or symbols, \
+    SHAPE is statements, semicolons, operators, names, brackets or loops, \
+    and BYTES and TOKENS are at most 1048576";
 
-/// The most bytes of a text.
-pub const MOST_BYTES: u32 = 1_048_576;
+/// The most bytes of a text, and the most tokens of a stream.
+pub const MOST: u32 = 1_048_576;
 
-/// What to run. A text has about as many bytes as the number says.
+/// What to run. A text has about as many bytes, and a stream as many tokens, as the number says.
 #[derive(Clone, Copy, Debug, PartialEq, Eq)]
 pub enum Command {
     Counts,
     Lex(Kind, u32),
+    Parse(Shape, u32),
     Compile(u32),
 }
 
@@ -20,14 +24,17 @@ impl Command {
         match words {
             [] => Some(Command::Counts),
             [part, kind, bytes] if part.as_str() == "lex" => {
-                Some(Command::Lex(kind.parse().ok()?, bytes_in(bytes)?))
+                Some(Command::Lex(kind.parse().ok()?, number_in(bytes)?))
             }
-            [part, bytes] if part.as_str() == "compile" => Some(Command::Compile(bytes_in(bytes)?)),
+            [part, shape, tokens] if part.as_str() == "parse" => {
+                Some(Command::Parse(shape.parse().ok()?, number_in(tokens)?))
+            }
+            [part, bytes] if part.as_str() == "compile" => Some(Command::Compile(number_in(bytes)?)),
             _ => None,
         }
     }
 }
 
-fn bytes_in(word: &str) -> Option<u32> {
-    word.parse().ok().filter(|bytes| *bytes <= MOST_BYTES)
+fn number_in(word: &str) -> Option<u32> {
+    word.parse().ok().filter(|number| *number <= MOST)
 }

@@ -1,7 +1,7 @@
 //! How long does a call of one crate take, by the size of its input?
 //!
-//! `m2_bench lex KIND BYTES` times `lex` over a text of one kind, and `m2_bench compile BYTES` times `m2c compile A` over
-//! a plain module, both in memory. The inputs are made from the words, and the times are those of the processor. With no
+//! `m2_bench lex KIND BYTES` times `lex` over a text of one kind, `m2_bench parse SHAPE TOKENS` times `parse_stream` over
+//! a module of one shape, and `m2_bench compile BYTES` times `m2c compile A` over a plain module, all in memory. The inputs are made from the words, and the times are those of the processor. With no
 //! words a small run of each part prints its counts alone, which are the same at every run. Each part stands in a module
 //! of its own; a part to come adds a variant to `Command`.
 #![tactic(auto)]
@@ -10,11 +10,14 @@ mod command;
 mod compiling;
 mod kind;
 mod lexing;
+mod parsing;
+mod shape;
 mod stopwatch;
 
 use anyhow::Result;
 use command::{Command, USAGE};
 use kind::Kind;
+use shape::Shape;
 use std::env;
 use std::process::ExitCode;
 
@@ -23,6 +26,9 @@ const NO_COMMAND: u8 = 2;
 
 /// How many bytes each text of the small run has.
 const FEW_BYTES: u32 = 1000;
+
+/// How many tokens each stream of the small run has at most.
+const FEW_TOKENS: u32 = 1000;
 
 fn main(rt: HostRuntime) -> Result<ExitCode> {
     let words = words_of(&rt)?;
@@ -48,6 +54,7 @@ fn obey(rt: &HostRuntime, command: Command) -> Result<ExitCode> {
     match command {
         Command::Counts => print_counts(rt)?,
         Command::Lex(kind, bytes) => lexing::print_time(rt, kind, bytes)?,
+        Command::Parse(shape, tokens) => parsing::print_time(rt, shape, tokens)?,
         Command::Compile(bytes) => compiling::print_time(rt, bytes)?,
     }
     Ok(ExitCode::SUCCESS)
@@ -57,6 +64,9 @@ fn obey(rt: &HostRuntime, command: Command) -> Result<ExitCode> {
 fn print_counts(rt: &HostRuntime) -> Result<()> {
     for kind in Kind::ALL {
         lexing::print_counts(rt, kind, FEW_BYTES)?;
+    }
+    for shape in Shape::ALL {
+        parsing::print_counts(rt, shape, FEW_TOKENS)?;
     }
     compiling::print_counts(rt, FEW_BYTES)
 }

@@ -4,9 +4,10 @@ use Rattle.std.proofs.Common.{◌≡◌, ℕ, suc, ◌-◌, ◌+◌, ◌≤◌, 
 use Rattle.std.proofs.lemmas.List.{append-nil}
 use Rattle.m2_base.specs.declared.token.Token.{Token}
 use Rattle.m2_base.specs.declared.trees.Ident.{Ident}
+use Rattle.m2_base.specs.Fronts.{modules_of}
 use Rattle.m2_base.specs.Trees as trees
 use Rattle.m2_parse.specs.declared.faults.Refusal.{Refusal}
-use Rattle.m2_parse.specs.Fronts.{modules_at, modules_of}
+use Rattle.m2_parse.specs.Fronts.{modules_at}
 use Rattle.m2_parse.specs.ReadStreams.{import_at}
 
 module _ (front : List Ident) (count i : ℕ) (ts : List Token) (total : List Ident)

@@ -1,5 +1,8 @@
+pub mod EachKind
 pub mod ExpressionLinks
+pub mod FrontLaws
 pub mod FrontLemmas
+pub mod LeadingLaws
 pub mod NameLinks
 pub mod Others
 pub mod Retold

@@ -168,7 +168,7 @@ module _ (n : ℕ) where
       (seq (a_kind 25 ts) (λ p dp ep. final (λ i. Some i.0) (ident_read n p.1) (λ i di h. ap (λ x. Some x) h)))
       (no_part refl)
 
-  import_read : (ts : List Token) → Reads grammar tell rules.imported (Is of.import_of) n ts (at.import_at ts)
+  pub import_read : (ts : List Token) → Reads grammar tell rules.imported (Is of.import_of) n ts (at.import_at ts)
   unfolding at.import_at
   import_read ts =
       seq (from_read ts) (λ f df h.
@@ -180,15 +180,12 @@ module _ (n : ℕ) where
   imports_read ts =
       loop is_ll1 (λ d w. of.imports_of d) itself refl (next_in_starts grammar (25 ∷ 28 ∷ [])) (λ w. refl) (λ d ds w h. refl) import_read ts
 
-  implementation_read : (ts : List Token) → Reads grammar tell (optional (a Implementation)) (Is is_there) n ts (at.implementation_at ts)
+  pub implementation_read : (ts : List Token) → Reads grammar tell (optional (a Implementation)) (Is is_there) n ts (at.implementation_at ts)
   unfolding at.implementation_at
   implementation_read ts =
       either (next_is Implementation ts) (next_starts grammar 27 ts) (final (λ p. true) (a_kind 27 ts) (λ p dp ep. refl)) (no_part refl)
 
   -- EXPORT leaves no entry
-  NoNames : Tree Token → List Ident
-  NoNames d = []
-
   export_read : (ts : List Token) → Reads grammar tell rules.export (λ d x w. Unit {0}) n ts (at.export_at ts)
   unfolding at.export_at
   export_read ts =

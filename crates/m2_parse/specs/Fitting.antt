@@ -20,3 +20,11 @@ fits t = nat_lt t.value (limit_of (kind_number t.kind))
 abbrev pub all_fit : List Token → Bool
 all_fit [] = true
 all_fit (t ∷ ts) = fits t && all_fit ts
+
+-- the name of this token fits, if it is one
+abbrev pub name_fits : Token → Bool
+name_fits t = nat_lt t.value (if kind_number t.kind == kind_number Identifier then 2 ^ 32 else 2 ^ 64)
+
+abbrev pub names_fit : List Token → Bool
+names_fit [] = true
+names_fit (t ∷ ts) = name_fits t && names_fit ts

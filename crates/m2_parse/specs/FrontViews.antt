@@ -1,5 +1,5 @@
 -- A front of the code, seen as plain data.
-use Rattle.m2_parse.specs.Fronts.{Front}
+use Rattle.m2_base.specs.Fronts.{Front}
 use Rattle.m2_parse.specs.declared.heads.Front as code
 
 abbrev pub front_view : code.Front → Front

@@ -1,19 +1,15 @@
--- The front of a text: the module's name, and the modules of the whole imports behind it.
+-- Reading the front of a text: its head, and the imports behind it as long as each is whole.
 use Rattle.std.specs.Prelude.{ℕ, zero, suc, Bool, false, List, [], ◌∷◌, ◌++◌, Result, Ok, Err, Option, Some, None, if◌then◌else◌, length}
 use Rattle.m2_base.specs.declared.kind.TokenKind.TheVariants.{Definition, Module, Semicolon}
 use Rattle.m2_base.specs.declared.token.Token.{Token}
 use Rattle.m2_base.specs.declared.trees.Ident.{Ident}
+use Rattle.m2_base.specs.Fronts.{Front, modules_of}
 use Rattle.m2_base.specs.Trees as trees
 use Rattle.ll_grammar.specs.Readers.{◌>>=◌}
 use Rattle.m2_parse.specs.declared.faults.Refusal.{Refusal}
 use Rattle.m2_parse.specs.Reading.{Read, expect, skip}
 use Rattle.m2_parse.specs.ReadNames.{ident_at}
 use Rattle.m2_parse.specs.ReadStreams.{implementation_at, import_at}
-
-pub record Front : Type 0 where
-  pub name : Option Ident
-  pub implementation : Bool
-  pub imports : List Ident
 
 -- DEFINITION MODULE ident, or [IMPLEMENTATION] MODULE ident
 unfoldable pub definition_head_at : Read (Bool × Ident)
@@ -32,14 +28,6 @@ main_head_at ts = do
 
 abbrev pub head_at : Bool → Read (Bool × Ident)
 head_at definition ts = if definition then definition_head_at ts else main_head_at ts
-
--- the modules of an import: those that it names, or the one after FROM
-abbrev pub modules_with : Option Ident → List Ident → List Ident
-modules_with None names = names
-modules_with (Some i) names = i ∷ []
-
-abbrev pub modules_of : trees.Import → List Ident
-modules_of i = modules_with i.from i.names
 
 -- the modules of an import and of those behind it, or none where it isn't whole
 abbrev pub modules_behind : Result (trees.Import × List Token) Refusal → (List Token → List Ident) → List Ident

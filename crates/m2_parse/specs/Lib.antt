@@ -2,6 +2,7 @@ pub mod BlockViews
 pub mod Fitting
 pub mod FrontViews
 pub mod Fronts
+pub mod Leading
 pub mod ReadExpressions
 pub mod ReadNames
 pub mod ReadStatements

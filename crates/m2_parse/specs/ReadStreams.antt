@@ -157,8 +157,6 @@ block_at n ts = do
   Ok (record { decls = ds.0; body = b.0; close = i.0 }, i.1)
 
 -- DefDecl
-abbrev pub begins_definition_declaration : List Token → Bool
-begins_definition_declaration ts = begins_declaration ts
 
 unfoldable pub definition_declaration_at : ℕ → Read (List Decl)
 definition_declaration_at n ts =

@@ -1,7 +1,7 @@
 -- Reading tokens by descent: what the grammar's readers are at this language's tokens and faults.
 use Rattle.std.specs.Prelude.{ℕ, Bool, List, [], ◌∷◌, map, Result, Option, Some, None, ◌==◌, if◌then◌else◌}
 use Rattle.m2_base.specs.declared.kind.TokenKind.{TokenKind}
-use Rattle.m2_base.specs.declared.kind.TokenKind.TheVariants.{Bad}
+use Rattle.m2_base.specs.FaultsOf.{code_of}
 use Rattle.m2_base.specs.declared.token.Token.{Token}
 use Rattle.m2_base.specs.KindNumbers.{kind_number}
 use Rattle.m2_base.specs.Grammar.{number_of_token}
@@ -16,11 +16,6 @@ use Rattle.ll_grammar.specs.Readers as readers
 -- the number of the next token
 abbrev pub place : List Token → ℕ
 place ts = statements.place ts
-
--- a fault of the text has its own code, any other token is unexpected
-abbrev pub code_of : List Token → ℕ
-code_of [] = 20
-code_of (t ∷ ts) = if kind_number t.kind == kind_number Bad then t.value else 20
 
 -- what is told of a fault, by its reason and the tokens from the refused one on
 abbrev pub tell : Fault → List Token → Refusal

@@ -4,7 +4,8 @@ use Rattle.m2_base.specs.declared.token.Token.{Token}
 use Rattle.m2_base.specs.declared.outputs.StreamFault.{StreamFault}
 use Rattle.m2_base.specs.declared.outputs.StreamFault.TheVariants as faults
 use Rattle.m2_base.specs.declared.trees.declarations.StreamKind.{StreamKind}
-use Rattle.m2_base.specs.Grammar.{grammar, stream}
+use Rattle.m2_base.specs.FaultsOf.{fault_in}
+use Rattle.m2_base.specs.Grammar.{grammar, stream, levels}
 use Rattle.m2_base.specs.StreamsOf.{stream_of}
 use Rattle.m2_base.specs.Trees.{Stream}
 use Rattle.m2_parse.specs.declared.faults.Refusal.{Refusal}
@@ -13,10 +14,8 @@ use Rattle.m2_parse.specs.declared.faults.ReadFault.{ReadFault}
 use Rattle.m2_parse.specs.declared.faults.ReadFault.TheVariants as errors
 use Rattle.m2_parse.specs.declared.faults.ParseFault.{ParseFault}
 use Rattle.m2_parse.specs.declared.faults.ParseFault.TheVariants as parse_faults
-use Rattle.ll_grammar.specs.Sentences.{Fault}
 use Rattle.ll_grammar.specs.Readers as readers
 use Rattle.ll_grammar.specs.Texts as texts
-use Rattle.m2_parse.specs.Reading.{tell}
 use Rattle.m2_parse.specs.ReadStreams.{stream_at}
 
 -- the refused token, in the text of this number
@@ -33,21 +32,13 @@ abbrev pub cause_of : ParseFault → Option StreamFault
 cause_of parse_faults.Memory = None
 cause_of (parse_faults.Fault f) = Some f
 
--- what is told of a fault in this text
-abbrev pub tell_in : ℕ → Fault → List Token → StreamFault
-tell_in text fault rest = in_text text (tell fault rest)
-
--- how deep a token may be nested
-abbrev pub levels : ℕ
-levels = 100
-
 -- The tokens are a sentence of the stream's grammar, no token is nested too deep, and their parts give this tree.
 abbrev pub SpellsStream : StreamKind → Stream → List Token → Type 0
 SpellsStream kind tree ts = texts.Spells grammar levels (stream kind) (stream_of kind) tree ts
 
 -- The fault that the error tells of is the first of the stream, where memory is not out.
 abbrev pub IsFirstFault : ℕ → StreamKind → List Token → ParseFault → Type 0
-IsFirstFault text kind ts e = texts.TellsFirst grammar levels (stream kind) (tell_in text) ts (cause_of e)
+IsFirstFault text kind ts e = texts.TellsFirst grammar levels (stream kind) (fault_in text) ts (cause_of e)
 
 -- what a reader reads, with its faults told otherwise
 abbrev pub retell : {X F G : Type 0} → (F → G) → Result X F → Result X G
@@ -56,4 +47,4 @@ retell f (Err e) = Err (f e)
 
 -- reading a whole stream
 unfoldable pub stream_text : ℕ → StreamKind → List Token → Result Stream StreamFault
-stream_text text kind ts = readers.ended (tell_in text) (retell (in_text text) (stream_at levels kind ts))
+stream_text text kind ts = readers.ended (fault_in text) (retell (in_text text) (stream_at levels kind ts))

@@ -1,13 +1,15 @@
 //! Reading the front of a text: the module's name, and the modules that it imports.
 ghost use Rattle.std.specs.Prelude.{◌≡◌, ◌++◌, length, IfOk, IsTrue};
+ghost use Rattle.m2_base.specs.Fronts.{modules_of, IsFront};
 ghost use Rattle.m2_base.specs.Views.{import_view};
-ghost use Rattle.m2_parse.specs.Fitting.{all_fit};
-ghost use Rattle.m2_parse.specs.Fronts.{definition_head_at, main_head_at, head_at, modules_of, modules_at, imports_behind as spec_imports_behind, front_of};
+ghost use Rattle.m2_parse.specs.Fronts.{definition_head_at, main_head_at, head_at, modules_at, imports_behind as spec_imports_behind, front_of};
 ghost use Rattle.m2_parse.specs.FrontViews.{front_view};
+ghost use Rattle.m2_parse.specs.Fitting.{names_fit};
 ghost use Rattle.m2_parse.specs.Reading.{Gives};
 
 use crate::faults::ReadFault;
 use crate::heads::Front;
+use crate::leading::leading;
 use crate::names::ident;
 use crate::reading::{expect, skip};
 use crate::streams::{implementation, import};
@@ -92,13 +94,11 @@ fn imports_behind(alloc: Global, tokens: Tokens) -> Result<Vec<Ident>, Memory>
     }
 }
 
-/// The front of a text: a definition's, or that of a main text. Where a token is refused before the name, there is no
-/// name and no import; a later one ends the imports.
-pub fn front(alloc: Global, tokens: &[Token], definition: bool) -> Result<Front, Memory>
-    requires { IsTrue (all_fit tokens.now) }
-    ensures { IfOk result (λ f. front_view f ≡ front_of definition tokens.now) }
+/// The front, as it is read.
+fn read_front(alloc: Global, tokens: Tokens, definition: bool) -> Result<Front, Memory>
+    ensures { IfOk result (λ f. front_view f ≡ front_of definition tokens.entry.list.now) }
 {
-    let ((implementation, name), rest) = match head(Tokens { list: tokens }, definition) {
+    let ((implementation, name), rest) = match head(tokens, definition) {
         Ok(read) => read,
         Err(ReadFault::Memory) => return Err(Memory),
         Err(ReadFault::Refused(_)) => {
@@ -115,4 +115,19 @@ pub fn front(alloc: Global, tokens: &[Token], definition: bool) -> Result<Front,
         implementation,
         imports,
     })
+}
+
+/// The front of a text: a definition's, or that of a main text. Where a token is refused before the name, there is no
+/// name and no import; a later one ends the imports.
+pub fn front(alloc: Global, tokens: &[Token], definition: bool) -> Result<Front, Memory>
+    requires { IsTrue (names_fit tokens.now) }
+    ensures { IfOk result (λ f. IsFront definition tokens.now (front_view f)) }
+{
+    read_front(
+        alloc,
+        Tokens {
+            list: leading(tokens),
+        },
+        definition,
+    )
 }

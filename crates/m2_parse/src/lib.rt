@@ -10,17 +10,26 @@ mod blocks;
 mod declarations;
 mod expressions;
 mod faults;
+mod fitting;
 mod fronts;
 mod heads;
+mod laws;
+mod leading;
 mod names;
 mod operators;
 mod reading;
 mod statements;
 mod streams;
+#[cfg(test)]
+mod tests;
 mod tokens;
 mod types;
+#[cfg(test)]
+mod vectors;
 
 pub use faults::ParseFault;
+pub use fitting::{names_fit, values_fit};
 pub use fronts::front;
 pub use heads::Front;
+pub use laws::{text_has_one_front, text_has_one_meaning};
 pub use streams::parse_stream;
