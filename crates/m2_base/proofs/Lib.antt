@@ -1,4 +1,6 @@
 pub mod GrammarChecks
+mod BlockLimitChecks
+pub mod ChainLaws
 pub mod FinishedLaws
 pub mod Kept
 pub mod KindTables

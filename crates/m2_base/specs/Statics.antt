@@ -1,6 +1,7 @@
 -- The static rules of the language, one question a file.
 pub mod Arrays
 pub mod Assignable
+pub mod BlockLimits
 pub mod BlockRows
 pub mod Blocks
 pub mod Builtins

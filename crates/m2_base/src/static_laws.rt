@@ -1,8 +1,9 @@
 //! Laws on the static rules, each the contract of a function that does nothing.
-ghost use Rattle.std.specs.Prelude.{◌≡◌, ℕ, List, Option, Some, true, length, flat_map};
+ghost use Rattle.std.specs.Prelude.{◌≡◌, ◌<◌, ℕ, List, Option, Some, true, length, flat_map};
+ghost use Rattle.m2_base.specs.Lists.{Each, WhereKept};
 ghost use Rattle.m2_base.specs.Rows.{Row, Place, IsWellFormed, IsValue};
 ghost use Rattle.m2_base.specs.Statics.BlockRows.{declare_block};
-ghost use Rattle.m2_base.specs.Statics.Blocks.{BlockTree};
+ghost use Rattle.m2_base.specs.Statics.Blocks.{BlockTree, UnitTrees, GoesDown, blocks_of, home_of};
 ghost use Rattle.m2_base.specs.Statics.Contexts.{Context, Scene, Source, row_at};
 ghost use Rattle.m2_base.specs.Statics.Declarations.{declare};
 ghost use Rattle.m2_base.specs.Statics.Items.{Item, items_of};
@@ -30,4 +31,10 @@ pub fn rows_have_their_shapes()
     ensures items { (c : Context) (kind : KindOfStream) (x : Item) (cell : ℕ) → AreShaped (item_shapes x) (declare c kind x cell).rows }
     ensures blocks { (source : Source) (tables : List (List Row)) (b : BlockTree) → AreShaped (flat_map item_shapes (items_of b.tree)) (declare_block source tables b).rows }
     ensures count { (source : Source) (tables : List (List Row)) (b : BlockTree) → length (declare_block source tables b).rows ≡ length (flat_map item_shapes (items_of b.tree)) }
+{}
+
+/// Every chain goes down, where the own definition comes before the module: all its scopes but the first have smaller
+/// numbers than the block's.
+pub fn chains_go_down()
+    ensures { (u : UnitTrees) → WhereKept u.own (λ s. s < home_of u) → Each GoesDown (blocks_of u) }
 {}
