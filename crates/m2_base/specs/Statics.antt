@@ -26,6 +26,7 @@ pub mod Lookup
 pub mod Makes
 pub mod NameRows
 pub mod NamedOperands
+pub mod NewRows
 pub mod Operands
 pub mod Operations
 pub mod ProcedureRows
