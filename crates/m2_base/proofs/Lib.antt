@@ -1,13 +1,18 @@
 pub mod GrammarChecks
+mod BlockLimitChecks
+pub mod ChainLaws
 pub mod FinishedLaws
 pub mod Kept
 pub mod KindTables
 mod NameTexts
+pub mod NewLaws
+pub mod NoRepeats
 pub mod Numbers
 pub mod OneList
 pub mod OneReading
 mod ReservedWords
 pub mod RowLaws
+pub mod SceneLaws
 pub mod Seen
 pub mod ItemLaws
 pub mod LayoutLaws

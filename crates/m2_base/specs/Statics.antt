@@ -1,6 +1,7 @@
 -- The static rules of the language, one question a file.
 pub mod Arrays
 pub mod Assignable
+pub mod BlockLimits
 pub mod BlockRows
 pub mod Blocks
 pub mod Builtins
@@ -25,6 +26,7 @@ pub mod Lookup
 pub mod Makes
 pub mod NameRows
 pub mod NamedOperands
+pub mod NewRows
 pub mod Operands
 pub mod Operations
 pub mod ProcedureRows

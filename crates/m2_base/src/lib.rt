@@ -44,7 +44,10 @@ pub use rows::{Mode, Place, Row, RowMeaning, read_row, write_row};
 pub use scopes::Scopes;
 pub use sites::{Around, Layout, Named, Site};
 pub use standard::standard_rows;
-pub use static_laws::{ranges_are_whole, rows_have_their_shapes, same_is_an_equivalence};
+pub use static_laws::{
+    chains_go_down, ranges_are_whole, rows_have_their_shapes, same_is_an_equivalence,
+    second_rows_are_nameless,
+};
 pub use texts::{Text, Texts};
 pub use token::Token;
 pub use trees::{

@@ -1,11 +1,13 @@
 //! Laws on the static rules, each the contract of a function that does nothing.
-ghost use Rattle.std.specs.Prelude.{◌≡◌, ℕ, List, Option, Some, true, length, flat_map};
+ghost use Rattle.std.specs.Prelude.{◌≡◌, ◌<◌, ◌≤◌, ℕ, List, Option, Some, true, length, flat_map};
+ghost use Rattle.m2_base.specs.Lists.{Each, HasNoRepeats, WhereKept};
 ghost use Rattle.m2_base.specs.Rows.{Row, Place, IsWellFormed, IsValue};
 ghost use Rattle.m2_base.specs.Statics.BlockRows.{declare_block};
-ghost use Rattle.m2_base.specs.Statics.Blocks.{BlockTree};
+ghost use Rattle.m2_base.specs.Statics.Blocks.{BlockTree, UnitTrees, GoesDown, blocks_of, home_of};
 ghost use Rattle.m2_base.specs.Statics.Contexts.{Context, Scene, Source, row_at};
 ghost use Rattle.m2_base.specs.Statics.Declarations.{declare};
 ghost use Rattle.m2_base.specs.Statics.Items.{Item, items_of};
+ghost use Rattle.m2_base.specs.Statics.NewRows.{AreNew};
 ghost use Rattle.m2_base.specs.Statics.Ranges.{Range};
 ghost use Rattle.m2_base.specs.Statics.ShapedRows.{AreShaped};
 ghost use Rattle.m2_base.specs.Statics.Shapes.{item_shapes};
@@ -30,4 +32,16 @@ pub fn rows_have_their_shapes()
     ensures items { (c : Context) (kind : KindOfStream) (x : Item) (cell : ℕ) → AreShaped (item_shapes x) (declare c kind x cell).rows }
     ensures blocks { (source : Source) (tables : List (List Row)) (b : BlockTree) → AreShaped (flat_map item_shapes (items_of b.tree)) (declare_block source tables b).rows }
     ensures count { (source : Source) (tables : List (List Row)) (b : BlockTree) → length (declare_block source tables b).rows ≡ length (flat_map item_shapes (items_of b.tree)) }
+{}
+
+/// Every chain goes down, where the own definition comes before the module: all its scopes but the first have smaller
+/// numbers than the block's.
+pub fn chains_go_down()
+    ensures { (u : UnitTrees) → WhereKept u.own (λ s. s < home_of u) → Each GoesDown (blocks_of u) }
+{}
+
+/// The second row of a name in a scope has no name: each row that an item makes is new in its scope, or nameless.
+pub fn second_rows_are_nameless()
+    ensures items { (c : Context) (kind : KindOfStream) (x : Item) (cell : ℕ) → AreNew c.scene (declare c kind x cell).rows }
+    ensures blocks { (source : Source) (tables : List (List Row)) (b : BlockTree) → b.block.scope ≤ length tables → HasNoRepeats (λ r. r.name) (declare_block source tables b).rows }
 {}

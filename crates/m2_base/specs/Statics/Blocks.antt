@@ -1,7 +1,8 @@
 -- The blocks of a unit, in the order of their scopes: the definition modules, the main module, and its procedures in
 -- the order of their PROCEDURE tokens.
 use Rattle.std.specs.List.{list_any}
-use Rattle.std.specs.Prelude.{Bool, List, None, Option, Some, [], false, find, length, ℕ, ◌+◌, ◌∷◌, ◌++◌, ◌==◌}
+use Rattle.std.specs.Prelude.{Bool, List, None, Option, Some, [], false, find, length, ℕ, ◌+◌, ◌∷◌, ◌++◌, ◌==◌, drop, ◌<◌}
+use Rattle.m2_base.specs.Lists.{Each}
 use Rattle.m2_base.specs.Statics.Contexts.{Block, DefinitionModule, Source}
 use Rattle.m2_base.specs.Trees.{Decl, Stream, proc_decl}
 
@@ -83,3 +84,7 @@ blocks_of_main u (tree ∷ trees) = main_blocks (main_block u tree ∷ []) (home
 -- all blocks of a unit; the first has scope 1
 unfoldable pub blocks_of : UnitTrees → List BlockTree
 blocks_of u = definition_blocks 1 u.source.definitions u.definitions ++ blocks_of_main u u.main
+
+-- the scopes of the block's chain but the first have smaller numbers than its own
+abbrev pub GoesDown : BlockTree → Type 0
+GoesDown b = Each (λ s. s < b.block.scope) (drop 1 b.block.chain)

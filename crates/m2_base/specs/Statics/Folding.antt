@@ -1,7 +1,7 @@
 -- The value of an operator on two constants.
 use Rattle.std.specs.Prelude.{Bool, None, Option, Some, bit_and, bit_or, bit_xor, false, int_le, int_lt, negsuc, not, pos, true, ℕ, ℤ, if◌then◌else◌, ◌-◌, ◌==◌, ◌^◌, ◌&&◌, ◌||◌, ◌-ℤ◌, ◌/◌, ◌%◌, ◌+ℤ◌, ◌*ℤ◌}
 use Rattle.m2_base.specs.Rows.{Place, is_same_place, natural}
-use Rattle.m2_base.specs.Standard.{cardinal, integer}
+use Rattle.m2_base.specs.Standard.{cardinal, integer, whole}
 use Rattle.m2_base.specs.Statics.Ranges.{Range, cardinal_range, integer_range, is_in, whole_range}
 use Rattle.m2_base.specs.Trees.{Operator}
 use Rattle.m2_base.specs.declared.operands.FoldKind.TheVariants as kinds
@@ -107,3 +107,9 @@ fold k op x y = fold_by_kind k op x y
 -- the kind of a base type of numbers
 abbrev pub number_kind : Place → FoldKind
 number_kind t = if is_same_place t integer then kinds.Integer else if is_same_place t cardinal then kinds.Cardinal else kinds.Whole
+
+-- the type of numbers of a kind
+abbrev pub number_type : FoldKind → Place
+number_type kinds.Integer = integer
+number_type kinds.Cardinal = cardinal
+number_type other = whole

@@ -7,6 +7,7 @@ use Rattle.m2_base.specs.Statics.Assignable.{is_open_array}
 use Rattle.m2_base.specs.Statics.Compatible.{is_number_type}
 use Rattle.m2_base.specs.Statics.Contexts.{Context, refuse}
 use Rattle.m2_base.specs.Statics.Diagnostics.{not_a_type, not_a_variable, out_of_range, wrong_argument}
+use Rattle.m2_base.specs.Statics.Folding.{number_kind, number_type}
 use Rattle.m2_base.specs.Statics.Operands.{char_or_same, is_bad}
 use Rattle.m2_base.specs.Statics.Operations.{base_type, is_ordinal}
 use Rattle.m2_base.specs.Statics.Ranges.{Range, integer_range, is_within}
@@ -63,7 +64,7 @@ absolute c at t o = gives (Computed t)
 
 -- ABS: a number of the argument's base type
 abbrev pub abs_of : Context → (at : ℕ) → Operand → Gives Operand
-abs_of c at o = and_then (number_argument c at o) (λ x. absolute c at (base_type c x) x)
+abs_of c at o = and_then (number_argument c at o) (λ x. absolute c at (number_type (number_kind (base_type c x))) x)
 
 -- a small letter
 abbrev pub is_small_letter : ℤ → Bool

@@ -7,7 +7,7 @@ use Rattle.m2_base.specs.Standard.{boolean, integer, whole}
 use Rattle.m2_base.specs.Statics.Compatible.{is_compatible, is_integer_or_cardinal, is_number_type, is_pointer, taken_beside}
 use Rattle.m2_base.specs.Statics.Contexts.{Context, refuse}
 use Rattle.m2_base.specs.Statics.Diagnostics.{out_of_range, wrong_operands}
-use Rattle.m2_base.specs.Statics.Folding.{fold, is_arithmetic, is_equal, is_equality, is_relation, number_kind, truth, where_in}
+use Rattle.m2_base.specs.Statics.Folding.{fold, is_arithmetic, is_equal, is_equality, is_relation, number_kind, number_type, truth, where_in}
 use Rattle.m2_base.specs.Statics.Operands.{constant_of_operand, is_bad, is_procedure, operand_type, worse}
 use Rattle.m2_base.specs.Statics.Ranges.{Range, integer_range, is_in, is_within, whole_range}
 use Rattle.m2_base.specs.Statics.Types.{base_of, is_broken, is_same, kind_of, range_of}
@@ -99,9 +99,9 @@ set_operation c op op_at x y =
 -- two numbers: arithmetic gives their type, a comparison BOOLEAN
 abbrev pub number_operation : Context → Operator → (op_at : ℕ) → Operand → Operand → Gives Operand
 number_operation c op op_at x y =
-    let t = base_type c x in
-    if is_arithmetic op then gives_result c op_at (number_kind t) op t x y else
-    if is_relation op then gives_result c op_at (number_kind t) op boolean x y else wrong c op_at
+    let k = number_kind (base_type c x) in
+    if is_arithmetic op then gives_result c op_at k op (number_type k) x y else
+    if is_relation op then gives_result c op_at k op boolean x y else wrong c op_at
 
 -- two numbers, of which a whole constant takes the other's type
 abbrev pub on_numbers : Context → Operator → (op_at : ℕ) → Operand → (x_at : ℕ) → Operand → (y_at : ℕ) → Gives Operand
