@@ -2,6 +2,7 @@
 use Rattle.std.specs.Prelude.{refl, ℕ, ◌+◌, Bool, true, false, if◌then◌else◌, List, [], ◌∷◌, map, flat_map, pos, Option, Some, None}
 use Rattle.m2_base.specs.Rows.{Place, Const, TypeName, Var, Proc, Module, Alias, ProcType, Plain, ByAddress, Open, const_kind, type_name_kind, var_kind, proc_kind, module_kind, alias_kind, param_kind, proc_type_kind, opaque_kind}
 use Rattle.m2_base.specs.Standard.{broken, text_type}
+use Rattle.m2_base.specs.Statics.Cells.{capped}
 use Rattle.m2_base.specs.Statics.Constants.{constant_of}
 use Rattle.m2_base.specs.Statics.Contexts.{Context, scope_of_module}
 use Rattle.m2_base.specs.Statics.Declarations.{declare}
@@ -90,7 +91,7 @@ const_of (Some other) c i = named_of c const_kind i (Const broken (pos 0) 0) ref
 
 pub heading_item_of : (h : Heading) (c : Context) (kind : StreamKind) (cell : ℕ)
     → AreShaped (item_shapes (heading_item h)) (declare c kind (heading_item h) cell).rows
-heading_item_of h c kind cell = AreShaped-end (own_sections_of h.sections c (placing 0 (parameter_cells h.sections) []))
+heading_item_of h c kind cell = AreShaped-end (own_sections_of h.sections c (placing 0 (capped (parameter_cells h.sections)) []))
 
 pub import_item_of : (from : Option Ident) (i : Ident) (c : Context) (kind : StreamKind) (cell : ℕ)
     → AreShaped (item_shapes (import_item from i)) (declare c kind (import_item from i) cell).rows

@@ -1,6 +1,5 @@
 -- The rows that a declaration makes are new in their scope.
 use Rattle.std.specs.Prelude.{◌≡◌, ℕ, ◌+◌, Bool, true, false, if◌then◌else◌, List, [], ◌∷◌, ◌++◌, pos, Option, Some, None}
-use Rattle.std.specs.List.{list_any}
 use Rattle.std.proofs.Common.{subst, sym, refl, inl, inr}
 use Rattle.m2_base.specs.Gives.{Gives}
 use Rattle.m2_base.specs.Rows.{Row, Place, RowMeaning, Const, TypeName, Var, Proc, Module, Alias, ProcType, Plain, ByAddress, Open}
@@ -8,6 +7,7 @@ use Rattle.m2_base.specs.Standard.{is_standard}
 use Rattle.m2_base.specs.Trees.{Ident, Formal, TypeExpr, type_expr, TypeForm, named_type, enum_type, sub_type, array_type, record_type, set_type, pointer_type, proc_type, TypeExprs, no_types, more_types, FieldList, plain_fields, case_fields, FieldLists, no_fields, more_fields, variant_arm, VariantArms, no_variant_arms, more_variant_arms, Section, Heading, StreamKind}
 use Rattle.m2_base.specs.Statics.Arrays.{array_rows}
 use Rattle.m2_base.specs.Statics.BlockRows.{declare_items}
+use Rattle.m2_base.specs.Statics.Cells.{capped}
 use Rattle.m2_base.specs.Statics.Constants.{constant_of}
 use Rattle.m2_base.specs.Statics.Contexts.{Context, Scene, scope_of_module}
 use Rattle.m2_base.specs.Statics.Declarations.{declare}
@@ -17,7 +17,7 @@ use Rattle.m2_base.specs.Statics.HeadingRows.{Placing, placing, parameter_row, p
 use Rattle.m2_base.specs.Statics.ImportRows.{place_or_broken}
 use Rattle.m2_base.specs.Statics.Items.{Item, heading_item, import_item, const_item, type_item, vars_item, proc_item}
 use Rattle.m2_base.specs.Statics.Lookup.{has_name}
-use Rattle.m2_base.specs.Statics.Makes.{Makes, with_rows, scene_with, makes_named, makes_row, own_rows, next_place}
+use Rattle.m2_base.specs.Statics.Makes.{Makes, with_rows, scene_with, makes_named, makes_row, next_place}
 use Rattle.m2_base.specs.Statics.NameRows.{const_meaning, declared_type, var_rows}
 use Rattle.m2_base.specs.Statics.NewRows.{AreNew, no_new, more_new}
 use Rattle.m2_base.specs.Statics.ProcedureRows.{param_rows, section_rows, parameter_cells, sections_length, parameter_count, proc_number, proc_scope, proc_rows}
@@ -26,7 +26,6 @@ use Rattle.m2_base.specs.Statics.Ranges.{Range}
 use Rattle.m2_base.specs.Statics.Subranges.{Bounds, subrange_row, subrange_of}
 use Rattle.m2_base.specs.Statics.Targets.{target_name, target_by_name, target_or}
 use Rattle.m2_base.specs.Statics.TypeNames.{type_of_qual}
-use Rattle.m2_base.specs.Statics.TypeParts.{is_field}
 use Rattle.m2_base.specs.Statics.TypeRows.{type_rows, form_rows, index_rows, fields_rows, field_list_rows, arms_rows}
 use Rattle.m2_base.specs.Statics.Uses.{use_of}
 use Rattle.m2_base.proofs.SceneLaws.{with-none, with-twice}
@@ -86,11 +85,7 @@ formals_new (f ∷ formals) c own =
     (new-append (plain_new _ _ refl) (formals_new formals _ own))
 
 field_new : (c : Context) (own : ℕ) (i : Ident) (t : Place) (offset : ℕ) → AreNew c.scene (field_row c own i t offset).rows
-field_new c own i t offset = by_test (list_any (is_field own i.name) (own_rows c)) _ _ (plain_new c.scene _ refl) (plain_new c.scene _ refl)
-  where
-    by_test : (b : Bool) (x y : Makes Place) → AreNew c.scene x.rows → AreNew c.scene y.rows → AreNew c.scene (if b then x else y).rows
-    by_test true x y h k = h
-    by_test false x y h k = k
+field_new c own i t offset = plain_new c.scene _ refl
 
 plain_fields_new : (names : List Ident) (c : Context) (own : ℕ) (t : Place) (offset : ℕ) → AreNew c.scene (plain_rows c own t offset names).rows
 plain_fields_new [] c own t offset = no_new
@@ -199,7 +194,7 @@ proc_new h stream c kind =
     (new-end (named_new (with_rows e t.rows) h.name.name h.name.at (Proc t.value (proc_number c kind stream) (proc_scope kind stream))))))
 
 pub item_new : (x : Item) (c : Context) (kind : StreamKind) (cell : ℕ) → AreNew c.scene (declare c kind x cell).rows
-item_new (heading_item h) c kind cell = new-end (own_sections_new h.sections c (placing 0 (parameter_cells h.sections) []))
+item_new (heading_item h) c kind cell = new-end (own_sections_new h.sections c (placing 0 (capped (parameter_cells h.sections)) []))
 item_new (import_item None i) c kind cell = new-end (named_new c i.name i.at (Module (scope_of_module c.source i.name)))
 item_new (import_item (Some m) i) c kind cell =
     let e = (use_of c (Some (scope_of_module c.source m.name)) i.name i.at).value in

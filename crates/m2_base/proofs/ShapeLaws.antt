@@ -12,17 +12,15 @@ use Rattle.m2_base.specs.Statics.Contexts.{Context}
 use Rattle.m2_base.specs.Statics.Enumerations.{constant_rows}
 use Rattle.m2_base.specs.Statics.Fields.{field_row, plain_rows, tag_type, tag_rows}
 use Rattle.m2_base.specs.Statics.Lookup.{has_name}
-use Rattle.m2_base.specs.Statics.Makes.{Makes, with_rows, makes_named, own_rows}
+use Rattle.m2_base.specs.Statics.Makes.{Makes, with_rows, makes_named}
 use Rattle.m2_base.specs.Statics.ProcedureTypes.{open_array_row, formal_rows}
 use Rattle.m2_base.specs.Statics.Ranges.{Range}
 use Rattle.m2_base.specs.Statics.Shapes.{Shape, nameless, named, open_shapes, formal_shapes, tag_shapes, array_shapes, type_shapes, form_shapes, types_shapes, fields_shapes, field_shapes, arms_shapes}
 use Rattle.m2_base.specs.Statics.Subranges.{Bounds, subrange_row, subrange_of}
 use Rattle.m2_base.specs.Statics.Targets.{target_name, target_by_name, target_or}
 use Rattle.m2_base.specs.Statics.TypeNames.{type_of_qual}
-use Rattle.m2_base.specs.Statics.TypeParts.{is_field}
 use Rattle.m2_base.specs.Statics.TypeRows.{type_rows, form_rows, index_rows, fields_rows, field_list_rows, arms_rows}
 use Rattle.m2_base.specs.Trees.{Ident, Qual, Formal, TypeExpr, type_expr, TypeForm, named_type, enum_type, sub_type, array_type, record_type, set_type, pointer_type, proc_type, TypeExprs, no_types, more_types, FieldList, plain_fields, case_fields, FieldLists, no_fields, more_fields, variant_arm, VariantArms, no_variant_arms, more_variant_arms}
-use Rattle.std.specs.List.{list_any}
 
 pub AreShaped-append : {ss ss' : List Shape} {rs rs' : List Row} → AreShaped ss rs → AreShaped ss' rs' → AreShaped (ss ++ ss') (rs ++ rs')
 AreShaped-append none_of k = k
@@ -105,12 +103,7 @@ formals_of (f ∷ formals) c own =
 
 -- a field, with a diagnostic or without
 field_of_shape : (c : Context) (own : ℕ) (i : Ident) (t : Place) (offset : ℕ) → AreShaped (nameless field_kind i.at ∷ []) (field_row c own i t offset).rows
-field_of_shape c own i t offset = by_test (list_any (is_field own i.name) (own_rows c)) _ _ (plain_of field_kind i.at _ refl refl refl) (plain_of field_kind i.at _ refl refl refl)
-  where
-    by_test : (b : Bool) (x y : Makes Place) → AreShaped (nameless field_kind i.at ∷ []) x.rows → AreShaped (nameless field_kind i.at ∷ []) y.rows
-        → AreShaped (nameless field_kind i.at ∷ []) (if b then x else y).rows
-    by_test true x y h k = h
-    by_test false x y h k = k
+field_of_shape c own i t offset = plain_of field_kind i.at _ refl refl refl
 
 plain_fields_of : (names : List Ident) (c : Context) (own : ℕ) (t : Place) (offset : ℕ) → AreShaped (map (λ i. nameless field_kind i.at) names) (plain_rows c own t offset names).rows
 plain_fields_of [] c own t offset = none_of

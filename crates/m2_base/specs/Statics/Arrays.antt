@@ -1,5 +1,5 @@
 -- Arrays and sets: their index types and bases, and the rows of arrays.
-use Rattle.std.specs.Prelude.{Bool, List, None, Option, Some, [], false, int_le, nat_lt, pos, ℕ, ◌+◌, if◌then◌else◌, ◌∷◌, ◌&&◌, ◌*◌, ◌||◌}
+use Rattle.std.specs.Prelude.{Bool, List, None, Option, Some, [], false, int_le, nat_lt, pos, ℕ, ◌+◌, if◌then◌else◌, ◌∷◌, ◌&&◌, ◌*◌, ◌||◌, max}
 use Rattle.m2_base.specs.Gives.{Gives, gives}
 use Rattle.m2_base.specs.Rows.{Array, Place}
 use Rattle.m2_base.specs.Standard.{broken}
@@ -39,9 +39,9 @@ count_by (Some r) = count_of r
 abbrev pub elements : Context → Place → ℕ
 elements c index = if is_broken c.scene index then 1 else count_by (range_of c.scene index)
 
--- the cells of an array: its elements times the size of one
+-- the cells of an array: its elements times the size of one, at least 1
 abbrev pub array_size : Context → (index elem : Place) → ℕ
-array_size c index elem = capped (elements c index * size_of c.scene elem)
+array_size c index elem = capped (max 1 (elements c index * size_of c.scene elem))
 
 -- the arrays of several index types, the last of which is the innermost array and comes first
 abbrev pub array_rows : Context → (at : ℕ) → (last_first : List Place) → (elem : Place) → Makes Place

@@ -25,14 +25,15 @@ declare_items c kind i cell (x ∷ items) =
     make_then d (declare_items d kind (i + 1) e.cell items) (λ f es.
     makes (joined_effects e es)))
 
--- the next cell after these variables
+-- the next cell after a row: a variable has the cells of its type
+abbrev pub cell_after : Scene → (cell : ℕ) → RowMeaning → ℕ
+cell_after scene cell (Var t mode offset) = capped (cell + size_by (meaning_at scene t))
+cell_after scene cell other = cell
+
+-- the next cell after these rows
 abbrev pub cells_after : Scene → (cell : ℕ) → List Row → ℕ
 cells_after scene cell [] = cell
-cells_after scene cell (r ∷ rows) = cells_after scene (after (row_meaning r)) rows
-  where
-    after : RowMeaning → ℕ
-    after (Var t mode offset) = capped (cell + size_by (meaning_at scene t))
-    after other = cell
+cells_after scene cell (r ∷ rows) = cells_after scene (cell_after scene cell (row_meaning r)) rows
 
 -- the own definition's variables come first among an implementation module's cells
 abbrev pub first_cell : Scene → StreamKind → Option ℕ → ℕ

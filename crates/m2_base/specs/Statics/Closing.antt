@@ -11,37 +11,36 @@ use Rattle.m2_base.specs.Tables.{rows_at}
 use Rattle.m2_base.specs.Trees.{Heading, Ident, Stream}
 use Rattle.m2_base.specs.declared.notes.Diag.{Diag}
 
+-- the name in a heading, or where there is none the module's
+abbrev pub heading_name : (name : Option Ident) → Option Heading → Option Ident
+heading_name name None = name
+heading_name name (Some h) = Some h.name
+
 -- the name of a block: its procedure's, or its module's
 abbrev pub block_name : Stream → Option Ident
-block_name s = by_heading s.heading
-  where
-    by_heading : Option Heading → Option Ident
-    by_heading None = s.name
-    by_heading (Some h) = Some h.name
+block_name s = heading_name s.name s.heading
 
 -- a block is closed by its own name
 abbrev pub name_diags : Context → Ident → Option Ident → List Diag
 name_diags c close None = []
 name_diags c close (Some i) = if i.name == close.name then [] else diag c close.at closing_name_differs ∷ []
 
--- a scalar, set or pointer type, and no opaque one; a type in error counts as right
-abbrev pub implements_opaque : Scene → Place → Bool
-implements_opaque scene t = by_meaning (meaning_at scene t)
-  where
-    by_meaning : RowMeaning → Bool
-    by_meaning Opaque = false
-    by_meaning (Set base) = true
-    by_meaning (Pointer target) = true
-    by_meaning other = is_broken scene t || is_some (range_of scene t)
+-- a type by its row's meaning is scalar, a set or a pointer, and no opaque one; a type in error counts as right
+abbrev pub implements_opaque : Scene → Place → RowMeaning → Bool
+implements_opaque scene t Opaque = false
+implements_opaque scene t (Set base) = true
+implements_opaque scene t (Pointer target) = true
+implements_opaque scene t other = is_broken scene t || is_some (range_of scene t)
 
 -- a row of a type's name implements an opaque type by its type, no other row does
+abbrev pub type_implements : Scene → RowMeaning → Bool
+type_implements scene (TypeName t) = implements_opaque scene t (meaning_at scene t)
+type_implements scene other = false
+
+-- the row of an entry implements an opaque type
 abbrev pub implements_type : Scene → Option Entry → Bool
 implements_type scene None = false
-implements_type scene (Some e) = by_meaning (row_meaning e.1)
-  where
-    by_meaning : RowMeaning → Bool
-    by_meaning (TypeName t) = implements_opaque scene t
-    by_meaning other = false
+implements_type scene (Some e) = type_implements scene (row_meaning e.1)
 
 -- a procedure of the same form, or the diagnostic that the heading differs
 pub data Implemented : Type 0 where
@@ -50,13 +49,14 @@ pub data Implemented : Type 0 where
   differs_at : (at : ℕ) → Implemented
 
 -- a procedure of the same form implements a heading, no other row does
+abbrev pub procedure_implements : Scene → (heading : Place) → (at : ℕ) → RowMeaning → Implemented
+procedure_implements scene t at (Proc u number s) = if is_same_form scene t u then is_implemented else differs_at at
+procedure_implements scene t at other = is_missing
+
+-- how the row of an entry implements a heading
 abbrev pub implements_heading : Scene → (heading : Place) → Option Entry → Implemented
 implements_heading scene t None = is_missing
-implements_heading scene t (Some e) = by_meaning (row_meaning e.1)
-  where
-    by_meaning : RowMeaning → Implemented
-    by_meaning (Proc u number s) = if is_same_form scene t u then is_implemented else differs_at e.1.at
-    by_meaning other = is_missing
+implements_heading scene t (Some e) = procedure_implements scene t e.1.at (row_meaning e.1)
 
 -- how a row implements an opaque type
 abbrev pub type_implemented : Scene → Option Entry → Implemented

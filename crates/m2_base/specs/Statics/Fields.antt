@@ -2,25 +2,26 @@
 use Rattle.std.specs.List.{list_any}
 use Rattle.std.specs.Prelude.{List, None, Option, Some, [], is_none, not, ℕ, ◌+◌, if◌then◌else◌, ◌∷◌, ◌&&◌}
 use Rattle.m2_base.specs.Gives.{Gives, and_then, gives}
-use Rattle.m2_base.specs.Rows.{Field, Place}
+use Rattle.m2_base.specs.Rows.{Field, Place, row_of}
 use Rattle.m2_base.specs.Standard.{broken}
 use Rattle.m2_base.specs.Statics.Cells.{capped}
 use Rattle.m2_base.specs.Statics.Contexts.{Context, diag, refuse}
 use Rattle.m2_base.specs.Statics.Diagnostics.{declared_twice, wrong_operands}
-use Rattle.m2_base.specs.Statics.Makes.{Makes, make_then, makes, makes_row, own_rows}
+use Rattle.m2_base.specs.Statics.Makes.{Makes, make_then, makes, own_rows, one_row}
 use Rattle.m2_base.specs.Statics.TypeNames.{type_of_qual}
 use Rattle.m2_base.specs.Statics.TypeParts.{is_field}
 use Rattle.m2_base.specs.Statics.Types.{is_broken, range_of, size_of}
 use Rattle.m2_base.specs.Trees.{Ident, Qual}
 use Rattle.m2_base.specs.declared.notes.Diag.{Diag}
 
+-- a field with these diagnostics
+abbrev pub field_with : Context → (own : ℕ) → Ident → Place → (offset : ℕ) → List Diag → Makes Place
+field_with c own i t offset ds = one_row c (row_of 0 i.at (Field t offset own i.name)) ds
+
 -- a field; the second of a name in a record is refused
 abbrev pub field_row : Context → (own : ℕ) → Ident → Place → (offset : ℕ) → Makes Place
 field_row c own i t offset =
-    if list_any (is_field own i.name) (own_rows c) then refused (diag c i.at declared_twice ∷ []) else refused []
-  where
-    refused : List Diag → Makes Place
-    refused ds = record (makes_row c i.at (Field t offset own i.name)) { diags = ds }
+    field_with c own i t offset (if list_any (is_field own i.name) (own_rows c) then diag c i.at declared_twice ∷ [] else [])
 
 -- fields of one type from this offset on; the value is the offset after them
 abbrev pub plain_rows : Context → (own : ℕ) → Place → (offset : ℕ) → List Ident → Makes ℕ

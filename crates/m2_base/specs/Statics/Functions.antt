@@ -1,7 +1,7 @@
 -- The standard functions that constants may have, on operands: what each takes and gives.
-use Rattle.std.specs.Prelude.{Bool, None, Option, Some, int_le, is_none, nat_abs, negsuc, not, pos, ℕ, ℤ, if◌then◌else◌, ◌-◌, ◌&&◌, ◌-ℤ◌, ◌%◌}
+use Rattle.std.specs.Prelude.{Bool, None, Option, Some, int_le, is_none, nat_abs, negsuc, not, pos, ℕ, ℤ, if◌then◌else◌, ◌-◌, ◌&&◌, ◌%◌}
 use Rattle.m2_base.specs.Gives.{Gives, and_then, gives}
-use Rattle.m2_base.specs.Rows.{Place, is_same_place}
+use Rattle.m2_base.specs.Rows.{Place, is_same_place, natural}
 use Rattle.m2_base.specs.Standard.{boolean, broken, cardinal, character, integer}
 use Rattle.m2_base.specs.Statics.Assignable.{is_open_array}
 use Rattle.m2_base.specs.Statics.Compatible.{is_number_type}
@@ -72,7 +72,7 @@ is_small_letter v = int_le (pos 97) v && int_le v (pos 122)
 
 -- a letter as a capital, any other character as it is
 abbrev pub capital : Operand → Operand
-capital (Constant t v) = Constant character (if is_small_letter v then v -ℤ pos 32 else v)
+capital (Constant t v) = Constant character (if is_small_letter v then pos (natural v - 32) else v)
 capital o = Computed character
 
 -- CAP: a CHAR, small letters as capitals

@@ -32,13 +32,13 @@ abbrev pub parameter_row : Context → Section → (elem t : Place) → Placing 
 parameter_row c s elem t f i =
     if s.is_open then
     make_then c (makes_named c i.name i.at (Var t Open f.cell)) (λ d p.
-    makes (placing (f.cell + 2) f.own (f.copies ++ open_copies s.by_ref f.cell (size_of c.scene elem)))) else
+    makes (placing (capped (f.cell + 2)) f.own (f.copies ++ open_copies s.by_ref f.cell (size_of c.scene elem)))) else
     if s.by_ref then
-    make_then c (makes_named c i.name i.at (Var t ByAddress f.cell)) (λ d p. makes (placing (f.cell + 1) f.own f.copies)) else
+    make_then c (makes_named c i.name i.at (Var t ByAddress f.cell)) (λ d p. makes (placing (capped (f.cell + 1)) f.own f.copies)) else
     if is_structured c t then
     make_then c (makes_named c i.name i.at (Var t Plain f.own)) (λ d p.
-    makes (placing (f.cell + 1) (capped (f.own + size_of c.scene t)) (f.copies ++ own_copy f.own f.cell (size_of c.scene t) ∷ [])))
-    else make_then c (makes_named c i.name i.at (Var t Plain f.cell)) (λ d p. makes (placing (f.cell + 1) f.own f.copies))
+    makes (placing (capped (f.cell + 1)) (capped (f.own + size_of c.scene t)) (f.copies ++ own_copy f.own f.cell (size_of c.scene t) ∷ [])))
+    else make_then c (makes_named c i.name i.at (Var t Plain f.cell)) (λ d p. makes (placing (capped (f.cell + 1)) f.own f.copies))
 
 -- the variables of parameters of one type
 abbrev pub parameter_rows : Context → Section → (elem t : Place) → Placing → List Ident → Makes Placing
@@ -62,6 +62,6 @@ own_sections_rows c f (s ∷ sections) =
 -- the heading of the block itself
 abbrev pub heading_rows : Context → Heading → Makes Effect
 heading_rows c h =
-    make_then c (own_sections_rows c (placing 0 (parameter_cells h.sections) []) h.sections) (λ d f.
+    make_then c (own_sections_rows c (placing 0 (capped (parameter_cells h.sections)) []) h.sections) (λ d f.
     make_then d (only_gives (result_type d h.result)) (λ e r.
     makes (record { cell = f.own; prologue = f.copies; heading = None })))

@@ -8,13 +8,14 @@ use Rattle.m2_base.specs.Statics.Types.{is_broken, kind_of}
 use Rattle.m2_base.specs.declared.operands.Operand.TheVariants.{Constant, InError, ModuleName, NamedType, Procedure, StandardProcedure, StringConstant, Variable}
 use Rattle.m2_base.specs.declared.operands.Operand.{Operand}
 
+-- an open array of what is in error
+abbrev pub is_open_of_broken : Scene → RowMeaning → Bool
+is_open_of_broken scene (OpenArray elem) = is_broken scene elem
+is_open_of_broken scene other = false
+
 -- the type is in error, or an open array of such
 abbrev pub is_in_error : Scene → Place → Bool
-is_in_error scene t = is_broken scene t || open_of_broken (kind_of scene t)
-  where
-    open_of_broken : RowMeaning → Bool
-    open_of_broken (OpenArray elem) = is_broken scene elem
-    open_of_broken other = false
+is_in_error scene t = is_broken scene t || is_open_of_broken scene (kind_of scene t)
 
 -- A constant, a type or a variable whose type is in error is in error; a constant of the type of strings is a string.
 abbrev pub operand_by : Scene → (name : ℕ) → RowMeaning → Operand

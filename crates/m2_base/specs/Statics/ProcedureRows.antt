@@ -1,5 +1,5 @@
 -- The rows of a procedure's heading in the scope round it.
-use Rattle.std.specs.Prelude.{Bool, List, None, Option, Some, [], false, filter, length, sum_by, true, ℕ, ◌+◌, if◌then◌else◌, ◌∷◌, ◌-◌, ◌*◌}
+use Rattle.std.specs.Prelude.{Bool, List, None, Option, Some, [], false, filter, length, true, ℕ, ◌+◌, if◌then◌else◌, ◌∷◌, ◌-◌, ◌*◌}
 use Rattle.m2_base.specs.Rows.{Param, Place, Proc, ProcType, Row, RowMeaning, row_meaning}
 use Rattle.m2_base.specs.Statics.Contexts.{Context}
 use Rattle.m2_base.specs.Statics.Makes.{Makes, make_then, makes, makes_named, makes_row, next_place, only_gives, own_rows}
@@ -24,7 +24,8 @@ section_rows c own (s ∷ sections) =
 
 -- the number of parameters
 abbrev pub parameter_count : List Section → ℕ
-parameter_count sections = sum_by (λ s. length s.names) sections
+parameter_count [] = 0
+parameter_count (s ∷ sections) = length s.names + parameter_count sections
 
 -- an open array takes two cells, every other parameter one
 abbrev pub section_cells : Section → ℕ
@@ -32,19 +33,22 @@ section_cells s = if s.is_open then 2 * length s.names else length s.names
 
 -- the cells in which the parameters arrive
 abbrev pub parameter_cells : List Section → ℕ
-parameter_cells sections = sum_by section_cells sections
+parameter_cells [] = 0
+parameter_cells (s ∷ sections) = section_cells s + parameter_cells sections
 
 -- the number of rows of the sections
 abbrev pub sections_length : List Section → ℕ
-sections_length sections = sum_by (λ s. length (section_shapes s)) sections
+sections_length [] = 0
+sections_length (s ∷ sections) = length (section_shapes s) + sections_length sections
+
+-- the meaning of a procedure's row
+abbrev pub is_proc_meaning : RowMeaning → Bool
+is_proc_meaning (Proc t k s) = true
+is_proc_meaning other = false
 
 -- the row is a procedure's
 abbrev pub is_proc : Row → Bool
-is_proc r = by_meaning (row_meaning r)
-  where
-    by_meaning : RowMeaning → Bool
-    by_meaning (Proc t k s) = true
-    by_meaning other = false
+is_proc r = is_proc_meaning (row_meaning r)
 
 -- in a definition a heading is numbered by the headings before it; elsewhere a procedure's number is its scope less
 -- the module's

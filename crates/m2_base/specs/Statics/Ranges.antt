@@ -31,10 +31,11 @@ abbrev pub is_within : Option Range → ℤ → Bool
 is_within None v = true
 is_within (Some r) v = is_in r v
 
+-- how many numbers there are from 0 to this one
+abbrev pub count_to : ℤ → ℕ
+count_to (pos n) = n + 1
+count_to (negsuc n) = 0
+
 -- the number of values of a range
 abbrev pub count_of : Range → ℕ
-count_of r = count (r.high -ℤ r.low)
-  where
-    count : ℤ → ℕ
-    count (pos n) = n + 1
-    count (negsuc n) = 0
+count_of r = count_to (r.high -ℤ r.low)

@@ -9,15 +9,16 @@ use Rattle.m2_base.specs.Statics.Types.{is_broken, is_same, kind_of}
 abbrev pub is_same_part : Scene → Place → Place → Bool
 is_same_part scene t u = is_broken scene t || is_broken scene u || is_same scene t u
 
--- open arrays are the same where their element types are
+-- two types of parameters by their kinds: open arrays are the same where their element types are
+abbrev pub is_same_by : Scene → (t u : Place) → RowMeaning → RowMeaning → Bool
+is_same_by scene t u (OpenArray a) (OpenArray b) = is_same_part scene a b
+is_same_by scene t u (OpenArray a) other = is_broken scene u
+is_same_by scene t u other (OpenArray b) = is_broken scene t
+is_same_by scene t u other another = is_same_part scene t u
+
+-- two types of parameters are the same
 abbrev pub is_same_parameter_type : Scene → Place → Place → Bool
-is_same_parameter_type scene t u = by_kinds (kind_of scene t) (kind_of scene u)
-  where
-    by_kinds : RowMeaning → RowMeaning → Bool
-    by_kinds (OpenArray a) (OpenArray b) = is_same_part scene a b
-    by_kinds (OpenArray a) other = is_broken scene u
-    by_kinds other (OpenArray b) = is_broken scene t
-    by_kinds other another = is_same_part scene t u
+is_same_parameter_type scene t u = is_same_by scene t u (kind_of scene t) (kind_of scene u)
 
 -- two parameters are both VAR parameters, or neither is
 abbrev pub is_same_mode : Bool → Bool → Bool

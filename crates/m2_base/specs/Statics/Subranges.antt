@@ -83,15 +83,16 @@ of_ordinals c base low_at high_at x y =
     of_values c base low_at high_at x y (constant_of_operand x) (constant_of_operand y)
     else refuse c high_at wrong_operands None
 
+-- the named base is in error
+abbrev pub is_broken_base : Context → Option Place → Bool
+is_broken_base c None = false
+is_broken_base c (Some t) = is_broken c.scene t
+
 -- without a bound, or with a base in error, there is no subrange
 abbrev pub of_bounds : Context → Option Place → (low_at high_at : ℕ) → Option Operand → Option Operand → Gives (Option Bounds)
 of_bounds c base low_at high_at (Some x) (Some y) =
-    if has_broken base then gives None
+    if is_broken_base c base then gives None
     else of_ordinals c base low_at high_at (char_or_same c.source x) (char_or_same c.source y)
-  where
-    has_broken : Option Place → Bool
-    has_broken None = false
-    has_broken (Some t) = is_broken c.scene t
 of_bounds c base low_at high_at x y = gives None
 
 -- the base that is named, if one is

@@ -15,21 +15,22 @@ abbrev pub target_name : Context → TypeExpr → Option Ident
 target_name c (type_expr at (named_type q)) = if is_none q.second && not (is_standard q.first.name) then Some q.first else None
 target_name c other = None
 
--- an imported name's target: a type's name, as such
-abbrev pub imported_target : Context → (at : ℕ) → Entry → Gives Place
-imported_target c at e = by_meaning (row_meaning e.1)
-  where
-    by_meaning : RowMeaning → Gives Place
-    by_meaning (TypeName t) = gives e.0
-    by_meaning Broken = gives broken
-    by_meaning other = refuse c at not_a_type broken
+-- an imported name's target by its row's place and meaning: a type's name, as such
+abbrev pub imported_target : Context → (at : ℕ) → Place → RowMeaning → Gives Place
+imported_target c at p (TypeName t) = gives p
+imported_target c at p Broken = gives broken
+imported_target c at p other = refuse c at not_a_type broken
+
+-- the target of an entry
+abbrev pub entry_target : Context → (at : ℕ) → Entry → Gives Place
+entry_target c at e = imported_target c at e.0 (row_meaning e.1)
 
 -- the place that the layout gives, which may be of a later item
 abbrev pub layout_target : Context → (at : ℕ) → Named → Gives Place
 layout_target c at n =
     let p = at_place c.scene.block.scope n.ordinal in
     if n.kind == type_name_kind then gives p else
-    if n.kind == alias_kind then imported_target c at (followed c.scene (entry_at c.scene p)) else
+    if n.kind == alias_kind then entry_target c at (followed c.scene (entry_at c.scene p)) else
     refuse c at not_a_type broken
 
 -- the target, where the layout has the name

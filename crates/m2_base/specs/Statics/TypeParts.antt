@@ -11,13 +11,14 @@ use Rattle.m2_base.specs.Tables.{rows_at}
 abbrev pub rows_between : Scene → (s from upto : ℕ) → List Row
 rows_between scene s from upto = take (upto - from) (drop from (rows_at scene.tables s))
 
+-- the meaning of such a field's row
+abbrev pub is_field_meaning : (record_ordinal name : ℕ) → RowMeaning → Bool
+is_field_meaning own name (Field t o q n) = (q == own) && (n == name)
+is_field_meaning own name other = false
+
 -- the row is a field of this name, of the record whose row has this ordinal
 abbrev pub is_field : (record_ordinal name : ℕ) → Row → Bool
-is_field own name r = fits (row_meaning r)
-  where
-    fits : RowMeaning → Bool
-    fits (Field t o q n) = (q == own) && (n == name)
-    fits other = false
+is_field own name r = is_field_meaning own name (row_meaning r)
 
 -- the field of this name among a record's rows, which end before its own; nothing else has fields
 abbrev pub field_by : Scene → Place → ℕ → RowMeaning → Option Row
@@ -56,13 +57,14 @@ pub record Parameter : Type 0 where
   pub typ : Place
   pub by_ref : Bool
 
--- what a row says of a parameter, where it is one of the procedure type whose row has this ordinal
+-- what a meaning says of a parameter, where it is one of the procedure type whose row has this ordinal
+abbrev pub parameter_by : (own : ℕ) → RowMeaning → Option Parameter
+parameter_by own (Param t v q) = if q == own then Some (record { typ = t; by_ref = v }) else None
+parameter_by own other = None
+
+-- what a row says of such a parameter
 abbrev pub parameter_of : (own : ℕ) → Row → Option Parameter
-parameter_of own r = of_row (row_meaning r)
-  where
-    of_row : RowMeaning → Option Parameter
-    of_row (Param t v q) = if q == own then Some (record { typ = t; by_ref = v }) else None
-    of_row other = None
+parameter_of own r = parameter_by own (row_meaning r)
 
 -- the parameters among a procedure type's rows, which end before its own; nothing else has parameters
 abbrev pub parameters_by : Scene → Place → RowMeaning → List Parameter

@@ -10,18 +10,20 @@ use Rattle.m2_base.specs.Statics.Ranges.{Range, cardinal_range, integer_range, r
 abbrev pub meaning_at : Scene → Place → RowMeaning
 meaning_at scene t = row_meaning (row_at scene.tables t)
 
+-- the second type by its row's meaning, or where that is an opaque one the first
+abbrev pub unless_opaque : (t u : Place) → RowMeaning → Place
+unless_opaque t u Opaque = t
+unless_opaque t u other = u
+
 -- the type of a Type name row, unless that is an opaque one; of any other row the type given
+abbrev pub type_named : Scene → Place → RowMeaning → Place
+type_named scene t (TypeName u) = unless_opaque t u (meaning_at scene u)
+type_named scene t other = t
+
+-- the type of the row that an entry has, or the type given
 abbrev pub named_or : Scene → Place → Option Entry → Place
 named_or scene t None = t
-named_or scene t (Some e) = of_name (row_meaning e.1)
-  where
-    of_type : Place → RowMeaning → Place
-    of_type u Opaque = t
-    of_type u other = u
-
-    of_name : RowMeaning → Place
-    of_name (TypeName u) = of_type u (meaning_at scene u)
-    of_name other = t
+named_or scene t (Some e) = type_named scene t (row_meaning e.1)
 
 -- the type that the module has declared under this name, or the opaque type itself
 abbrev pub declared_as : Scene → Place → (name : ℕ) → Place

@@ -9,13 +9,14 @@ use Rattle.m2_base.specs.Statics.Lookup.{Entry, entry_at, entry_in, first_entry}
 use Rattle.m2_base.specs.Tables.{lookup}
 use Rattle.m2_base.specs.declared.notes.Answer.{Answer}
 
--- an alias is followed to its target, which is none
+-- an entry by its row's meaning: an alias is followed to its target, which is none
+abbrev pub followed_by : Scene → Entry → RowMeaning → Entry
+followed_by scene e (Alias p) = entry_at scene p
+followed_by scene e other = e
+
+-- an entry, aliases followed
 abbrev pub followed : Scene → Entry → Entry
-followed scene e = to_target (row_meaning e.1)
-  where
-    to_target : RowMeaning → Entry
-    to_target (Alias p) = entry_at scene p
-    to_target other = e
+followed scene e = followed_by scene e (row_meaning e.1)
 
 -- what a lookup found: it is noted as an answer, an alias as itself
 abbrev pub answer_of : (name at : ℕ) → Entry → Answer
