@@ -4,14 +4,14 @@ use Rattle.std.specs.Prelude.{IsErrOf}
 use Rattle.m2_io.specs.Files.{Files}
 use Rattle.m2c_top.specs.Command.{Command, compile, Asks, IsNoCommand}
 use Rattle.m2c_top.specs.Ending.{ended_as}
-use Rattle.m2c_top.specs.Outcome.{Outcome, Gives, AsksToCompile, Commands, LacksText, HasPlainText, HasOtherText, Leaves, PrintsPart}
+use Rattle.m2c_top.specs.Outcome.{Outcome, Gives, AsksToCompile, Commands, LacksText, HasSoundText, HasFaultyText, HasOtherText, Leaves, PrintsPart}
 use Rattle.m2c_top.specs.Statuses.{status_number, IsFault, IsStatus, IsAnswer, Exactly}
-use Rattle.m2c_top.specs.Trees.{PlainModule}
+use Rattle.m2c_top.specs.Trees.{Parsed}
 use Rattle.m2c_top.specs.declared.status.Status.{Status}
-use Rattle.m2c_top.specs.declared.status.Status.TheVariants.{Done, NoCommand, NoText, ReadFault, WriteFault, NoMemory, NotBuilt}
+use Rattle.m2c_top.specs.declared.status.Status.TheVariants.{Done, Diagnosed, NoCommand, NoText, ReadFault, WriteFault, NoMemory, NotBuilt}
 use Rattle.m2c_top.specs.declared.top.Stop.{Stop}
 use Rattle.m2c_top.specs.declared.top.Stop.TheVariants as stop
-use Rattle.m2c_top.proofs.Table.{table_lacks, table_plain, table_other, map_told, asks_none}
+use Rattle.m2c_top.proofs.Table.{table_lacks, table_sound, table_faulty, table_other, map_told, asks_none}
 
 -- the number that the work ends with
 abbrev pub number_of : Result Status Stop → ℕ
@@ -50,9 +50,14 @@ module _ (words : List (List ℕ)) (holds after : Option Files) (old new : Optio
   ends_no_text (Err s) leaves = told_all holds _ (λ files. faulty (number_of (Err s)) 3 (AsksToCompile words (λ n. LacksText n files)) (stop_fault s) (not_fault 3 (λ e. omega (arith, e)) (λ e. omega (arith, e)) (λ e. omega (arith, e))))
 
   pub ends_done : (r : Result Status Stop) → IfOk r (λ status. IfSome holds (λ files. Leaves (Gives words files) (status_number status) after old new))
-      → IfSome holds (λ files. Exactly (number_of r) 0 (AsksToCompile words (λ n. (m : PlainModule) × HasPlainText n files m)))
-  ends_done (Ok status) leaves = map_told holds _ (λ files. Exactly (status_number status) 0 (AsksToCompile words (λ n. (m : PlainModule) × HasPlainText n files m))) (λ files l. table_plain words files old new (status_number status) after l) leaves
-  ends_done (Err s) leaves = told_all holds _ (λ files. faulty (number_of (Err s)) 0 (AsksToCompile words (λ n. (m : PlainModule) × HasPlainText n files m)) (stop_fault s) (not_fault 0 (λ e. omega (arith, e)) (λ e. omega (arith, e)) (λ e. omega (arith, e))))
+      → IfSome holds (λ files. Exactly (number_of r) 0 (AsksToCompile words (λ n. (p : Parsed) × HasSoundText n files p)))
+  ends_done (Ok status) leaves = map_told holds _ (λ files. Exactly (status_number status) 0 (AsksToCompile words (λ n. (p : Parsed) × HasSoundText n files p))) (λ files l. table_sound words files old new (status_number status) after l) leaves
+  ends_done (Err s) leaves = told_all holds _ (λ files. faulty (number_of (Err s)) 0 (AsksToCompile words (λ n. (p : Parsed) × HasSoundText n files p)) (stop_fault s) (not_fault 0 (λ e. omega (arith, e)) (λ e. omega (arith, e)) (λ e. omega (arith, e))))
+
+  pub ends_refused : (r : Result Status Stop) → IfOk r (λ status. IfSome holds (λ files. Leaves (Gives words files) (status_number status) after old new))
+      → IfSome holds (λ files. Exactly (number_of r) 1 (AsksToCompile words (λ n. (p : Parsed) × HasFaultyText n files p)))
+  ends_refused (Ok status) leaves = map_told holds _ (λ files. Exactly (status_number status) 1 (AsksToCompile words (λ n. (p : Parsed) × HasFaultyText n files p))) (λ files l. table_faulty words files old new (status_number status) after l) leaves
+  ends_refused (Err s) leaves = told_all holds _ (λ files. faulty (number_of (Err s)) 1 (AsksToCompile words (λ n. (p : Parsed) × HasFaultyText n files p)) (stop_fault s) (not_fault 1 (λ e. omega (arith, e)) (λ e. omega (arith, e)) (λ e. omega (arith, e))))
 
   pub ends_not_built : (r : Result Status Stop) → IfOk r (λ status. IfSome holds (λ files. Leaves (Gives words files) (status_number status) after old new))
       → IfSome holds (λ files. Exactly (number_of r) 11 (AsksToCompile words (λ n. HasOtherText n files)))
@@ -63,19 +68,23 @@ module _ (words : List (List ℕ)) (holds after : Option Files) (old new : Optio
 abbrev pub IsWellEnded : List (List ℕ) → Status → Type 0
 IsWellEnded words status = (IsAnswer status × Commands words) ⊎ ((status ≡ NoCommand) × IsNoCommand words)
 
-answer_number : (status : Status) → IsAnswer status → (status_number status ≡ 0) ⊎ (status_number status ≡ 3) ⊎ (status_number status ≡ 11)
+abbrev pub IsAnswered : ℕ → Type 0
+IsAnswered n = (n ≡ 0) ⊎ (n ≡ 1) ⊎ (n ≡ 3) ⊎ (n ≡ 11)
+
+answer_number : (status : Status) → IsAnswer status → IsAnswered (status_number status)
 answer_number status (inl e) = inl (ap status_number e)
 answer_number status (inr (inl e)) = inr (inl (ap status_number e))
-answer_number status (inr (inr e)) = inr (inr (ap status_number e))
+answer_number status (inr (inr (inl e))) = inr (inr (inl (ap status_number e)))
+answer_number status (inr (inr (inr e))) = inr (inr (inr (ap status_number e)))
 
-well_number : (words : List (List ℕ)) (status : Status) → IsWellEnded words status → (status_number status ≡ 0) ⊎ (status_number status ≡ 2) ⊎ (status_number status ≡ 3) ⊎ (status_number status ≡ 11)
-well_number words status (inl p) = elim (answer_number status p.0) [ inl a ↦ inl a | inr (inl b) ↦ inr (inr (inl b)) | inr (inr c) ↦ inr (inr (inr c)) ]
-well_number words status (inr p) = inr (inl (ap status_number p.0))
+well_number : (words : List (List ℕ)) (status : Status) → IsWellEnded words status → IsAnswered (status_number status) ⊎ (status_number status ≡ 2)
+well_number words status (inl p) = inl (answer_number status p.0)
+well_number words status (inr p) = inr (ap status_number p.0)
 
 well_is_no_fault : (words : List (List ℕ)) (status : Status) → IsWellEnded words status → IsFault (status_number status) → ⊥
 well_is_no_fault words status well fault = clash (status_number status) (well_number words status well) fault
   where
-    clash : (n : ℕ) → (n ≡ 0) ⊎ (n ≡ 2) ⊎ (n ≡ 3) ⊎ (n ≡ 11) → IsFault n → ⊥
+    clash : (n : ℕ) → IsAnswered n ⊎ (n ≡ 2) → IsFault n → ⊥
     clash n a f = grind arith
 
 module _ (words : List (List ℕ)) where
@@ -85,7 +94,7 @@ module _ (words : List (List ℕ)) where
     always = λ none. absurd (asks_none words p.1.0 p.1.1 none);
   }
     where
-      clash : (n : ℕ) → (n ≡ 0) ⊎ (n ≡ 3) ⊎ (n ≡ 11) → n ≡ 2 → ⊥
+      clash : (n : ℕ) → IsAnswered n → n ≡ 2 → ⊥
       clash n a e = grind arith
   ends_as_no_command (Ok status) (inr p) = record { only = λ e. p.1; always = λ none. inl (ap status_number p.0) }
   ends_as_no_command (Err s) well = faulty (number_of (Err s)) 2 (IsNoCommand words) (stop_fault s) (not_fault 2 (λ e. omega (arith, e)) (λ e. omega (arith, e)) (λ e. omega (arith, e)))
@@ -93,12 +102,13 @@ module _ (words : List (List ℕ)) where
   pub ends_with_status : (r : Result Status Stop) → IfOk r (IsWellEnded words) → IsStatus (number_of r)
   ends_with_status (Ok status) well = listed (status_number status) (well_number words status well)
     where
-      listed : (n : ℕ) → (n ≡ 0) ⊎ (n ≡ 2) ⊎ (n ≡ 3) ⊎ (n ≡ 11) → IsStatus n
-      listed n (inl a) = inl a
-      listed n (inr (inl b)) = inr (inl b)
-      listed n (inr (inr (inl c))) = inr (inr (inl c))
-      listed n (inr (inr (inr d))) = inr (inr (inr (inl d)))
-  ends_with_status (Err s) well = inr (inr (inr (inr (stop_fault s))))
+      listed : (n : ℕ) → IsAnswered n ⊎ (n ≡ 2) → IsStatus n
+      listed n (inl (inl a)) = inl a
+      listed n (inl (inr (inl b))) = inr (inl b)
+      listed n (inl (inr (inr (inl c)))) = inr (inr (inr (inl c)))
+      listed n (inl (inr (inr (inr d)))) = inr (inr (inr (inr (inl d))))
+      listed n (inr e) = inr (inr (inl e))
+  ends_with_status (Err s) well = inr (inr (inr (inr (inr (stop_fault s)))))
 
   -- which stop a fault's number tells
   pub ends_stopped : (P : Type 0) (r : Result Status Stop) → IfOk r (IsWellEnded words) → OnErr r P → IsFault (number_of r) → P

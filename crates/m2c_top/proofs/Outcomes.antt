@@ -10,9 +10,9 @@ use Rattle.m2_io.specs.Files.{Files, front_of, with_file, HasPart}
 use Rattle.m2_io.specs.Written.{with_bytes, WritesPart}
 use Rattle.m2c_top.specs.Command.{is_name, is_identifier}
 use Rattle.m2c_top.specs.Object.{object_bytes}
-use Rattle.m2c_top.specs.Outcome.{Outcome, Compiles, no_text, compiled, not_built, LacksText, HasPlainText, HasOtherText, text_name, object_name, line, Leaves, PrintsPart, PutsPart, KeepsButObject, IsObjectOf}
+use Rattle.m2c_top.specs.Outcome.{Outcome, Compiles, no_text, compiled, diagnosed, not_built, LacksText, HasPlainText, HasSoundText, HasFaultyText, HasOtherText, text_name, object_name, line, Leaves, PrintsPart, PutsPart, KeepsButObject, IsObjectOf}
 use Rattle.m2c_top.specs.Plain.{IsPlain}
-use Rattle.m2c_top.specs.Trees.{PlainModule}
+use Rattle.m2c_top.specs.Trees.{Parsed}
 
 pub on_err : {T E : Type 0} (r : Result T E) {P : Type 0} → P → OnErr r P
 on_err (Ok x) p = tt
@@ -46,13 +46,18 @@ some_same x y p = cc
 -- where the text is lacking, this line alone is printed
 pub prints_no_text : (name : List ℕ) (files : Files) (old new : Option (List ℕ)) → LacksText name files → WritesPart old (line (codes "no text " ++ text_name name)) new → PrintsPart (Compiles name files) old new
 prints_no_text name files old new lacks part answer (no_text l) = part
-prints_no_text name files old new lacks part answer (compiled m h) = absurd (lacks_has _ _ lacks h.1)
+prints_no_text name files old new lacks part answer (compiled p h) = absurd (lacks_has _ _ lacks h.0.1)
+prints_no_text name files old new lacks part answer (diagnosed p h) = absurd (lacks_has _ _ lacks h.0.1)
 prints_no_text name files old new lacks part answer (not_built h) = absurd (lacks_has _ _ lacks h.1)
+
+pub plain_other : (name : List ℕ) (files : Files) (p : Parsed) → HasPlainText name files p → HasOtherText name files → ⊥
+plain_other name files p h other = other.2 p (subst (λ text. IsPlain name text p) (some_same h.0 other.0 (sym h.1 ∙ other.1)) h.2)
 
 -- where the text isn't plain, this line alone is printed
 pub prints_not_built : (name : List ℕ) (files : Files) (old new : Option (List ℕ)) → HasOtherText name files → WritesPart old (line (codes "not built yet")) new → PrintsPart (Compiles name files) old new
 prints_not_built name files old new other part answer (no_text l) = absurd (lacks_has _ _ l other.1)
-prints_not_built name files old new other part answer (compiled m h) = absurd (other.2 m (subst (λ text. IsPlain name text m) (some_same h.0 other.0 (sym h.1 ∙ other.1)) h.2))
+prints_not_built name files old new other part answer (compiled p h) = absurd (plain_other name files p h.0 other)
+prints_not_built name files old new other part answer (diagnosed p h) = absurd (plain_other name files p h.0 other)
 prints_not_built name files old new other part answer (not_built h) = part
 
 pub name_short : (name : List ℕ) → is_name name ≡ true → length name ≤ 64
@@ -83,12 +88,12 @@ whole_front text most h = take_all most text (shorter most (length text) (subst 
     shorter : (a b : ℕ) → min a b < a → b ≤ a
     shorter a b p = omega arith
 
-plain_front : (name text x : List ℕ) (m : PlainModule) (most : ℕ) → most ≡ 1048576 + 1 → x ≡ take most text → IsPlain name x m → IsPlain name text m
+plain_front : (name text x : List ℕ) (m : Parsed) (most : ℕ) → most ≡ 1048576 + 1 → x ≡ take most text → IsPlain name x m → IsPlain name text m
 plain_front name text x m most size is p =
     let room : length (take most text) < most = subst (λ n. n < most) (ap length is) (omega (arith, p.short, size)) in
     subst (λ t. IsPlain name t m) (is ∙ whole_front text most room) p
 
-front_plain : (name text x : List ℕ) (m : PlainModule) (most : ℕ) → most ≡ 1048576 + 1 → x ≡ take most text → IsPlain name text m → IsPlain name x m
+front_plain : (name text x : List ℕ) (m : Parsed) (most : ℕ) → most ≡ 1048576 + 1 → x ≡ take most text → IsPlain name text m → IsPlain name x m
 front_plain name text x m most size is p =
     subst (λ t. IsPlain name t m) (sym (is ∙ take_all most text (omega (arith, size, p.short)))) p
 
@@ -101,12 +106,12 @@ module _ {V : Type 0} (items : V → List ℕ) (holds : Option Files) (files : F
   lacking e = front_none files (text_name name) most (sym read ∙ ap (option_map items) e)
 
   module _ (v : V) (x : List ℕ) (size : most ≡ 1048576 + 1) (e : found ≡ Some v) (same : x ≡ items v) where
-    pub has_plain : (m : PlainModule) → IsPlain name x m → HasPlainText name files m
+    pub has_plain : (m : Parsed) → IsPlain name x m → HasPlainText name files m
     has_plain m plain =
         let text = front_some files (text_name name) most (items v) (sym read ∙ ap (option_map items) e) in
         (text.0, text.1, plain_front name text.0 x m most size (same ∙ text.2) plain)
 
-    pub has_other : ((m : PlainModule) → IsPlain name x m → ⊥) → HasOtherText name files
+    pub has_other : ((m : Parsed) → IsPlain name x m → ⊥) → HasOtherText name files
     has_other none =
         let text = front_some files (text_name name) most (items v) (sym read ∙ ap (option_map items) e) in
         (text.0, text.1, λ m plain. none m (front_plain name text.0 x m most size (same ∙ text.2) plain))
@@ -121,8 +126,3 @@ module _ (holds : Option Files) (given : Files → Outcome → Type 0) (old new 
   pub leaves_told : (status : ℕ) (after : Option Files) → ((files : Files) → holds ≡ Some files → Leaves (given files) status after old new) → IfSome holds (λ files. Leaves (given files) status after old new)
   leaves_told status after h = told holds h
 
--- a front of the object that was put, where the files are told
-pub puts_part : (name : List ℕ) (m : PlainModule) (old new : Option Files) → ((files : Files) → old ≡ Some files → HasPlainText name files m)
-    → HasPart old (object_name name) (object_bytes name m) new → KeepsButObject name old new
-puts_part name m old new plain (inl same) = inl same
-puts_part name m old new plain (inr part) = inr (object_bytes name m, told old (λ files has. (m, plain files has, refl)), part)

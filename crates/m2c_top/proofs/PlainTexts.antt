@@ -1,5 +1,5 @@
 -- When a text is that of a plain module.
-use Rattle.std.proofs.Common.{◌≡◌, ℕ, ◌+◌, ◌<◌, ◌≤◌, Bool, true, false, List, [], ◌∷◌, ◌++◌, Option, Some, None, length, map, refl, sym, ◌∙◌, ap, subst, arith}
+use Rattle.std.proofs.Common.{◌≡◌, ℕ, ◌+◌, ◌<◌, ◌≤◌, Bool, true, false, ◌&&◌, List, [], ◌∷◌, ◌++◌, Option, Some, None, length, map, refl, sym, ◌∙◌, ap, subst, arith}
 use Rattle.std.specs.Prelude.{option_map, Result, Ok, Err, IfOk, IfSome, IfNone, MatchOption}
 use Rattle.std.specs.List.{AllZip}
 use Rattle.m2_base.specs.Names.{standard_names}
@@ -13,7 +13,7 @@ use Rattle.m2c_top.specs.Grammar.{Spells}
 use Rattle.m2c_top.specs.Plain.{IsPlain, is_meant}
 use Rattle.m2c_top.specs.Reading.{module_at}
 use Rattle.m2c_top.specs.Symbols.{symbol_of}
-use Rattle.m2c_top.specs.Trees.{PlainModule}
+use Rattle.m2c_top.specs.Trees.{PlainModule, Parsed}
 use Rattle.m2c_top.proofs.Fronts.{some_is}
 use Rattle.m2c_top.proofs.SpelledRead.{spelled_read}
 
@@ -24,11 +24,11 @@ same_length R (x ∷ xs) [] h = absurd h
 same_length R (x ∷ xs) (y ∷ ys) h = omega (arith, same_length R xs ys h.1)
 
 -- a text of too many tokens is no plain module's
-pub too_many_plain : (name text : List ℕ) (m : PlainModule) → HasTooMany text → IsPlain name text m → ⊥
-too_many_plain name text m many plain =
+pub too_many_plain : (name text : List ℕ) (p : Parsed) → HasTooMany text → IsPlain name text p → ⊥
+too_many_plain name text p many plain =
     let tokens = plain.are_tokens in
     let same : tokens.lexemes ≡ many.0 = one_list_of_lexemes text tokens.lexemes many.0 tokens.split many.1 in
-    let count : length (placed tokens.lexemes) ≡ length plain.tokens = same_length (IsToken plain.names) (placed tokens.lexemes) plain.tokens tokens.each in
+    let count : length (placed tokens.lexemes) ≡ length p.tokens = same_length (IsToken plain.names) (placed tokens.lexemes) p.tokens tokens.each in
     let many_placed : 1048576 < length (placed tokens.lexemes) = subst (λ lexemes. 1048576 < length (placed lexemes)) (sym same) many.2 in
     omega (arith, plain.few, count, many_placed)
 
@@ -49,40 +49,35 @@ pub only_tree : (tree m : PlainModule) (tokens : List Token) → Some tree ≡ m
 only_tree tree m tokens read spells = some_is tree m (read ∙ spelled_read m (map symbol_of tokens) spells)
 
 -- the only tokens that a plain text can have
-pub these_tokens : (name text : List ℕ) (m : PlainModule) (names : List (List ℕ)) (tokens : List Token) → AreTokens standard_names names text tokens
-    → IsPlain name text m → Spells m (map symbol_of tokens) × (is_meant names name m ≡ true)
-these_tokens name text m names tokens are plain =
-    let same_tokens = one_list_of_tokens standard_names plain.names names text plain.tokens tokens plain.are_tokens are in
-    let same_names = one_list_of_names standard_names plain.names names text plain.tokens tokens plain.are_tokens are in
-    (subst (λ ts. Spells m (map symbol_of ts)) same_tokens plain.spelled, subst (λ ns. is_meant ns name m ≡ true) same_names plain.meant)
+pub these_tokens : (name text : List ℕ) (p : Parsed) (names : List (List ℕ)) (tokens : List Token) → AreTokens standard_names names text tokens
+    → IsPlain name text p → Spells p.tree (map symbol_of tokens) × (is_meant names name p.tree ≡ true)
+these_tokens name text p names tokens are plain =
+    let same_tokens = one_list_of_tokens standard_names plain.names names text p.tokens tokens plain.are_tokens are in
+    let same_names = one_list_of_names standard_names plain.names names text p.tokens tokens plain.are_tokens are in
+    (subst (λ ts. Spells p.tree (map symbol_of ts)) same_tokens plain.spelled, subst (λ ns. is_meant ns name p.tree ≡ true) same_names plain.meant)
 
 -- tokens that spell no module that is meant so
 pub not_plain : (name text : List ℕ) (names : List (List ℕ)) (tokens : List Token) → AreTokens standard_names names text tokens
-    → ((m : PlainModule) → Spells m (map symbol_of tokens) → is_meant names name m ≡ false) → (m : PlainModule) → IsPlain name text m → ⊥
-not_plain name text names tokens are none m plain =
-    let these = these_tokens name text m names tokens are plain in
-    both (is_meant names name m) these.1 (none m these.0)
+    → ((m : PlainModule) → Spells m (map symbol_of tokens) → is_meant names name m ≡ false) → (p : Parsed) → IsPlain name text p → ⊥
+not_plain name text names tokens are none p plain =
+    let these = these_tokens name text p names tokens are plain in
+    both (is_meant names name p.tree) these.1 (none p.tree these.0)
 
 pub is_plain : (name text : List ℕ) (m : PlainModule) (names : List (List ℕ)) (tokens : List Token) → length text ≤ 1048576 → are_plain_bytes text ≡ true → length tokens ≤ 1048576
-    → AreTokens standard_names names text tokens → Spells m (map symbol_of tokens) → is_meant names name m ≡ true → IsPlain name text m
+    → AreTokens standard_names names text tokens → Spells m (map symbol_of tokens) → is_meant names name m ≡ true → IsPlain name text (record { tokens = tokens; tree = m })
 is_plain name text m names tokens short bytes few are spells meant = record {
   short = short;
   bytes = bytes;
   names = names;
-  tokens = tokens;
   few = few;
   are_tokens = are;
   spelled = spells;
   meant = meant;
 }
 
--- what the tokens tell of a text
-pub text_tells : {V E : Type 0} (view : V → PlainModule) (r : Result (Option V) E) (name text : List ℕ) (names : List (List ℕ)) (tokens : List Token)
-    → length text ≤ 1048576 → are_plain_bytes text ≡ true → length tokens ≤ 1048576 → AreTokens standard_names names text tokens
-    → IfOk r (λ found. IfNone found ((m : PlainModule) → Spells m (map symbol_of tokens) → is_meant names name m ≡ false))
-    → IfOk r (λ found. IfSome found (λ plain. Spells (view plain) (map symbol_of tokens)))
-    → IfOk r (λ found. IfSome found (λ plain. is_meant names name (view plain) ≡ true))
-    → IfOk r (λ found. MatchOption found ((m : PlainModule) → IsPlain name text m → ⊥) (λ plain. IsPlain name text (view plain)))
-text_tells view (Err e) name text names tokens short bytes few are none spells meant = tt
-text_tells view (Ok None) name text names tokens short bytes few are none spells meant = not_plain name text names tokens are none
-text_tells view (Ok (Some plain)) name text names tokens short bytes few are none spells meant = is_plain name text (view plain) names tokens short bytes few are spells meant
+pub unnamed : (named sound : Bool) → named ≡ false → (named && sound) ≡ false
+unnamed named sound e = ap (λ b. b && sound) e
+
+pub unsound : (named sound : Bool) → sound ≡ false → (named && sound) ≡ false
+unsound true sound e = e
+unsound false sound e = refl

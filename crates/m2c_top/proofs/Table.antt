@@ -6,12 +6,14 @@ use Rattle.m2_io.specs.Files.{Files}
 use Rattle.m2_io.specs.Written.{WritesPart, with_bytes}
 use Rattle.m2c_top.specs.Command.{Command, compile, Asks, IsNoCommand}
 use Rattle.m2c_top.specs.Plain.{IsPlain}
-use Rattle.m2c_top.specs.Trees.{PlainModule}
-use Rattle.m2c_top.specs.Outcome.{Outcome, Gives, no_command, compiles, Compiles, no_text, compiled, not_built, AsksToCompile, LacksText, HasPlainText, HasOtherText, text_name, line, Leaves, PrintsPart}
+use Rattle.m2c_top.specs.Trees.{Parsed}
+use Rattle.m2c_top.specs.Outcome.{Outcome, Gives, no_command, compiles, Compiles, no_text, compiled, diagnosed, not_built, AsksToCompile, LacksText, HasPlainText, HasSoundText, HasFaultyText, HasOtherText, text_name, line, Leaves, PrintsPart}
 use Rattle.m2c_top.specs.Statuses.{status_number, IsFault, IsStatus, IsAnswer, Exactly}
 use Rattle.m2c_top.specs.declared.status.Status.{Status}
-use Rattle.m2c_top.specs.declared.status.Status.TheVariants.{Done, NoCommand, NoText, ReadFault, WriteFault, NoMemory, NotBuilt}
-use Rattle.m2c_top.proofs.Outcomes.{lacks_has, some_same}
+use Rattle.m2c_top.specs.declared.status.Status.TheVariants.{Done, Diagnosed, NoCommand, NoText, ReadFault, WriteFault, NoMemory, NotBuilt}
+use Rattle.m2c_top.specs.Diagnostics.{diags_of}
+use Rattle.m2c_top.proofs.OnePlain.{one_plain}
+use Rattle.m2c_top.proofs.Outcomes.{lacks_has, plain_other}
 
 pub same_name : (words : List (List ℕ)) (a b : List ℕ) → Asks words (compile a) → Asks words (compile b) → a ≡ b
 same_name words a b p q = second (codes "compile") (codes "compile") a b (sym p.0 ∙ q.0)
@@ -24,42 +26,64 @@ pub asks_none : (words : List (List ℕ)) (command : Command) → Asks words com
 asks_none words command asks none = none command asks
 
 module _ (words : List (List ℕ)) (files : Files) where
-  lacks_plain : (a b : List ℕ) → Asks words (compile a) → Asks words (compile b) → LacksText a files → (m : PlainModule) → HasPlainText b files m → ⊥
+  lacks_plain : (a b : List ℕ) → Asks words (compile a) → Asks words (compile b) → LacksText a files → (p : Parsed) → HasPlainText b files p → ⊥
   lacks_plain a b p q l m h = lacks_has _ _ (subst (λ n. LacksText n files) (same_name words a b p q) l) h.1
+
+  lacks_sound : (a b : List ℕ) → Asks words (compile a) → Asks words (compile b) → LacksText a files → (p : Parsed) → HasSoundText b files p → ⊥
+  lacks_sound a b p q l m h = lacks_plain a b p q l m h.0
+
+  lacks_faulty : (a b : List ℕ) → Asks words (compile a) → Asks words (compile b) → LacksText a files → (p : Parsed) → HasFaultyText b files p → ⊥
+  lacks_faulty a b p q l m h = lacks_plain a b p q l m h.0
 
   lacks_other : (a b : List ℕ) → Asks words (compile a) → Asks words (compile b) → LacksText a files → HasOtherText b files → ⊥
   lacks_other a b p q l h = lacks_has _ _ (subst (λ n. LacksText n files) (same_name words a b p q) l) h.1
 
-  one_text : (o : Option (List ℕ)) (x y : List ℕ) → o ≡ Some x → o ≡ Some y → x ≡ y
-  one_text o x y e f = some_same x y (sym e ∙ f)
+  sound_faulty : (a b : List ℕ) → Asks words (compile a) → Asks words (compile b) → (m : Parsed) → HasSoundText a files m → (n : Parsed) → HasFaultyText b files n → ⊥
+  sound_faulty a b p q m h n k =
+      let same : m ≡ n = one_plain b files m n (subst (λ x. HasPlainText x files m) (same_name words a b p q) h.0) k.0 in
+      k.1 (ap (λ (x : Parsed). diags_of x.tree) (sym same) ∙ h.1)
 
-  plain_other : (a b : List ℕ) → Asks words (compile a) → Asks words (compile b) → (m : PlainModule) → HasPlainText a files m → HasOtherText b files → ⊥
-  plain_other a b p q m h o =
-      let k = subst (λ n. HasPlainText n files m) (same_name words a b p q) h in
-      o.2 m (subst (λ t. IsPlain b t m) (one_text (get files (text_name b)) k.0 o.0 k.1 o.1) k.2)
+  sound_other : (a b : List ℕ) → Asks words (compile a) → Asks words (compile b) → (m : Parsed) → HasSoundText a files m → HasOtherText b files → ⊥
+  sound_other a b p q m h o = plain_other b files m (subst (λ n. HasPlainText n files m) (same_name words a b p q) h.0) o
+
+  faulty_other : (a b : List ℕ) → Asks words (compile a) → Asks words (compile b) → (m : Parsed) → HasFaultyText a files m → HasOtherText b files → ⊥
+  faulty_other a b p q m h o = plain_other b files m (subst (λ n. HasPlainText n files m) (same_name words a b p q) h.0) o
 
   exactly_lacks_of : (name : List ℕ) (outcome : Outcome) → Asks words (compile name) → Compiles name files outcome → Exactly (status_number outcome.status) 3 (AsksToCompile words (λ n. LacksText n files))
   exactly_lacks_of name outcome asks (no_text l) = record { only = λ e. (name, asks, l); always = λ a. inl refl }
-  exactly_lacks_of name outcome asks (compiled m h) = record { only = λ e. absurd (omega (arith, e)); always = λ a. absurd (lacks_plain a.0 name a.1 asks a.2 m h) }
+  exactly_lacks_of name outcome asks (compiled p h) = record { only = λ e. absurd (omega (arith, e)); always = λ a. absurd (lacks_sound a.0 name a.1 asks a.2 p h) }
+  exactly_lacks_of name outcome asks (diagnosed p h) = record { only = λ e. absurd (omega (arith, e)); always = λ a. absurd (lacks_faulty a.0 name a.1 asks a.2 p h) }
   exactly_lacks_of name outcome asks (not_built h) = record { only = λ e. absurd (omega (arith, e)); always = λ a. absurd (lacks_other a.0 name a.1 asks a.2 h) }
 
-  exactly_plain_of : (name : List ℕ) (outcome : Outcome) → Asks words (compile name) → Compiles name files outcome → Exactly (status_number outcome.status) 0 (AsksToCompile words (λ n. (m : PlainModule) × HasPlainText n files m))
-  exactly_plain_of name outcome asks (no_text l) = record { only = λ e. absurd (omega (arith, e)); always = λ a. absurd (lacks_plain name a.0 asks a.1 l a.2.0 a.2.1) }
-  exactly_plain_of name outcome asks (compiled m h) = record { only = λ e. (name, asks, (m, h)); always = λ a. inl refl }
-  exactly_plain_of name outcome asks (not_built h) = record { only = λ e. absurd (omega (arith, e)); always = λ a. absurd (plain_other a.0 name a.1 asks a.2.0 a.2.1 h) }
+  exactly_sound_of : (name : List ℕ) (outcome : Outcome) → Asks words (compile name) → Compiles name files outcome → Exactly (status_number outcome.status) 0 (AsksToCompile words (λ n. (p : Parsed) × HasSoundText n files p))
+  exactly_sound_of name outcome asks (no_text l) = record { only = λ e. absurd (omega (arith, e)); always = λ a. absurd (lacks_sound name a.0 asks a.1 l a.2.0 a.2.1) }
+  exactly_sound_of name outcome asks (compiled p h) = record { only = λ e. (name, asks, (p, h)); always = λ a. inl refl }
+  exactly_sound_of name outcome asks (diagnosed p h) = record { only = λ e. absurd (omega (arith, e)); always = λ a. absurd (sound_faulty a.0 name a.1 asks a.2.0 a.2.1 p h) }
+  exactly_sound_of name outcome asks (not_built h) = record { only = λ e. absurd (omega (arith, e)); always = λ a. absurd (sound_other a.0 name a.1 asks a.2.0 a.2.1 h) }
+
+  exactly_faulty_of : (name : List ℕ) (outcome : Outcome) → Asks words (compile name) → Compiles name files outcome → Exactly (status_number outcome.status) 1 (AsksToCompile words (λ n. (p : Parsed) × HasFaultyText n files p))
+  exactly_faulty_of name outcome asks (no_text l) = record { only = λ e. absurd (omega (arith, e)); always = λ a. absurd (lacks_faulty name a.0 asks a.1 l a.2.0 a.2.1) }
+  exactly_faulty_of name outcome asks (compiled p h) = record { only = λ e. absurd (omega (arith, e)); always = λ a. absurd (sound_faulty name a.0 asks a.1 p h a.2.0 a.2.1) }
+  exactly_faulty_of name outcome asks (diagnosed p h) = record { only = λ e. (name, asks, (p, h)); always = λ a. inl refl }
+  exactly_faulty_of name outcome asks (not_built h) = record { only = λ e. absurd (omega (arith, e)); always = λ a. absurd (faulty_other a.0 name a.1 asks a.2.0 a.2.1 h) }
 
   exactly_other_of : (name : List ℕ) (outcome : Outcome) → Asks words (compile name) → Compiles name files outcome → Exactly (status_number outcome.status) 11 (AsksToCompile words (λ n. HasOtherText n files))
   exactly_other_of name outcome asks (no_text l) = record { only = λ e. absurd (omega (arith, e)); always = λ a. absurd (lacks_other name a.0 asks a.1 l a.2) }
-  exactly_other_of name outcome asks (compiled m h) = record { only = λ e. absurd (omega (arith, e)); always = λ a. absurd (plain_other name a.0 asks a.1 m h a.2) }
+  exactly_other_of name outcome asks (compiled p h) = record { only = λ e. absurd (omega (arith, e)); always = λ a. absurd (sound_other name a.0 asks a.1 p h a.2) }
+  exactly_other_of name outcome asks (diagnosed p h) = record { only = λ e. absurd (omega (arith, e)); always = λ a. absurd (faulty_other name a.0 asks a.1 p h a.2) }
   exactly_other_of name outcome asks (not_built h) = record { only = λ e. (name, asks, h); always = λ a. inl refl }
 
   pub exactly_lacks : (outcome : Outcome) → Gives words files outcome → Exactly (status_number outcome.status) 3 (AsksToCompile words (λ n. LacksText n files))
   exactly_lacks outcome (no_command n) = record { only = λ e. absurd (omega (arith, e)); always = λ a. absurd (asks_none words (compile a.0) a.1 n) }
   exactly_lacks outcome (compiles name o asks h) = exactly_lacks_of name outcome asks h
 
-  pub exactly_plain : (outcome : Outcome) → Gives words files outcome → Exactly (status_number outcome.status) 0 (AsksToCompile words (λ n. (m : PlainModule) × HasPlainText n files m))
-  exactly_plain outcome (no_command n) = record { only = λ e. absurd (omega (arith, e)); always = λ a. absurd (asks_none words (compile a.0) a.1 n) }
-  exactly_plain outcome (compiles name o asks h) = exactly_plain_of name outcome asks h
+  pub exactly_sound : (outcome : Outcome) → Gives words files outcome → Exactly (status_number outcome.status) 0 (AsksToCompile words (λ n. (p : Parsed) × HasSoundText n files p))
+  exactly_sound outcome (no_command n) = record { only = λ e. absurd (omega (arith, e)); always = λ a. absurd (asks_none words (compile a.0) a.1 n) }
+  exactly_sound outcome (compiles name o asks h) = exactly_sound_of name outcome asks h
+
+  pub exactly_faulty : (outcome : Outcome) → Gives words files outcome → Exactly (status_number outcome.status) 1 (AsksToCompile words (λ n. (p : Parsed) × HasFaultyText n files p))
+  exactly_faulty outcome (no_command n) = record { only = λ e. absurd (omega (arith, e)); always = λ a. absurd (asks_none words (compile a.0) a.1 n) }
+  exactly_faulty outcome (compiles name o asks h) = exactly_faulty_of name outcome asks h
 
   pub exactly_other : (outcome : Outcome) → Gives words files outcome → Exactly (status_number outcome.status) 11 (AsksToCompile words (λ n. HasOtherText n files))
   exactly_other outcome (no_command n) = record { only = λ e. absurd (omega (arith, e)); always = λ a. absurd (asks_none words (compile a.0) a.1 n) }
@@ -86,8 +110,11 @@ module _ (words : List (List ℕ)) (files : Files) where
     pub table_lacks : (status : ℕ) (after : Option Files) → Leaves (Gives words files) status after old new → Exactly status 3 (AsksToCompile words (λ n. LacksText n files))
     table_lacks status after l = subst (λ s. Exactly s 3 (AsksToCompile words (λ n. LacksText n files))) (sym l.status_is) (exactly_lacks l.outcome l.is_given)
 
-    pub table_plain : (status : ℕ) (after : Option Files) → Leaves (Gives words files) status after old new → Exactly status 0 (AsksToCompile words (λ n. (m : PlainModule) × HasPlainText n files m))
-    table_plain status after l = subst (λ s. Exactly s 0 (AsksToCompile words (λ n. (m : PlainModule) × HasPlainText n files m))) (sym l.status_is) (exactly_plain l.outcome l.is_given)
+    pub table_sound : (status : ℕ) (after : Option Files) → Leaves (Gives words files) status after old new → Exactly status 0 (AsksToCompile words (λ n. (p : Parsed) × HasSoundText n files p))
+    table_sound status after l = subst (λ s. Exactly s 0 (AsksToCompile words (λ n. (p : Parsed) × HasSoundText n files p))) (sym l.status_is) (exactly_sound l.outcome l.is_given)
+
+    pub table_faulty : (status : ℕ) (after : Option Files) → Leaves (Gives words files) status after old new → Exactly status 1 (AsksToCompile words (λ n. (p : Parsed) × HasFaultyText n files p))
+    table_faulty status after l = subst (λ s. Exactly s 1 (AsksToCompile words (λ n. (p : Parsed) × HasFaultyText n files p))) (sym l.status_is) (exactly_faulty l.outcome l.is_given)
 
     pub table_other : (status : ℕ) (after : Option Files) → Leaves (Gives words files) status after old new → Exactly status 11 (AsksToCompile words (λ n. HasOtherText n files))
     table_other status after l = subst (λ s. Exactly s 11 (AsksToCompile words (λ n. HasOtherText n files))) (sym l.status_is) (exactly_other l.outcome l.is_given)

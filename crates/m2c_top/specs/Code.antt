@@ -1,5 +1,5 @@
 -- The code of a plain module. Each variable has the cell of its place among the variables.
-use Rattle.std.specs.Prelude.{ℕ, ◌==◌, max, List, [], ◌∷◌, ◌++◌, unwrap_or, position}
+use Rattle.std.specs.Prelude.{◌≡◌, ℕ, ◌+◌, ◌==◌, if◌then◌else◌, max, List, [], ◌∷◌, ◌++◌, map}
 use Rattle.std.specs.List.{flat_map}
 use Rattle.std.specs.Int.{to_le_bytes, w32, w64}
 use Rattle.m2c_top.specs.declared.plain.tree.Ident.{Ident}
@@ -42,8 +42,14 @@ arithmetic Times = 16 ∷ 0 ∷ []
 abbrev pub return : List ℕ
 return = 46 ∷ []
 
+-- variables have one cell after another, from this one on
+abbrev pub cell_after : (cell : ℕ) → List ℕ → ℕ → ℕ
+cell_after cell [] name = 0
+cell_after cell (variable ∷ variables) name = if name == variable then cell else cell_after (cell + 1) variables name
+
+-- the cell of the first variable of that name; 0 where there is none
 abbrev pub cell_of : List ℕ → ℕ → ℕ
-cell_of variables name = unwrap_or (position (λ other. name == other) variables) 0
+cell_of variables name = cell_after 0 variables name
 
 abbrev pub operand_code : List ℕ → Operand → List ℕ
 operand_code variables (Literal value) = push value
@@ -56,6 +62,14 @@ value_code variables (Pair left operator right) = operand_code variables left ++
 abbrev pub statement_code : List ℕ → Statement → List ℕ
 statement_code variables Empty = []
 statement_code variables (Assign to value) = global (cell_of variables to.name) ++ value_code variables value ++ store
+
+-- the cells of these names
+abbrev pub cells_of : (variables : List ℕ) → List Ident → List ℕ
+cells_of variables uses = map (λ ident. cell_of variables ident.name) uses
+
+-- With the cells of these names before it, this code comes after the old one, and the cells behind them are left.
+abbrev pub Writes : (uses : List Ident) → (code : List ℕ → List ℕ) → (cells left : List ℕ) → (old new : List ℕ) → Type 0
+Writes uses code cells left old new = (variables rest : List ℕ) → cells ≡ cells_of variables uses ++ rest → (new ≡ old ++ code variables) × (left ≡ rest)
 
 -- the statements' code one after another, and Return
 unfoldable pub body_code : List ℕ → List Statement → List ℕ

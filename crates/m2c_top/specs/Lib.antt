@@ -1,8 +1,16 @@
+pub mod Bindings
 pub mod Bytes
 pub mod Code
+pub mod Codes
 pub mod Command
+pub mod Declarations
+pub mod Delivery
+pub mod Diagnostics
 pub mod Ending
+pub mod Filled
 pub mod Grammar
+pub mod Held
+pub mod Listing
 pub mod Object
 pub mod Outcome
 pub mod Plain
@@ -11,3 +19,4 @@ pub mod Sound
 pub mod Statuses
 pub mod Symbols
 pub mod Trees
+pub mod Uses

@@ -1,15 +1,17 @@
 -- What a command leaves: its status, what it prints, and the files of the shelf. No command reads the input yet.
-use Rattle.std.specs.Prelude.{◌≡◌, ◌⊎◌, ℕ, List, [], ◌∷◌, ◌++◌, Option, Some, None, IfSome, take, codes}
+use Rattle.std.specs.Prelude.{◌≡◌, ◌≢◌, ◌⊎◌, ℕ, List, [], ◌∷◌, ◌++◌, Option, Some, None, IfSome, take, codes}
 use Rattle.std.specs.FinMap.{get, insert}
 use Rattle.m2_io.specs.Files.{Files, with_file}
 use Rattle.m2_io.specs.Written.{with_bytes, WritesPart}
 use Rattle.m2c_top.specs.Command.{Command, compile, Asks, IsNoCommand}
+use Rattle.m2c_top.specs.Diagnostics.{diags_of}
+use Rattle.m2c_top.specs.Listing.{listing}
 use Rattle.m2c_top.specs.Object.{object_bytes}
 use Rattle.m2c_top.specs.Plain.{IsPlain}
 use Rattle.m2c_top.specs.Statuses.{status_number}
-use Rattle.m2c_top.specs.Trees.{PlainModule}
+use Rattle.m2c_top.specs.Trees.{Parsed}
 use Rattle.m2c_top.specs.declared.status.Status.{Status}
-use Rattle.m2c_top.specs.declared.status.Status.TheVariants.{Done, NoCommand, NoText, NotBuilt}
+use Rattle.m2c_top.specs.declared.status.Status.TheVariants.{Done, Diagnosed, NoCommand, NoText, NotBuilt}
 
 pub record Outcome : Type 0 where
   pub status : Status
@@ -30,16 +32,25 @@ abbrev pub LacksText : List ℕ → Files → Type 0
 LacksText name files = get files (text_name name) ≡ None
 
 -- the shelf has the module's text, and it is that of this plain module
-abbrev pub HasPlainText : List ℕ → Files → PlainModule → Type 0
-HasPlainText name files m = (text : List ℕ) × (get files (text_name name) ≡ Some text) × IsPlain name text m
+abbrev pub HasPlainText : List ℕ → Files → Parsed → Type 0
+HasPlainText name files p = (text : List ℕ) × (get files (text_name name) ≡ Some text) × IsPlain name text p
+
+-- it is that of this plain module, which has no diagnostic
+abbrev pub HasSoundText : List ℕ → Files → Parsed → Type 0
+HasSoundText name files p = HasPlainText name files p × (diags_of p.tree ≡ [])
+
+-- it is that of this plain module, which has diagnostics
+abbrev pub HasFaultyText : List ℕ → Files → Parsed → Type 0
+HasFaultyText name files p = HasPlainText name files p × (diags_of p.tree ≢ [])
 
 -- the shelf has the module's text, and it is that of no plain module
 abbrev pub HasOtherText : List ℕ → Files → Type 0
-HasOtherText name files = (text : List ℕ) × (get files (text_name name) ≡ Some text) × ((m : PlainModule) → IsPlain name text m → ⊥)
+HasOtherText name files = (text : List ℕ) × (get files (text_name name) ≡ Some text) × ((p : Parsed) → IsPlain name text p → ⊥)
 
 -- The outcome of compiling a module of these files: one row of the table of statuses each.
 pub data Compiles (name : List ℕ) (files : Files) : Outcome → Type 0 where
-  compiled : (m : PlainModule) → HasPlainText name files m → Compiles name files (record { status = Done; printed = []; files = insert files (object_name name) (object_bytes name m) })
+  compiled : (p : Parsed) → HasSoundText name files p → Compiles name files (record { status = Done; printed = []; files = insert files (object_name name) (object_bytes name p.tree) })
+  diagnosed : (p : Parsed) → HasFaultyText name files p → Compiles name files (record { status = Diagnosed; printed = listing (text_name name) p.tokens (diags_of p.tree); files = files })
   no_text : LacksText name files → Compiles name files (record { status = NoText; printed = line (codes "no text " ++ text_name name); files = files })
   not_built : HasOtherText name files → Compiles name files (record { status = NotBuilt; printed = line (codes "not built yet"); files = files })
 
@@ -70,7 +81,7 @@ PrintsPart given old new = (outcome : Outcome) → given outcome → WritesPart 
 
 -- the bytes are the object of the module's text
 abbrev pub IsObjectOf : List ℕ → Files → List ℕ → Type 0
-IsObjectOf name files bytes = (m : PlainModule) × HasPlainText name files m × (bytes ≡ object_bytes name m)
+IsObjectOf name files bytes = (p : Parsed) × HasSoundText name files p × (bytes ≡ object_bytes name p.tree)
 
 -- a front of the module's object is put under its name, and all else stays
 abbrev pub PutsPart : List ℕ → Option Files → Option Files → Type 0

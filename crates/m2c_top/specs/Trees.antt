@@ -1,5 +1,6 @@
 -- The tree of a plain module, as plain data.
 use Rattle.std.specs.Prelude.{List}
+use Rattle.m2_base.specs.declared.token.Token.{Token}
 use Rattle.m2c_top.specs.declared.plain.tree.Ident.{Ident}
 use Rattle.m2c_top.specs.declared.plain.tree.Statement.{Statement}
 use Rattle.m2c_top.specs.declared.plain.tree.Module.{Module}
@@ -9,6 +10,11 @@ pub record PlainModule : Type 0 where
   pub variables : List Ident
   pub body : List Statement
   pub close : Ident
+
+-- the tokens of a text, and the tree that they spell
+pub record Parsed : Type 0 where
+  pub tokens : List Token
+  pub tree : PlainModule
 
 -- the tree that the program holds
 abbrev pub module_view : Module → PlainModule

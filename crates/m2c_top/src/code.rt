@@ -1,8 +1,9 @@
 //! The code of a plain module's body.
-ghost use Rattle.std.specs.Prelude.{◌≡◌, ◌++◌, ◌∷◌, [], ◌≤◌, OnOk, IfOk};
-ghost use Rattle.m2c_top.specs.Code.{number as spec_number, push as spec_push, global as spec_global, load, store, arithmetic as spec_arithmetic, operand_code, value_code, statement_code, body_code as spec_body, statement_high as spec_high, body_high as spec_body_high};
+ghost use Rattle.std.specs.Prelude.{◌≡◌, ◌++◌, ◌∷◌, [], ◌≤◌, List, ℕ, drop, slice_index, OnOk, IfOk};
+ghost use Rattle.m2c_top.specs.Code.{number as spec_number, push as spec_push, global as spec_global, load, store, arithmetic as spec_arithmetic, operand_code, value_code, statement_code, body_code as spec_body, statement_high as spec_high, body_high as spec_body_high, cells_of, Writes};
+ghost use Rattle.m2c_top.specs.Uses.{operand_uses, value_uses, statement_uses, body_uses};
 
-use crate::plain::{Cells, Operand, Operator, Statement, Value};
+use crate::plain::{Operand, Operator, Statement, Value};
 use m2_base::Memory;
 use std::alloc::Global;
 
@@ -34,59 +35,74 @@ pub fn push_number(bytes: &mut Vec<u8>, number: u32) -> Result<(), Memory>
     Ok(())
 }
 
-/// The code of the statements, and Return.
+/// The code of the statements, and Return. The names that they use have these cells, in text order.
 #[tactic(auto, unfolding(crate::specs::Code::body_code))]
-pub fn body_code(alloc: Global, cells: &Cells, body: &[Statement]) -> Result<Vec<u8>, Memory>
-    ensures { IfOk result (λ code. code.items ≡ spec_body cells.now body.now) }
+pub fn body_code(alloc: Global, cells: &[u32], body: &[Statement]) -> Result<Vec<u8>, Memory>
+    ensures { IfOk result (λ code. (variables : List ℕ) → cells.now ≡ cells_of variables (body_uses body.now) → code.items ≡ spec_body variables body.now) }
 {
     let mut code = Vec::new(alloc);
+    let mut left = cells;
     for statement in body {
-        push_statement(&mut code, cells, *statement)?;
+        left = push_statement(&mut code, left, *statement)?;
     }
     code.push(RETURN)?;
     Ok(code)
 }
 
-fn push_statement(code: &mut Vec<u8>, cells: &Cells, statement: Statement) -> Result<(), Memory>
-    ensures { OnOk result (code.new.items ≡ code.old.items ++ statement_code cells.now statement) }
+/// Puts the code of a statement at the end. Answers the cells that its names leave.
+fn push_statement<'c>(
+    code: &mut Vec<u8>,
+    cells: &'c [u32],
+    statement: Statement,
+) -> Result<&'c [u32], Memory>
+    ensures { IfOk result (λ left. Writes (statement_uses statement) (λ variables. statement_code variables statement) cells.now left.now code.old.items code.new.items) }
 {
     match statement {
-        Statement::Empty => Ok(()),
-        Statement::Assign(to, value) => {
-            push_global(code, cells.cell(to.name))?;
-            push_value(code, cells, value)?;
+        Statement::Empty => Ok(cells),
+        Statement::Assign(_, value) => {
+            let left = push_global(code, cells)?;
+            let left = push_value(code, left, value)?;
             code.push(STORE)?;
-            Ok(())
+            Ok(left)
         }
     }
 }
 
-fn push_value(code: &mut Vec<u8>, cells: &Cells, value: Value) -> Result<(), Memory>
-    ensures { OnOk result (code.new.items ≡ code.old.items ++ value_code cells.now value) }
+fn push_value<'c>(
+    code: &mut Vec<u8>,
+    cells: &'c [u32],
+    value: Value,
+) -> Result<&'c [u32], Memory>
+    ensures { IfOk result (λ left. Writes (value_uses value) (λ variables. value_code variables value) cells.now left.now code.old.items code.new.items) }
 {
     match value {
         Value::Single(operand) => push_operand(code, cells, operand),
         Value::Pair(left, operator, right) => {
-            push_operand(code, cells, left)?;
-            push_operand(code, cells, right)?;
-            push_operator(code, operator)
+            let rest = push_operand(code, cells, left)?;
+            let rest = push_operand(code, rest, right)?;
+            push_operator(code, operator)?;
+            Ok(rest)
         }
     }
 }
 
-fn push_operand(code: &mut Vec<u8>, cells: &Cells, operand: Operand) -> Result<(), Memory>
-    ensures { OnOk result (code.new.items ≡ code.old.items ++ operand_code cells.now operand) }
+fn push_operand<'c>(
+    code: &mut Vec<u8>,
+    cells: &'c [u32],
+    operand: Operand,
+) -> Result<&'c [u32], Memory>
+    ensures { IfOk result (λ left. Writes (operand_uses operand) (λ variables. operand_code variables operand) cells.now left.now code.old.items code.new.items) }
 {
     match operand {
         Operand::Literal(value) => {
             code.push(PUSH)?;
             code.extend_from_slice(&value.to_le_bytes())?;
-            Ok(())
+            Ok(cells)
         }
-        Operand::Variable(name) => {
-            push_global(code, cells.cell(name.name))?;
+        Operand::Variable(_) => {
+            let left = push_global(code, cells)?;
             code.push(LOAD)?;
-            Ok(())
+            Ok(left)
         }
     }
 }
@@ -103,13 +119,27 @@ fn push_operator(code: &mut Vec<u8>, operator: Operator) -> Result<(), Memory>
     Ok(())
 }
 
-/// The address of a cell of the own module.
-fn push_global(code: &mut Vec<u8>, cell: u32) -> Result<(), Memory>
-    ensures { OnOk result (code.new.items ≡ code.old.items ++ spec_global cell) }
+/// The address of the first of these cells of the own module. Answers the others.
+fn push_global<'c>(code: &mut Vec<u8>, cells: &'c [u32]) -> Result<&'c [u32], Memory>
+    ensures code { OnOk result (code.new.items ≡ code.old.items ++ spec_global (slice_index cells.now 0)) }
+    ensures left { IfOk result (λ left. left.now ≡ drop 1 cells.now) }
 {
+    let (cell, left) = first_cell(cells);
     code.push(GLOBAL)?;
     push_number(code, 0)?;
-    push_number(code, cell)
+    push_number(code, cell)?;
+    Ok(left)
+}
+
+/// The first of the cells, 0 where there is none, and the others.
+fn first_cell(cells: &[u32]) -> (u32, &[u32])
+    ensures cell { result.0 ≡ slice_index cells.now 0 }
+    ensures left { result.1.now ≡ drop 1 cells.now }
+{
+    match cells {
+        [cell, left @ ..] => (*cell, left),
+        [] => (0, cells),
+    }
 }
 
 /// How many values are on the stack at most.

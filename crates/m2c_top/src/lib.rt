@@ -5,9 +5,12 @@
 //! statuses; its clause `leaves` says that `m2c` leaves just that.
 #![tactic(auto)]
 
+mod analysis;
 mod code;
 mod command;
+mod diagnostic;
 mod laws;
+mod listing;
 mod object;
 mod plain;
 mod status;

@@ -6,7 +6,9 @@ mod reader;
 mod symbol;
 mod text;
 mod tree;
+mod uses;
 
-pub use check::Cells;
+pub use check::is_standard;
 pub use text::{MOST_BYTES, Plain, plain_module};
 pub use tree::{Ident, Module, Operand, Operator, Statement, Value};
+pub use uses::uses_of;

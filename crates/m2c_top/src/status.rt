@@ -6,6 +6,7 @@ ghost use Rattle.m2c_top.specs.Statuses.{status_number};
 #[derive(Clone, Copy, Debug, PartialEq, Eq)]
 pub enum Status {
     Done,
+    Diagnosed,
     NoCommand,
     NoText,
     ReadFault,
@@ -21,6 +22,7 @@ impl Status {
     {
         match self {
             Status::Done => 0,
+            Status::Diagnosed => 1,
             Status::NoCommand => 2,
             Status::NoText => 3,
             Status::ReadFault => 4,

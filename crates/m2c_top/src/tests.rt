@@ -126,19 +126,52 @@ fn says_what_it_cannot_do(rt: HostRuntime) -> Result<(), Fail> {
 }
 
 #[test]
+fn lists_diagnostics(rt: HostRuntime) -> Result<(), Fail> {
+    let alloc = rt.alloc();
+    let table = [
+        (
+            "MODULE A; VAR x, x: INTEGER; BEGIN y := x END A.",
+            "A.mod:1:18: 42 declared twice\nA.mod:1:36: 40 unknown name\n",
+        ),
+        (
+            "MODULE A; VAR CHAR: INTEGER; END A.",
+            "A.mod:1:15: 43 standard name declared\n",
+        ),
+        (
+            "MODULE A; VAR CHAR, CHAR: INTEGER; END A.",
+            "A.mod:1:15: 43 standard name declared\nA.mod:1:21: 43 standard name declared\n",
+        ),
+        ("MODULE A; END B.", "A.mod:1:15: 21 closing name differs\n"),
+        (
+            "MODULE A;\nVAR x: INTEGER;\nBEGIN x := y + 1;\n  z := x END B.",
+            "A.mod:3:12: 40 unknown name\nA.mod:4:3: 40 unknown name\nA.mod:4:14: 21 closing name differs\n",
+        ),
+    ];
+    for (text, printed) in table {
+        let mut shelf = shelf_of(alloc, text.as_bytes(), &[], 0)?;
+        let mut print = MemSink::new(alloc, Vec::new(alloc), 7, 1000)?;
+        assert_eq!(rt;
+            run(alloc, &["compile", "A"], &mut shelf, &mut print)?,
+            1,
+            "{text}"
+        );
+        assert!(rt; print.bytes() == printed.as_bytes(), "{text}");
+        assert!(rt; shelf.file("A.m2o").is_none(), "{text}");
+    }
+    Ok(())
+}
+
+#[test]
 fn builds_only_plain_texts(rt: HostRuntime) -> Result<(), Fail> {
     let alloc = rt.alloc();
     let table = [
         "MODULE A; VAR c: CHAR; END A.",
         "MODULE B; END B.",
-        "MODULE A; END B.",
-        "MODULE A; VAR x, x: INTEGER; END A.",
-        "MODULE A; VAR CHAR: INTEGER; END A.",
-        "MODULE A; VAR x: INTEGER; BEGIN y := x END A.",
-        "MODULE A; VAR x: INTEGER; BEGIN x := y END A.",
         "MODULE A; VAR x: INTEGER; BEGIN x := 1 + 2 END A.",
         "MODULE A; VAR x: INTEGER; BEGIN x := 2147483648 END A.",
         "MODULE A; VAR x: INTEGER; BEGIN x := 1END A.",
+        "MODULE A; VAR x: INTEGER; BEGIN x := TRUE END A.",
+        "MODULE A; VAR CHAR: INTEGER; BEGIN CHAR := 1 END A.",
         "MODULE A; VAR x: INTEGER; BEGIN x := 17B END A.",
         "MODULE A; VAR x: INTEGER; BEGIN x := (1) END A.",
         "MODULE A; (* nothing *) END A.",

@@ -5,18 +5,25 @@ ghost use Rattle.m2_io.specs.Files.{Files, front_of, with_file, HasPart};
 ghost use Rattle.m2_io.specs.Written.{with_bytes, WritesPart};
 ghost use Rattle.m2c_top.specs.Ending.{ended_as};
 ghost use Rattle.m2c_top.specs.Command.{is_name, IsNoCommand};
+ghost use Rattle.m2c_top.specs.Code.{cells_of};
+ghost use Rattle.m2c_top.specs.Delivery.{Delivered, PrintsListing, PutsObject};
+ghost use Rattle.m2c_top.specs.Held.{IsHeld, held};
+ghost use Rattle.m2c_top.specs.Listing.{listing as spec_listing};
 ghost use Rattle.m2c_top.specs.Object.{object_bytes};
-ghost use Rattle.m2c_top.specs.Outcome.{AsksToCompile, Commands, line, text_name, object_name, Compiles, Gives, LacksText, HasPlainText, HasOtherText, Leaves, PrintsPart, PutsPart, KeepsButObject};
+ghost use Rattle.m2c_top.specs.Outcome.{AsksToCompile, Commands, line, text_name, object_name, Compiles, Gives, LacksText, HasSoundText, HasFaultyText, HasOtherText, Leaves, PrintsPart, PutsPart, KeepsButObject};
 ghost use Rattle.m2c_top.specs.Statuses.{status_number, IsFault, IsStatus, IsAnswer, Exactly};
 ghost use Rattle.m2c_top.specs.Sound.{names_of};
-ghost use Rattle.m2c_top.specs.Trees.{module_view, PlainModule};
+ghost use Rattle.m2c_top.specs.Trees.{module_view, Parsed};
+ghost use Rattle.m2c_top.specs.Uses.{body_uses};
 
+use crate::analysis::analyse;
 use crate::code::{body_code, body_high};
 use crate::command::module_to_compile;
+use crate::listing::listing;
 use crate::object::object_of;
-use crate::plain::{MOST_BYTES, Plain, plain_module};
+use crate::plain::{MOST_BYTES, Module, Plain, plain_module};
 use crate::status::Status;
-use m2_base::Memory;
+use m2_base::{Diag, Memory, Token};
 use m2_io::{Gate, Shelf, ShelfError, Sink, SinkError, Source, write_all};
 use std::alloc::{AllocError, Global};
 
@@ -78,21 +85,21 @@ fn read_text<H: Shelf>(alloc: Global, name: &str, shelf: &mut H) -> Result<Optio
     }
 }
 
-/// The object of a plain module.
-fn object_for(alloc: Global, name: &str, plain: &Plain) -> Result<Vec<u8>, Memory>
+/// The object of a plain module. The names of its statements have these cells, in text order.
+fn object_for(alloc: Global, name: &str, tree: &Module, cells: &[u32]) -> Result<Vec<u8>, Memory>
     requires name { length name.now ≤ 64 }
-    requires body { length plain.now.module.body.items ≤ 1048576 }
-    requires cells { plain.now.cells ≡ names_of plain.now.module.variables.items }
-    ensures { IfOk result (λ bytes. bytes.items ≡ object_bytes name.now (module_view plain.now.module)) }
+    requires body { length tree.now.body.items ≤ 1048576 }
+    requires variables { length tree.now.variables.items ≤ 1048576 }
+    requires cells { cells.now ≡ cells_of (names_of tree.now.variables.items) (body_uses tree.now.body.items) }
+    ensures { IfOk result (λ bytes. bytes.items ≡ object_bytes name.now (module_view tree.now)) }
 {
-    let body = plain.module.body.as_slice();
-    let code = body_code(alloc, &plain.cells, body)?;
-    let high = body_high(body);
+    let body = tree.body.as_slice();
+    let code = body_code(alloc, cells, body)?;
     object_of(
         alloc,
         name.as_bytes(),
-        plain.cells.count(),
-        high,
+        tree.variables.len() as u32,
+        body_high(body),
         code.as_slice(),
     )
 }
@@ -101,25 +108,74 @@ fn object_for(alloc: Global, name: &str, plain: &Plain) -> Result<Vec<u8>, Memor
 fn write_object<H: Shelf>(
     alloc: Global,
     name: &str,
-    plain: &Plain,
+    tree: &Module,
+    cells: &[u32],
     shelf: &mut H,
 ) -> Result<(), Stop>
     requires name { IsTrue (is_name name.now) }
-    requires body { length plain.now.module.body.items ≤ 1048576 }
-    requires cells { plain.now.cells ≡ names_of plain.now.module.variables.items }
-    ensures ok { OnOk result (H.holds shelf.new ≡ with_file (H.holds shelf.old) (object_name name.now) (object_bytes name.now (module_view plain.now.module))) }
-    ensures part { IsErrOf result Stop.Write → HasPart (H.holds shelf.old) (object_name name.now) (object_bytes name.now (module_view plain.now.module)) (H.holds shelf.new) }
+    requires body { length tree.now.body.items ≤ 1048576 }
+    requires variables { length tree.now.variables.items ≤ 1048576 }
+    requires cells { cells.now ≡ cells_of (names_of tree.now.variables.items) (body_uses tree.now.body.items) }
+    ensures ok { OnOk result (H.holds shelf.new ≡ with_file (H.holds shelf.old) (object_name name.now) (object_bytes name.now (module_view tree.now))) }
+    ensures part { IsErrOf result Stop.Write → HasPart (H.holds shelf.old) (object_name name.now) (object_bytes name.now (module_view tree.now)) (H.holds shelf.new) }
     ensures memory { IsErrOf result Stop.Memory → H.holds shelf.new ≡ H.holds shelf.old }
     ensures write { IsErrOf result Stop.Write → Rose (H.put_faults shelf.old) (H.put_faults shelf.new) }
     ensures no_read { IsErrOf result Stop.Read → ⊥ }
 {
-    let object = object_for(alloc, name, plain)?;
+    let object = object_for(alloc, name, tree, cells)?;
     let target = format!(in alloc; "{name}.m2o")?;
     match shelf.put(alloc, target.as_str(), object.as_slice()) {
         Ok(()) => Ok(()),
         Err(ShelfError::Failed) => Err(Stop::Write),
         Err(ShelfError::Memory) => Err(Stop::Memory),
     }
+}
+
+/// Prints the listing of diagnostics at these tokens.
+fn print_listing<P: Sink>(
+    alloc: Global,
+    name: &str,
+    tokens: &[Token],
+    diags: &[Diag],
+    print: &mut P,
+) -> Result<(), Stop>
+    ensures ok { OnOk result (P.written print.new ≡ with_bytes (P.written print.old) (spec_listing (text_name name.now) tokens.now diags.now)) }
+    ensures part { OnErr result (WritesPart (P.written print.old) (spec_listing (text_name name.now) tokens.now diags.now) (P.written print.new)) }
+    ensures write { IsErrOf result Stop.Write → Rose (P.faults print.old) (P.faults print.new) }
+    ensures no_read { IsErrOf result Stop.Read → ⊥ }
+{
+    let file = format!(in alloc; "{name}.mod")?;
+    let lines = listing(alloc, file.as_str(), tokens, diags)?;
+    write_all(print, lines.as_slice())?;
+    Ok(())
+}
+
+/// Puts the object of a plain module on the shelf, or prints the listing where the module has diagnostics.
+fn deliver<H: Shelf, P: Sink>(
+    alloc: Global,
+    name: &str,
+    plain: &Plain,
+    shelf: &mut H,
+    print: &mut P,
+) -> Result<Status, Stop>
+    requires name { IsTrue (is_name name.now) }
+    requires held { IsHeld plain.now }
+    ensures delivered { IfOk result (λ status. Delivered name.now (held plain.now) status (H.holds shelf.old) (H.holds shelf.new) (P.written print.old) (P.written print.new)) }
+    ensures prints { OnErr result (PrintsListing name.now (held plain.now) (P.written print.old) (P.written print.new)) }
+    ensures part { IsErrOf result Stop.Write → PutsObject name.now (held plain.now) (H.holds shelf.old) (H.holds shelf.new) }
+    ensures memory { IsErrOf result Stop.Memory → H.holds shelf.new ≡ H.holds shelf.old }
+    ensures no_read { IsErrOf result Stop.Read → ⊥ }
+    ensures write { IsErrOf result Stop.Write → Rose (H.put_faults shelf.old) (H.put_faults shelf.new) ⊎ Rose (P.faults print.old) (P.faults print.new) }
+{
+    let found = analyse(alloc, plain)?;
+    let diags = found.diags.as_slice();
+    if diags.is_empty() {
+        write_object(alloc, name, &plain.module, found.cells.as_slice(), shelf)?;
+        return Ok(Status::Done);
+    }
+    let tokens = plain.texts.main().tokens.as_slice();
+    print_listing(alloc, name, tokens, diags, print)?;
+    Ok(Status::Diagnosed)
 }
 
 /// Compiles a module of the shelf.
@@ -154,8 +210,7 @@ fn compile<H: Shelf, P: Sink>(
         write_all(print, b"not built yet\n")?;
         return Ok(Status::NotBuilt);
     };
-    write_object(alloc, name, &plain, shelf)?;
-    Ok(Status::Done)
+    deliver(alloc, name, &plain, shelf, print)
 }
 
 /// Says how the program is called.
@@ -209,7 +264,7 @@ fn status_of(ended: Result<Status, Stop>) -> Status
     }
 }
 
-/// Does what the words ask, and answers the status: with 0 it is done, 2 says that the words are no command, 3 that the
+/// Does what the words ask, and answers the status: with 0 it is done, 1 says that the module has diagnostics, 2 that the words are no command, 3 that the
 /// module's text isn't there, 4 and 5 that reading and writing failed, 6 that memory ran out, 11 that the text has a form
 /// that isn't built yet.
 pub fn m2c<R, H: Shelf, P: Sink, K: Source, G: Gate>(
@@ -228,7 +283,8 @@ pub fn m2c<R, H: Shelf, P: Sink, K: Source, G: Gate>(
     // When each status comes.
     ensures no_command { Exactly result 2 (IsNoCommand (map string_bytes words.now)) }
     ensures no_text { IfSome (H.holds shelf.old) (λ files. Exactly result 3 (AsksToCompile (map string_bytes words.now) (λ name. LacksText name files))) }
-    ensures done { IfSome (H.holds shelf.old) (λ files. Exactly result 0 (AsksToCompile (map string_bytes words.now) (λ name. (m : PlainModule) × HasPlainText name files m))) }
+    ensures done { IfSome (H.holds shelf.old) (λ files. Exactly result 0 (AsksToCompile (map string_bytes words.now) (λ name. (p : Parsed) × HasSoundText name files p))) }
+    ensures refused { IfSome (H.holds shelf.old) (λ files. Exactly result 1 (AsksToCompile (map string_bytes words.now) (λ name. (p : Parsed) × HasFaultyText name files p))) }
     ensures not_built { IfSome (H.holds shelf.old) (λ files. Exactly result 11 (AsksToCompile (map string_bytes words.now) (λ name. HasOtherText name files))) }
     ensures read { result ≡ 4 → Rose (H.faults shelf.old) (H.faults shelf.new) }
     ensures write { result ≡ 5 → Rose (H.put_faults shelf.old) (H.put_faults shelf.new) ⊎ Rose (P.faults print.old) (P.faults print.new) }

@@ -1,114 +1,59 @@
-//! Whether a plain module means something.
-ghost use Rattle.std.specs.Prelude.{◌≡◌, ◌↔◌, ◌^◌, ◌<◌, ℕ, List, length, map, true, false, IfOk, MatchOption, unwrap_or};
-ghost use Rattle.m2c_top.specs.Sound.{names_of, are_new, is_variable, is_sound_operand as spec_operand, is_sound_value as spec_value, is_sound_statement as spec_statement, is_sound_body as spec_body, is_literal as spec_literal};
-ghost use Rattle.m2c_top.specs.Code.{cell_of};
+//! Whether a plain module has a meaning or a diagnostic.
+ghost use Rattle.std.specs.Prelude.{◌≡◌};
+ghost use Rattle.std.specs.List.{list_all};
+ghost use Rattle.m2_base.specs.Standard.{is_standard as spec_standard};
+ghost use Rattle.m2c_top.specs.Sound.{is_sound_operand as spec_operand, is_sound_value as spec_value, is_sound_statement as spec_statement, is_literal as spec_literal};
 
-use crate::plain::tree::{Ident, Operand, Statement, Value};
-use indexmap::IndexSet;
-use m2_base::Memory;
-use std::alloc::Global;
-use std::marker::Model;
+use crate::plain::tree::{Operand, Statement, Value};
 
-/// The greatest number of a standard name.
+/// The greatest number of a standard name. The least is 1.
 const LAST_STANDARD_NAME: u64 = 26;
 
 /// The greatest INTEGER.
 const MAX_INTEGER: u64 = 2_147_483_647;
 
-/// The variables of a module, seen as the list of their names: each has the cell of its place.
-#[derive(Drop)]
-pub struct Cells {
-    names: IndexSet<u64>,
-}
-
-impl Model for Cells {
-    ghost use Rattle.std.specs.Prelude.{List, ℕ, ◌<◌, ◌^◌, length};
-
-    ghost Value = { List ℕ };
-
-    ghost view = { λ cells. cells.names.keys };
-
-    ghost invariant = { λ cells. length cells.names.keys < 2 ^ 32 };
-}
-
-impl Cells {
-    /// The cells of these variables, where each is a new name.
-    pub fn of(alloc: Global, variables: &[Ident]) -> Result<Option<Cells>, Memory>
-        requires { length variables.now < 2 ^ 32 }
-        ensures names { IfOk result (λ found. MatchOption found (are_new (names_of variables.now) ≡ false) (λ cells. cells ≡ names_of variables.now)) }
-        ensures are_new { IfOk result (λ found. MatchOption found (are_new (names_of variables.now) ≡ false) (λ _. are_new (names_of variables.now) ≡ true)) }
-    {
-        let mut names = IndexSet::new(alloc);
-        for variable in variables {
-            if variable.name <= LAST_STANDARD_NAME || names.contains(&variable.name) {
-                return Ok(None);
-            }
-            names.insert_full(variable.name)?;
-        }
-        Ok(Some(Cells { names }))
-    }
-
-    /// Whether the name is a variable's.
-    pub fn has(&self, name: u64) -> bool
-        ensures { result ≡ is_variable self.now name }
-    {
-        self.names.contains(&name)
-    }
-
-    /// The cell of a variable.
-    pub fn cell(&self, name: u64) -> u32
-        ensures { result ≡ cell_of self.now name }
-    {
-        match self.names.get_index_of(&name) {
-            Some(cell) => cell as u32,
-            None => 0,
-        }
-    }
-
-    /// How many there are.
-    pub fn count(&self) -> u32
-        ensures { result ≡ length self.now }
-    {
-        self.names.len() as u32
-    }
-}
-
-/// Whether the statements use variables, and numbers in range.
-pub fn is_sound_body(cells: &Cells, body: &[Statement]) -> bool
-    ensures { result ≡ spec_body cells.now body.now }
+/// Whether a name is a standard name.
+pub fn is_standard(name: u64) -> bool
+    ensures { result ≡ spec_standard name }
 {
-    body.iter()
-        .all(|statement| is_sound_statement(cells, *statement))
+    1 <= name && name <= LAST_STANDARD_NAME
 }
 
-fn is_sound_statement(cells: &Cells, statement: Statement) -> bool
-    ensures { result ≡ spec_statement cells.now statement }
+/// Whether the statements use numbers in range, and no standard names.
+pub fn is_sound_body(body: &[Statement]) -> bool
+    ensures { result ≡ list_all spec_statement body.now }
+{
+    body.iter().all(|statement| is_sound_statement(*statement))
+}
+
+fn is_sound_statement(statement: Statement) -> bool
+    ensures { result ≡ spec_statement statement }
 {
     match statement {
         Statement::Empty => true,
-        Statement::Assign(to, value) => cells.has(to.name) && is_sound_value(cells, value),
+        Statement::Assign(to, value) => !is_standard(to.name) && is_sound_value(value),
     }
 }
 
-fn is_sound_value(cells: &Cells, value: Value) -> bool
-    ensures { result ≡ spec_value cells.now value }
+fn is_sound_value(value: Value) -> bool
+    ensures { result ≡ spec_value value }
 {
     match value {
-        Value::Single(operand) => is_sound_operand(cells, operand),
+        Value::Single(operand) => is_sound_operand(operand),
         Value::Pair(left, _, right) => {
-            is_sound_operand(cells, left)
-                && is_sound_operand(cells, right)
+            is_sound_operand(left)
+                && is_sound_operand(right)
                 && !(is_literal(left) && is_literal(right))
         }
     }
 }
 
-fn is_sound_operand(cells: &Cells, operand: Operand) -> bool
-    ensures { result ≡ spec_operand cells.now operand }
+fn is_sound_operand(operand: Operand) -> bool
+    ensures { result ≡ spec_operand operand }
 {
     match operand {
         Operand::Literal(value) => value <= MAX_INTEGER,
-        Operand::Variable(name) => cells.has(name.name),
+        Operand::Variable(name) => !is_standard(name.name),
     }
 }
 

@@ -1,37 +1,37 @@
 //! The plain module that a text spells.
-ghost use Rattle.std.specs.Prelude.{◌≡◌, ◌⊎◌, ◌≤◌, ◌^◌, ◌<◌, ℕ, List, true, false, length, vec_len, IfOk, IfSome, IfNone, MatchOption, map};
+ghost use Rattle.std.specs.Prelude.{◌≡◌, ◌⊎◌, ◌≤◌, ◌^◌, ◌<◌, ◌∷◌, [], ℕ, List, Some, None, true, false, length, vec_len, IfOk, IfSome, IfNone, MatchOption, map};
 ghost use Rattle.m2_base.specs.Names.{standard_names};
 ghost use Rattle.m2_base.specs.Tokens.{AreTokens};
+ghost use Rattle.m2_base.specs.Units.{IsUnit};
 ghost use Rattle.m2_lex.specs.Faults.{HasTooMany};
 ghost use Rattle.m2c_top.specs.Plain.{IsPlain, is_named as spec_named, is_meant};
 ghost use Rattle.m2c_top.specs.Grammar.{Spells};
-ghost use Rattle.m2c_top.specs.Sound.{names_of};
+ghost use Rattle.m2c_top.specs.Held.{IsHeld, held, one_text};
 ghost use Rattle.m2c_top.specs.Symbols.{symbol_of};
-ghost use Rattle.m2c_top.specs.Trees.{module_view, PlainModule};
+ghost use Rattle.m2c_top.specs.Trees.{module_view, PlainModule, Parsed};
 
 use crate::plain::bytes::has_plain_bytes;
-use crate::plain::check::{Cells, is_sound_body};
+use crate::plain::check::is_sound_body;
 use crate::plain::reader::module_at;
 use crate::plain::tree::Module;
-use m2_base::{Memory, Names, Token};
+use m2_base::{Memory, Names, Text, Texts, Token};
 use m2_lex::{LexFault, lex};
 use std::alloc::Global;
 
 /// The most bytes of a text.
 pub const MOST_BYTES: usize = 1_048_576;
 
-/// A plain module, with the cells of its variables.
+/// A plain module: the unit of its text, and the tree.
 #[derive(Drop)]
 pub struct Plain {
+    pub texts: Texts,
     pub module: Module,
-    pub cells: Cells,
 }
 
 /// The plain module of that name that the text spells.
 pub fn plain_module(alloc: Global, name: &[u8], text: &[u8]) -> Result<Option<Plain>, Memory>
-    ensures plain { IfOk result (λ found. MatchOption found ((m : PlainModule) → IsPlain name.now text.now m → ⊥) (λ plain. IsPlain name.now text.now (module_view plain.module))) }
-    ensures cells { IfOk result (λ found. IfSome found (λ plain. plain.cells ≡ names_of plain.module.variables.items)) }
-    ensures small { IfOk result (λ found. IfSome found (λ plain. vec_len plain.module.body ≤ 1048576)) }
+    ensures plain { IfOk result (λ found. MatchOption found ((p : Parsed) → IsPlain name.now text.now p → ⊥) (λ plain. IsPlain name.now text.now (held plain))) }
+    ensures held { IfOk result (λ found. IfSome found IsHeld) }
 {
     if text.len() > MOST_BYTES || !has_plain_bytes(text) {
         return Ok(None);
@@ -40,7 +40,12 @@ pub fn plain_module(alloc: Global, name: &[u8], text: &[u8]) -> Result<Option<Pl
     let Some(tokens) = tokens_of(alloc, text, &mut names)? else {
         return Ok(None);
     };
-    module_of(alloc, &names, name, tokens.as_slice())
+    let Some(module) = module_of(alloc, &names, name, tokens.as_slice())? else {
+        return Ok(None);
+    };
+    let _countable = names.count();
+    let texts = unit_of(alloc, names, module.name.name as u32, tokens)?;
+    Ok(Some(Plain { texts, module }))
 }
 
 /// The module of that name that the tokens spell.
@@ -49,21 +54,33 @@ fn module_of(
     names: &Names,
     name: &[u8],
     tokens: &[Token],
-) -> Result<Option<Plain>, Memory>
-    requires { length tokens.now ≤ 1048576 }
+) -> Result<Option<Module>, Memory>
     ensures none { IfOk result (λ found. IfNone found ((m : PlainModule) → Spells m (map symbol_of tokens.now) → is_meant names.now name.now m ≡ false)) }
-    ensures spells { IfOk result (λ found. IfSome found (λ plain. Spells (module_view plain.module) (map symbol_of tokens.now))) }
-    ensures meant { IfOk result (λ found. IfSome found (λ plain. is_meant names.now name.now (module_view plain.module) ≡ true)) }
-    ensures cells { IfOk result (λ found. IfSome found (λ plain. plain.cells ≡ names_of plain.module.variables.items)) }
-    ensures small { IfOk result (λ found. IfSome found (λ plain. vec_len plain.module.body ≤ 1048576)) }
+    ensures spells { IfOk result (λ found. IfSome found (λ tree. Spells (module_view tree) (map symbol_of tokens.now))) }
+    ensures meant { IfOk result (λ found. IfSome found (λ tree. is_meant names.now name.now (module_view tree) ≡ true)) }
 {
-    let Some(module) = module_at(alloc, tokens)? else {
+    let Some(tree) = module_at(alloc, tokens)? else {
         return Ok(None);
     };
-    let Some(cells) = meant_cells(alloc, names, name, &module)? else {
-        return Ok(None);
+    if is_named(names, name, tree.name.name) && is_sound_body(tree.body.as_slice()) {
+        Ok(Some(tree))
+    } else {
+        Ok(None)
+    }
+}
+
+/// The unit of one text.
+fn unit_of(alloc: Global, names: Names, name: u32, tokens: Vec<Token>) -> Result<Texts, Memory>
+    requires { IsUnit (one_text names name tokens.items) }
+    ensures texts { IfOk result (λ texts. texts ≡ one_text names name tokens.items) }
+{
+    let text = Text {
+        name,
+        definition: false,
+        tokens,
     };
-    Ok(Some(Plain { module, cells }))
+    let list = vec![in alloc; text]?;
+    Ok(Texts::new(names, list, Vec::new(alloc), None))
 }
 
 /// The tokens of a text that hasn't too many.
@@ -77,30 +94,6 @@ fn tokens_of(alloc: Global, text: &[u8], names: &mut Names) -> Result<Option<Vec
         Ok(tokens) => Ok(Some(tokens)),
         Err(LexFault::TooManyTokens) => Ok(None),
         Err(LexFault::Memory) => Err(Memory),
-    }
-}
-
-/// The cells of a module that has this name at both ends and is sound.
-fn meant_cells(
-    alloc: Global,
-    names: &Names,
-    name: &[u8],
-    tree: &Module,
-) -> Result<Option<Cells>, Memory>
-    requires { vec_len tree.now.variables < 2 ^ 32 }
-    ensures meant { IfOk result (λ found. MatchOption found (is_meant names.now name.now (module_view tree.now) ≡ false) (λ _. is_meant names.now name.now (module_view tree.now) ≡ true)) }
-    ensures cells { IfOk result (λ found. IfSome found (λ cells. cells ≡ names_of tree.now.variables.items)) }
-{
-    if !is_named(names, name, tree.name.name) || !is_named(names, name, tree.close.name) {
-        return Ok(None);
-    }
-    let Some(cells) = Cells::of(alloc, tree.variables.as_slice())? else {
-        return Ok(None);
-    };
-    if is_sound_body(&cells, tree.body.as_slice()) {
-        Ok(Some(cells))
-    } else {
-        Ok(None)
     }
 }
 

@@ -1,17 +1,16 @@
-use Rattle.std.proofs.Common.{◌≡◌, ◌⊎◌, inl, inr, ◌∙◌, ◌++◌, ◌∷◌, [], List, ℕ, Some, refl, sym, ap, subst, rules, string_bytes}
+use Rattle.std.proofs.Common.{◌≡◌, ◌⊎◌, inl, inr, ◌∙◌, ◌++◌, ◌∷◌, [], List, ℕ, Some, refl, sym, ap, subst, rules, string_bytes, IfOk, IfSome, OnErr}
 use Rattle.std.specs.Prelude.{codes}
 use Rattle.m2_io.specs.Files.{Files, with_file}
 use Rattle.m2_io.specs.Written.{with_bytes, WritesPart}
-use Rattle.std.specs.FinMap.{insert}
-use Rattle.std.proofs.lemmas.Result.{err_from_is_err_and}
 use Rattle.m2_io.specs.Causes.{Rose}
-use Rattle.m2c_top.specs.Object.{object_bytes}
-use Rattle.m2c_top.specs.Outcome.{Compiles, no_text, compiled, not_built, LacksText, HasPlainText, HasOtherText, text_name, object_name, line, KeepsButObject}
+use Rattle.m2c_top.specs.Outcome.{Compiles, no_text, not_built, HasPlainText, text_name, line, Leaves, PrintsPart, KeepsButObject}
 use Rattle.m2c_top.specs.Plain.{IsPlain}
-use Rattle.m2c_top.specs.Trees.{PlainModule, module_view}
+use Rattle.m2c_top.specs.Trees.{Parsed}
 use Rattle.m2c_top.specs.declared.status.Status.TheVariants.{Done, NoText, NotBuilt}
-use Rattle.m2c_top.specs.declared.top.Stop.TheVariants.{Write}
-use Rattle.m2c_top.proofs.Outcomes.{err_prints, leaves_told, prints_nothing, prints_no_text, prints_not_built, lacking, has_plain, has_other, no_text_line, with_nothing, puts_part, other_err}
+use Rattle.m2c_top.specs.Held.{held}
+use Rattle.m2c_top.specs.Statuses.{status_number}
+use Rattle.m2c_top.proofs.Delivering.{delivered_answers, delivered_keeps, delivered_leaves, delivered_prints, delivered_part}
+use Rattle.m2c_top.proofs.Outcomes.{err_prints, leaves_told, prints_nothing, prints_no_text, prints_not_built, lacking, has_plain, has_other, no_text_line}
 use Rattle.m2c_top.proofs.top.compile.Goals as goal
 
 pub returns-in_err-line-clause-prints : goal.returns-in_err-line-clause-prints
@@ -50,8 +49,8 @@ returns-in_err-write_all-2-clause-prints g c =
     let holds = g.H.Shelf.holds c.args.shelf.now in
     let old = g.P.Sink.written c.args.print.now in
     let new = g.P.Sink.written c.write_all-in_default-2.new.sink in
-    let other : (m : PlainModule) → IsPlain c.as_bytes-2.result.now c.as_slice.result.now m → ⊥ = rw c.in_default-2.is at c.in_ok-plain.ensures.plain in
-    let none : (m : PlainModule) → IsPlain name c.as_slice.result.now m → ⊥ = subst (λ n. (m : PlainModule) → IsPlain n c.as_slice.result.now m → ⊥) c.as_bytes-2.ensures.value other in
+    let other : (m : Parsed) → IsPlain c.as_bytes-2.result.now c.as_slice.result.now m → ⊥ = rw c.in_default-2.is at c.in_ok-plain.ensures.plain in
+    let none : (m : Parsed) → IsPlain name c.as_slice.result.now m → ⊥ = subst (λ n. (m : Parsed) → IsPlain n c.as_slice.result.now m → ⊥) c.as_bytes-2.ensures.value other in
     err_prints holds (Compiles name) old new c.from_residual-in_err-write_all-2.result (λ files has.
     prints_not_built name files old new
     (has_other (λ t. t.items) holds files name 1048577 c.in_ok-text.field-0 c.in_ok-text.ensures.found has c.in-Some.text c.as_slice.result.now refl c.in-Some.is c.as_slice.ensures.value none)
@@ -62,8 +61,8 @@ returns-in_default-2-clause-leaves g c =
     let name = c.args.name.now in
     let holds = g.H.Shelf.holds c.args.shelf.now in
     let old = g.P.Sink.written c.args.print.now in
-    let other : (m : PlainModule) → IsPlain c.as_bytes-2.result.now c.as_slice.result.now m → ⊥ = rw c.in_default-2.is at c.in_ok-plain.ensures.plain in
-    let none : (m : PlainModule) → IsPlain name c.as_slice.result.now m → ⊥ = subst (λ n. (m : PlainModule) → IsPlain n c.as_slice.result.now m → ⊥) c.as_bytes-2.ensures.value other in
+    let other : (m : Parsed) → IsPlain c.as_bytes-2.result.now c.as_slice.result.now m → ⊥ = rw c.in_default-2.is at c.in_ok-plain.ensures.plain in
+    let none : (m : Parsed) → IsPlain name c.as_slice.result.now m → ⊥ = subst (λ n. (m : Parsed) → IsPlain n c.as_slice.result.now m → ⊥) c.as_bytes-2.ensures.value other in
     leaves_told holds (Compiles name) old (g.P.Sink.written c.write_all-in_default-2.new.sink) 11 (g.H.Shelf.holds c.read_text.new.shelf) (λ files has. record {
       outcome = record { status = NotBuilt; printed = line (codes "not built yet"); files = files };
       is_given = not_built (has_other (λ t. t.items) holds files name 1048577 c.in_ok-text.field-0 c.in_ok-text.ensures.found has c.in-Some.text c.as_slice.result.now refl c.in-Some.is c.as_slice.ensures.value none);
@@ -72,43 +71,85 @@ returns-in_default-2-clause-leaves g c =
       printed_is = c.in_ok-write_all-2.ensures.ok;
     })
 
-pub returns-in_err-write_object-clause-prints : goal.returns-in_err-write_object-clause-prints
-returns-in_err-write_object-clause-prints g c =
-    let old = g.P.Sink.written c.args.print.now in
-    err_prints (g.H.Shelf.holds c.args.shelf.now) (Compiles c.args.name.now) old old c.from_residual-in_err-write_object.result (λ files has. prints_nothing _ old)
-
-pub returns-in_err-write_object-clause-part : goal.returns-in_err-write_object-clause-part
-returns-in_err-write_object-clause-part g c =
-    let name = c.args.name.now in
-    let holds = g.H.Shelf.holds c.args.shelf.now in
-    let after = g.H.Shelf.holds c.read_text.new.shelf in
-    let new = g.H.Shelf.holds c.write_object.new.shelf in
-    let tree = module_view c.in-Some-2.plain.module in
-    let is : IsPlain c.as_bytes-2.result.now c.as_slice.result.now tree = rw c.in-Some-2.is at c.in_ok-plain.ensures.plain in
-    let plain : IsPlain name c.as_slice.result.now tree = subst (λ n. IsPlain n c.as_slice.result.now tree) c.as_bytes-2.ensures.value is in
-    let p = err_from_is_err_and c.from_residual-in_err-write_object.result c.from_residual-in_err-write_object.ensures.1 in
-    rw (p.1, p.2) (λ stop. subst (λ h. KeepsButObject name h new) c.read_text.ensures.holds
-    (puts_part name tree after new
-    (λ files has. has_plain (λ t. t.items) holds files name 1048577 c.in_ok-text.field-0 c.in_ok-text.ensures.found (sym c.read_text.ensures.holds ∙ has) c.in-Some.text c.as_slice.result.now refl c.in-Some.is c.as_slice.ensures.value tree plain)
-    (c.in_err-write_object.ensures.part (other_err c.in_err-write_object.field-0.0 Write stop))))
-
-pub returns-in_err-write_object-clause-write : goal.returns-in_err-write_object-clause-write
-returns-in_err-write_object-clause-write g c =
-    let p = err_from_is_err_and c.from_residual-in_err-write_object.result c.from_residual-in_err-write_object.ensures.1 in
-    rw (p.1, p.2) (λ stop. inl (subst (λ f. Rose f (g.H.Shelf.put_faults c.write_object.new.shelf)) c.read_text.ensures.put_faults (c.in_err-write_object.ensures.write (other_err c.in_err-write_object.field-0.0 Write stop))))
-
 pub returns-clause-leaves : goal.returns-clause-leaves
 returns-clause-leaves g c =
     let name = c.args.name.now in
     let holds = g.H.Shelf.holds c.args.shelf.now in
+    let before = g.H.Shelf.holds c.read_text.new.shelf in
+    let after = g.H.Shelf.holds c.deliver.new.shelf in
     let old = g.P.Sink.written c.args.print.now in
-    let tree = module_view c.in-Some-2.plain.module in
-    let is : IsPlain c.as_bytes-2.result.now c.as_slice.result.now tree = rw c.in-Some-2.is at c.in_ok-plain.ensures.plain in
-    let plain : IsPlain name c.as_slice.result.now tree = subst (λ n. IsPlain n c.as_slice.result.now tree) c.as_bytes-2.ensures.value is in
-    leaves_told holds (Compiles name) old old 0 (g.H.Shelf.holds c.write_object.new.shelf) (λ files has. record {
-      outcome = record { status = Done; printed = []; files = insert files (object_name name) (object_bytes name tree) };
-      is_given = compiled tree (has_plain (λ t. t.items) holds files name 1048577 c.in_ok-text.field-0 c.in_ok-text.ensures.found has c.in-Some.text c.as_slice.result.now refl c.in-Some.is c.as_slice.ensures.value tree plain);
-      status_is = refl;
-      files_are = c.in_ok-write_object.ensures.ok ∙ ap (λ f. with_file f (object_name name) (object_bytes name tree)) (c.read_text.ensures.holds ∙ has);
-      printed_is = with_nothing old;
-    })
+    let new = g.P.Sink.written c.deliver.new.print in
+    let p = held c.in-Some-2.plain in
+    let is : IsPlain c.as_bytes-2.result.now c.as_slice.result.now p = rw c.in-Some-2.is at c.in_ok-plain.ensures.plain in
+    let named : IsPlain name c.as_slice.result.now p = subst (λ n. IsPlain n c.as_slice.result.now p) c.as_bytes-2.ensures.value is in
+    let plain : (files : Files) → before ≡ Some files → HasPlainText name files p =
+    λ files has. has_plain (λ t. t.items) holds files name 1048577 c.in_ok-text.field-0 c.in_ok-text.ensures.found (sym c.read_text.ensures.holds ∙ has) c.in-Some.text c.as_slice.result.now refl c.in-Some.is c.as_slice.ensures.value p named in
+    subst (λ h. IfOk c.deliver.result (λ status. IfSome h (λ files. Leaves (Compiles name files) (status_number status) after old new))) c.read_text.ensures.holds
+    (delivered_leaves name p before after old new plain c.deliver.result c.deliver.ensures.delivered)
+
+pub returns-clause-prints : goal.returns-clause-prints
+returns-clause-prints g c =
+    let name = c.args.name.now in
+    let holds = g.H.Shelf.holds c.args.shelf.now in
+    let before = g.H.Shelf.holds c.read_text.new.shelf in
+    let after = g.H.Shelf.holds c.deliver.new.shelf in
+    let old = g.P.Sink.written c.args.print.now in
+    let new = g.P.Sink.written c.deliver.new.print in
+    let p = held c.in-Some-2.plain in
+    let is : IsPlain c.as_bytes-2.result.now c.as_slice.result.now p = rw c.in-Some-2.is at c.in_ok-plain.ensures.plain in
+    let named : IsPlain name c.as_slice.result.now p = subst (λ n. IsPlain n c.as_slice.result.now p) c.as_bytes-2.ensures.value is in
+    let plain : (files : Files) → before ≡ Some files → HasPlainText name files p =
+    λ files has. has_plain (λ t. t.items) holds files name 1048577 c.in_ok-text.field-0 c.in_ok-text.ensures.found (sym c.read_text.ensures.holds ∙ has) c.in-Some.text c.as_slice.result.now refl c.in-Some.is c.as_slice.ensures.value p named in
+    subst (λ h. OnErr c.deliver.result (IfSome h (λ files. PrintsPart (Compiles name files) old new))) c.read_text.ensures.holds
+    (delivered_prints name p before after old new plain c.deliver.result c.deliver.ensures.prints)
+
+pub returns-clause-answer : goal.returns-clause-answer
+returns-clause-answer g c =
+    let name = c.args.name.now in
+    let holds = g.H.Shelf.holds c.args.shelf.now in
+    let before = g.H.Shelf.holds c.read_text.new.shelf in
+    let after = g.H.Shelf.holds c.deliver.new.shelf in
+    let old = g.P.Sink.written c.args.print.now in
+    let new = g.P.Sink.written c.deliver.new.print in
+    let p = held c.in-Some-2.plain in
+    delivered_answers name p before after old new c.deliver.result c.deliver.ensures.delivered
+
+pub returns-clause-kept : goal.returns-clause-kept
+returns-clause-kept g c =
+    let name = c.args.name.now in
+    let holds = g.H.Shelf.holds c.args.shelf.now in
+    let before = g.H.Shelf.holds c.read_text.new.shelf in
+    let after = g.H.Shelf.holds c.deliver.new.shelf in
+    let old = g.P.Sink.written c.args.print.now in
+    let new = g.P.Sink.written c.deliver.new.print in
+    let p = held c.in-Some-2.plain in
+    subst (λ h. IfOk c.deliver.result (λ status. (status ≡ Done → ⊥) → after ≡ h)) c.read_text.ensures.holds
+    (delivered_keeps name p before after old new c.deliver.result c.deliver.ensures.delivered)
+
+pub returns-clause-unread : goal.returns-clause-unread
+returns-clause-unread g c stop = absurd (c.deliver.ensures.no_read stop)
+
+pub returns-clause-memory : goal.returns-clause-memory
+returns-clause-memory g c stop = c.deliver.ensures.memory stop ∙ c.read_text.ensures.holds
+
+pub returns-clause-part : goal.returns-clause-part
+returns-clause-part g c stop =
+    let name = c.args.name.now in
+    let holds = g.H.Shelf.holds c.args.shelf.now in
+    let before = g.H.Shelf.holds c.read_text.new.shelf in
+    let after = g.H.Shelf.holds c.deliver.new.shelf in
+    let old = g.P.Sink.written c.args.print.now in
+    let new = g.P.Sink.written c.deliver.new.print in
+    let p = held c.in-Some-2.plain in
+    let is : IsPlain c.as_bytes-2.result.now c.as_slice.result.now p = rw c.in-Some-2.is at c.in_ok-plain.ensures.plain in
+    let named : IsPlain name c.as_slice.result.now p = subst (λ n. IsPlain n c.as_slice.result.now p) c.as_bytes-2.ensures.value is in
+    let plain : (files : Files) → before ≡ Some files → HasPlainText name files p =
+    λ files has. has_plain (λ t. t.items) holds files name 1048577 c.in_ok-text.field-0 c.in_ok-text.ensures.found (sym c.read_text.ensures.holds ∙ has) c.in-Some.text c.as_slice.result.now refl c.in-Some.is c.as_slice.ensures.value p named in
+    subst (λ h. KeepsButObject name h after) c.read_text.ensures.holds (delivered_part name p before after old new plain (c.deliver.ensures.part stop))
+
+pub returns-clause-read : goal.returns-clause-read
+returns-clause-read g c stop = absurd (c.deliver.ensures.no_read stop)
+
+pub returns-clause-write : goal.returns-clause-write
+returns-clause-write g c stop =
+    subst (λ f. Rose f (g.H.Shelf.put_faults c.deliver.new.shelf) ⊎ Rose (g.P.Sink.faults c.args.print.now) (g.P.Sink.faults c.deliver.new.print)) c.read_text.ensures.put_faults (c.deliver.ensures.write stop)

@@ -2,10 +2,10 @@ use Rattle.std.proofs.Common.{◌≡◌, ◌⊎◌, ◌∙◌, List, ℕ, sym, a
 use Rattle.m2_io.specs.Files.{Files}
 use Rattle.m2_io.specs.Causes.{Rose}
 use Rattle.m2c_top.specs.Command.{IsNoCommand}
-use Rattle.m2c_top.specs.Outcome.{Gives, AsksToCompile, LacksText, HasPlainText, HasOtherText, Leaves, PrintsPart, PutsPart}
+use Rattle.m2c_top.specs.Outcome.{Gives, AsksToCompile, LacksText, HasSoundText, HasFaultyText, HasOtherText, Leaves, PrintsPart, PutsPart}
 use Rattle.m2c_top.specs.Statuses.{status_number, IsFault, IsStatus, Exactly}
-use Rattle.m2c_top.specs.Trees.{PlainModule}
-use Rattle.m2c_top.proofs.Ends.{number_of, ends_leaving, ends_no_text, ends_done, ends_not_built, ends_as_no_command, ends_with_status, ends_stopped, ends_by_reading, ends_by_writing, ends_keeping}
+use Rattle.m2c_top.specs.Trees.{Parsed}
+use Rattle.m2c_top.proofs.Ends.{number_of, ends_leaving, ends_no_text, ends_done, ends_refused, ends_not_built, ends_as_no_command, ends_with_status, ends_stopped, ends_by_reading, ends_by_writing, ends_keeping}
 use Rattle.m2c_top.proofs.top.m2c.Given as given
 use Rattle.m2c_top.proofs.top.m2c.Goals as goal
 
@@ -38,8 +38,15 @@ pub returns-clause-done : goal.returns-clause-done
 returns-clause-done g c =
     let holds = g.H.Shelf.holds c.args.shelf.now in
     let words = map string_bytes c.args.words.now in
-    subst (λ n. IfSome holds (λ files. Exactly n 0 (AsksToCompile words (λ name. (m : PlainModule) × HasPlainText name files m)))) (sym (numbered g c))
+    subst (λ n. IfSome holds (λ files. Exactly n 0 (AsksToCompile words (λ name. (p : Parsed) × HasSoundText name files p)))) (sym (numbered g c))
     (ends_done words holds (g.H.Shelf.holds c.obey.new.shelf) (g.P.Sink.written c.args.print.now) (g.P.Sink.written c.obey.new.print) c.obey.result c.obey.ensures.leaves)
+
+pub returns-clause-refused : goal.returns-clause-refused
+returns-clause-refused g c =
+    let holds = g.H.Shelf.holds c.args.shelf.now in
+    let words = map string_bytes c.args.words.now in
+    subst (λ n. IfSome holds (λ files. Exactly n 1 (AsksToCompile words (λ name. (p : Parsed) × HasFaultyText name files p)))) (sym (numbered g c))
+    (ends_refused words holds (g.H.Shelf.holds c.obey.new.shelf) (g.P.Sink.written c.args.print.now) (g.P.Sink.written c.obey.new.print) c.obey.result c.obey.ensures.leaves)
 
 pub returns-clause-not_built : goal.returns-clause-not_built
 returns-clause-not_built g c =

@@ -1,9 +1,17 @@
-use Rattle.std.proofs.Common.{◌≡◌, ◌≤◌, ◌∙◌, ap, sym, subst, arith, rules, refl, length, vec_len, lit≤, true}
+use Rattle.std.proofs.Common.{◌≡◌, ◌<◌, ◌≤◌, ◌∙◌, ◌^◌, ap, sym, subst, arith, rules, refl, length, map, vec_len, lit≤, true, false, List, ℕ}
+use Rattle.m2_base.specs.Lists.{Each}
 use Rattle.m2_base.specs.Names.{standard_names}
 use Rattle.m2_base.specs.Tokens.{AreTokens}
+use Rattle.m2_base.specs.declared.token.Token.{Token}
+use Rattle.m2_base.specs.Units.{IsNamed, IsUnit}
 use Rattle.m2c_top.specs.Bytes.{are_plain_bytes}
-use Rattle.m2c_top.specs.Trees.{module_view}
-use Rattle.m2c_top.proofs.PlainTexts.{too_many_plain, text_tells}
+use Rattle.m2c_top.specs.Grammar.{Spells}
+use Rattle.m2c_top.specs.Held.{one_text, held}
+use Rattle.m2c_top.specs.Plain.{is_meant}
+use Rattle.m2c_top.specs.Symbols.{symbol_of}
+use Rattle.m2c_top.specs.Trees.{module_view, PlainModule}
+use Rattle.m2c_top.proofs.PlainTexts.{too_many_plain, not_plain, is_plain}
+use Rattle.m2c_top.proofs.TextUnit.{module_named, text_held, text_unit}
 use Rattle.m2c_top.proofs.plain.text.plain_module.Goals as goal
 
 standard_few : length standard_names ≤ 4000000000
@@ -14,18 +22,60 @@ pub tokens_of-requires-clause-room : goal.tokens_of-requires-clause-room
 tokens_of-requires-clause-room c = omega (arith, ap length c.in_ok-names.ensures, standard_few)
 
 pub returns-in_default-clause-plain : goal.returns-in_default-clause-plain
-returns-in_default-clause-plain c m plain = too_many_plain c.args.name.now c.args.text.now m (rw c.in_default.is at c.in_ok-tokens.ensures.tokens) plain
+returns-in_default-clause-plain c p plain = too_many_plain c.args.name.now c.args.text.now p (rw c.in_default.is at c.in_ok-tokens.ensures.tokens) plain
 
-pub returns-clause-plain : goal.returns-clause-plain
-returns-clause-plain c =
-    let tokens = c.as_slice.result.now in
+pub returns-in_default-2-clause-plain : goal.returns-in_default-2-clause-plain
+returns-in_default-2-clause-plain c p plain =
     let names = c.tokens_of.new.names in
-    let short : length c.args.text.now ≤ 1048576 = omega arith in
-    let lexed : AreTokens c.in_ok-names.names names c.args.text.now c.in-Some.tokens.items = rw c.in-Some.is at c.in_ok-tokens.ensures.tokens in
+    let text = c.args.text.now in
+    let tokens = c.in-Some.tokens.items in
+    let are : AreTokens standard_names names text tokens =
+    subst (λ old. AreTokens old names text tokens) c.in_ok-names.ensures (rw c.in-Some.is at c.in_ok-tokens.ensures.tokens) in
+    let none : (m : PlainModule) → Spells m (map symbol_of c.as_slice.result.now) → is_meant names c.args.name.now m ≡ false = rw c.in_default-2.is at c.in_ok-module.ensures.none in
+    not_plain c.args.name.now text names tokens are
+    (subst (λ (ts : List Token). (m : PlainModule) → Spells m (map symbol_of ts) → is_meant names c.args.name.now m ≡ false) c.as_slice.ensures.value none) p plain
+
+pub overflow_cast-module : goal.overflow_cast-module
+overflow_cast-module c =
+    let names = c.tokens_of.new.names in
+    let text = c.args.text.now in
+    let tokens = c.in-Some.tokens.items in
+    let m = module_view c.in-Some-2.module in
+    let are : AreTokens standard_names names text tokens =
+    subst (λ old. AreTokens old names text tokens) c.in_ok-names.ensures (rw c.in-Some.is at c.in_ok-tokens.ensures.tokens) in
+    let short : length text ≤ 1048576 = omega arith in
+    let spells : Spells m (map symbol_of tokens) = subst (λ (ts : List Token). Spells m (map symbol_of ts)) c.as_slice.ensures.value (rw c.in-Some-2.is at c.in_ok-module.ensures.spells) in
+    let named : IsNamed names m.name.name = module_named names text tokens are short m spells in
+    let countable : length names < 2 ^ 32 = omega (arith, c.count-countable.ensures) in
+    omega (arith, named.numbered.there, countable)
+
+pub unit_of-requires : goal.unit_of-requires
+unit_of-requires c =
+    let names = c.tokens_of.new.names in
+    let text = c.args.text.now in
+    let tokens = c.in-Some.tokens.items in
+    let m = module_view c.in-Some-2.module in
+    let are : AreTokens standard_names names text tokens =
+    subst (λ old. AreTokens old names text tokens) c.in_ok-names.ensures (rw c.in-Some.is at c.in_ok-tokens.ensures.tokens) in
+    let short : length text ≤ 1048576 = omega arith in
+    let spells : Spells m (map symbol_of tokens) = subst (λ (ts : List Token). Spells m (map symbol_of ts)) c.as_slice.ensures.value (rw c.in-Some-2.is at c.in_ok-module.ensures.spells) in
+    let named : IsNamed names m.name.name = module_named names text tokens are short m spells in
+    let countable : length names < 2 ^ 32 = omega (arith, c.count-countable.ensures) in
     let few : vec_len c.in-Some.tokens ≤ 1048576 = rw c.in-Some.is at c.in_ok-tokens.ensures.few in
-    let are : AreTokens standard_names names c.args.text.now tokens =
-    subst (λ old. AreTokens old names c.args.text.now tokens) c.in_ok-names.ensures (subst (AreTokens c.in_ok-names.names names c.args.text.now) (sym c.as_slice.ensures.value) lexed) in
-    let within : length tokens ≤ 1048576 = omega (arith, few, c.as_slice.ensures.len) in
-    let bytes : are_plain_bytes c.args.text.now ≡ true = sym c.has_plain_bytes.ensures ∙ c.if-not-has_plain_bytes.false in
-    text_tells (λ plain. module_view plain.module) c.module_of.result c.args.name.now c.args.text.now names tokens short bytes within are
-    c.module_of.ensures.none c.module_of.ensures.spells c.module_of.ensures.meant
+    text_unit names text tokens are short m.name.name named (omega (arith, few, c.as_slice.ensures.len)) countable
+
+pub returns-clause-held : goal.returns-clause-held
+returns-clause-held c =
+    let names = c.tokens_of.new.names in
+    let text = c.args.text.now in
+    let tokens = c.in-Some.tokens.items in
+    let m = module_view c.in-Some-2.module in
+    let are : AreTokens standard_names names text tokens =
+    subst (λ old. AreTokens old names text tokens) c.in_ok-names.ensures (rw c.in-Some.is at c.in_ok-tokens.ensures.tokens) in
+    let short : length text ≤ 1048576 = omega arith in
+    let spells : Spells m (map symbol_of tokens) = subst (λ (ts : List Token). Spells m (map symbol_of ts)) c.as_slice.ensures.value (rw c.in-Some-2.is at c.in_ok-module.ensures.spells) in
+    let named : IsNamed names m.name.name = module_named names text tokens are short m spells in
+    let countable : length names < 2 ^ 32 = omega (arith, c.count-countable.ensures) in
+    let few : vec_len c.in-Some.tokens ≤ 1048576 = rw c.in-Some.is at c.in_ok-tokens.ensures.few in
+    let unit : IsUnit (one_text names m.name.name tokens) = text_unit names text tokens are short m.name.name named (omega (arith, few, c.as_slice.ensures.len)) countable in
+    text_held (record { texts = c.in_ok-texts.texts; «module» = c.in-Some-2.module }) names c.args.name.now tokens c.in_ok-texts.ensures.texts unit spells (rw c.in-Some-2.is at c.in_ok-module.ensures.meant)

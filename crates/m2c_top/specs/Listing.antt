@@ -1,0 +1,20 @@
+-- The listing of diagnostics: a line FILE:LINE:COLUMN: CODE TEXT for each, by the place of its token.
+use Rattle.std.specs.Prelude.{ℕ, List, [], ◌∷◌, ◌++◌, Option, Some, None, slice_get, codes, decimal}
+use Rattle.std.specs.List.{flat_map}
+use Rattle.m2_base.specs.declared.notes.Diag.{Diag}
+use Rattle.m2_base.specs.declared.token.Token.{Token}
+use Rattle.m2c_top.specs.Codes.{text_of}
+
+abbrev pub place_text : (file : List ℕ) (line column : ℕ) → List ℕ
+place_text file line column = file ++ codes ":" ++ decimal line ++ codes ":" ++ decimal column ++ codes ": "
+
+abbrev pub code_text : (code : ℕ) → List ℕ
+code_text code = decimal code ++ codes " " ++ text_of code ++ codes "\n"
+
+-- each diagnostic of a text is at one of its tokens
+abbrev pub line_at : (file : List ℕ) → Option Token → (code : ℕ) → List ℕ
+line_at file None code = []
+line_at file (Some token) code = place_text file token.line token.column ++ code_text code
+
+abbrev pub listing : (file : List ℕ) → List Token → List Diag → List ℕ
+listing file tokens diags = flat_map (λ diag. line_at file (slice_get tokens diag.at) diag.code) diags
