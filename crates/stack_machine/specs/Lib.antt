@@ -1,0 +1,9 @@
+pub mod State
+pub mod Numbers
+pub mod Operands
+pub mod InOut
+pub mod Step
+pub mod Runs
+pub mod Able
+pub mod Ready
+pub mod Readings

@@ -1,0 +1,34 @@
+//! The state of a machine.
+
+/// Where a caller goes on, and its frame.
+#[derive(Clone, Copy, Debug, PartialEq, Eq)]
+pub struct Frame {
+    pub at: usize,
+    pub base: usize,
+    pub top: usize,
+    pub link: usize,
+}
+
+/// The state of a machine.
+#[derive(Drop)]
+pub(crate) struct Core {
+    /// The place of the next operation.
+    pub(crate) at: usize,
+    /// How many operands there are.
+    pub(crate) sp: usize,
+    /// The first cell of the frame.
+    pub(crate) base: usize,
+    /// The cell behind it.
+    pub(crate) top: usize,
+    /// The number of the frame to which its static link leads.
+    pub(crate) link: usize,
+    /// The lowest cell that NEW has taken.
+    pub(crate) heap: usize,
+    /// The byte after a number that was read.
+    pub(crate) kept: Option<u8>,
+    pub(crate) cells: Vec<i64>,
+    /// The operands, and room for more.
+    pub(crate) stack: Vec<i64>,
+    /// The frames of the callers, the innermost last.
+    pub(crate) frames: Vec<Frame>,
+}

@@ -1,0 +1,12 @@
+//! Laws on the definitions, each the contract of a function that does nothing.
+ghost use Rattle.stack_machine.specs.InOut.{Got};
+ghost use Rattle.stack_machine.specs.Ready.{Shapes, IsValid, Fits, GoesOn};
+ghost use Rattle.stack_machine.specs.State.{State, Program};
+ghost use Rattle.stack_machine.specs.Step.{step};
+
+/// In code whose heights agree no step meets a missing operand, frame or operation, and each leads to a state of which the
+/// same can be said.
+#[tactic(auto, using(crate::proofs::Steps::going))]
+pub fn no_step_is_stuck()
+    ensures { (p : Program) (shapes : Shapes) (s : State) (got : Got) → IsValid p shapes → Fits p shapes s → GoesOn p shapes (step p got s) }
+{}

@@ -1,0 +1,32 @@
+//! What does a program do when it runs?
+//!
+//! The code of a program is a list of operations: instructions whose operands are addresses, places and procedures of the
+//! whole program. `specs/Step` says what one operation does to the plain state of a machine (`specs/State`), and
+//! `specs/Runs` what at most so many of them do, print and read. `specs/Ready` says which code never gets stuck, and
+//! `no_step_is_stuck` that it doesn't. The functions of this crate do one operation each, but none of them is public yet.
+#![tactic(auto)]
+
+mod act;
+mod arithmetic;
+mod code;
+mod core_state;
+mod flow;
+mod laws;
+mod memory;
+mod next;
+mod op;
+mod printing;
+mod reading;
+mod run;
+mod services;
+mod sets;
+mod stack;
+#[cfg(test)]
+mod tests;
+mod trap;
+
+pub use code::{Callee, Code, Origin, Routine};
+pub use laws::no_step_is_stuck;
+pub use op::{Kind, Op, Service};
+pub use run::End;
+pub use trap::Trap;
