@@ -5,7 +5,7 @@ use Rattle.std.proofs.lemmas.List.{length-append}
 use Rattle.std.proofs.Math.Seq.{drop-cons}
 use Rattle.code_form.specs.Modules.{Procedure, World}
 use Rattle.code_form.specs.Valid.{in_code, of_high, IsValidCode}
-use Rattle.object_file.specs.declared.parts.ProcCode.{ProcCode}
+use Rattle.m2_base.specs.declared.outputs.ProcCode.{ProcCode}
 use Rattle.object_file.specs.declared.fault.Stop.{Stop}
 use Rattle.object_file.specs.declared.fault.Stop.TheVariants as stops
 use Rattle.object_file.specs.declared.fault.CodeFault.{CodeFault}

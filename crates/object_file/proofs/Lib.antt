@@ -12,3 +12,6 @@ pub mod OneTelling
 pub mod Each
 pub mod Inserting
 pub mod Indexing
+pub mod Chains
+pub mod Outers
+pub mod Meeting

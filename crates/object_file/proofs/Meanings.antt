@@ -201,6 +201,10 @@ exact_is e bytes fits =
     matched (Ok rest) le h = h
     matched (Err bad) le h = inr (le, h)
 
+-- what is behind the expected bytes
+pub behind : (e bytes rest : List ℕ) → IsBytes bytes → exact_at e bytes ≡ Ok rest → drop (length e) bytes ≡ rest
+behind e bytes rest fits is = let t = subst (ExactIs e bytes) is (exact_is e bytes fits) in ap (drop (length e)) t.parts ∙ drop_at e rest (length e) refl
+
 exact_short : (e bytes : List ℕ) → length bytes < length e → exact_at e bytes ≡ Err ended
 unfolding exact_at
 exact_short e bytes lt = rw (lt-ltb (length bytes) (length e) lt) refl

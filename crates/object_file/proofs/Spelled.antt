@@ -1,13 +1,14 @@
 -- What is spelled by the format of objects are the object's bytes, and its parts are short enough to be counted.
-use Rattle.std.proofs.Common.{◌≡◌, Bool, ℕ, ◌^◌, ◌<◌, zero, suc, List, [], ◌∷◌, ◌++◌, length, refl, sym, ap, subst, ◌∙◌, append_assoc}
+use Rattle.std.proofs.Common.{◌≡◌, ◌≢◌, Bool, ℕ, ◌^◌, ◌<◌, arith, zero, suc, List, [], ◌∷◌, ◌++◌, length, refl, sym, ap, subst, ◌∙◌, append_assoc}
 use Rattle.std.specs.List.{AllByRecursion, flat_map}
 use Rattle.std.proofs.lemmas.List.{append-nil}
 use Rattle.code_form.specs.Heights.{Callee}
 use Rattle.code_form.specs.Modules.{Import, Procedure}
 use Rattle.object_file.specs.Contents.{Export, Contents, u32, with_length, magic, version, export_bytes, heading_bytes, import_bytes, frame_bytes, body_bytes, procedure_bytes, opening_bytes, lists_bytes, head_bytes, object_bytes}
 use Rattle.object_file.specs.Short.{ShortImport, ShortProcedure, Short}
+use Rattle.object_file.proofs.Outers.{Below, Below-more, smaller}
 use Rattle.object_file.specs.Formats.{Format, done, exact, number, text, ◌>>=◌, many, counted, Spells}
-use Rattle.object_file.specs.ObjectFormat.{any, is_count, export_format, heading_format, import_format, procedure_format, object_format}
+use Rattle.object_file.specs.ObjectFormat.{any, is_count, export_format, heading_format, import_format, procedure_format, fields_format, format_with, object_format}
 
 -- ---- by parts
 
@@ -162,13 +163,28 @@ head_joined bytes name cells own_cells exports imports count m0 m1 m2 m3 m4 m5 m
 parted : (a b c d e f g h i j : List ℕ) → a ++ b ++ c ++ d ++ e ++ f ++ g ++ h ++ i ++ j ≡ (a ++ b ++ c ++ d ++ e) ++ (f ++ g ++ h ++ i ++ j)
 parted a b c d e f g h i j = simp append_assoc
 
+outer_below : (es : List Export) (before : List Procedure) (bytes : List ℕ) (x : Procedure) (rest : List ℕ) → Spells (procedure_format es before) bytes x rest → x.outer ≢ 0 → x.outer < length before
+unfolding procedure_format ◌>>=◌
+outer_below es before bytes x rest s some =
+    let is : s.0 ≡ x.outer = ap (λ (p : Procedure). p.outer) s.5.5.5.5.5.5.5.0 in
+    subst (λ (n : ℕ). n < length before) is (smaller es (length before) s.0 s.4 (λ none. some (sym is ∙ none)))
+
+-- the outer procedures of those that are spelled
+below_many : (es : List Export) (n : ℕ) (before : List Procedure) (bytes : List ℕ) (all : List Procedure) (rest : List ℕ) → Spells (many (procedure_format es) n before) bytes all rest → Below 0 before → Below 0 all
+unfolding many
+below_many es zero before bytes all rest s b = subst (Below 0) s.0 b
+below_many es (suc n) before bytes all rest s b =
+    let t = spells_then (procedure_format es before) (λ x. many (procedure_format es) n (before ++ x ∷ [])) bytes all rest s in
+    below_many es n (before ++ t.0 ∷ []) t.1 all rest t.3 (Below-more 0 before t.0 b (λ some. (let l = outer_below es before bytes t.0 t.1 t.2 some in omega (arith, l))))
+
 pub record Written (bytes : List ℕ) (o : Contents) (rest : List ℕ) : Type 0 where
   pub spelled : bytes ≡ object_bytes o ++ rest
   pub short : Short o
+  pub outers : Below 0 o.procedures
 
 -- what is spelled so are the object's bytes
 pub written : (bytes : List ℕ) (o : Contents) (rest : List ℕ) → Spells object_format bytes o rest → Written bytes o rest
-unfolding object_format opening_bytes lists_bytes ◌>>=◌
+unfolding format_with fields_format opening_bytes lists_bytes ◌>>=◌
 written bytes o rest s =
     let s1 = s.2 in
     let s2 = s1.2 in
@@ -196,4 +212,5 @@ written bytes o rest s =
     subst P p.3.0 (record {
       spelled = whole ∙ ap (λ (r : List ℕ). (head ++ procedures) ++ r) p.3.1 ∙ ap (λ (h : List ℕ). (h ++ procedures) ++ rest) halves;
       short = record { name = s2.2; exports = ce.few; imports = ci.few; procedures = cp.few; each_import = ci.short; each_procedure = cp.short };
+      outers = below_many e.0 p.2.0 [] p.2.1 p.0 p.1 p.2.5 tt;
     })

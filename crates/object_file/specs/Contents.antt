@@ -32,6 +32,10 @@ magic = codes "M2OB"
 abbrev pub version : List ℕ
 version = u32 1
 
+-- the version that will follow, which isn't read
+abbrev pub next_version : List ℕ
+next_version = u32 2
+
 unfoldable pub export_bytes : Export → List ℕ
 export_bytes e = u32 e.0 ++ u32 e.1 ++ u32 e.2
 

@@ -11,3 +11,5 @@ pub mod Telling
 pub mod Short
 pub mod Named
 pub mod Exported
+pub mod Links
+pub mod Programs

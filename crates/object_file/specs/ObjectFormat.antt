@@ -1,11 +1,11 @@
 -- The format of an object, field by field in the order of the file, with the values that are valid.
-use Rattle.std.specs.Prelude.{ℕ, ◌==◌, Bool, true, false, ◌&&◌, ◌||◌, not, List, [], ◌∷◌, length, nat_le, nat_lt}
+use Rattle.std.specs.Prelude.{ℕ, ◌==◌, Bool, true, false, ◌&&◌, ◌||◌, not, List, [], ◌∷◌, length, drop, nat_le, nat_lt, if◌then◌else◌}
 use Rattle.std.specs.List.{list_all, list_any}
 use Rattle.std.specs.Str.{bytes_eq}
 use Rattle.m2_base.specs.Letters.{is_letter, goes_on}
 use Rattle.code_form.specs.Heights.{Callee}
 use Rattle.code_form.specs.Modules.{Import, Procedure}
-use Rattle.object_file.specs.Contents.{Export, Contents, magic, version}
+use Rattle.object_file.specs.Contents.{Export, Contents, magic, version, next_version}
 use Rattle.object_file.specs.Formats.{Format, done, bytes_of, numbered, texted, counted, ◌>>=◌}
 
 -- ---- what is valid
@@ -92,11 +92,9 @@ procedure_format exports before = do
   code ← texted any
   done (record { outer = outer; params = params; result = result; locals = locals; high = high; bytes = bytes; code = code })
 
--- the whole object
-unfoldable pub object_format : Format Contents
-object_format = do
-  _ ← bytes_of magic
-  _ ← bytes_of version
+-- the fields behind the version
+unfoldable pub fields_format : Format Contents
+fields_format = do
   name ← texted is_identifier
   cells ← numbered is_cells
   own_cells ← numbered (is_own_cells cells)
@@ -104,3 +102,24 @@ object_format = do
   imports ← counted any import_format
   procedures ← counted (is_count exports) (procedure_format exports)
   done (record { name = name; cells = cells; own_cells = own_cells; exports = exports; imports = imports; procedures = procedures })
+
+-- the whole object, with these bytes for its version
+unfoldable pub format_with : List ℕ → Format Contents
+format_with v = do
+  _ ← bytes_of magic
+  _ ← bytes_of v
+  fields_format
+
+abbrev pub object_format : Format Contents
+object_format = format_with version
+
+-- The version with which the bytes behind the first four are compared, where they are none. Two versions are laid down,
+-- the first of which is read. Bytes that begin as the second and leave it further on are wrong where they leave it; the
+-- second itself is wrong from its first byte on.
+unfoldable pub compared : List ℕ → List ℕ
+compared (a ∷ b ∷ c ∷ d ∷ rest) = if a == 2 && not (b == 0 && c == 0 && d == 0) then next_version else version
+compared bytes = version
+
+-- the format with which bytes are compared
+abbrev pub format_near : List ℕ → Format Contents
+format_near bytes = format_with (compared (drop 4 bytes))

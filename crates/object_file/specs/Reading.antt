@@ -2,10 +2,10 @@
 use Rattle.std.specs.Prelude.{ℕ, List, length, Result, Ok}
 use Rattle.code_form.specs.Heights.{Callee}
 use Rattle.code_form.specs.Modules.{Import, Procedure}
-use Rattle.object_file.specs.Contents.{Export, Contents, magic, version}
+use Rattle.object_file.specs.Contents.{Export, Contents, magic}
 use Rattle.object_file.specs.Formats.{Bad}
 use Rattle.object_file.specs.Fields.{number_at, text_at, exact_at, valid_at, counted_at, ends_at, ◌then◌ as ◌>>=◌}
-use Rattle.object_file.specs.ObjectFormat.{any, is_cells, is_own_cells, is_identifier, is_new_name, is_export, is_count, is_outer, is_params, is_result, is_locals}
+use Rattle.object_file.specs.ObjectFormat.{any, compared, is_cells, is_own_cells, is_identifier, is_new_name, is_export, is_count, is_outer, is_params, is_result, is_locals}
 
 unfoldable pub export_at : List Export → List ℕ → Result (Export × List ℕ) Bad
 export_at before bytes = do
@@ -44,12 +44,11 @@ procedure_at exports before bytes = do
   code ← text_at strings.1
   Ok (record { outer = outer.0; params = params.0; result = result.0; locals = locals.0; high = high.0; bytes = strings.0; code = code.0 }, code.1)
 
-unfoldable pub object_at : List ℕ → Result (Contents × List ℕ) Bad
-object_at bytes = do
-  front ← exact_at magic bytes
-  start ← exact_at version front
-  name ← text_at start
-  _ ← valid_at (is_identifier name.0) start
+-- the fields behind the version
+unfoldable pub fields_at : List ℕ → Result (Contents × List ℕ) Bad
+fields_at bytes = do
+  name ← text_at bytes
+  _ ← valid_at (is_identifier name.0) bytes
   cells ← number_at name.1
   _ ← valid_at (is_cells cells.0) name.1
   own_cells ← number_at cells.1
@@ -58,6 +57,12 @@ object_at bytes = do
   imports ← counted_at any import_at exports.1
   procedures ← counted_at (is_count exports.0) (procedure_at exports.0) imports.1
   Ok (record { name = name.0; cells = cells.0; own_cells = own_cells.0; exports = exports.0; imports = imports.0; procedures = procedures.0 }, procedures.1)
+
+unfoldable pub object_at : List ℕ → Result (Contents × List ℕ) Bad
+object_at bytes = do
+  front ← exact_at magic bytes
+  start ← exact_at (compared front) front
+  fields_at start
 
 -- the object that all of the bytes are
 unfoldable pub whole_at : List ℕ → Result Contents Bad

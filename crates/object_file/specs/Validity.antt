@@ -4,7 +4,7 @@ use Rattle.code_form.specs.Modules.{Procedure, World}
 use Rattle.code_form.specs.Valid.{Fault, in_code, of_high, IsValidCode, IsFault}
 use Rattle.object_file.specs.Contents.{Contents, body_bytes, procedure_bytes, object_bytes, world_of}
 use Rattle.object_file.specs.Formats.{Bad, Spells, IsBad}
-use Rattle.object_file.specs.ObjectFormat.{object_format}
+use Rattle.object_file.specs.ObjectFormat.{object_format, format_near}
 
 -- each procedure has valid code; the first of these has number k
 abbrev pub HaveValidCode : World → ℕ → List Procedure → Type 0
@@ -35,7 +35,7 @@ IsValid o = IsObject (object_bytes o) o
 -- What is told of bytes that are no object: first of the fields from the front and of what follows them, and only then
 -- of the code, procedure by procedure.
 pub data IsTold (bytes : List ℕ) (bad : Bad) : Type 0 where
-  of_fields : IsBad object_format bytes bad → IsTold bytes bad
+  of_fields : IsBad (format_near bytes) bytes bad → IsTold bytes bad
   of_code : (o : Contents) → Spells object_format bytes o [] → HaveFault (world_of o) 0 o.procedures bad → IsTold bytes bad
 
 -- the same by the place from the front

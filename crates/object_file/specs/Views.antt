@@ -3,7 +3,7 @@ use Rattle.std.specs.Prelude.{ℕ, map}
 use Rattle.code_form.specs.Heights.{Callee}
 use Rattle.code_form.specs.Modules.{Import, Procedure, World}
 use Rattle.object_file.specs.declared.parts.ImportNote.{ImportNote}
-use Rattle.object_file.specs.declared.parts.ProcCode.{ProcCode}
+use Rattle.m2_base.specs.declared.outputs.ProcCode.{ProcCode}
 use Rattle.object_file.specs.declared.parts.Parts.{Parts}
 use Rattle.object_file.specs.Contents.{Contents, world_of}
 

@@ -1,18 +1,41 @@
 //! Why bytes aren't read.
 ghost use Rattle.std.specs.Prelude.{◌≡◌};
+ghost use Rattle.object_file.specs.declared.fault.ProgramFault.TheVariants.{Memory as ProgramMemory};
 ghost use Rattle.object_file.specs.declared.fault.Stop.TheVariants.{Memory};
 ghost use Rattle.object_file.specs.declared.fault.CodeFault.TheVariants.{Memory as CodeMemory};
 
+use crate::object::Object;
 use std::alloc::{AllocError, AllocFailed};
+use thiserror::Error;
 
 /// Why bytes aren't read as an object.
-#[derive(Clone, Copy, Debug, PartialEq, Eq)]
+#[derive(Clone, Copy, Debug, PartialEq, Eq, Error)]
 pub enum ObjectFault {
     /// They are none: the place where that shows first, and what is wrong there. 1: the bytes end within a field.
     /// 2: bytes follow. 3: the file's first bytes or its version. 4: a field isn't valid. 5: no instruction. 6: an
     /// operand, a jump or the last instruction isn't valid. 7: a height is wrong. 8: the greatest height is told wrongly.
+    #[error("bad object at {offset} code {code}")]
     BadObject { offset: u64, code: u8 },
+    #[error("out of memory")]
     Memory,
+}
+
+/// Why objects are no program.
+#[derive(Debug, Drop, Error)]
+pub enum ProgramFault {
+    /// The object needs others, and is handed back.
+    #[error("imports of other modules")]
+    NeedsLink(Object),
+    #[error("out of memory")]
+    Memory,
+}
+
+impl From<AllocFailed<Object>> for ProgramFault {
+    ghost from_gives = { λ _ e. e ≡ ProgramMemory };
+
+    fn from(_: AllocFailed<Object>) -> ProgramFault {
+        ProgramFault::Memory
+    }
 }
 
 /// Why reading stopped.

@@ -1,16 +1,19 @@
 //! Whether the points of a code are right and level.
 ghost use Rattle.std.specs.Prelude.{◌≡◌, true, pos, ◌-ℤ◌, map};
 ghost use Rattle.code_form.specs.Valid.{jump_of as spec_jump, target_passes, same_height, returns_all as spec_returns, is_right as spec_right, is_level as spec_level, first_not, highest as spec_highest};
+ghost use Rattle.object_file.specs.Links.{AreLinksOf};
 ghost use Rattle.object_file.specs.Points.{point_of, ArePlaces};
 ghost use Rattle.object_file.specs.Views.{procedure_of, world_in};
 
 use crate::flow::{is_end, jump_of};
+use crate::links::Links;
 use crate::naming::names_what_is_there;
-use crate::parts::{Parts, ProcCode};
+use crate::parts::Parts;
 use crate::point::Point;
 use crate::points::height_behind;
 use crate::targets::target;
 use code_form::Instr;
+use m2_base::ProcCode;
 
 fn same(x: i128, y: i128) -> bool
     ensures { result ≡ same_height x y }
@@ -37,16 +40,18 @@ fn lands(points: &[Point], places: &[usize], point: &Point) -> bool
 /// The operands name what is there, a jump goes to an instruction, and the last instruction ends.
 fn is_right(
     parts: &Parts,
+    links: &Links,
     k: u32,
     own: &ProcCode,
     points: &[Point],
     places: &[usize],
     point: &Point,
 ) -> bool
-    requires { ArePlaces places.now points.now }
+    requires links { AreLinksOf (world_in parts.now) links.now }
+    requires places { ArePlaces places.now points.now }
     ensures { result ≡ spec_right (world_in parts.now) k (procedure_of own.now) (map point_of points.now) (point_of point.now) }
 {
-    names_what_is_there(parts, k, own, &point.instr)
+    names_what_is_there(parts, links, k, own, &point.instr)
         && lands(points, places, point)
         && (point.end < own.code.len() || is_end(&point.instr))
 }
@@ -54,16 +59,18 @@ fn is_right(
 /// The place of the first instruction that isn't right.
 pub(crate) fn first_not_right(
     parts: &Parts,
+    links: &Links,
     k: u32,
     own: &ProcCode,
     points: &[Point],
     places: &[usize],
 ) -> Option<usize>
-    requires { ArePlaces places.now points.now }
+    requires links { AreLinksOf (world_in parts.now) links.now }
+    requires places { ArePlaces places.now points.now }
     ensures { result ≡ first_not (λ p. spec_right (world_in parts.now) k (procedure_of own.now) (map point_of points.now) p) (map point_of points.now) }
 {
     for point in points {
-        if !is_right(parts, k, own, points, places, point) {
+        if !is_right(parts, links, k, own, points, places, point) {
             return Some(point.at);
         }
     }

@@ -3,10 +3,13 @@ ghost use Rattle.std.specs.Prelude.{◌≡◌, ◌<◌, ◌==◌, map, slice_get
 ghost use Rattle.std.specs.Option.{option_map};
 ghost use Rattle.code_form.specs.Heights.{step_among};
 ghost use Rattle.code_form.specs.Valid.{import_of as spec_import, when_there, procedure_or, heading_or, headings_or, outer_of as spec_outer, linked as spec_linked, has_heading as spec_heading, has_cell as spec_cell, is_value as spec_value, can_call as spec_call, has_local as spec_local, names_what_is_there as spec_names, callees_of};
+ghost use Rattle.object_file.specs.Links.{AreLinksOf};
 ghost use Rattle.object_file.specs.Views.{heading_of, import_of, procedure_of, world_in};
 
-use crate::parts::{ImportNote, Parts, ProcCode};
+use crate::links::Links;
+use crate::parts::{ImportNote, Parts};
 use code_form::{Effect, Instr};
+use m2_base::ProcCode;
 
 fn import_at(parts: &Parts, index: usize) -> Option<&ImportNote>
     ensures { option_map (λ i. import_of i.now) result ≡ slice_get (map import_of parts.now.imports.items) index }
@@ -31,28 +34,13 @@ fn procedure(parts: &Parts, k: u32) -> Option<&ProcCode>
 }
 
 /// The outer procedure, 0 at module level.
-fn outer_of(parts: &Parts, k: u32) -> u32
+pub(crate) fn outer_of(parts: &Parts, k: u32) -> u32
     ensures { result ≡ spec_outer (world_in parts.now) k }
 {
     match procedure(parts, k) {
         Some(p) => p.outer,
         None => 0,
     }
-}
-
-/// The procedure that h static links lead to.
-fn linked(parts: &Parts, h: u32, k: u32) -> Option<u32>
-    ensures { result ≡ spec_linked (world_in parts.now) h k }
-{
-    let mut from = k;
-    for _ in 0..h {
-        let outer = outer_of(parts, from);
-        if outer == 0 {
-            return None;
-        }
-        from = outer;
-    }
-    Some(from)
 }
 
 fn has_heading(parts: &Parts, m: u32, k: u32) -> bool
@@ -105,16 +93,18 @@ fn is_value(parts: &Parts, m: u32, k: u32) -> bool
 }
 
 /// The links lead to the outer procedure.
-fn reaches(parts: &Parts, from: u32, h: u32, outer: u32) -> bool
+fn reaches(parts: &Parts, links: &Links, from: u32, h: u32, outer: u32) -> bool
+    requires { AreLinksOf (world_in parts.now) links.now }
     ensures { result ≡ when_there (spec_linked (world_in parts.now) h from) (λ q. q == outer) }
 {
-    match linked(parts, h, from) {
+    match links.linked(parts, h, from) {
         Some(q) => q == outer,
         None => false,
     }
 }
 
-fn can_call(parts: &Parts, from: u32, p: u32, h: u32) -> bool
+fn can_call(parts: &Parts, links: &Links, from: u32, p: u32, h: u32) -> bool
+    requires { AreLinksOf (world_in parts.now) links.now }
     ensures { result ≡ spec_call (world_in parts.now) from p h }
 {
     match procedure(parts, p) {
@@ -123,17 +113,18 @@ fn can_call(parts: &Parts, from: u32, p: u32, h: u32) -> bool
                 && (if callee.outer == 0 {
                     h == 0
                 } else {
-                    reaches(parts, from, h, callee.outer)
+                    reaches(parts, links, from, h, callee.outer)
                 })
         }
         None => false,
     }
 }
 
-fn has_local(parts: &Parts, from: u32, h: u32, o: u32) -> bool
+fn has_local(parts: &Parts, links: &Links, from: u32, h: u32, o: u32) -> bool
+    requires { AreLinksOf (world_in parts.now) links.now }
     ensures { result ≡ spec_local (world_in parts.now) from h o }
 {
-    match linked(parts, h, from) {
+    match links.linked(parts, h, from) {
         Some(q) => {
             match procedure(parts, q) {
                 Some(p) => o < p.locals,
@@ -145,14 +136,21 @@ fn has_local(parts: &Parts, from: u32, h: u32, o: u32) -> bool
 }
 
 /// What the operands of an instruction in the code of procedure k name is there.
-pub(crate) fn names_what_is_there(parts: &Parts, k: u32, own: &ProcCode, instr: &Instr) -> bool
+pub(crate) fn names_what_is_there(
+    parts: &Parts,
+    links: &Links,
+    k: u32,
+    own: &ProcCode,
+    instr: &Instr,
+) -> bool
+    requires { AreLinksOf (world_in parts.now) links.now }
     ensures { result ≡ spec_names (world_in parts.now) k (procedure_of own.now) instr.now }
 {
     match *instr {
-        Instr::Local(h, o) => has_local(parts, k, h, o),
+        Instr::Local(h, o) => has_local(parts, links, k, h, o),
         Instr::Global(m, o) => has_cell(parts, m, o),
         Instr::Str(o) => (o as usize) < own.bytes.len(),
-        Instr::Call(p, h) => can_call(parts, k, p, h),
+        Instr::Call(p, h) => can_call(parts, links, k, p, h),
         Instr::CallX(m, heading) => has_heading(parts, m, heading),
         Instr::CallVar(_, r) => r <= 1,
         Instr::Proc(m, q) => is_value(parts, m, q),

@@ -6,16 +6,17 @@ ghost use Rattle.object_file.specs.Validity.{IsObject, IsBadAt, IsValid};
 ghost use Rattle.object_file.specs.Views.{import_of, procedure_of, contents_of};
 
 use crate::fault::{ObjectFault, Stop};
-use crate::parts::{ImportNote, Parts, ProcCode};
+use crate::parts::{ImportNote, Parts};
 use crate::reading::fields;
 use crate::sizes::{check_all, sizes};
 use crate::writing::bytes_of;
-use m2_base::Memory;
+use m2_base::{Memory, ProcCode};
 use std::alloc::Global;
+use std::fmt;
 use std::marker::Model;
 
 /// A valid object.
-#[derive(Debug, Drop)]
+#[derive(Drop)]
 pub struct Object {
     parts: Parts,
 }
@@ -30,6 +31,12 @@ impl Model for Object {
     ghost view = { λ o. contents_of o.parts };
 
     ghost invariant = { λ o. IsValid (contents_of o.parts) };
+}
+
+impl fmt::Debug for Object {
+    fn fmt<W: fmt::Write>(&self, f: &mut fmt::Formatter<W>) -> fmt::Result {
+        write!(f, "object of {} procedures", self.parts.procedures.len())
+    }
 }
 
 impl Object {

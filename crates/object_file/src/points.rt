@@ -5,9 +5,10 @@ ghost use Rattle.object_file.specs.Views.{procedure_of, world_in};
 
 use crate::fault::CodeFault;
 use crate::naming::step;
-use crate::parts::{Parts, ProcCode};
+use crate::parts::Parts;
 use crate::point::Point;
 use code_form::decode;
+use m2_base::ProcCode;
 use std::alloc::Global;
 
 /// The height behind an instruction.

@@ -1,7 +1,7 @@
 //! The fields of an object, from left to right.
 ghost use Rattle.std.specs.Prelude.{◌≡◌, ◌<◌, ◌^◌, [], map, length};
 ghost use Rattle.object_file.specs.Fields.{Gives, many_at, counted_at};
-ghost use Rattle.object_file.specs.ObjectFormat.{any, is_count as spec_count};
+ghost use Rattle.object_file.specs.ObjectFormat.{any, compared as spec_compared, is_count as spec_count};
 ghost use Rattle.object_file.specs.Reading.{export_at, heading_at, import_at, procedure_at, object_at, whole_at};
 ghost use Rattle.object_file.specs.Views.{heading_of, import_of, procedure_of, contents_of};
 
@@ -12,7 +12,8 @@ use crate::exports::Exports;
 use crate::fault::Stop;
 use crate::fields::{ends, exact, number, text, valid};
 use crate::imports::Imports;
-use crate::parts::{ImportNote, Parts, ProcCode};
+use crate::parts::{ImportNote, Parts};
+use m2_base::ProcCode;
 use std::alloc::Global;
 
 #[tactic(auto, unfolding(crate::specs::Reading::export_at))]
@@ -189,13 +190,24 @@ fn procedures<'b>(
     procedures_of(alloc, exports, count, rest)
 }
 
+/// The version with which the bytes behind the first four are compared.
+#[tactic(auto, unfolding(crate::specs::ObjectFormat::compared))]
+fn compared(bytes: &[u8]) -> [u8; 4]
+    ensures { result ≡ spec_compared bytes.now }
+{
+    match bytes {
+        [a, b, c, d, ..] if *a == 2 && !(*b == 0 && *c == 0 && *d == 0) => [2, 0, 0, 0],
+        _ => [1, 0, 0, 0],
+    }
+}
+
 /// The fields of an object, and what follows them.
-#[tactic(auto, unfolding(crate::specs::Reading::object_at))]
+#[tactic(auto, unfolding(crate::specs::Reading::object_at, crate::specs::Reading::fields_at))]
 fn object(alloc: Global, bytes: &[u8]) -> Result<(Parts, &[u8]), Stop>
     ensures { Gives (λ x. (contents_of x.0, x.1.now)) result (object_at bytes.now) }
 {
     let rest = exact(b"M2OB", bytes)?;
-    let at = exact(&[1, 0, 0, 0], rest)?;
+    let at = exact(&compared(rest), rest)?;
     let (name, rest) = text(alloc, at)?;
     valid(is_identifier(&name), at)?;
     let at = rest;

@@ -1,12 +1,15 @@
 //! How many bytes procedures take, and where their code is at fault.
 ghost use Rattle.std.specs.Prelude.{◌≡◌, ◌+◌, ◌<◌, ◌^◌, length, map, flat_map};
 ghost use Rattle.object_file.specs.Contents.{procedure_bytes, body_bytes};
+ghost use Rattle.object_file.specs.Links.{OutersBelow};
 ghost use Rattle.object_file.specs.Telling.{stop_of, TellsAll};
 ghost use Rattle.object_file.specs.Views.{procedure_of, world_in};
 
 use crate::code::check;
 use crate::fault::{CodeFault, Stop};
-use crate::parts::{Parts, ProcCode};
+use crate::links::Links;
+use crate::parts::Parts;
+use m2_base::ProcCode;
 use std::alloc::Global;
 
 /// The bytes of a procedure from the greatest height on.
@@ -56,14 +59,16 @@ pub(crate) fn check_all(alloc: Global, parts: &Parts, size_of_all: usize) -> Res
     requires size { size_of_all ≡ length (flat_map procedure_bytes (map procedure_of parts.now.procedures.items)) }
     requires few { length parts.now.procedures.items < 2 ^ 32 }
     requires short { size_of_all < 2 ^ 63 }
+    requires outers { OutersBelow (world_in parts.now) }
     ensures { TellsAll (world_in parts.now) 0 (map procedure_of parts.now.procedures.items) result }
 {
+    let links = Links::new(alloc, parts)?;
     let procedures = parts.procedures.as_slice();
     let mut behind = size_of_all;
     for k in 0..procedures.len() {
         let own = &procedures[k];
         behind -= size(own);
-        if let Err(fault) = check(alloc, parts, k as u32, own) {
+        if let Err(fault) = check(alloc, parts, &links, k as u32, own) {
             return Err(stop(fault, own, behind));
         }
     }

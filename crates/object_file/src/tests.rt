@@ -1,6 +1,10 @@
 //! Bytes with what is told of them, calculated from the definition outside this repository, and two objects by hand.
-use crate::{Object, ObjectFault, one_fault, one_object, read_object, write_object};
-use std::alloc::Global;
+ghost use Rattle.std.specs.Prelude.{◌<◌};
+
+use crate::{
+    Object, ObjectFault, Program, ProgramFault, one_fault, one_object, read_object, write_object,
+};
+use std::alloc::{AllocError, Global};
 use std::process::Abort;
 
 /// The empty module A.
@@ -11,8 +15,16 @@ const EMPTY: [u8; 62] =
 const ADDS: [u8; 93] =
     *b"M2OB\x01\x00\x00\x00\x01\x00\x00\x00A\x01\x00\x00\x00\x00\x00\x00\x00\x00\x00\x00\x00\x00\x00\x00\x00\x01\x00\x00\x00\x00\x00\x00\x00\x00\x00\x00\x00\x00\x00\x00\x00\x00\x00\x00\x00\x03\x00\x00\x00\x00\x00\x00\x00 \x00\x00\x00\x03\x00\x00\x00\x00\x00\x00\x00\x00\x03\x00\x00\x00\x00\x00\x00\x00\x00\x05\x01\x01\x00\x00\x00\x00\x00\x00\x00\x0e\x00\x06.";
 
+/// The module S, which reads numbers and writes their sum: it imports InOut.
+const SUMS: [u8; 278] =
+    *b"M2OB\x01\x00\x00\x00\x01\x00\x00\x00S\x02\x00\x00\x00\x00\x00\x00\x00\x00\x00\x00\x00\x01\x00\x00\x00\x05\x00\x00\x00InOut\x01\x00\x00\x00\x08\x00\x00\x00\x01\x00\x00\x00\x00\x00\x00\x00\x01\x00\x00\x00\x00\x00\x00\x00\x01\x00\x00\x00\x00\x00\x00\x00\x01\x00\x00\x00\x00\x00\x00\x00\x02\x00\x00\x00\x00\x00\x00\x00\x00\x00\x00\x00\x00\x00\x00\x00\x02\x00\x00\x00\x00\x00\x00\x00\x02\x00\x00\x00\x00\x00\x00\x00\x01\x00\x00\x00\x00\x00\x00\x00\x00\x00\x00\x00\x00\x00\x00\x00\x00\x00\x00\x00\x03\x00\x00\x00\x00\x00\x00\x00\x88\x00\x00\x00\x03\x00\x00\x00\x00\x01\x00\x00\x00\x01\x00\x00\x00\x00\x00\x00\x00\x00\x06\x03\x00\x00\x00\x00\x00\x00\x00\x00+\x01\x00\x00\x00\x01\x00\x00\x00\x03\x01\x00\x00\x00\x00\x00\x00\x00\x05&7\x00\x00\x00\x03\x00\x00\x00\x00\x01\x00\x00\x00\x03\x00\x00\x00\x00\x01\x00\x00\x00\x05\x03\x00\x00\x00\x00\x00\x00\x00\x00\x05\x0e\x00\x06\x03\x00\x00\x00\x00\x00\x00\x00\x00+\x01\x00\x00\x00\x01\x00\x00\x00%\xba\xff\xff\xff\x03\x00\x00\x00\x00\x01\x00\x00\x00\x05\x01\x00\x00\x00\x00\x00\x00\x00\x00+\x01\x00\x00\x00\x06\x00\x00\x00.";
+
+/// The module M, which imports a variable of B.
+const NEEDS_B: [u8; 94] =
+    *b"M2OB\x01\x00\x00\x00\x01\x00\x00\x00M\x00\x00\x00\x00\x00\x00\x00\x00\x00\x00\x00\x00\x01\x00\x00\x00\x01\x00\x00\x00B\x01\x00\x00\x00\x00\x00\x00\x00\x01\x00\x00\x00\x00\x00\x00\x00\x00\x00\x00\x00\x00\x00\x00\x00\x00\x00\x00\x00\x02\x00\x00\x00\x00\x00\x00\x00\x14\x00\x00\x00\x03\x01\x00\x00\x00\x00\x00\x00\x00\x01\x01\x00\x00\x00\x00\x00\x00\x00\x06.";
+
 /// The number of a row, its bytes, and the first broken place with its code, or nothing for an object.
-const ROWS: [(u32, &[u8], Option<(u64, u8)>); 25] = [
+const ROWS: [(u32, &[u8], Option<(u64, u8)>); 27] = [
     (1060, b"", Some((0, 1))),
     (1164, b"M2OB\x01\x00\x00\x00\x04\xff", Some((10, 1))),
     (
@@ -28,6 +40,12 @@ const ROWS: [(u32, &[u8], Option<(u64, u8)>); 25] = [
     (1047, b"\xe7\xd9\x01s", Some((0, 3))),
     (1064, b"M2\x03B", Some((2, 3))),
     (1023, b"M2OB\xa52\x0f\x15", Some((4, 3))),
+    (1277, b"M2OB\x02\x00\x00\x00M", Some((4, 3))),
+    (
+        1041,
+        b"M2OB\x02\x00\x00\xffG\x00\x00\x00jFofD",
+        Some((7, 3)),
+    ),
     (
         1039,
         b"M2OB\x01\x00\x00\x00\x02\x00\x00\x00bd\x00\x00\x00\x00\x00\x00\x00\x00\x00\x00\x00\x00\x00\x00\x00\x00\x01\x00\x00\x00\x00*\x00\x00\x00\x00\x00\x00\x00\x00\x00\x00\x03\x00\x00\x00\x00\x00\x00\x00\x00\x00\x00\x00\x0e\x00\x00\x001\x01\x00\x00\x00\x00\x00\x00\x00/\x08/\x07.",
@@ -183,4 +201,82 @@ fn prefixes_end_too_early(rt: HostRuntime) {
     } else {
         panic!(rt; "no memory");
     }
+}
+
+/// How many of the bytes with this place changed, to each other value, are objects. They are written as they were read.
+fn objects_at(rt: &impl Abort, alloc: Global, place: usize) -> u32
+    requires { place < 93 }
+{
+    let mut count = 0u32;
+    let mut bytes = ADDS;
+    for value in 0..=255 {
+        bytes[place] = value;
+        match read_object(alloc, &bytes) {
+            Ok(object) => {
+                is_written_so(rt, alloc, &object, &bytes);
+                count = count.wrapping_add(u32::from(value != ADDS[place]));
+            }
+            Err(ObjectFault::BadObject { offset, code }) => {
+                assert!(rt; offset <= 93 && 1 <= code && code <= 8);
+            }
+            Err(ObjectFault::Memory) => panic!(rt; "no memory"),
+        }
+    }
+    count
+}
+
+/// Of the 23,715 ways to change one byte, 2,617 lead to an object.
+#[test]
+fn changed_bytes_are_told(rt: HostRuntime) {
+    let mut count = 0u32;
+    for place in 0..93 {
+        count = count.wrapping_add(objects_at(&rt, rt.alloc(), place));
+    }
+    assert_eq!(rt; count, 2617);
+}
+
+/// Asserts that the object is a program.
+fn is_program(rt: &impl Abort, alloc: Global, bytes: &[u8]) {
+    match Program::single(alloc, read(rt, alloc, bytes)) {
+        Ok(program) => {
+            for object in program.objects() {
+                is_written_so(rt, alloc, object, bytes);
+            }
+            assert_eq!(rt; program.objects().len(), 1);
+        }
+        Err(fault) => panic!(rt; "{fault}"),
+    }
+}
+
+/// Asserts that the object is handed back.
+fn needs_link(rt: &impl Abort, alloc: Global, bytes: &[u8]) {
+    match Program::single(alloc, read(rt, alloc, bytes)) {
+        Err(ProgramFault::NeedsLink(object)) => is_written_so(rt, alloc, &object, bytes),
+        _ => panic!(rt; "a program"),
+    }
+}
+
+#[test]
+fn objects_are_programs(rt: HostRuntime) {
+    is_program(&rt, rt.alloc(), &EMPTY);
+    is_program(&rt, rt.alloc(), &SUMS);
+    needs_link(&rt, rt.alloc(), &NEEDS_B);
+    // InOut with two cells, and a module of another name
+    let mut bytes = SUMS;
+    bytes[38] = 2;
+    needs_link(&rt, rt.alloc(), &bytes);
+    bytes[38] = 1;
+    bytes[37] = b'u';
+    needs_link(&rt, rt.alloc(), &bytes);
+}
+
+#[test]
+fn faults_are_printed(rt: HostRuntime) -> Result<(), AllocError> {
+    let fault = ObjectFault::BadObject {
+        offset: 62,
+        code: 2,
+    };
+    let printed = format!(in rt.alloc(); "{fault}, {}", ProgramFault::Memory)?;
+    assert_eq!(rt; printed.as_str(), "bad object at 62 code 2, out of memory");
+    Ok(())
 }

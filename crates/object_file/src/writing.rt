@@ -5,7 +5,8 @@ ghost use Rattle.object_file.specs.Contents.{u32 as u32_bytes, with_length, magi
 ghost use Rattle.object_file.specs.Short.{Short, ShortImport, ShortProcedure};
 ghost use Rattle.object_file.specs.Views.{heading_of, import_of, procedure_of, contents_of};
 
-use crate::parts::{ImportNote, Parts, ProcCode};
+use crate::parts::{ImportNote, Parts};
+use m2_base::ProcCode;
 use std::alloc::{AllocError, Global};
 
 fn number(out: &mut Vec<u8>, n: u32) -> Result<(), AllocError>

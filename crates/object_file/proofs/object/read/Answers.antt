@@ -2,7 +2,7 @@ use Rattle.std.proofs.Common.{arith}
 use Rattle.std.proofs.lemmas.List.{length-map}
 use Rattle.std.proofs.lemmas.Result.{err_from_is_err_and}
 use Rattle.object_file.specs.Views.{procedure_of, contents_of}
-use Rattle.object_file.proofs.OneTelling.{fields_are, fields_told, code_told, few_procedures, procedures_within}
+use Rattle.object_file.proofs.OneTelling.{fields_are, fields_told, code_told, few_procedures, procedures_within, outers}
 use Rattle.object_file.proofs.object.read.Goals as goal
 
 pub returns-in_err-parts : goal.returns-in_err-parts
@@ -41,3 +41,7 @@ pub returns : goal.returns
 returns c =
     let o = contents_of c.in_ok-parts.parts in
     record { fields = fields_are c.args.bytes.now o (λ i. omega (arith, c.type_inv.bytes i)) c.in_ok-parts.ensures; code = c.in_ok-check_all.ensures }
+
+pub check_all-requires-clause-outers : goal.check_all-requires-clause-outers
+check_all-requires-clause-outers c =
+    outers c.args.bytes.now (contents_of c.in_ok-parts.parts) (fields_are c.args.bytes.now (contents_of c.in_ok-parts.parts) (λ i. omega (arith, c.type_inv.bytes i)) c.in_ok-parts.ensures)
