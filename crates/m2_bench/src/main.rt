@@ -1,7 +1,7 @@
 //! How long does a call of one crate take, by the size of its input?
 //!
 //! `m2_bench lex KIND BYTES` times `lex` over a text of one kind, and `m2_bench compile BYTES` times `m2c compile A` over
-//! a plain module, both in memory. The inputs are made from the words, and the times are those of the processor. With no
+//! a plain module, and `m2_bench read SHAPE BYTES` times `read_object` over an object of one shape, all in memory. The inputs are made from the words, and the times are those of the processor. With no
 //! words a small run of each part prints its counts alone, which are the same at every run. Each part stands in a module
 //! of its own; a part to come adds a variant to `Command`.
 #![tactic(auto)]
@@ -10,11 +10,14 @@ mod command;
 mod compiling;
 mod kind;
 mod lexing;
+mod reading;
+mod shape;
 mod stopwatch;
 
 use anyhow::Result;
 use command::{Command, USAGE};
 use kind::Kind;
+use shape::Shape;
 use std::env;
 use std::process::ExitCode;
 
@@ -49,6 +52,7 @@ fn obey(rt: &HostRuntime, command: Command) -> Result<ExitCode> {
         Command::Counts => print_counts(rt)?,
         Command::Lex(kind, bytes) => lexing::print_time(rt, kind, bytes)?,
         Command::Compile(bytes) => compiling::print_time(rt, bytes)?,
+        Command::Read(shape, bytes) => reading::print_time(rt, shape, bytes)?,
     }
     Ok(ExitCode::SUCCESS)
 }
@@ -58,5 +62,9 @@ fn print_counts(rt: &HostRuntime) -> Result<()> {
     for kind in Kind::ALL {
         lexing::print_counts(rt, kind, FEW_BYTES)?;
     }
-    compiling::print_counts(rt, FEW_BYTES)
+    compiling::print_counts(rt, FEW_BYTES)?;
+    for shape in Shape::ALL {
+        reading::print_counts(rt, shape, FEW_BYTES)?;
+    }
+    Ok(())
 }
