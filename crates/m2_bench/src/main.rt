@@ -1,22 +1,26 @@
 //! How long does a call of one crate take, by the size of its input?
 //!
 //! `m2_bench lex KIND BYTES` times `lex` over a text of one kind, `m2_bench parse SHAPE TOKENS` times `parse_stream` over
-//! a module of one shape, and `m2_bench compile BYTES` times `m2c compile A` over a plain module, all in memory. The inputs are made from the words, and the times are those of the processor. With no
-//! words a small run of each part prints its counts alone, which are the same at every run. Each part stands in a module
-//! of its own; a part to come adds a variant to `Command`.
+//! a module of one shape, `m2_bench compile BYTES` times `m2c compile A` over a plain module, and `m2_bench read OBJECT
+//! BYTES` times `read_object` over an object of one shape, all in memory. The inputs are made from the words, and the
+//! times are those of the processor. With no words a small run of each part prints its counts alone, which are the same
+//! at every run. Each part stands in a module of its own; a part to come adds a variant to `Command`.
 #![tactic(auto)]
 
 mod command;
 mod compiling;
 mod kind;
 mod lexing;
+mod object_shape;
 mod parsing;
+mod reading;
 mod shape;
 mod stopwatch;
 
 use anyhow::Result;
 use command::{Command, USAGE};
 use kind::Kind;
+use object_shape::ObjectShape;
 use shape::Shape;
 use std::env;
 use std::process::ExitCode;
@@ -56,6 +60,7 @@ fn obey(rt: &HostRuntime, command: Command) -> Result<ExitCode> {
         Command::Lex(kind, bytes) => lexing::print_time(rt, kind, bytes)?,
         Command::Parse(shape, tokens) => parsing::print_time(rt, shape, tokens)?,
         Command::Compile(bytes) => compiling::print_time(rt, bytes)?,
+        Command::Read(shape, bytes) => reading::print_time(rt, shape, bytes)?,
     }
     Ok(ExitCode::SUCCESS)
 }
@@ -68,5 +73,9 @@ fn print_counts(rt: &HostRuntime) -> Result<()> {
     for shape in Shape::ALL {
         parsing::print_counts(rt, shape, FEW_TOKENS)?;
     }
-    compiling::print_counts(rt, FEW_BYTES)
+    compiling::print_counts(rt, FEW_BYTES)?;
+    for shape in ObjectShape::ALL {
+        reading::print_counts(rt, shape, FEW_BYTES)?;
+    }
+    Ok(())
 }

@@ -113,7 +113,9 @@ impl Shape {
         let mut tokens = Vec::new(alloc);
         push_kinds(&mut tokens, &MODULE_START)?;
         push_kinds(&mut tokens, self.start())?;
-        let behind = piece.len().saturating_add(self.end().len() + MODULE_END.len());
+        let behind = piece
+            .len()
+            .saturating_add(self.end().len() + MODULE_END.len());
         for _ in 0..most {
             if most.saturating_sub(behind) < tokens.len() {
                 break;
@@ -139,11 +141,7 @@ const MODULE_END: [TokenKind; 4] = [
     TokenKind::EndOfText,
 ];
 
-fn push_times(
-    kinds: &mut Vec<TokenKind>,
-    kind: TokenKind,
-    times: usize,
-) -> Result<(), AllocError> {
+fn push_times(kinds: &mut Vec<TokenKind>, kind: TokenKind, times: usize) -> Result<(), AllocError> {
     for _ in 0..times {
         kinds.push(kind)?;
     }

@@ -1,0 +1,175 @@
+//! The shapes of objects that are read.
+use crate::kind::UnknownKind;
+use code_form::{Instr, encode};
+use m2_base::Memory;
+use std::alloc::Global;
+use std::fmt;
+use std::str::FromStr;
+
+/// How the code of an object stands in its procedures.
+#[derive(Clone, Copy, Debug, PartialEq, Eq)]
+pub enum ObjectShape {
+    /// Procedures of ten statements, none within another.
+    Flat,
+    /// Each procedure is within the one before, and uses a variable of the outermost.
+    Deep,
+    /// One procedure has all the code.
+    Long,
+}
+
+/// The number of procedures behind the body, and how many statements each has.
+#[derive(Clone, Copy)]
+struct Plan {
+    procedures: u32,
+    statements: u32,
+}
+
+/// The bytes of an object with its body alone.
+const FRAME_BYTES: u32 = 62;
+
+/// Those of a procedure but for its statements.
+const PROCEDURE_BYTES: u32 = 29;
+
+/// Those of an ordinary statement.
+const STATEMENT_BYTES: u32 = 46;
+
+/// Those of a statement that uses a variable further out.
+const OUTER_BYTES: u32 = 15;
+
+/// How many statements a procedure of a flat object has.
+const FEW_STATEMENTS: u32 = 10;
+
+impl ObjectShape {
+    pub const ALL: [ObjectShape; 3] = [ObjectShape::Flat, ObjectShape::Deep, ObjectShape::Long];
+
+    fn name(self) -> &'static str {
+        match self {
+            ObjectShape::Flat => "flat",
+            ObjectShape::Deep => "deep",
+            ObjectShape::Long => "long",
+        }
+    }
+
+    fn plan(self, bytes: u32) -> Plan {
+        let bytes = bytes.saturating_sub(FRAME_BYTES);
+        match self {
+            ObjectShape::Flat => Plan {
+                procedures: bytes / (PROCEDURE_BYTES + FEW_STATEMENTS * STATEMENT_BYTES),
+                statements: FEW_STATEMENTS,
+            },
+            ObjectShape::Deep => Plan {
+                procedures: bytes / (PROCEDURE_BYTES + OUTER_BYTES),
+                statements: 1,
+            },
+            ObjectShape::Long => Plan {
+                procedures: 1,
+                statements: bytes.saturating_sub(PROCEDURE_BYTES) / STATEMENT_BYTES,
+            },
+        }
+    }
+
+    /// An object of about so many bytes.
+    pub fn object(self, alloc: Global, bytes: u32) -> Result<Vec<u8>, Memory> {
+        let plan = self.plan(bytes);
+        let mut object = Vec::new(alloc);
+        object.extend_from_slice(b"M2OB\x01\x00\x00\x00\x01\x00\x00\x00A\x01\x00\x00\x00")?;
+        push_numbers(&mut object, &[0, 0, 0, plan.procedures.saturating_add(1)])?;
+        push_procedure(&mut object, [0, 0], &returning(alloc)?)?;
+        for k in 0..plan.procedures {
+            let code = self.code(alloc, k, plan.statements)?;
+            push_procedure(&mut object, self.outer_and_high(k), &code)?;
+        }
+        Ok(object)
+    }
+
+    /// What is around procedure k + 1, and the greatest height of its code.
+    fn outer_and_high(self, k: u32) -> [u32; 2] {
+        match self {
+            ObjectShape::Deep => [k, 1],
+            ObjectShape::Flat | ObjectShape::Long => [0, 3],
+        }
+    }
+
+    /// The code of procedure k + 1.
+    fn code(self, alloc: Global, k: u32, statements: u32) -> Result<Vec<u8>, Memory> {
+        let statement = match self {
+            ObjectShape::Deep => of_outermost(alloc, k)?,
+            ObjectShape::Flat | ObjectShape::Long => of_module(alloc)?,
+        };
+        let mut code = Vec::new(alloc);
+        for _ in 0..statements {
+            code.extend_from_slice(&statement)?;
+        }
+        encode(&Instr::Return, &mut code)?;
+        Ok(code)
+    }
+}
+
+fn returning(alloc: Global) -> Result<Vec<u8>, Memory> {
+    let mut code = Vec::new(alloc);
+    encode(&Instr::Return, &mut code)?;
+    Ok(code)
+}
+
+/// Adds 1 to a variable of the module, and tests it.
+fn of_module(alloc: Global) -> Result<Vec<u8>, Memory> {
+    let mut code = Vec::new(alloc);
+    encode(&Instr::Global(0, 0), &mut code)?;
+    encode(&Instr::Global(0, 0), &mut code)?;
+    encode(&Instr::Load, &mut code)?;
+    encode(&Instr::Push(1), &mut code)?;
+    encode(&Instr::Add(0), &mut code)?;
+    encode(&Instr::Store, &mut code)?;
+    encode(&Instr::Global(0, 0), &mut code)?;
+    encode(&Instr::Load, &mut code)?;
+    encode(&Instr::JumpFalse(0), &mut code)?;
+    Ok(code)
+}
+
+/// Tests a variable so many procedures further out.
+fn of_outermost(alloc: Global, links: u32) -> Result<Vec<u8>, Memory> {
+    let mut code = Vec::new(alloc);
+    encode(&Instr::Local(links, 0), &mut code)?;
+    encode(&Instr::Load, &mut code)?;
+    encode(&Instr::JumpFalse(0), &mut code)?;
+    Ok(code)
+}
+
+fn push_numbers(object: &mut Vec<u8>, numbers: &[u32]) -> Result<(), Memory> {
+    for number in numbers {
+        object.extend_from_slice(&number.to_le_bytes())?;
+    }
+    Ok(())
+}
+
+/// A procedure of one cell, with no data.
+fn push_procedure(
+    object: &mut Vec<u8>,
+    outer_and_high: [u32; 2],
+    code: &[u8],
+) -> Result<(), Memory> {
+    let [outer, high] = outer_and_high;
+    let bytes = u32::try_from(code.len()).unwrap_or(u32::MAX);
+    push_numbers(object, &[outer, 0, 0, 1, high, 0, bytes])?;
+    object.extend_from_slice(code)?;
+    Ok(())
+}
+
+impl FromStr for ObjectShape {
+    type Err = UnknownKind;
+
+    fn from_str(word: &str) -> Result<ObjectShape, UnknownKind> {
+        for shape in ObjectShape::ALL {
+            if shape.name() == word {
+                return Ok(shape);
+            }
+        }
+        Err(UnknownKind)
+    }
+}
+
+impl fmt::Display for ObjectShape {
+    fn fmt<W: fmt::Write>(&self, f: &mut fmt::Formatter<W>) -> fmt::Result {
+        write!(f, "{}", self.name())
+    }
+}
