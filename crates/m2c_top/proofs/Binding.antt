@@ -1,21 +1,17 @@
 -- How names are bound to rows.
-use Rattle.std.proofs.Common.{◌≡◌, ◌≢◌, ◌⊎◌, inl, inr, ℕ, ◌+◌, ◌<◌, ◌≤◌, ◌^◌, ◌==◌, Bool, true, false, List, [], ◌∷◌, ◌++◌, Option, Some, None, map, length, drop, get_or, refl, sym, ◌∙◌, ap, subst, arith, append_assoc, is_some, if◌then◌else◌, zero, suc}
-use Rattle.std.specs.List.{flat_map}
+use Rattle.std.proofs.Common.{◌≡◌, ◌≢◌, ◌⊎◌, inl, inr, ℕ, ◌+◌, ◌<◌, ◌≤◌, ◌^◌, Bool, true, false, List, [], ◌∷◌, ◌++◌, Option, Some, None, length, drop, get_or, refl, sym, ◌∙◌, ap, subst, arith, append_assoc, if◌then◌else◌, zero, suc}
 use Rattle.std.proofs.lemmas.List.{drop_more, drop_all, append-nil}
-use Rattle.std.proofs.lemmas.Bool.{true≢false, false≢true}
+use Rattle.std.proofs.lemmas.Bool.{true≢false}
 use Rattle.m2_base.specs.Finished.{IsTold, finished}
 use Rattle.m2_base.specs.Gives.{Adds}
 use Rattle.m2_base.specs.Lists.{Each, IsIn, Grows, WhereLast}
-use Rattle.m2_base.specs.Rows.{at_place, row_meaning, HasSmallNumbers}
-use Rattle.m2_base.specs.Scopes.{CanSearch, Searched, looks_of, IsFound}
+use Rattle.m2_base.specs.Rows.{row_meaning, HasSmallNumbers}
+use Rattle.m2_base.specs.Scopes.{CanSearch, Searched}
 use Rattle.m2_base.specs.Standard.{is_standard, standard_rows}
-use Rattle.m2_base.specs.States.{State, Frame, Look, Keeps, Works, Waits, texts_of, fills_of, areas_of, finished_of}
+use Rattle.m2_base.specs.States.{State, Frame, Look, Keeps, Works, Waits, texts_of, fills_of, finished_of}
 use Rattle.m2_base.specs.Tables.{lookup, found_or, first_named, rows_at}
-use Rattle.m2_base.specs.Units.{UnitTexts}
-use Rattle.m2_base.specs.declared.notes.Diag.{Diag}
 use Rattle.m2_base.specs.declared.notes.Notes.{Notes}
 use Rattle.m2_base.specs.declared.replies.Head.{Head}
-use Rattle.m2_base.specs.declared.replies.Reply.{Reply}
 use Rattle.m2_base.specs.declared.replies.Reply.TheVariants.{DontKnowYet, Found}
 use Rattle.m2_base.specs.declared.rows.Place.{Place}
 use Rattle.m2_base.specs.declared.rows.Row.{Row}
@@ -26,9 +22,9 @@ use Rattle.m2c_top.specs.Code.{cell_after, cells_of}
 use Rattle.m2c_top.specs.Codes.{diag_at}
 use Rattle.m2c_top.specs.Declarations.{variable_rows}
 use Rattle.m2c_top.specs.Diagnostics.{use_diags, uses_diags}
-use Rattle.m2c_top.specs.Sound.{names_of, is_variable}
+use Rattle.m2c_top.specs.Sound.{names_of}
 use Rattle.m2c_top.specs.declared.plain.tree.Ident.{Ident}
-use Rattle.m2c_top.proofs.Declaring.{Binds, binds, row_found, lacks_standard}
+use Rattle.m2c_top.proofs.Declaring.{Binds, binds, lacks_standard}
 
 -- ** Scopes that suit
 
@@ -37,7 +33,7 @@ can_search st chain ident suits name = record { short = suits.short; exist = sui
 
 inside : (fills s : ℕ) (chain : List ℕ) → Each (λ k. k ≤ fills) chain → IsIn s chain → s ≤ fills
 inside fills s [] h on = absurd on
-inside fills s (k ∷ chain) h on = elim on as (λ _. s ≤ fills) [ | inl same ↦ (let e : s ≡ k = same in let b : k ≤ fills = h.0 in omega (arith, e, b)) | inr later ↦ inside fills s chain h.1 later ]
+inside fills s (k ∷ chain) h on = elim on as (λ _. s ≤ fills) [ inl same ↦ (let e : s ≡ k = same in let b : k ≤ fills = h.0 in omega (arith, e, b)) | inr later ↦ inside fills s chain h.1 later ]
 
 below_or_same : (a b : ℕ) → a ≤ b → (a < b) ⊎ (a ≡ b)
 below_or_same a b h = grind arith
@@ -47,13 +43,13 @@ pub waits_outside : (old new : State) (at name : ℕ) (chain : List ℕ) (head :
 waits_outside old new at name chain head suits searched =
     let unknown = searched.says in
     let smaller : head.scope < fills_of old =
-        elim (below_or_same head.scope (fills_of old) (inside (fills_of old) head.scope chain suits.inner unknown.on)) as (λ _. head.scope < fills_of old) [
-          | inl below ↦ below
-          | inr same ↦ absurd (
-            let own : head.scope ≡ fills_of new = same ∙ ap (λ (f : Frame). f.setting.fills) (sym searched.keeps.frame) in
-            let open_yet : new.frame.closed ≡ false = (unknown.stops.own own).0 in
-            true≢false (sym suits.closed ∙ ap (λ (f : Frame). f.closed) (sym searched.keeps.frame) ∙ open_yet))
-        ] in
+    elim (below_or_same head.scope (fills_of old) (inside (fills_of old) head.scope chain suits.inner unknown.on)) as (λ _. head.scope < fills_of old) [
+      | inl below ↦ below
+      | inr same ↦ absurd (
+          let own : head.scope ≡ fills_of new = same ∙ ap (λ (f : Frame). f.setting.fills) (sym searched.keeps.frame) in
+          let open_yet : new.frame.closed ≡ false = (unknown.stops.own own).0 in
+          true≢false (sym suits.closed ∙ ap (λ (f : Frame). f.closed) (sym searched.keeps.frame) ∙ open_yet))
+    ] in
     record { smaller = smaller; incomplete = unknown.stops.incomplete; from = unknown.stops.loaded.from; upto = unknown.stops.loaded.upto }
 
 -- the last look is this search

@@ -1,7 +1,7 @@
 -- The code of a statement has at most 32 bytes.
-use Rattle.std.proofs.Common.{◌≡◌, ℕ, ◌+◌, ◌*◌, ◌<◌, ◌≤◌, List, [], ◌∷◌, ◌++◌, length, arith, refl, lit≤, ◌^◌, length-append}
+use Rattle.std.proofs.Common.{◌≡◌, ℕ, ◌*◌, ◌<◌, ◌≤◌, List, [], ◌∷◌, ◌++◌, length, arith, refl, lit≤, ◌^◌, length-append}
 use Rattle.std.specs.List.{flat_map}
-use Rattle.m2c_top.specs.Code.{operand_code, value_code, statement_code, body_code, arithmetic, global, load, store, return}
+use Rattle.m2c_top.specs.Code.{operand_code, value_code, statement_code, body_code, arithmetic, store, return}
 use Rattle.m2c_top.specs.declared.plain.tree.Operator.{Operator}
 use Rattle.m2c_top.specs.declared.plain.tree.Operator.TheVariants.{Plus, Minus, Times}
 use Rattle.m2c_top.specs.declared.plain.tree.Operand.{Operand}

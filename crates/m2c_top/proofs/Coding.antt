@@ -1,8 +1,8 @@
 -- Code that is written with the cells of the names that it uses.
-use Rattle.std.proofs.Common.{◌≡◌, ℕ, ◌+◌, ◌<◌, ◌≤◌, List, [], ◌∷◌, ◌++◌, map, length, take, drop, get_or, refl, sym, ◌∙◌, ap, subst, arith, append_assoc}
+use Rattle.std.proofs.Common.{◌≡◌, ℕ, ◌+◌, ◌<◌, ◌≤◌, List, [], ◌∷◌, ◌++◌, length, take, drop, get_or, refl, sym, ◌∙◌, ap, append_assoc}
 use Rattle.std.specs.List.{flat_map}
 use Rattle.std.proofs.lemmas.Grind.{flat_map-append}
-use Rattle.std.proofs.lemmas.List.{append-nil, drop_more, drop_all, take_all, take_more, map-append}
+use Rattle.std.proofs.lemmas.List.{append-nil, drop_more, take_all, take_more, map-append}
 use Rattle.m2c_top.specs.Code.{cell_of, cells_of, statement_code, Writes}
 use Rattle.m2c_top.specs.Uses.{statement_uses, body_uses}
 use Rattle.m2c_top.specs.declared.plain.tree.Ident.{Ident}
@@ -52,12 +52,11 @@ coded_more cells left next body count d code more within coded writes variables 
     let split : left ≡ cells_of variables (statement_uses s) ++ cells_of variables (body_uses (drop (count + 1) body)) =
     before.1 ∙ ap (λ b. cells_of variables (body_uses b)) (drop_more body count d within)
     ∙ map-append (λ (i : Ident). cell_of variables i.name) (statement_uses s) (body_uses (drop (count + 1) body)) in
-    let after = writes variables (cells_of variables (body_uses (drop (count + 1) body))) split in
-    (
+    let after = writes variables (cells_of variables (body_uses (drop (count + 1) body))) split in (
       after.0 ∙ ap (λ c. c ++ statement_code variables s) before.0
-      ∙ ap (λ c. code_of variables (take count body) ++ c) (sym (append-nil (statement_code variables s)))
-      ∙ sym (flat_map-append (λ statement. statement_code variables statement) (take count body) (s ∷ []))
-      ∙ ap (code_of variables) (sym (take_more body count d within)),
+          ∙ ap (λ c. code_of variables (take count body) ++ c) (sym (append-nil (statement_code variables s)))
+          ∙ sym (flat_map-append (λ statement. statement_code variables statement) (take count body) (s ∷ []))
+          ∙ ap (code_of variables) (sym (take_more body count d within)),
       after.1,
     )
 

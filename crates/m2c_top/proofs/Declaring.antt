@@ -1,11 +1,11 @@
 -- What holds of the rows that variables declare.
-use Rattle.std.proofs.Common.{◌≡◌, ◌≢◌, ◌⊎◌, inl, inr, ℕ, ◌+◌, ◌<◌, ◌≤◌, ◌==◌, ◌||◌, ◌^◌, Bool, true, false, List, [], ◌∷◌, ◌++◌, Option, Some, None, map, length, refl, sym, ◌∙◌, ap, subst, arith, suc, zero, lit<, if◌then◌else◌, is_some}
+use Rattle.std.proofs.Common.{◌≡◌, ◌≢◌, ◌⊎◌, inl, inr, ℕ, ◌+◌, ◌<◌, ◌==◌, ◌||◌, ◌^◌, Bool, true, false, List, [], ◌∷◌, ◌++◌, Option, Some, None, map, length, refl, sym, ◌∙◌, ap, subst, arith, suc, zero, if◌then◌else◌, is_some}
 use Rattle.std.specs.List.{slice_get, list_any, list_all}
-use Rattle.std.proofs.lemmas.Bool.{false≢true, true≢false, eqb-true, eqb-false, eq-eqb, ne_eqb, cases_eq, or_parts, and_parts}
+use Rattle.std.proofs.lemmas.Bool.{false≢true, eqb-false, eq-eqb, ne_eqb, cases_eq, or_parts, and_parts}
 use Rattle.std.proofs.lemmas.List.Folds.{list_any-append}
 use Rattle.m2_base.specs.Finished.{name_after, variable_rows as finished_variables}
 use Rattle.m2_base.specs.Lists.{Each, HasNoRepeats}
-use Rattle.m2_base.specs.Rows.{at_place, IsWellFormed, row_of, row_meaning}
+use Rattle.m2_base.specs.Rows.{at_place, IsWellFormed, row_of}
 use Rattle.m2_base.specs.Standard.{is_standard, integer, standard_rows}
 use Rattle.m2_base.specs.Tables.{first_named}
 use Rattle.m2_base.specs.declared.rows.Mode.TheVariants.{Plain}
@@ -224,6 +224,7 @@ binds before cell (v ∷ variables) name named new_name new =
     of : (fault : Option ℕ) → fault_of before v.name ≡ fault → Binds name cell (v.name ∷ names_of variables) (first_named name (row_for fault v cell ∷ rows_later before cell v variables fault) cell)
         → Binds name cell (v.name ∷ names_of variables) (first_named name (row_for (fault_of before v.name) v cell ∷ rows_later before cell v variables (fault_of before v.name)) cell)
     of fault e b = subst (λ f. Binds name cell (v.name ∷ names_of variables) (first_named name (row_for f v cell ∷ rows_later before cell v variables f) cell)) (sym e) b
+
     go : (name ≡ v.name) ⊎ (name ≡ v.name → ⊥) → ((name ≡ v.name → ⊥) → Binds name (cell + 1) (names_of variables) (first_named name (rows_later before cell v variables (fault_of before v.name)) (cell + 1)))
         → Binds name cell (v.name ∷ names_of variables) (first_named name (row_for (fault_of before v.name) v cell ∷ rows_later before cell v variables (fault_of before v.name)) cell)
     go (inl same) later =

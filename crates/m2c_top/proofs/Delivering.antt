@@ -1,12 +1,11 @@
 -- What delivering a plain module leaves, as the outcome of compiling it.
-use Rattle.std.proofs.Common.{◌≡◌, ◌≢◌, ◌==◌, false, length, ◌⊎◌, inl, inr, ℕ, List, [], Option, Some, refl, sym, ◌∙◌, ap, subst, Result, Ok, Err, IfOk, IfSome, OnErr}
-use Rattle.std.specs.Prelude.{IsErrOf}
+use Rattle.std.proofs.Common.{◌≡◌, ◌≢◌, ◌==◌, false, length, inl, inr, ℕ, List, [], Option, Some, refl, sym, ◌∙◌, ap, subst, Result, Ok, Err, IfOk, IfSome, OnErr}
 use Rattle.std.specs.FinMap.{insert}
 use Rattle.std.proofs.lemmas.Bool.{false≢true}
 use Rattle.m2_base.specs.declared.notes.Diag.{Diag}
-use Rattle.m2_io.specs.Files.{Files, with_file, HasPart}
-use Rattle.m2_io.specs.Written.{with_bytes, WritesPart}
-use Rattle.m2c_top.specs.Delivery.{Delivered, PutsAll, ListsAll, PrintsListing, PutsObject}
+use Rattle.m2_io.specs.Files.{Files, with_file}
+use Rattle.m2_io.specs.Written.{WritesPart}
+use Rattle.m2c_top.specs.Delivery.{Delivered, PrintsListing, PutsObject}
 use Rattle.m2c_top.specs.Diagnostics.{diags_of}
 use Rattle.m2c_top.specs.Listing.{listing}
 use Rattle.m2c_top.specs.Object.{object_bytes}

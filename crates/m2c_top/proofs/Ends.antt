@@ -1,14 +1,14 @@
 -- What the end of the work says of the status.
-use Rattle.std.proofs.Common.{◌≡◌, ◌⊎◌, inl, inr, ℕ, List, [], ◌∷◌, Option, Some, None, Result, Ok, Err, refl, sym, ◌∙◌, ap, subst, arith, IfSome, IfOk, OnErr}
+use Rattle.std.proofs.Common.{◌≡◌, ◌⊎◌, inl, inr, ℕ, List, Option, Some, None, Result, Ok, Err, refl, ap, subst, arith, IfSome, IfOk, OnErr}
 use Rattle.std.specs.Prelude.{IsErrOf}
 use Rattle.m2_io.specs.Files.{Files}
-use Rattle.m2c_top.specs.Command.{Command, compile, Asks, IsNoCommand}
+use Rattle.m2c_top.specs.Command.{IsNoCommand}
 use Rattle.m2c_top.specs.Ending.{ended_as}
-use Rattle.m2c_top.specs.Outcome.{Outcome, Gives, AsksToCompile, Commands, LacksText, HasSoundText, HasFaultyText, HasOtherText, Leaves, PrintsPart}
+use Rattle.m2c_top.specs.Outcome.{Gives, AsksToCompile, Commands, LacksText, HasSoundText, HasFaultyText, HasOtherText, Leaves}
 use Rattle.m2c_top.specs.Statuses.{status_number, IsFault, IsStatus, IsAnswer, Exactly}
 use Rattle.m2c_top.specs.Trees.{Parsed}
 use Rattle.m2c_top.specs.declared.status.Status.{Status}
-use Rattle.m2c_top.specs.declared.status.Status.TheVariants.{Done, Diagnosed, NoCommand, NoText, ReadFault, WriteFault, NoMemory, NotBuilt}
+use Rattle.m2c_top.specs.declared.status.Status.TheVariants.{Done, NoCommand}
 use Rattle.m2c_top.specs.declared.top.Stop.{Stop}
 use Rattle.m2c_top.specs.declared.top.Stop.TheVariants as stop
 use Rattle.m2c_top.proofs.Table.{table_lacks, table_sound, table_faulty, table_other, map_told, asks_none}

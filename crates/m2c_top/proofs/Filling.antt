@@ -1,5 +1,5 @@
 -- The scopes of a plain module are filled with its rows.
-use Rattle.std.proofs.Common.{◌≡◌, ◌≢◌, ℕ, ◌+◌, ◌<◌, ◌≤◌, ◌^◌, true, false, List, [], ◌∷◌, ◌++◌, Some, map, length, refl, sym, ◌∙◌, ap, subst, arith}
+use Rattle.std.proofs.Common.{◌≡◌, ◌≢◌, ℕ, ◌+◌, ◌<◌, ◌≤◌, ◌^◌, true, false, List, [], ◌∷◌, Some, map, length, refl, sym, ◌∙◌, ap, subst, arith}
 use Rattle.std.specs.List.{slice_get}
 use Rattle.std.proofs.lemmas.List.{length-map}
 use Rattle.m2_base.specs.Finished.{IsTold, finished, told, variable_rows as finished_variables}
@@ -12,7 +12,7 @@ use Rattle.m2_base.specs.States.{State, Waits}
 use Rattle.m2_base.specs.declared.replies.Head.{Head}
 use Rattle.std.proofs.lemmas.Bool.{true≢false}
 use Rattle.m2_base.specs.Tables.{rows_at}
-use Rattle.m2_base.specs.Units.{UnitTexts, TextOf, IsUnit, IsNamed, IsText, HasValue}
+use Rattle.m2_base.specs.Units.{UnitTexts, TextOf, IsNamed, IsText, HasValue}
 use Rattle.m2_base.specs.declared.rows.Row.{Row}
 use Rattle.m2_base.specs.declared.token.Token.{Token}
 use Rattle.m2_base.proofs.Kept.{IsPrefixOf-refl, Each-map}

@@ -1,6 +1,5 @@
 -- What is read at the front of a list of symbols.
-use Rattle.std.proofs.Common.{◌≡◌, List, [], ◌∷◌, ◌++◌, Option, Some, None, refl, sym, ◌∙◌, ap, subst, append_assoc}
-use Rattle.std.specs.Prelude.{option_map}
+use Rattle.std.proofs.Common.{◌≡◌, List, [], ◌++◌, Option, Some, None, refl, sym, ap, append_assoc}
 use Rattle.m2c_top.specs.declared.plain.symbol.Symbol.{Symbol}
 use Rattle.m2c_top.specs.Reading.{with_front, ◌>>=◌}
 

@@ -1,13 +1,13 @@
 -- What holds of each name among the symbols of a plain module holds of the names of its tree.
-use Rattle.std.proofs.Common.{◌≡◌, ℕ, ◌&&◌, not, Bool, true, false, List, [], ◌∷◌, ◌++◌, refl, sym, ◌∙◌, ap, subst}
+use Rattle.std.proofs.Common.{◌≡◌, ◌&&◌, not, Bool, true, false, List, [], ◌∷◌, ◌++◌, refl, sym, subst}
 use Rattle.std.specs.List.{flat_map, list_all}
-use Rattle.std.proofs.lemmas.Bool.{and_parts, not-true}
+use Rattle.std.proofs.lemmas.Bool.{and_parts}
 use Rattle.m2_base.specs.Lists.{Each}
 use Rattle.m2_base.specs.Standard.{is_standard}
 use Rattle.m2_base.proofs.Kept.{Each-append}
 use Rattle.m2c_top.specs.Grammar as grammar
 use Rattle.m2c_top.specs.Grammar.{Group, group_symbols, group_variables, section_symbols, section_variables, operand_symbol, value_symbols, statement_symbols, other_statement, body_symbols, Spells}
-use Rattle.m2c_top.specs.Sound.{is_sound, is_sound_operand, is_sound_value, is_sound_statement, is_literal}
+use Rattle.m2c_top.specs.Sound.{is_sound_operand, is_sound_value, is_sound_statement, is_literal}
 use Rattle.m2c_top.specs.Trees.{PlainModule}
 use Rattle.m2c_top.specs.Uses.{operand_uses, value_uses, statement_uses, body_uses}
 use Rattle.m2c_top.specs.declared.plain.tree.Ident.{Ident}

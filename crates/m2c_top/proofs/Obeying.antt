@@ -1,5 +1,5 @@
 -- What doing the words' command leaves.
-use Rattle.std.proofs.Common.{◌≡◌, ◌⊎◌, inl, inr, ℕ, List, Option, Some, None, Result, Ok, Err, refl, sym, ◌∙◌, ap, subst, IfSome, IfOk, OnOk, OnErr}
+use Rattle.std.proofs.Common.{◌≡◌, ◌⊎◌, inl, inr, ℕ, List, Option, Result, Ok, Err, sym, ◌∙◌, subst, IfSome, IfOk, OnOk, OnErr}
 use Rattle.std.specs.Prelude.{IsErrOf, codes}
 use Rattle.m2_io.specs.Files.{Files}
 use Rattle.m2_io.specs.Written.{with_bytes, WritesPart}
@@ -7,7 +7,7 @@ use Rattle.m2c_top.specs.Command.{compile, Asks, IsNoCommand}
 use Rattle.m2c_top.specs.Outcome.{Gives, Compiles, AsksToCompile, Leaves, PrintsPart, PutsPart, KeepsButObject, line}
 use Rattle.m2c_top.specs.Statuses.{status_number, IsAnswer}
 use Rattle.m2c_top.specs.declared.status.Status.{Status}
-use Rattle.m2c_top.specs.declared.status.Status.TheVariants.{Done, NoCommand}
+use Rattle.m2c_top.specs.declared.status.Status.TheVariants.{NoCommand}
 use Rattle.m2c_top.specs.declared.top.Stop.{Stop}
 use Rattle.m2c_top.proofs.Ends.{IsWellEnded}
 use Rattle.m2c_top.proofs.Outcomes.{told}

@@ -1,13 +1,12 @@
 -- The words have one outcome.
-use Rattle.std.proofs.Common.{◌≡◌, ℕ, List, [], ◌∷◌, ◌++◌, Option, Some, refl, sym, ◌∙◌, ap, subst}
-use Rattle.std.specs.Prelude.{codes}
+use Rattle.std.proofs.Common.{◌≡◌, ℕ, List, [], refl, sym, ◌∙◌, ap, subst}
 use Rattle.std.specs.FinMap.{insert}
 use Rattle.m2_io.specs.Files.{Files}
 use Rattle.m2c_top.specs.Command.{compile, Asks, IsNoCommand}
 use Rattle.m2c_top.specs.Diagnostics.{diags_of}
 use Rattle.m2c_top.specs.Listing.{listing}
 use Rattle.m2c_top.specs.Object.{object_bytes}
-use Rattle.m2c_top.specs.Outcome.{Outcome, Gives, no_command, compiles, Compiles, compiled, diagnosed, no_text, not_built, HasPlainText, HasSoundText, HasFaultyText, text_name, object_name}
+use Rattle.m2c_top.specs.Outcome.{Outcome, Gives, no_command, compiles, Compiles, compiled, diagnosed, no_text, not_built, HasSoundText, HasFaultyText, text_name, object_name}
 use Rattle.m2c_top.specs.Trees.{Parsed}
 use Rattle.m2c_top.specs.declared.status.Status.TheVariants.{Done, Diagnosed}
 use Rattle.m2c_top.proofs.OnePlain.{one_plain}

@@ -1,15 +1,14 @@
 -- A text is that of one plain module.
-use Rattle.std.proofs.Common.{◌≡◌, ℕ, List, Option, Some, sym, ◌∙◌, ap, subst, map}
+use Rattle.std.proofs.Common.{◌≡◌, ℕ, List, Some, sym, ◌∙◌, ap, subst, map}
 use Rattle.std.specs.FinMap.{get}
 use Rattle.m2_base.specs.Names.{standard_names}
-use Rattle.m2_base.specs.declared.token.Token.{Token}
 use Rattle.m2_base.proofs.OneList.{one_list_of_tokens}
 use Rattle.m2_io.specs.Files.{Files}
 use Rattle.m2c_top.specs.Outcome.{HasPlainText, text_name}
 use Rattle.m2c_top.specs.Plain.{IsPlain}
 use Rattle.m2c_top.specs.Reading.{module_at}
 use Rattle.m2c_top.specs.Symbols.{symbol_of}
-use Rattle.m2c_top.specs.Trees.{PlainModule, Parsed}
+use Rattle.m2c_top.specs.Trees.{Parsed}
 use Rattle.m2c_top.proofs.Fronts.{some_is}
 use Rattle.m2c_top.proofs.Outcomes.{some_same}
 use Rattle.m2c_top.proofs.SpelledRead.{spelled_read}

@@ -1,16 +1,15 @@
 -- What each exit of compiling leaves.
-use Rattle.std.proofs.Common.{◌≡◌, ◌⊎◌, inl, inr, ℕ, ◌+◌, ◌*◌, ◌<◌, ◌≤◌, Bool, true, false, not, ◌&&◌, ◌||◌, arith, List, [], ◌∷◌, ◌++◌, Option, Some, None, Result, Ok, Err, take, length, refl, sym, ◌∙◌, ap, subst, append_assoc, min, IfSome, OnErr, length-append}
-use Rattle.std.specs.Prelude.{option_map, codes, nat_le, is_some, MatchOption, IsErrOf}
+use Rattle.std.proofs.Common.{◌≡◌, ℕ, ◌+◌, ◌<◌, ◌≤◌, true, not, ◌&&◌, ◌||◌, arith, List, [], ◌∷◌, ◌++◌, Option, Some, None, Result, Ok, Err, take, length, refl, sym, ◌∙◌, ap, subst, append_assoc, min, IfSome, OnErr}
+use Rattle.std.specs.Prelude.{option_map, codes, nat_le, is_some, IsErrOf}
 use Rattle.std.specs.Str.{bytes_eq}
-use Rattle.std.specs.FinMap.{get, insert}
+use Rattle.std.specs.FinMap.{get}
 use Rattle.std.proofs.lemmas.List.{append-nil, length-take, take_all}
 use Rattle.std.proofs.lemmas.Bool.{and_parts, leb-true}
 use Rattle.m2_base.specs.Kinds.{kind_in, reserved_words}
-use Rattle.m2_io.specs.Files.{Files, front_of, with_file, HasPart}
+use Rattle.m2_io.specs.Files.{Files, front_of}
 use Rattle.m2_io.specs.Written.{with_bytes, WritesPart}
 use Rattle.m2c_top.specs.Command.{is_name, is_identifier}
-use Rattle.m2c_top.specs.Object.{object_bytes}
-use Rattle.m2c_top.specs.Outcome.{Outcome, Compiles, no_text, compiled, diagnosed, not_built, LacksText, HasPlainText, HasSoundText, HasFaultyText, HasOtherText, text_name, object_name, line, Leaves, PrintsPart, PutsPart, KeepsButObject, IsObjectOf}
+use Rattle.m2c_top.specs.Outcome.{Outcome, Compiles, no_text, compiled, diagnosed, not_built, LacksText, HasPlainText, HasOtherText, text_name, line, Leaves, PrintsPart}
 use Rattle.m2c_top.specs.Plain.{IsPlain}
 use Rattle.m2c_top.specs.Trees.{Parsed}
 
@@ -125,4 +124,3 @@ module _ (holds : Option Files) (given : Files → Outcome → Type 0) (old new 
 
   pub leaves_told : (status : ℕ) (after : Option Files) → ((files : Files) → holds ≡ Some files → Leaves (given files) status after old new) → IfSome holds (λ files. Leaves (given files) status after old new)
   leaves_told status after h = told holds h
-

@@ -1,9 +1,9 @@
 -- When a text is that of a plain module.
-use Rattle.std.proofs.Common.{◌≡◌, ℕ, ◌+◌, ◌<◌, ◌≤◌, Bool, true, false, ◌&&◌, List, [], ◌∷◌, ◌++◌, Option, Some, None, length, map, refl, sym, ◌∙◌, ap, subst, arith}
-use Rattle.std.specs.Prelude.{option_map, Result, Ok, Err, IfOk, IfSome, IfNone, MatchOption}
+use Rattle.std.proofs.Common.{◌≡◌, ℕ, ◌<◌, ◌≤◌, Bool, true, false, ◌&&◌, List, [], ◌∷◌, Option, Some, None, length, map, refl, sym, ◌∙◌, ap, subst, arith}
+use Rattle.std.specs.Prelude.{option_map}
 use Rattle.std.specs.List.{AllZip}
 use Rattle.m2_base.specs.Names.{standard_names}
-use Rattle.m2_base.specs.Tokens.{AreTokens, IsToken, Placed, placed}
+use Rattle.m2_base.specs.Tokens.{AreTokens, IsToken, placed}
 use Rattle.m2_base.specs.declared.token.Token.{Token}
 use Rattle.m2_base.proofs.OneReading.{one_list_of_lexemes}
 use Rattle.m2_base.proofs.OneList.{one_list_of_names, one_list_of_tokens}

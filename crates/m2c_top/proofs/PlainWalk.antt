@@ -1,5 +1,5 @@
 -- Tokens that spell a plain module are told as one, and declare its variables.
-use Rattle.std.proofs.Common.{◌≡◌, ℕ, ◌==◌, Bool, true, false, List, [], ◌∷◌, ◌++◌, map, refl, sym, ◌∙◌, ap, subst, append_assoc, if◌then◌else◌}
+use Rattle.std.proofs.Common.{◌≡◌, ℕ, Bool, true, false, List, [], ◌∷◌, ◌++◌, map, refl, sym, ◌∙◌, ap, subst, append_assoc, if◌then◌else◌}
 use Rattle.std.specs.List.{flat_map}
 use Rattle.std.proofs.lemmas.List.{append-nil}
 use Rattle.std.proofs.lemmas.Bool.{false≢true}
@@ -153,7 +153,7 @@ tokens_take next (t ∷ tokens) known =
   where
     go : (b : Bool) → declares next t.kind ≡ b → map ident_of (variables_from (after_token next t) tokens) ≡ takes (after_token next (token_for (symbol_of t))) (map symbol_of tokens)
         → map ident_of (if b then t ∷ variables_from (after_token next t) tokens else variables_from (after_token next t) tokens)
-            ≡ takes_if b (ident_for (symbol_of t)) ++ takes (after_token next (token_for (symbol_of t))) (map symbol_of tokens)
+        ≡ takes_if b (ident_for (symbol_of t)) ++ takes (after_token next (token_for (symbol_of t))) (map symbol_of tokens)
     go true e rest = ap (λ is. ident_of t ∷ is) rest ∙ ap (λ i. i ∷ takes (after_token next (token_for (symbol_of t))) (map symbol_of tokens)) (same_ident t (declared_kind next t.kind e))
     go false e rest = rest
 

@@ -5,9 +5,7 @@ use Rattle.std.specs.List.{flat_map}
 use Rattle.std.proofs.lemmas.List.{append-nil}
 use Rattle.std.proofs.lemmas.Bool.Decides.{Decides-eqb}
 use Rattle.m2c_top.specs.declared.plain.tree.Ident.{Ident}
-use Rattle.m2c_top.specs.declared.plain.tree.Operand.{Operand}
 use Rattle.m2c_top.specs.declared.plain.tree.Operand.TheVariants.{Literal, Variable}
-use Rattle.m2c_top.specs.declared.plain.tree.Operator.{Operator}
 use Rattle.m2c_top.specs.declared.plain.tree.Value.TheVariants.{Single, Pair}
 use Rattle.m2c_top.specs.declared.plain.tree.Statement.{Statement}
 use Rattle.m2c_top.specs.declared.plain.tree.Statement.TheVariants.{Empty, Assign}
@@ -15,8 +13,6 @@ use Rattle.m2c_top.specs.declared.plain.symbol.Symbol.{Symbol}
 use Rattle.m2c_top.specs.declared.plain.symbol.Symbol.TheVariants as symbol
 use Rattle.m2c_top.specs.declared.plain.reader.Declaring.{Declaring}
 use Rattle.m2c_top.specs.declared.plain.reader.Declaring.TheVariants.{Outside, Inside, AfterName, AfterComma, AfterColon, AfterType}
-use Rattle.m2c_top.specs.declared.plain.reader.Declared.{Declared}
-use Rattle.m2c_top.specs.declared.plain.reader.Declared.TheVariants as declared
 use Rattle.m2c_top.specs.declared.plain.reader.Writing.{Writing}
 use Rattle.m2c_top.specs.declared.plain.reader.Writing.TheVariants.{Start, AfterTarget, AfterBecomes, AfterOperand, AfterOperator, Whole}
 use Rattle.m2c_top.specs.Trees.{PlainModule}

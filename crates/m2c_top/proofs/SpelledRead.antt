@@ -1,6 +1,5 @@
 -- What the grammar spells is read.
-use Rattle.std.proofs.Common.{◌≡◌, ℕ, List, [], ◌∷◌, ◌++◌, Option, Some, None, refl, sym, ◌∙◌, ap, append_assoc}
-use Rattle.std.specs.Prelude.{option_map}
+use Rattle.std.proofs.Common.{◌≡◌, ℕ, List, [], ◌∷◌, ◌++◌, Option, Some, refl, sym, ◌∙◌, ap, append_assoc}
 use Rattle.std.specs.List.{flat_map}
 use Rattle.std.proofs.lemmas.List.{append-nil}
 use Rattle.m2c_top.specs.declared.plain.tree.Ident.{Ident}
@@ -14,7 +13,7 @@ use Rattle.m2c_top.specs.declared.plain.reader.Declaring.TheVariants.{Outside, I
 use Rattle.m2c_top.specs.declared.plain.reader.Writing.TheVariants.{Start}
 use Rattle.m2c_top.specs.Trees.{PlainModule}
 use Rattle.m2c_top.specs.Grammar.{Group, integer_name, other_name, group_symbols, group_variables, section_symbols, section_variables, statement_symbols, other_statement, body_symbols, Spells}
-use Rattle.m2c_top.specs.Reading.{variables_at, statements_at, body_at, ending_at, module_at, with_front, ◌>>=◌}
+use Rattle.m2c_top.specs.Reading.{variables_at, statements_at, body_at, module_at, with_front, ◌>>=◌}
 use Rattle.m2c_top.proofs.Fronts.{taken, with_front-nil, with_front-append}
 
 -- the names behind a comma, the type and the semicolon

@@ -1,16 +1,13 @@
 -- The table of statuses, from the outcomes.
-use Rattle.std.proofs.Common.{◌≡◌, ◌⊎◌, inl, inr, ℕ, List, [], ◌∷◌, Option, Some, None, refl, sym, ◌∙◌, ap, subst, arith, IfSome}
+use Rattle.std.proofs.Common.{◌≡◌, inl, ℕ, List, [], ◌∷◌, Option, Some, None, refl, sym, ◌∙◌, ap, subst, arith, IfSome}
 use Rattle.std.specs.Prelude.{codes}
-use Rattle.std.specs.FinMap.{get}
 use Rattle.m2_io.specs.Files.{Files}
 use Rattle.m2_io.specs.Written.{WritesPart, with_bytes}
 use Rattle.m2c_top.specs.Command.{Command, compile, Asks, IsNoCommand}
-use Rattle.m2c_top.specs.Plain.{IsPlain}
 use Rattle.m2c_top.specs.Trees.{Parsed}
-use Rattle.m2c_top.specs.Outcome.{Outcome, Gives, no_command, compiles, Compiles, no_text, compiled, diagnosed, not_built, AsksToCompile, LacksText, HasPlainText, HasSoundText, HasFaultyText, HasOtherText, text_name, line, Leaves, PrintsPart}
-use Rattle.m2c_top.specs.Statuses.{status_number, IsFault, IsStatus, IsAnswer, Exactly}
-use Rattle.m2c_top.specs.declared.status.Status.{Status}
-use Rattle.m2c_top.specs.declared.status.Status.TheVariants.{Done, Diagnosed, NoCommand, NoText, ReadFault, WriteFault, NoMemory, NotBuilt}
+use Rattle.m2c_top.specs.Outcome.{Outcome, Gives, no_command, compiles, Compiles, no_text, compiled, diagnosed, not_built, AsksToCompile, LacksText, HasPlainText, HasSoundText, HasFaultyText, HasOtherText, line, Leaves, PrintsPart}
+use Rattle.m2c_top.specs.Statuses.{status_number, Exactly}
+use Rattle.m2c_top.specs.declared.status.Status.TheVariants.{NoCommand}
 use Rattle.m2c_top.specs.Diagnostics.{diags_of}
 use Rattle.m2c_top.proofs.OnePlain.{one_plain}
 use Rattle.m2c_top.proofs.Outcomes.{lacks_has, plain_other}

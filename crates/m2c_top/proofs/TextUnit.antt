@@ -1,9 +1,9 @@
 -- The tokens of a text make up a unit.
-use Rattle.std.proofs.Common.{◌≡◌, ◌≢◌, ℕ, ◌+◌, ◌<◌, ◌≤◌, ◌^◌, Bool, true, false, not, nat_le, cond, min, List, [], ◌∷◌, ◌++◌, Option, Some, None, map, length, get_or, refl, sym, ◌∙◌, ap, subst, arith, if◌then◌else◌, length-append, suc}
-use Rattle.std.specs.Prelude.{option_map, find, IsTrue, take, codes, is_some}
-use Rattle.std.specs.List.{AllZip, list_all, take_while, prefix_len, slice_get}
+use Rattle.std.proofs.Common.{◌≡◌, ◌≢◌, ℕ, ◌+◌, ◌<◌, ◌≤◌, ◌^◌, Bool, true, false, nat_le, cond, min, List, [], ◌∷◌, ◌++◌, Option, Some, None, map, length, get_or, refl, sym, ◌∙◌, ap, subst, arith, if◌then◌else◌, length-append, suc}
+use Rattle.std.specs.Prelude.{option_map, find, IsTrue, codes, is_some}
+use Rattle.std.specs.List.{AllZip, list_all, take_while, prefix_len}
 use Rattle.std.specs.Str.{bytes_eq}
-use Rattle.std.proofs.lemmas.Bool.{true≢false, false≢true, and_parts, leb-true}
+use Rattle.std.proofs.lemmas.Bool.{false≢true, and_parts, leb-true}
 use Rattle.std.proofs.lemmas.List.{length-take}
 use Rattle.std.proofs.lemmas.Option.{get_or_from_slice_get}
 use Rattle.m2_base.specs.Comments.{opens_comment, behind_comment}
@@ -11,12 +11,12 @@ use Rattle.m2_base.specs.Kinds.{kind_in, reserved_words, symbols}
 use Rattle.m2_base.specs.Letters.{is_blank, is_letter, is_digit, is_octal_digit, is_hexadecimal_digit, is_quote, stays_in}
 use Rattle.m2_base.specs.Lexemes.{is_lexeme, AreLexemes}
 use Rattle.m2_base.specs.Lists.{Each, IsPrefixOf}
-use Rattle.m2_base.specs.Meanings.{Meaning, blank, name, number, character, string, fixed, bad, meaning_of, fixed_or, number_of, character_of, value_in, numeral_meaning, string_meaning, comment_meaning, is_blank_lexeme}
+use Rattle.m2_base.specs.Meanings.{Meaning, blank, name, number, character, string, fixed, bad, meaning_of, fixed_or, number_of, character_of, value_in, numeral_meaning, string_meaning, is_blank_lexeme}
 use Rattle.m2_base.specs.Names.{standard_names, number_in}
 use Rattle.m2_base.specs.Positions.{Position, first_position, after_bytes}
 use Rattle.m2_base.specs.Runs.{is_run_and}
-use Rattle.m2_base.specs.Tokens.{AreTokens, IsToken, Means, Placed, placed_from, names_in}
-use Rattle.m2_base.specs.Units.{TextOf, UnitTexts, IsUnit, IsText, IsNamed, IsNumbered, IsIdentifier, HasValue, IsInner, AreNumbered}
+use Rattle.m2_base.specs.Tokens.{AreTokens, IsToken, Means, placed_from, names_in}
+use Rattle.m2_base.specs.Units.{UnitTexts, IsUnit, IsNamed, IsNumbered, IsIdentifier, HasValue, IsInner, AreNumbered}
 use Rattle.m2_base.specs.declared.kind.TokenKind.{TokenKind}
 use Rattle.m2_base.specs.declared.kind.TokenKind.TheVariants as kind
 use Rattle.m2_base.specs.declared.token.Token.{Token}
@@ -156,11 +156,13 @@ token_well : (names : List (List ℕ)) (lexeme : List ℕ) (m : Meaning) (t : To
 token_well names lexeme blank t e one short w means = absurd means
 token_well names lexeme (name text) t e one short w means =
     let spelled : IsIdentifier text = record { one = subst (λ l. IsTrue (is_lexeme l)) (sym w) one; spells = ap meaning_of w ∙ e } in
-    valued names t kind.Identifier means.0
-    (tt, record {
-      numbered = numbered_at names text t.value means.1 (subst (λ l. length l ≤ 1048576) (sym w) short);
-      spelled = subst IsIdentifier (sym (text_at names text t.value means.1)) spelled;
-    })
+    valued names t kind.Identifier means.0 (
+      tt,
+      record {
+        numbered = numbered_at names text t.value means.1 (subst (λ l. length l ≤ 1048576) (sym w) short);
+        spelled = subst IsIdentifier (sym (text_at names text t.value means.1)) spelled;
+      },
+    )
 token_well names lexeme (number value) t e one short w means = valued names t kind.Number means.0 (tt, subst (λ v. v ≤ 4294967295) (sym means.1) w)
 token_well names lexeme (character value) t e one short w means = valued names t kind.Character means.0 (tt, subst (λ v. v ≤ 255) (sym means.1) w)
 token_well names lexeme (string bytes) t e one short w means = valued names t kind.«String» means.0 (tt, numbered_at names bytes t.value means.1 (omega (arith, w, short)))

@@ -1,5 +1,5 @@
 -- The bytes of an object.
-use Rattle.std.specs.Prelude.{ℕ, List, [], ◌∷◌, ◌++◌, length, codes}
+use Rattle.std.specs.Prelude.{ℕ, List, [], ◌++◌, length, codes}
 use Rattle.m2c_top.specs.Code.{number, body_code, body_high}
 use Rattle.m2c_top.specs.Sound.{names_of}
 use Rattle.m2c_top.specs.Trees.{PlainModule}

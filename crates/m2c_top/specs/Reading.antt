@@ -1,10 +1,9 @@
 -- The reader of plain modules: what each symbol does to it, and what it reads from a list of symbols.
-use Rattle.std.specs.Prelude.{◌≡◌, ℕ, Bool, ◌==◌, if◌then◌else◌, List, [], ◌∷◌, ◌++◌, Option, Some, None, option_map}
+use Rattle.std.specs.Prelude.{Bool, ◌==◌, if◌then◌else◌, List, [], ◌∷◌, ◌++◌, Option, Some, None, option_map}
 use Rattle.m2c_top.specs.Trees.{PlainModule}
 use Rattle.m2c_top.specs.declared.plain.tree.Ident.{Ident}
 use Rattle.m2c_top.specs.declared.plain.tree.Operand.{Operand}
 use Rattle.m2c_top.specs.declared.plain.tree.Operand.TheVariants.{Literal, Variable}
-use Rattle.m2c_top.specs.declared.plain.tree.Operator.{Operator}
 use Rattle.m2c_top.specs.declared.plain.tree.Value.TheVariants.{Single, Pair}
 use Rattle.m2c_top.specs.declared.plain.tree.Statement.{Statement}
 use Rattle.m2c_top.specs.declared.plain.tree.Statement.TheVariants.{Empty, Assign}

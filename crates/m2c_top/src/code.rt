@@ -68,11 +68,7 @@ fn push_statement<'c>(
     }
 }
 
-fn push_value<'c>(
-    code: &mut Vec<u8>,
-    cells: &'c [u32],
-    value: Value,
-) -> Result<&'c [u32], Memory>
+fn push_value<'c>(code: &mut Vec<u8>, cells: &'c [u32], value: Value) -> Result<&'c [u32], Memory>
     ensures { IfOk result (λ left. Writes (value_uses value) (λ variables. value_code variables value) cells.now left.now code.old.items code.new.items) }
 {
     match value {

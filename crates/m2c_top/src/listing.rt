@@ -47,12 +47,7 @@ fn token_at(tokens: &[Token], at: u32) -> Option<Token>
 }
 
 /// FILE:LINE:COLUMN and a colon.
-fn push_place(
-    alloc: Global,
-    listing: &mut Vec<u8>,
-    file: &str,
-    token: Token,
-) -> Result<(), Memory>
+fn push_place(alloc: Global, listing: &mut Vec<u8>, file: &str, token: Token) -> Result<(), Memory>
     ensures { OnOk result (listing.new.items ≡ listing.old.items ++ place_text file.now token.line token.column) }
 {
     listing.extend_from_slice(file.as_bytes())?;

@@ -56,7 +56,11 @@ fn row_for(fault: Option<u8>, variable: Ident, cell: u32) -> Row
     ensures { result ≡ spec_row fault variable cell }
 {
     let name = row_name(fault, variable.name as u32);
-    write_row(name, variable.at, RowMeaning::Var(INTEGER, Mode::Plain, cell))
+    write_row(
+        name,
+        variable.at,
+        RowMeaning::Var(INTEGER, Mode::Plain, cell),
+    )
 }
 
 /// A name that is wrong isn't the row's.

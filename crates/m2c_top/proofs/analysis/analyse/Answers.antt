@@ -1,4 +1,4 @@
-use Rattle.std.proofs.Common.{◌≡◌, ◌<◌, ◌^◌, ◌∙◌, ◌++◌, ◌∷◌, [], ap, sym, subst, arith, length, List}
+use Rattle.std.proofs.Common.{◌≡◌, ◌<◌, ◌^◌, ◌∙◌, ◌++◌, [], ap, sym, subst, arith, length, List}
 use Rattle.m2_base.specs.Finished.{IsTold, finished}
 use Rattle.m2_base.specs.Lists.{Each}
 use Rattle.m2_base.specs.States.{texts_of, finished_of}
@@ -8,7 +8,6 @@ use Rattle.m2_base.specs.declared.rows.Row.{Row}
 use Rattle.m2_base.proofs.FinishedLaws.{finished-standard}
 use Rattle.scope_core.specs.PlainScopes.{state_of}
 use Rattle.m2c_top.specs.Bindings.{IsName, uses_of}
-use Rattle.m2c_top.specs.Code.{cells_of}
 use Rattle.m2c_top.specs.Declarations.{variable_rows, diags_after}
 use Rattle.m2c_top.specs.Diagnostics.{uses_diags, closing_diags}
 use Rattle.m2c_top.specs.Filled.{DeclaresRows}

@@ -1,4 +1,4 @@
-use Rattle.std.proofs.Common.{◌≡◌, ◌∙◌, ◌∷◌, [], sym, ap, subst, arith, rules, length, map, string_bytes}
+use Rattle.std.proofs.Common.{◌≡◌, ◌∙◌, ◌∷◌, [], sym, ap, rules, length, string_bytes}
 use Rattle.std.specs.Prelude.{codes, IsTrue}
 use Rattle.m2c_top.specs.Command.{is_name}
 use Rattle.m2c_top.proofs.Words.{two_words, same_text}

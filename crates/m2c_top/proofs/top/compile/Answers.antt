@@ -1,6 +1,6 @@
-use Rattle.std.proofs.Common.{◌≡◌, ◌⊎◌, inl, inr, ◌∙◌, ◌++◌, ◌∷◌, [], List, ℕ, Some, refl, sym, ap, subst, rules, string_bytes, IfOk, IfSome, OnErr}
+use Rattle.std.proofs.Common.{◌≡◌, ◌⊎◌, ◌∙◌, ◌++◌, Some, refl, sym, ap, subst, IfOk, IfSome, OnErr}
 use Rattle.std.specs.Prelude.{codes}
-use Rattle.m2_io.specs.Files.{Files, with_file}
+use Rattle.m2_io.specs.Files.{Files}
 use Rattle.m2_io.specs.Written.{with_bytes, WritesPart}
 use Rattle.m2_io.specs.Causes.{Rose}
 use Rattle.m2c_top.specs.Outcome.{Compiles, no_text, not_built, HasPlainText, text_name, line, Leaves, PrintsPart, KeepsButObject}

@@ -1,4 +1,4 @@
-use Rattle.std.proofs.Common.{◌≡◌, ◌≢◌, ◌∙◌, ◌==◌, inl, inr, [], ap, sym, subst, arith, refl, length, false, List}
+use Rattle.std.proofs.Common.{◌≡◌, ◌≢◌, ◌∙◌, inr, [], ap, sym, subst, arith, refl, List}
 use Rattle.m2_io.specs.Written.{with_bytes, WritesPart}
 use Rattle.m2_base.specs.Units.{TextOf}
 use Rattle.m2_base.specs.declared.notes.Diag.{Diag}
@@ -30,9 +30,11 @@ returns-in_err-print_listing-clause-prints g c =
     let tokens : c.as_slice-tokens.result.now ≡ main_tokens p.texts.list =
     c.as_slice-tokens.ensures.value ∙ ap (λ (t : TextOf). t.tokens) c.behind-plain.view_is ∙ sym (main_is p.texts.list c.main.result.now c.main.ensures.text) in
     on_err c.from_residual-in_err-print_listing.result
-    (inr (faulty,
-    subst (λ (ts : List Token). WritesPart old (listing file ts (diags_of (module_view p.module))) new) tokens
-    (subst (λ (ds : List Diag). WritesPart old (listing file c.as_slice-tokens.result.now ds) new) diags c.in_err-print_listing.ensures.part)))
+    (inr (
+      faulty,
+      subst (λ (ts : List Token). WritesPart old (listing file ts (diags_of (module_view p.module))) new) tokens
+          (subst (λ (ds : List Diag). WritesPart old (listing file c.as_slice-tokens.result.now ds) new) diags c.in_err-print_listing.ensures.part),
+    ))
 
 pub returns-clause-delivered : goal.returns-clause-delivered
 returns-clause-delivered g c =

@@ -1,5 +1,4 @@
-use Rattle.std.proofs.Common.{◌≡◌, ◌⊎◌, ◌∙◌, List, ℕ, sym, ap, subst, map, string_bytes, IfSome}
-use Rattle.m2_io.specs.Files.{Files}
+use Rattle.std.proofs.Common.{◌≡◌, ◌⊎◌, ◌∙◌, sym, ap, subst, map, string_bytes, IfSome}
 use Rattle.m2_io.specs.Causes.{Rose}
 use Rattle.m2c_top.specs.Command.{IsNoCommand}
 use Rattle.m2c_top.specs.Outcome.{Gives, AsksToCompile, LacksText, HasSoundText, HasFaultyText, HasOtherText, Leaves, PrintsPart, PutsPart}

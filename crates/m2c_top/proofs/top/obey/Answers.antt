@@ -1,4 +1,4 @@
-use Rattle.std.proofs.Common.{◌≡◌, ◌⊎◌, inl, inr, List, ℕ, refl, map, string_bytes, IfOk}
+use Rattle.std.proofs.Common.{inr, refl, map, string_bytes}
 use Rattle.m2c_top.proofs.Obeying.{compiling_leaves, compiling_prints, compiling_ends, compiling_keeps, usage_leaves, usage_prints, usage_ends, on_stop}
 use Rattle.m2_io.specs.Causes.{Rose}
 use Rattle.m2c_top.specs.declared.top.Stop.TheVariants.{Write}

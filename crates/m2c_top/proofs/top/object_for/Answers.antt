@@ -1,4 +1,4 @@
-use Rattle.std.proofs.Common.{◌≡◌, ◌<◌, ◌^◌, ◌∙◌, ap, sym, subst, length, rules}
+use Rattle.std.proofs.Common.{◌≡◌, ◌<◌, ◌^◌, ◌∙◌, ap, sym, subst, length}
 use Rattle.m2c_top.specs.Code.{body_code, cells_of}
 use Rattle.m2c_top.specs.Sound.{names_of}
 use Rattle.m2c_top.specs.Uses.{body_uses}

@@ -1,4 +1,3 @@
-use Rattle.std.proofs.Common.{rules}
 use Rattle.m2c_top.proofs.Outcomes.{name_short}
 use Rattle.m2c_top.proofs.top.write_object.Goals as goal
 

@@ -1,4 +1,4 @@
-use Rattle.std.proofs.Common.{◌≡◌, ◌++◌, ◌∷◌, [], refl, sym, ◌∙◌, ap, subst}
+use Rattle.std.proofs.Common.{◌≡◌, ◌++◌, ◌∷◌, [], ◌∙◌, ap}
 use Rattle.m2_base.proofs.Kept.{Works-trans}
 use Rattle.m2c_top.specs.Bindings.{row_cell}
 use Rattle.m2c_top.proofs.Binding.{uses_step, uses_end}

@@ -1,4 +1,4 @@
-use Rattle.m2c_top.proofs.Binding.{waits_outside, last_look}
+use Rattle.m2c_top.proofs.Binding.{waits_outside}
 use Rattle.m2c_top.proofs.analysis.binding.use_name.Goals as goal
 
 pub returns-in-DontKnowYet-clause-waits : goal.returns-in-DontKnowYet-clause-waits

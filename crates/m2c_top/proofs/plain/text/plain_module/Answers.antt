@@ -1,16 +1,14 @@
-use Rattle.std.proofs.Common.{◌≡◌, ◌<◌, ◌≤◌, ◌∙◌, ◌^◌, ap, sym, subst, arith, rules, refl, length, map, vec_len, lit≤, true, false, List, ℕ}
-use Rattle.m2_base.specs.Lists.{Each}
+use Rattle.std.proofs.Common.{◌≡◌, ◌<◌, ◌≤◌, ◌^◌, ap, subst, arith, length, map, vec_len, lit≤, false, List}
 use Rattle.m2_base.specs.Names.{standard_names}
 use Rattle.m2_base.specs.Tokens.{AreTokens}
 use Rattle.m2_base.specs.declared.token.Token.{Token}
 use Rattle.m2_base.specs.Units.{IsNamed, IsUnit}
-use Rattle.m2c_top.specs.Bytes.{are_plain_bytes}
 use Rattle.m2c_top.specs.Grammar.{Spells}
-use Rattle.m2c_top.specs.Held.{one_text, held}
+use Rattle.m2c_top.specs.Held.{one_text}
 use Rattle.m2c_top.specs.Plain.{is_meant}
 use Rattle.m2c_top.specs.Symbols.{symbol_of}
 use Rattle.m2c_top.specs.Trees.{module_view, PlainModule}
-use Rattle.m2c_top.proofs.PlainTexts.{too_many_plain, not_plain, is_plain}
+use Rattle.m2c_top.proofs.PlainTexts.{too_many_plain, not_plain}
 use Rattle.m2c_top.proofs.TextUnit.{module_named, text_held, text_unit}
 use Rattle.m2c_top.proofs.plain.text.plain_module.Goals as goal
 
