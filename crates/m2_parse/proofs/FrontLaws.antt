@@ -2,8 +2,8 @@
 use Rattle.std.proofs.Common.{◌≡◌, ℕ, zero, suc, ◌≤◌, Bool, true, false, List, [], ◌∷◌, ◌++◌, Result, Ok, Err, Some, None, refl, sym, ap, ◌∙◌, subst, true≢false, arith, length, cond, IfOk}
 use Rattle.std.specs.Prelude.{◌&&◌, ◌==◌}
 use Rattle.ll_grammar.specs.Grammar.{Rule, empty, token, then, or, many, deep, sub, ◌⨾◌}
-use Rattle.ll_grammar.specs.Derivations.{Tree, nothing, leaf, both, last, more, tokens, Derives, of_empty, of_token, of_then, of_left, of_right, of_last, of_more, of_deep, of_sub, over}
-use Rattle.ll_grammar.specs.LookAhead.{member, IsRoot}
+use Rattle.ll_grammar.specs.Derivations.{Tree, leaf, both, last, more, tokens, Derives, of_empty, of_token, of_then, of_left, of_right, of_last, of_more, of_deep, of_sub, over}
+use Rattle.ll_grammar.specs.LookAhead.{IsRoot}
 use Rattle.ll_grammar.specs.Sentences.{Fault, Syntax, TooDeep, Begins, Faulty}
 use Rattle.ll_grammar.specs.Reading.{refuse_then}
 use Rattle.ll_grammar.proofs.Beginnings.{begins_self, same_refl}
@@ -18,7 +18,7 @@ use Rattle.m2_base.specs.declared.token.Token.{Token}
 use Rattle.m2_base.specs.declared.trees.Ident.{Ident}
 use Rattle.m2_base.specs.Fronts.{Front, anything, Opens, BreaksOff, head, head_of, modules_of, Imported, no_import, an_import, ImportedBehind, no_semicolon, semicolon, IsFront, nameless, named}
 use Rattle.m2_base.specs.Grammar.{grammar, a, imported, levels}
-use Rattle.m2_base.specs.KindNumbers.{kind_number, all_kinds}
+use Rattle.m2_base.specs.KindNumbers.{kind_number}
 use Rattle.m2_base.specs.StreamsOf.{import_of}
 use Rattle.m2_base.specs.Trees as trees
 use Rattle.m2_base.proofs.GrammarChecks.{is_ll1}

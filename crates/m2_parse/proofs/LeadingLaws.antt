@@ -1,23 +1,22 @@
 -- What stands from the first string, cut or fault on has no part in a front.
-use Rattle.std.proofs.Common.{◌≡◌, ℕ, Bool, true, false, List, [], ◌∷◌, ◌++◌, Result, Ok, Err, IfOk, map, refl, sym, ap, ◌∙◌, subst, true≢false, append_assoc, cond, suc, zero, ◌≤◌, ◌+◌, length, take, arith}
+use Rattle.std.proofs.Common.{◌≡◌, ℕ, Bool, true, false, List, [], ◌∷◌, ◌++◌, Result, Ok, Err, IfOk, map, refl, sym, ap, ◌∙◌, subst, true≢false, append_assoc, cond, suc, ◌≤◌, length, take, arith}
 use Rattle.std.specs.Prelude.{◌&&◌, ◌||◌, ◌==◌, ◌^◌, nat_lt}
 use Rattle.ll_grammar.specs.Grammar.{Rule, empty, token, then, or, many, deep, sub, ◌⨾◌}
 use Rattle.ll_grammar.specs.Derivations.{Tree, both, tokens, Derives, of_empty, of_token, of_then, of_left, of_right, of_last, of_more, of_deep, of_sub}
 use Rattle.ll_grammar.specs.LookAhead.{member, disjoint}
 use Rattle.ll_grammar.specs.Sentences.{Begins}
-use Rattle.ll_grammar.proofs.Beginnings.{begins_self, same_refl}
 use Rattle.ll_grammar.proofs.KindSets.{and_l, and_r, disjoint_not}
 use Rattle.m2_base.specs.declared.kind.TokenKind.TheVariants.{Identifier, String, Bad, Cut}
 use Rattle.m2_base.specs.declared.token.Token.{Token}
 use Rattle.m2_base.specs.declared.trees.Ident.{Ident}
-use Rattle.m2_base.specs.Fronts.{Front, anything, Opens, BreaksOff, head, Imported, no_import, an_import, ImportedBehind, no_semicolon, semicolon, IsFront, nameless, named}
+use Rattle.m2_base.specs.Fronts.{Front, anything, Opens, BreaksOff, Imported, no_import, an_import, ImportedBehind, no_semicolon, semicolon, IsFront, nameless, named}
 use Rattle.m2_base.specs.Grammar.{grammar}
 use Rattle.m2_base.specs.KindNumbers.{kind_number}
 use Rattle.m2_parse.specs.Fitting.{fits, all_fit, name_fits, names_fit}
 use Rattle.m2_parse.specs.Leading.{outside, is_outside, leading, leading_count}
 use Rattle.m2_parse.specs.declared.heads.Front as code
 use Rattle.m2_parse.specs.FrontViews.{front_view}
-use Rattle.m2_parse.proofs.FrontLaws.{Anything, is_anything}
+use Rattle.m2_parse.proofs.FrontLaws.{is_anything}
 
 -- The list is empty or begins with a token that no front has.
 abbrev Outside : List Token → Type 0

@@ -1,13 +1,12 @@
 -- The readers of declarations and of streams read what the grammar says.
 use Rattle.std.proofs.Common.{ℕ, true, List, [], ◌∷◌, Some, refl, sym, ap, ◌∙◌}
 use Rattle.ll_grammar.specs.Grammar.{many, ◌⨾◌, optional}
-use Rattle.ll_grammar.specs.Derivations.{Tree, both}
+use Rattle.ll_grammar.specs.Derivations.{both}
 use Rattle.ll_grammar.specs.Readers.{itself, all}
 use Rattle.ll_grammar.proofs.Link.{Reads, Is, IsAt, weaker, seq, seq_at, final, either, no_part, a_kind, next_starts, next_in_starts}
 use Rattle.ll_grammar.proofs.Repetitions.{loop, list_read}
 use Rattle.m2_base.specs.declared.kind.TokenKind.TheVariants.{Const, «Type», Var, Begin, Implementation, From, Export, Equal, Semicolon, LeftParenthesis}
 use Rattle.m2_base.specs.declared.token.Token.{Token}
-use Rattle.m2_base.specs.declared.trees.Ident.{Ident}
 use Rattle.m2_base.specs.declared.trees.declarations.StreamKind.{StreamKind}
 use Rattle.m2_base.specs.declared.trees.declarations.StreamKind.TheVariants as streams
 use Rattle.m2_base.specs.Grammar as rules

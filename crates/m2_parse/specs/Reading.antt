@@ -1,5 +1,5 @@
 -- Reading tokens by descent: what the grammar's readers are at this language's tokens and faults.
-use Rattle.std.specs.Prelude.{ℕ, Bool, List, [], ◌∷◌, map, Result, Option, Some, None, ◌==◌, if◌then◌else◌}
+use Rattle.std.specs.Prelude.{ℕ, Bool, List, map, Result, Option, Some, None, if◌then◌else◌}
 use Rattle.m2_base.specs.declared.kind.TokenKind.{TokenKind}
 use Rattle.m2_base.specs.FaultsOf.{code_of}
 use Rattle.m2_base.specs.declared.token.Token.{Token}

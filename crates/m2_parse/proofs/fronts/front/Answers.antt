@@ -1,4 +1,3 @@
-use Rattle.m2_parse.specs.Leading.{leading}
 use Rattle.m2_parse.proofs.FrontLaws.{returns_front}
 use Rattle.m2_parse.proofs.LeadingLaws.{returns_front_of}
 use Rattle.m2_parse.proofs.fronts.front.Goals as goal
