@@ -3,6 +3,7 @@ mod CodeSizes
 mod Coding
 mod Declaring
 mod Delivering
+mod DiagTokens
 mod Ends
 mod Filling
 mod Fronts

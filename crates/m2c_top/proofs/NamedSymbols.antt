@@ -102,6 +102,9 @@ module _ (P : Ident → Type 0) where
     pub uses_named : Each P (body_uses m.body)
     uses_named = body_named m.body (Each-left (NamedBy P) (body_symbols m.body) ending (Each-right (NamedBy P) (flat_map section_symbols s.sections) (body_symbols m.body ++ ending) whole.1.1.1))
 
+    pub close_named : P m.close
+    close_named = (Each-right (NamedBy P) (body_symbols m.body) ending (Each-right (NamedBy P) (flat_map section_symbols s.sections) (body_symbols m.body ++ ending) whole.1.1.1)).1.0
+
 -- ** Sound statements use no standard names
 
 abbrev pub IsNew : Ident → Type 0

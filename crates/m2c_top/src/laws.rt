@@ -1,9 +1,18 @@
 //! Laws on the definitions, each the contract of a function that does nothing.
-ghost use Rattle.std.specs.Prelude.{◌≡◌, ℕ, List};
+ghost use Rattle.std.specs.Prelude.{◌≡◌, ◌<◌, ℕ, List, length};
+ghost use Rattle.m2_base.specs.Lists.{Each};
 ghost use Rattle.m2_io.specs.Files.{Files};
+ghost use Rattle.m2c_top.specs.Diagnostics.{diags_of};
 ghost use Rattle.m2c_top.specs.Outcome.{Outcome, Gives};
+ghost use Rattle.m2c_top.specs.Plain.{IsPlain};
+ghost use Rattle.m2c_top.specs.Trees.{Parsed};
 
 /// The words have one outcome over these files.
 pub fn one_outcome()
     ensures { (words : List (List ℕ)) (files : Files) (these those : Outcome) → Gives words files these → Gives words files those → these ≡ those }
+{}
+
+/// Each diagnostic of a plain text stands at one of its tokens, and so has a line in the listing.
+pub fn diagnostics_have_lines()
+    ensures { (name text : List ℕ) (p : Parsed) → IsPlain name text p → Each (λ diag. diag.at < length p.tokens) (diags_of p.tree) }
 {}

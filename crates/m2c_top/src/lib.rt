@@ -16,7 +16,7 @@ mod plain;
 mod status;
 mod top;
 
-pub use laws::one_outcome;
+pub use laws::{diagnostics_have_lines, one_outcome};
 pub use top::m2c;
 
 #[cfg(test)]
