@@ -84,12 +84,12 @@ nat_cases (suc d) (suc n) = more (nat_cases d n) where
   more (inr h) = inr (omega (arith, h))
 
 module _ (c : Program) (shapes : Shapes) where
-  Wait_same : (xs ys : List Frame) (n low base result : ℕ) → ((k : ℕ) → k < n → slice_get ys k ≡ slice_get xs k) → Wait c.routines shapes xs n low base result → Wait c.routines shapes ys n low base result
+  Wait_same : (xs ys : List Frame) (n low base result : ℕ) → ((k : ℕ) → k < n → slice_get ys k ≡ slice_get xs k) → Wait c shapes xs n low base result → Wait c shapes ys n low base result
   Wait_same xs ys zero low base result same w = w
   Wait_same xs ys (suc n) low base result same w =
       (w.0, w.1, w.2, same n (omega arith) ∙ w.3, w.4, w.5, Wait_same xs ys n w.1 w.0.base w.2.result (λ k lt. same k (omega arith)) w.6)
 
-  pub depth : (xs : List Frame) (n low base result : ℕ) → Wait c.routines shapes xs n low base result → n * 4 ≤ base
+  pub depth : (xs : List Frame) (n low base result : ℕ) → Wait c shapes xs n low base result → n * 4 ≤ base
   depth xs zero low base result w = omega arith
   depth xs (suc n) low base result w =
       let rest = depth xs n w.1 w.0.base w.2.result w.6 in
@@ -97,8 +97,17 @@ module _ (c : Program) (shapes : Shapes) where
       let top = w.4 in
       omega (arith, rest, room, top)
 
+  -- all frames are behind what is before the first
+  pub lowest : (xs : List Frame) (n low base result : ℕ) → Wait c shapes xs n low base result → c.frames_at ≤ base
+  lowest xs zero low base result w = w.1
+  lowest xs (suc n) low base result w =
+      let rest = lowest xs n w.1 w.0.base w.2.result w.6 in
+      let room = w.5.room in
+      let top = w.4 in
+      omega (arith, rest, room, top)
+
   -- the frames of the callers lie below
-  pub bases : (xs : List Frame) (n low base result : ℕ) → Wait c.routines shapes xs n low base result → (d : ℕ) (f : Frame) → d < n → slice_get xs d ≡ Some f → f.base ≤ base
+  pub bases : (xs : List Frame) (n low base result : ℕ) → Wait c shapes xs n low base result → (d : ℕ) (f : Frame) → d < n → slice_get xs d ≡ Some f → f.base ≤ base
   bases xs zero low base result w d f lt e = absurd (omega arith)
   bases xs (suc n) low base result w d f lt e = chosen (nat_cases d n) (λ h. bases xs n w.1 w.0.base w.2.result w.6 d f h e) where
     chosen : (d < n) ⊎ (n ≤ d) → (d < n → f.base ≤ w.0.base) → f.base ≤ base
@@ -284,7 +293,7 @@ module _ (c : Program) (shapes : Shapes) where
       let frames = s.frames ++ caller ∷ [] in
       let one_more : suc (length s.frames) ≡ length frames = omega (arith, length-append s.frames (caller ∷ [])) in
       let low = length (without n s.operands) in
-      let waits : Wait c.routines shapes frames (suc (length s.frames)) low s.top p.result = (
+      let waits : Wait c shapes frames (suc (length s.frames)) low s.top p.result = (
         caller,
         f.low,
         f.own,
@@ -299,7 +308,7 @@ module _ (c : Program) (shapes : Shapes) where
         low = low;
         own = p;
         at = record { proc = q; height = 0; here = valid.enters q p is; own_is = is; counts = omega arith; under = omega arith; room = omega arith };
-        wait = subst (λ (m : ℕ). Wait c.routines shapes frames m low s.top p.result) one_more waits;
+        wait = subst (λ (m : ℕ). Wait c shapes frames m low s.top p.result) one_more waits;
         link = λ e o. (let to = linked e (sym outer_is ∙ o) in let lt = to.3 in (to.0, to.1, to.2, omega (arith, lt, one_more), to.4));
         links = more_links s f (f.at.height - n + p.result) back;
       } in
@@ -344,46 +353,48 @@ module _ (c : Program) (shapes : Shapes) where
       keeps_served s f v (n + 1) got (g.0, subst (λ (m : ℕ). Leads shapes (s.at + 1) f.at.proc (f.at.height - (n + 1) + m)) w.result g.1)
 
   -- the body behind the one that has ended
-  keeps_entered : (valid : IsValid c shapes) (s : State) (f : Fits c shapes s) (k : ℕ) (q : Routine) → s.frames ≡ [] → length s.operands ≤ s.base → slice_get c.routines k ≡ Some q → q.outer ≡ None → q.result ≡ 0 → Keeps (entered (Some q) s)
+  keeps_entered : (valid : IsValid c shapes) (s : State) (f : Fits c shapes s) (k : ℕ) (q : Routine) → s.frames ≡ [] → length s.operands ≤ s.base → slice_get c.routines k ≡ Some q → q.outer ≡ None → q.result ≡ 0 → c.frames_at ≤ s.base → Keeps (entered (Some q) s)
   unfolding entered
-  keeps_entered valid s f k q none le is alone no_result =
+  keeps_entered valid s f k q none le is alone no_result low =
       let next : State = record s { at = q.entry; top = s.base + size_of q; link = 0; cells = cleared s.cells s.base (size_of q) } in
       let outer_is : outer_of (slice_get c.routines k) ≡ None = ap outer_of is ∙ alone in
       let fits : Fits c shapes next = record {
         low = length s.operands;
         own = q;
         at = record { proc = k; height = 0; here = valid.enters k q is; own_is = is; counts = omega arith; under = le; room = omega arith };
-        wait = subst (λ (fs : List Frame). Wait c.routines shapes fs (length fs) (length s.operands) s.base q.result) (sym none) no_result;
+        wait = subst (λ (fs : List Frame). Wait c shapes fs (length fs) (length s.operands) s.base q.result) (sym none) (no_result, low);
         link = λ e o. absurd (none_some e (sym outer_is ∙ o));
         links = f.links;
       } in
-      keeps_if (ltb s.heap (s.base + size_of q)) (step.NoFrame q.entry) (step.Goes next) (record { by = tt }) (at_place next fits)
+      let here = within shapes q.entry (k, 0) (valid.enters k q is) in
+      let long = valid.long in
+      keeps_if (ltb s.heap (s.base + size_of q)) (step.NoFrame q.entry) (step.Goes next) (record { by = omega (arith, here, long) }) (at_place next fits)
     where
       none_some : (e : ℕ) → None ≡ Some e → ⊥
       none_some e x = cc
 
-  keeps_next : (valid : IsValid c shapes) (s : State) (f : Fits c shapes s) (o : Option ℕ) → ((k : ℕ) → o ≡ Some k → (m : ℕ) × (slice_get c.bodies m ≡ Some k)) → s.frames ≡ [] → length s.operands ≤ s.base → Keeps (next_body c o s)
-  keeps_next valid s f None there none le = record { by = tt }
-  keeps_next valid s f (Some k) there none le =
+  keeps_next : (valid : IsValid c shapes) (s : State) (f : Fits c shapes s) (o : Option ℕ) → ((k : ℕ) → o ≡ Some k → (m : ℕ) × (slice_get c.bodies m ≡ Some k)) → s.frames ≡ [] → length s.operands ≤ s.base → c.frames_at ≤ s.base → Keeps (next_body c o s)
+  keeps_next valid s f None there none le low = record { by = tt }
+  keeps_next valid s f (Some k) there none le low =
       let m = there k refl in
       let b = valid.bodies m.0 k m.1 in
-      subst (λ (o : Option Routine). Keeps (entered o s)) (sym b.1) (keeps_entered valid s f k b.0 none le b.1 b.2 b.3)
+      subst (λ (o : Option Routine). Keeps (entered o s)) (sym b.1) (keeps_entered valid s f k b.0 none le b.1 b.2 b.3 low)
 
   body_there : (bodies : List ℕ) (o : Option Origin) (k : ℕ) → body_after bodies o ≡ Some k → (m : ℕ) × (slice_get bodies m ≡ Some k)
   body_there bodies None k is = absurd cc
   body_there bodies (Some o) k is = (o.«module» + 1, is)
 
-  keeps_back : (valid : IsValid c shapes) (s : State) (f : Fits c shapes s) (fs : List Frame) → s.frames ≡ fs → Wait c.routines shapes fs (length fs) f.low s.base f.own.result → length s.operands ≡ f.low + f.own.result
+  keeps_back : (valid : IsValid c shapes) (s : State) (f : Fits c shapes s) (fs : List Frame) → s.frames ≡ fs → Wait c shapes fs (length fs) f.low s.base f.own.result → length s.operands ≡ f.low + f.own.result
       → Keeps (back_to s (innermost fs) (next_body c (body_behind c s.at) s))
   keeps_back valid s f [] e w count =
       let under = f.at.under in
-      keeps_next valid s f (body_behind c s.at) (λ k is. body_there c.bodies (slice_get c.origins s.at) k is) e (omega (arith, under, count, w))
+      keeps_next valid s f (body_behind c s.at) (λ k is. body_there c.bodies (slice_get c.origins s.at) k is) e (let zero = w.0 in omega (arith, under, count, zero)) w.1
   keeps_back valid s f (g ∷ fs) e w count =
       let front = take (length s.frames - 1) s.frames in
       let len : length s.frames ≡ suc (length fs) = ap length e ∙ omega arith in
       let n : length fs ≡ length front = sym (length-take-le (length s.frames - 1) s.frames (omega arith) ∙ omega (arith, len)) in
       let get : (k : ℕ) → k < length fs → slice_get front k ≡ slice_get s.frames k = λ k lt. get_take (length s.frames - 1) s.frames k (omega (arith, lt, len)) in
-      let waits : Wait c.routines shapes front (length fs) w.1 w.0.base w.2.result =
+      let waits : Wait c shapes front (length fs) w.1 w.0.base w.2.result =
       Wait_same (g ∷ fs) front (length fs) w.1 w.0.base w.2.result (λ k lt. get k lt ∙ ap (λ (xs : List Frame). slice_get xs k) e) w.6 in
       let last : slice_get s.frames (length fs) ≡ Some w.0 = ap (λ (xs : List Frame). slice_get xs (length fs)) e ∙ w.3 in
       let shorter : (d p link : ℕ) → d ≤ length fs → Linked c.routines shapes s.frames d p link → Linked c.routines shapes front d p link =
@@ -392,7 +403,7 @@ module _ (c : Program) (shapes : Shapes) where
         low = w.1;
         own = w.2;
         at = record { proc = w.5.proc; height = w.5.height; here = w.5.here; own_is = w.5.own_is; counts = count ∙ w.5.counts; under = w.5.under; room = w.5.room };
-        wait = subst (λ (m : ℕ). Wait c.routines shapes front m w.1 w.0.base w.2.result) n waits;
+        wait = subst (λ (m : ℕ). Wait c shapes front m w.1 w.0.base w.2.result) n waits;
         link = subst (λ (m : ℕ). Linked c.routines shapes front m w.5.proc w.0.link) n (shorter (length fs) w.5.proc w.0.link (omega arith) (f.links (length fs) w.5.proc w.5.height w.0 last w.5.here));
         links = λ d p h x is leads. (let lt = within front d x is in shorter d p x.link (omega (arith, lt, n)) (f.links d p h x (sym (get d (omega (arith, lt, n))) ∙ is) leads));
       } in

@@ -4,3 +4,8 @@ pub mod Callees
 pub mod Keeps
 pub mod Written
 pub mod Steps
+pub mod Taking
+pub mod Numbering
+pub mod Readiness
+pub mod Running
+pub mod Serving

@@ -7,3 +7,4 @@ pub mod Runs
 pub mod Able
 pub mod Ready
 pub mod Readings
+pub mod Stepping

@@ -1,5 +1,5 @@
 -- Which programs never get stuck, and the states that they come to.
-use Rattle.std.specs.Prelude.{◌≡◌, ℕ, zero, suc, ◌+◌, ◌-◌, ◌*◌, ◌<◌, ◌≤◌, ◌^◌, IsTrue, List, length, Option, Some, None, slice_get}
+use Rattle.std.specs.Prelude.{◌≡◌, ℕ, zero, suc, ◌+◌, ◌-◌, ◌*◌, ◌<◌, ◌≤◌, ◌^◌, IsTrue, true, List, length, Option, Some, None, slice_get}
 use Rattle.stack_machine.specs.declared.op.Op.{Op}
 use Rattle.stack_machine.specs.declared.op.Op.TheVariants.{Push, Local, Load, Store, Move, Dup, Offset, Index, IndexOpen, Check, Nil, Add, Sub, Mul, Div, Mod, Neg, Abs, Not, Eq, Ne, Lt, Le, Gt, Ge, Union, Diff, Inter, SymDiff, Subset, Superset, In, Bit, Span, Jump, JumpFalse, AndJump, OrJump, More, Call, CallService, CallVar, Return, Trap, New, OpenCopy, Halt, Cap}
 use Rattle.stack_machine.specs.declared.code.Routine.{Routine}
@@ -122,7 +122,7 @@ IsFine c shapes k p h (AndJump to) = Passes shapes k p h 1 0 × Leads shapes to 
 IsFine c shapes k p h (OrJump to) = Passes shapes k p h 1 0 × Leads shapes to p h
 IsFine c shapes k p h (More n) = Passes shapes k p h 2 1
 IsFine c shapes k p h (Call q links) = CanCall c.routines shapes k p h q links
-IsFine c shapes k p h (CallService v) = Passes shapes k p h (params_of v) 0 × IsTrue c.has_in_out
+IsFine c shapes k p h (CallService v) = Passes shapes k p h (params_of v) 0 × (c.has_in_out ≡ true)
 IsFine c shapes k p h (CallVar n r) = Passes shapes k p h (n + 1) r
 IsFine c shapes k p h Return = CanReturn c.routines p h
 IsFine c shapes k p h (Trap t) = Unit {0}
@@ -144,6 +144,7 @@ pub record IsValid (c : Program) (shapes : Shapes) : Type 0 where
   pub small : (q : ℕ) (p : Routine) → slice_get c.routines q ≡ Some p → IsSmall p
   pub enters : (q : ℕ) (p : Routine) → slice_get c.routines q ≡ Some p → Leads shapes p.entry q 0
   pub bodies : (m k : ℕ) → slice_get c.bodies m ≡ Some k → (q : Routine) × (slice_get c.routines k ≡ Some q) × (q.outer ≡ None) × (q.result ≡ 0)
+  pub done : (c.has_in_out ≡ true) → 1 < c.frames_at
   pub owner : (k p h : ℕ) → Leads shapes k p h → Owns c.routines p h
   pub each : (k p h : ℕ) (op : Op) → slice_get c.ops k ≡ Some op → Leads shapes k p h → IsFine c shapes k p h op
 
@@ -159,12 +160,13 @@ pub record IsAt (routines : List Routine) (shapes : Shapes) (at base top count l
   pub under : low ≤ base
   pub room : base + size_of own ≤ top
 
--- the n outermost callers wait for a procedure that leaves so many operands; behind them all is a body
-abbrev pub Wait : List Routine → Shapes → List Frame → (n low base result : ℕ) → Type 0
-Wait routines shapes frames zero low base result = result ≡ 0
-Wait routines shapes frames (suc n) low base result =
+-- the n outermost callers wait for a procedure that leaves so many operands; behind them all is a body, whose frame is the
+-- first
+abbrev pub Wait : Program → Shapes → List Frame → (n low base result : ℕ) → Type 0
+Wait c shapes frames zero low base result = (result ≡ 0) × (c.frames_at ≤ base)
+Wait c shapes frames (suc n) low base result =
     (f : Frame) × (low' : ℕ) × (own : Routine) × (slice_get frames n ≡ Some f) × (f.top ≤ base)
-    × IsAt routines shapes f.at f.base f.top (low + result) low' own × Wait routines shapes frames n low' f.base own.result
+    × IsAt c.routines shapes f.at f.base f.top (low + result) low' own × Wait c shapes frames n low' f.base own.result
 
 -- the static link of frame d, of procedure p, leads to an earlier frame of the procedure that encloses it
 abbrev pub Linked : List Routine → Shapes → List Frame → (d p link : ℕ) → Type 0
@@ -175,7 +177,7 @@ pub record Fits (c : Program) (shapes : Shapes) (s : State) : Type 0 where
   pub low : ℕ
   pub own : Routine
   pub at : IsAt c.routines shapes s.at s.base s.top (length s.operands) low own
-  pub wait : Wait c.routines shapes s.frames (length s.frames) low s.base own.result
+  pub wait : Wait c shapes s.frames (length s.frames) low s.base own.result
   pub link : Linked c.routines shapes s.frames (length s.frames) at.proc s.link
   pub links : (d p h : ℕ) (f : Frame) → slice_get s.frames d ≡ Some f → Leads shapes f.at p h → Linked c.routines shapes s.frames d p f.link
 
@@ -184,7 +186,7 @@ abbrev pub GoesOn : Program → Shapes → Next → Type 0
 GoesOn c shapes (step.Goes s) = Fits c shapes s
 GoesOn c shapes step.Halts = Unit {0}
 GoesOn c shapes (step.Traps t) = Unit {0}
-GoesOn c shapes (step.NoFrame at) = Unit {0}
+GoesOn c shapes (step.NoFrame at) = at < length c.ops
 GoesOn c shapes step.Stuck = ⊥
 
 pub record Ready (code : Code) (c : Core) : Type 0 where
@@ -192,7 +194,6 @@ pub record Ready (code : Code) (c : Core) : Type 0 where
   pub valid : IsValid (program_of code) shapes
   pub fits : Fits (program_of code) shapes (state_of c)
   pub room : HasRoom c
-  pub done : IsTrue code.has_in_out → 1 < length c.cells.items
 
 -- ---- what an operation asks of its operands and of the program
 
