@@ -35,7 +35,7 @@ params_of : (names : List Ident) (c : Context) (own : ℕ) (by_ref : Bool) (t : 
 params_of [] c own by_ref t = none_of
 params_of (i ∷ names) c own by_ref t = AreShaped-append (plain_of param_kind i.at _ refl refl refl) (params_of names _ own by_ref t)
 
-sections_of : (sections : List Section) (c : Context) (own : ℕ) → AreShaped (flat_map section_shapes sections) (section_rows c own sections).rows
+pub sections_of : (sections : List Section) (c : Context) (own : ℕ) → AreShaped (flat_map section_shapes sections) (section_rows c own sections).rows
 sections_of [] c own = none_of
 sections_of (s ∷ sections) c own =
     let d = with_rows c [] in

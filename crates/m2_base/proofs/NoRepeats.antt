@@ -30,7 +30,7 @@ fresh_of : (scene : Scene) (r : Row) → IsNew scene r → (r.name ≡ 0) ⊎ La
 fresh_of scene r (inl e) = inl e
 fresh_of scene r (inr e) = inr (lacks_new scene r.name e)
 
-some_is : {A : Type 0} (x y : A) → Some x ≡ Some y → x ≡ y
+pub some_is : {A : Type 0} (x y : A) → Some x ≡ Some y → x ≡ y
 some_is x y e = ap (λ o. unwrap_or o x) e
 
 later_fresh : {scene : Scene} {rows : List Row} → AreNew scene rows → IsOpen scene → (j : ℕ) (y : Row) → slice_get rows j ≡ Some y
@@ -70,13 +70,13 @@ once scene rows h open_scene empty i j x y before ex ey named same =
     by_case (inl e) = named (same ∙ e)
     by_case (inr lacks) = lacks_each y.name (take j rows) 0 lacks i x (taken rows i j x before ex) same
 
-scene_open : (tables : List (List Row)) (b : Block) → b.scope ≤ length tables → IsOpen (scene_of tables b)
+pub scene_open : (tables : List (List Row)) (b : Block) → b.scope ≤ length tables → IsOpen (scene_of tables b)
 scene_open tables b h =
     let e = length-append (take b.scope tables) ([] ∷ []) in
     let t = length-take-le b.scope tables h in
     omega (arith, e, t)
 
-scene_empty : (tables : List (List Row)) (b : Block) → b.scope ≤ length tables → own_of (scene_of tables b) ≡ []
+pub scene_empty : (tables : List (List Row)) (b : Block) → b.scope ≤ length tables → own_of (scene_of tables b) ≡ []
 scene_empty tables b h = get_or_at (take b.scope tables) [] [] [] b.scope (length-take-le b.scope tables h)
 
 pub block_once : (source : Source) (tables : List (List Row)) (b : BlockTree) → b.block.scope ≤ length tables

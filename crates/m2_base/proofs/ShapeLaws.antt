@@ -51,7 +51,7 @@ named_of c k i m h0 h1 h2 h3 h4 h5 =
     chosen (λ x. AreShaped (named k i ∷ []) x.rows) (is_standard i.name) (has_name c.scene.tables c.scene.block.scope i.name)
     _ _ _ nameless_row nameless_row (one_of (record { kind = h0; at = h2; name = inl h4 }))
 
-constants_of : (names : List Ident) (c : Context) (t : Place) (n : ℕ) → AreShaped (map (named const_kind) names) (constant_rows c t n names).rows
+pub constants_of : (names : List Ident) (c : Context) (t : Place) (n : ℕ) → AreShaped (map (named const_kind) names) (constant_rows c t n names).rows
 constants_of [] c t n = none_of
 constants_of (i ∷ names) c t n =
     AreShaped-append (named_of c const_kind i (Const t (pos n) 0) refl refl refl refl refl refl) (constants_of names _ t (n + 1))
@@ -96,7 +96,7 @@ pub AreShaped-append3 : {ss ss' ss'' : List Shape} {rs rs' rs'' : List Row} → 
 AreShaped-append3 none_of k l = AreShaped-append k l
 AreShaped-append3 (more_of i h) k l = more_of i (AreShaped-append3 h k l)
 
-formals_of : (formals : List Formal) (c : Context) (own : ℕ) → AreShaped (flat_map formal_shapes formals) (formal_rows c own formals).rows
+pub formals_of : (formals : List Formal) (c : Context) (own : ℕ) → AreShaped (flat_map formal_shapes formals) (formal_rows c own formals).rows
 formals_of [] c own = none_of
 formals_of (f ∷ formals) c own =
     AreShaped-append3 (open_of (with_rows c []) f.is_open f.of (type_of_qual c f.of).value) (plain_of param_kind f.of.first.at _ refl refl refl) (formals_of formals _ own)
@@ -137,7 +137,7 @@ mutual
   types_of no_types c = none_of
   types_of (more_types t ts) c = AreShaped-append (type_of t c) (AreShaped-end (types_of ts _))
 
-  fields_of : (fs : FieldLists) (c : Context) (own offset : ℕ) → AreShaped (fields_shapes fs) (fields_rows c own offset fs).rows
+  pub fields_of : (fs : FieldLists) (c : Context) (own offset : ℕ) → AreShaped (fields_shapes fs) (fields_rows c own offset fs).rows
   fields_of no_fields c own offset = none_of
   fields_of (more_fields f fs) c own offset = AreShaped-append (field_list_of f c own offset) (fields_of fs _ own _)
 

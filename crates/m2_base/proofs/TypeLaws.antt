@@ -34,7 +34,7 @@ AreValues r = IsValue r.low × IsValue r.high
 given : (q r : Range) → AreValues q → Some q ≡ Some r → AreValues r
 given q r h e = subst AreValues (ap (λ o. unwrap_or o q) e) h
 
-range_of_meaning : (names : ℕ) (p : Place) (r : Range) (m : RowMeaning) → Fits names p m → range_by m ≡ Some r → AreValues r
+pub range_of_meaning : (names : ℕ) (p : Place) (r : Range) (m : RowMeaning) → Fits names p m → range_by m ≡ Some r → AreValues r
 range_of_meaning names p r Integer f h = given integer_range r ((omega arith, omega arith), (omega arith, omega arith)) h
 range_of_meaning names p r Cardinal f h = given cardinal_range r ((omega arith, omega arith), (omega arith, omega arith)) h
 range_of_meaning names p r Character f h = given (range (pos 0) (pos 255)) r ((omega arith, omega arith), (omega arith, omega arith)) h

@@ -17,6 +17,7 @@ pub mod Effects
 pub mod Enumerations
 pub mod Fields
 pub mod Folding
+pub mod FormedRows
 pub mod Functions
 pub mod HeadingRows
 pub mod ImportRows
@@ -36,6 +37,7 @@ pub mod SameForm
 pub mod Sets
 pub mod ShapedRows
 pub mod Shapes
+pub mod SoundTrees
 pub mod Subranges
 pub mod Targets
 pub mod TypeNames

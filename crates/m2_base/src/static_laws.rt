@@ -1,17 +1,20 @@
 //! Laws on the static rules, each the contract of a function that does nothing.
-ghost use Rattle.std.specs.Prelude.{◌≡◌, ◌<◌, ◌≤◌, ℕ, List, Option, Some, true, length, flat_map};
-ghost use Rattle.m2_base.specs.Lists.{Each, HasNoRepeats, WhereKept};
-ghost use Rattle.m2_base.specs.Rows.{Row, Place, IsWellFormed, IsValue};
+ghost use Rattle.std.specs.Prelude.{◌≡◌, ◌<◌, ◌≤◌, ◌^◌, ℕ, List, Option, Some, true, length, flat_map, slice_get};
+ghost use Rattle.m2_base.specs.Lists.{Each, HasNoRepeats, IsPrefixOf, WhereKept};
+ghost use Rattle.m2_base.specs.Names.{standard_names};
+ghost use Rattle.m2_base.specs.Rows.{Row, Place, at_place, IsWellFormed, IsValue};
 ghost use Rattle.m2_base.specs.Statics.BlockRows.{declare_block};
 ghost use Rattle.m2_base.specs.Statics.Blocks.{BlockTree, UnitTrees, GoesDown, blocks_of, home_of};
 ghost use Rattle.m2_base.specs.Statics.Contexts.{Context, Scene, Source, row_at};
 ghost use Rattle.m2_base.specs.Statics.Declarations.{declare};
+ghost use Rattle.m2_base.specs.Statics.FormedRows.{AreConsecutive, AreRight, IsReady, IsRight, IsSoundBlock, IsSoundText};
 ghost use Rattle.m2_base.specs.Statics.Items.{Item, items_of};
 ghost use Rattle.m2_base.specs.Statics.NewRows.{AreNew};
 ghost use Rattle.m2_base.specs.Statics.Ranges.{Range};
 ghost use Rattle.m2_base.specs.Statics.ShapedRows.{AreShaped};
 ghost use Rattle.m2_base.specs.Statics.Shapes.{item_shapes};
 ghost use Rattle.m2_base.specs.Statics.Types.{is_same, stands_for, range_of};
+ghost use Rattle.m2_base.specs.Statics.UnitRows.{unit_rows};
 ghost use Rattle.m2_base.specs.Trees.{StreamKind as KindOfStream};
 
 /// That two types are the same is an equivalence.
@@ -44,4 +47,11 @@ pub fn chains_go_down()
 pub fn second_rows_are_nameless()
     ensures items { (c : Context) (kind : KindOfStream) (x : Item) (cell : ℕ) → AreNew c.scene (declare c kind x cell).rows }
     ensures blocks { (source : Source) (tables : List (List Row)) (b : BlockTree) → b.block.scope ≤ length tables → HasNoRepeats (λ r. r.name) (declare_block source tables b).rows }
+{}
+
+/// The rows of a block are right, each at its place: well formed, and each array and record has a cell. The block stands
+/// over scopes of which this holds, and its tree has the numbers and names that tokens have. So are the rows of a unit.
+pub fn rows_are_right()
+    ensures blocks { (names : ℕ) (source : Source) (tables : List (List Row)) (b : BlockTree) → IsReady names source tables b → (k : ℕ) (r : Row) → slice_get (declare_block source tables b).rows k ≡ Some r → IsRight names (at_place b.block.scope k) r }
+    ensures units { (names : List (List ℕ)) (u : UnitTrees) → IsPrefixOf standard_names names → 0 < length names → length names ≤ 2 ^ 32 → IsSoundText u.source → AreConsecutive 1 (blocks_of u) → Each (IsSoundBlock (length names) u.source) (blocks_of u) → AreRight (length names) (unit_rows u) }
 {}
