@@ -182,8 +182,8 @@ pub fn statements(
     ensures { Gives (λ x. (map statement_view x.0.items, x.1.list.now)) result (statements_with depth (statement_at depth) tokens.entry.list.now) }
 {
     let (first, mut rest) = optional_statement(alloc, tokens, depth)?;
-    let mut items = Vec::new(alloc);
-    items.push(first)?;
+    // Most bodies are short, and a first push would make room for four.
+    let mut items = vec![in alloc; first]?;
     let count = rest.list.len();
     for _ in 0..count {
         let Some(after) = skip(TokenKind::Semicolon, rest) else {

@@ -15,7 +15,7 @@ statements-returns-in_default t c = separated_stops c.loop.invariant c.loop-test
 pub statements-loop-preserved : goal.statements-loop-preserved
 statements-loop-preserved t c =
     separated_goes_on c.loop.invariant c.loop-test.true c.in-Some.ensures c.in_ok-item.ensures
-    (ap (map statement_view) c.in_ok-push-2.ensures.items ∙ map_push statement_view c.loop.items.items c.in_ok-item.item)
+    (ap (map statement_view) c.in_ok-push.ensures.items ∙ map_push statement_view c.loop.items.items c.in_ok-item.item)
 
 pub statements-returns : goal.statements-returns
 statements-returns t c = separated_is_done c.loop.invariant c.loop-test.false
