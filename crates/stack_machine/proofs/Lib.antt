@@ -13,3 +13,6 @@ pub mod Flat
 pub mod ObjectFacts
 pub mod Judged
 pub mod Loaded
+pub mod Placing
+pub mod Starting
+pub mod Growing

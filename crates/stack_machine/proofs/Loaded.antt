@@ -36,7 +36,7 @@ use Rattle.stack_machine.proofs.Judged.{instr_is, PointAt, point_at, points_leng
 
 -- ---- lists
 
-get_map : {A B : Type 0} (f : A → B) (xs : List A) (n : ℕ) (x : A) → slice_get xs n ≡ Some x → slice_get (map f xs) n ≡ Some (f x)
+pub get_map : {A B : Type 0} (f : A → B) (xs : List A) (n : ℕ) (x : A) → slice_get xs n ≡ Some x → slice_get (map f xs) n ≡ Some (f x)
 get_map f [] n x e = absurd cc
 get_map f (y ∷ ys) zero x e = ap (λ z. Some (f z)) (one_is y x e)
 get_map f (y ∷ ys) (suc n) x e = get_map f ys n x e
@@ -45,29 +45,29 @@ map_length : {A B : Type 0} (f : A → B) (xs : List A) → length (map f xs) �
 map_length f [] = refl
 map_length f (x ∷ xs) = ap suc (map_length f xs)
 
-get_unmap : {A B : Type 0} (f : A → B) (xs : List A) (n : ℕ) (y : B) → slice_get (map f xs) n ≡ Some y → (x : A) × (slice_get xs n ≡ Some x) × (f x ≡ y)
+pub get_unmap : {A B : Type 0} (f : A → B) (xs : List A) (n : ℕ) (y : B) → slice_get (map f xs) n ≡ Some y → (x : A) × (slice_get xs n ≡ Some x) × (f x ≡ y)
 get_unmap f [] n y e = absurd cc
 get_unmap f (x ∷ xs) zero y e = (x, refl, one_is (f x) y e)
 get_unmap f (x ∷ xs) (suc n) y e = get_unmap f xs n y e
 
 -- ---- shapes
 
-abbrev callees_in : Block → Callees
+abbrev pub callees_in : Block → Callees
 callees_in b = callees_of (world_of b.object) b.procedure
 
-abbrev points_in : Block → List Point
+abbrev pub points_in : Block → List Point
 points_in b = points (callees_in b) 0 (pos 0) b.instrs
 
-abbrev block_shapes : (start number : ℕ) → Block → Shapes
+abbrev pub block_shapes : (start number : ℕ) → Block → Shapes
 block_shapes start number b = map (λ p. (number, unsigned_abs p.height)) (points_in b)
 
-shapes_even : IsEven block_shapes
+pub shapes_even : IsEven block_shapes
 shapes_even start number b = map_length (λ p. (number, unsigned_abs p.height)) (points_in b) ∙ points_length (callees_in b) 0 (pos 0) b.instrs
 
-ops_even : (os : List Contents) → IsEven (block_ops os)
+pub ops_even : (os : List Contents) → IsEven (block_ops os)
 ops_even os start number b = map_length (λ s. op_by os (site_of os start b) s s.instr) (spots 0 b.instrs) ∙ spots_length 0 b.instrs
 
-origins_even : IsEven block_origins
+pub origins_even : IsEven block_origins
 origins_even start number b = map_length (λ s. record { «module» = b.«module»; procedure = b.number; offset = s.at }) (spots 0 b.instrs) ∙ spots_length 0 b.instrs
 
 -- ---- what operands name
@@ -146,7 +146,7 @@ body_there n (o ∷ os) zero k e = (o, refl, sym (one_is n k e))
 body_there n (o ∷ os) (suc m) k e = body_there (n + length o.procedures) os m k e
 
 module _ (os : List Contents) (c : Program) (program : IsProgram os) (loaded : IsLoaded os c) where
-  abbrev shapes : Shapes
+  abbrev pub shapes : Shapes
   shapes = flat block_shapes 0 0 loaded.blocks
 
   valid_at : (m : ℕ) (o : Contents) → slice_get os m ≡ Some o → IsValidObject o

@@ -11,7 +11,7 @@ use Rattle.stack_machine.specs.Step.{Next, Goes, Halts, Traps, NoFrame, Stuck}
 use Rattle.stack_machine.specs.declared.code.Routine.{Routine}
 use Rattle.stack_machine.specs.Able.{HasRoom}
 use Rattle.stack_machine.specs.Ready.{Ready, IsSmall}
-use Rattle.stack_machine.specs.Runs.{Ends}
+use Rattle.stack_machine.specs.Runs.{Ends, AtPlace}
 use Rattle.stack_machine.specs.Stepping.{IsTrapped}
 
 -- The objects of a machine's program, their code, and where it stands: in a state, or before a body that finds no room.
@@ -55,3 +55,11 @@ pub record IsFirst (code : Code) (c : Core) : Type 0 where
   pub routine_is : slice_get code.routines.items body ≡ Some routine
   pub small : IsSmall routine
   pub room : HasRoom c
+
+-- a trap is at a place of the program
+abbrev pub IsPlaced : End → Program → Type 0
+IsPlaced ends.StepsSpent p = Unit {0}
+IsPlaced ends.Halted p = Unit {0}
+IsPlaced (ends.Trapped code m procedure offset) p = (at : ℕ) × AtPlace (record { «module» = m; procedure = procedure; offset = offset }) p at
+IsPlaced ends.ReadFailed p = Unit {0}
+IsPlaced ends.WriteFailed p = Unit {0}

@@ -50,7 +50,7 @@ pub record IsOn (s : SiteCode) : Type 0 where
 pub record HasLayout (l : Layout) (os : List Contents) : Type 0 where
   pub has_in_out : l.has_in_out ≡ imports_in_out os
   pub variables : l.variables ≡ first_cell os
-  pub data : l.data ≡ data_at os
+  pub texts : l.texts ≡ data_at os
   pub frames : l.frames ≡ frames_of os
 
 -- these blocks more

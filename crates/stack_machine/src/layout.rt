@@ -15,7 +15,7 @@ pub(crate) struct Layout {
     /// The first variable.
     pub(crate) variables: usize,
     /// The first cell of the data.
-    pub(crate) data: usize,
+    pub(crate) texts: usize,
     /// The first cell of the first frame.
     pub(crate) frames: usize,
 }
@@ -118,17 +118,17 @@ fn with_data(taken: usize, objects: &[Object], room: usize) -> Option<usize>
 
 /// Where the cells of a program are, if there are so many.
 pub(crate) fn laid_out(objects: &[Object], room: usize) -> Option<Layout>
-    ensures some { IfSome result (λ l. (l.has_in_out ≡ imports_in_out objects.now) × (l.variables ≡ first_cell objects.now) × (l.data ≡ data_at objects.now) × (l.frames ≡ frames_of objects.now) × (l.frames ≤ room)) }
+    ensures some { IfSome result (λ l. (l.has_in_out ≡ imports_in_out objects.now) × (l.variables ≡ first_cell objects.now) × (l.texts ≡ data_at objects.now) × (l.frames ≡ frames_of objects.now) × (l.frames ≤ room)) }
     ensures none { IfNone result (room < frames_of objects.now) }
 {
     let has_in_out = any_has_in_out(objects);
     let variables = more(0, if has_in_out { 2 } else { 1 }, room)?;
-    let data = with_variables(variables, objects, room)?;
-    let frames = with_data(data, objects, room)?;
+    let texts = with_variables(variables, objects, room)?;
+    let frames = with_data(texts, objects, room)?;
     Some(Layout {
         has_in_out,
         variables,
-        data,
+        texts,
         frames,
     })
 }

@@ -11,6 +11,7 @@ mod act;
 mod arithmetic;
 mod code;
 mod core_state;
+mod decoding;
 mod flow;
 mod laws;
 mod layout;

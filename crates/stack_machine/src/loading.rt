@@ -15,7 +15,8 @@ use crate::machine::StartFault;
 use crate::op::Op;
 use crate::ops::{Scene, Site, number, op_of};
 use crate::owners::{Owner, owners};
-use crate::placed::{Placed, instrs};
+use crate::decoding::instrs;
+use crate::placed::Placed;
 use m2_base::ProcCode;
 use object_file::Object;
 use std::alloc::{AllocError, Global};
@@ -74,7 +75,7 @@ fn number_bodies(alloc: Global, objects: &[Object]) -> Result<Bodies, StartFault
 
 fn place_behind(ops: &[Op]) -> usize
     ensures is { result ≡ length ops.now }
-    ensures few { result < 2 ^ 58 }
+    ensures few { result < 2 ^ 60 }
 {
     ops.len()
 }
@@ -232,7 +233,7 @@ pub(crate) fn load(alloc: Global, objects: &[Object], layout: &Layout) -> Result
         origins: Vec::new(alloc),
         routines: Vec::new(alloc),
     };
-    add_objects(&mut listing, alloc, &scene, layout.data)?;
+    add_objects(&mut listing, alloc, &scene, layout.texts)?;
     place_behind(&listing.ops);
     Ok(Code {
         ops: listing.ops,

@@ -7,7 +7,8 @@ ghost use Rattle.stack_machine.specs.Sites.{IsScene, IsOn, spot_of, site_in};
 
 use crate::op::{Kind, Op};
 use crate::owners::{Owner, named};
-use crate::placed::{Placed, landing};
+use crate::decoding::landing;
+use crate::placed::Placed;
 use crate::act::SERVICES;
 use crate::trap::Trap;
 use code_form::Instr;

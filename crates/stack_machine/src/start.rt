@@ -83,7 +83,7 @@ pub(crate) fn blank(alloc: Global, objects: &[Object], layout: &Layout, size: us
     ensures state { IfOk result (λ core. state_of core ≡ blank_state objects.now size) }
     ensures room { IfOk result (λ core. HasRoom core) }
 {
-    let cells = first_of(alloc, objects, layout.data, size)?;
+    let cells = first_of(alloc, objects, layout.texts, size)?;
     let stack = zeros(alloc, size)?;
     let frames = Vec::with_capacity(alloc, size / 4 + 1)?;
     Ok(Core {
@@ -108,6 +108,8 @@ pub(crate) fn begin(code: &Code, core: &mut Core) -> Option<usize>
 {
     match enter(core, &code.routines[code.bodies[0]]) {
         Next::NoFrame(at) => Some(at),
-        _ => None,
+        Next::Goes => None,
+        Next::Halts => None,
+        Next::Traps(_) => None,
     }
 }
