@@ -1,7 +1,6 @@
 -- The first body of a loaded program, and where a machine stands.
 use Rattle.std.proofs.Common.{◌≡◌, ℕ, zero, suc, ◌+◌, ◌-◌, ◌<◌, ◌≤◌, ◌^◌, Bool, true, false, cond, ltb, List, [], ◌∷◌, ◌++◌, length, take, drop, map, replicate, get_or, Option, Some, None, refl, sym, ap, ◌∙◌, subst, arith, take_all, length-append, append_assoc}
 use Rattle.std.specs.Prelude.{ℤ, pos, slice_get, IfSome}
-use Rattle.std.proofs.lemmas.List.{length-map, length-replicate}
 use Rattle.code_form.specs.Modules.{Procedure}
 use Rattle.object_file.specs.Contents.{Contents}
 use Rattle.object_file.specs.Programs.{IsProgram}
@@ -53,6 +52,22 @@ filled os size len xs is n room =
     let long : length xs ≡ frames_of os = ap length is ∙ length-append (replicate (data_at os) (pos 0)) (all_data os) ∙ omega (arith, zeros_length (data_at os), cells_of_all os) in
     let all : take size xs ≡ xs = take_all size xs (omega (arith, long, room)) in
     ap (λ (ys : List ℤ). ys ++ replicate (size - len) (pos 0)) (all ∙ is) ∙ ap (λ (k : ℕ). (replicate (data_at os) (pos 0) ++ all_data os) ++ replicate (size - k) (pos 0)) (n ∙ long)
+
+pub first_length : (os : List Contents) (size : ℕ) → frames_of os ≤ size → length (first_cells os size) ≡ size
+first_length os size room =
+    let front = replicate (data_at os) (pos 0) ++ all_data os in
+    length-append front (replicate (size - frames_of os) (pos 0)) ∙ omega (arith, room, zeros_length (size - frames_of os), length-append (replicate (data_at os) (pos 0)) (all_data os), zeros_length (data_at os), cells_of_all os)
+
+pub no_cells : (n len : ℕ) (xs : List ℤ) → xs ≡ [] → len ≡ 0 → take n xs ++ replicate (n - len) (pos 0) ≡ replicate n (pos 0)
+no_cells n len xs e z =
+    let none : take n xs ≡ [] = shorter n xs e in
+    let all : n - len ≡ n = omega (arith, z) in
+    ap (λ (ys : List ℤ). ys ++ replicate (n - len) (pos 0)) none ∙ ap (λ (k : ℕ). replicate k (pos 0)) all
+  where
+    shorter : (n : ℕ) (xs : List ℤ) → xs ≡ [] → take n xs ≡ []
+    shorter zero xs e = refl
+    shorter (suc n) [] e = refl
+    shorter (suc n) (x ∷ xs) e = absurd cc
 
 -- ---- the first body
 
@@ -106,9 +121,9 @@ stands os code core full size program loaded short room now =
     chosen (Some at) on valid = let same = valid.origins in omega (arith, on, same)
 
 -- a body begins, or finds no room
-pub never_halts : (r : Routine) (s : State) (x : Next) → entered (Some r) s ≡ x → x ≡ step.Halts → ⊥
+pub never_halts : (r : Routine) (s : State) → entered (Some r) s ≡ step.Halts → ⊥
 unfolding entered
-never_halts r s x is halts = chosen (ltb s.heap (s.base + size_of r)) (is ∙ halts) where
+never_halts r s is = chosen (ltb s.heap (s.base + size_of r)) is where
   chosen : (b : Bool) → cond b (step.NoFrame r.entry) (step.Goes (record s { at = r.entry; top = s.base + size_of r; link = 0; cells = cleared s.cells s.base (size_of r) })) ≡ step.Halts → ⊥
   chosen true e = cc
   chosen false e = cc

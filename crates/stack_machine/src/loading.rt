@@ -11,7 +11,6 @@ ghost use Rattle.stack_machine.specs.State.{program_of};
 
 use crate::code::{Code, Origin, Routine};
 use crate::layout::{Layout, variables};
-use crate::machine::StartFault;
 use crate::op::Op;
 use crate::ops::{Scene, Site, number, op_of};
 use crate::owners::{Owner, owners};
@@ -55,7 +54,7 @@ fn procedures_in(object: &Object) -> usize
     object.procedures().len()
 }
 
-fn number_bodies(alloc: Global, objects: &[Object]) -> Result<Bodies, StartFault>
+fn number_bodies(alloc: Global, objects: &[Object]) -> Result<Bodies, AllocError>
     ensures bodies { IfOk result (λ b. b.bodies.items ≡ bodies_of objects.now) }
     ensures count { IfOk result (λ b. b.count ≡ count_of objects.now) }
     ensures few { IfOk result (λ b. b.count < 2 ^ 60) }
@@ -66,7 +65,7 @@ fn number_bodies(alloc: Global, objects: &[Object]) -> Result<Bodies, StartFault
         bodies.push(count)?;
         let more = procedures_in(object);
         if more > MOST_PROCEDURES - count {
-            return Err(StartFault::Memory);
+            return Err(AllocError);
         }
         count += more;
     }
@@ -213,7 +212,7 @@ fn add_objects(listing: &mut Listing, alloc: Global, scene: &Scene, text: usize)
 }
 
 /// The code of a program.
-pub(crate) fn load(alloc: Global, objects: &[Object], layout: &Layout) -> Result<Code, StartFault>
+pub(crate) fn load(alloc: Global, objects: &[Object], layout: &Layout) -> Result<Code, AllocError>
     requires program { IsProgram objects.now }
     requires layout { HasLayout layout.now objects.now }
     requires room { layout.now.frames < 2 ^ 32 }

@@ -15,7 +15,7 @@ use crate::start::{begin, blank};
 use crate::trap::Trap;
 use m2_io::{Sink, Source};
 use object_file::Program;
-use std::alloc::{AllocError, AllocFailed, Global};
+use std::alloc::{AllocError, Global};
 use std::marker::Model;
 use thiserror::Error;
 
@@ -33,14 +33,6 @@ impl From<AllocError> for StartFault {
     ghost from_gives = { λ _ e. e ≡ StartMemory };
 
     fn from(_: AllocError) -> StartFault {
-        StartFault::Memory
-    }
-}
-
-impl<T: Drop> From<AllocFailed<T>> for StartFault {
-    ghost from_gives = { λ _ e. e ≡ StartMemory };
-
-    fn from(_: AllocFailed<T>) -> StartFault {
         StartFault::Memory
     }
 }
