@@ -141,7 +141,7 @@ pub failed_placed : (f : Failure) (e : End) (p : Program) → e ≡ failed_end f
 failed_placed failures.Read e p is = subst (λ (x : End). IsPlaced x p) (sym is) tt
 failed_placed failures.Write e p is = subst (λ (x : End). IsPlaced x p) (sym is) tt
 
-trapped_placed : (e : End) (p : Program) (t : Trap) (at : ℕ) → IsTrapped e p t at → IsPlaced e p
+pub trapped_placed : (e : End) (p : Program) (t : Trap) (at : ℕ) → IsTrapped e p t at → IsPlaced e p
 trapped_placed ends.StepsSpent p t at h = absurd h
 trapped_placed ends.Halted p t at h = absurd h
 trapped_placed (ends.Trapped code m procedure offset) p t at h = (at, h.1)

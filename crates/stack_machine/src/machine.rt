@@ -2,7 +2,8 @@
 ghost use Rattle.std.specs.Prelude.{◌≡◌, ◌<◌, ◌≤◌, Some, length, map, slice_get, IfOk, IfErr, IfSome, IsErrOf};
 ghost use Rattle.m2_io.specs.Causes.{Rose};
 ghost use Rattle.stack_machine.specs.Loading.{IsLoaded, frames_of, begun};
-ghost use Rattle.stack_machine.specs.Machines.{EndsFrom, TrapsWithin};
+ghost use Rattle.stack_machine.specs.Machines.{EndsFrom, IsPlaced, Stands, TrapsWithin, now_of};
+ghost use Rattle.stack_machine.specs.State.{program_of};
 ghost use Rattle.stack_machine.specs.declared.machine.StartFault.TheVariants.{Memory as StartMemory};
 
 use crate::code::Code;
@@ -59,6 +60,30 @@ impl Model for Machine {
     ghost invariant = { λ m. IsLoaded m.program (program_of m.code) × Stands m.full m.code m.core };
 }
 
+/// Goes on from where a machine stands.
+fn go_on<P: Sink, K: Source>(
+    code: &Code,
+    core: &mut Core,
+    full: Option<usize>,
+    most: u64,
+    print: &mut P,
+    keys: &mut K,
+) -> End
+    requires stands { Stands full code.now core.old }
+    ensures stands { Stands full code.now core.new }
+    ensures ends { IfSome (K.left keys.old) (λ input. EndsFrom result (program_of code.now) most (now_of full core.old) (now_of full core.new) input (P.written print.old) (P.written print.new) (K.left keys.new)) }
+    ensures placed { IsPlaced result (program_of code.now) }
+    ensures write_failed { result ≡ End.WriteFailed → Rose (P.faults print.old) (P.faults print.new) }
+    ensures read_failed { result ≡ End.ReadFailed → Rose (K.faults keys.old) (K.faults keys.new) }
+    ensures prints_later { P.faults print.old ≤ P.faults print.new }
+    ensures reads_later { K.faults keys.old ≤ K.faults keys.new }
+{
+    match full {
+        None => steps(code, core, most, print, keys),
+        Some(at) => trapped(code, Trap::Memory, at),
+    }
+}
+
 impl Machine {
     /// A machine with so many cells, before the first step of the program.
     pub fn new(alloc: Global, program: Program, cells: u32) -> Result<Machine, StartFault>
@@ -91,10 +116,7 @@ impl Machine {
         ensures objects { self.new.objects ≡ self.old.objects }
         ensures code { self.new.code ≡ self.old.code }
     {
-        match self.full {
-            None => steps(&self.code, &mut self.core, most, print, keys),
-            Some(at) => trapped(&self.code, Trap::Memory, at),
-        }
+        go_on(&self.code, &mut self.core, self.full, most, print, keys)
     }
 
     /// The name of the object with this number in running order.
