@@ -1,0 +1,4 @@
+pub mod Cut
+pub mod Limits
+pub mod Streams
+pub mod Views

@@ -1,0 +1,3 @@
+//! Cutting a unit.
+/// Nothing yet.
+pub fn cut() {}
