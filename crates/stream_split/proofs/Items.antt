@@ -9,7 +9,7 @@ use Rattle.stream_split.specs.declared.cutter.Mode.TheVariants.{Free, Body}
 use Rattle.stream_split.specs.declared.streams.StreamTokens.{StreamTokens}
 use Rattle.stream_split.specs.Cut.{Event, Phase, amid, state, to, pick, cut_at, all_end, out_of}
 use Rattle.stream_split.specs.Streams.{StreamOf}
-use Rattle.stream_split.specs.Views.{label, item, Sent, frame_view, frames_on, frames_view, sends_all}
+use Rattle.stream_split.specs.Views.{label, stream_view, item, Sent, frame_view, frames_on, frames_view, sends_all}
 use Rattle.stream_split.proofs.Picks.{pick_append, pick_own, pick_other}
 
 get_item : (k : ℕ) (xs : List StreamTokens) (d : StreamTokens) → k < length xs → (get_or xs k d).tokens.items ≡ item k xs
@@ -124,3 +124,54 @@ frames_snoc n fs (x ∷ xs) f = frames_snoc n (frame_view n x ∷ fs) xs f
 pub frames_length : (n : ℕ) (fs : List (ℕ × Mode)) (xs : List Frame) → length (frames_on n fs xs) ≡ length fs + length xs
 frames_length n fs [] = omega arith
 frames_length n fs (x ∷ xs) = let e = frames_length n (frame_view n x ∷ fs) xs in omega (arith, e)
+
+map_append : {A B : Type 0} (f : A → B) (xs ys : List A) → map f (xs ++ ys) ≡ map f xs ++ map f ys
+map_append f [] ys = refl
+map_append f (x ∷ xs) ys = ap (λ z. f x ∷ z) (map_append f xs ys)
+
+pub sent_open : (n : ℕ) (xs ys : List StreamTokens) (v : StreamTokens) (b : StreamOf) (ts : List Token) → ys ≡ xs ++ (v ∷ []) → stream_view v ≡ b
+    → b.tokens ≡ ts → Sent n xs (to (n + length xs) ts) ys
+sent_open n xs ys v b ts e f g =
+    let is : v.tokens.items ≡ ts = ap (λ z. z.tokens) f ∙ g in
+    subst (Sent n xs (to (n + length xs) ts)) (sym e) (subst (λ z. Sent n xs (to (n + length xs) z) (xs ++ (v ∷ []))) is (sent_new n xs v (n + length xs) refl))
+
+-- a stream without its tokens
+abbrev bare : StreamOf → StreamOf
+bare b = record { stream = b.stream; text = b.text; outer = b.outer; level = b.level; kind = b.kind; tokens = [] }
+
+pub labels_open : (xs ys : List StreamTokens) (v : StreamTokens) (b c : StreamOf) → ys ≡ xs ++ (v ∷ []) → stream_view v ≡ b → bare b ≡ c
+    → map label ys ≡ map label xs ++ (c ∷ [])
+labels_open xs ys v b c e f g = ap (map label) e ∙ map_append label xs (v ∷ []) ∙ ap (λ z. map label xs ++ (z ∷ [])) (ap bare f ∙ g)
+
+-- the level of a procedure
+pub level_is : (n : ℕ) (xs : List Frame) → length xs + 1 ≡ length (frames_view n xs) + 1
+level_is n xs = let e = frames_length n [] xs in omega (arith, e)
+
+-- behind a procedure
+pub leave_some : (n k c : ℕ) (xs ys : List Frame) (f : Frame) → xs ≡ ys ++ (f ∷ [])
+    → state (n + f.stream) c (frames_view n ys) (amid f.mode) ≡ out_of k c (frames_view n xs)
+leave_some n k c xs ys f e = sym (ap (λ z. out_of k c z) (ap (frames_view n) e ∙ frames_snoc n [] ys f))
+
+pub leave_none : (n k c : ℕ) (xs ys : List Frame) → xs ≡ [] → ys ≡ xs
+    → state k c (frames_view n ys) (amid Free) ≡ out_of k c (frames_view n xs)
+leave_none n k c xs ys e f = ap (λ z. state k c (frames_view n z) (amid Free)) (f ∙ e) ∙ ap (λ z. out_of k c (frames_view n z)) (sym e)
+
+-- within a new block
+pub block_state : (n n' i len len' k k' : ℕ) (m m' : Mode) (around around1 around' : List Frame) → n' ≡ n → k' ≡ k → m' ≡ m → i ≡ len
+    → len' ≡ suc len → around1 ≡ around → around' ≡ around1 ++ (record { stream = k'; mode = m' } ∷ [])
+    → state (n' + i) (n' + len') (frames_view n' around') (amid (Body 0)) ≡ state (n + len) (suc (n + len)) ((n + k, m) ∷ frames_view n around) (amid (Body 0))
+block_state n n' i len len' k k' m m' around around1 around' en ek em ei el ea e =
+    let count : n' + len' ≡ suc (n + len) = omega (arith, en, el) in
+    let current : n' + i ≡ n + len = omega (arith, en, ei) in
+    let frames : frames_view n' around' ≡ (n + k, m) ∷ frames_view n around =
+        ap (λ z. frames_view z around') en ∙ ap (frames_view n) (e ∙ ap (λ z. z ++ (record { stream = k'; mode = m' } ∷ [])) ea) ∙ frames_snoc n [] around (record { stream = k'; mode = m' })
+        ∙ ap (λ z. (n + z, m') ∷ frames_view n around) ek ∙ ap (λ z. (n + k, z) ∷ frames_view n around) em in
+    ap (λ z. state z (n' + len') (frames_view n' around') (amid (Body 0))) current ∙ ap (λ z. state (n + len) z (frames_view n' around') (amid (Body 0))) count
+    ∙ ap (λ z. state (n + len) (suc (n + len)) z (amid (Body 0))) frames
+
+-- at the end of a text within a heading
+pub heading_sent : (n k : ℕ) (xs a b ys : List StreamTokens) (t : Token) (ts : List Token) (ends : List Event) → Sent n xs ((k, t) ∷ []) a → Sent n a ends b
+    → length b ≡ length xs → Sent n b (to (n + length b) ts) ys → Sent n xs ((k, t) ∷ (ends ++ to (n + length xs) ts)) ys
+heading_sent n k xs a b ys t ts ends s1 s2 e s3 =
+    sent_then n xs a ys ((k, t) ∷ []) (ends ++ to (n + length xs) ts) s1
+    (sent_then n a b ys ends (to (n + length xs) ts) s2 (subst (λ z. Sent n b (to (n + z) ts) ys) e s3))

@@ -1,3 +1,4 @@
 pub mod Runs
 pub mod Picks
 pub mod Items
+pub mod HeadingLimits
