@@ -2,3 +2,5 @@ pub mod Runs
 pub mod Picks
 pub mod Items
 pub mod HeadingLimits
+pub mod Future
+pub mod Loop

@@ -16,17 +16,23 @@ pub record StreamOf : Type 0 where
   pub kind : StreamKind
   pub tokens : List Token
 
+-- the stream of a procedure
+abbrev pub procedure_stream : ℕ → Enclosed → List Token → StreamOf
+procedure_stream j p ts = record { stream = j; text = 0; outer = p.outer; level = p.level; kind = Procedure; tokens = ts }
+
 -- the streams of procedures from number j on
 abbrev pub procedure_streams : ℕ → List Enclosed → List Event → List StreamOf
 procedure_streams j [] es = []
-procedure_streams j (p ∷ ps) es =
-    record { stream = j; text = 0; outer = p.outer; level = p.level; kind = Procedure; tokens = pick j es } ∷ procedure_streams (suc j) ps es
+procedure_streams j (p ∷ ps) es = procedure_stream j p (pick j es) ∷ procedure_streams (suc j) ps es
+
+-- the stream of the main module
+abbrev pub module_stream : ℕ → List Token → StreamOf
+module_stream m ts = record { stream = m; text = 0; outer = 0; level = 0; kind = Main; tokens = ts }
 
 -- the streams of a main text, of which the module's has the number m
 abbrev pub main_streams : ℕ → List Token → List StreamOf
 main_streams m ts =
-    let es : List Event = events (start m) ts in
-    record { stream = m; text = 0; outer = 0; level = 0; kind = Main; tokens = pick m es } ∷ procedure_streams (suc m) (opened (start m) ts) es
+    let es : List Event = events (start m) ts in module_stream m (pick m es) ∷ procedure_streams (suc m) (opened (start m) ts) es
 
 -- the tokens of a text, if there is one
 abbrev pub tokens_in : Option TextOf → List Token

@@ -1,14 +1,14 @@
 //! The cut, one token at a time.
-ghost use Rattle.std.specs.Prelude.{◌≡◌, ◌<◌, ◌+◌, ◌-◌, OnOk, IfSome, length, [], ◌∷◌, ◌++◌, suc, map, List};
+ghost use Rattle.std.specs.Prelude.{◌≡◌, ◌<◌, ◌+◌, ◌-◌, OnOk, IfOk, IfSome, length, [], ◌∷◌, ◌++◌, suc, map, List};
 ghost use Rattle.std.specs.List.{All};
-ghost use Rattle.stream_split.specs.Cut.{State, deeper, all_end, unless_stop, state, amid_next, amid, Enclosed, opens_by, heading_opens, enclosed, seen, to, cut_at, heading_next, heading_goes, seen_next, next_by, goes_by, ended, heading, one_left, out_of, end_at};
-ghost use Rattle.stream_split.specs.Limits.{Within, heading_limit, seen_limit, limit_at};
-ghost use Rattle.stream_split.specs.Streams.{procedure_streams};
+ghost use Rattle.stream_split.specs.Cut.{State, deeper, all_end, unless_stop, state, amid_next, amid, Enclosed, opens_by, heading_opens, enclosed, seen, to, cut_at, heading_next, heading_goes, seen_next, next_by, goes_by, ended, heading, one_left, out_of, end_at, start};
+ghost use Rattle.stream_split.specs.Limits.{Within, heading_limit, seen_limit, limit_at, passed};
+ghost use Rattle.stream_split.specs.Streams.{procedure_streams, main_streams as spec_main_streams};
 ghost use Rattle.m2_base.specs.declared.trees.declarations.StreamKind.TheVariants.{Procedure};
 ghost use Rattle.stream_split.specs.declared.cutter.Mode.TheVariants.{Body};
 ghost use Rattle.stream_split.specs.Views.{stream_view, label, Sent, frames_view, state_view, phase_view, sends_all, Ready};
 
-use crate::sorts::Sort;
+use crate::sorts::{Sort, sort_of};
 use crate::streams::{SplitFault, StreamTokens};
 use m2_base::{StreamKind, Token, TokenKind};
 use std::alloc::{AllocError, Global};
@@ -437,4 +437,42 @@ impl Cutter {
         }
         Ok(())
     }
+}
+
+/// The streams of a main text, the first of which has this number: the module's, and those of its procedures in the order of
+/// their PROCEDURE tokens.
+pub fn main_streams(
+    alloc: Global,
+    first: u32,
+    tokens: &[Token],
+) -> Result<Vec<StreamTokens>, SplitFault>
+    ensures streams { IfOk result (λ out. map stream_view out.items ≡ spec_main_streams first tokens.now) }
+    ensures limits { Within (passed 0 (start first) tokens.now) result }
+{
+    let mut streams = Vec::new(alloc);
+    streams.push(StreamTokens {
+        stream: first,
+        text: 0,
+        outer: 0,
+        level: 0,
+        kind: StreamKind::Main,
+        tokens: Vec::new(alloc),
+    })?;
+    let mut cutter = Cutter {
+        first,
+        current: 0,
+        mode: Mode::Free,
+        phase: Phase::Amid,
+        around: Vec::new(alloc),
+        held: Vec::new(alloc),
+        streams,
+    };
+    for t in tokens {
+        let s = sort_of(t.kind);
+        match cutter.step(alloc, *t, s) {
+            Ok(()) => {}
+            Err(fault) => return Err(fault),
+        }
+    }
+    Ok(cutter.streams)
 }
