@@ -4,3 +4,5 @@ pub mod Items
 pub mod HeadingLimits
 pub mod Future
 pub mod Loop
+pub mod KindSteps
+pub mod LimitsAgree
