@@ -6,3 +6,4 @@ pub mod Future
 pub mod Loop
 pub mod KindSteps
 pub mod LimitsAgree
+pub mod Definitions

@@ -1,16 +1,18 @@
 -- The limit that the cut passes is that of the text.
-use Rattle.std.proofs.Common.{◌≡◌, ℕ, zero, suc, Bool, true, false, true≢false, List, [], ◌∷◌, ◌++◌, refl, sym, ap, ◌∙◌, subst, length, ◌+◌, ◌-◌, ◌==◌, ◌&&◌, arith, Option, Some, None, if◌then◌else◌, nat_lt}
+use Rattle.std.proofs.Common.{◌≡◌, ℕ, zero, suc, Bool, true, false, true≢false, List, [], ◌∷◌, ◌++◌, refl, sym, ap, ◌∙◌, subst, length, ◌+◌, ◌-◌, ◌==◌, ◌&&◌, arith, Option, Some, None, if◌then◌else◌, nat_lt, slice_get}
 use Rattle.m2_base.specs.declared.kind.TokenKind.{TokenKind}
 use Rattle.m2_base.specs.declared.kind.TokenKind.TheVariants as kinds
 use Rattle.m2_base.specs.declared.token.Token.{Token}
 use Rattle.m2_base.specs.Statics.BlockLimits.{Standing, in_block, in_heading, behind_end, behind_name, Begun, BlockLimit, too_many_procedures, too_deep_procedure, begun_in, begins_procedure, is_identifier, is_procedure_word, names_next, block_step, open_after, heading_step, limit_from, limit_of}
-use Rattle.m2_base.specs.Units.{AreNumbered, IsInner}
+use Rattle.m2_base.specs.Lists.{Each}
+use Rattle.m2_base.specs.Units.{AreNumbered, IsInner, IsText, IsUnit, TextOf, UnitTexts}
 use Rattle.stream_split.specs.declared.sorts.Sort.{Sort}
 use Rattle.stream_split.specs.declared.sorts.Sort.TheVariants.{Stop, Word, Procedure, Opener, Closer, Left, Right, Semicolon, Other}
 use Rattle.stream_split.specs.declared.cutter.Mode.{Mode}
 use Rattle.stream_split.specs.declared.cutter.Mode.TheVariants.{Free, Body}
 use Rattle.stream_split.specs.Cut.{less, sort, Phase, amid, seen, heading, two_left, one_left, ended, State, state, start, next, next_by, amid_next, seen_next, heading_next, unless_stop, out_of, closed, deeper, opens_by, heading_opens}
 use Rattle.stream_split.specs.Limits.{heading_limit, limit_at, seen_limit, first_of, passed}
+use Rattle.stream_split.specs.Streams.{main_tokens, tokens_in}
 use Rattle.stream_split.proofs.KindSteps.{is_word, is_procedure, heading_by, block_by, step_by, open_by, ByStep, by_step}
 
 -- how many constructs are open in the current block and in those round it
@@ -398,3 +400,17 @@ numbered_closes at (t ∷ u ∷ ts) h = (λ e. absurd (inner_sort t.kind h.0 e),
 -- the cut of a text passes its limit
 pub passed_is_limit : (m at : ℕ) (ts : List Token) → AreNumbered at ts → passed 0 (start m) ts ≡ limit_of ts
 passed_is_limit m at ts h = passed_is 0 (start m) ts refl (numbered_closes at ts h)
+
+unit_numbered : (u : UnitTexts) → IsUnit u → (t : TextOf) → slice_get u.list 0 ≡ Some t → AreNumbered 0 t.tokens
+unit_numbered u h t e = on u.list h.texts e
+  where
+    on : (list : List TextOf) → Each (IsText u.names) list → slice_get list 0 ≡ Some t → AreNumbered 0 t.tokens
+    on [] a e = cc
+    on (x ∷ list) a e = let same : x ≡ t = cc in subst (λ z. AreNumbered 0 z.tokens) same a.0.numbered
+
+-- the limit of a unit's main text
+pub unit_limit : (u : UnitTexts) → IsUnit u → (t : TextOf) → slice_get u.list 0 ≡ Some t → (m : ℕ) (ts : List Token) → ts ≡ t.tokens
+    → passed 0 (start m) ts ≡ limit_of (main_tokens u)
+unit_limit u h t e m ts i =
+    let main : ts ≡ main_tokens u = i ∙ sym (ap tokens_in e) in
+    passed_is_limit m 0 ts (subst (AreNumbered 0) (sym i) (unit_numbered u h t e)) ∙ ap limit_of main

@@ -1,4 +1,5 @@
 pub mod Cut
 pub mod Limits
+pub mod Sizes
 pub mod Streams
 pub mod Views

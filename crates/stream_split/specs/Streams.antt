@@ -39,11 +39,15 @@ abbrev pub tokens_in : Option TextOf → List Token
 tokens_in None = []
 tokens_in (Some t) = t.tokens
 
+-- the stream of a definition text
+abbrev pub definition_stream : ℕ → ℕ → List Token → StreamOf
+definition_stream j k ts = record { stream = j; text = k; outer = 0; level = 0; kind = Definition; tokens = ts }
+
 -- the streams of these definition texts, the first of which has the number j
 abbrev pub definition_streams : ℕ → List TextOf → List ℕ → List StreamOf
 definition_streams j texts [] = []
 definition_streams j texts (k ∷ order) =
-    record { stream = j; text = k; outer = 0; level = 0; kind = Definition; tokens = tokens_in (slice_get texts k) } ∷ definition_streams (suc j) texts order
+    definition_stream j k (tokens_in (slice_get texts k)) ∷ definition_streams (suc j) texts order
 
 -- the main text
 abbrev pub main_tokens : UnitTexts → List Token

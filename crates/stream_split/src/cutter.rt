@@ -141,7 +141,7 @@ fn next_amid(m: Mode, t: Token, s: Sort) -> Option<(Mode, Phase)>
 }
 
 /// The number of the stream at an index. None where it has none.
-fn number_of(first: u32, index: usize) -> Option<u32>
+pub fn number_of(first: u32, index: usize) -> Option<u32>
     ensures { IfSome result (λ n. n ≡ first + index) }
 {
     first.checked_add(u32::try_from(index).ok()?)

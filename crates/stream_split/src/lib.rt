@@ -8,9 +8,11 @@
 #![tactic(auto)]
 
 mod cutter;
+mod extents;
 mod sorts;
 mod splitting;
 mod streams;
 
+pub use extents::sizes;
 pub use splitting::cut;
 pub use streams::{SplitFault, StreamTokens};
