@@ -7,3 +7,10 @@ pub mod Loop
 pub mod KindSteps
 pub mod LimitsAgree
 pub mod Definitions
+pub mod SizeSteps
+pub mod Numbers
+pub mod Parts
+pub mod Flow
+pub mod Told
+pub mod Depths
+pub mod OwnRests
