@@ -14,3 +14,5 @@ pub mod Flow
 pub mod Told
 pub mod Depths
 pub mod OwnRests
+pub mod Refusals
+pub mod Keeping
