@@ -16,3 +16,4 @@ pub mod Depths
 pub mod OwnRests
 pub mod Refusals
 pub mod Keeping
+pub mod First
