@@ -17,3 +17,6 @@ pub mod OwnRests
 pub mod Refusals
 pub mod Keeping
 pub mod First
+pub mod Checked
+pub mod Places
+pub mod Rotations
