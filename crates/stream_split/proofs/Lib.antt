@@ -20,3 +20,4 @@ pub mod First
 pub mod Checked
 pub mod Places
 pub mod Rotations
+pub mod TreesAgree
