@@ -213,7 +213,7 @@ count_heading k c fs m q hs t Left = omega arith
 count_heading k c fs m q hs t Right = omega arith
 count_heading k c fs m q hs t Other = omega arith
 
-count_out : (k c : ℕ) (fs : List (ℕ × Mode)) → count (out_of k c fs) ≡ c
+pub count_out : (k c : ℕ) (fs : List (ℕ × Mode)) → count (out_of k c fs) ≡ c
 count_out k c [] = refl
 count_out k c (f ∷ fs) = refl
 

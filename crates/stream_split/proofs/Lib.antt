@@ -21,3 +21,5 @@ pub mod Checked
 pub mod Places
 pub mod Rotations
 pub mod TreesAgree
+pub mod Agree
+pub mod Climbs

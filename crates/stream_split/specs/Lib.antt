@@ -1,3 +1,5 @@
+pub mod Agreement
+pub mod Chains
 pub mod Cut
 pub mod Limits
 pub mod Sizes
