@@ -1,0 +1,10 @@
+use Rattle.std.proofs.Common.{◌∙◌}
+use Rattle.stream_split.proofs.Items.{ends_step}
+use Rattle.stream_split.proofs.cutter.end_each.Goals as goal
+
+pub loop-f-preserved : goal.loop-f-preserved
+loop-f-preserved c = record {
+  sent = ends_step c.args.first c.args.around.now c.loop-f.f-index _ c.args.t _ _ _ c.loop-f-test.true c.loop-f.invariant.sent c.in_ok-send.ensures.sent;
+  labels = c.in_ok-send.ensures.labels ∙ c.loop-f.invariant.labels;
+  count = c.in_ok-send.ensures.count ∙ c.loop-f.invariant.count;
+}

@@ -1,0 +1,85 @@
+//! Cutting a unit.
+ghost use Rattle.std.specs.Prelude.{◌≡◌, IfOk, map, slice_get};
+ghost use Rattle.m2_base.specs.Statics.BlockLimits.{limit_of};
+ghost use Rattle.stream_split.specs.Limits.{Within};
+ghost use Rattle.stream_split.specs.Streams.{streams_of, main_tokens, definition_stream, definition_streams, tokens_in};
+ghost use Rattle.stream_split.specs.Views.{stream_view};
+
+use crate::cutter::{main_streams, number_of};
+use crate::streams::{SplitFault, StreamTokens};
+use m2_base::{StreamKind, Texts};
+use std::alloc::{AllocError, Global};
+
+/// The stream of a definition module, whose text has the number `k`.
+fn definition_text(
+    alloc: Global,
+    texts: &Texts,
+    stream: u32,
+    k: u32,
+) -> Result<StreamTokens, AllocError>
+    ensures stream { IfOk result (λ s. stream_view s ≡ definition_stream stream k (tokens_in (slice_get texts.now.list k))) }
+{
+    let mut tokens = Vec::new(alloc);
+    if let Some(text) = texts.list.get(k as usize) {
+        tokens.extend_from_slice(text.tokens.as_slice())?;
+    }
+    Ok(StreamTokens {
+        stream,
+        text: k,
+        outer: 0,
+        level: 0,
+        kind: StreamKind::Definition,
+        tokens,
+    })
+}
+
+/// The streams of the definition modules, in dependency order.
+fn definition_texts(alloc: Global, texts: &Texts) -> Result<Vec<StreamTokens>, AllocError>
+    ensures streams { IfOk result (λ out. map stream_view out.items ≡ definition_streams 1 texts.now.list texts.now.order) }
+{
+    let mut streams = Vec::new(alloc);
+    for k in &texts.order {
+        let Some(stream) = number_of(1, streams.len()) else {
+            return Err(AllocError);
+        };
+        let text = definition_text(alloc, texts, stream, *k)?;
+        streams.push(text)?;
+    }
+    Ok(streams)
+}
+
+/// The streams of the definition modules, and behind them those of the main text.
+fn with_main(
+    alloc: Global,
+    texts: &Texts,
+    streams: Vec<StreamTokens>,
+) -> Result<Vec<StreamTokens>, SplitFault>
+    requires { map stream_view streams.items ≡ definition_streams 1 texts.now.list texts.now.order }
+    ensures streams { IfOk result (λ out. map stream_view out.items ≡ streams_of texts.now) }
+    ensures limits { Within (limit_of (main_tokens texts.now)) result }
+{
+    let mut all = streams;
+    let Some(first) = number_of(1, all.len()) else {
+        return Err(SplitFault::Memory);
+    };
+    match main_streams(alloc, first, texts.main().tokens.as_slice()) {
+        Ok(mut more) => match all.append(&mut more) {
+            Ok(()) => Ok(all),
+            Err(_) => Err(SplitFault::Memory),
+        },
+        Err(fault) => Err(fault),
+    }
+}
+
+/// The streams of a unit: those of the definition modules in dependency order, of the main module, and of its procedures in
+/// the order of their PROCEDURE tokens. The first has the number 1. There are none where the main text has too many
+/// procedures, or one that is nested too deep.
+pub fn cut(alloc: Global, texts: &Texts) -> Result<Vec<StreamTokens>, SplitFault>
+    ensures streams { IfOk result (λ out. map stream_view out.items ≡ streams_of texts.now) }
+    ensures limits { Within (limit_of (main_tokens texts.now)) result }
+{
+    match definition_texts(alloc, texts) {
+        Ok(streams) => with_main(alloc, texts, streams),
+        Err(_) => Err(SplitFault::Memory),
+    }
+}
