@@ -1,0 +1,4 @@
+pub mod Reading
+pub mod Divisions
+pub mod Searches
+pub mod Opaque
