@@ -2,3 +2,4 @@ pub mod Reading
 pub mod Divisions
 pub mod Searches
 pub mod Opaque
+pub mod Walks

@@ -6,6 +6,8 @@ use Rattle.m2_base.specs.Rows.{Fits, HasSmallNumbers, row_meaning}
 use Rattle.m2_base.specs.States.{Frame}
 use Rattle.m2_base.specs.Statics.Contexts.{Block, Scene, row_at}
 use Rattle.m2_base.specs.Tables.{rows_at}
+use Rattle.m2_base.specs.declared.operands.Operand.{Operand}
+use Rattle.m2_base.specs.declared.operands.Operand.TheVariants.{Constant, Computed, Variable, NamedType, Procedure}
 use Rattle.m2_base.specs.declared.rows.Place.{Place}
 use Rattle.m2_base.specs.declared.rows.Row.{Row}
 use Rattle.m2_base.specs.declared.rows.RowMeaning.{RowMeaning}
@@ -62,3 +64,12 @@ pub record IsRowOf (f : Frame) (p : Place) (r : Row) : Type 0 where
 pub record IsHere (f : Frame) (r : Row) : Type 0 where
   pub place : Place
   pub row : IsRowOf f place r
+
+-- the type of an operand can be asked for
+abbrev pub IsOperandThere : Frame → Operand → Type 0
+IsOperandThere f (Constant t v) = IsThere f t
+IsOperandThere f (Computed t) = IsThere f t
+IsOperandThere f (Variable t) = IsThere f t
+IsOperandThere f (NamedType t) = IsThere f t
+IsOperandThere f (Procedure n t k s) = IsThere f t
+IsOperandThere f other = Unit {0}

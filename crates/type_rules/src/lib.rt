@@ -16,17 +16,24 @@ macro_rules! known {
     };
 }
 
+mod compatibility;
 mod finding;
 mod folding;
 mod members;
+mod operands;
 mod ordinals;
 mod rows;
 mod sameness;
 mod sizes;
 mod standing;
 
+pub use compatibility::compatible;
 pub use folding::fold;
 pub use members::{field_of, index_of};
+pub use operands::{
+    BITSET, BOOLEAN, BROKEN, CARDINAL, CHARACTER, INTEGER, NIL, TEXT, WHOLE, is_integer_or_cardinal,
+    is_one_char, is_string, operand_type,
+};
 pub use ordinals::{base_of, range_of};
 pub use sameness::same;
 pub use sizes::size_of;

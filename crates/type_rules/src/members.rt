@@ -32,12 +32,12 @@ pub fn index_of<S: Scopes>(scopes: &mut S, around: &Around, of: Place) -> Ask<Op
 }
 
 /// Whether a row is a field of this name, of the record whose row has this ordinal.
-fn is_field(row: &Row, record: u32, name: u32) -> bool
+fn is_field(row: &Row, of: u32, name: u32) -> bool
     requires { HasSmallNumbers (row_meaning row.now) }
-    ensures { result ≡ spec_is_field record name row.now }
+    ensures { result ≡ spec_is_field of name row.now }
 {
     match read_row(row) {
-        RowMeaning::Field(_, _, owner, field) => owner == record && field == name,
+        RowMeaning::Field(_, _, owner, field) => owner == of && field == name,
         _ => false,
     }
 }
