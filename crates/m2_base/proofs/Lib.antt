@@ -15,6 +15,7 @@ pub mod RowLaws
 pub mod SceneLaws
 pub mod Seen
 pub mod ItemLaws
+pub mod LayoutIndex
 pub mod LayoutLaws
 pub mod ShapeLaws
 pub mod Sound
