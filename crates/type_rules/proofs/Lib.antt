@@ -3,3 +3,4 @@ pub mod Divisions
 pub mod Searches
 pub mod Opaque
 pub mod Walks
+pub mod Compatibles

@@ -3,21 +3,25 @@ use Rattle.std.proofs.Common.{◌≡◌, ◌≢◌, ◌⊎◌, inl, inr, ℕ, ze
 use Rattle.std.specs.Prelude.{slice_index_or, slice_get, unwrap_or, option_map}
 use Rattle.std.proofs.lemmas.Bool.{true≢false}
 use Rattle.m2_base.specs.Finished.{IsTold, finished}
-use Rattle.m2_base.specs.Lists.{IsIn, IsPrefixOf, Each}
+use Rattle.m2_base.specs.Lists.{IsIn, IsPrefixOf, Each, Grows, WhereLast}
 use Rattle.m2_base.specs.Rows.{at_place, row_meaning, IsWellFormed}
 use Rattle.m2_base.specs.Scopes.{CanSearch, Searched, IsShown, looks_of}
-use Rattle.m2_base.specs.States.{State, Frame, Look, Waits, texts_of, fills_of, finished_of}
+use Rattle.m2_base.specs.States.{State, Frame, Look, IsAmong, Waits, texts_of, fills_of, finished_of}
 use Rattle.m2_base.specs.Statics.Lookup.{entry_in}
+use Rattle.m2_base.specs.Statics.Uses.{answer_of}
 use Rattle.m2_base.specs.Tables.{lookup, found_or, first_named, rows_at, Settles, Lacks}
+use Rattle.m2_base.specs.declared.replies.Ask.TheVariants.{Known, DontKnowYet as Waiting}
 use Rattle.m2_base.specs.declared.replies.Head.{Head}
 use Rattle.m2_base.specs.declared.replies.Reply.{Reply}
 use Rattle.m2_base.specs.declared.replies.Reply.TheVariants.{Found, Absent, DontKnowYet}
 use Rattle.m2_base.specs.declared.rows.Place.{Place}
 use Rattle.m2_base.specs.declared.rows.Row.{Row}
 use Rattle.m2_base.specs.declared.sites.Around.{Around}
+use Rattle.m2_base.proofs.Kept.{Each-map}
 use Rattle.m2_base.proofs.RowLaws.{HasSmallNumbers-fits}
 use Rattle.type_rules.specs.Asks.{Reads}
 use Rattle.type_rules.specs.Scenes.{Suits, Agrees, IsThere, IsRowOf, rows_of}
+use Rattle.type_rules.specs.Sites.{CanLook, Looked, IsLookFor}
 
 -- ** Rows that count
 
@@ -174,3 +178,79 @@ found_row old new a at name chain p r suits inner s o searched =
           };
       said = record { fits = formed.fits; small = HasSmallNumbers-fits (length (texts_of old).names) p (row_meaning r) suits.names s o formed.fits };
     }
+
+-- ** A search in a chain
+
+-- the rows of the scopes of a chain are the finished ones, where the own scope is none of them or complete
+lookup_all : (f : Frame) (name : ℕ) (chain : List ℕ) → Agrees f → Each (λ s. s ≤ f.setting.fills) chain → (IsIn f.setting.fills chain → f.closed ≡ true)
+    → lookup (rows_of f) chain name ≡ lookup (finished f.setting.texts) chain name
+lookup_all f name [] agrees inner settled = refl
+lookup_all f name (s ∷ chain) agrees inner settled =
+    let rest : lookup (rows_of f) chain name ≡ lookup (finished f.setting.texts) chain name = lookup_all f name chain agrees inner.1 (λ on. settled (inr on)) in
+    let here : rows_at (rows_of f) s ≡ rows_at (finished f.setting.texts) s =
+    elim (below_or_same s f.setting.fills inner.0) as (λ _. rows_at (rows_of f) s ≡ rows_at (finished f.setting.texts) s) [
+      | inl below ↦ counted_below f s agrees below
+      | inr same ↦ subst (λ k. rows_at (rows_of f) k ≡ rows_at (finished f.setting.texts) k) (sym same) (counted_own f agrees ∙ agrees.whole (settled (inl (sym same))))
+    ] in
+    ap (λ rows. found_or s (first_named name rows 0) (lookup (rows_of f) chain name)) here
+    ∙ ap (λ o. found_or s (first_named name (rows_at (finished f.setting.texts) s) 0) o) rest
+
+module _ (old new : State) (a : Around) (at name : ℕ) (chain : List ℕ) (suits : Suits old.frame a) (can : CanLook old.frame chain) where
+  pub can_look : name ≢ 0 → CanSearch old chain name
+  can_look named = record {
+    short = can.short;
+    exist = Each-map (λ s. s ≤ fills_of old) (λ s. s < length old.frame.setting.areas) chain (λ s k. let e = suits.exist in omega (arith, e, k)) can.inner;
+    named = named;
+  }
+
+  pub found_on : (p : Place) (r : Row) → Searched old new at chain name (Found p r) → IsTold (texts_of old) → lookup (rows_of old.frame) chain name ≡ Some (p, r)
+  found_on p r searched told =
+      elim can.settled as (λ _. lookup (rows_of old.frame) chain name ≡ Some (p, r)) [
+        | inl own ↦ subst (λ c. lookup (rows_of old.frame) c name ≡ Some (p, r)) (sym own) (
+            found_in old new a at (fills_of old) name p r suits (omega arith) (subst (λ c. Searched old new at c name (Found p r)) own searched) told)
+        | inr closed ↦ lookup_all old.frame name chain (suits.told told) can.inner closed ∙ searched.settled told
+      ]
+
+  pub absent_on : Searched old new at chain name Absent → IsTold (texts_of old) → lookup (rows_of old.frame) chain name ≡ None
+  absent_on searched told =
+      elim can.settled as (λ _. lookup (rows_of old.frame) chain name ≡ None) [
+        | inl own ↦ subst (λ c. lookup (rows_of old.frame) c name ≡ None) (sym own) (
+            absent_in old new a at (fills_of old) name suits (omega arith) (subst (λ c. Searched old new at c name Absent) own searched) told)
+        | inr closed ↦ lookup_all old.frame name chain (suits.told told) can.inner closed ∙ searched.settled told
+      ]
+
+  pub unknown_on : (h : Head) → Searched old new at chain name (DontKnowYet h) → h.scope ≡ fills_of old → IsTold (texts_of old) → lookup (rows_of old.frame) chain name ≡ None
+  unknown_on h searched same told =
+      elim can.settled as (λ _. lookup (rows_of old.frame) chain name ≡ None) [
+        | inl own ↦ subst (λ c. lookup (rows_of old.frame) c name ≡ None) (sym own) (
+            unknown_in old new a at name (fills_of old) h suits (subst (λ c. Searched old new at c name (DontKnowYet h)) own searched) same told)
+        | inr closed ↦ absurd (
+            let open_yet : new.frame.closed ≡ false = (searched.says.stops.own (same ∙ ap (λ (f : Frame). f.setting.fills) (sym searched.keeps.frame))).0 in
+            true≢false (sym (closed (subst (λ s. IsIn s chain) same searched.says.on)) ∙ ap (λ (f : Frame). f.closed) (sym searched.keeps.frame) ∙ open_yet))
+      ]
+
+found_among : (at name : ℕ) (chain : List ℕ) (heads : List Head) (p : Place) (r : Row) → IsIn p.scope chain → IsAmong (looks_of at name chain heads (Found p r)) (answer_of name at (p, r))
+found_among at name [] heads p r on = absurd on
+found_among at name (s ∷ chain) heads p r on = inl (refl, refl, refl)
+
+pub Looked-found : (old new : State) (at name : ℕ) (chain : List ℕ) (p : Place) (r : Row) → Searched old new at chain name (Found p r) → Looked old new at name (Known (Some (p, r)))
+Looked-found old new at name chain p r searched =
+    record { looks = looks_of at name chain searched.heads (Found p r); keeps = searched.keeps; among = found_among at name chain searched.heads p r searched.says.on }
+
+pub Looked-none : (old new : State) (at name : ℕ) (chain : List ℕ) (reply : Reply) → Searched old new at chain name reply → Looked old new at name (Known None)
+Looked-none old new at name chain reply searched = record { looks = looks_of at name chain searched.heads reply; keeps = searched.keeps; among = tt }
+
+pub Looked-waits : (old new : State) (at name : ℕ) (chain : List ℕ) (h : Head) → Searched old new at chain name (DontKnowYet h) → Looked old new at name (Waiting h)
+Looked-waits old new at name chain h searched = record { looks = looks_of at name chain searched.heads (DontKnowYet h); keeps = searched.keeps; among = tt }
+
+last_of : (looks after : Option (List Look)) (look : Look) (P : Look → Type 0) → Grows looks (look ∷ []) after → P look → WhereLast after P
+last_of None None look P grows p = tt
+last_of (Some xs) (Some ys) look P grows p = (xs, look, grows, p)
+last_of None (Some ys) look P grows p = absurd grows
+last_of (Some xs) None look P grows p = absurd grows
+
+pub last_look : (old new : State) (at name : ℕ) (chain : List ℕ) (head : Head) → Searched old new at chain name (DontKnowYet head) → WhereLast new.looks (IsLookFor at name chain (DontKnowYet head))
+last_look old new at name [] head searched = absurd searched.says.on
+last_look old new at name (s ∷ chain) head searched =
+    let look : Look = record { at = at; name = name; chain = s ∷ chain; heads = searched.heads; reply = DontKnowYet head } in
+    last_of old.looks new.looks look (IsLookFor at name (s ∷ chain) (DontKnowYet head)) searched.keeps.grows (record { at_is = refl; name_is = refl; chain_is = refl; replied = refl })

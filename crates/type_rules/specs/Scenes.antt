@@ -2,6 +2,8 @@
 use Rattle.std.specs.Prelude.{◌≡◌, ℕ, ◌<◌, ◌≤◌, ◌^◌, true, false, List, [], ◌∷◌, ◌++◌, Option, Some, None, length, take}
 use Rattle.m2_base.specs.Finished.{IsTold, finished}
 use Rattle.m2_base.specs.Lists.{IsPrefixOf, WhereKept}
+use Rattle.m2_base.specs.Names.{standard_names}
+use Rattle.m2_base.specs.Standard.{standard_rows}
 use Rattle.m2_base.specs.Rows.{Fits, HasSmallNumbers, row_meaning}
 use Rattle.m2_base.specs.States.{Frame}
 use Rattle.m2_base.specs.Statics.Contexts.{Block, Scene, row_at}
@@ -25,10 +27,11 @@ rows_of f = take f.setting.fills (finished f.setting.texts) ++ f.entered ∷ []
 abbrev pub scene_of : Frame → Around → Scene
 scene_of f a = record { block = block_of a; tables = rows_of f }
 
--- What holds of the scopes where the texts are told: the finished rows of the scopes before are there, each scope has fewer
--- rows than numbers of 32 bits, and what is entered is the beginning of the own scope's rows, in the end the whole.
+-- What holds of the scopes where the texts are told: the finished rows of the scopes before are there, scope 0 is the standard
+-- one, each scope has fewer rows than numbers of 32 bits, and what is entered is the beginning of the own scope's rows, in the end the whole.
 pub record Agrees (f : Frame) : Type 0 where
   pub scopes : f.setting.fills < length (finished f.setting.texts)
+  pub standard : rows_at (finished f.setting.texts) 0 ≡ standard_rows
   pub few : (s : ℕ) → length (rows_at (finished f.setting.texts) s) < 2 ^ 32
   pub entered : IsPrefixOf f.entered (rows_at (finished f.setting.texts) f.setting.fills)
   pub whole : f.closed ≡ true → f.entered ≡ rows_at (finished f.setting.texts) f.setting.fills
@@ -40,6 +43,7 @@ pub record Suits (f : Frame) (a : Around) : Type 0 where
   pub inner : 0 < f.setting.fills
   pub exist : f.setting.fills < length f.setting.areas
   pub names : length f.setting.texts.names ≤ 2 ^ 32
+  pub standard : IsPrefixOf standard_names f.setting.texts.names
   pub home : a.module ≤ f.setting.fills
   pub own : WhereKept a.own (λ s. s < f.setting.fills)
   pub told : IsTold f.setting.texts → Agrees f

@@ -19,6 +19,7 @@ macro_rules! known {
 mod compatibility;
 mod finding;
 mod folding;
+mod looking;
 mod members;
 mod operands;
 mod ordinals;
