@@ -4,3 +4,4 @@ pub mod Searches
 pub mod Opaque
 pub mod Walks
 pub mod Compatibles
+pub mod Binding

@@ -27,6 +27,7 @@ mod rows;
 mod sameness;
 mod sizes;
 mod standing;
+mod uses;
 
 pub use compatibility::compatible;
 pub use folding::fold;
@@ -38,3 +39,4 @@ pub use operands::{
 pub use ordinals::{base_of, range_of};
 pub use sameness::same;
 pub use sizes::size_of;
+pub use uses::use_name;

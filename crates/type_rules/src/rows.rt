@@ -19,6 +19,7 @@ pub(crate) fn row_at<S: Scopes>(scopes: &mut S, around: &Around, place: Place) -
     ensures told { IsTold (texts_of (S.state scopes.old)) →
         WhereKnown result (λ row. row ≡ spec_row (rows_of (S.state scopes.old).frame) place) }
     ensures row { WhereKnown result (λ row. IsRowOf (S.state scopes.old).frame place row) }
+    ensures of { WhereWaiting result (λ head. head.scope ≡ place.scope) }
 {
     let _scope = around.scope;
     match scopes.fetch(0, place) {
