@@ -1,0 +1,7 @@
+pub mod Reading
+pub mod Divisions
+pub mod Searches
+pub mod Opaque
+pub mod Walks
+pub mod Compatibles
+pub mod Binding

@@ -1,0 +1,256 @@
+-- What a search finds in the rows that count.
+use Rattle.std.proofs.Common.{◌≡◌, ◌≢◌, ◌⊎◌, inl, inr, ℕ, zero, suc, ◌+◌, ◌==◌, ◌<◌, ◌≤◌, ◌^◌, Bool, true, false, List, [], ◌∷◌, ◌++◌, Option, Some, None, length, take, refl, sym, ◌∙◌, ap, subst, arith, if◌then◌else◌}
+use Rattle.std.specs.Prelude.{slice_index_or, slice_get, unwrap_or, option_map}
+use Rattle.std.proofs.lemmas.Bool.{true≢false}
+use Rattle.m2_base.specs.Finished.{IsTold, finished}
+use Rattle.m2_base.specs.Lists.{IsIn, IsPrefixOf, Each, Grows, WhereLast}
+use Rattle.m2_base.specs.Rows.{at_place, row_meaning, IsWellFormed}
+use Rattle.m2_base.specs.Scopes.{CanSearch, Searched, IsShown, looks_of}
+use Rattle.m2_base.specs.States.{State, Frame, Look, IsAmong, Waits, texts_of, fills_of, finished_of}
+use Rattle.m2_base.specs.Statics.Lookup.{entry_in}
+use Rattle.m2_base.specs.Statics.Uses.{answer_of}
+use Rattle.m2_base.specs.Tables.{lookup, found_or, first_named, rows_at, Settles, Lacks}
+use Rattle.m2_base.specs.declared.replies.Ask.TheVariants.{Known, DontKnowYet as Waiting}
+use Rattle.m2_base.specs.declared.replies.Head.{Head}
+use Rattle.m2_base.specs.declared.replies.Reply.{Reply}
+use Rattle.m2_base.specs.declared.replies.Reply.TheVariants.{Found, Absent, DontKnowYet}
+use Rattle.m2_base.specs.declared.rows.Place.{Place}
+use Rattle.m2_base.specs.declared.rows.Row.{Row}
+use Rattle.m2_base.specs.declared.sites.Around.{Around}
+use Rattle.m2_base.proofs.Kept.{Each-map}
+use Rattle.m2_base.proofs.RowLaws.{HasSmallNumbers-fits}
+use Rattle.type_rules.specs.Asks.{Reads}
+use Rattle.type_rules.specs.Scenes.{Suits, Agrees, IsThere, IsRowOf, rows_of}
+use Rattle.type_rules.specs.Sites.{CanLook, Looked, IsLookFor}
+
+-- ** Rows that count
+
+rows_below : (tables : List (List Row)) (own : List Row) (n s : ℕ) → s < n → n < length tables → slice_index_or (take n tables ++ own ∷ []) s [] ≡ slice_index_or tables s []
+rows_below [] own n s below there = absurd (omega (arith, there))
+rows_below (x ∷ tables) own zero s below there = absurd (omega (arith, below))
+rows_below (x ∷ tables) own (suc n) zero below there = refl
+rows_below (x ∷ tables) own (suc n) (suc s) below there = rows_below tables own n s (omega (arith, below)) (omega (arith, there))
+
+rows_here : (tables : List (List Row)) (own : List Row) (n : ℕ) → n < length tables → slice_index_or (take n tables ++ own ∷ []) n [] ≡ own
+rows_here [] own n there = absurd (omega (arith, there))
+rows_here (x ∷ tables) own zero there = refl
+rows_here (x ∷ tables) own (suc n) there = rows_here tables own n (omega (arith, there))
+
+pub below_or_same : (a b : ℕ) → a ≤ b → (a < b) ⊎ (a ≡ b)
+below_or_same a b h = grind arith
+
+-- the rows of a scope before the own one are the finished ones, and those of the own one are entered
+pub counted_below : (f : Frame) (s : ℕ) → Agrees f → s < f.setting.fills → rows_at (rows_of f) s ≡ rows_at (finished f.setting.texts) s
+counted_below f s agrees below = rows_below (finished f.setting.texts) f.entered f.setting.fills s below agrees.scopes
+
+pub counted_own : (f : Frame) → Agrees f → rows_at (rows_of f) f.setting.fills ≡ f.entered
+counted_own f agrees = rows_here (finished f.setting.texts) f.entered f.setting.fills agrees.scopes
+
+-- ** The first row of a name
+
+first_past : (name : ℕ) (xs : List Row) (n k : ℕ) (r : Row) → first_named name xs n ≡ Some (k, r) → n ≤ k
+first_past name [] n k r h = absurd (cc)
+first_past name (x ∷ xs) n k r h = go (x.name == name) (first_past name xs (n + 1) k r) h
+  where
+    go : (b : Bool) → (first_named name xs (n + 1) ≡ Some (k, r) → n + 1 ≤ k) → (if b then Some (n, x) else first_named name xs (n + 1)) ≡ Some (k, r) → n ≤ k
+    go true rest e = let same : n ≡ k = ap (λ (o : Option (ℕ × Row)). (unwrap_or {T = ℕ × Row} o (k, r)).0) e in omega (arith, same)
+    go false rest e = let later = rest e in omega (arith, later)
+
+first_in_front : (name : ℕ) (xs rest : List Row) (n k : ℕ) (r : Row) → first_named name (xs ++ rest) n ≡ Some (k, r) → k < n + length xs → first_named name xs n ≡ Some (k, r)
+first_in_front name [] rest n k r h front = absurd (let later = first_past name rest n k r h in omega (arith, later, front))
+first_in_front name (x ∷ xs) rest n k r h front = go (x.name == name) (λ e. first_in_front name xs rest (n + 1) k r e (omega (arith, front))) h
+  where
+    go : (b : Bool) → (first_named name (xs ++ rest) (n + 1) ≡ Some (k, r) → first_named name xs (n + 1) ≡ Some (k, r)) → (if b then Some (n, x) else first_named name (xs ++ rest) (n + 1)) ≡ Some (k, r) → (if b then Some (n, x) else first_named name xs (n + 1)) ≡ Some (k, r)
+    go true next e = e
+    go false next e = next e
+
+-- ** A search in one scope
+
+at_once : (s : ℕ) (o : Option (ℕ × Row)) (p : Place) (r : Row) → found_or s o None ≡ Some (p, r) → o ≡ Some (p.ordinal, r)
+at_once s None p r h = absurd (cc)
+at_once s (Some (k, q)) p r h = ap (λ o. option_map (λ (e : Place × Row). (e.0.ordinal, e.1)) o) h
+
+scope_once : (s : ℕ) (o : Option (ℕ × Row)) (p : Place) (r : Row) → found_or s o None ≡ Some (p, r) → p.scope ≡ s
+scope_once s None p r h = absurd (cc)
+scope_once s (Some (k, q)) p r h = ap (λ (o : Option (Place × Row)). (unwrap_or {T = Place × Row} o (p, r)).0.scope) (sym h)
+
+slice_within : (xs : List Row) (i : ℕ) (r : Row) → slice_get xs i ≡ Some r → i < length xs
+slice_within [] i r h = absurd (cc)
+slice_within (x ∷ xs) zero r h = omega arith
+slice_within (x ∷ xs) (suc i) r h = let k = slice_within xs i r h in omega (arith, k)
+
+-- where nothing is entered of the name
+lacks_own : (f : Frame) (name : ℕ) → Agrees f → Lacks f.entered name → entry_in (rows_of f) f.setting.fills name ≡ None
+lacks_own f name agrees lacks =
+    ap (λ rows. found_or f.setting.fills (first_named name rows 0) None) (counted_own f agrees)
+    ∙ ap (λ o. found_or f.setting.fills o None) lacks
+
+settled_below : (f : Frame) (s name : ℕ) → Agrees f → s < f.setting.fills → entry_in (rows_of f) s name ≡ lookup (finished f.setting.texts) (s ∷ []) name
+settled_below f s name agrees below = ap (λ rows. found_or s (first_named name rows 0) None) (counted_below f s agrees below)
+
+found_own : (f : Frame) (name : ℕ) (p : Place) (r : Row) → Agrees f → lookup (finished f.setting.texts) (f.setting.fills ∷ []) name ≡ Some (p, r) → slice_get f.entered p.ordinal ≡ Some r
+    → entry_in (rows_of f) f.setting.fills name ≡ Some (p, r)
+found_own f name p r agrees settled entered =
+    let fills = f.setting.fills in
+    let full = rows_at (finished f.setting.texts) fills in
+    let first : first_named name full 0 ≡ Some (p.ordinal, r) = at_once fills (first_named name full 0) p r settled in
+    let front : first_named name (f.entered ++ agrees.entered.rest) 0 ≡ Some (p.ordinal, r) = subst (λ rows. first_named name rows 0 ≡ Some (p.ordinal, r)) (sym agrees.entered.joined) first in
+    let own : first_named name f.entered 0 ≡ Some (p.ordinal, r) = first_in_front name f.entered agrees.entered.rest 0 p.ordinal r front (let k = slice_within f.entered p.ordinal r entered in omega (arith, k)) in
+    let place : at_place fills p.ordinal ≡ p = ap (λ s. at_place s p.ordinal) (sym (scope_once fills (first_named name full 0) p r settled)) in
+    ap (λ rows. found_or fills (first_named name rows 0) None) (counted_own f agrees)
+    ∙ ap (λ o. found_or fills o None) own
+    ∙ ap (λ q. Some (q, r)) place
+
+-- ** What a search answers
+
+pub can_search : (old : State) (a : Around) (s name : ℕ) → Suits old.frame a → s ≤ fills_of old → name ≢ 0 → CanSearch old (s ∷ []) name
+can_search old a s name suits inner named = record { short = omega arith; exist = (let e = suits.exist in omega (arith, e, inner), tt); named = named }
+
+pub found_in : (old new : State) (a : Around) (at s name : ℕ) (p : Place) (r : Row) → Suits old.frame a → s ≤ fills_of old → Searched old new at (s ∷ []) name (Found p r)
+    → IsTold (texts_of old) → entry_in (rows_of old.frame) s name ≡ Some (p, r)
+found_in old new a at s name p r suits inner searched told =
+    let agrees = suits.told told in
+    elim (below_or_same s (fills_of old) inner) as (λ _. entry_in (rows_of old.frame) s name ≡ Some (p, r)) [
+      | inl below ↦ settled_below old.frame s name agrees below ∙ searched.settled told
+      | inr same ↦ (
+          let settled : lookup (finished_of old) (fills_of old ∷ []) name ≡ Some (p, r) = subst (λ k. lookup (finished_of old) (k ∷ []) name ≡ Some (p, r)) same (searched.settled told) in
+          let scope : p.scope ≡ fills_of old = scope_once (fills_of old) (first_named name (rows_at (finished_of old) (fills_of old)) 0) p r settled in
+          let entered : slice_get old.frame.entered p.ordinal ≡ Some r =
+          subst (λ (f : Frame). slice_get f.entered p.ordinal ≡ Some r) searched.keeps.frame
+          (searched.says.shown.own (scope ∙ ap (λ (f : Frame). f.setting.fills) (sym searched.keeps.frame))) in
+          ap (λ k. entry_in (rows_of old.frame) k name) same ∙ found_own old.frame name p r agrees settled entered)
+    ]
+
+pub absent_in : (old new : State) (a : Around) (at s name : ℕ) → Suits old.frame a → s ≤ fills_of old → Searched old new at (s ∷ []) name Absent
+    → IsTold (texts_of old) → entry_in (rows_of old.frame) s name ≡ None
+absent_in old new a at s name suits inner searched told =
+    let agrees = suits.told told in
+    elim (below_or_same s (fills_of old) inner) as (λ _. entry_in (rows_of old.frame) s name ≡ None) [
+      | inl below ↦ settled_below old.frame s name agrees below ∙ searched.settled told
+      | inr same ↦ (
+          let here : fills_of new ≡ s = ap (λ (f : Frame). f.setting.fills) searched.keeps.frame ∙ sym same in
+          let lacks : Lacks old.frame.entered name = subst (λ (f : Frame). Lacks f.entered name) searched.keeps.frame (searched.says.own (inl here)).1 in
+          ap (λ k. entry_in (rows_of old.frame) k name) same ∙ lacks_own old.frame name agrees lacks)
+    ]
+
+-- the own scope lacks the name so far
+pub unknown_in : (old new : State) (a : Around) (at name s : ℕ) (h : Head) → Suits old.frame a → Searched old new at (s ∷ []) name (DontKnowYet h) → h.scope ≡ fills_of old
+    → IsTold (texts_of old) → entry_in (rows_of old.frame) s name ≡ None
+unknown_in old new a at name s h suits searched same told =
+    let lacks : Lacks old.frame.entered name = subst (λ (f : Frame). Lacks f.entered name) searched.keeps.frame
+    (searched.says.own (same ∙ ap (λ (f : Frame). f.setting.fills) (sym searched.keeps.frame))) in
+    let on : h.scope ≡ s = elim searched.says.on as (λ _. h.scope ≡ s) [ inl e ↦ e | inr e ↦ absurd e ] in
+    ap (λ k. entry_in (rows_of old.frame) k name) (sym on ∙ same) ∙ lacks_own old.frame name (suits.told told) lacks
+
+inside : (n s : ℕ) (chain : List ℕ) → Each (λ k. k ≤ n) chain → IsIn s chain → s ≤ n
+inside n s [] h on = absurd on
+inside n s (k ∷ chain) h on = elim on as (λ _. s ≤ n) [ inl same ↦ (let e : s ≡ k = same in let b : k ≤ n = h.0 in omega (arith, e, b)) | inr later ↦ inside n s chain h.1 later ]
+
+-- a search stops at a head of a scope before
+pub waits_at : (old new : State) (at name : ℕ) (chain : List ℕ) (head : Head) → Each (λ k. k ≤ fills_of old) chain → head.scope ≢ fills_of old → Searched old new at chain name (DontKnowYet head)
+    → Waits old new head
+waits_at old new at name chain head inner other searched =
+    let unknown = searched.says in
+    let smaller : head.scope < fills_of old =
+    elim (below_or_same head.scope (fills_of old) (inside (fills_of old) head.scope chain inner unknown.on)) as (λ _. head.scope < fills_of old) [ inl below ↦ below | inr same ↦ absurd (other same) ] in
+    record { smaller = smaller; incomplete = unknown.stops.incomplete; from = unknown.stops.loaded.from; upto = unknown.stops.loaded.upto }
+
+silent_look : (name : ℕ) (chain : List ℕ) (heads : List Head) (reply : Reply) → Each (λ (l : Look). l.at ≡ 0) (looks_of 0 name chain heads reply)
+silent_look name [] heads reply = tt
+silent_look name (s ∷ chain) heads reply = (refl, tt)
+
+pub Reads-searched : {old new : State} {name : ℕ} {chain : List ℕ} {reply : Reply} → Searched old new 0 chain name reply → Reads old new
+Reads-searched {old} {new} {name} {chain} {reply} searched =
+    record { looks = looks_of 0 name chain searched.heads reply; keeps = searched.keeps; silent = silent_look name chain searched.heads reply }
+
+-- a found row
+pub found_row : (old new : State) (a : Around) (at name : ℕ) (chain : List ℕ) (p : Place) (r : Row) → Suits old.frame a → Each (λ k. k ≤ fills_of old) chain → p.scope < 2 ^ 32 → p.ordinal < 2 ^ 32
+    → Searched old new at chain name (Found p r) → IsRowOf old.frame p r
+found_row old new a at name chain p r suits inner s o searched =
+    let formed : IsWellFormed (length (texts_of old).names) p r = subst (λ (f : Frame). IsWellFormed (length f.setting.texts.names) p r) searched.keeps.frame searched.says.shown.formed in
+    record {
+      there =
+          record {
+            scope = inside (fills_of old) p.scope chain inner searched.says.on;
+            entered = λ same open_yet. slice_within old.frame.entered p.ordinal r
+                (subst (λ (f : Frame). slice_get f.entered p.ordinal ≡ Some r) searched.keeps.frame
+                (searched.says.shown.own (same ∙ ap (λ (f : Frame). f.setting.fills) (sym searched.keeps.frame))));
+          };
+      said = record { fits = formed.fits; small = HasSmallNumbers-fits (length (texts_of old).names) p (row_meaning r) suits.names s o formed.fits };
+    }
+
+-- ** A search in a chain
+
+-- the rows of the scopes of a chain are the finished ones, where the own scope is none of them or complete
+lookup_all : (f : Frame) (name : ℕ) (chain : List ℕ) → Agrees f → Each (λ s. s ≤ f.setting.fills) chain → (IsIn f.setting.fills chain → f.closed ≡ true)
+    → lookup (rows_of f) chain name ≡ lookup (finished f.setting.texts) chain name
+lookup_all f name [] agrees inner settled = refl
+lookup_all f name (s ∷ chain) agrees inner settled =
+    let rest : lookup (rows_of f) chain name ≡ lookup (finished f.setting.texts) chain name = lookup_all f name chain agrees inner.1 (λ on. settled (inr on)) in
+    let here : rows_at (rows_of f) s ≡ rows_at (finished f.setting.texts) s =
+    elim (below_or_same s f.setting.fills inner.0) as (λ _. rows_at (rows_of f) s ≡ rows_at (finished f.setting.texts) s) [
+      | inl below ↦ counted_below f s agrees below
+      | inr same ↦ subst (λ k. rows_at (rows_of f) k ≡ rows_at (finished f.setting.texts) k) (sym same) (counted_own f agrees ∙ agrees.whole (settled (inl (sym same))))
+    ] in
+    ap (λ rows. found_or s (first_named name rows 0) (lookup (rows_of f) chain name)) here
+    ∙ ap (λ o. found_or s (first_named name (rows_at (finished f.setting.texts) s) 0) o) rest
+
+module _ (old new : State) (a : Around) (at name : ℕ) (chain : List ℕ) (suits : Suits old.frame a) (can : CanLook old.frame chain) where
+  pub can_look : name ≢ 0 → CanSearch old chain name
+  can_look named = record {
+    short = can.short;
+    exist = Each-map (λ s. s ≤ fills_of old) (λ s. s < length old.frame.setting.areas) chain (λ s k. let e = suits.exist in omega (arith, e, k)) can.inner;
+    named = named;
+  }
+
+  pub found_on : (p : Place) (r : Row) → Searched old new at chain name (Found p r) → IsTold (texts_of old) → lookup (rows_of old.frame) chain name ≡ Some (p, r)
+  found_on p r searched told =
+      elim can.settled as (λ _. lookup (rows_of old.frame) chain name ≡ Some (p, r)) [
+        | inl own ↦ subst (λ c. lookup (rows_of old.frame) c name ≡ Some (p, r)) (sym own) (
+            found_in old new a at (fills_of old) name p r suits (omega arith) (subst (λ c. Searched old new at c name (Found p r)) own searched) told)
+        | inr closed ↦ lookup_all old.frame name chain (suits.told told) can.inner closed ∙ searched.settled told
+      ]
+
+  pub absent_on : Searched old new at chain name Absent → IsTold (texts_of old) → lookup (rows_of old.frame) chain name ≡ None
+  absent_on searched told =
+      elim can.settled as (λ _. lookup (rows_of old.frame) chain name ≡ None) [
+        | inl own ↦ subst (λ c. lookup (rows_of old.frame) c name ≡ None) (sym own) (
+            absent_in old new a at (fills_of old) name suits (omega arith) (subst (λ c. Searched old new at c name Absent) own searched) told)
+        | inr closed ↦ lookup_all old.frame name chain (suits.told told) can.inner closed ∙ searched.settled told
+      ]
+
+  pub unknown_on : (h : Head) → Searched old new at chain name (DontKnowYet h) → h.scope ≡ fills_of old → IsTold (texts_of old) → lookup (rows_of old.frame) chain name ≡ None
+  unknown_on h searched same told =
+      elim can.settled as (λ _. lookup (rows_of old.frame) chain name ≡ None) [
+        | inl own ↦ subst (λ c. lookup (rows_of old.frame) c name ≡ None) (sym own) (
+            unknown_in old new a at name (fills_of old) h suits (subst (λ c. Searched old new at c name (DontKnowYet h)) own searched) same told)
+        | inr closed ↦ absurd (
+            let open_yet : new.frame.closed ≡ false = (searched.says.stops.own (same ∙ ap (λ (f : Frame). f.setting.fills) (sym searched.keeps.frame))).0 in
+            true≢false (sym (closed (subst (λ s. IsIn s chain) same searched.says.on)) ∙ ap (λ (f : Frame). f.closed) (sym searched.keeps.frame) ∙ open_yet))
+      ]
+
+found_among : (at name : ℕ) (chain : List ℕ) (heads : List Head) (p : Place) (r : Row) → IsIn p.scope chain → IsAmong (looks_of at name chain heads (Found p r)) (answer_of name at (p, r))
+found_among at name [] heads p r on = absurd on
+found_among at name (s ∷ chain) heads p r on = inl (refl, refl, refl)
+
+pub Looked-found : (old new : State) (at name : ℕ) (chain : List ℕ) (p : Place) (r : Row) → Searched old new at chain name (Found p r) → Looked old new at name (Known (Some (p, r)))
+Looked-found old new at name chain p r searched =
+    record { looks = looks_of at name chain searched.heads (Found p r); keeps = searched.keeps; among = found_among at name chain searched.heads p r searched.says.on }
+
+pub Looked-none : (old new : State) (at name : ℕ) (chain : List ℕ) (reply : Reply) → Searched old new at chain name reply → Looked old new at name (Known None)
+Looked-none old new at name chain reply searched = record { looks = looks_of at name chain searched.heads reply; keeps = searched.keeps; among = tt }
+
+pub Looked-waits : (old new : State) (at name : ℕ) (chain : List ℕ) (h : Head) → Searched old new at chain name (DontKnowYet h) → Looked old new at name (Waiting h)
+Looked-waits old new at name chain h searched = record { looks = looks_of at name chain searched.heads (DontKnowYet h); keeps = searched.keeps; among = tt }
+
+last_of : (looks after : Option (List Look)) (look : Look) (P : Look → Type 0) → Grows looks (look ∷ []) after → P look → WhereLast after P
+last_of None None look P grows p = tt
+last_of (Some xs) (Some ys) look P grows p = (xs, look, grows, p)
+last_of None (Some ys) look P grows p = absurd grows
+last_of (Some xs) None look P grows p = absurd grows
+
+pub last_look : (old new : State) (at name : ℕ) (chain : List ℕ) (head : Head) → Searched old new at chain name (DontKnowYet head) → WhereLast new.looks (IsLookFor at name chain (DontKnowYet head))
+last_look old new at name [] head searched = absurd searched.says.on
+last_look old new at name (s ∷ chain) head searched =
+    let look : Look = record { at = at; name = name; chain = s ∷ chain; heads = searched.heads; reply = DontKnowYet head } in
+    last_of old.looks new.looks look (IsLookFor at name (s ∷ chain) (DontKnowYet head)) searched.keeps.grows (record { at_is = refl; name_is = refl; chain_is = refl; replied = refl })

@@ -1,0 +1,3 @@
+pub mod Asks
+pub mod Scenes
+pub mod Sites

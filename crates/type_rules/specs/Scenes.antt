@@ -1,0 +1,79 @@
+-- What a block sees of the scopes, and when the scopes suit its questions.
+use Rattle.std.specs.Prelude.{◌≡◌, ℕ, ◌<◌, ◌≤◌, ◌^◌, true, false, List, [], ◌∷◌, ◌++◌, Option, Some, None, length, take}
+use Rattle.m2_base.specs.Finished.{IsTold, finished}
+use Rattle.m2_base.specs.Lists.{IsPrefixOf, WhereKept}
+use Rattle.m2_base.specs.Names.{standard_names}
+use Rattle.m2_base.specs.Standard.{standard_rows}
+use Rattle.m2_base.specs.Rows.{Fits, HasSmallNumbers, row_meaning}
+use Rattle.m2_base.specs.States.{Frame}
+use Rattle.m2_base.specs.Statics.Contexts.{Block, Scene, row_at}
+use Rattle.m2_base.specs.Tables.{rows_at}
+use Rattle.m2_base.specs.declared.operands.Operand.{Operand}
+use Rattle.m2_base.specs.declared.operands.Operand.TheVariants.{Constant, Computed, Variable, NamedType, Procedure}
+use Rattle.m2_base.specs.declared.rows.Place.{Place}
+use Rattle.m2_base.specs.declared.rows.Row.{Row}
+use Rattle.m2_base.specs.declared.rows.RowMeaning.{RowMeaning}
+use Rattle.m2_base.specs.declared.sites.Around.{Around}
+
+-- what surrounds a block, as the definitions see it
+abbrev pub block_of : Around → Block
+block_of a = record { scope = a.scope; text = a.text; level = a.level; home = a.module; own = a.own; chain = a.chain }
+
+-- the rows that count: of the scopes before the own one all, of the own one those that are entered
+abbrev pub rows_of : Frame → List (List Row)
+rows_of f = take f.setting.fills (finished f.setting.texts) ++ f.entered ∷ []
+
+-- a block and the rows that count there
+abbrev pub scene_of : Frame → Around → Scene
+scene_of f a = record { block = block_of a; tables = rows_of f }
+
+-- What holds of the scopes where the texts are told: the finished rows of the scopes before are there, scope 0 is the standard
+-- one, each scope has fewer rows than numbers of 32 bits, and what is entered is the beginning of the own scope's rows, in the end the whole.
+pub record Agrees (f : Frame) : Type 0 where
+  pub scopes : f.setting.fills < length (finished f.setting.texts)
+  pub standard : rows_at (finished f.setting.texts) 0 ≡ standard_rows
+  pub few : (s : ℕ) → length (rows_at (finished f.setting.texts) s) < 2 ^ 32
+  pub entered : IsPrefixOf f.entered (rows_at (finished f.setting.texts) f.setting.fills)
+  pub whole : f.closed ≡ true → f.entered ≡ rows_at (finished f.setting.texts) f.setting.fills
+
+-- The scopes suit a block: they fill its scope, and have all scopes before it; the module and the own definition are no later
+-- scopes.
+pub record Suits (f : Frame) (a : Around) : Type 0 where
+  pub fills : a.scope ≡ f.setting.fills
+  pub inner : 0 < f.setting.fills
+  pub exist : f.setting.fills < length f.setting.areas
+  pub names : length f.setting.texts.names ≤ 2 ^ 32
+  pub standard : IsPrefixOf standard_names f.setting.texts.names
+  pub home : a.module ≤ f.setting.fills
+  pub own : WhereKept a.own (λ s. s < f.setting.fills)
+  pub told : IsTold f.setting.texts → Agrees f
+
+-- The place of a type can be asked for: its scope isn't above the block's, and where it is of the own scope, which isn't
+-- complete, its row is entered.
+pub record IsThere (f : Frame) (p : Place) : Type 0 where
+  pub scope : p.scope ≤ f.setting.fills
+  pub entered : p.scope ≡ f.setting.fills → f.closed ≡ false → p.ordinal < length f.entered
+
+-- what a row at a place says: it fits the place, and its numbers have 32 bits
+pub record IsSaid (f : Frame) (p : Place) (m : RowMeaning) : Type 0 where
+  pub fits : Fits (length f.setting.texts.names) p m
+  pub small : HasSmallNumbers m
+
+-- a row of a place that can be asked for
+pub record IsRowOf (f : Frame) (p : Place) (r : Row) : Type 0 where
+  pub there : IsThere f p
+  pub said : IsSaid f p (row_meaning r)
+
+-- a row of some place that can be asked for
+pub record IsHere (f : Frame) (r : Row) : Type 0 where
+  pub place : Place
+  pub row : IsRowOf f place r
+
+-- the type of an operand can be asked for
+abbrev pub IsOperandThere : Frame → Operand → Type 0
+IsOperandThere f (Constant t v) = IsThere f t
+IsOperandThere f (Computed t) = IsThere f t
+IsOperandThere f (Variable t) = IsThere f t
+IsOperandThere f (NamedType t) = IsThere f t
+IsOperandThere f (Procedure n t k s) = IsThere f t
+IsOperandThere f other = Unit {0}

@@ -1,0 +1,57 @@
+//! The base and the range of a type.
+ghost use Rattle.std.specs.Prelude.{◌≡◌, option_map};
+ghost use Rattle.m2_base.specs.Finished.{IsTold};
+ghost use Rattle.m2_base.specs.States.{Waits, texts_of};
+ghost use Rattle.m2_base.specs.Statics.Ranges.{range};
+ghost use Rattle.m2_base.specs.Statics.Types.{base_of as spec_base, range_by as spec_by, range_of as spec_range};
+ghost use Rattle.type_rules.specs.Asks.{Reads, WhereKnown, WhereWaiting};
+ghost use Rattle.type_rules.specs.Scenes.{Suits, IsThere, scene_of};
+
+use crate::standing::stand;
+use m2_base::{Around, Ask, Place, RowMeaning, Scopes};
+
+/// The base of a subrange; any other type is its own base.
+#[tactic(auto, using(crate::proofs::Reading::reading))]
+pub fn base_of<S: Scopes>(scopes: &mut S, around: &Around, of: Place) -> Ask<Place>
+    requires suits { Suits (S.state scopes.old).frame around.now }
+    requires there { IsThere (S.state scopes.old).frame of }
+    ensures reads { Reads (S.state scopes.old) (S.state scopes.new) }
+    ensures waits { WhereWaiting result (λ head. Waits (S.state scopes.old) (S.state scopes.new) head) }
+    ensures told { IsTold (texts_of (S.state scopes.old)) →
+        WhereKnown result (λ base. base ≡ spec_base (scene_of (S.state scopes.old).frame around.now) of) }
+    ensures there { WhereKnown result (λ base. IsThere (S.state scopes.old).frame base) }
+{
+    let (stood, meaning) = known!(stand(scopes, around, of));
+    match meaning {
+        RowMeaning::Subrange(base, _, _) => Ask::Known(base),
+        _ => Ask::Known(stood),
+    }
+}
+
+/// The least and the greatest value of an ordinal type, by what its row says.
+fn range_by(meaning: RowMeaning) -> Option<(i64, i64)>
+    ensures { option_map (λ ends. range ends.0 ends.1) result ≡ spec_by meaning }
+{
+    match meaning {
+        RowMeaning::Integer => Some((-2_147_483_648, 2_147_483_647)),
+        RowMeaning::Cardinal => Some((0, 4_294_967_295)),
+        RowMeaning::Character => Some((0, 255)),
+        RowMeaning::Enum(count) => Some((0, count.saturating_sub(1) as i64)),
+        RowMeaning::Subrange(_, low, high) => Some((low, high)),
+        _ => None,
+    }
+}
+
+/// The least and the greatest value of an ordinal type; none where a type isn't ordinal.
+#[tactic(auto, using(crate::proofs::Reading::reading))]
+pub fn range_of<S: Scopes>(scopes: &mut S, around: &Around, of: Place) -> Ask<Option<(i64, i64)>>
+    requires suits { Suits (S.state scopes.old).frame around.now }
+    requires there { IsThere (S.state scopes.old).frame of }
+    ensures reads { Reads (S.state scopes.old) (S.state scopes.new) }
+    ensures waits { WhereWaiting result (λ head. Waits (S.state scopes.old) (S.state scopes.new) head) }
+    ensures told { IsTold (texts_of (S.state scopes.old)) →
+        WhereKnown result (λ ends. option_map (λ ends. range ends.0 ends.1) ends ≡ spec_range (scene_of (S.state scopes.old).frame around.now) of) }
+{
+    let (_, meaning) = known!(stand(scopes, around, of));
+    Ask::Known(range_by(meaning))
+}

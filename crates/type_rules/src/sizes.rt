@@ -1,0 +1,27 @@
+//! The cells of a type.
+ghost use Rattle.std.specs.Prelude.{◌≡◌};
+ghost use Rattle.m2_base.specs.Finished.{IsTold};
+ghost use Rattle.m2_base.specs.States.{Waits, texts_of};
+ghost use Rattle.m2_base.specs.Statics.Types.{size_of as spec_size};
+ghost use Rattle.type_rules.specs.Asks.{Reads, WhereKnown, WhereWaiting};
+ghost use Rattle.type_rules.specs.Scenes.{Suits, IsThere, scene_of};
+
+use crate::standing::stand;
+use m2_base::{Around, Ask, Place, RowMeaning, Scopes};
+
+/// How many cells a variable of a type takes.
+#[tactic(auto, using(crate::proofs::Reading::reading))]
+pub fn size_of<S: Scopes>(scopes: &mut S, around: &Around, of: Place) -> Ask<u64>
+    requires suits { Suits (S.state scopes.old).frame around.now }
+    requires there { IsThere (S.state scopes.old).frame of }
+    ensures reads { Reads (S.state scopes.old) (S.state scopes.new) }
+    ensures waits { WhereWaiting result (λ head. Waits (S.state scopes.old) (S.state scopes.new) head) }
+    ensures told { IsTold (texts_of (S.state scopes.old)) →
+        WhereKnown result (λ size. size ≡ spec_size (scene_of (S.state scopes.old).frame around.now) of) }
+{
+    let (_, meaning) = known!(stand(scopes, around, of));
+    match meaning {
+        RowMeaning::Array(_, _, size) | RowMeaning::Record(_, size) => Ask::Known(size as u64),
+        _ => Ask::Known(1),
+    }
+}

@@ -1,0 +1,116 @@
+//! The row that a type stands for. Inside an implementation module an opaque type of its own definition stands for the type
+//! that the module declares under that name.
+ghost use Rattle.std.specs.Prelude.{◌≡◌, ◌≢◌, Some};
+ghost use Rattle.m2_base.specs.Finished.{IsTold};
+ghost use Rattle.m2_base.specs.Rows.{row_meaning};
+ghost use Rattle.m2_base.specs.States.{Waits, texts_of};
+ghost use Rattle.m2_base.specs.Statics.Types.{stands_for as spec_stands, kind_of, opaque_as as spec_opaque, declared_as as spec_declared, type_named as spec_named};
+ghost use Rattle.type_rules.specs.Asks.{Reads, WhereKnown, WhereWaiting};
+ghost use Rattle.type_rules.specs.Scenes.{Suits, IsThere, IsRowOf, IsSaid, scene_of};
+
+use crate::finding::declared;
+use crate::rows::{meaning_at, row_at};
+use m2_base::{Around, Ask, Place, Row, RowMeaning, Scopes, read_row};
+
+/// The type of a type name's row, unless that is opaque; of any other row the type given.
+#[tactic(auto, using(crate::proofs::Reading::reading))]
+fn type_named<S: Scopes>(scopes: &mut S, around: &Around, of: Place, place: Place, row: &Row) -> Ask<Place>
+    requires suits { Suits (S.state scopes.old).frame around.now }
+    requires there { IsThere (S.state scopes.old).frame of }
+    requires row { IsRowOf (S.state scopes.old).frame place row.now }
+    ensures reads { Reads (S.state scopes.old) (S.state scopes.new) }
+    ensures waits { WhereWaiting result (λ head. Waits (S.state scopes.old) (S.state scopes.new) head) }
+    ensures told { IsTold (texts_of (S.state scopes.old)) →
+        WhereKnown result (λ stood. stood ≡ spec_named (scene_of (S.state scopes.old).frame around.now) of (row_meaning row.now)) }
+    ensures there { WhereKnown result (λ stood. IsThere (S.state scopes.old).frame stood) }
+{
+    let _place = place.scope;
+    let RowMeaning::TypeName(named) = read_row(row) else {
+        return Ask::Known(of);
+    };
+    match known!(meaning_at(scopes, around, named)) {
+        RowMeaning::Opaque => Ask::Known(of),
+        _ => Ask::Known(named),
+    }
+}
+
+/// The type that the module has declared under this name, or the opaque type itself.
+#[tactic(auto, using(crate::proofs::Reading::reading))]
+fn declared_as<S: Scopes>(scopes: &mut S, around: &Around, of: Place, name: u32) -> Ask<Place>
+    requires suits { Suits (S.state scopes.old).frame around.now }
+    requires there { IsThere (S.state scopes.old).frame of }
+    ensures reads { Reads (S.state scopes.old) (S.state scopes.new) }
+    ensures waits { WhereWaiting result (λ head. Waits (S.state scopes.old) (S.state scopes.new) head) }
+    ensures told { IsTold (texts_of (S.state scopes.old)) →
+        WhereKnown result (λ stood. stood ≡ spec_declared (scene_of (S.state scopes.old).frame around.now) of name) }
+    ensures there { WhereKnown result (λ stood. IsThere (S.state scopes.old).frame stood) }
+{
+    if name == 0 {
+        return Ask::Known(of);
+    }
+    match known!(declared(scopes, around, name)) {
+        Some((place, row)) => type_named(scopes, around, of, place, &row),
+        None => Ask::Known(of),
+    }
+}
+
+/// What an opaque type stands for: its name stands in the row after its own.
+#[tactic(auto, using(crate::proofs::Reading::reading))]
+fn opaque_as<S: Scopes>(scopes: &mut S, around: &Around, of: Place) -> Ask<Place>
+    requires suits { Suits (S.state scopes.old).frame around.now }
+    requires there { IsThere (S.state scopes.old).frame of }
+    ensures reads { Reads (S.state scopes.old) (S.state scopes.new) }
+    ensures waits { WhereWaiting result (λ head. Waits (S.state scopes.old) (S.state scopes.new) head) }
+    ensures told { IsTold (texts_of (S.state scopes.old)) →
+        WhereKnown result (λ stood. stood ≡ spec_opaque (scene_of (S.state scopes.old).frame around.now) of around.now.own) }
+    ensures there { WhereKnown result (λ stood. IsThere (S.state scopes.old).frame stood) }
+{
+    if around.own != Some(of.scope) {
+        return Ask::Known(of);
+    }
+    let Some(ordinal) = of.ordinal.checked_add(1) else {
+        return Ask::Known(of);
+    };
+    let after = Place {
+        scope: of.scope,
+        ordinal,
+    };
+    let row = known!(row_at(scopes, around, after));
+    declared_as(scopes, around, of, row.name)
+}
+
+/// What a type stands for.
+#[tactic(auto, using(crate::proofs::Reading::reading))]
+pub(crate) fn stands_for<S: Scopes>(scopes: &mut S, around: &Around, of: Place) -> Ask<Place>
+    requires suits { Suits (S.state scopes.old).frame around.now }
+    requires there { IsThere (S.state scopes.old).frame of }
+    ensures reads { Reads (S.state scopes.old) (S.state scopes.new) }
+    ensures waits { WhereWaiting result (λ head. Waits (S.state scopes.old) (S.state scopes.new) head) }
+    ensures told { IsTold (texts_of (S.state scopes.old)) →
+        WhereKnown result (λ stood. stood ≡ spec_stands (scene_of (S.state scopes.old).frame around.now) of) }
+    ensures there { WhereKnown result (λ stood. IsThere (S.state scopes.old).frame stood) }
+{
+    match known!(meaning_at(scopes, around, of)) {
+        RowMeaning::Opaque => opaque_as(scopes, around, of),
+        _ => Ask::Known(of),
+    }
+}
+
+/// What a type stands for, and what its row says.
+#[tactic(auto, using(crate::proofs::Reading::reading))]
+pub(crate) fn stand<S: Scopes>(scopes: &mut S, around: &Around, of: Place) -> Ask<(Place, RowMeaning)>
+    requires suits { Suits (S.state scopes.old).frame around.now }
+    requires there { IsThere (S.state scopes.old).frame of }
+    ensures reads { Reads (S.state scopes.old) (S.state scopes.new) }
+    ensures waits { WhereWaiting result (λ head. Waits (S.state scopes.old) (S.state scopes.new) head) }
+    ensures told { IsTold (texts_of (S.state scopes.old)) →
+        WhereKnown result (λ stood. stood.0 ≡ spec_stands (scene_of (S.state scopes.old).frame around.now) of) }
+    ensures kind { IsTold (texts_of (S.state scopes.old)) →
+        WhereKnown result (λ stood. stood.1 ≡ kind_of (scene_of (S.state scopes.old).frame around.now) of) }
+    ensures there { WhereKnown result (λ stood. IsThere (S.state scopes.old).frame stood.0) }
+    ensures said { WhereKnown result (λ stood. IsSaid (S.state scopes.old).frame stood.0 stood.1) }
+{
+    let stood = known!(stands_for(scopes, around, of));
+    let meaning = known!(meaning_at(scopes, around, stood));
+    Ask::Known((stood, meaning))
+}
