@@ -5,7 +5,7 @@ pub mod ObjectReads
 pub mod Spelled
 pub mod Linking
 pub mod Listings
-pub mod Places
+pub mod Walking
 pub mod Judging
 pub mod Lengths
 pub mod OneTelling

@@ -10,17 +10,8 @@ use Rattle.code_form.specs.Instructions.{IsInstr}
 use Rattle.code_form.specs.Bytes.{spelling, size, code_bytes, BeginsWith}
 use Rattle.code_form.specs.Heights.{Callees, Step, step_among}
 use Rattle.code_form.specs.Valid.{Point, points, AreInstrs, StopsAt}
+use Rattle.object_file.specs.Points.{end_of, height_of}
 use Rattle.code_form.proofs.Spellings.{length-spelling}
-
--- the place behind instructions
-abbrev pub end_of : (at : ℕ) → List Instr → ℕ
-end_of at [] = at
-end_of at (i ∷ is) = end_of (at + size i) is
-
--- the height behind them
-abbrev pub height_of : Callees → (height : ℤ) → List Instr → ℤ
-height_of c h [] = h
-height_of c h (i ∷ is) = height_of c (h -ℤ pos (step_among c i).takes +ℤ pos (step_among c i).leaves) is
 
 pub end_of-more : (at : ℕ) (is : List Instr) (i : Instr) → end_of at (is ++ i ∷ []) ≡ end_of at is + size i
 end_of-more at [] i = refl

@@ -1,35 +1,74 @@
--- Points as the code keeps them.
-use Rattle.std.specs.Prelude.{◌≡◌, ◌<◌, ℕ, pos, List, map, length, slice_index, Result, Ok, Err}
-use Rattle.std.specs.Global.{Vec}
+-- Places and points as the code keeps them.
+use Rattle.std.specs.Prelude.{◌≡◌, ◌⊎◌, ◌+◌, ◌≤◌, ℕ, ℤ, pos, ◌-ℤ◌, ◌+ℤ◌, List, [], ◌∷◌, ◌++◌, length, drop, slice_get, Some, Result, Ok, Err}
+use Rattle.std.specs.List.{AllByRecursion}
 use Rattle.code_form.specs.declared.instr.Instr.{Instr}
+use Rattle.code_form.specs.Bytes.{size, BeginsWith}
+use Rattle.code_form.specs.Heights.{Callees, step_among}
 use Rattle.code_form.specs.Modules.{Procedure, World}
-use Rattle.code_form.specs.Valid.{Point as PointOf, AreInstrs, StopsAt, callees_of, points, IsValidCode, IsFault, in_code, of_high}
+use Rattle.code_form.specs.Valid.{Point as PointOf, AreInstrs, StopsAt, callees_of, points, highest, IsValidCode, IsFault, in_code, of_high}
+use Rattle.object_file.specs.declared.point.Place.{Place}
 use Rattle.object_file.specs.declared.point.Point.{Point}
+use Rattle.object_file.specs.declared.survey.Survey.{Survey}
 use Rattle.object_file.specs.declared.fault.CodeFault.{CodeFault}
 use Rattle.object_file.specs.declared.fault.CodeFault.TheVariants as faults
 
 abbrev pub point_of : Point → PointOf
 point_of p = record { at = p.at; height = p.height; step = record { instr = p.instr; takes = p.takes; leaves = p.leaves } }
 
-abbrev pub instrs : List Point → List Instr
-instrs ps = map (λ p. p.instr) ps
+-- this holds of the points of a procedure's code, if that is instructions
+abbrev pub OfPoints : World → Procedure → (List PointOf → Type 0) → Type 0
+OfPoints w p Holds = (is : List Instr) → AreInstrs p.code is → Holds (points (callees_of w p) 0 (pos 0) is)
 
--- the code's instructions at their places
-pub record AreOf (w : World) (p : Procedure) (ps : List Point) : Type 0 where
-  pub instrs_are : AreInstrs p.code (instrs ps)
-  pub points_are : map point_of ps ≡ points (callees_of w p) 0 (pos 0) (instrs ps)
+-- the place behind instructions, and the height
+abbrev pub end_of : (at : ℕ) → List Instr → ℕ
+end_of at [] = at
+end_of at (i ∷ is) = end_of (at + size i) is
 
--- these are the places of the points, each above those before it
-pub record ArePlaces (places : List ℕ) (ps : List Point) : Type 0 where
-  pub are : places ≡ map (λ p. p.at) ps
-  pub ascend : (i j : ℕ) → i < j → j < length places → slice_index places i < slice_index places j
+abbrev pub height_of : Callees → (height : ℤ) → List Instr → ℤ
+height_of c h [] = h
+height_of c h (i ∷ is) = height_of c (h -ℤ pos (step_among c i).takes +ℤ pos (step_among c i).leaves) is
 
--- what listing the points of a code answers
-abbrev pub Lists : World → Procedure → Result (Vec Point) CodeFault → Type 0
-Lists w p (Ok ps) = AreOf w p ps.items
-Lists w p (Err faults.Memory) = Unit {0}
-Lists w p (Err (faults.InCode at code)) = StopsAt p.code at × (code ≡ 5)
-Lists w p (Err faults.OfHigh) = ⊥
+-- this place with this height is behind the first of these instructions
+pub record IsBehind (c : Callees) (is : List Instr) (at : ℕ) (h : ℤ) : Type 0 where
+  pub before : List Instr
+  pub later : List Instr
+  pub split : is ≡ before ++ later
+  pub place : at ≡ end_of 0 before
+  pub level : h ≡ height_of c (pos 0) before
+
+-- a walk over the procedure's code comes to this place with this height
+pub record IsPassed (w : World) (p : Procedure) (at : ℕ) (h : ℤ) : Type 0 where
+  pub within : at ≤ length p.code
+  pub behind : (is : List Instr) → AreInstrs p.code is → IsBehind (callees_of w p) is at h
+
+-- the instruction at such a place
+pub record IsPointAt (w : World) (p : Procedure) (at : ℕ) (h : ℤ) (q : Point) : Type 0 where
+  pub at_is : q.at ≡ at
+  pub height_is : q.height ≡ h
+  pub step_is : record { instr = q.instr; takes = q.takes; leaves = q.leaves } ≡ step_among (callees_of w p) q.instr
+  pub begins : BeginsWith (drop at p.code) q.instr (drop q.end p.code)
+  pub within : q.end ≤ length p.code
+
+abbrev pub AreMarks : World → Procedure → List Place → Type 0
+AreMarks w p marks = AllByRecursion (λ m. IsPassed w p m.at m.height) marks
+
+-- where the code begins, or one of the marks
+abbrev pub IsKnown : List Place → Place → Type 0
+IsKnown marks m = ((m.at ≡ 0) × (m.height ≡ pos 0)) ⊎ ((k : ℕ) × (slice_get marks k ≡ Some m))
+
+-- the code is instructions, and this is kept of them
+pub record IsSurvey (w : World) (p : Procedure) (s : Survey) : Type 0 where
+  pub is : List Instr
+  pub instrs_are : AreInstrs p.code is
+  pub highest_is : s.highest ≡ highest (pos 0) (points (callees_of w p) 0 (pos 0) is)
+  pub marks_are : AreMarks w p s.marks.items
+
+-- what a walk over a code answers
+abbrev pub Surveys : World → Procedure → Result Survey CodeFault → Type 0
+Surveys w p (Ok s) = IsSurvey w p s
+Surveys w p (Err faults.Memory) = Unit {0}
+Surveys w p (Err (faults.InCode at code)) = StopsAt p.code at × (code ≡ 5)
+Surveys w p (Err faults.OfHigh) = ⊥
 
 -- what is told of a code
 abbrev pub Tells : World → (k : ℕ) → Procedure → Result (Unit {0}) CodeFault → Type 0

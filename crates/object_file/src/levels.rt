@@ -1,17 +1,18 @@
-//! Whether the points of a code are right and level.
-ghost use Rattle.std.specs.Prelude.{◌≡◌, true, pos, ◌-ℤ◌, map};
-ghost use Rattle.code_form.specs.Valid.{jump_of as spec_jump, target_passes, same_height, returns_all as spec_returns, is_right as spec_right, is_level as spec_level, first_not, highest as spec_highest};
+//! Whether the instructions of a code are right and level.
+ghost use Rattle.std.specs.Prelude.{◌≡◌, true, pos, ◌-ℤ◌};
+ghost use Rattle.code_form.specs.Valid.{jump_of as spec_jump, target_passes, same_height, returns_all as spec_returns, is_right as spec_right, is_level as spec_level, first_not};
 ghost use Rattle.object_file.specs.Links.{AreLinksOf};
-ghost use Rattle.object_file.specs.Points.{point_of, ArePlaces};
+ghost use Rattle.object_file.specs.Points.{point_of, AreMarks, OfPoints};
 ghost use Rattle.object_file.specs.Views.{procedure_of, world_in};
 
 use crate::flow::{is_end, jump_of};
 use crate::links::Links;
 use crate::naming::names_what_is_there;
 use crate::parts::Parts;
-use crate::point::Point;
-use crate::points::height_behind;
+use crate::point::{Place, Point};
+use crate::survey::Survey;
 use crate::targets::target;
+use crate::walk::{behind, first, point_at};
 use code_form::Instr;
 use m2_base::ProcCode;
 
@@ -22,18 +23,13 @@ fn same(x: i128, y: i128) -> bool
 }
 
 /// A jump goes to an instruction.
-fn lands(points: &[Point], places: &[usize], point: &Point) -> bool
-    requires { ArePlaces places.now points.now }
-    ensures { result ≡ target_passes (map point_of points.now) (point_of point.now) (λ q gone. true) (spec_jump point.now.instr) }
+fn lands(parts: &Parts, own: &ProcCode, marks: &[Place], point: &Point) -> bool
+    requires { AreMarks (world_in parts.now) (procedure_of own.now) marks.now }
+    ensures { OfPoints (world_in parts.now) (procedure_of own.now) (λ all. result ≡ target_passes all (point_of point.now) (λ q gone. true) (spec_jump point.now.instr)) }
 {
     match jump_of(&point.instr) {
         None => true,
-        Some((distance, _)) => {
-            match target(points, places, point.end, distance) {
-                Some(_) => true,
-                None => false,
-            }
-        }
+        Some((distance, _)) => target(parts, own, marks, point.end, distance).is_some(),
     }
 }
 
@@ -43,16 +39,15 @@ fn is_right(
     links: &Links,
     k: u32,
     own: &ProcCode,
-    points: &[Point],
-    places: &[usize],
+    marks: &[Place],
     point: &Point,
 ) -> bool
     requires links { AreLinksOf (world_in parts.now) links.now }
-    requires places { ArePlaces places.now points.now }
-    ensures { result ≡ spec_right (world_in parts.now) k (procedure_of own.now) (map point_of points.now) (point_of point.now) }
+    requires marks { AreMarks (world_in parts.now) (procedure_of own.now) marks.now }
+    ensures { OfPoints (world_in parts.now) (procedure_of own.now) (λ all. result ≡ spec_right (world_in parts.now) k (procedure_of own.now) all (point_of point.now)) }
 {
     names_what_is_there(parts, links, k, own, &point.instr)
-        && lands(points, places, point)
+        && lands(parts, own, marks, point)
         && (point.end < own.code.len() || is_end(&point.instr))
 }
 
@@ -62,38 +57,39 @@ pub(crate) fn first_not_right(
     links: &Links,
     k: u32,
     own: &ProcCode,
-    points: &[Point],
-    places: &[usize],
+    marks: &[Place],
 ) -> Option<usize>
     requires links { AreLinksOf (world_in parts.now) links.now }
-    requires places { ArePlaces places.now points.now }
-    ensures { result ≡ first_not (λ p. spec_right (world_in parts.now) k (procedure_of own.now) (map point_of points.now) p) (map point_of points.now) }
+    requires marks { AreMarks (world_in parts.now) (procedure_of own.now) marks.now }
+    ensures { OfPoints (world_in parts.now) (procedure_of own.now) (λ all. result ≡ first_not (λ p. spec_right (world_in parts.now) k (procedure_of own.now) all p) all) }
 {
-    for point in points {
-        if !is_right(parts, links, k, own, points, places, point) {
-            return Some(point.at);
+    let mut place = first();
+    while let Some(point) = point_at(parts, own, place) {
+        if !is_right(parts, links, k, own, marks, &point) {
+            return Some(place.at);
         }
+        place = behind(&point);
     }
     None
 }
 
-/// The height with this much gone is that of the other point.
-fn agree(point: &Point, gone: u32, other: &Point) -> bool
-    ensures { result ≡ same_height (point.now.height -ℤ pos gone) other.now.height }
+/// The height with this much gone is that of the other place.
+fn agree(point: &Point, gone: u32, other: Place) -> bool
+    ensures { result ≡ same_height (point.now.height -ℤ pos gone) other.height }
 {
     point.height - gone as i128 == other.height
 }
 
 /// After a jump the height is that at its target.
-fn lands_level(points: &[Point], places: &[usize], point: &Point) -> bool
-    requires { ArePlaces places.now points.now }
-    ensures { result ≡ target_passes (map point_of points.now) (point_of point.now) (λ q gone. same_height (point.now.height -ℤ pos gone) q.height) (spec_jump point.now.instr) }
+fn lands_level(parts: &Parts, own: &ProcCode, marks: &[Place], point: &Point) -> bool
+    requires { AreMarks (world_in parts.now) (procedure_of own.now) marks.now }
+    ensures { OfPoints (world_in parts.now) (procedure_of own.now) (λ all. result ≡ target_passes all (point_of point.now) (λ q gone. same_height (point.now.height -ℤ pos gone) q.height) (spec_jump point.now.instr)) }
 {
     match jump_of(&point.instr) {
         None => true,
         Some((distance, gone)) => {
-            match target(points, places, point.end, distance) {
-                Some(q) => agree(point, gone, q),
+            match target(parts, own, marks, point.end, distance) {
+                Some(other) => agree(point, gone, other),
                 None => false,
             }
         }
@@ -111,43 +107,33 @@ fn returns_all(point: &Point) -> bool
 }
 
 /// The height has what the instruction takes; after a jump it is the height at its target; a return takes all of it.
-fn is_level(points: &[Point], places: &[usize], point: &Point) -> bool
-    requires { ArePlaces places.now points.now }
-    ensures { result ≡ spec_level (map point_of points.now) (point_of point.now) }
+fn is_level(parts: &Parts, own: &ProcCode, marks: &[Place], point: &Point) -> bool
+    requires { AreMarks (world_in parts.now) (procedure_of own.now) marks.now }
+    ensures { OfPoints (world_in parts.now) (procedure_of own.now) (λ all. result ≡ spec_level all (point_of point.now)) }
 {
-    point.takes as i128 <= point.height && lands_level(points, places, point) && returns_all(point)
+    point.takes as i128 <= point.height
+        && lands_level(parts, own, marks, point)
+        && returns_all(point)
 }
 
 /// The place of the first instruction with a wrong height.
-pub(crate) fn first_not_level(points: &[Point], places: &[usize]) -> Option<usize>
-    requires { ArePlaces places.now points.now }
-    ensures { result ≡ first_not (λ p. spec_level (map point_of points.now) p) (map point_of points.now) }
+pub(crate) fn first_not_level(parts: &Parts, own: &ProcCode, marks: &[Place]) -> Option<usize>
+    requires { AreMarks (world_in parts.now) (procedure_of own.now) marks.now }
+    ensures { OfPoints (world_in parts.now) (procedure_of own.now) (λ all. result ≡ first_not (λ p. spec_level all p) all) }
 {
-    for point in points {
-        if !is_level(points, places, point) {
-            return Some(point.at);
+    let mut place = first();
+    while let Some(point) = point_at(parts, own, place) {
+        if !is_level(parts, own, marks, &point) {
+            return Some(place.at);
         }
+        place = behind(&point);
     }
     None
 }
 
-/// The greatest height.
-fn highest(points: &[Point]) -> i128
-    ensures { result ≡ spec_highest (pos 0) (map point_of points.now) }
-{
-    let mut most = 0i128;
-    for point in points {
-        let height = height_behind(point.height, point.takes, point.leaves);
-        if most < height {
-            most = height;
-        }
-    }
-    most
-}
-
 /// The greatest height is this one.
-pub(crate) fn is_high(points: &[Point], high: u32) -> bool
-    ensures { result ≡ same_height (spec_highest (pos 0) (map point_of points.now)) (pos high) }
+pub(crate) fn is_high(survey: &Survey, high: u32) -> bool
+    ensures { result ≡ same_height survey.now.highest (pos high) }
 {
-    highest(points) == high as i128
+    survey.highest == high as i128
 }

@@ -20,13 +20,14 @@ mod naming;
 mod object;
 mod parts;
 mod point;
-mod points;
 mod program;
 mod reading;
 mod sizes;
+mod survey;
 mod targets;
 #[cfg(test)]
 mod tests;
+mod walk;
 mod wanted;
 mod writing;
 

@@ -1,44 +1,52 @@
 //! Where jumps go.
-ghost use Rattle.std.specs.Prelude.{◌≡◌, ◌≢◌, ◌<◌, ◌+ℤ◌, ℕ, pos, length, map, slice_index, slice_get, ◌^◌, IfSome, IfNone, IfOk};
+ghost use Rattle.std.specs.Prelude.{◌≡◌, ◌≢◌, ◌<◌, ◌≤◌, ◌+ℤ◌, ℕ, pos, slice_get, ◌^◌, IfSome, IfNone};
 ghost use Rattle.std.specs.Option.{option_map};
-ghost use Rattle.object_file.specs.Points.{point_of, ArePlaces};
-ghost use Rattle.object_file.specs.Targets.{point_at};
+ghost use Rattle.object_file.specs.Points.{AreMarks, IsKnown, OfPoints};
+ghost use Rattle.object_file.specs.Targets.{height_at};
+ghost use Rattle.object_file.specs.Views.{procedure_of, world_in};
 
-use crate::point::Point;
-use std::alloc::{AllocError, Global};
+use crate::parts::Parts;
+use crate::point::Place;
+use crate::survey::SPACING;
+use crate::walk::{behind, first, point_at};
+use m2_base::ProcCode;
 
-/// The places of the points.
-pub(crate) fn places(alloc: Global, points: &[Point]) -> Result<Vec<usize>, AllocError>
-    ensures { IfOk result (λ places. places.items ≡ map (λ p. p.at) points.now) }
+fn mark(marks: &[Place], k: usize) -> Option<Place>
+    ensures { result ≡ slice_get marks.now k }
 {
-    let mut places = Vec::new(alloc);
-    for point in points {
-        places.push(point.at)?;
-    }
-    Ok(places)
+    marks.get(k).copied()
 }
 
-/// The number of a place among ascending ones.
-fn find(places: &[usize], to: usize) -> Option<usize>
-    requires { (i j : ℕ) → i < j → j < length places.now → slice_index places.now i < slice_index places.now j }
-    ensures found { IfSome result (λ k. (k < length places.now) × (slice_index places.now k ≡ to)) }
-    ensures none { IfNone result ((k : ℕ) → k < length places.now → slice_index places.now k ≢ to) }
+/// A place that is known to be no further than this one.
+fn start(marks: &[Place], to: usize) -> Place
+    ensures before { result.at ≤ to }
+    ensures known { IsKnown marks.now result }
 {
-    let mut low = 0;
-    let mut high = places.len();
-    while low < high {
-        let middle = low + (high - low) / 2;
-        if places[middle] < to {
-            low = middle + 1;
-        } else {
-            high = middle;
-        }
+    match mark(marks, to / SPACING) {
+        Some(place) if place.at <= to => place,
+        _ => first(),
     }
-    if low < places.len() && places[low] == to {
-        Some(low)
-    } else {
-        None
+}
+
+/// This place, if an instruction begins there.
+fn place_at(parts: &Parts, own: &ProcCode, marks: &[Place], to: usize) -> Option<Place>
+    requires { AreMarks (world_in parts.now) (procedure_of own.now) marks.now }
+    ensures { OfPoints (world_in parts.now) (procedure_of own.now) (λ all. option_map (λ m. m.height) result ≡ height_at all (pos to)) }
+{
+    let mut place = start(marks, to);
+    while place.at < to {
+        let Some(point) = point_at(parts, own, place) else {
+            return None;
+        };
+        place = behind(&point);
     }
+    if to < place.at {
+        return None;
+    }
+    if own.code.len() <= to {
+        return None;
+    }
+    Some(place)
 }
 
 /// The place so many bytes behind another, or before it.
@@ -49,27 +57,19 @@ fn place_of(end: usize, distance: i32) -> Option<usize>
     end.checked_add_signed(distance as isize)
 }
 
-fn point(points: &[Point], k: usize) -> Option<&Point>
-    ensures { option_map (λ q. point_of q.now) result ≡ slice_get (map point_of points.now) k }
-{
-    points.get(k)
-}
-
-/// The point so many bytes behind another, or before it.
-pub(crate) fn target<'p>(
-    points: &'p [Point],
-    places: &[usize],
+/// The place so many bytes behind this one, or before it, if an instruction begins there.
+pub(crate) fn target(
+    parts: &Parts,
+    own: &ProcCode,
+    marks: &[Place],
     end: usize,
     distance: i32,
-) -> Option<&'p Point>
-    requires { ArePlaces places.now points.now }
-    ensures { option_map (λ q. point_of q.now) result ≡ point_at (map point_of points.now) (pos end +ℤ distance) }
+) -> Option<Place>
+    requires { AreMarks (world_in parts.now) (procedure_of own.now) marks.now }
+    ensures { OfPoints (world_in parts.now) (procedure_of own.now) (λ all. option_map (λ m. m.height) result ≡ height_at all (pos end +ℤ distance)) }
 {
     let Some(to) = place_of(end, distance) else {
         return None;
     };
-    let Some(k) = find(places, to) else {
-        return None;
-    };
-    point(points, k)
+    place_at(parts, own, marks, to)
 }

@@ -1,9 +1,12 @@
-use Rattle.std.proofs.Common.{◌≡◌, map, drop, Bool}
-use Rattle.code_form.specs.Valid.{Point, first_not, is_level as spec_level}
-use Rattle.object_file.specs.Points.{point_of}
+use Rattle.std.proofs.Common.{◌-◌, ◌≤◌, length}
+use Rattle.code_form.specs.Valid.{is_level as spec_level}
+use Rattle.object_file.specs.Views.{procedure_of, world_in}
+use Rattle.object_file.proofs.Walking.{IsLeft}
 use Rattle.object_file.proofs.levels.first_not_level.Given as goal
 
 abbrev pub invariant-loop-point : goal.invariant-loop-point
 invariant-loop-point l =
-    let test : Point → Bool = spec_level (map point_of l.points) in
-    first_not test (map point_of (drop l.point-index l.points)) ≡ first_not test (map point_of l.points)
+    (l.place.at ≤ length l.own.code.items) × IsLeft (world_in l.parts) (procedure_of l.own) spec_level l.place.at l.place.height
+
+abbrev pub decreases-loop-point : goal.decreases-loop-point
+decreases-loop-point l = length l.own.code.items - l.place.at
