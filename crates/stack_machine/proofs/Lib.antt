@@ -9,3 +9,10 @@ pub mod Numbering
 pub mod Readiness
 pub mod Running
 pub mod Serving
+pub mod Flat
+pub mod ObjectFacts
+pub mod Judged
+pub mod Loaded
+pub mod Placing
+pub mod Starting
+pub mod Growing

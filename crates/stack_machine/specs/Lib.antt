@@ -8,3 +8,6 @@ pub mod Able
 pub mod Ready
 pub mod Readings
 pub mod Stepping
+pub mod Loading
+pub mod Sites
+pub mod Machines

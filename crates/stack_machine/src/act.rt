@@ -28,7 +28,7 @@ use crate::stack::{duplicate, operand, push};
 use crate::trap::Trap;
 
 /// InOut's procedures in the order of their headings.
-const SERVICES: [Service; 8] = [
+pub(crate) const SERVICES: [Service; 8] = [
     Service::Read,
     Service::ReadInt,
     Service::ReadCard,

@@ -3,6 +3,7 @@ ghost use Rattle.std.specs.Prelude.{◌≡◌, ◌≤◌, ◌<◌, None, Some, �
 ghost use Rattle.m2_io.specs.Causes.{Rose};
 ghost use Rattle.stack_machine.specs.Able.{HasRoom, CanDo, Comes};
 ghost use Rattle.stack_machine.specs.InOut.{Got, params_of, printed, can_go_on};
+ghost use Rattle.stack_machine.specs.Machines.{IsPlaced};
 ghost use Rattle.stack_machine.specs.Operands.{top_of};
 ghost use Rattle.stack_machine.specs.Readings.{Taken};
 ghost use Rattle.stack_machine.specs.Ready.{Ready};
@@ -233,6 +234,7 @@ pub(crate) fn steps<P: Sink, K: Source>(
     requires ready { Ready code.now core.old }
     ensures ready { Ready code.now core.new }
     ensures ends { IfSome (K.left keys.old) (λ input. Ends result (program_of code.now) most (state_of core.old) (state_of core.new) input (P.written print.old) (P.written print.new) (K.left keys.new)) }
+    ensures placed { IsPlaced result (program_of code.now) }
     // It fails only where a count of faults rose.
     ensures write_failed { result ≡ End.WriteFailed → Rose (P.faults print.old) (P.faults print.new) }
     ensures read_failed { result ≡ End.ReadFailed → Rose (K.faults keys.old) (K.faults keys.new) }

@@ -6,6 +6,7 @@ use Rattle.stack_machine.specs.State.{state_of, program_of}
 use Rattle.stack_machine.specs.Stepping.{Stepped, is_going}
 use Rattle.stack_machine.proofs.Readiness.{origin_within}
 use Rattle.stack_machine.proofs.Running.{run_starts, run_goes, run_spent, run_stops, ended_ends, failed_ends, write_failed, read_failed, no_failure, goes_is}
+use Rattle.stack_machine.proofs.Starting.{failed_placed, ended_placed}
 use Rattle.stack_machine.proofs.run.steps.Goals as goal
 
 pub loop-init : goal.loop-init
@@ -83,3 +84,11 @@ returns-then-not-goes_on-clause-prints_later g c = let a = c.loop.invariant.prin
 
 pub returns-then-not-goes_on-clause-reads_later : goal.returns-then-not-goes_on-clause-reads_later
 returns-then-not-goes_on-clause-reads_later g c = let a = c.loop.invariant.reads in let b = c.one_step.ensures.reads_later in omega (arith, a, b)
+
+pub returns-in-Err-clause-placed : goal.returns-in-Err-clause-placed
+returns-in-Err-clause-placed g c = failed_placed c.in-Err.failure c.failed.result (program_of c.args.code.now) c.failed.ensures
+
+pub returns-then-not-goes_on-clause-placed : goal.returns-then-not-goes_on-clause-placed
+returns-then-not-goes_on-clause-placed g c =
+    let not_going : is_going c.in-Ok.next ≡ false = search rules in
+    ended_placed c.ended.result (program_of c.args.code.now) c.one_step.new.core.at c.in-Ok.next not_going c.ended.ensures
