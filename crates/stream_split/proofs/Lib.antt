@@ -25,3 +25,4 @@ pub mod Closings
 pub mod EndFaults
 pub mod Agree
 pub mod Climbs
+pub mod WholeAgrees
