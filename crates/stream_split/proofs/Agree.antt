@@ -25,7 +25,7 @@ use Rattle.ll_grammar.specs.Sentences.{Fault, Syntax, TooDeep, SameHead, Faulty}
 use Rattle.stream_split.specs.declared.sorts.Sort.{Sort}
 use Rattle.stream_split.specs.declared.sorts.Sort.TheVariants.{Stop, Word, Procedure, Opener, Closer, Left, Right, Semicolon, Other}
 use Rattle.stream_split.specs.declared.cutter.Mode.{Mode}
-use Rattle.stream_split.specs.Agreement.{SpellsStream, SpellsStreams, IsFaultOf, IsNotBefore, IsFirstOfStreams, fault_at}
+use Rattle.stream_split.specs.Agreement.{SpellsStream, SpellsStreams, IsFaultOf, IsFirstOfStreams, fault_at}
 use Rattle.stream_split.specs.Cut.{sort, State, state, Phase, amid, seen, heading, two_left, one_left, ended, start, next, after, events, opened, opens_by, heading_opens, heading_next, out_of, unless_stop, Event, Enclosed, to, pick}
 use Rattle.stream_split.specs.Streams.{StreamOf, procedure_streams, procedure_stream, module_stream, main_streams}
 use Rattle.stream_split.proofs.Picks.{same_number, pick_append}
@@ -36,6 +36,8 @@ use Rattle.stream_split.proofs.Depths.{shallow}
 use Rattle.stream_split.proofs.Future.{Numbered, count, count_out}
 use Rattle.stream_split.proofs.First.{Ended, NotBefore, FirstOfStreams, first_fault, whole_runs, root}
 use Rattle.stream_split.proofs.Checked.{cuttable, main_text, front, same_grammar}
+use Rattle.stream_split.proofs.Closings.{streams_close}
+use Rattle.stream_split.proofs.EndFaults.{none_at_end}
 use Rattle.stream_split.proofs.Rotations.{chain, inward, outward, faulty_by}
 use Rattle.stream_split.proofs.TreesAgree.{procedure_of_stream, same_blocks}
 
@@ -190,11 +192,14 @@ told_at : (text : ℕ) (f : Fault) (x : Token) (xs : List Token) → fault_at (f
 told_at text Syntax x xs = refl
 told_at text TooDeep x xs = refl
 
-not_before : (text : ℕ) (f g : Fault) (rest w : List Token) → NotBefore f rest g w → IsNotBefore text (fault_in text f rest) g w
-not_before text f g rest [] h = tt
-not_before text f g [] (y ∷ ys) h = absurd h
-not_before text f g (x ∷ xs) (y ∷ ys) (inl h) = inr (subst (λ z. z < y.at) (sym (told_at text f x xs)) h)
-not_before text f g (x ∷ xs) (y ∷ ys) (inr h) = inl (ap (λ z. fault_in text z (y ∷ ys)) h.1 ∙ same_told text f (y ∷ ys) (x ∷ xs) h.0)
+-- the fault of another stream, which is not at its end
+not_before : (text : ℕ) (f g : Fault) (rest w : List Token) (other : StreamFault) → (w ≡ [] → ⊥) → other ≡ fault_in text g w → NotBefore f rest g w
+    → (other ≡ fault_in text f rest) ⊎ (fault_at (fault_in text f rest) < fault_at other)
+not_before text f g rest [] other n o h = absurd (n refl)
+not_before text f g [] (y ∷ ys) other n o h = absurd h
+not_before text f g (x ∷ xs) (y ∷ ys) other n o (inl h) =
+    inr (subst (λ z. fault_at (fault_in text f (x ∷ xs)) < fault_at z) (sym o) (subst (λ z. fault_at (fault_in text f (x ∷ xs)) < z) (sym (told_at text g y ys)) (subst (λ z. z < y.at) (sym (told_at text f x xs)) h)))
+not_before text f g (x ∷ xs) (y ∷ ys) other n o (inr h) = inl (o ∙ ap (λ z. fault_in text z (y ∷ ys)) h.1 ∙ same_told text f (y ∷ ys) (x ∷ xs) h.0)
 
 -- the streams of procedures by their numbers
 less_apart : (j c : ℕ) → c ≤ j → (j == c) ≡ false → suc c ≤ j
@@ -209,9 +214,9 @@ find c (p ∷ ps) es j l h = on (j == c) refl (λ low. find (suc c) ps es j low 
     on true e r = (p, inl (ap (λ z. procedure_stream z p (pick z es)) (eqb-true j c e)))
     on false e r = let i = r (less_apart j c l e) in (i.0, inr i.1)
 
-each : (P : StreamOf → Type 0) (c : ℕ) (ps : List Enclosed) (es : List Event) → ((j : ℕ) (p : Enclosed) → c ≤ j → P (procedure_stream j p (pick j es))) → Each P (procedure_streams c ps es)
+each : (P : StreamOf → Type 0) (c : ℕ) (ps : List Enclosed) (es : List Event) → ((j : ℕ) (p : Enclosed) → c ≤ j → j < c + length ps → P (procedure_stream j p (pick j es))) → Each P (procedure_streams c ps es)
 each P c [] es h = tt
-each P c (p ∷ ps) es h = (h c p (omega arith), each P (suc c) ps es (λ j q l. h j q (omega (arith, l))))
+each P c (p ∷ ps) es h = (h c p (omega arith) (omega arith), each P (suc c) ps es (λ j q l u. h j q (omega (arith, l)) (omega (arith, u))))
 
 root_is : (m : ℕ) → root cuttable main_text m m ≡ then (stream_rule (head cuttable) front) (one 0)
 root_is m = ap (λ b. cond b (then (stream_rule (head cuttable) front) (one 0)) (procedure_rule cuttable)) (same_number m)
@@ -247,12 +252,16 @@ module _ (m text : ℕ) (ts : List Token) where
 
   pub fault_agrees : (fault : StreamFault) → AreNumbered 0 ts → IsFirstInMain text fault ts → IsFirstOfStreams text fault (main_streams m ts)
   fault_agrees fault n h =
-      let i = first_fault cuttable main_text m levels ts (numbered_of 0 ts n) (ended_of 0 ts n) h.fault h.rest (text_fault h.fault ts h.rest h.faulty) in
+      let ended = ended_of 0 ts n in
+      let i = first_fault cuttable main_text m levels ts (numbered_of 0 ts n) ended h.fault h.rest (text_fault h.fault ts h.rest h.faulty) in
+      let c = count_opened (start m) ts in
+      let later : (j : ℕ) → m ≤ j → j < count (after (start m) ts) → (g : Fault) (w : List Token) (other : StreamFault) → Faulty W levels (root cuttable main_text m j) g (pick j es) w → other ≡ fault_in text g w → (other ≡ fault_in text h.fault h.rest) ⊎ (fault_at (fault_in text h.fault h.rest) < fault_at other) =
+          λ j low up g w other q o. not_before text h.fault g h.rest w other (λ e. none_at_end m j levels g (pick j es) (streams_close m ts ended j low up) (subst (Faulty W levels (root cuttable main_text m j) g (pick j es)) e q)) o (i.others j g w low q) in
       subst (λ z. IsFirstOfStreams text z (main_streams m ts)) (sym h.told)
       (record {
         one = one_of h.fault h.rest i;
         others = (
-          λ f w q. not_before text h.fault f h.rest w (i.others m f w (omega arith) (subst (λ r. Faulty W levels r f (pick m es) w) (sym (root_is m)) (main_fault f (pick m es) w q))),
-          each (λ s. (f : Fault) (w : List Token) → Faulty grammar levels (stream_rule_of s.kind) f s.tokens w → IsNotBefore text (fault_in text h.fault h.rest) f w) (suc m) (opened (start m) ts) es
-            (λ j p low f w q. not_before text h.fault f h.rest w (i.others j f w (omega (arith, low)) (subst (λ r. Faulty W levels r f (pick j es) w) (sym (root_other m j low)) (subst (λ g. Faulty g levels (procedure_rule cuttable) f (pick j es) w) same_grammar q)))));
+          λ other q. later m (omega arith) (omega (arith, c)) q.fault q.rest other (subst (λ r. Faulty W levels r q.fault (pick m es) q.rest) (sym (root_is m)) (main_fault q.fault (pick m es) q.rest q.faulty)) q.told,
+          each (λ s. (other : StreamFault) → IsFaultOf text other s → (other ≡ fault_in text h.fault h.rest) ⊎ (fault_at (fault_in text h.fault h.rest) < fault_at other)) (suc m) (opened (start m) ts) es
+            (λ j p low up other q. later j (omega (arith, low)) (omega (arith, c, up)) q.fault q.rest other (subst (λ r. Faulty W levels r q.fault (pick j es) q.rest) (sym (root_other m j low)) (subst (λ g. Faulty g levels (procedure_rule cuttable) q.fault (pick j es) q.rest) same_grammar q.faulty)) q.told));
       })

@@ -367,7 +367,7 @@ module _ (G : Cuttable) (M : MainText G) (m : ℕ) where
       let same : d.token ≡ y = begins_head' y ys a.before d.token d.behind (subst (Begins a.before (y ∷ ys)) d.is o.begins) in
       absurd (true≢false (sym d.begins ∙ ap (λ z. member z (firsts W d.number)) (ap (λ z. kind_number z.kind) same ∙ stop_kind y.kind e) ∙ M.no_end d.number))
 
-  after_end : (before : List Token) (t : Token) → t.kind ≡ kinds.EndOfText → phase (after (start m) (before ++ (t ∷ []))) ≡ ended
+  pub after_end : (before : List Token) (t : Token) → t.kind ≡ kinds.EndOfText → phase (after (start m) (before ++ (t ∷ []))) ≡ ended
   after_end before t e = ap phase (after_append (start m) before (t ∷ [])) ∙ ap (λ z. phase (next_by (after (start m) before) t z)) (ap sort e) ∙ stop_ends (after (start m) before) t
 
   module _ {f : Fault} {n : ℕ} {u : List Token} {t : Token} {rt : List Token} (p : Ref f n main u (t ∷ rt)) (ts : List Token) (numbers : Numbered 0 ts) (is : ts ≡ u ++ (t ∷ rt)) where

@@ -21,5 +21,8 @@ pub mod Checked
 pub mod Places
 pub mod Rotations
 pub mod TreesAgree
+pub mod Closings
+pub mod EndFaults
 pub mod Agree
 pub mod Climbs
+pub mod WholeAgrees

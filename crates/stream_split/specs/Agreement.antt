@@ -1,5 +1,5 @@
 -- What the streams of a main text say of it.
-use Rattle.std.specs.Prelude.{◌≡◌, ℕ, ◌<◌, List, [], ◌∷◌, ◌⊎◌}
+use Rattle.std.specs.Prelude.{◌≡◌, ℕ, ◌<◌, List, ◌⊎◌}
 use Rattle.std.specs.List.{AllZip}
 use Rattle.m2_base.specs.declared.outputs.StreamFault.{StreamFault}
 use Rattle.m2_base.specs.declared.outputs.StreamFault.TheVariants.{Syntax, TooDeep}
@@ -9,7 +9,6 @@ use Rattle.m2_base.specs.Grammar.{grammar, levels, stream}
 use Rattle.m2_base.specs.Lists.{IsIn, Each}
 use Rattle.m2_base.specs.StreamsOf.{stream_of}
 use Rattle.m2_base.specs.Trees.{Stream}
-use Rattle.ll_grammar.specs.Sentences.{Fault, Faulty}
 use Rattle.ll_grammar.specs.Texts as texts
 use Rattle.stream_split.specs.Streams.{StreamOf}
 
@@ -30,12 +29,7 @@ abbrev pub fault_at : StreamFault → ℕ
 fault_at (Syntax d) = d.at
 fault_at (TooDeep text at) = at
 
--- a fault with this rest is told alike, or is at a later token; none is at the end of a list
-abbrev pub IsNotBefore : ℕ → StreamFault → Fault → List Token → Type 0
-IsNotBefore text fault f [] = Unit {0}
-IsNotBefore text fault f (t ∷ rest) = (fault_in text f (t ∷ rest) ≡ fault) ⊎ (fault_at fault < t.at)
-
--- one of the streams has the fault, and the faults of the others are the same or at later tokens
+-- one of the streams has the fault, and the fault of each is the same or at a later token
 pub record IsFirstOfStreams (text : ℕ) (fault : StreamFault) (streams : List StreamOf) : Type 0 where
   pub one : (s : StreamOf) × IsIn s streams × IsFaultOf text fault s
-  pub others : Each (λ s. (f : Fault) (rest : List Token) → Faulty grammar levels (stream s.kind) f s.tokens rest → IsNotBefore text fault f rest) streams
+  pub others : Each (λ s. (other : StreamFault) → IsFaultOf text other s → (other ≡ fault) ⊎ (fault_at fault < fault_at other)) streams

@@ -7,15 +7,20 @@
 //! those of m2_base on the procedures of a text, and `specs/Chains` the scopes that a block searches.
 #![tactic(auto)]
 
-mod chains;
 mod cutter;
 mod extents;
 mod laws;
 mod sorts;
 mod splitting;
 mod streams;
+mod surroundings;
+#[cfg(test)]
+mod tests;
+#[cfg(test)]
+mod vectors;
 
 pub use extents::sizes;
 pub use laws::streams_agree_with_the_text;
 pub use splitting::cut;
 pub use streams::{SplitFault, StreamTokens};
+pub use surroundings::around;
