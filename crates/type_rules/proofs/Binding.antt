@@ -48,13 +48,13 @@ Works-bound a b c x y at name e looked reads noted same =
     let first : Works a b x y =
     elim noted as (λ _. Works a b x y) [
       | inl added ↦ record {
-          looks = looked.looks;
-          keeps = looked.keeps;
-          answers = answer_of name at e ∷ [];
-          noted = added;
-          shown = (looked.among, tt);
-          diags = prefix_same x.diags.items y.diags.items same;
-        }
+        looks = looked.looks;
+        keeps = looked.keeps;
+        answers = answer_of name at e ∷ [];
+        noted = added;
+        shown = (looked.among, tt);
+        diags = prefix_same x.diags.items y.diags.items same;
+      }
       | inr kept ↦ Works-kept x y looked.keeps kept (prefix_same x.diags.items y.diags.items same)
     ] in
     Works-trans first (Works-kept y y reads.keeps refl (IsPrefixOf-refl y.diags.items))
@@ -65,13 +65,13 @@ pub Works-later : (a b : State) (x y : Notes) (at name : ℕ) (e : Entry) → Lo
 Works-later a b x y at name e looked noted grows =
     elim noted as (λ _. Works a b x y) [
       | inl added ↦ record {
-          looks = looked.looks;
-          keeps = looked.keeps;
-          answers = answer_of name at e ∷ [];
-          noted = added;
-          shown = (looked.among, tt);
-          diags = grows;
-        }
+        looks = looked.looks;
+        keeps = looked.keeps;
+        answers = answer_of name at e ∷ [];
+        noted = added;
+        shown = (looked.among, tt);
+        diags = grows;
+      }
       | inr kept ↦ Works-kept x y looked.keeps kept grows
     ]
 

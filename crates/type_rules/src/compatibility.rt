@@ -69,7 +69,12 @@ fn is_char_beside(x: &Operand, left: Place, y: &Operand, right: Place) -> bool
 
 /// The bases of two types.
 #[tactic(auto, using(crate::proofs::Reading::reading))]
-pub(crate) fn bases_of<S: Scopes>(scopes: &mut S, around: &Around, x: Place, y: Place) -> Ask<(Place, Place)>
+pub(crate) fn bases_of<S: Scopes>(
+    scopes: &mut S,
+    around: &Around,
+    x: Place,
+    y: Place,
+) -> Ask<(Place, Place)>
     requires suits { Suits (S.state scopes.old).frame around.now }
     requires x { IsThere (S.state scopes.old).frame x }
     requires y { IsThere (S.state scopes.old).frame y }

@@ -11,7 +11,11 @@ use m2_base::{Around, Ask, Place, Reply, Row, Scopes};
 
 /// The first row of the module's scope that has a name. What the own scope has not yet is answered as nothing.
 #[tactic(auto, using(crate::proofs::Reading::reading))]
-pub(crate) fn declared<S: Scopes>(scopes: &mut S, around: &Around, name: u32) -> Ask<Option<(Place, Row)>>
+pub(crate) fn declared<S: Scopes>(
+    scopes: &mut S,
+    around: &Around,
+    name: u32,
+) -> Ask<Option<(Place, Row)>>
     requires suits { Suits (S.state scopes.old).frame around.now }
     requires named { name ≢ 0 }
     ensures reads { Reads (S.state scopes.old) (S.state scopes.new) }

@@ -6,7 +6,9 @@ ghost use Rattle.m2_base.specs.Statics.Ranges.{range};
 use m2_base::{FoldKind, Operator};
 
 const LEAST_INTEGER: i64 = -2_147_483_648;
+
 const GREATEST_INTEGER: i64 = 2_147_483_647;
+
 const GREATEST_CARDINAL: i64 = 4_294_967_295;
 
 /// The value of an operator on two constants of a kind: none where it is outside the range, or where the divisor isn't

@@ -33,8 +33,8 @@ pub use compatibility::compatible;
 pub use folding::fold;
 pub use members::{field_of, index_of};
 pub use operands::{
-    BITSET, BOOLEAN, BROKEN, CARDINAL, CHARACTER, INTEGER, NIL, TEXT, WHOLE, is_integer_or_cardinal,
-    is_one_char, is_string, operand_type,
+    BITSET, BOOLEAN, BROKEN, CARDINAL, CHARACTER, INTEGER, NIL, TEXT, WHOLE,
+    is_integer_or_cardinal, is_one_char, is_string, operand_type,
 };
 pub use ordinals::{base_of, range_of};
 pub use sameness::same;

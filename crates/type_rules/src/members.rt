@@ -44,7 +44,13 @@ fn is_field(row: &Row, of: u32, name: u32) -> bool
 
 /// The field of a name among the rows of a record, the first of which has an ordinal that isn't above the record's.
 #[tactic(auto, using(crate::proofs::Reading::reading))]
-fn field_among<S: Scopes>(scopes: &mut S, around: &Around, of: Place, first: u32, name: u32) -> Ask<Option<Row>>
+fn field_among<S: Scopes>(
+    scopes: &mut S,
+    around: &Around,
+    of: Place,
+    first: u32,
+    name: u32,
+) -> Ask<Option<Row>>
     requires suits { Suits (S.state scopes.old).frame around.now }
     requires there { IsThere (S.state scopes.old).frame of }
     ensures reads { Reads (S.state scopes.old) (S.state scopes.new) }
@@ -68,7 +74,12 @@ fn field_among<S: Scopes>(scopes: &mut S, around: &Around, of: Place, first: u32
 
 /// The row of a record's field of this name; none where a type is no record or has no such field.
 #[tactic(auto, using(crate::proofs::Reading::reading))]
-pub fn field_of<S: Scopes>(scopes: &mut S, around: &Around, of: Place, name: u32) -> Ask<Option<Row>>
+pub fn field_of<S: Scopes>(
+    scopes: &mut S,
+    around: &Around,
+    of: Place,
+    name: u32,
+) -> Ask<Option<Row>>
     requires suits { Suits (S.state scopes.old).frame around.now }
     requires there { IsThere (S.state scopes.old).frame of }
     ensures reads { Reads (S.state scopes.old) (S.state scopes.new) }

@@ -16,9 +16,13 @@ macro_rules! standard {
 }
 
 pub const INTEGER: Place = standard!(0);
+
 pub const CARDINAL: Place = standard!(1);
+
 pub const CHARACTER: Place = standard!(2);
+
 pub const BOOLEAN: Place = standard!(3);
+
 pub const BITSET: Place = standard!(5);
 /// The type of NIL.
 pub const NIL: Place = standard!(7);

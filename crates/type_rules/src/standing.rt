@@ -14,7 +14,13 @@ use m2_base::{Around, Ask, Place, Row, RowMeaning, Scopes, read_row};
 
 /// The type of a type name's row, unless that is opaque; of any other row the type given.
 #[tactic(auto, using(crate::proofs::Reading::reading))]
-fn type_named<S: Scopes>(scopes: &mut S, around: &Around, of: Place, place: Place, row: &Row) -> Ask<Place>
+fn type_named<S: Scopes>(
+    scopes: &mut S,
+    around: &Around,
+    of: Place,
+    place: Place,
+    row: &Row,
+) -> Ask<Place>
     requires suits { Suits (S.state scopes.old).frame around.now }
     requires there { IsThere (S.state scopes.old).frame of }
     requires row { IsRowOf (S.state scopes.old).frame place row.now }
@@ -98,7 +104,11 @@ pub(crate) fn stands_for<S: Scopes>(scopes: &mut S, around: &Around, of: Place) 
 
 /// What a type stands for, and what its row says.
 #[tactic(auto, using(crate::proofs::Reading::reading))]
-pub(crate) fn stand<S: Scopes>(scopes: &mut S, around: &Around, of: Place) -> Ask<(Place, RowMeaning)>
+pub(crate) fn stand<S: Scopes>(
+    scopes: &mut S,
+    around: &Around,
+    of: Place,
+) -> Ask<(Place, RowMeaning)>
     requires suits { Suits (S.state scopes.old).frame around.now }
     requires there { IsThere (S.state scopes.old).frame of }
     ensures reads { Reads (S.state scopes.old) (S.state scopes.new) }

@@ -19,13 +19,15 @@ ghost use Rattle.type_rules.specs.Sites.{SuitsSite, CanLook, context_of, source_
 use crate::looking::look_up;
 use crate::rows::row_at;
 use m2_base::{
-    Answer, Around, Ask, Diag, Memory, Notes, Place, Row, RowMeaning, Scopes, Site, Texts, read_row,
-    standard_rows,
+    Answer, Around, Ask, Diag, Memory, Notes, Place, Row, RowMeaning, Scopes, Site, Texts,
+    read_row, standard_rows,
 };
 
 /// The codes of a name that isn't declared, one that is declared later, and one that its module lacks.
 const UNKNOWN_NAME: u8 = 40;
+
 const USED_BEFORE: u8 = 41;
+
 const NOT_DECLARED_THERE: u8 = 44;
 
 /// A row with its place.
@@ -161,7 +163,13 @@ fn stands_later(site: &Site, entry: &Entry, at: u32) -> bool
 }
 
 /// Notes an answer, and that its row is declared later.
-fn refuse_later(notes: &mut Notes, text: u32, name: u32, at: u32, entry: &Entry) -> Result<(), Memory>
+fn refuse_later(
+    notes: &mut Notes,
+    text: u32,
+    name: u32,
+    at: u32,
+    entry: &Entry,
+) -> Result<(), Memory>
     ensures noted { IfOk result (λ _. notes.new.answers.items ≡ notes.old.answers.items ++ answer_of name at entry.now ∷ []) }
     ensures refused { IfOk result (λ _. IsRefused notes.old notes.new text at USED_BEFORE) }
     ensures answers { (notes.new.answers.items ≡ notes.old.answers.items ++ answer_of name at entry.now ∷ []) ⊎ (notes.new.answers.items ≡ notes.old.answers.items) }
@@ -253,7 +261,10 @@ fn standard_entry(name: u32) -> Entry
     ensures row { slice_get spec_rows (name + 10) ≡ Some result.1 }
 {
     let ordinal = name + 10;
-    (Place { scope: 0, ordinal }, standard_rows()[ordinal as usize])
+    (
+        Place { scope: 0, ordinal },
+        standard_rows()[ordinal as usize],
+    )
 }
 
 /// What a name stands for where it is used at a token, with the place of its row; none with a diagnostic. A name after a
