@@ -62,21 +62,33 @@ pub found : {A B : Type 0} (f : (start number : ℕ) → Block → List A) (g : 
 found f g ef eg start number [] k y z e h = absurd cc
 found {A = A} {B = B} f g ef eg start number (b ∷ bs) k y z e h = elim (cases_lt k (length b.instrs)) [
   | inl lt ↦ (let n : number ≡ number + 0 = omega arith in record {
-      j = 0; block = b; is = refl; first = start; first_is = omega arith; at = k; place = omega arith;
-      here = subst (λ (m : ℕ). slice_get (f start m b) k ≡ Some y) n (sym (get_front (f start number b) (flat f (start + length b.instrs) (suc number) bs) k (omega (arith, lt, ef start number b))) ∙ e);
-      there = subst (λ (m : ℕ). slice_get (g start m b) k ≡ Some z) n (sym (get_front (g start number b) (flat g (start + length b.instrs) (suc number) bs) k (omega (arith, lt, eg start number b))) ∙ h);
-    })
+    j = 0;
+    block = b;
+    is = refl;
+    first = start;
+    first_is = omega arith;
+    at = k;
+    place = omega arith;
+    here = subst (λ (m : ℕ). slice_get (f start m b) k ≡ Some y) n (sym (get_front (f start number b) (flat f (start + length b.instrs) (suc number) bs) k (omega (arith, lt, ef start number b))) ∙ e);
+    there = subst (λ (m : ℕ). slice_get (g start m b) k ≡ Some z) n (sym (get_front (g start number b) (flat g (start + length b.instrs) (suc number) bs) k (omega (arith, lt, eg start number b))) ∙ h);
+  })
   | inr le ↦ (
       let back : k ≡ length (f start number b) + (k - length b.instrs) = omega (arith, le, ef start number b) in
       let back' : k ≡ length (g start number b) + (k - length b.instrs) = omega (arith, le, eg start number b) in
       let r = found f g ef eg (start + length b.instrs) (suc number) bs (k - length b.instrs) y z
-          (sym (get_back (f start number b) (flat f (start + length b.instrs) (suc number) bs) (k - length b.instrs) k back) ∙ e)
-          (sym (get_back (g start number b) (flat g (start + length b.instrs) (suc number) bs) (k - length b.instrs) k back') ∙ h) in
+      (sym (get_back (f start number b) (flat f (start + length b.instrs) (suc number) bs) (k - length b.instrs) k back) ∙ e)
+      (sym (get_back (g start number b) (flat g (start + length b.instrs) (suc number) bs) (k - length b.instrs) k back') ∙ h) in
       let n : suc number + r.j ≡ number + suc r.j = omega arith in
       let first_is = r.first_is in
       let place = r.place in
       record {
-        j = suc r.j; block = r.block; is = r.is; first = r.first; first_is = omega (arith, first_is); at = r.at; place = omega (arith, place, le);
+        j = suc r.j;
+        block = r.block;
+        is = r.is;
+        first = r.first;
+        first_is = omega (arith, first_is);
+        at = r.at;
+        place = omega (arith, place, le);
         here = subst (λ (m : ℕ). slice_get (f r.first m r.block) r.at ≡ Some y) n r.here;
         there = subst (λ (m : ℕ). slice_get (g r.first m r.block) r.at ≡ Some z) n r.there;
       })
@@ -144,7 +156,10 @@ belongs_of m o k text (p ∷ ps) bs zero b are is =
     let same : are.0 ≡ b = one_is are.0 b (sym (ap (λ (xs : List Block). slice_get xs 0) are.2) ∙ is) in
     let h = are.3 in
     subst (BelongsOf m o k (p ∷ ps) 0) same (record {
-      module_is = h.module_is; object_is = h.object_is; number_is = h.number_is ∙ omega arith; procedure = ap (λ (x : Procedure). Some x) (sym h.procedure_is);
+      module_is = h.module_is;
+      object_is = h.object_is;
+      number_is = h.number_is ∙ omega arith;
+      procedure = ap (λ (x : Procedure). Some x) (sym h.procedure_is);
       instrs = subst (λ (x : Procedure). AreInstrs x.code are.0.instrs) (sym h.procedure_is) h.instrs;
     })
 belongs_of m o k text (p ∷ ps) bs (suc q) b are is =
@@ -177,7 +192,7 @@ belongs_from m n text (o ∷ os) bs q b are is = elim (cases_lt q (length are.0)
   | inr le ↦ (
       let len = blocks_length m o 0 text o.procedures are.0 are.3 in
       let w = belongs_from (suc m) (n + length o.procedures) (text + data_in o.procedures) os are.1 (q - length are.0) b are.4
-          (sym (get_back are.0 are.1 (q - length are.0) q (omega (arith, le))) ∙ sym (ap (λ (xs : List Block). slice_get xs q) are.2) ∙ is) in
+      (sym (get_back are.0 are.1 (q - length are.0) q (omega (arith, le))) ∙ sym (ap (λ (xs : List Block). slice_get xs q) are.2) ∙ is) in
       let mi = w.module_is in
       let pl = w.place in
       record { i = suc w.i; module_is = omega (arith, mi); object = w.object; procedure = w.procedure; place = omega (arith, pl, len, le); instrs = w.instrs })

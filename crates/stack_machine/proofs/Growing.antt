@@ -110,9 +110,13 @@ blocks_more m o k text [] bs p b are is =
     (b, [], ap (λ (xs : List Block). xs ++ b ∷ []) are, subst (λ (x : ℕ). IsBlock m o k x p b) t (subst (λ (x : ℕ). IsBlock m o x (text + 0) p b) n is), refl)
 blocks_more m o k text (q ∷ ps) bs p b are is =
     let n : k + length (q ∷ ps) ≡ suc k + length ps = omega arith in
-    let t : text + data_in (q ∷ ps) ≡ text + length q.bytes + data_in ps = omega arith in
-    (are.0, are.1 ++ b ∷ [], ap (λ (xs : List Block). xs ++ b ∷ []) are.2, are.3,
-     blocks_more m o (suc k) (text + length q.bytes) ps are.1 p b are.4 (subst (λ (x : ℕ). IsBlock m o (suc k + length ps) x p b) t (subst (λ (x : ℕ). IsBlock m o x (text + data_in (q ∷ ps)) p b) n is)))
+    let t : text + data_in (q ∷ ps) ≡ text + length q.bytes + data_in ps = omega arith in (
+      are.0,
+      are.1 ++ b ∷ [],
+      ap (λ (xs : List Block). xs ++ b ∷ []) are.2,
+      are.3,
+      blocks_more m o (suc k) (text + length q.bytes) ps are.1 p b are.4 (subst (λ (x : ℕ). IsBlock m o (suc k + length ps) x p b) t (subst (λ (x : ℕ). IsBlock m o x (text + data_in (q ∷ ps)) p b) n is)),
+    )
 
 pub no_procedures : (os : List Contents) (m : ℕ) (o : Contents) (text : ℕ) (old : Listing) → GrowsObject os m o text [] old old
 no_procedures os m o text old = record { blocks = []; are = refl; grows = record { ops = sym (append-nil old.ops.items); origins = sym (append-nil old.origins.items); routines = sym (append-nil old.routines.items) } }
@@ -177,9 +181,13 @@ are_more m text [] bs o own are is =
     (own, [], ap (λ (xs : List Block). xs ++ own) are ∙ sym (append-nil own), subst (λ (x : ℕ). AreBlocksOf m o 0 x o.procedures own) t (subst (λ (x : ℕ). AreBlocksOf x o 0 (text + 0) o.procedures own) n is), refl)
 are_more m text (q ∷ some) bs o own are is =
     let n : m + length (q ∷ some) ≡ suc m + length some = omega arith in
-    let t : text + data_of (q ∷ some) ≡ text + data_in q.procedures + data_of some = omega arith in
-    (are.0, are.1 ++ own, ap (λ (xs : List Block). xs ++ own) are.2 ∙ append_assoc are.0 are.1 own, are.3,
-     are_more (suc m) (text + data_in q.procedures) some are.1 o own are.4 (subst (λ (x : ℕ). AreBlocksOf (suc m + length some) o 0 x o.procedures own) t (subst (λ (x : ℕ). AreBlocksOf x o 0 (text + data_of (q ∷ some)) o.procedures own) n is)))
+    let t : text + data_of (q ∷ some) ≡ text + data_in q.procedures + data_of some = omega arith in (
+      are.0,
+      are.1 ++ own,
+      ap (λ (xs : List Block). xs ++ own) are.2 ∙ append_assoc are.0 are.1 own,
+      are.3,
+      are_more (suc m) (text + data_in q.procedures) some are.1 o own are.4 (subst (λ (x : ℕ). AreBlocksOf (suc m + length some) o 0 x o.procedures own) t (subst (λ (x : ℕ). AreBlocksOf x o 0 (text + data_of (q ∷ some)) o.procedures own) n is)),
+    )
 
 pub no_objects : (os : List Contents) (text : ℕ) (old : Listing) → GrowsAll os text [] old old
 no_objects os text old = record { blocks = []; are = refl; grows = record { ops = sym (append-nil old.ops.items); origins = sym (append-nil old.origins.items); routines = sym (append-nil old.routines.items) } }

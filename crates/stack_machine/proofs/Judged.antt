@@ -88,6 +88,7 @@ all_pass test (q ∷ ps) e n x is = chosen (test q) refl e (λ d m is'. all_pass
   one : (n : ℕ) → slice_get (q ∷ ps) n ≡ Some x → test q ≡ true → ((m : ℕ) → slice_get ps m ≡ Some x → test x ≡ true) → test x ≡ true
   one zero is t rest = subst (λ (y : Point). test y ≡ true) (one_is q x is) t
   one (suc m) is t rest = rest m is
+
   chosen : (b : Bool) → test q ≡ b → cond b (first_not test ps) (Some q.at) ≡ None → (first_not test ps ≡ None → (m : ℕ) → slice_get ps m ≡ Some x → test x ≡ true) → test x ≡ true
   chosen false t e rest = absurd cc
   chosen true t e rest = one n is t (rest e)

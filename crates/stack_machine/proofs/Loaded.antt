@@ -182,11 +182,14 @@ module _ (os : List Contents) (c : Program) (program : IsProgram os) (loaded : I
   callee_is : (m k : ℕ) (o : Contents) (p : Procedure) → slice_get os m ≡ Some o → slice_get o.procedures k ≡ Some p
       → (r : Routine) × (slice_get c.routines (number_of os m k) ≡ Some r) × (r.params ≡ p.params) × (r.result ≡ p.result) × (r.outer ≡ cond (eqb p.outer 0) None (Some (number_of os m p.outer)))
   callee_is m k o p is at =
-      let b = block_of (data_at os) os loaded.blocks m k o p loaded.are is at in
-      (routine_of os (total (take (number_of os m k) loaded.blocks)) b.block, routine_is (number_of os m k) b.block b.is,
-       ap (λ (x : Procedure). x.params) b.procedure_is, ap (λ (x : Procedure). x.result) b.procedure_is,
-       ap (λ (x : Procedure). cond (eqb x.outer 0) None (Some (number_of os b.block.«module» x.outer))) b.procedure_is
-       ∙ ap (λ (n : ℕ). cond (eqb p.outer 0) None (Some (number_of os n p.outer))) b.module_is)
+      let b = block_of (data_at os) os loaded.blocks m k o p loaded.are is at in (
+        routine_of os (total (take (number_of os m k) loaded.blocks)) b.block,
+        routine_is (number_of os m k) b.block b.is,
+        ap (λ (x : Procedure). x.params) b.procedure_is,
+        ap (λ (x : Procedure). x.result) b.procedure_is,
+        ap (λ (x : Procedure). cond (eqb x.outer 0) None (Some (number_of os b.block.«module» x.outer))) b.procedure_is
+            ∙ ap (λ (n : ℕ). cond (eqb p.outer 0) None (Some (number_of os n p.outer))) b.module_is,
+      )
 
   -- static links lead where they lead in the object
   links_lead : (m : ℕ) (o : Contents) → slice_get os m ≡ Some o → (h k e : ℕ) → linked (world_of o) h k ≡ Some e → level_out c.routines h (number_of os m k) ≡ Some (number_of os m e)
@@ -387,10 +390,10 @@ module _ (os : List Contents) (c : Program) (program : IsProgram os) (loaded : I
       let le : step.takes ≤ h = subst (λ (m : ℕ). step.takes ≤ m) (sym (ap unsigned_abs hp.1) ∙ size_is) hp.2 in
       let code : length b.procedure.code ≡ length (code_bytes b.instrs) = ap length w.instrs.spelled in
       let passes : is_end pa.instr ≡ false → Leads shapes (k + 1) q (h - step.takes + step.leaves) = λ no_end.
-          (let lt = ltb-true (pa.place + size step.instr) (length b.procedure.code) (or_right (ltb (pa.place + size step.instr) (length b.procedure.code)) (is_end step.instr) r1.1 (ap is_end i_is ∙ no_end)) in
-          let next = next_point cs 0 (pos 0) b.instrs n pt pa.point_is (omega (arith, lt, code)) in
-          leads q b first (suc n) (k + 1) (h - step.takes + step.leaves) next.0 is fi next.1 (omega (arith, place))
-          (ap unsigned_abs (next.2 ∙ ap (λ (z : ℤ). z -ℤ pos step.takes +ℤ pos step.leaves) height) ∙ abs_is h step.takes step.leaves le)) in
+      (let lt = ltb-true (pa.place + size step.instr) (length b.procedure.code) (or_right (ltb (pa.place + size step.instr) (length b.procedure.code)) (is_end step.instr) r1.1 (ap is_end i_is ∙ no_end)) in
+      let next = next_point cs 0 (pos 0) b.instrs n pt pa.point_is (omega (arith, lt, code)) in
+      leads q b first (suc n) (k + 1) (h - step.takes + step.leaves) next.0 is fi next.1 (omega (arith, place))
+      (ap unsigned_abs (next.2 ∙ ap (λ (z : ℤ). z -ℤ pos step.takes +ℤ pos step.leaves) height) ∙ abs_is h step.takes step.leaves le)) in
       record {
         is = is;
         first_is = fi;

@@ -182,6 +182,7 @@ as_heading es k j e p f is at = record {
   params = eqb-true p.params e.1 (exported_get es k j e (λ x. eqb p.params x.1) (both_true (ltb 0 k || eqb p.params 0) (as_exported es k (λ x. eqb p.params x.1)) f.params).1 is at);
   result = eqb-true p.result e.2 (exported_get es k j e (λ x. eqb p.result x.2) (both_true (leb p.result 1 && (ltb 0 k || eqb p.result 0)) (as_exported es k (λ x. eqb p.result x.2)) f.result).1 is at);
 }
+
 pub export_within : (o : Contents) (j : ℕ) (e : Export) → Facts o → slice_get o.exports j ≡ Some e → e.0 < length o.procedures
 unfolding is_count
 export_within o j e f is =

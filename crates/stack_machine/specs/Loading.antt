@@ -279,7 +279,11 @@ block_origins start number b = map (λ s. record { «module» = b.«module»; pr
 abbrev pub routine_of : List Contents → (start : ℕ) → Block → Routine
 routine_of os start b =
     record {
-      entry = start; params = b.procedure.params; result = b.procedure.result; locals = b.procedure.locals; high = b.procedure.high;
+      entry = start;
+      params = b.procedure.params;
+      result = b.procedure.result;
+      locals = b.procedure.locals;
+      high = b.procedure.high;
       outer = if b.procedure.outer == 0 then None else Some (number_of os b.«module» b.procedure.outer);
     }
 
@@ -316,7 +320,15 @@ first_cells os size = (replicate (data_at os) (pos 0) ++ all_data os) ++ replica
 abbrev pub blank : List Contents → (size : ℕ) → State
 blank os size =
     record {
-      at = 0; base = frames_of os; top = frames_of os; link = 0; heap = size; operands = []; cells = first_cells os size; frames = []; kept = None;
+      at = 0;
+      base = frames_of os;
+      top = frames_of os;
+      link = 0;
+      heap = size;
+      operands = [];
+      cells = first_cells os size;
+      frames = [];
+      kept = None;
     }
 
 -- The first body begins: what is run from, or want of memory for its frame.

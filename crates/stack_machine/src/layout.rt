@@ -134,7 +134,11 @@ pub(crate) fn laid_out(objects: &[Object], room: usize) -> Option<Layout>
 }
 
 /// The first variable of each object.
-pub(crate) fn variables(alloc: Global, first: usize, objects: &[Object]) -> Result<Vec<usize>, AllocError>
+pub(crate) fn variables(
+    alloc: Global,
+    first: usize,
+    objects: &[Object],
+) -> Result<Vec<usize>, AllocError>
     requires { first + cells_of objects.now < 2 ^ 60 }
     ensures are { IfOk result (λ v. v.items ≡ variables_from first objects.now) }
 {

@@ -10,11 +10,11 @@ ghost use Rattle.stack_machine.specs.Sites.{IsScene, IsOn, spot_of, site_in, Gro
 ghost use Rattle.stack_machine.specs.State.{program_of};
 
 use crate::code::{Code, Origin, Routine};
+use crate::decoding::instrs;
 use crate::layout::{Layout, variables};
 use crate::op::Op;
 use crate::ops::{Scene, Site, number, op_of};
 use crate::owners::{Owner, owners};
-use crate::decoding::instrs;
 use crate::placed::Placed;
 use m2_base::ProcCode;
 use object_file::Object;
@@ -90,7 +90,12 @@ fn push_ops(ops: &mut Vec<Op>, scene: &Scene, site: &Site) -> Result<(), AllocEr
     Ok(())
 }
 
-fn push_origins(origins: &mut Vec<Origin>, m: u32, procedure: u32, all: &[Placed]) -> Result<(), AllocError>
+fn push_origins(
+    origins: &mut Vec<Origin>,
+    m: u32,
+    procedure: u32,
+    all: &[Placed],
+) -> Result<(), AllocError>
     ensures { OnOk result (origins.new.items ≡ origins.old.items ++ map (λ s. record { «module» = m; procedure = procedure; offset = s.at }) (map spot_of all.now)) }
 {
     for placed in all {
@@ -179,7 +184,13 @@ fn add_procedures(
 }
 
 /// Adds an object, and gives the cell behind its data.
-fn add_object(listing: &mut Listing, alloc: Global, scene: &Scene, m: usize, text: usize) -> Result<usize, AllocError>
+fn add_object(
+    listing: &mut Listing,
+    alloc: Global,
+    scene: &Scene,
+    m: usize,
+    text: usize,
+) -> Result<usize, AllocError>
     requires scene { IsScene scene.now }
     requires program { IsProgram scene.now.objects.now }
     requires within { m < length scene.now.objects.now }
@@ -198,7 +209,12 @@ fn add_object(listing: &mut Listing, alloc: Global, scene: &Scene, m: usize, tex
 }
 
 /// Adds all objects.
-fn add_objects(listing: &mut Listing, alloc: Global, scene: &Scene, text: usize) -> Result<(), AllocError>
+fn add_objects(
+    listing: &mut Listing,
+    alloc: Global,
+    scene: &Scene,
+    text: usize,
+) -> Result<(), AllocError>
     requires scene { IsScene scene.now }
     requires program { IsProgram scene.now.objects.now }
     requires text { text + data_of scene.now.objects.now < 2 ^ 60 }

@@ -101,7 +101,12 @@ impl Machine {
         let code = load(alloc, program.objects(), &layout)?;
         let mut core = blank(alloc, program.objects(), &layout, size)?;
         let full = begin(&code, &mut core);
-        Ok(Machine { program, code, core, full })
+        Ok(Machine {
+            program,
+            code,
+            core,
+            full,
+        })
     }
 
     /// Makes at most so many steps, and says how they ended.

@@ -5,11 +5,11 @@ ghost use Rattle.stack_machine.specs.InOut.{services};
 ghost use Rattle.stack_machine.specs.Loading.{cell_of, number_of, exported_in, heading_of, heading_value, value_of, service_of, call_of, kind_of, trap_of, target_of, op_by};
 ghost use Rattle.stack_machine.specs.Sites.{IsScene, IsOn, spot_of, site_in};
 
+use crate::act::SERVICES;
+use crate::decoding::landing;
 use crate::op::{Kind, Op};
 use crate::owners::{Owner, named};
-use crate::decoding::landing;
 use crate::placed::Placed;
-use crate::act::SERVICES;
 use crate::trap::Trap;
 use code_form::Instr;
 use object_file::Object;
@@ -142,7 +142,11 @@ fn call(scene: &Scene, owner: Owner, k: u32) -> Op
 fn kind(flag: u8) -> Kind
     ensures { result ≡ kind_of flag }
 {
-    if flag == 0 { Kind::Integer } else { Kind::Cardinal }
+    if flag == 0 {
+        Kind::Integer
+    } else {
+        Kind::Cardinal
+    }
 }
 
 fn trap(code: u8) -> Trap

@@ -38,7 +38,11 @@ fn owner_of(objects: &[Object], import: &ImportNote) -> Owner
 }
 
 /// Who has what each import names.
-pub(crate) fn owners(alloc: Global, objects: &[Object], imports: &[ImportNote]) -> Result<Vec<Owner>, AllocError>
+pub(crate) fn owners(
+    alloc: Global,
+    objects: &[Object],
+    imports: &[ImportNote],
+) -> Result<Vec<Owner>, AllocError>
     ensures { IfOk result (λ v. v.items ≡ map (λ i. owner_for objects.now i) (map import_of imports.now)) }
 {
     let mut all = Vec::new(alloc);

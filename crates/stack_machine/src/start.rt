@@ -55,7 +55,12 @@ fn push_data(cells: &mut Vec<i64>, objects: &[Object]) -> Result<(), AllocError>
 }
 
 /// The first cells of a program: all are 0 but those of the data.
-fn first_of(alloc: Global, objects: &[Object], texts: usize, size: usize) -> Result<Vec<i64>, AllocError>
+fn first_of(
+    alloc: Global,
+    objects: &[Object],
+    texts: usize,
+    size: usize,
+) -> Result<Vec<i64>, AllocError>
     requires texts { texts ≡ data_at objects.now }
     requires room { frames_of objects.now ≤ size }
     ensures { IfOk result (λ cells. cells.items ≡ first_cells objects.now size) }
@@ -76,7 +81,12 @@ fn zeros(alloc: Global, size: usize) -> Result<Vec<i64>, AllocError>
 }
 
 /// The state before the first body, with room for all that a run needs.
-pub(crate) fn blank(alloc: Global, objects: &[Object], layout: &Layout, size: usize) -> Result<Core, AllocError>
+pub(crate) fn blank(
+    alloc: Global,
+    objects: &[Object],
+    layout: &Layout,
+    size: usize,
+) -> Result<Core, AllocError>
     requires layout { HasLayout layout.now objects.now }
     requires room { frames_of objects.now ≤ size }
     requires small { size < 2 ^ 32 }
