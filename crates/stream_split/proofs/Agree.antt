@@ -104,9 +104,10 @@ zip [] (y ∷ ys) j es l h d o = let no : ⊥ = omega (arith, l) in absurd no
 zip (p ∷ ps) [] j es l h d o = let no : ⊥ = omega (arith, l) in absurd no
 zip (p ∷ ps) (y ∷ ys) j es l h d o =
     let one : pick j es ≡ tokens y = cc in
-    let others : streams_from (suc j) (length ys) es ≡ map tokens ys = cc in
-    (record { sentence = record { tree = y; derives = All-head (λ y. Derives grammar (stream_rule_of streams.Procedure) y) y ys d; spells = sym one; within = All-head (λ y. over levels y ≡ None) y ys o }; gives = refl },
-      zip ps ys (suc j) es (omega (arith, l)) others (All-tail (λ y. Derives grammar (stream_rule_of streams.Procedure) y) y ys d) (All-tail (λ y. over levels y ≡ None) y ys o))
+    let others : streams_from (suc j) (length ys) es ≡ map tokens ys = cc in (
+      record { sentence = record { tree = y; derives = All-head (λ y. Derives grammar (stream_rule_of streams.Procedure) y) y ys d; spells = sym one; within = All-head (λ y. over levels y ≡ None) y ys o }; gives = refl },
+      zip ps ys (suc j) es (omega (arith, l)) others (All-tail (λ y. Derives grammar (stream_rule_of streams.Procedure) y) y ys d) (All-tail (λ y. over levels y ≡ None) y ys o),
+    )
 
 pub trees_agree : (m : ℕ) (ts : List Token) (trees : List Stream) → SpellsMain m trees ts → SpellsStreams trees (main_streams m ts)
 trees_agree m ts trees h = on h.sentence.tree (subst (λ g. Derives g (main sub) h.sentence.tree) same_grammar h.sentence.derives) h.sentence.spells h.sentence.within h.gives
@@ -131,14 +132,15 @@ trees_agree m ts trees h = on h.sentence.tree (subst (λ g. Derives g (main sub)
         let d = ap count r.state_is in
         let l : length ps ≡ length (parts (suc m) e) = omega (arith, num, c, d) in
         let lists : streams_from m (suc (length (parts (suc m) e))) es ≡ tokens (own (suc m) e) ∷ map tokens (parts (suc m) e) =
-            ap (streams_from m (suc (length (parts (suc m) e)))) r.events_are ∙ told_streams (sends m (suc m) e) m (own (suc m) e ∷ parts (suc m) e) (λ j low. told cuttable g j m (suc m) (omega arith) ∙ sym (pick_spread e j)) in
+        ap (streams_from m (suc (length (parts (suc m) e)))) r.events_are ∙ told_streams (sends m (suc m) e) m (own (suc m) e ∷ parts (suc m) e) (λ j low. told cuttable g j m (suc m) (omega arith) ∙ sym (pick_spread e j)) in
         let one : pick m es ≡ tokens (own (suc m) e) = cc in
         let others : streams_from (suc m) (length (parts (suc m) e)) es ≡ map tokens (parts (suc m) e) = cc in
         let s = shallow cuttable g levels (suc m) o in
         subst (λ q. SpellsStreams trees (main_streams m q)) is
-        (subst (λ q. SpellsStreams q (main_streams m (tokens e))) (same_blocks g m ∙ v)
-        (record { sentence = record { tree = own (suc m) e; derives = to_grammar (own_of cuttable g (suc m)); spells = sym one; within = s.mine }; gives = refl },
-          zip ps (parts (suc m) e) (suc m) es l others (all_grammar (parts (suc m) e) (parts_of cuttable g (suc m))) s.theirs))
+        (subst (λ q. SpellsStreams q (main_streams m (tokens e))) (same_blocks g m ∙ v) (
+          record { sentence = record { tree = own (suc m) e; derives = to_grammar (own_of cuttable g (suc m)); spells = sym one; within = s.mine }; gives = refl },
+          zip ps (parts (suc m) e) (suc m) es l others (all_grammar (parts (suc m) e) (parts_of cuttable g (suc m))) s.theirs,
+        ))
 
 -- ** Faults
 
@@ -237,6 +239,7 @@ module _ (m text : ℕ) (ts : List Token) where
     where
       told : fault_in text f rest ≡ fault_in text f i.rest'
       told = same_told text f rest i.rest' i.here
+
       on : (b : Bool) → (i.number == m) ≡ b → (s : StreamOf) × IsIn s (main_streams m ts) × IsFaultOf text (fault_in text f rest) s
       on true e =
           let is : i.number ≡ m = eqb-true i.number m e in
@@ -256,12 +259,13 @@ module _ (m text : ℕ) (ts : List Token) where
       let i = first_fault cuttable main_text m levels ts (numbered_of 0 ts n) ended h.fault h.rest (text_fault h.fault ts h.rest h.faulty) in
       let c = count_opened (start m) ts in
       let later : (j : ℕ) → m ≤ j → j < count (after (start m) ts) → (g : Fault) (w : List Token) (other : StreamFault) → Faulty W levels (root cuttable main_text m j) g (pick j es) w → other ≡ fault_in text g w → (other ≡ fault_in text h.fault h.rest) ⊎ (fault_at (fault_in text h.fault h.rest) < fault_at other) =
-          λ j low up g w other q o. not_before text h.fault g h.rest w other (λ e. none_at_end m j levels g (pick j es) (streams_close m ts ended j low up) (subst (Faulty W levels (root cuttable main_text m j) g (pick j es)) e q)) o (i.others j g w low q) in
+      λ j low up g w other q o. not_before text h.fault g h.rest w other (λ e. none_at_end m j levels g (pick j es) (streams_close m ts ended j low up) (subst (Faulty W levels (root cuttable main_text m j) g (pick j es)) e q)) o (i.others j g w low q) in
       subst (λ z. IsFirstOfStreams text z (main_streams m ts)) (sym h.told)
       (record {
         one = one_of h.fault h.rest i;
         others = (
           λ other q. later m (omega arith) (omega (arith, c)) q.fault q.rest other (subst (λ r. Faulty W levels r q.fault (pick m es) q.rest) (sym (root_is m)) (main_fault q.fault (pick m es) q.rest q.faulty)) q.told,
           each (λ s. (other : StreamFault) → IsFaultOf text other s → (other ≡ fault_in text h.fault h.rest) ⊎ (fault_at (fault_in text h.fault h.rest) < fault_at other)) (suc m) (opened (start m) ts) es
-            (λ j p low up other q. later j (omega (arith, low)) (omega (arith, c, up)) q.fault q.rest other (subst (λ r. Faulty W levels r q.fault (pick j es) q.rest) (sym (root_other m j low)) (subst (λ g. Faulty g levels (procedure_rule cuttable) q.fault (pick j es) q.rest) same_grammar q.faulty)) q.told));
+              (λ j p low up other q. later j (omega (arith, low)) (omega (arith, c, up)) q.fault q.rest other (subst (λ r. Faulty W levels r q.fault (pick j es) q.rest) (sym (root_other m j low)) (subst (λ g. Faulty g levels (procedure_rule cuttable) q.fault (pick j es) q.rest) same_grammar q.faulty)) q.told),
+        );
       })

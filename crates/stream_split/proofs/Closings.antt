@@ -135,8 +135,10 @@ module _ (j k c : ℕ) (fs : List (ℕ × Mode)) (t : Token) (xs : List Token) w
     where
       split : pick j ((k, t) ∷ (all_end fs t ++ to c (hs ++ (t ∷ [])))) ≡ pick j ((k, t) ∷ all_end fs t) ++ pick j (to c (hs ++ (t ∷ [])))
       split = pick_append j ((k, t) ∷ all_end fs t) (to c (hs ++ (t ∷ [])))
+
       less : (j c : ℕ) → j < suc c → (j == c) ≡ false → j < c
       less j c l e = grind arith
+
       on : (b : Bool) → (j == c) ≡ b → Closed (xs ++ pick j ((k, t) ∷ (all_end fs t ++ to c (hs ++ (t ∷ [])))))
       on true e =
           let own : pick j (to c (hs ++ (t ∷ []))) ≡ hs ++ (t ∷ []) = ap (λ z. pick z (to c (hs ++ (t ∷ [])))) (eqb-true j c e) ∙ pick_own c (hs ++ (t ∷ [])) in
@@ -158,9 +160,11 @@ module _ (j k c : ℕ) (fs : List (ℕ × Mode)) (t : Token) (xs : List Token) w
       or_left : (a b : Bool) → (a || b) ≡ false → a ≡ false
       or_left true b e = absurd (true≢false e)
       or_left false b e = refl
+
       or_right : (a b : Bool) → (a || b) ≡ false → b ≡ false
       or_right true b e = absurd (true≢false e)
       or_right false b e = e
+
       less : (j c : ℕ) → j < suc c → (j == c) ≡ false → j < c
       less j c l e = grind arith
 
@@ -183,6 +187,7 @@ closes (state k c fs one_left) t j xs h l e = one_closes j k c fs t xs (sort t.k
     out_count : (fs : List (ℕ × Mode)) → count (out_of k c fs) ≡ c
     out_count [] = refl
     out_count (f ∷ fs) = refl
+
     one_count : (z : Sort) → count (unless_stop z (state k c fs ended) (out_of k c fs)) ≡ c
     one_count Stop = refl
     one_count z = out_count fs
@@ -206,5 +211,6 @@ streams_close m ts e j low l =
   where
     same : (j m : ℕ) → m ≤ j → j < suc m → (j == m) ≡ true
     same j m a b = grind arith
+
     at_start : j < suc m → ((j == m) || false) ≡ true
     at_start l' = ap (λ b. b || false) (same j m low l')

@@ -109,7 +109,7 @@ none_at_end m j n f ts c a =
     let l = last_of m j b.derives in
     let whole : a.before ≡ ts = sym (a.is ∙ append-nil a.before) in
     let parted : l.inner ++ (l.final ∷ []) ≡ c.front ++ (c.end ∷ b.behind) =
-        sym l.is ∙ b.spells ∙ ap (λ z. z ++ b.behind) (whole ∙ c.is) ∙ append_assoc c.front (c.end ∷ []) b.behind in
+    sym l.is ∙ b.spells ∙ ap (λ z. z ++ b.behind) (whole ∙ c.is) ∙ append_assoc c.front (c.end ∷ []) b.behind in
     let nothing : b.behind ≡ [] = is_last l.inner c.front b.behind l.final c.end parted l.none c.closing in
     let all : tokens b.tree ≡ a.before = b.spells ∙ ap (λ z. a.before ++ z) nothing ∙ append-nil a.before in
     let begins : Begins a.before [] (tokens b.tree) = subst (Begins a.before []) (append-nil a.before ∙ sym all) (begins_self a.before [] [] tt) in

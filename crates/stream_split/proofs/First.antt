@@ -152,7 +152,6 @@ below_or j zero = inr (omega arith)
 below_or zero (suc c) = inl (omega arith)
 below_or (suc j) (suc c) = ⊎_elim (λ h. inl (omega (arith, h))) (λ h. inr (omega (arith, h))) (below_or j c)
 
-
 -- what kind has each sort
 abbrev is_end : Sort → Bool
 is_end Stop = true
@@ -245,13 +244,21 @@ module _ (G : Cuttable) (M : MainText G) (m : ℕ) where
   now {f} {n} {u} {rest} (refuse_then q) =
       let i = stops G q true Free 0 false (λ d s. true) m (suc m) [] (amid Free) M.mains fits_amid (λ e. refl) (omega arith) in
       record {
-        k' = i.k'; c' = i.c'; fs' = i.fs'; p' = i.p'; v = i.v; state_is = i.state_is; picked = i.picked; tip = i.tip;
+        k' = i.k';
+        c' = i.c';
+        fs' = i.fs';
+        p' = i.p';
+        v = i.v;
+        state_is = i.state_is;
+        picked = i.picked;
+        tip = i.tip;
         low = ⊎_elim (λ h. same_low h.same) (λ h. above_low h.above) i.place;
         refuses = λ w e. ⊎_elim (λ h. subst (λ z. Ref f n (root z) i.v w) (sym h.same) (subst (λ r. Ref f n r i.v w) (sym root_main) (refuse_then (h.refuses w e)))) (λ h. subst (λ z. Ref f n z i.v w) (sym (root_of i.k' h.above)) (h.refuses w e)) i.place;
       }
     where
       same_low : {k : ℕ} → k ≡ m → m ≤ k
       same_low e = omega (arith, e)
+
       above_low : {k : ℕ} → suc m ≤ k → m ≤ k
       above_low e = omega (arith, e)
   now {f} {n} {rest = rest} (refuse_later {d = x} a (refuse_token h)) =
@@ -259,7 +266,12 @@ module _ (G : Cuttable) (M : MainText G) (m : ℕ) where
       let i = flows G g true Free 0 false (λ d s. true) m (suc m) [] (amid Free) M.mains fits_amid (λ e. refl) in
       let x' : Tree Token = own (suc m) x in
       record {
-        k' = m; c' = streams_after (suc m) x; fs' = []; p' = i.p'; v = tokens x' ++ []; low = omega arith;
+        k' = m;
+        c' = streams_after (suc m) x;
+        fs' = [];
+        p' = i.p';
+        v = tokens x' ++ [];
+        low = omega arith;
         state_is = ap (after (start m)) (append-nil (tokens x)) ∙ i.runs.state_is;
         picked = ap (λ z. pick m (events (start m) z)) (append-nil (tokens x)) ∙ ap (pick m) i.runs.events_are ∙ own_pick G g m (suc m) (omega arith) ∙ sym (append-nil (tokens x'));
         tip = tip_fits G f n rest i.fits;
@@ -292,12 +304,12 @@ module _ (G : Cuttable) (M : MainText G) (m : ℕ) where
   trees_kept g n u v is (inl h) = let s = shallow G g n (suc m) h in (inl s.mine, all_kept_none n (suc m) _ _ s.theirs)
   trees_kept (of_then {d = x} g (of_token {t = t} q)) n u v is (inr h) = ⊎_elim
       (λ e.
-        let i = keeps G g n (u ++ h.0) e true Free 0 false (λ d s. true) m (suc m) [] (amid Free) M.mains fits_amid (λ e. refl) (omega arith) in
-        let es = events (start m) (u ++ h.0) in
-        let runs = (flows G g true Free 0 false (λ d s. true) m (suc m) [] (amid Free) M.mains fits_amid (λ e. refl)).runs in
-        let mine_is : tokens (own (suc m) x) ≡ pick m es ++ pick m (events (after (start m) (u ++ h.0)) i.z) = sym (own_pick G g m (suc m) (omega arith)) ∙ ap (pick m) (sym runs.events_are ∙ ap (events (start m)) i.is ∙ events_append (start m) (u ++ h.0) i.z) ∙ pick_append m es _ in
-        let a : AllKept n m (both (own (suc m) x) (leaf t) ∷ (parts (suc m) x ++ [])) es = (kept_front n (own (suc m) x) (leaf t) (pick m es) _ mine_is i.mine, subst (λ z. AllKept n (suc m) z es) (sym (append-nil (parts (suc m) x))) i.theirs) in
-        all_kept_less n m (both (own (suc m) x) (leaf t) ∷ (parts (suc m) x ++ [])) (events (start m) u) (events (after (start m) u) h.0) (subst (AllKept n m (both (own (suc m) x) (leaf t) ∷ (parts (suc m) x ++ []))) (events_append (start m) u h.0) a))
+      let i = keeps G g n (u ++ h.0) e true Free 0 false (λ d s. true) m (suc m) [] (amid Free) M.mains fits_amid (λ e. refl) (omega arith) in
+      let es = events (start m) (u ++ h.0) in
+      let runs = (flows G g true Free 0 false (λ d s. true) m (suc m) [] (amid Free) M.mains fits_amid (λ e. refl)).runs in
+      let mine_is : tokens (own (suc m) x) ≡ pick m es ++ pick m (events (after (start m) (u ++ h.0)) i.z) = sym (own_pick G g m (suc m) (omega arith)) ∙ ap (pick m) (sym runs.events_are ∙ ap (events (start m)) i.is ∙ events_append (start m) (u ++ h.0) i.z) ∙ pick_append m es _ in
+      let a : AllKept n m (both (own (suc m) x) (leaf t) ∷ (parts (suc m) x ++ [])) es = (kept_front n (own (suc m) x) (leaf t) (pick m es) _ mine_is i.mine, subst (λ z. AllKept n (suc m) z es) (sym (append-nil (parts (suc m) x))) i.theirs) in
+      all_kept_less n m (both (own (suc m) x) (leaf t) ∷ (parts (suc m) x ++ [])) (events (start m) u) (events (after (start m) u) h.0) (subst (AllKept n m (both (own (suc m) x) (leaf t) ∷ (parts (suc m) x ++ []))) (events_append (start m) u h.0) a))
       (λ e. absurd (none_some e.1.0 (sym e.1.1)))
       (first_some (tokens x) (over n x) None (u ++ h.0) h.1)
 
@@ -321,23 +333,29 @@ module _ (G : Cuttable) (M : MainText G) (m : ℕ) where
       let c1 = count_after (after (start m) u) x.behind in
       let c2 : count (after (after (start m) u) x.behind) ≡ suc m + length (parts (suc m) e) = ap count (sym (after_append (start m) u x.behind)) ∙ ap (λ z. count (after (start m) z)) (sym x.spells) ∙ ap count r.state_is ∙ num in
       let sent : (j : ℕ) → pick j (events (start m) u) ++ pick j (events (after (start m) u) x.behind) ≡ pick j (spread m (own (suc m) e ∷ parts (suc m) e)) =
-          λ j. sym (pick_append j (events (start m) u) _) ∙ ap (pick j) (sym (events_append (start m) u x.behind) ∙ ap (events (start m)) (sym x.spells) ∙ r.events_are) ∙ told G x.derives j m (suc m) (omega arith) ∙ sym (pick_append j (to m (tokens (own (suc m) e))) (spread (suc m) (parts (suc m) e))) in
+      λ j. sym (pick_append j (events (start m) u) _) ∙ ap (pick j) (sym (events_append (start m) u x.behind) ∙ ap (events (start m)) (sym x.spells) ∙ r.events_are) ∙ told G x.derives j m (suc m) (omega arith) ∙ sym (pick_append j (to m (tokens (own (suc m) e))) (spread (suc m) (parts (suc m) e))) in
       choose (j == m) refl (omega (arith, l, c1, c2)) x.behind (sent j) k x.derives
     where
       is_main : {e : Tree Token} (b : List Token) → pick m (events (start m) u) ++ pick m (events (after (start m) u) b) ≡ pick m (spread m (own (suc m) e ∷ parts (suc m) e)) → AllKept n m (own (suc m) e ∷ parts (suc m) e) (events (start m) u) → Derives W main e → Beginning W n (root m) (pick m (events (start m) u))
       is_main {e} b s k g = subst (λ r. Beginning W n r (pick m (events (start m) u))) (sym root_main) (record {
-        tree = own (suc m) e; derives = own_of G g (suc m); behind = pick m (events (after (start m) u) b);
+        tree = own (suc m) e;
+        derives = own_of G g (suc m);
+        behind = pick m (events (after (start m) u) b);
         spells = sym (s ∙ pick_append m (to m (tokens (own (suc m) e))) (spread (suc m) (parts (suc m) e)) ∙ ap (λ z. z ++ pick m (spread (suc m) (parts (suc m) e))) (pick_own m (tokens (own (suc m) e))) ∙ ap (λ z. tokens (own (suc m) e) ++ z) (pick_low m (suc m) (parts (suc m) e) (omega arith)) ∙ append-nil _);
         within = k.0;
       })
+
       is_part : {e : Tree Token} (b : List Token) → suc m ≤ j → j < suc m + length (parts (suc m) e) → pick j (events (start m) u) ++ pick j (events (after (start m) u) b) ≡ pick j (spread m (own (suc m) e ∷ parts (suc m) e)) → AllKept n m (own (suc m) e ∷ parts (suc m) e) (events (start m) u) → Derives W main e → Beginning W n (root j) (pick j (events (start m) u))
       is_part {e} b lo l s k g =
           let i = spread_at (λ x. Derives W PS x) n (suc m) (parts (suc m) e) (events (start m) u) (parts_of G g (suc m)) k.1 j lo l in
           subst (λ r. Beginning W n r (pick j (events (start m) u))) (sym (root_of j lo)) (record {
-            tree = i.0; derives = i.1; behind = pick j (events (after (start m) u) b);
+            tree = i.0;
+            derives = i.1;
+            behind = pick j (events (after (start m) u) b);
             spells = sym (s ∙ pick_append j (to m (tokens (own (suc m) e))) (spread (suc m) (parts (suc m) e)) ∙ ap (λ z. z ++ pick j (spread (suc m) (parts (suc m) e))) (pick_other j m (tokens (own (suc m) e)) (apart j m lo)) ∙ i.2);
             within = i.3;
           })
+
       choose : (b : Bool) → (j == m) ≡ b → {e : Tree Token} → j < suc m + length (parts (suc m) e) → (b : List Token) → pick j (events (start m) u) ++ pick j (events (after (start m) u) b) ≡ pick j (spread m (own (suc m) e ∷ parts (suc m) e)) → AllKept n m (own (suc m) e ∷ parts (suc m) e) (events (start m) u) → Derives W main e → Beginning W n (root j) (pick j (events (start m) u))
       choose true q {e} l b s k g =
           let is : j ≡ m = eqb-true j m q in
@@ -431,9 +449,9 @@ module _ (G : Cuttable) (M : MainText G) (m : ℕ) where
         let z = not_before W n (root j) g (Str j) (y ∷ ys) (pick j (events (start m) u)) (pick j F) a (begun_streams p j lo (omega (arith, l, s_count))) (parted j) in
         let all = around j S t rt (length u) s_well l o numbered in
         ⊎_elim
-          (λ h. inl (omega (arith, h, at_t)))
-          (λ h. inr (h.0, end_is_bad g n (root j) (Str j) y ys a (ap (λ q. sort q.kind) h.0 ∙ h.1) ∙ sym (text_bad h.1)))
-          (all_at (λ x. (length u < x.at) ⊎ ((x ≡ t) × (sort t.kind ≡ Stop))) z.0 y ys (subst (All (λ x. (length u < x.at) ⊎ ((x ≡ t) × (sort t.kind ≡ Stop)))) z.1 all))
+        (λ h. inl (omega (arith, h, at_t)))
+        (λ h. inr (h.0, end_is_bad g n (root j) (Str j) y ys a (ap (λ q. sort q.kind) h.0 ∙ h.1) ∙ sym (text_bad h.1)))
+        (all_at (λ x. (length u < x.at) ⊎ ((x ≡ t) × (sort t.kind ≡ Stop))) z.0 y ys (subst (All (λ x. (length u < x.at) ⊎ ((x ≡ t) × (sort t.kind ≡ Stop)))) z.1 all))
 
     none_before : (j : ℕ) → i.c' ≤ j → Str j ≡ pick j F
     none_before j l = parted j ∙ ap (λ z. z ++ pick j F) (past j (start m) u (well (omega arith) (All-nil (λ f. f.0 < suc m)) tt) (omega (arith, l, s_count)))
@@ -456,9 +474,9 @@ module _ (G : Cuttable) (M : MainText G) (m : ℕ) where
     case_new j g y ys l o a = ⊎_elim
         (λ h. absurd (nothing_at j g y ys (none_before j l ∙ h) a))
         (λ h.
-          let z = not_before W n (root j) g (Str j) (y ∷ ys) (h.t0 ∷ h.t1 ∷ []) h.more a (subst (λ q. Beginning W n q (h.t0 ∷ h.t1 ∷ [])) (sym (root_new j l)) (begun_new n h.t0 h.t1 h.first h.second)) (none_before j l ∙ h.is) in
-          let late = all_at (λ x. length u < x.at) z.0 y ys (subst (All (λ x. length u < x.at)) z.1 h.late) in
-          inl (omega (arith, late, at_t)))
+        let z = not_before W n (root j) g (Str j) (y ∷ ys) (h.t0 ∷ h.t1 ∷ []) h.more a (subst (λ q. Beginning W n q (h.t0 ∷ h.t1 ∷ [])) (sym (root_new j l)) (begun_new n h.t0 h.t1 h.first h.second)) (none_before j l ∙ h.is) in
+        let late = all_at (λ x. length u < x.at) z.0 y ys (subst (All (λ x. length u < x.at)) z.1 h.late) in
+        inl (omega (arith, late, at_t)))
         (new j S (t ∷ rt) (length u) s_well l o numbered)
 
     -- the stream of the heading that the text breaks off
@@ -467,6 +485,7 @@ module _ (G : Cuttable) (M : MainText G) (m : ℕ) where
       where
         le : (c : ℕ) → c ≤ c
         le c = omega arith
+
         with_tip : (mo : Mode) (q : ℕ) (hs : List Token) → T f n (t ∷ rt) (heading mo q hs) → HeadingGets i.c' hs F (t ∷ rt) (length u) → NotBefore f (t ∷ rt) g (y ∷ ys)
         with_tip mo q hs tip (inl e) = absurd (nothing_at i.c' g y ys (none_before i.c' (le i.c') ∙ e) a)
         with_tip mo q hs tip (inr e) =
@@ -477,8 +496,10 @@ module _ (G : Cuttable) (M : MainText G) (m : ℕ) where
             head_of : (mo : List Token) → mo ≡ y ∷ ys → SameHead (t ∷ rt) mo → y ≡ t
             head_of [] d s = absurd s
             head_of (x ∷ mo) d s = sym (s ∙ cc)
+
         gets : {k c : ℕ} {fs : List (ℕ × Mode)} {q : Phase} (mo : Mode) (b : ℕ) (hs : List Token) → q ≡ heading mo b hs → Well (state k c fs q) → HeadingGets c hs (events (state k c fs q) (t ∷ rt)) (t ∷ rt) (length u)
         gets {k} {c} {fs} mo b hs e (well l al he) = subst (λ z. HeadingGets c hs (events (state k c fs z) (t ∷ rt)) (t ∷ rt) (length u)) (sym e) (heading_gets (t ∷ rt) k c fs mo b hs (length u) l al numbered)
+
         on : (q : Phase) → i.p' ≡ q → InHeading q → NotBefore f (t ∷ rt) g (y ∷ ys)
         on (amid m) e h = absurd h
         on (seen m w) e h = absurd h
@@ -506,12 +527,14 @@ module _ (G : Cuttable) (M : MainText G) (m : ℕ) where
         here e =
             let r = one_fault W n (root i.k') f g (Str i.k') (pick i.k' F) (y ∷ ys) faulty_here (subst (λ z. Faulty W n (root z) g (Str z) (y ∷ ys)) e a) in
             inr (from_one t y ys head_is.0 (r.0 ∙ head_is.1), r.1)
+
         later : i.c' ≤ j → NotBefore f (t ∷ rt) g (y ∷ ys)
         later l = split (j == i.c') refl
           where
             split : (b : Bool) → (j == i.c') ≡ b → NotBefore f (t ∷ rt) g (y ∷ ys)
             split false e = case_new j g y ys l (λ h. not_same j i.c' e) a
             split true e = ⊎_elim (λ h. case_heading g y ys h (subst (λ z. Faulty W n (root z) g (Str z) (y ∷ ys)) (eqb-true j i.c' e) a)) (λ h. case_new j g y ys l (λ x q. h x) a) (in_heading i.p')
+
         on : (b : Bool) → (j == i.k') ≡ b → NotBefore f (t ∷ rt) g (y ∷ ys)
         on true e = here (eqb-true j i.k' e)
         on false e = ⊎_elim (λ l. case_old j g y ys lo (not_same j i.k' e) l a) later (below_or j i.c')

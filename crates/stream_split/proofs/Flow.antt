@@ -142,7 +142,6 @@ steps top m d s kk k c fs _ t Other h fits_seen o = record { d' = d; s' = false;
 pub one_is : (k x : ℕ) → member k (x ∷ []) ≡ true → k ≡ x
 one_is k x h = ⊎_elim (λ e. eqb-true k x e) (λ e. absurd (true≢false (sym e))) (or_cases (k == x) false h)
 
-
 -- no Procedure stands in the rule
 abbrev pub plain : Rule → Bool
 plain empty = true
@@ -273,15 +272,19 @@ module _ (G : Cuttable) where
 pub is_word : sort_of_number 1 ≡ Word
 unfolding sort_of_number
 is_word = refl
+
 pub is_procedure : sort_of_number 37 ≡ Procedure
 unfolding sort_of_number
 is_procedure = refl
+
 pub is_closer : sort_of_number 21 ≡ Closer
 unfolding sort_of_number
 is_closer = refl
+
 pub is_semi : sort_of_number 57 ≡ Semicolon
 unfolding sort_of_number
 is_semi = refl
+
 pub is_stop : sort_of_number 0 ≡ Stop
 unfolding sort_of_number
 is_stop = refl
@@ -373,7 +376,10 @@ module _ (G : Cuttable) where
       let e = plain_sends G g (G.plains n) k c in
       let same : i.d' ≡ 0 = eqb-true i.d' 0 i.test in
       record {
-        d' = d; s' = true; p' = i.p'; test = and_r (not s) _ h;
+        d' = d;
+        s' = true;
+        p' = i.p';
+        test = and_r (not s) _ h;
         fits = fits_deeper (subst (λ z. Fits (raise d m) z i.s' i.p') same i.fits);
         runs = record { state_is = i.runs.state_is ∙ ap (λ z. state k z fs i.p') e.1; events_are = i.runs.events_are ∙ e.0 };
       }
@@ -384,7 +390,7 @@ module _ (G : Cuttable) where
       let r1 = runs_one (state k c fs (seen mm t0)) t1 1 Word g1 is_word refl refl in
       let i = heads_of G gm 0 (λ p. p == 0) G.heads k c fs mm (t0 ∷ t1 ∷ []) in
       let rm : Runs (state k c fs (heading mm 0 (t0 ∷ t1 ∷ []))) (tokens hm) (state k c fs (heading mm 0 (t0 ∷ t1 ∷ tokens hm))) (to k (tokens hm)) =
-          record { state_is = i.state_is ∙ ap (λ z. state k c fs (heading mm z (t0 ∷ t1 ∷ tokens hm))) (eqb-true i.p' 0 i.test); events_are = i.events_are } in
+      record { state_is = i.state_is ∙ ap (λ z. state k c fs (heading mm z (t0 ∷ t1 ∷ tokens hm))) (eqb-true i.p' 0 i.test); events_are = i.events_are } in
       let rs = runs_one (state k c fs (heading mm 0 (t0 ∷ t1 ∷ tokens hm))) ts 57 Semicolon gs is_semi refl refl in
       let fs' : List (ℕ × Mode) = (k, mm) ∷ fs in
       let no : false ≡ true → Body 0 ≡ Free = λ e. absurd (true≢false (sym e)) in
@@ -398,6 +404,10 @@ module _ (G : Cuttable) where
       let ri = runs_one (state c c2 fs' two_left) ti 1 Word gi is_word refl refl in
       let rl = runs_one (state c c2 fs' one_left) tl 57 Semicolon gl is_semi refl refl in
       record {
-        d' = d; s' = false; p' = amid mm; test = h; fits = fits_amid;
+        d' = d;
+        s' = false;
+        p' = amid mm;
+        test = h;
+        fits = fits_amid;
         runs = runs_then (runs_then r0 (runs_then r1 rm)) (runs_then rs (runs_then (runs_then j1.runs (runs_then j2.runs (runs_then re ri))) rl));
       }

@@ -441,6 +441,7 @@ new i s (t ∷ ts) m w n o h =
         fresh_of : HeadingGets c (u ∷ t ∷ []) (events s' ts) ts (suc m) → i ≡ c → (pick i (events s (t ∷ ts)) ≡ []) ⊎ Fresh (pick i (events s (t ∷ ts))) m
         fresh_of (inl y) z = inl (e ∙ ap (λ q. pick q (events s' ts)) z ∙ y)
         fresh_of (inr y) z = inr (record { t0 = u; t1 = t; more = y.more; is = e ∙ ap (λ q. pick q (events s' ts)) z ∙ y.is; first = f1; second = f2; late = all_map {P = λ x. suc m ≤ x.at} {Q = λ x. m < x.at} y.more (λ x q. omega (arith, q)) y.late })
+
         choose : (b : Bool) → (i == c) ≡ b → (pick i (events s (t ∷ ts)) ≡ []) ⊎ Fresh (pick i (events s (t ∷ ts))) m
         choose true q = fresh_of (subst (λ z. HeadingGets c (u ∷ t ∷ []) (events z ts) ts (suc m)) (sym g) (heading_gets ts k c fs mm 0 (u ∷ t ∷ []) (suc m) l a h.1)) (eqb-true i c q)
         choose false q = let cs : count s' ≡ c = ap count g in fresh_less _ _ m e (r (omega (arith, n, c', cs)) (λ y z. true≢false (sym (same_num i) ∙ ap (λ w. i == w) (z ∙ cs) ∙ q)))

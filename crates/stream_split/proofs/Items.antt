@@ -72,10 +72,12 @@ sent_new n xs v c e j =
     up j k [] = refl
     up j k (t ∷ ts) =
         ap (λ b. cond b (t ∷ pick j (to k ts)) (pick j (to k ts))) (sym (eq_suc j k)) ∙ ap (λ z. cond (suc j == suc k) (t ∷ z) z) (up j k ts)
+
     shift : (j k : ℕ) (ts : List Token) → pick j (to k ts) ≡ pick (n + j) (to (n + k) ts)
     shift j k [] = refl
     shift j k (t ∷ ts) =
         ap (λ b. cond b (t ∷ pick j (to k ts)) (pick j (to k ts))) (sym (eq_plus n j k)) ∙ ap (λ z. cond (n + j == n + k) (t ∷ z) z) (shift j k ts)
+
     on : (j : ℕ) (xs : List StreamTokens) → item j (xs ++ (v ∷ [])) ≡ item j xs ++ pick j (to (length xs) v.tokens.items)
     on zero [] = sym (pick_own 0 v.tokens.items)
     on (suc j) [] = sym (pick_other (suc j) 0 v.tokens.items (eq_one j))
@@ -164,8 +166,8 @@ block_state n n' i len len' k k' m m' around around1 around' en ek em ei el ea e
     let count : n' + len' ≡ suc (n + len) = omega (arith, en, el) in
     let current : n' + i ≡ n + len = omega (arith, en, ei) in
     let frames : frames_view n' around' ≡ (n + k, m) ∷ frames_view n around =
-        ap (λ z. frames_view z around') en ∙ ap (frames_view n) (e ∙ ap (λ z. z ++ (record { stream = k'; mode = m' } ∷ [])) ea) ∙ frames_snoc n [] around (record { stream = k'; mode = m' })
-        ∙ ap (λ z. (n + z, m') ∷ frames_view n around) ek ∙ ap (λ z. (n + k, z) ∷ frames_view n around) em in
+    ap (λ z. frames_view z around') en ∙ ap (frames_view n) (e ∙ ap (λ z. z ++ (record { stream = k'; mode = m' } ∷ [])) ea) ∙ frames_snoc n [] around (record { stream = k'; mode = m' })
+    ∙ ap (λ z. (n + z, m') ∷ frames_view n around) ek ∙ ap (λ z. (n + k, z) ∷ frames_view n around) em in
     ap (λ z. state z (n' + len') (frames_view n' around') (amid (Body 0))) current ∙ ap (λ z. state (n + len) z (frames_view n' around') (amid (Body 0))) count
     ∙ ap (λ z. state (n + len) (suc (n + len)) z (amid (Body 0))) frames
 

@@ -100,7 +100,7 @@ module _ (G : Cuttable) where
         is = ap (λ w. w ++ tokens y) i.is ∙ append_assoc a i.z (tokens y);
         mine = kept_front n (own c x) (own (streams_after c x) y) _ _ mine_is i.mine;
         theirs = all_kept_append n c (streams_after c x) (parts c x) (parts (streams_after c x) y) _ (counted G g c) i.theirs
-          (all_kept_nil n (streams_after c x) (parts (streams_after c x) y) (events s a) (λ j h. nil_front _ _ (sym (high_pick G g j k c l h) ∙ ap (pick j) cut ∙ pick_append j (events s a) _)));
+            (all_kept_nil n (streams_after c x) (parts (streams_after c x) y) (events s a) (λ j h. nil_front _ _ (sym (high_pick G g j k c l h) ∙ ap (pick j) cut ∙ pick_append j (events s a) _)));
         simple = λ e. i.simple (and_l _ _ e);
       }
 
@@ -117,7 +117,7 @@ module _ (G : Cuttable) where
         is = ap (λ w. tokens x ++ w) i.is ∙ sym (append_assoc (tokens x) a i.z);
         mine = subst (Kept n (both (own c x) (own c1 y))) (sym mine_is) (kept_back n (own c x) (own c1 y) _ sh.mine i.mine);
         theirs = all_kept_append n c c1 (parts c x) (parts c1 y) _ (counted G g c) (all_kept_none n c (parts c x) _ sh.theirs)
-          (all_kept n c1 (parts c1 y) es (events s (tokens x ++ a)) (λ j h. sym (ap (pick j) cut ∙ pick_append j (sends k c x) es ∙ ap (λ w. w ++ pick j es) (high_pick G g j k c l h))) i.theirs);
+            (all_kept n c1 (parts c1 y) es (events s (tokens x ++ a)) (λ j h. sym (ap (pick j) cut ∙ pick_append j (sends k c x) es ∙ ap (λ w. w ++ pick j es) (high_pick G g j k c l h))) i.theirs);
         simple = λ e. let o = plain_sends G g (and_l _ _ e) k c in cut ∙ ap (λ w. w ++ es) o.0 ∙ ap (λ w. to k (tokens x) ++ w) (i.simple (and_r (plain q) _ e)) ∙ sym (to_append k (tokens x) a);
       }
 
@@ -131,7 +131,7 @@ module _ (G : Cuttable) where
       let r1 = runs_one (state k c fs (seen (raise d m) t0)) t1 1 Word g1 is_word refl refl in
       let i = heads_of G a 0 (λ p. p == 0) G.heads k c fs (raise d m) (t0 ∷ t1 ∷ []) in
       let rm : Runs (state k c fs (heading (raise d m) 0 (t0 ∷ t1 ∷ []))) (tokens hm) (state k c fs (heading (raise d m) 0 (t0 ∷ t1 ∷ tokens hm))) (to k (tokens hm)) =
-          record { state_is = i.state_is ∙ ap (λ z. state k c fs (heading (raise d m) z (t0 ∷ t1 ∷ tokens hm))) (eqb-true i.p' 0 i.test); events_are = i.events_are } in
+      record { state_is = i.state_is ∙ ap (λ z. state k c fs (heading (raise d m) z (t0 ∷ t1 ∷ tokens hm))) (eqb-true i.p' 0 i.test); events_are = i.events_are } in
       runs_then (runs_then r0 (runs_then r1 rm)) (runs_one (state k c fs (heading (raise d m) 0 (t0 ∷ t1 ∷ tokens hm))) t 57 Semicolon gt is_semi refl refl)
 
   whole_head_shallow : {hd : Tree Token} → Derives W (head G) hd → (n : ℕ) → over n hd ≡ None
@@ -169,8 +169,10 @@ module _ (G : Cuttable) where
         z = j.z ++ (e ∷ i ∷ l ∷ []);
         is = ap (λ w. tokens hd ++ (t ∷ w)) (rejoin (tokens x) (tokens y) e i l ∙ ap (λ w. w ++ (e ∷ i ∷ l ∷ [])) j.is ∙ append_assoc a j.z (e ∷ i ∷ l ∷ [])) ∙ sym (append_assoc (tokens hd) (t ∷ a) _);
         mine = inl (none_both (tokens hd) (over n hd) _ none refl);
-        theirs = (subst (Kept n (both hd (both (leaf t) yt))) (sym mine_c) (kept_back n hd (both (leaf t) yt) (t ∷ pick c fs') none (kept_back n (leaf t) yt (pick c fs') refl (kept_same n (both (own (suc c) x) (own c1 y)) yt (pick c fs') (sym same) j.mine))),
-          subst (λ q. AllKept n (suc c) (parts (suc c) x ++ q) (events s0 (tokens hd ++ (t ∷ a)))) (sym (append-nil (parts c1 y))) (all_kept n (suc c) (parts (suc c) (both x y)) fs' (events s0 (tokens hd ++ (t ∷ a))) (λ q h. sym (ap (pick q) all ∙ pick_append q es fs' ∙ ap (λ w. w ++ pick q fs') (none_of_later h))) j.theirs));
+        theirs = (
+          subst (Kept n (both hd (both (leaf t) yt))) (sym mine_c) (kept_back n hd (both (leaf t) yt) (t ∷ pick c fs') none (kept_back n (leaf t) yt (pick c fs') refl (kept_same n (both (own (suc c) x) (own c1 y)) yt (pick c fs') (sym same) j.mine))),
+          subst (λ q. AllKept n (suc c) (parts (suc c) x ++ q) (events s0 (tokens hd ++ (t ∷ a)))) (sym (append-nil (parts c1 y))) (all_kept n (suc c) (parts (suc c) (both x y)) fs' (events s0 (tokens hd ++ (t ∷ a))) (λ q h. sym (ap (pick q) all ∙ pick_append q es fs' ∙ ap (λ w. w ++ pick q fs') (none_of_later h))) j.theirs),
+        );
         simple = λ e. absurd (true≢false (sym e));
       }
     where
@@ -185,9 +187,9 @@ module _ (G : Cuttable) where
   keeps (of_then {r = q} {s = r} {d = x} {e = y} j j') n a h top m d s kk k c fs p fl g o l =
       let i = flows G j top m d s (λ d' s'. flow top r d' s' kk) k c fs p fl g o in
       ⊎_elim
-        (λ e. in_first j j' l i.runs (keeps j n a e top m d s (λ d' s'. flow top r d' s' kk) k c fs p fl g o l))
-        (λ e. subst (λ z. Keeps n (then q r) (both x y) z k c fs p) (sym e.1.2) (in_second j j' l i.runs e.0 (keeps j' n e.1.0 e.1.1 top m i.d' i.s' kk k (streams_after c x) fs i.p' i.test i.fits o (up (parts c x) (counted G j c) l))))
-        (first_some (tokens x) (over n x) (over n y) a h)
+      (λ e. in_first j j' l i.runs (keeps j n a e top m d s (λ d' s'. flow top r d' s' kk) k c fs p fl g o l))
+      (λ e. subst (λ z. Keeps n (then q r) (both x y) z k c fs p) (sym e.1.2) (in_second j j' l i.runs e.0 (keeps j' n e.1.0 e.1.1 top m i.d' i.s' kk k (streams_after c x) fs i.p' i.test i.fits o (up (parts c x) (counted G j c) l))))
+      (first_some (tokens x) (over n x) (over n y) a h)
     where
       up : {c' : ℕ} (ps : List (Tree Token)) → c' ≡ c + length ps → k < c → k < c'
       up ps e l = omega arith
@@ -200,9 +202,9 @@ module _ (G : Cuttable) where
       let i = flows G j top m d z (λ d' s'. (d' == d) && no_more z s') k c fs p (and_l _ _ fl) (fits_wider s (stay s) g) o in
       let f' = fits_more z i.s' (and_r (i.d' == d) _ i.test) (subst (λ y. Fits m y i.s' i.p') (eqb-true i.d' d (and_l _ _ i.test)) i.fits) in
       as_more (⊎_elim
-        (λ e. in_first j j' l i.runs (keeps j n a e top m d z (λ d' s'. (d' == d) && no_more z s') k c fs p (and_l _ _ fl) (fits_wider s (stay s) g) o l))
-        (λ e. subst (λ z. Keeps n (then r (many r)) (both x y) z k c fs p) (sym e.1.2) (in_second j j' l i.runs e.0 (keeps j' n e.1.0 e.1.1 top m d z kk k (streams_after c x) fs i.p' (again_stay stay (λ y. kk d y) z (and_l _ _ fl) (and_r (stay z) _ fl)) f' o (up (parts c x) (counted G j c) l))))
-        (first_some (tokens x) (over n x) (over n y) a h))
+      (λ e. in_first j j' l i.runs (keeps j n a e top m d z (λ d' s'. (d' == d) && no_more z s') k c fs p (and_l _ _ fl) (fits_wider s (stay s) g) o l))
+      (λ e. subst (λ z. Keeps n (then r (many r)) (both x y) z k c fs p) (sym e.1.2) (in_second j j' l i.runs e.0 (keeps j' n e.1.0 e.1.1 top m d z kk k (streams_after c x) fs i.p' (again_stay stay (λ y. kk d y) z (and_l _ _ fl) (and_r (stay z) _ fl)) f' o (up (parts c x) (counted G j c) l))))
+      (first_some (tokens x) (over n x) (over n y) a h))
     where
       up : {c' : ℕ} (ps : List (Tree Token)) → c' ≡ c + length ps → k < c → k < c'
       up ps e l = omega arith
@@ -221,23 +223,23 @@ module _ (G : Cuttable) where
       let r = flows G gx false (Body 0) 0 false (λ d' s'. flow false G.body d' s' (λ d s. d == 0)) c (suc c) fs' (amid (Body 0)) G.insides fits_amid no in
       let c1 = streams_after (suc c) x in
       let first : (a2 : List Token) → over n x ≡ Some a2 → Keeps n (then G.decls G.body) (both x y) a2 c (suc c) fs' (amid (Body 0)) =
-          λ a2 e. in_first gx gy (omega arith) r.runs (keeps gx n a2 e false (Body 0) 0 false (λ d' s'. flow false G.body d' s' (λ d s. d == 0)) c (suc c) fs' (amid (Body 0)) G.insides fits_amid no (omega arith)) in
+      λ a2 e. in_first gx gy (omega arith) r.runs (keeps gx n a2 e false (Body 0) 0 false (λ d' s'. flow false G.body d' s' (λ d s. d == 0)) c (suc c) fs' (amid (Body 0)) G.insides fits_amid no (omega arith)) in
       let second : (a2 : List Token) → over n x ≡ None → over n y ≡ Some a2 → Keeps n (then G.decls G.body) (both x y) (tokens x ++ a2) c (suc c) fs' (amid (Body 0)) =
-          λ a2 ex e. in_second gx gy (omega arith) r.runs ex (keeps gy n a2 e false (Body 0) r.d' r.s' (λ d s. d == 0) c c1 fs' r.p' r.test r.fits no (up (parts (suc c) x) (counted G gx (suc c)))) in
+      λ a2 ex e. in_second gx gy (omega arith) r.runs ex (keeps gy n a2 e false (Body 0) r.d' r.s' (λ d s. d == 0) c c1 fs' r.p' r.test r.fits no (up (parts (suc c) x) (counted G gx (suc c)))) in
       let cont : (a2 : List Token) → over n (both x (both y (both (leaf e) (leaf i)))) ≡ Some a2 → Keeps n (then G.decls G.body) (both x y) a2 c (suc c) fs' (amid (Body 0)) =
-          λ a2 e2. ⊎_elim (λ ex. first a2 ex)
-            (λ ey. subst (λ z. Keeps n (then G.decls G.body) (both x y) z c (suc c) fs' (amid (Body 0))) (sym ey.1.2) (second ey.1.0 ey.0 (sym (over_right (tokens y) (over n y)) ∙ ey.1.1)))
-            (first_some (tokens x) (over n x) _ a2 e2) in
+      λ a2 e2. ⊎_elim (λ ex. first a2 ex)
+      (λ ey. subst (λ z. Keeps n (then G.decls G.body) (both x y) z c (suc c) fs' (amid (Body 0))) (sym ey.1.2) (second ey.1.0 ey.0 (sym (over_right (tokens y) (over n y)) ∙ ey.1.1)))
+      (first_some (tokens x) (over n x) _ a2 e2) in
       ⊎_elim
-        (λ e'. absurd (none_some a (sym e' ∙ none)))
-        (λ e1. ⊎_elim
-          (λ e'. absurd (none_some e1.1.0 (sym e')))
-          (λ e2. ⊎_elim
-            (λ e3. subst (λ z. Keeps n sub (part (both hd (both (leaf t) (both (both x (both y (both (leaf e) (leaf i)))) (leaf l'))))) z k c fs p) (sym (e1.1.2 ∙ ap (λ w. tokens hd ++ w) e2.1.2)) (in_part k c fs t e i l' l g gh gt (cont e2.1.0 e3)))
-            (λ e3. absurd (none_some e3.1.0 (sym e3.1.1)))
-            (first_some (tokens (both x (both y (both (leaf e) (leaf i))))) (over n (both x (both y (both (leaf e) (leaf i))))) None e2.1.0 e2.1.1))
-          (first_some (t ∷ []) None _ e1.1.0 e1.1.1))
-        (first_some (tokens hd) (over n hd) _ a h)
+      (λ e'. absurd (none_some a (sym e' ∙ none)))
+      (λ e1. ⊎_elim
+      (λ e'. absurd (none_some e1.1.0 (sym e')))
+      (λ e2. ⊎_elim
+      (λ e3. subst (λ z. Keeps n sub (part (both hd (both (leaf t) (both (both x (both y (both (leaf e) (leaf i)))) (leaf l'))))) z k c fs p) (sym (e1.1.2 ∙ ap (λ w. tokens hd ++ w) e2.1.2)) (in_part k c fs t e i l' l g gh gt (cont e2.1.0 e3)))
+      (λ e3. absurd (none_some e3.1.0 (sym e3.1.1)))
+      (first_some (tokens (both x (both y (both (leaf e) (leaf i))))) (over n (both x (both y (both (leaf e) (leaf i))))) None e2.1.0 e2.1.1))
+      (first_some (t ∷ []) None _ e1.1.0 e1.1.1))
+      (first_some (tokens hd) (over n hd) _ a h)
     where
       up : {c' : ℕ} (ps : List (Tree Token)) → c' ≡ suc c + length ps → c < c'
       up ps e = omega (arith, e)

@@ -208,7 +208,7 @@ held_word n k c fs m u t ts r s h =
     ∙ ap (λ l. limit_from n (p l ∷ inner)) (sym (counts_length m fs h))
     ∙ ap (λ q. limit_from n (p (length (counts m fs)) ∷ begun_in q (0 ∷ counts m fs) ts)) (sym (s.heading 0))
     ∙ ap (λ b. limit_from n (if b then p (length (counts m fs)) ∷ begun_in (in_heading 0) (0 ∷ counts m fs) (t ∷ ts) else begun_in (block_step (counts m fs) u.kind) (open_after (counts m fs) u.kind) (t ∷ ts)))
-      (sym (ap (λ b. b && is_identifier t.kind) r.procedure ∙ s.word))
+    (sym (ap (λ b. b && is_identifier t.kind) r.procedure ∙ s.word))
 
 seen_step : (n k c : ℕ) (fs : List (ℕ × Mode)) (m : Mode) (u t : Token) (ts : List Token) (z : Sort) → ByStep u.kind Procedure → ByStep t.kind z → Nests m fs → (z ≡ Stop → ts ≡ [])
     → first_of (seen_limit n fs u z) (target n (state k c fs (seen_next m u t z)) ts) ≡ limit_from n (begun_in in_block (counts m fs) (u ∷ t ∷ ts))

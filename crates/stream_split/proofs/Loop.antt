@@ -33,6 +33,7 @@ passed_append n s (x ∷ xs) ys =
   where
     joined : (ps qs : List Enclosed) → (n + length ps) + length qs ≡ n + length (ps ++ qs)
     joined ps qs = let e = length-append ps qs in omega (arith, e)
+
     by : (o p q r : Option BlockLimit) → p ≡ first_of q r → first_of o p ≡ first_of (first_of o q) r
     by None p q r h = h
     by (Some l) p q r h = refl
@@ -102,25 +103,26 @@ one_step n c c' ts i t z l e k h w f g lb fi =
     record {
       state_is = f ∙ ap (λ q. next_by q t z) h.state_is ∙ ap (next_by s t) k ∙ sym (after_append (start n) (take i ts) (t ∷ [])) ∙ ap (after (start n)) (sym is);
       sent = λ j.
-        g j ∙ ap (λ q. item j c.streams.items ++ pick (q + j) (goes_by (state_view c) t z)) h.first
-        ∙ ap (λ q. q ++ pick (n + j) (goes_by (state_view c) t z)) (h.sent j) ∙ ap (λ q. pick (n + j) es ++ pick (n + j) (goes_by q t z)) h.state_is
-        ∙ ap (λ q. pick (n + j) es ++ pick (n + j) (goes_by s t q)) k ∙ ap (λ q. pick (n + j) es ++ pick (n + j) q) (sym (append-nil (goes s t)))
-        ∙ sym (pick_append (n + j) es (goes s t ++ [])) ∙ ap (pick (n + j)) (sym (events_append (start n) (take i ts) (t ∷ []))) ∙ ap (λ q. pick (n + j) (events (start n) q)) (sym is);
+          g j ∙ ap (λ q. item j c.streams.items ++ pick (q + j) (goes_by (state_view c) t z)) h.first
+          ∙ ap (λ q. q ++ pick (n + j) (goes_by (state_view c) t z)) (h.sent j) ∙ ap (λ q. pick (n + j) es ++ pick (n + j) (goes_by q t z)) h.state_is
+          ∙ ap (λ q. pick (n + j) es ++ pick (n + j) (goes_by s t q)) k ∙ ap (λ q. pick (n + j) es ++ pick (n + j) q) (sym (append-nil (goes s t)))
+          ∙ sym (pick_append (n + j) es (goes s t ++ [])) ∙ ap (pick (n + j)) (sym (events_append (start n) (take i ts) (t ∷ []))) ∙ ap (λ q. pick (n + j) (events (start n) q)) (sym is);
       labels =
-        lb ∙ ap (λ q. q ++ procedure_streams (c.first + length c.streams.items) (opens_by (state_view c) z) []) h.labels
-        ∙ ap (λ q. labels_after n (take i ts) ++ procedure_streams (c.first + length c.streams.items) q []) opens
-        ∙ ap (λ q. labels_after n (take i ts) ++ procedure_streams q (opens_by s (sort t.kind) ++ []) []) (number n c (opened (start n) (take i ts)) h.first count)
-        ∙ ap (λ q. module_stream n [] ∷ q) (sym (streams_append (suc n) (opened (start n) (take i ts)) (opens_by s (sort t.kind) ++ []) []) ∙ ap (λ q. procedure_streams (suc n) q []) (sym (opened_append (start n) (take i ts) (t ∷ []))))
-        ∙ ap (labels_after n) (sym is);
+          lb ∙ ap (λ q. q ++ procedure_streams (c.first + length c.streams.items) (opens_by (state_view c) z) []) h.labels
+          ∙ ap (λ q. labels_after n (take i ts) ++ procedure_streams (c.first + length c.streams.items) q []) opens
+          ∙ ap (λ q. labels_after n (take i ts) ++ procedure_streams q (opens_by s (sort t.kind) ++ []) []) (number n c (opened (start n) (take i ts)) h.first count)
+          ∙ ap (λ q. module_stream n [] ∷ q) (sym (streams_append (suc n) (opened (start n) (take i ts)) (opens_by s (sort t.kind) ++ []) []) ∙ ap (λ q. procedure_streams (suc n) q []) (sym (opened_append (start n) (take i ts) (t ∷ []))))
+          ∙ ap (labels_after n) (sym is);
       within =
-        ap (passed 0 (start n)) is ∙ passed_append 0 (start n) (take i ts) (t ∷ [])
-        ∙ ap (λ q. first_of q (first_of (limit_at (0 + length (opened (start n) (take i ts))) s (sort t.kind)) None)) h.within
-        ∙ ap (λ q. first_of q None) (ap (limit_at (0 + length (opened (start n) (take i ts))) s) (sym k) ∙ ap (λ q. limit_at (0 + length (opened (start n) (take i ts))) q z) (sym h.state_is) ∙ ap (λ q. limit_at q (state_view c) z) (before (opened (start n) (take i ts)) count) ∙ w);
+          ap (passed 0 (start n)) is ∙ passed_append 0 (start n) (take i ts) (t ∷ [])
+          ∙ ap (λ q. first_of q (first_of (limit_at (0 + length (opened (start n) (take i ts))) s (sort t.kind)) None)) h.within
+          ∙ ap (λ q. first_of q None) (ap (limit_at (0 + length (opened (start n) (take i ts))) s) (sym k) ∙ ap (λ q. limit_at (0 + length (opened (start n) (take i ts))) q z) (sym h.state_is) ∙ ap (λ q. limit_at q (state_view c) z) (before (opened (start n) (take i ts)) count) ∙ w);
       first = fi ∙ h.first;
     }
   where
     number : (n : ℕ) (c : Cutter) (ps : List Enclosed) → c.first ≡ n → length c.streams.items ≡ suc (length ps) → c.first + length c.streams.items ≡ suc n + length ps
     number n c ps a b = omega (arith, a, b)
+
     before : (ps : List Enclosed) → length c.streams.items ≡ suc (length ps) → 0 + length ps ≡ length c.streams.items - 1
     before ps b = omega (arith, b)
 
@@ -157,9 +159,9 @@ passes n c ts i d z f l k h w =
     let more : Option BlockLimit = passed (m + length (opens_by s (sort t.kind))) (next s t) (drop (suc i) ts) in
     told (passed 0 (start n) ts) (limit_at (length c.streams.items - 1) (state_view c) z) f
     (λ g e.
-      ap (passed 0 (start n)) (parted_at ts i d l) ∙ passed_append 0 (start n) (take i ts) _
-      ∙ ap (λ q. first_of q (first_of (limit_at m s (sort t.kind)) more)) h.within
-      ∙ ap (λ q. first_of q more) (ap (limit_at m s) (sym k) ∙ ap (λ q. limit_at m q z) (sym h.state_is) ∙ ap (λ q. limit_at q (state_view c) z) before ∙ e)) w
+    ap (passed 0 (start n)) (parted_at ts i d l) ∙ passed_append 0 (start n) (take i ts) _
+    ∙ ap (λ q. first_of q (first_of (limit_at m s (sort t.kind)) more)) h.within
+    ∙ ap (λ q. first_of q more) (ap (limit_at m s) (sym k) ∙ ap (λ q. limit_at m q z) (sym h.state_is) ∙ ap (λ q. limit_at q (state_view c) z) before ∙ e)) w
   where
     before : 0 + length (opened (start n) (take i ts)) ≡ length c.streams.items - 1
     before = let e = count_is n c (take i ts) h in omega (arith, e)
@@ -191,6 +193,7 @@ all_streams n c ts h = on c.streams.items h.labels h.sent
   where
     plus : (j i : ℕ) → j + suc i ≡ suc j + i
     plus j i = omega arith
+
     on : (xs : List StreamTokens) → map label xs ≡ labels_after n ts → ((j : ℕ) → item j xs ≡ pick (n + j) (events (start n) ts)) → map stream_view xs ≡ main_streams n ts
     on [] l s = cc
     on (x ∷ xs) l s =

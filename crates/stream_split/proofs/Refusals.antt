@@ -132,7 +132,14 @@ module _ (G : Cuttable) where
   -- the same for a larger rule that begins so
   widen : {f : Fault} {b : ℕ} {q r : Rule} {u rest : List Token} {k c : ℕ} {fs : List (ℕ × Mode)} {p : Phase} → Stops f b q u rest k c fs p → (plain r ≡ true → plain q ≡ true) → ((v w : List Token) → SameHead rest w → SameHead (u ++ rest) (v ++ w) → Ref f b (stream_rule H q) v w → Ref f b (stream_rule H r) v w) → Stops f b r u rest k c fs p
   widen j e g = record {
-    k' = j.k'; c' = j.c'; fs' = j.fs'; p' = j.p'; v = j.v; state_is = j.state_is; picked = j.picked; tip = j.tip;
+    k' = j.k';
+    c' = j.c';
+    fs' = j.fs';
+    p' = j.p';
+    v = j.v;
+    state_is = j.state_is;
+    picked = j.picked;
+    tip = j.tip;
     place = ⊎_elim (λ h. inl (record { same = h.same; refuses = λ w s. g j.v w s (h.begin w s) (h.refuses w s); begin = h.begin; simple = λ s. h.simple (e s) })) (λ i. inr (record { above = i.above; refuses = i.refuses; simple = λ s. i.simple (e s) })) j.place;
   }
 
@@ -143,7 +150,10 @@ module _ (G : Cuttable) where
       ((v w : List Token) → SameHead rest w → SameHead (u ++ rest) (v ++ w) → Ref f b (stream_rule H s) v w → Ref f b (stream_rule H r) (tokens (own c x) ++ v) w) →
       Stops f b r (tokens x ++ u) rest k c fs p
   behind {f} {b} {q} {s} {r} {x} {u} {rest} {k} {c} {fs} {p} {p1} g l a j e build = record {
-    k' = j.k'; c' = j.c'; fs' = j.fs'; p' = j.p';
+    k' = j.k';
+    c' = j.c';
+    fs' = j.fs';
+    p' = j.p';
     v = pick j.k' (sends k c x) ++ j.v;
     state_is = after_append (state k c fs p) (tokens x) u ∙ ap (λ z. after z u) a.state_is ∙ j.state_is;
     picked = ap (pick j.k') (events_append (state k c fs p) (tokens x) u ∙ ap (λ z. z ++ events (after (state k c fs p) (tokens x)) u) a.events_are ∙ ap (λ z. sends k c x ++ events z u) a.state_is) ∙ pick_append j.k' (sends k c x) _ ∙ ap (λ z. pick j.k' (sends k c x) ++ z) j.picked;
@@ -153,6 +163,7 @@ module _ (G : Cuttable) where
     where
       up : {c' k' : ℕ} (ps : List (Tree Token)) → c' ≡ c + length ps → c' ≤ k' → c ≤ k'
       up ps n h = omega (arith, n, h)
+
       here : Here f b s u rest k j.k' j.p' j.v → Here f b r (tokens x ++ u) rest k j.k' j.p' (pick j.k' (sends k c x) ++ j.v)
       here h =
           let is : pick j.k' (sends k c x) ≡ tokens (own c x) = ap (λ z. pick z (sends k c x)) h.same ∙ own_pick G g k c l in
@@ -162,6 +173,7 @@ module _ (G : Cuttable) where
             begin = λ w e'. subst (λ z. SameHead ((tokens x ++ u) ++ rest) ((z ++ j.v) ++ w)) (sym is) (subst (λ z. SameHead z ((tokens (own c x) ++ j.v) ++ w)) (sym (append_assoc (tokens x) u rest)) (subst (SameHead (tokens x ++ (u ++ rest))) (sym (append_assoc (tokens (own c x)) j.v w)) (head_same G g c (u ++ rest) (j.v ++ w) (h.begin w e'))));
             simple = λ e'. let i = e e' in let o = h.simple i.1 in (ap (λ z. z ++ j.v) (is ∙ plain_own G g i.0 c) ∙ ap (λ z. tokens x ++ z) o.0, o.1);
           }
+
       inside_of : Inside f b s rest (streams_after c x) j.k' j.v → Inside f b r rest c j.k' (pick j.k' (sends k c x) ++ j.v)
       inside_of i =
           let is = high_pick G g j.k' k c l i.above in
@@ -174,7 +186,14 @@ module _ (G : Cuttable) where
   under : {f : Fault} {b n : ℕ} {u rest : List Token} {k c : ℕ} {fs : List (ℕ × Mode)} {p : Phase} → Ref f b (G.below n) u rest → Stops f b (G.below n) u rest k c fs p → Stops f (suc b) (deep (suc n)) u rest k c fs p
   under {f} {b} {n} {u} {rest} {k} {c} q j = ⊎_elim
       (λ h. let o = h.simple (G.plains n) in record {
-        k' = j.k'; c' = j.c'; fs' = j.fs'; p' = j.p'; v = j.v; state_is = j.state_is; picked = j.picked; tip = o.1 f (suc b);
+        k' = j.k';
+        c' = j.c';
+        fs' = j.fs';
+        p' = j.p';
+        v = j.v;
+        state_is = j.state_is;
+        picked = j.picked;
+        tip = o.1 f (suc b);
         place = inl (record {
           same = h.same;
           refuses = λ w e. subst (λ z. Ref f (suc b) (deep (suc n)) z w) (sym o.0) (refuse_deep (refuses_rest W q w e));
@@ -191,7 +210,14 @@ module _ (G : Cuttable) where
       let a0 = seen_procedure k c fs t0 g in
       let r0 = runs_one (state k c fs p) t0 37 Procedure g0 is_procedure a0.0 a0.1 in
       record {
-        k' = k; c' = c; fs' = fs; p' = seen (raise d m) t0; v = t0 ∷ []; state_is = r0.state_is; picked = ap (pick k) r0.events_are ∙ pick_own k (t0 ∷ []); tip = tt;
+        k' = k;
+        c' = c;
+        fs' = fs;
+        p' = seen (raise d m) t0;
+        v = t0 ∷ [];
+        state_is = r0.state_is;
+        picked = ap (pick k) r0.events_are ∙ pick_own k (t0 ∷ []);
+        tip = tt;
         place = inl (record { same = refl; refuses = λ w e. refuse_then (refuses_rest W (refuse_later (accept_token {t = t0} g0) (refuse_then (refuse_token h))) w e); begin = λ w e. refl; simple = λ e. absurd (true≢false (sym e)) });
       }
   in_heading {f} {b} {u} {rest} {m} {d} {s} {p} k c fs g (refuse_later (accept_token {t = t0} g0) (refuse_later {u = u2} (accept_token {t = t1} g1) q)) =
@@ -202,7 +228,13 @@ module _ (G : Cuttable) where
       let r = runs_then r0 (runs_then r1 j.runs) in
       let all : Ref f b H (t0 ∷ t1 ∷ u2) rest = refuse_later (accept_token {t = t0} g0) (refuse_later (accept_token {t = t1} g1) q) in
       record {
-        k' = k; c' = c; fs' = fs; p' = heading (raise d m) j.p' (t0 ∷ t1 ∷ u2); v = t0 ∷ t1 ∷ u2; state_is = r.state_is; picked = ap (pick k) r.events_are ∙ pick_own k (t0 ∷ t1 ∷ u2);
+        k' = k;
+        c' = c;
+        fs' = fs;
+        p' = heading (raise d m) j.p' (t0 ∷ t1 ∷ u2);
+        v = t0 ∷ t1 ∷ u2;
+        state_is = r.state_is;
+        picked = ap (pick k) r.events_are ∙ pick_own k (t0 ∷ t1 ∷ u2);
         tip = λ w e. refuse_then (refuses_rest W all w e);
         place = inl (record { same = refl; refuses = λ w e. refuse_then (refuses_rest W all w e); begin = λ w e. refl; simple = λ e. absurd (true≢false (sym e)) });
       }
@@ -218,7 +250,7 @@ module _ (G : Cuttable) where
       let r1 = runs_one (state k c fs (seen (raise d m) t0)) t1 1 Word g1 is_word refl refl in
       let i = heads_of G (accepts_derives W a) 0 (λ p. p == 0) G.heads k c fs (raise d m) (t0 ∷ t1 ∷ []) in
       let rm : Runs (state k c fs (heading (raise d m) 0 (t0 ∷ t1 ∷ []))) (tokens hm) (state k c fs (heading (raise d m) 0 (t0 ∷ t1 ∷ tokens hm))) (to k (tokens hm)) =
-          record { state_is = i.state_is ∙ ap (λ z. state k c fs (heading (raise d m) z (t0 ∷ t1 ∷ tokens hm))) (eqb-true i.p' 0 i.test); events_are = i.events_are } in
+      record { state_is = i.state_is ∙ ap (λ z. state k c fs (heading (raise d m) z (t0 ∷ t1 ∷ tokens hm))) (eqb-true i.p' 0 i.test); events_are = i.events_are } in
       record { runs = runs_then r0 (runs_then r1 rm) }
 
   same_no : (j k : ℕ) → k < j → (j == k) ≡ false
@@ -238,29 +270,36 @@ module _ (G : Cuttable) where
       let es : List Event = to k hd ++ ((k, t) ∷ (k, cut_at c t) ∷ to c (hd ++ (t ∷ []))) in
       let split : hd ++ (t ∷ u3) ≡ (hd ++ (t ∷ [])) ++ u3 = sym (append_assoc hd (t ∷ []) u3) in
       record {
-        k' = k3; c' = c3; fs' = fs3; p' = p3; v = pick k3 es ++ v3;
+        k' = k3;
+        c' = c3;
+        fs' = fs3;
+        p' = p3;
+        v = pick k3 es ++ v3;
         state_is = ap (after s0) split ∙ after_append s0 (hd ++ (t ∷ [])) u3 ∙ ap (λ z. after z u3) a.state_is ∙ e;
         picked = ap (λ z. pick k3 (events s0 z)) split ∙ ap (pick k3) (events_append s0 (hd ++ (t ∷ [])) u3 ∙ ap (λ z. z ++ events (after s0 (hd ++ (t ∷ []))) u3) a.events_are ∙ ap (λ z. es ++ events z u3) a.state_is) ∙ pick_append k3 es _ ∙ ap (λ z. pick k3 es ++ z) v;
         tip = tip;
         place = inr (⊎_elim
-          (λ h. record {
-            above = low h.0;
-            refuses = λ w g. subst (λ z. Ref f b PS z w) (sym (ap (λ z. z ++ v3) (ap (λ z. pick z es) h.0 ∙ own_of_new) ∙ append_assoc hd (t ∷ []) v3)) (h.1 w g);
-            simple = λ g. true≢false (sym g);
-          })
-          (λ h. record {
-            above = lower h.0;
-            refuses = λ w g. subst (λ z. Ref f b PS z w) (sym (ap (λ z. z ++ v3) (none_of_later h.0))) (h.1 w g);
-            simple = λ g. true≢false (sym g);
-          }) place);
+            (λ h. record {
+              above = low h.0;
+              refuses = λ w g. subst (λ z. Ref f b PS z w) (sym (ap (λ z. z ++ v3) (ap (λ z. pick z es) h.0 ∙ own_of_new) ∙ append_assoc hd (t ∷ []) v3)) (h.1 w g);
+              simple = λ g. true≢false (sym g);
+            })
+            (λ h. record {
+              above = lower h.0;
+              refuses = λ w g. subst (λ z. Ref f b PS z w) (sym (ap (λ z. z ++ v3) (none_of_later h.0))) (h.1 w g);
+              simple = λ g. true≢false (sym g);
+            }) place);
       }
     where
       low : {k3 : ℕ} → k3 ≡ c → c ≤ k3
       low h = omega (arith, h)
+
       lower : {k3 : ℕ} → suc c ≤ k3 → c ≤ k3
       lower h = omega (arith, h)
+
       own_of_new : pick c (to k hd ++ ((k, t) ∷ (k, cut_at c t) ∷ to c (hd ++ (t ∷ [])))) ≡ hd ++ (t ∷ [])
       own_of_new = pick_append c (to k hd) _ ∙ ap (λ z. z ++ pick c ((k, t) ∷ (k, cut_at c t) ∷ to c (hd ++ (t ∷ [])))) (pick_other c k hd (same_no c k l)) ∙ pick_append c ((k, t) ∷ (k, cut_at c t) ∷ []) (to c (hd ++ (t ∷ []))) ∙ ap (λ z. z ++ pick c (to c (hd ++ (t ∷ [])))) (pick_other c k (t ∷ cut_at c t ∷ []) (same_no c k l)) ∙ pick_own c (hd ++ (t ∷ []))
+
       none_of_later : {j : ℕ} → suc c ≤ j → pick j (to k hd ++ ((k, t) ∷ (k, cut_at c t) ∷ to c (hd ++ (t ∷ [])))) ≡ []
       none_of_later {j} h =
           let n1 : k < j = omega (arith, h, l) in let n2 : c < j = omega (arith, h) in
@@ -273,7 +312,14 @@ module _ (G : Cuttable) where
       let ae = seen_closer k c fs te g in
       let r = runs_one (state k c fs p) te 21 Closer ge is_closer ae.0 ae.1 in
       record {
-        k' = k; c' = c; fs' = fs; p' = two_left; v = te ∷ []; state_is = r.state_is; picked = ap (pick k) r.events_are ∙ pick_own k (te ∷ []); tip = tt;
+        k' = k;
+        c' = c;
+        fs' = fs;
+        p' = two_left;
+        v = te ∷ [];
+        state_is = r.state_is;
+        picked = ap (pick k) r.events_are ∙ pick_own k (te ∷ []);
+        tip = tt;
         place = inl (record { same = refl; refuses = λ w e. refuse_later (accept_token {t = te} ge) (refuses_rest W (refuse_token h) w e); begin = λ w e. refl; simple = λ e. (refl, λ f' b'. tt) });
       }
 
@@ -285,9 +331,9 @@ module _ (G : Cuttable) where
       let mm = raise d m in
       let r = runs_then i.runs (runs_one (state k c fs (heading mm 0 (tokens hd))) t 57 Semicolon gt is_semi refl refl) in
       within k c fs (tokens hd) t u y.k' y.c' y.fs' y.p' y.v l r y.state_is y.picked y.tip
-        (⊎_elim
-          (λ h. inl (h.same, λ w e. refuse_later (accepts_rest W ah ((t ∷ y.v) ++ w) refl) (refuse_later (accept_token {t = t} gt) (refuse_then (h.refuses w e)))))
-          (λ h. inr (h.above, h.refuses)) y.place)
+      (⊎_elim
+      (λ h. inl (h.same, λ w e. refuse_later (accepts_rest W ah ((t ∷ y.v) ++ w) refl) (refuse_later (accept_token {t = t} gt) (refuse_then (h.refuses w e)))))
+      (λ h. inr (h.above, h.refuses)) y.place)
 
   more_count : {x : Tree Token} {q : Rule} → Derives W q x → (k c : ℕ) → k < c → k < streams_after c x
   more_count {x} g k c l = up (parts c x) (counted G g c)
@@ -326,7 +372,11 @@ module _ (G : Cuttable) where
       let i = enter k c fs g ah in
       let again : (w : List Token) → SameHead rest w → Ref f b PS (tokens hd ++ []) w = λ w e. refuse_later (accepts_rest W ah w e) (refuse_then (refuses_rest W (refuse_token h) w e)) in
       record {
-        k' = k; c' = c; fs' = fs; p' = heading (raise d m) 0 (tokens hd ++ []); v = tokens hd ++ [];
+        k' = k;
+        c' = c;
+        fs' = fs;
+        p' = heading (raise d m) 0 (tokens hd ++ []);
+        v = tokens hd ++ [];
         state_is = ap (after (state k c fs p)) (append-nil (tokens hd)) ∙ i.runs.state_is ∙ ap (λ z. state k c fs (heading (raise d m) 0 z)) (sym (append-nil (tokens hd)));
         picked = ap (λ z. pick k (events (state k c fs p) z)) (append-nil (tokens hd)) ∙ ap (pick k) i.runs.events_are ∙ pick_own k (tokens hd) ∙ sym (append-nil (tokens hd));
         tip = again;
@@ -342,8 +392,8 @@ module _ (G : Cuttable) where
       let i = flows G og false (Body 0) 0 false (λ d' s'. flow false G.body d' s' (λ d s. d == 0)) c (suc c) fs' (amid (Body 0)) G.insides fits_amid no in
       in_block k c fs t l g ah gt
       (behind {s = then G.body (then (one 21) (one 1))} og (omega arith) i.runs
-        (widen {r = then G.body (then (one 21) (one 1))} (stops j false (Body 0) i.d' i.s' (λ d s. d == 0) c (streams_after (suc c) x) fs' i.p' i.test i.fits no (more_count og c (suc c) (omega arith))) (λ e. and_l _ _ e) (λ v w e i y. refuse_then y))
-        (λ e. (and_l _ _ e, and_r (plain G.decls) _ e)) (λ v w e h y. refuse_later (own_accepts G a (suc c) (v ++ w) h) y))
+      (widen {r = then G.body (then (one 21) (one 1))} (stops j false (Body 0) i.d' i.s' (λ d s. d == 0) c (streams_after (suc c) x) fs' i.p' i.test i.fits no (more_count og c (suc c) (omega arith))) (λ e. and_l _ _ e) (λ v w e i y. refuse_then y))
+      (λ e. (and_l _ _ e, and_r (plain G.decls) _ e)) (λ v w e h y. refuse_later (own_accepts G a (suc c) (v ++ w) h) y))
   stops (refuse_sub (refuse_later ah (refuse_later (accept_token {t = t} gt) (refuse_then (refuse_later {d = x} a (refuse_later {d = z} a2 q)))))) top m d s kk k c fs p fl g o l =
       let fs' : List (ℕ × Mode) = (k, raise d m) ∷ fs in
       let no : false ≡ true → Body 0 ≡ Free = λ e. absurd (true≢false (sym e)) in
@@ -356,8 +406,8 @@ module _ (G : Cuttable) where
       let e2 = end_stops c (streams_after c1 z) fs' (subst (λ n. Fits (Body 0) n i2.s' i2.p') (eqb-true i2.d' 0 i2.test) i2.fits) q in
       in_block k c fs t l g ah gt
       (behind {s = then G.body (then (one 21) (one 1))} og (omega arith) i.runs
-        (behind {s = then (one 21) (one 1)} {r = then G.body (then (one 21) (one 1))} og2 l1 i2.runs e2 (λ e. (and_l _ _ e, and_r (plain G.body) _ e)) (λ v w e h y. refuse_later (own_accepts G a2 c1 (v ++ w) h) y))
-        (λ e. (and_l _ _ e, and_r (plain G.decls) _ e)) (λ v w e h y. refuse_later (own_accepts G a (suc c) (v ++ w) h) y))
+      (behind {s = then (one 21) (one 1)} {r = then G.body (then (one 21) (one 1))} og2 l1 i2.runs e2 (λ e. (and_l _ _ e, and_r (plain G.body) _ e)) (λ v w e h y. refuse_later (own_accepts G a2 c1 (v ++ w) h) y))
+      (λ e. (and_l _ _ e, and_r (plain G.decls) _ e)) (λ v w e h y. refuse_later (own_accepts G a (suc c) (v ++ w) h) y))
   stops {f = f} {b = b} {rest = rest} (refuse_sub (refuse_later {d = hd} ah (refuse_later (accept_token {t = t} gt) (refuse_later (accept_then {d = x} a (accept_then {d = z} a2 (accept_then (accept_token {t = te} ge) (accept_token {t = ti} gi)))) (refuse_token h))))) top m d s kk k c fs p fl g o l =
       let i = enter k c fs g ah in
       let mm = raise d m in
@@ -378,7 +428,7 @@ module _ (G : Cuttable) where
       let ts : List Token = tokens (both x (both z (both (leaf te) (leaf ti)))) in
       let x' : Tree Token = own (suc c) (both x (both z (both (leaf te) (leaf ti)))) in
       within k c fs (tokens hd) t (tokens (both x (both z (both (leaf te) (leaf ti)))) ++ []) c c2 fs' one_left (tokens x' ++ []) l r
-        (ap (after (state c (suc c) fs' (amid (Body 0)))) (append-nil ts) ∙ q.state_is)
-        (ap (λ n. pick c (events (state c (suc c) fs' (amid (Body 0))) n)) (append-nil ts) ∙ ap (pick c) q.events_are ∙ own_pick G (accepts_derives W whole) c (suc c) (omega arith) ∙ sym (append-nil (tokens x')))
-        tt
-        (inl (refl, λ w e. refuse_later (accepts_rest W ah (t ∷ ((tokens x' ++ []) ++ w)) refl) (refuse_later (accept_token {t = t} gt) (refuse_later (own_accepts G whole (suc c) w e) (refuse_then (refuses_rest W (refuse_token h) w e))))))
+      (ap (after (state c (suc c) fs' (amid (Body 0)))) (append-nil ts) ∙ q.state_is)
+      (ap (λ n. pick c (events (state c (suc c) fs' (amid (Body 0))) n)) (append-nil ts) ∙ ap (pick c) q.events_are ∙ own_pick G (accepts_derives W whole) c (suc c) (omega arith) ∙ sym (append-nil (tokens x')))
+      tt
+      (inl (refl, λ w e. refuse_later (accepts_rest W ah (t ∷ ((tokens x' ++ []) ++ w)) refl) (refuse_later (accept_token {t = t} gt) (refuse_later (own_accepts G whole (suc c) w e) (refuse_then (refuses_rest W (refuse_token h) w e))))))

@@ -69,9 +69,9 @@ module _ {T : Type 0} (g : Grammar T) where
       before = a.before;
       is = a.is;
       beginning =
-        let b = a.beginning in
-        let j = there b.tree b.derives in
-        record { tree = j.tree; derives = j.derives; behind = b.behind; spells = j.spells ∙ b.spells; within = kept b.tree j.tree a.before (j.depth n) b.within };
+          let b = a.beginning in
+          let j = there b.tree b.derives in
+          record { tree = j.tree; derives = j.derives; behind = b.behind; spells = j.spells ∙ b.spells; within = kept b.tree j.tree a.before (j.depth n) b.within };
       refusal = on f a.refusal;
     }
       where

@@ -65,7 +65,7 @@ told_part : (j k c : ℕ) (hs : List Token) (s u : Token) (es : List Event) (os 
     Told j k c (to k hs ++ (((k, s) ∷ (k, u) ∷ to c (hs ++ (s ∷ []))) ++ (es ++ to c ends))) (hs ++ (s ∷ u ∷ [])) (x ∷ ps)
 told_part j k c hs s u es os ends ps x h is a =
     let inside : pick j (es ++ to c ends) ≡ pick j (to c (os ++ ends)) ++ pick j (spread (suc c) ps) =
-        pick_append j es (to c ends) ∙ ap (λ z. z ++ pick j (to c ends)) a ∙ append_assoc (pick j (to c os)) _ _ ∙ ap (λ z. pick j (to c os) ++ z) (swap j c (suc c) ps ends (omega arith)) ∙ sym (append_assoc (pick j (to c os)) _ _) ∙ ap (λ z. z ++ pick j (spread (suc c) ps)) (sym (pick_to j c os ends)) in
+    pick_append j es (to c ends) ∙ ap (λ z. z ++ pick j (to c ends)) a ∙ append_assoc (pick j (to c os)) _ _ ∙ ap (λ z. pick j (to c os) ++ z) (swap j c (suc c) ps ends (omega arith)) ∙ sym (append_assoc (pick j (to c os)) _ _) ∙ ap (λ z. z ++ pick j (spread (suc c) ps)) (sym (pick_to j c os ends)) in
     let left : pick j (to k hs ++ (((k, s) ∷ (k, u) ∷ []))) ≡ pick j (to k (hs ++ (s ∷ u ∷ []))) = ap (pick j) (sym (to_append k hs (s ∷ u ∷ []))) in
     let right : pick j (to c (hs ++ (s ∷ []))) ++ pick j (to c (os ++ ends)) ≡ pick j (to c (tokens x)) = sym (pick_to j c (hs ++ (s ∷ [])) (os ++ ends)) ∙ ap (λ z. pick j (to c z)) (append_assoc hs (s ∷ []) (os ++ ends) ∙ sym is) in
     ap (pick j) (sym (append_assoc (to k hs) ((k, s) ∷ (k, u) ∷ []) (to c (hs ++ (s ∷ [])) ++ (es ++ to c ends))))

@@ -119,5 +119,5 @@ same_blocks (of_then {d = im} gm (of_then (of_token {t = w} gw) (of_then (of_tok
     let number : c2 ≡ c = v.number ∙ u.number in
     let block : block_of (own c2 b) (p ∷ z ∷ []) ≡ block_from c b (p ∷ z ∷ []) = ap (λ n. block_of (own n b) (p ∷ z ∷ [])) number ∙ same_block gb c (p ∷ z ∷ []) (p ∷ z ∷ []) in
     let procedures : parts c im ++ (parts c1 is ++ (parts c2 b ++ [])) ≡ parts c b =
-        ap (λ q. q ++ (parts c1 is ++ (parts c2 b ++ []))) u.none ∙ ap (λ q. q ++ (parts c2 b ++ [])) v.none ∙ append-nil (parts c2 b) ∙ ap (λ n. parts n b) number in
+    ap (λ q. q ++ (parts c1 is ++ (parts c2 b ++ []))) u.none ∙ ap (λ q. q ++ (parts c2 b ++ [])) v.none ∙ append-nil (parts c2 b) ∙ ap (λ n. parts n b) number in
     λ k. main_tree (is_there (u.tree k)) (ident_of (leaf i)) (imports_of (v.tree k)) (block k) ∷ (ap (map procedure_of_stream) procedures ∙ same_procedures gb c) k

@@ -42,10 +42,10 @@ spelled text (t ∷ trees) (x ∷ ss) s p (inr i) f rest q = spelled text trees 
 pub whole_agrees : (m : ℕ) (ts : List Token) (trees : List Stream) → AreNumbered 0 ts → SpellsStreams trees (main_streams m ts) → SpellsMain m trees ts
 whole_agrees m ts trees n p = ⊎_elim
     (λ s.
-      let found : SpellsMain m (main_blocks m s.tree []) ts = record { sentence = s; gives = refl } in
-      subst (λ z. SpellsMain m z ts) (one_list (main_blocks m s.tree []) trees (main_streams m ts) (trees_agree m ts (main_blocks m s.tree []) found) p) found)
+    let found : SpellsMain m (main_blocks m s.tree []) ts = record { sentence = s; gives = refl } in
+    subst (λ z. SpellsMain m z ts) (one_list (main_blocks m s.tree []) trees (main_streams m ts) (trees_agree m ts (main_blocks m s.tree []) found) p) found)
     (λ f.
-      let first = fault_agrees m 0 ts (fault_in 0 f.0 f.1) n (record { fault = f.0; rest = f.1; faulty = f.2; told = refl }) in
-      let one = first.one in
-      absurd (spelled 0 trees (main_streams m ts) one.0 p one.1 one.2.fault one.2.rest one.2.faulty))
+    let first = fault_agrees m 0 ts (fault_in 0 f.0 f.1) n (record { fault = f.0; rest = f.1; faulty = f.2; told = refl }) in
+    let one = first.one in
+    absurd (spelled 0 trees (main_streams m ts) one.0 p one.1 one.2.fault one.2.rest one.2.faulty))
     (is_decided grammar (main sub) is_ll1 main_is_root levels ts)

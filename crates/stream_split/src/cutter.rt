@@ -395,13 +395,7 @@ impl Cutter {
     }
 
     /// A token behind a PROCEDURE.
-    fn seen_token(
-        &mut self,
-        alloc: Global,
-        p: Token,
-        t: Token,
-        s: Sort,
-    ) -> Result<(), SplitFault>
+    fn seen_token(&mut self, alloc: Global, p: Token, t: Token, s: Sort) -> Result<(), SplitFault>
         requires { Ready self.old }
         ensures state { OnOk result (state_view self.new ≡ state (self.old.first + self.old.current) (self.old.first + length self.old.streams.items) (frames_view self.old.first self.old.around.items) (seen_next self.old.mode p t s)) }
         ensures sent { OnOk result (Sent self.old.first self.old.streams.items (((self.old.first + self.old.current), t) ∷ unless_stop s (all_end (frames_view self.old.first self.old.around.items) t) []) self.new.streams.items) }

@@ -7,7 +7,80 @@ use std::alloc::{AllocError, Global};
 use std::test::Fail;
 
 /// Every kind of token.
-const KINDS: [TokenKind; 72] = [TokenKind::EndOfText, TokenKind::Identifier, TokenKind::Number, TokenKind::Character, TokenKind::String, TokenKind::Bad, TokenKind::Cut, TokenKind::StreamEnd, TokenKind::And, TokenKind::Array, TokenKind::Begin, TokenKind::By, TokenKind::Case, TokenKind::Const, TokenKind::Definition, TokenKind::Div, TokenKind::Do, TokenKind::Else, TokenKind::Elsif, TokenKind::End, TokenKind::Exit, TokenKind::Export, TokenKind::For, TokenKind::From, TokenKind::If, TokenKind::Implementation, TokenKind::Import, TokenKind::In, TokenKind::Loop, TokenKind::Mod, TokenKind::Module, TokenKind::Not, TokenKind::Of, TokenKind::Or, TokenKind::Pointer, TokenKind::Procedure, TokenKind::Qualified, TokenKind::Record, TokenKind::Repeat, TokenKind::Return, TokenKind::Set, TokenKind::Then, TokenKind::To, TokenKind::Type, TokenKind::Until, TokenKind::Var, TokenKind::While, TokenKind::With, TokenKind::Plus, TokenKind::Minus, TokenKind::Times, TokenKind::Slash, TokenKind::Becomes, TokenKind::Period, TokenKind::Comma, TokenKind::Semicolon, TokenKind::LeftParenthesis, TokenKind::LeftBracket, TokenKind::LeftBrace, TokenKind::Arrow, TokenKind::Equal, TokenKind::Unequal, TokenKind::Less, TokenKind::Greater, TokenKind::LessEqual, TokenKind::GreaterEqual, TokenKind::Ellipsis, TokenKind::Colon, TokenKind::RightParenthesis, TokenKind::RightBracket, TokenKind::RightBrace, TokenKind::Bar];
+const KINDS: [TokenKind; 72] = [
+    TokenKind::EndOfText,
+    TokenKind::Identifier,
+    TokenKind::Number,
+    TokenKind::Character,
+    TokenKind::String,
+    TokenKind::Bad,
+    TokenKind::Cut,
+    TokenKind::StreamEnd,
+    TokenKind::And,
+    TokenKind::Array,
+    TokenKind::Begin,
+    TokenKind::By,
+    TokenKind::Case,
+    TokenKind::Const,
+    TokenKind::Definition,
+    TokenKind::Div,
+    TokenKind::Do,
+    TokenKind::Else,
+    TokenKind::Elsif,
+    TokenKind::End,
+    TokenKind::Exit,
+    TokenKind::Export,
+    TokenKind::For,
+    TokenKind::From,
+    TokenKind::If,
+    TokenKind::Implementation,
+    TokenKind::Import,
+    TokenKind::In,
+    TokenKind::Loop,
+    TokenKind::Mod,
+    TokenKind::Module,
+    TokenKind::Not,
+    TokenKind::Of,
+    TokenKind::Or,
+    TokenKind::Pointer,
+    TokenKind::Procedure,
+    TokenKind::Qualified,
+    TokenKind::Record,
+    TokenKind::Repeat,
+    TokenKind::Return,
+    TokenKind::Set,
+    TokenKind::Then,
+    TokenKind::To,
+    TokenKind::Type,
+    TokenKind::Until,
+    TokenKind::Var,
+    TokenKind::While,
+    TokenKind::With,
+    TokenKind::Plus,
+    TokenKind::Minus,
+    TokenKind::Times,
+    TokenKind::Slash,
+    TokenKind::Becomes,
+    TokenKind::Period,
+    TokenKind::Comma,
+    TokenKind::Semicolon,
+    TokenKind::LeftParenthesis,
+    TokenKind::LeftBracket,
+    TokenKind::LeftBrace,
+    TokenKind::Arrow,
+    TokenKind::Equal,
+    TokenKind::Unequal,
+    TokenKind::Less,
+    TokenKind::Greater,
+    TokenKind::LessEqual,
+    TokenKind::GreaterEqual,
+    TokenKind::Ellipsis,
+    TokenKind::Colon,
+    TokenKind::RightParenthesis,
+    TokenKind::RightBracket,
+    TokenKind::RightBrace,
+    TokenKind::Bar,
+];
 
 /// By how much the character of a token lies behind its kind's number.
 const FIRST: u8 = 40;
@@ -62,7 +135,11 @@ fn stream_of(alloc: Global, text: &[Token], parts: &[Part]) -> Result<Vec<Token>
 }
 
 /// The streams of a main text.
-fn streams_of(alloc: Global, first: u32, tokens: &[Token]) -> Result<Vec<StreamTokens>, AllocError> {
+fn streams_of(
+    alloc: Global,
+    first: u32,
+    tokens: &[Token],
+) -> Result<Vec<StreamTokens>, AllocError> {
     main_streams(alloc, first, tokens).map_err(|_| AllocError)
 }
 

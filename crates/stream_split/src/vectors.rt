@@ -44,13 +44,31 @@ pub const TEXTS: [Case; 88] = [
         "CH)aA)D)`)`)aU)fLT)aW)`)`)m)a)`)mRJc*l*oaW)mMb)`W)na)mRJc*l*oaM)bnm)a4aa)^b)_)Z)nZb)9b)_\
          )G*nnaaQ)=)aM)b)m)na4)b)dpnaPY):a)^)d)`)b)`)en`)Zb)9*npaQ=a)^)a)^)V)b)e[bb[*nnn=)aM)bW)m\
          )a)m)nm)aUU4B)_)S)b)b)`)b)nnna)^)<b)engb)eZ*nS)b)ena)bdpn<)b*nSQ)b)enaXb)gb)_)nn2b)j(",
-        &[&[Run(0, 68), Cut(2), Run(100, 107), Cut(3), Run(170, 184), Cut(4), Run(260, 260)], &[Run(62, 99), Stop], &[Run(100, 169), Stop], &[Run(170, 260)]],
+        &[
+            &[
+                Run(0, 68),
+                Cut(2),
+                Run(100, 107),
+                Cut(3),
+                Run(170, 184),
+                Cut(4),
+                Run(260, 260),
+            ],
+            &[Run(62, 99), Stop],
+            &[Run(100, 169), Stop],
+            &[Run(170, 260)],
+        ],
     ),
     (
         "CH)aA)D)`)aA)D)`)`)`)aU)fLT)aU)fc*l*oaW)mRJc*l*oa)m3)JLT)aU)f3c)l)oJ)aW)mO)`)mO)`)m)==a)\
          `)`)mb)`)`)`)naM)a7M)aM)b)`)m)naU)fc)l)oa4)^)aa)b)`)b*E)nn=)a4)aBb)_)_)ngb)_)_)Zb)bb)_)_\
          )nnnnSF)^)aB)c)b)_)_)nog)S>=a)b)`*n=aa)c*oe^)b)c*oen=a)^)aB)S)b)`*n==)a4)bnaP))(",
-        &[&[Run(0, 105), Cut(2), Run(255, 255)], &[Run(103, 109), Cut(3), Run(247, 255)], &[Run(107, 119), Cut(4), Run(149, 246), Stop], &[Run(110, 148), Stop]],
+        &[
+            &[Run(0, 105), Cut(2), Run(255, 255)],
+            &[Run(103, 109), Cut(3), Run(247, 255)],
+            &[Run(107, 119), Cut(4), Run(149, 246), Stop],
+            &[Run(110, 148), Stop],
+        ],
     ),
     (
         "H)aA)D)`)`)`)aA)D)aU)fLTOa)mMbW)`)na)m)=a)f)c*l*oaM)aU)f)a)fRJc*l*oa74X)b*n:)^)Kb)b*nn=a\
@@ -64,7 +82,12 @@ pub const TEXTS: [Case; 88] = [
          )a)`)m3J)nm)aU)f)c,l,oaM)b)m)aW)m3J)nm)a7)f+aU)f)a)fOa6m)J,m)mMbW)`W)`)nm)a)`)mb)`)`)`)`\
          )nq+`,l+m==a4FaB)c*of)S>=aXbIb)kb,nnn2b)kb)Z*nn:)^)aa==a6)J,l)b*nm);)b)`b)b)`)`)n[b)b)b*\
          nnnnn=a)^)aQ))(",
-        &[&[Run(0, 74), Cut(2), Run(278, 278)], &[Run(57, 100), Cut(3), Run(278, 278)], &[Run(75, 127), Cut(4), Run(278, 278)], &[Run(111, 278)]],
+        &[
+            &[Run(0, 74), Cut(2), Run(278, 278)],
+            &[Run(57, 100), Cut(3), Run(278, 278)],
+            &[Run(75, 127), Cut(4), Run(278, 278)],
+            &[Run(111, 278)],
+        ],
     ),
     (
         "H)aA)D)`)aA)D)`)`)aA)D)`)`)`)aM)b)`)m)a)`)m)a)m)naM)b)m3J)nm)aU)fb)na)f3)J)a)fLT)a)fO)m)\
@@ -73,7 +96,12 @@ pub const TEXTS: [Case; 88] = [
          Bbb)c)oc)o_)_)g)nKbb)c*onib)c*onnn2bb)f)nK)nS>=a)b)na)c)c*o9b)cb)Zb)c*onn\\b)c*ono\\b)c)\
          oc)o_)Gb)c*onnno^)b)b)nn=a)^)aX)kb)b)nn:)b)n=aQ)=)a4B)kbIb)2)nnS)b)c*oZb)c)b)non`)b)nna)\
          ^)kb)b)nn;=aP)^)b)nV)f)aQ)b)n=)a4B)f)S=a)b)`b)b)nnna)^)=)aW)`)mO)`)m3b)(",
-        &[&[Run(0, 49), Cut(2), Run(496, 509)], &[Run(30, 61), Cut(3), Run(470, 495), Stop], &[Run(50, 117), Cut(4), Run(401, 469), Stop], &[Run(98, 400), Stop]],
+        &[
+            &[Run(0, 49), Cut(2), Run(496, 509)],
+            &[Run(30, 61), Cut(3), Run(470, 495), Stop],
+            &[Run(50, 117), Cut(4), Run(401, 469), Stop],
+            &[Run(98, 400), Stop],
+        ],
     ),
     (
         "H)aA)D)`)aU)fb)`)`)`)`)na)fLT)a)fO)m)a)m3c*l*oJ)=aU)fLTO6)m)J)m==a)fO)m)=aU)f3b)`)nJb)`)\
@@ -83,10 +111,7 @@ pub const TEXTS: [Case; 88] = [
          ^)=)_(",
         &[&[Run(0, 357)]],
     ),
-    (
-        "H)aA)D)`)aU)fb)`)`)`)(",
-        &[&[Run(0, 21)]],
-    ),
+    ("H)aA)D)`)aU)fb)`)`)`)(", &[&[Run(0, 21)]]),
     (
         "H)aA)D)`)aU)fb)`)`)`)`)na)fLT)a)fO)m)a)m3c*l*oJ)=aU)fLTO6)m)J)m==a)fO)m)=aU)f3b)`)nJb)`)\
          `)`)`)na)f)a)f)aW)`)`)mMb3J)`3J)`W)na)`)mOa6)m)J)l)m)`)mMbnm)a)m)a6m)J)l)m)m)a)`)m)a)`)m\
@@ -126,10 +151,7 @@ pub const TEXTS: [Case; 88] = [
          mLT(",
         &[&[Run(0, 91)]],
     ),
-    (
-        "H)aA)D)`)`)`)`)aD)aU)f3c*l*oJ)(",
-        &[&[Run(0, 30)]],
-    ),
+    ("H)aA)D)`)`)`)`)aD)aU)f3c*l*oJ)(", &[&[Run(0, 30)]]),
     (
         "H)aA)D)`)`)aA)D)`)`)`)aU)fLT)a)fO)m)a)mb)n=a)f)a)fLT)a)fO)m)a)mc[*l*o=aU)fO)m)a)mb)`)na)\
          m3c*l*o`c,l,oJ)=aW)`)`)mRJb)`)naM)b)`)m)aW)m)aW)`)m)na4a)b*`)n=)aM)b)m)a)m)naW)`)`)mMb)`\
@@ -137,14 +159,42 @@ pub const TEXTS: [Case; 88] = [
          m)=a)f)a)fO)mc)l)o=aU)fRJb)`)na)fOa)`)m3cb*[*nl*o`c*l*oJO)m)a6)m)J*mq*`*m)`)m)a)m)a6)m)J\
          )l)mqq;)m)a)m)a)`)m)=q*m;)m)===a4)b)`)naY)_)e_)e:P)^b)[)n])aQ)g*aQbbb)_)ngb)e_)nnKb)K)nn\
          Kbb)b)nn2b)j)nnVb)e_)nib)_)Gb)[)nna)b)b)n`)n=aQ)kb)b)_)[b)_)nnn=)aU4)a)b)`)na=)a4)^)=)_(",
-        &[&[Run(0, 141), Cut(2), Run(153, 164), Cut(3), Run(224, 238), Cut(4), Run(520, 527)], &[Run(120, 152), Stop], &[Run(153, 223), Stop], &[Run(224, 248), Cut(5), Run(506, 519), Stop], &[Run(239, 505), Stop]],
+        &[
+            &[
+                Run(0, 141),
+                Cut(2),
+                Run(153, 164),
+                Cut(3),
+                Run(224, 238),
+                Cut(4),
+                Run(520, 527),
+            ],
+            &[Run(120, 152), Stop],
+            &[Run(153, 223), Stop],
+            &[Run(224, 248), Cut(5), Run(506, 519), Stop],
+            &[Run(239, 505), Stop],
+        ],
     ),
     (
         "H)aA)D)`)`)aA)D)`)`)`)aU)fLT)a)fO)m)a)mb)n=a)f)a)fLT)a)fO)m)a)mc[*l*o=aU)fO)m)a)mb)`)na)\
          m3c*l*o`c,l,oJ)=aW)`)`)mRJb)`)naM)b)`)m)aW)m)aW)`)m)na4a)b*`)n=)aM)b)m)a)m)naW)`)`)mMb)`\
          W)`)na)`)m3)c*l*oJ)a4F)_)^)_)aaB)_)g)S>=a)^)==)aM)bW)`)m)a)m)naM)b)m)nm)aU)fLT)a)fO)m)a)\
          m)(",
-        &[&[Run(0, 141), Cut(2), Run(153, 164), Cut(3), Run(224, 238), Cut(4), Run(266, 266)], &[Run(120, 152), Stop], &[Run(153, 223), Stop], &[Run(224, 248), Cut(5), Run(266, 266)], &[Run(239, 266)]],
+        &[
+            &[
+                Run(0, 141),
+                Cut(2),
+                Run(153, 164),
+                Cut(3),
+                Run(224, 238),
+                Cut(4),
+                Run(266, 266),
+            ],
+            &[Run(120, 152), Stop],
+            &[Run(153, 223), Stop],
+            &[Run(224, 248), Cut(5), Run(266, 266)],
+            &[Run(239, 266)],
+        ],
     ),
     (
         "H)aA)D)`)`)aA)D)`)`)`)aU)fLT)a)fO)m)a)mb)n=a)f)a)fLT)a)fO)m)a)mc[*l*o=aU)fO)m)a)mb)`)na)\
@@ -153,7 +203,21 @@ pub const TEXTS: [Case; 88] = [
          m)=a)f)a)fO)mc)l)o=aU)fRJb)`)na)fOa)`)m3cb*[*nl*o`c*l*oJO)m)a6)m)J*mq*`*m)`)m)a)m)a6)m)J\
          )l)mqq;)m)a)m)a)`)m)=q*m;)m)===a4)b)`)naY)_)e_)e:P)^b)[)n])aQ)g*aQbbb)_)ngb)e_)nnKb)K)nn\
          Kbb)b)nn2b)j)nnVb)e_)nib)_)Gb)[)nna)b)b)n`(",
-        &[&[Run(0, 141), Cut(2), Run(153, 164), Cut(3), Run(224, 238), Cut(4), Run(482, 482)], &[Run(120, 152), Stop], &[Run(153, 223), Stop], &[Run(224, 248), Cut(5), Run(482, 482)], &[Run(239, 482)]],
+        &[
+            &[
+                Run(0, 141),
+                Cut(2),
+                Run(153, 164),
+                Cut(3),
+                Run(224, 238),
+                Cut(4),
+                Run(482, 482),
+            ],
+            &[Run(120, 152), Stop],
+            &[Run(153, 223), Stop],
+            &[Run(224, 248), Cut(5), Run(482, 482)],
+            &[Run(239, 482)],
+        ],
     ),
     (
         "CH)aA)D)`)`)aU)fc*l*oaU)fc*l*oaUM)b)m3J)a)m)nm)aW)`)m)a)`)mLTO)m)a)m)a)`)m)=a46)_)_)J*m)\
@@ -178,21 +242,44 @@ pub const TEXTS: [Case; 88] = [
          )f)aQ)bb)_)e_)f)nKb)k)n`)`)`)naBIbIb)b*nnnS>=a)^)_)e_)gb)bbdpn\\bdpn`bdpn]bdpnnna)^)b)_)\
          _)Zb)_)_)nn=a@)^)k)Tb)i)nK):)b)na)^)=aX)b*n:)b)`)_)_)naaQ+==aQ)b)b)`)2b)h)n`)`)nn=)aW)m)\
          a)`)m)a)m3)Jb)`)na4)a@)m(",
-        &[&[Run(0, 38), Cut(2), Run(287, 287)], &[Run(20, 42), Cut(3), Run(287, 287)], &[Run(40, 63), Cut(4), Run(259, 287)], &[Run(43, 258), Stop]],
+        &[
+            &[Run(0, 38), Cut(2), Run(287, 287)],
+            &[Run(20, 42), Cut(3), Run(287, 287)],
+            &[Run(40, 63), Cut(4), Run(259, 287)],
+            &[Run(43, 258), Stop],
+        ],
     ),
     (
         "CH)aA)D)`)`)`)aD)aM)b)m)nm)aM)bW)m3J)a)m)nm)aU)f)aU4)^)[b)[)na)b)na)b)na)bnaQ)b)b[)nn=)a\
          M)b)`)m)nm)aUU)fO)m)a)mLTO)`)m)a)`)m)a)m)==a4)a)b)`b)b)\\b)[)nn[b)bb*Z*nnnnna)b)`*naQ)G)\
          =)a4)^)aQ*=)aUU)f3)J)a7)f)a)fb*Z*naM)b)m)naU)fRJc*l*oa)f)a)fc,l+oaM)b)m)nm)aUU)fOa)`)mO)\
          mb)`)na)m3)J))(",
-        &[&[Run(0, 27), Cut(2), Run(188, 217), Cut(5), Run(277, 277)], &[Run(18, 44), Cut(3), Run(88, 99), Cut(4), Run(178, 187), Stop], &[Run(28, 87), Stop], &[Run(88, 177), Stop], &[Run(210, 250), Cut(6), Run(277, 277)], &[Run(241, 277)]],
+        &[
+            &[Run(0, 27), Cut(2), Run(188, 217), Cut(5), Run(277, 277)],
+            &[
+                Run(18, 44),
+                Cut(3),
+                Run(88, 99),
+                Cut(4),
+                Run(178, 187),
+                Stop,
+            ],
+            &[Run(28, 87), Stop],
+            &[Run(88, 177), Stop],
+            &[Run(210, 250), Cut(6), Run(277, 277)],
+            &[Run(241, 277)],
+        ],
     ),
     (
         "H)aA)D)`)`)`)aM)bW)m)aW)`)m)na4)b)`)`)na6)J)b*nm)b)`)`)naF)b)`)`)na)^bb)[)nGb)[)nnE)_)aB\
          )bb)[b)b)nnnGb)\\*nnS>=a)b)`)`)n=q+`,l,mBb)[bb)[)n[)nnE)_)S)^)a=q)b*nl)b*nmP)^)b)na)^)aV\
          )jb)b)nna)b)`)`)n;)^)==)a7)f*aW)mRJc*l*oa)mO)m3c*l*oJ)a)mO)m)==a)`)mb)`)`)`)naM)b)m)a)`)\
          m(",
-        &[&[Run(0, 29), Cut(2), Run(200, 264)], &[Run(14, 199), Stop], &[Run(253, 264)]],
+        &[
+            &[Run(0, 29), Cut(2), Run(200, 264)],
+            &[Run(14, 199), Stop],
+            &[Run(253, 264)],
+        ],
     ),
     (
         "H)aA)D)`)`)`)aM)bW)m)aW)`)m)na4)b)`)`)na6)J)b*nm)b)`)`)naF)b)`)`)na)^bb)[)nGb)[)nnE)_)aB\
@@ -202,12 +289,13 @@ pub const TEXTS: [Case; 88] = [
          )e_)nkb)_)_)9b)e_)\\b)e_)nnn:@)^b)e_)Zb)b)g)nnn[b)e_)Zb)b)e_)nnnT)[b)[b)e_)[*nn5*[*:)b)b\
          )n`b)d)e_)G*`)b)npn[bbbdpn\\)n[b)d)e_)l)e_)`*l)pnn`)d)Gb)9)n`)e_)[b)\\b)e_)nnpna)^+=a6)_\
          )_)Jb[(",
-        &[&[Run(0, 29), Cut(2), Run(200, 266), Cut(3), Run(530, 530)], &[Run(14, 199), Stop], &[Run(253, 530)]],
+        &[
+            &[Run(0, 29), Cut(2), Run(200, 266), Cut(3), Run(530, 530)],
+            &[Run(14, 199), Stop],
+            &[Run(253, 530)],
+        ],
     ),
-    (
-        ")(",
-        &[&[Run(0, 1)]],
-    ),
+    (")(", &[&[Run(0, 1)]]),
     (
         "H)aA)D)`)`)`)`)aD)aUUW)`)mO6)m)J)l)m)m)aq=a6m)J)m)m3c*l*oJ)q)m)mb)`)`)na)m3)c*l*oJ)q==aW\
          )`)`)m)a)m)a4X)2bb)_)nfb)j)nn:)_)^Ibb)2)nKbb)_)n2)nna=a@)^b)Z*nGb)9b)G)nnTZ)5*[*:a)^)b,n\
@@ -218,39 +306,42 @@ pub const TEXTS: [Case; 88] = [
         "H)aA)D)`)`)`)`)aD)aUUW)`)mO6)m)J)l)m)m)aq=a6m)J)(",
         &[&[Run(0, 48)]],
     ),
-    (
-        "H)aA)D)`(",
-        &[&[Run(0, 8)]],
-    ),
+    ("H)aA)D)`(", &[&[Run(0, 8)]]),
     (
         "H)aA)D)aM)b)`)m)a)m)na7)f*a)f+aU)f)a)f)a)f)a4)^*aB)ib)Zb)G)nnSBbIb)bb*Z*nnnn2b)b)9)nnS)b\
          b[*n`)Zb)Zb)G)nnn<b)b*nnKbIb)b)nnnS)^)b)na)^)[b)b)bb*Z*nnnn<)bb*Z*nnS;)^)b)naQ===)a7M)bW\
          )`)m)a)m)a)m)na4)a)b)`*na)^)b)na)bb[*n`*n=)a4a)b*`*naaaFaBb)b*nn2b)2b)b*nnnS>=aFB)S)b,`,\
          `*naa<bbI)n2b)bb*Z*nnnn2b)b*nnSa=aX)2):=aBb)b)b)nnnK)S>=aa=a)b)b*n`,`*n==)_(",
-        &[&[Run(0, 21), Cut(2), Run(171, 190), Cut(3), Run(220, 339)], &[Run(8, 170), Stop], &[Run(172, 219), Stop]],
+        &[
+            &[Run(0, 21), Cut(2), Run(171, 190), Cut(3), Run(220, 339)],
+            &[Run(8, 170), Stop],
+            &[Run(172, 219), Stop],
+        ],
     ),
     (
         "H)aA)D)aM)b)`)m)a)m)na7)f*a)f+aU)f)a)f)a)f)a4)^*aB)ib)Zb)G)nnSBbIb)bb*Z*nnnn2b)b)9)nnS)b\
          b[*n`)Zb)Zb)G)nnn<b)b*nnKbIb)b)nnnS)^)b)na)^)[b)b)bb*Z*nnnn<)bb*Z*nnS;)^)b)naQ===)a7M)bW\
          )`)m)a)m)a)m)na4)a)b)`*na)^)b)na)bb[*n`*n=)a4a)b*`*naaaFaBb)b*nn2b)2b)b*nnnS>=aFB)S)b,`,\
          `*naa<bbI)n2b)bb*Z*nnnn2b)b*nnSa=aX)2):=aBb)b)b)nnnK)S>=aa=a)b)b*n`,`*n(",
-        &[&[Run(0, 21), Cut(2), Run(171, 190), Cut(3), Run(220, 335)], &[Run(8, 170), Stop], &[Run(172, 219), Stop]],
+        &[
+            &[Run(0, 21), Cut(2), Run(171, 190), Cut(3), Run(220, 335)],
+            &[Run(8, 170), Stop],
+            &[Run(172, 219), Stop],
+        ],
     ),
-    (
-        "H(",
-        &[&[Run(0, 1)]],
-    ),
+    ("H(", &[&[Run(0, 1)]]),
     (
         "H)aA)D)`)`)`)`)aU)fRJc*l*oaW)m3)c*l*o`c*l*oJ)a)`)mO)`)m3)c*l*o`b)nJ)a6)m)J)l)`)m==aM)b)`\
          )m)a)`)m)a)`)m)na7)f)b,nf,a)f*Ed*`*pa4)^)dpa)b,n=)aM)b)`)m)a)`)m)naW)mc)l)oa)m)a4)b)c*on\
          a6)J*m)b)n;)b)c*oc*o`)b)c*oc*on`)dp`)dp`)b)n`)b)c*oc)b)nonn=a)^)d*`)b)nl)b)npa)b)b)nn=)a\
          4aB)bb[*nnS)c*oc*o^)cb*[*noc)b)_)no;=aa)c*oc*o^)c*oc)b)no=)_(",
-        &[&[Run(0, 104), Cut(2), Run(139, 154), Cut(3), Run(264, 324)], &[Run(83, 138), Stop], &[Run(139, 263), Stop]],
+        &[
+            &[Run(0, 104), Cut(2), Run(139, 154), Cut(3), Run(264, 324)],
+            &[Run(83, 138), Stop],
+            &[Run(139, 263), Stop],
+        ],
     ),
-    (
-        "H)aA)D)`)`)`)`)(",
-        &[&[Run(0, 15)]],
-    ),
+    ("H)aA)D)`)`)`)`)(", &[&[Run(0, 15)]]),
     (
         "H)aA)D)`)`)`)`)aU)fRJc*l*oaW)m3)c*l*o`c*l*oJ)a)`)mO)`)m3)c*l*o`b)nJ)a6)m)J)l)`)m==aM)b)`\
          )m)a)`)m)a)`)m)na7)f)b,nf,a)f*Ed*`*pa4)^)dpa)b,n(",
@@ -261,10 +352,7 @@ pub const TEXTS: [Case; 88] = [
          q==a)mO)mc*l*oa)`)m3c*l*o(",
         &[&[Run(0, 113)]],
     ),
-    (
-        "H)aA)(",
-        &[&[Run(0, 5)]],
-    ),
+    ("H)aA)(", &[&[Run(0, 5)]]),
     (
         "H)aA)D)`)`)aUW)`)`)m)a)m3)J)aUM)bW)`)m)a)`)m)nm)aW)m)a)mb)`)`)na)mb)`)naM)bW)m)a)`)m3J)n\
          m)aU)fLT)a)fO)m)a)m)=a7)f)b,nf,a)f+a4)b)naQdp=)a4@)^)T):6)J)m)^b)d)b)n`b)c)oZ*n9b)c)onpn\
@@ -274,7 +362,21 @@ pub const TEXTS: [Case; 88] = [
          )n==)aM)b)`)m)a)m)a)`)m)naUW)`)m3c)l)oJO)m)=a4)^)aB)S)^bbI)n2b)b*nnnKb)b)b)nnn=aXbb)jb)c\
          )onn2b)j)nnKb)bb)Z)nGb)c)o_)nnn:)c)o_)^)c)h)o_)9b)c)o_)Zbb)[bb[*nnn[b)c)o_)nnna)^*a)==)a\
          W)`)m)a46)J)mQa)^b)c)ongb)c)2)o[)(",
-        &[&[Run(0, 48), Cut(2), Run(298, 300), Cut(4), Run(445, 464), Cut(5), Run(615, 648)], &[Run(30, 90), Cut(3), Run(136, 297), Stop], &[Run(72, 135), Stop], &[Run(298, 444), Stop], &[Run(445, 614), Stop]],
+        &[
+            &[
+                Run(0, 48),
+                Cut(2),
+                Run(298, 300),
+                Cut(4),
+                Run(445, 464),
+                Cut(5),
+                Run(615, 648),
+            ],
+            &[Run(30, 90), Cut(3), Run(136, 297), Stop],
+            &[Run(72, 135), Stop],
+            &[Run(298, 444), Stop],
+            &[Run(445, 614), Stop],
+        ],
     ),
     (
         "CH)aA)D)aD)aU)fLT)aU)fLT)a7)f,a)f*a)f*a7M)bW)m)a)m)aW)m)nm)aW)mMb)na4B)hb)b)nnS)^)2bb)b)\
@@ -299,10 +401,7 @@ pub const TEXTS: [Case; 88] = [
         "CH)aU)fc*l*oaU)fc*l*oa7)f)b)na)f)b)na)f*Ed*`*paW)`)`)m)aW)m)(",
         &[&[Run(0, 60)]],
     ),
-    (
-        "CH)aU(",
-        &[&[Run(0, 5)]],
-    ),
+    ("CH)aU(", &[&[Run(0, 5)]]),
     (
         "H)aA)D)`)`)`)`)aW)mc)l)oa)mc[*l*oaU)f)a)f)a)fLT)a)fO)m)a)mO)m)==a7)f)b)naW)m3)c*lb*Z*no`\
          c[*l*oJ)a)m)a)mLTc[*l[*oa4)^)a)^)gbb)c)b)cb*Z*nocb[*nonoc*onfb)b)c*ocb*[*nonnna6)J)l)m)^\
@@ -317,10 +416,7 @@ pub const TEXTS: [Case; 88] = [
          )_)_)^)Zbb)e[bb)e[)nZbb[*nnnnZb)eG)nn=a6)J)m)(",
         &[&[Run(0, 309)]],
     ),
-    (
-        "H)aA)D)`)`)`)`)aW)mc)l)oa)mc[*l*oaU)(",
-        &[&[Run(0, 36)]],
-    ),
+    ("H)aA)D)`)`)`)`)aW)mc)l)oa)mc[*l*oaU)(", &[&[Run(0, 36)]]),
     (
         "H)aA)D)`)`)aD)aD)aW)`)m)aU)f)a)fRJb)`)`)`)naM)bnm)_)a7)f*a)f+a)f*a4a)b)_)`*naF)_)^)_)aaB\
          bb)b*nn2bb)_)ngb)_)nnn2bb)_)c*onkbb)_)c*o[*nG*nnS>=a)=aQ)=)a4Xbb)_)c*o9b)_)c*onnE)n2b)b)\
@@ -348,7 +444,11 @@ pub const TEXTS: [Case; 88] = [
          c)oc*o`)cb)c)b)c)oc*onoZb)_)cb[*nocb[*no[*nnE)c)c)c*ooZb)b)nnoc)c)b)c)oc*ono9b)_)Zb)c*on\
          noocb)c*oZb)c)c*o\\b)c*ononnZb)c)c*oZb)c*onoZ*no`b)_)d)_)[b)_)npn\\b)_)d)c*o[b)c*onl)b)`\
          )n`)c*oGb)c*onpnna)_)b)gb)(",
-        &[&[Run(0, 100), Cut(2), Run(169, 247), Cut(3), Run(640, 640)], &[Run(86, 168), Stop], &[Run(228, 640)]],
+        &[
+            &[Run(0, 100), Cut(2), Run(169, 247), Cut(3), Run(640, 640)],
+            &[Run(86, 168), Stop],
+            &[Run(228, 640)],
+        ],
     ),
     (
         "H)aW)mO)`)m3c*l*oJ)a)mc)l)oa)`)mRJc*l*o=aW)mO6)m)J)l)m6)m)J)l)m==a)mLT)=a)m)a)m)aW)`)`)m\
@@ -358,7 +458,10 @@ pub const TEXTS: [Case; 88] = [
          b)c)onk)nS@)^b)Zb)b)`)nnn\\)T)_)c)oZ*:Q=a)c)o^)c)_)oa)bn;)^[)==a)b)`)[b)b)`)nnnaB)fb)\\b\
          b)[)n\\)nnSF)bnaBb)fb)d)`*l)`b*Z*npnn2b)f)nS>=aP)b)`)na)^)V)gbZ)na)=a@)^Z)Tb[*n5*[*:)=a)\
          ^b)Zb)\\b)[)nnnGb)[b)_)cb*[*no[*nn<)S)a)==)_(",
-        &[&[Run(0, 182), Cut(2), Run(264, 567)], &[Run(180, 263), Stop]],
+        &[
+            &[Run(0, 182), Cut(2), Run(264, 567)],
+            &[Run(180, 263), Stop],
+        ],
     ),
     (
         "H)aW)mO)`)m3c*l*oJ)a)mc)l)oa)`)mRJc*l*o=aW)mO6)m)J)l)m6)m)J)l)m==a)mLT)=a)m)a)m)aW)`)`)m\
@@ -373,7 +476,10 @@ pub const TEXTS: [Case; 88] = [
          aW)mRJb)`)`)`)na4Xb)_)f)n2b)b)_)c*onn:PFQa)_)^)aB)_)g)S>=aQ=a)V)fb)Gb)[*nnaBbIb)_)g)nn2b\
          b)c)onk)nS@)^b)Zb)b)`)nnn\\)T)_)c)oZ*:Q=a)c)o^)c)_)oa)bn;)^[)==a)b)`)[b)b)`)nnnaB)fb)\\b\
          b)[)n\\)nnS)(",
-        &[&[Run(0, 182), Cut(2), Run(264, 448)], &[Run(180, 263), Stop]],
+        &[
+            &[Run(0, 182), Cut(2), Run(264, 448)],
+            &[Run(180, 263), Stop],
+        ],
     ),
     (
         "H)aA)D)`)`)`)aD)aD)aUW)m)_)a)m3c[*l[*o`)_)JMb3J)_)`)_)`W)_)na7M)b)`)m)_)naU7)f)b)_)na4)b\
@@ -392,7 +498,11 @@ pub const TEXTS: [Case; 88] = [
          g)oc)_)_)Z*o_)nkb)e_)e_)Z*nSa)_)^)b)e_)e_)n<bb)_)ni)nK)Sa)_)^);=;)e_)e_)^)b)n=aQ)e_)=)aW\
          )m3)c*l*oJb)`)na)`)`)m3)c[*l*oJb)`)`)`)`)naM)bnaW)m)aU)f3)c,l+o`c*l*oJ)a4)_)^)a)a)b)n=)a\
          W)mb)na)m)a)`)m3)J)aW)m3c)l)oJMa)`)mb)`)`)`)`)na)m3c*lb*Z*noJ)a4=)_(",
-        &[&[Run(0, 279), Cut(2), Run(439, 487), Cut(3), Run(528, 595)], &[Run(269, 438), Stop], &[Run(483, 527), Stop]],
+        &[
+            &[Run(0, 279), Cut(2), Run(439, 487), Cut(3), Run(528, 595)],
+            &[Run(269, 438), Stop],
+            &[Run(483, 527), Stop],
+        ],
     ),
     (
         "H)aA)D)aU)f)a)fLT)a)fO)m)a)m)=a)fRJb)`)`)`)`)naU)f3c[*l[*oJ)c,l,oaW)mLTO)`)m)=a)`)mLT3)`\
@@ -410,12 +520,14 @@ pub const TEXTS: [Case; 88] = [
         "H)aA)D)`)`)`)`)`)aD)aU)f)c*l*oa)f3c,l+oJO)mb)`)`)na)`)mO6m)J)`)m)`)m)_)a)m)a)m);)m)a)`)m\
          )_)=a)m)_)==a)fO)`)m3)c[*l[*oJb)`)`)`)n=aM)b)m)nm)_)aM)b)m)_)a)m)naM)bnm)_)a4)b)_)e_)`b)\
          _)nna)bnaQ)=)a7)f,a)f*9*f*a)f*a4)c)\\bb)[b)_)e_)c)oG)nnZb)Z*n(",
-        &[&[Run(0, 140), Cut(2), Run(236, 236)], &[Run(129, 154), Cut(3), Run(236, 236)], &[Run(141, 163), Cut(4), Run(190, 236)], &[Run(155, 189), Stop]],
+        &[
+            &[Run(0, 140), Cut(2), Run(236, 236)],
+            &[Run(129, 154), Cut(3), Run(236, 236)],
+            &[Run(141, 163), Cut(4), Run(190, 236)],
+            &[Run(155, 189), Stop],
+        ],
     ),
-    (
-        "CH)aA)D)`(",
-        &[&[Run(0, 9)]],
-    ),
+    ("CH)aA)D)`(", &[&[Run(0, 9)]]),
     (
         "CH)aA)D)`)`)`)aU)fc*l*oa7)f,aW)mMb)`3J)`W)naUW)`)`)mLTO)m)=aM)b)m)a)`)m3J)naW)m)a)m3)c*l\
          *o`c*l*oJO=aW)mRJb)`)`)na)`)`)mRJ)a4)b)na)bb)Zbb)[b)Z*nn[b)[)nnnZb)Zb)\\*nn`)[bb)[bb)Z*n\
@@ -423,25 +535,52 @@ pub const TEXTS: [Case; 88] = [
          no^)b)c*onaQ)e_)\\b)e_)n=)aM)b)`)m)naM)b)`)m)aW)m3J)nm)aM)a7)f,a)f,aW)`)m)a)`)`)mRJb)`)`\
          )`)na4Bb)e_)nkb)b)e_)[b)e_)n`)b)c*on`)`,nnS)b)e_)naa)e_)^)e_)[b)e_)[b)b)e_)`*`,`)nnn;Y)e\
          :)^)==a)b)e_)na)b)e_)na6)e_)J*l*m)^)a;)b)c*ona)b)`)b)nn==)a7)f*a)f*a)f)b)na4)(",
-        &[&[Run(0, 75), Cut(2), Run(224, 245), Cut(3), Run(287, 296), Cut(4), Run(513, 513)], &[Run(60, 223), Stop], &[Run(224, 286), Stop], &[Run(287, 315), Cut(5), Run(513, 513)], &[Run(297, 318), Cut(6), Run(495, 513)], &[Run(316, 494), Stop]],
+        &[
+            &[
+                Run(0, 75),
+                Cut(2),
+                Run(224, 245),
+                Cut(3),
+                Run(287, 296),
+                Cut(4),
+                Run(513, 513),
+            ],
+            &[Run(60, 223), Stop],
+            &[Run(224, 286), Stop],
+            &[Run(287, 315), Cut(5), Run(513, 513)],
+            &[Run(297, 318), Cut(6), Run(495, 513)],
+            &[Run(316, 494), Stop],
+        ],
     ),
     (
         "H)aA)D)aA)D)`)`)`)aW)mb)`)`)naU)fLT)a)fO)m)a)m3c*l*oJ)=a7)f*a)f*9*f*a)f*aM)b)m)a)m3J)aW)\
          m)naM)bW)`)m)aW)m)a)m)naU)fLT)a)fO)m)a)m)=a)fLTO)m3c*l)oJ)a)mMbnm)a)mO)`)m)==a)fLT)a)fO)\
          m)a)mc)l)o=a4Fa)bb)]b)db*Z*nl)`*l*pnn\\)`,`)naB)2b)hb)b)nnnS>=aa)^)b)n=a)b)`)`)`)na=)a4)\
          aa)^)=)aU)fLT)a)fO)m)a)mc*l*o=a)f)a)f)a4)^)aaB)g)S)==)_(",
-        &[&[Run(0, 91), Cut(2), Run(271, 318)], &[Run(73, 111), Cut(3), Run(261, 270), Stop], &[Run(92, 260), Stop]],
+        &[
+            &[Run(0, 91), Cut(2), Run(271, 318)],
+            &[Run(73, 111), Cut(3), Run(261, 270), Stop],
+            &[Run(92, 260), Stop],
+        ],
     ),
     (
         "H)aA)D)aA)D)`)`)`)aW)mb)`)`)naU)fLT)a)fO)m)a)m3c*l*oJ)=a7)f*a)f*9*f*a)f*aM)b)m)a)m3J)aW)\
          m)naM)bW)`)m)aW)m)a)m)naU)fLT)a)fO)m)a)m)=a)fLTO)m3c*l)oJ)a)mMbnm)a)mO)`)m)==a)fLT)a)fO)\
          m)a)mc)(",
-        &[&[Run(0, 91), Cut(2), Run(183, 183)], &[Run(73, 111), Cut(3), Run(183, 183)], &[Run(92, 183)]],
+        &[
+            &[Run(0, 91), Cut(2), Run(183, 183)],
+            &[Run(73, 111), Cut(3), Run(183, 183)],
+            &[Run(92, 183)],
+        ],
     ),
     (
         "H)aA)D)aA)D)`)`)`)aW)mb)`)`)naU)fLT)a)fO)m)a)m3c*l*oJ)=a7)f*a)f*9*f*a)f*aM)b)m)a)m3J)aW)\
          m)naM)bW)`)m)aW)m)a)m)naU)fLT)a)fO)m)a)m)=a)fLT)(",
-        &[&[Run(0, 91), Cut(2), Run(136, 136)], &[Run(73, 111), Cut(3), Run(136, 136)], &[Run(92, 136)]],
+        &[
+            &[Run(0, 91), Cut(2), Run(136, 136)],
+            &[Run(73, 111), Cut(3), Run(136, 136)],
+            &[Run(92, 136)],
+        ],
     ),
     (
         "H)aD)aD)aA)D)`)`)`)aW)`)mb)`)`)`)na)`)m3)c,l,oJ)_)aU)fRJc*l*oaW)mLTc[*l[*oa)`)m)a)`)m)aW\
@@ -471,7 +610,11 @@ pub const TEXTS: [Case; 88] = [
         "H)aA)D)`)aA)D)`)`)`)a7M)b)m)a)m)a)m3J)nm)aU)f)a4)^)b)naQ)b)cb)[b)b)nnnGb)G*nona)^)b)`)na\
          Q)b)c*on=)aM)b)m)a)`)m)nm)aW)`)`)mLTRJc*l*oa4)^)a)^b)]b)d*l*pnn\\bdpna)b)naQ)b)b)n`)dp`d\
          pn=)aW)mO6m)J)m6)m)J)`)ma)mb)`)`)na=a)`)m)q)l)m=a)m)=a7)f,a)f+a)(",
-        &[&[Run(0, 41), Cut(2), Run(99, 114), Cut(3), Run(180, 239)], &[Run(22, 98), Stop], &[Run(99, 179), Stop]],
+        &[
+            &[Run(0, 41), Cut(2), Run(99, 114), Cut(3), Run(180, 239)],
+            &[Run(22, 98), Stop],
+            &[Run(99, 179), Stop],
+        ],
     ),
     (
         "H)aA)D)`)aD)a7)f*a)fd*`*`*paM)b)m3J)aW)`)m)nm)a7)f*a)fb[*na)fb[*na4Bb)_)_)n2bb)[*nE)_)_)\
@@ -491,12 +634,19 @@ pub const TEXTS: [Case; 88] = [
          )`)nJ)a)m3b)nJ)aM)b)`)m)a)m)_)na46)_)J,l,mB)b)_)nS)b)_)_)n<)b)b)`)_)nnS=a)b)[b)b)`)_)_)n\
          n`)9*`)nq,l,`)b*nm)^)a6)J)m)c)o^)b)n=;B)S)^)_)Gbb)[b)_)Z)nn[b)_)9*nna)b)`b)bnnna)^)b)_)n\
          =aB)g*S)^)a)^)_)c)o[b)b)nn==a)b)_)`b)bnnn=)a)(",
-        &[&[Run(0, 119), Cut(2), Run(308, 309)], &[Run(104, 307), Stop]],
+        &[
+            &[Run(0, 119), Cut(2), Run(308, 309)],
+            &[Run(104, 307), Stop],
+        ],
     ),
     (
         "H)aM)b)m)na4)b)\\b)Gbb)[)nG)nnna)^)9b)\\b)G*nnaQa)^)b)ib)[*nn=)aU)fLT)a)fO)m)a)m3b)`)`)`\
          )n`)c*l*oJ)=a)f3c)l)oJ)a)f3c*l*oJ)aM)aW)`)mO6m)J)`)m;6m)J)l)m)m3c)l)o`)c*l*oJ)(",
-        &[&[Run(0, 10), Cut(2), Run(62, 123), Cut(3), Run(164, 164)], &[Run(3, 61), Stop], &[Run(121, 164)]],
+        &[
+            &[Run(0, 10), Cut(2), Run(62, 123), Cut(3), Run(164, 164)],
+            &[Run(3, 61), Stop],
+            &[Run(121, 164)],
+        ],
     ),
     (
         "H)aM)b)m)na4)b)\\b)Gbb)[)nG)nnna)^)9b)\\b)G*nnaQa)^)b)ib)[*nn=)aU)fLT)a)fO)m)a)m3b)`)`)`\
@@ -506,7 +656,21 @@ pub const TEXTS: [Case; 88] = [
          nm)aUM)bW)m3J)a)`)m)a)`)m)nm)aU4)bna6)J)b*nm@)^)b)nT)b)n5[*:)^)b)na)b)`)_)c)ocb*Z*no[*n=\
          aq,m@)^)b)nT):)c*o^)c*oa)^b)d)b)n`*pn[)=q,m)b*naBIb)jb)d*`*`*pnnS)^)b)na)^bb)d*pn\\b)d*`\
          *`b*Z*npnn\\bdpn=q,`,mB)kb)Gb)[)nnS<(",
-        &[&[Run(0, 10), Cut(2), Run(62, 123), Cut(3), Run(335, 353), Cut(4), Run(560, 560)], &[Run(3, 61), Stop], &[Run(121, 334), Stop], &[Run(336, 379), Cut(5), Run(560, 560)], &[Run(355, 560)]],
+        &[
+            &[
+                Run(0, 10),
+                Cut(2),
+                Run(62, 123),
+                Cut(3),
+                Run(335, 353),
+                Cut(4),
+                Run(560, 560),
+            ],
+            &[Run(3, 61), Stop],
+            &[Run(121, 334), Stop],
+            &[Run(336, 379), Cut(5), Run(560, 560)],
+            &[Run(355, 560)],
+        ],
     ),
     (
         "H)aU)fMb)nm)aM)b)m)nm)a4Q)i*=)aW)m)a4)^)=)_(",
@@ -514,28 +678,24 @@ pub const TEXTS: [Case; 88] = [
     ),
     (
         "H)aM)a4B)S)=aM)a=)a=)_(",
-        &[&[Run(0, 5), Cut(2), Run(22, 22)], &[Run(3, 15), Cut(3), Run(19, 21), Stop], &[Run(13, 18), Stop]],
+        &[
+            &[Run(0, 5), Cut(2), Run(22, 22)],
+            &[Run(3, 15), Cut(3), Run(19, 21), Stop],
+            &[Run(13, 18), Stop],
+        ],
     ),
-    (
-        "H)aM(",
-        &[&[Run(0, 4)]],
-    ),
-    (
-        "H)aM)(",
-        &[&[Run(0, 5)], &[Run(3, 5)]],
-    ),
-    (
-        "H)aM)b)mOa)(",
-        &[&[Run(0, 11)], &[Run(3, 11)]],
-    ),
+    ("H)aM(", &[&[Run(0, 4)]]),
+    ("H)aM)(", &[&[Run(0, 5)], &[Run(3, 5)]]),
+    ("H)aM)b)mOa)(", &[&[Run(0, 11)], &[Run(3, 11)]]),
     (
         "H)aM)aM)a=)a=M)a=)_(",
-        &[&[Run(0, 5), Cut(2), Run(15, 19)], &[Run(3, 8), Cut(3), Run(12, 14), Stop], &[Run(6, 11), Stop]],
+        &[
+            &[Run(0, 5), Cut(2), Run(15, 19)],
+            &[Run(3, 8), Cut(3), Run(12, 14), Stop],
+            &[Run(6, 11), Stop],
+        ],
     ),
-    (
-        "H)aM)a=(",
-        &[&[Run(0, 5), Cut(2), Run(7, 7)], &[Run(3, 7)]],
-    ),
+    ("H)aM)a=(", &[&[Run(0, 5), Cut(2), Run(7, 7)], &[Run(3, 7)]]),
     (
         "H)aM)a=)(",
         &[&[Run(0, 5), Cut(2), Run(8, 8)], &[Run(3, 8)]],
@@ -552,10 +712,7 @@ pub const TEXTS: [Case; 88] = [
         "H)aM)bM)ana=)a=)_(",
         &[&[Run(0, 10), Cut(2), Run(14, 17)], &[Run(3, 13), Stop]],
     ),
-    (
-        "(",
-        &[&[Run(0, 0)]],
-    ),
+    ("(", &[&[Run(0, 0)]]),
     (
         "MM)a=)a=(",
         &[&[Run(0, 3), Cut(2), Run(7, 8)], &[Run(1, 6), Stop]],

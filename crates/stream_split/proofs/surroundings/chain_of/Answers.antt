@@ -8,10 +8,10 @@ pub loop-preserved : goal.loop-preserved
 loop-preserved c =
     let streams = map stream_view c.args.streams.now in
     let inner : c.outer_of-inner.result ≡ climb (c.loop.counter + 1) streams c.args.stream =
-        c.outer_of-inner.ensures ∙ ap (outer_of streams) c.loop.invariant.inner ∙ sym (climb_on c.loop.counter streams c.args.stream) in
+    c.outer_of-inner.ensures ∙ ap (outer_of streams) c.loop.invariant.inner ∙ sym (climb_on c.loop.counter streams c.args.stream) in
     record {
       chain =
-        c.in_ok-push-2.ensures.items ∙ ap (λ z. z ++ (c.outer_of-inner.result ∷ [])) c.loop.invariant.chain
-        ∙ ap (λ z. chain_from c.loop.counter streams c.args.stream ++ (z ∷ [])) inner ∙ sym (chain_on c.loop.counter streams c.args.stream);
+          c.in_ok-push-2.ensures.items ∙ ap (λ z. z ++ (c.outer_of-inner.result ∷ [])) c.loop.invariant.chain
+          ∙ ap (λ z. chain_from c.loop.counter streams c.args.stream ++ (z ∷ [])) inner ∙ sym (chain_on c.loop.counter streams c.args.stream);
       inner = inner;
     }
