@@ -16,8 +16,6 @@ mod streams;
 mod surroundings;
 #[cfg(test)]
 mod tests;
-#[cfg(test)]
-mod vectors;
 
 pub use extents::sizes;
 pub use laws::streams_agree_with_the_text;

