@@ -5,3 +5,4 @@ pub mod Opaque
 pub mod Walks
 pub mod Compatibles
 pub mod Binding
+pub mod Procedures

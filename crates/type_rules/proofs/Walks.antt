@@ -1,18 +1,20 @@
 -- Rows that are read one after another.
 use Rattle.std.proofs.Common.{◌≡◌, ◌∙◌, ◌⊎◌, inl, inr, ℕ, zero, suc, ◌+◌, ◌-◌, ◌<◌, ◌≤◌, Bool, true, false, List, [], ◌∷◌, Option, Some, None, length, take, drop, refl, sym, ap, subst, arith, cond, get_or}
-use Rattle.std.specs.Prelude.{find, filter_map}
+use Rattle.std.specs.Prelude.{find, filter_map, option_map}
+use Rattle.std.specs.List.{cons_option}
 use Rattle.std.proofs.lemmas.Bool.{true≢false}
 use Rattle.std.proofs.lemmas.List.{drop_more, drop_all}
 use Rattle.m2_base.specs.Finished.{IsTold}
 use Rattle.m2_base.specs.Rows.{row_of, at_place}
 use Rattle.m2_base.specs.States.{Frame}
 use Rattle.m2_base.specs.Statics.Contexts.{row_at}
-use Rattle.m2_base.specs.Statics.TypeParts.{is_field, rows_between}
+use Rattle.m2_base.specs.Statics.TypeParts.{Parameter, is_field, parameter_of, rows_between}
 use Rattle.m2_base.specs.Tables.{rows_at}
 use Rattle.m2_base.specs.declared.rows.Place.{Place}
 use Rattle.m2_base.specs.declared.rows.Row.{Row}
 use Rattle.m2_base.specs.declared.rows.RowMeaning.TheVariants.{Broken}
 use Rattle.m2_base.specs.declared.sites.Around.{Around}
+use Rattle.type_rules.specs.Forms.{parameters_from}
 use Rattle.type_rules.specs.Scenes.{scene_of, rows_of}
 use Rattle.std.proofs.Math.ListN.{get_or-eq_default}
 
@@ -85,3 +87,42 @@ module _ (f : Frame) (a : Around) (of : Place) (first name : ℕ) where
       let same = read told in
       find_skip (is_field of.ordinal name) (rows_at (rows_of f) of.scope) (row_of 0 0 Broken) i of.ordinal below (ap (is_field of.ordinal name) (sym same) ∙ refused)
       ∙ left told
+
+-- ** The parameters of a procedure type
+
+-- a row that says nothing is passed over
+filter_skip : {A B : Type 0} (f : A → Option B) (xs : List A) (d : A) (i upto : ℕ) → i < upto → f (get_or xs i d) ≡ None → filter_map f (between xs i upto) ≡ filter_map f (between xs (i + 1) upto)
+filter_skip {A} {B} f xs d i upto below none =
+    elim (within_or_past i (length xs)) as (λ _. filter_map f (between xs i upto) ≡ filter_map f (between xs (i + 1) upto)) [
+      | inl within ↦ ap (filter_map f) (between_step xs d i upto within below) ∙ ap (λ o. cons_option o (filter_map f (between xs (i + 1) upto))) none
+      | inr past ↦ ap (filter_map f) (between_past xs i upto past) ∙ sym (ap (filter_map f) (between_past xs (i + 1) upto (past_next xs i past)))
+    ]
+
+-- a row that says something comes first; the default says nothing
+filter_hit : {A B : Type 0} (f : A → Option B) (xs : List A) (d : A) (i upto : ℕ) (b : B) → f d ≡ None → i < upto → f (get_or xs i d) ≡ Some b → filter_map f (between xs i upto) ≡ b ∷ filter_map f (between xs (i + 1) upto)
+filter_hit {A} {B} f xs d i upto b nothing below some =
+    elim (within_or_past i (length xs)) as (λ _. filter_map f (between xs i upto) ≡ b ∷ filter_map f (between xs (i + 1) upto)) [
+      | inl within ↦ ap (filter_map f) (between_step xs d i upto within below) ∙ ap (λ o. cons_option o (filter_map f (between xs (i + 1) upto))) some
+      | inr past ↦ absurd (let bad : Some b ≡ None = sym some ∙ ap f (get_or-eq_default xs d past) ∙ nothing in cc)
+    ]
+
+-- a parameter by what the code reads of it
+abbrev pub as_parameter : Place × Bool → Parameter
+as_parameter p = record { typ = p.0; by_ref = p.1 }
+
+module _ (f : Frame) (a : Around) (of : Place) (start : ℕ) where
+  pub parameter_found : (i : ℕ) (row : Row) (o : Option (Place × Bool)) (typ : Place) (by_ref : Bool) → IsReadAt f of i row → i < of.ordinal → o ≡ Some (typ, by_ref)
+      → option_map as_parameter o ≡ parameter_of of.ordinal row → (IsTold f.setting.texts → parameters_from (scene_of f a) of start ≡ parameters_from (scene_of f a) of i)
+      → IsTold f.setting.texts → parameters_from (scene_of f a) of start ≡ record { typ = typ; by_ref = by_ref } ∷ parameters_from (scene_of f a) of (i + 1)
+  parameter_found i row o typ by_ref read below is said left told =
+      left told
+      ∙ filter_hit (parameter_of of.ordinal) (rows_at (rows_of f) of.scope) (row_of 0 0 Broken) i of.ordinal (record { typ = typ; by_ref = by_ref }) refl below
+      (ap (parameter_of of.ordinal) (sym (read told)) ∙ sym said ∙ ap (option_map as_parameter) is)
+
+  pub parameter_passed : (i : ℕ) (row : Row) (o : Option (Place × Bool)) → IsReadAt f of i row → i < of.ordinal → o ≡ None
+      → option_map as_parameter o ≡ parameter_of of.ordinal row → (IsTold f.setting.texts → parameters_from (scene_of f a) of start ≡ parameters_from (scene_of f a) of i)
+      → IsTold f.setting.texts → parameters_from (scene_of f a) of start ≡ parameters_from (scene_of f a) of (i + 1)
+  parameter_passed i row o read below is said left told =
+      left told
+      ∙ filter_skip (parameter_of of.ordinal) (rows_at (rows_of f) of.scope) (row_of 0 0 Broken) i of.ordinal below
+      (ap (parameter_of of.ordinal) (sym (read told)) ∙ sym said ∙ ap (option_map as_parameter) is)

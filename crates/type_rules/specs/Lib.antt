@@ -1,3 +1,5 @@
 pub mod Asks
+pub mod Assigning
+pub mod Forms
 pub mod Scenes
 pub mod Sites

@@ -7,6 +7,7 @@ use Rattle.m2_base.specs.Standard.{standard_rows}
 use Rattle.m2_base.specs.Rows.{Fits, HasSmallNumbers, row_meaning}
 use Rattle.m2_base.specs.States.{Frame}
 use Rattle.m2_base.specs.Statics.Contexts.{Block, Scene, row_at}
+use Rattle.m2_base.specs.Statics.Types.{stands_for, kind_of}
 use Rattle.m2_base.specs.Tables.{rows_at}
 use Rattle.m2_base.specs.declared.operands.Operand.{Operand}
 use Rattle.m2_base.specs.declared.operands.Operand.TheVariants.{Constant, Computed, Variable, NamedType, Procedure}
@@ -77,3 +78,12 @@ IsOperandThere f (Variable t) = IsThere f t
 IsOperandThere f (NamedType t) = IsThere f t
 IsOperandThere f (Procedure n t k s) = IsThere f t
 IsOperandThere f other = Unit {0}
+
+-- what a type stands for, and what its row says
+pub record IsStood (scene : Scene) (t : Place) (stood : Place × RowMeaning) : Type 0 where
+  pub place : stood.0 ≡ stands_for scene t
+  pub meaning : stood.1 ≡ kind_of scene t
+
+pub record IsStoodHere (f : Frame) (stood : Place × RowMeaning) : Type 0 where
+  pub there : IsThere f stood.0
+  pub said : IsSaid f stood.0 stood.1

@@ -16,9 +16,11 @@ macro_rules! known {
     };
 }
 
+mod assigning;
 mod compatibility;
 mod finding;
 mod folding;
+mod forms;
 mod looking;
 mod members;
 mod operands;
@@ -27,8 +29,11 @@ mod rows;
 mod sameness;
 mod sizes;
 mod standing;
+#[cfg(test)]
+mod tests;
 mod uses;
 
+pub use assigning::assignable;
 pub use compatibility::compatible;
 pub use folding::fold;
 pub use members::{field_of, index_of};

@@ -1,6 +1,9 @@
 //! The base and the range of a type.
-ghost use Rattle.std.specs.Prelude.{◌≡◌, option_map};
+ghost use Rattle.std.specs.Prelude.{◌≡◌, ℕ, option_map};
+ghost use Rattle.std.specs.Option.{IfSome};
 ghost use Rattle.m2_base.specs.Finished.{IsTold};
+ghost use Rattle.m2_base.specs.Rows.{Fits, IsValue};
+ghost use Rattle.m2_base.specs.declared.rows.Place.{Place as Spot};
 ghost use Rattle.m2_base.specs.States.{Waits, texts_of};
 ghost use Rattle.m2_base.specs.Statics.Ranges.{range};
 ghost use Rattle.m2_base.specs.Statics.Types.{base_of as spec_base, range_by as spec_by, range_of as spec_range};
@@ -30,7 +33,8 @@ pub fn base_of<S: Scopes>(scopes: &mut S, around: &Around, of: Place) -> Ask<Pla
 
 /// The least and the greatest value of an ordinal type, by what its row says.
 fn range_by(meaning: RowMeaning) -> Option<(i64, i64)>
-    ensures { option_map (λ ends. range ends.0 ends.1) result ≡ spec_by meaning }
+    ensures ends { option_map (λ ends. range ends.0 ends.1) result ≡ spec_by meaning }
+    ensures values { (names : ℕ) (p : Spot) → Fits names p meaning → IfSome result (λ ends. IsValue ends.0 × IsValue ends.1) }
 {
     match meaning {
         RowMeaning::Integer => Some((-2_147_483_648, 2_147_483_647)),
@@ -51,6 +55,7 @@ pub fn range_of<S: Scopes>(scopes: &mut S, around: &Around, of: Place) -> Ask<Op
     ensures waits { WhereWaiting result (λ head. Waits (S.state scopes.old) (S.state scopes.new) head) }
     ensures told { IsTold (texts_of (S.state scopes.old)) →
         WhereKnown result (λ ends. option_map (λ ends. range ends.0 ends.1) ends ≡ spec_range (scene_of (S.state scopes.old).frame around.now) of) }
+    ensures values { WhereKnown result (λ ends. IfSome ends (λ ends. IsValue ends.0 × IsValue ends.1)) }
 {
     let (_, meaning) = known!(stand(scopes, around, of));
     Ask::Known(range_by(meaning))

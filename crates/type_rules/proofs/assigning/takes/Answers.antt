@@ -1,0 +1,25 @@
+use Rattle.std.proofs.Common.{sym, ap, refl}
+use Rattle.m2_base.specs.Statics.Assignable.{takes as spec_takes, takes_procedure as spec_takes_procedure}
+use Rattle.type_rules.specs.Assigning.{takes_closed as spec_takes_closed}
+use Rattle.type_rules.specs.Scenes.{scene_of}
+use Rattle.type_rules.proofs.Compatibles.{told_as}
+use Rattle.type_rules.proofs.Procedures.{takes_default}
+use Rattle.type_rules.proofs.assigning.takes.Goals as goal
+
+pub returns-in-Procedure-clause-told : goal.returns-in-Procedure-clause-told
+returns-in-Procedure-clause-told g c =
+    let f = (g.S.Scopes.state c.args.scopes.now).frame in
+    told_as c.takes_procedure.result f f (λ h. spec_takes_procedure (scene_of h c.args.around.now) c.args.to c.in-Procedure.of)
+    (spec_takes (scene_of f c.args.around.now) c.args.to c.args.operand.now) refl c.takes_procedure.ensures.told
+    (λ told. ap (spec_takes (scene_of f c.args.around.now) c.args.to) (sym c.in-Procedure.is))
+
+pub returns-in_default : goal.returns-in_default
+returns-in_default g c =
+    let f = (g.S.Scopes.state c.args.scopes.now).frame in
+    record {
+      reads = c.takes_closed.ensures.reads;
+      waits = c.takes_closed.ensures.waits;
+      told = told_as c.takes_closed.result f f (λ h. spec_takes_closed (scene_of h c.args.around.now) c.args.to c.args.operand.now)
+          (spec_takes (scene_of f c.args.around.now) c.args.to c.args.operand.now) refl c.takes_closed.ensures.told
+          (λ told. takes_default (scene_of f c.args.around.now) c.args.to c.args.operand.now c.in_default.not-Procedure c.in_default.not-StringConstant);
+    }

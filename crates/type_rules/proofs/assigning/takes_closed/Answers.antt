@@ -1,0 +1,15 @@
+use Rattle.std.proofs.Common.{◌∙◌, sym, ap}
+use Rattle.m2_base.specs.Statics.Assignable.{is_open_array as spec_open_array}
+use Rattle.type_rules.specs.Assigning.{takes_closed as spec_takes_closed, takes_value as spec_takes_value}
+use Rattle.type_rules.specs.Scenes.{scene_of}
+use Rattle.type_rules.proofs.Compatibles.{told_as}
+use Rattle.type_rules.proofs.Procedures.{takes_if_closed}
+use Rattle.type_rules.proofs.assigning.takes_closed.Goals as goal
+
+pub returns-clause-told : goal.returns-clause-told
+returns-clause-told g c =
+    let f = (g.S.Scopes.state c.args.scopes.now).frame in
+    let scene = scene_of f c.args.around.now in
+    told_as c.takes_value.result f (g.S.Scopes.state c.is_open_array.new.scopes).frame (λ h. spec_takes_value (scene_of h c.args.around.now) c.args.to c.args.operand.now)
+    (spec_takes_closed scene c.args.to c.args.operand.now) c.in-Known.ensures.reads.keeps.frame c.takes_value.ensures.told
+    (λ told. takes_if_closed scene c.args.to c.args.operand.now (ap (spec_open_array scene) (sym c.operand_type.ensures) ∙ sym (c.in-Known.ensures.told told) ∙ c.if-value.false))

@@ -1,0 +1,8 @@
+use Rattle.type_rules.proofs.Procedures.{next_told}
+use Rattle.type_rules.proofs.forms.compare_next.Goals as goal
+
+pub returns-in-Some-Some-clause-told : goal.returns-in-Some-Some-clause-told
+returns-in-Some-Some-clause-told g c =
+    next_told c.compare.result (g.S.Scopes.state c.args.scopes.now).frame (g.S.Scopes.state c.next_pair.new.scopes).frame c.args.around.now c.args.x c.args.y c.args.left c.args.right
+    c.in-Known.value.0 c.in-Known.value.1 c.in-Some-Some.first c.in-Some-Some.second c.in-Known.ensures.reads.keeps.frame c.in-Some-Some.is-0 c.in-Some-Some.is-1
+    c.in-Known.ensures.left c.in-Known.ensures.right c.compare.ensures.told

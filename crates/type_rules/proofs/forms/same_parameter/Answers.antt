@@ -1,0 +1,14 @@
+use Rattle.m2_base.specs.Statics.SameForm.{is_same_parameter_type}
+use Rattle.type_rules.specs.Forms.{same_by as spec_same_by}
+use Rattle.type_rules.specs.Scenes.{scene_of}
+use Rattle.type_rules.proofs.Compatibles.{told_as}
+use Rattle.type_rules.proofs.Procedures.{stood_same}
+use Rattle.type_rules.proofs.forms.same_parameter.Goals as goal
+
+pub returns-clause-told : goal.returns-clause-told
+returns-clause-told g c =
+    let f = (g.S.Scopes.state c.args.scopes.now).frame in
+    let scene = scene_of f c.args.around.now in
+    told_as c.same_by.result f (g.S.Scopes.state c.stand_both.new.scopes).frame (λ h. spec_same_by (scene_of h c.args.around.now) c.in-Known.value.0 c.in-Known.value.1)
+    (is_same_parameter_type scene c.args.x c.args.y) c.in-Known.ensures.reads.keeps.frame c.same_by.ensures.told
+    (λ told. stood_same scene c.args.x c.args.y c.in-Known.value.0 c.in-Known.value.1 (c.in-Known.ensures.left told) (c.in-Known.ensures.right told))
