@@ -1,25 +1,20 @@
 //! What the words ask for.
 use crate::kind::Kind;
-use crate::loop_shape::LoopShape;
 use crate::object_shape::ObjectShape;
 use crate::shape::Shape;
 
 pub const USAGE: &str =
-    "usage: m2_bench [lex KIND BYTES | parse SHAPE TOKENS | compile BYTES | read OBJECT BYTES | run LOOP TIMES], \
+    "usage: m2_bench [lex KIND BYTES | parse SHAPE TOKENS | compile BYTES | read OBJECT BYTES], \
     where KIND is ordinary, names, digits, blanks or symbols, \
     SHAPE is statements, semicolons, operators, names, brackets or loops, \
     OBJECT is flat, deep or long, \
-    LOOP is add, index or call, \
-    BYTES and TOKENS are at most 1048576, and of an object 67108864, and TIMES at most 100000000";
+    and BYTES and TOKENS are at most 1048576, and of an object 67108864";
 
 /// The most bytes of a text, and the most tokens of a stream.
 pub const MOST: u32 = 1_048_576;
 
 /// The most bytes of an object.
 pub const MOST_OBJECT_BYTES: u32 = 67_108_864;
-
-/// The most times of a loop.
-pub const MOST_TIMES: u32 = 100_000_000;
 
 /// What to run. A text or an object has about as many bytes, and a stream as many tokens, as the number says.
 #[derive(Clone, Copy, Debug, PartialEq, Eq)]
@@ -29,8 +24,6 @@ pub enum Command {
     Parse(Shape, u32),
     Compile(u32),
     Read(ObjectShape, u32),
-    /// How often the loop is made.
-    Run(LoopShape, u32),
 }
 
 impl Command {
@@ -49,10 +42,6 @@ impl Command {
             [part, shape, bytes] if part.as_str() == "read" => Some(Command::Read(
                 shape.parse().ok()?,
                 number_in(bytes, MOST_OBJECT_BYTES)?,
-            )),
-            [part, shape, times] if part.as_str() == "run" => Some(Command::Run(
-                shape.parse().ok()?,
-                number_in(times, MOST_TIMES)?,
             )),
             _ => None,
         }

@@ -1,9 +1,9 @@
 //! How long does a call of one crate take, by the size of its input?
 //!
 //! `m2_bench lex KIND BYTES` times `lex` over a text of one kind, `m2_bench parse SHAPE TOKENS` times `parse_stream` over
-//! a module of one shape, `m2_bench compile BYTES` times `m2c compile A` over a plain module, `m2_bench read OBJECT
-//! BYTES` times `read_object` over an object of one shape, and `m2_bench run LOOP TIMES` times a machine that makes a loop so
-//! many times, all in memory. The inputs are made from the words, and the times are those of the processor. With no words a small run of each part prints its counts alone, which are the same
+//! a module of one shape, `m2_bench compile BYTES` times `m2c compile A` over a plain module, and `m2_bench read OBJECT
+//! BYTES` times `read_object` over an object of one shape, all in memory. The inputs are made from the words, and the
+//! times are those of the processor. With no words a small run of each part prints its counts alone, which are the same
 //! at every run. Each part stands in a module of its own; a part to come adds a variant to `Command`.
 #![tactic(auto)]
 
@@ -11,18 +11,15 @@ mod command;
 mod compiling;
 mod kind;
 mod lexing;
-mod loop_shape;
 mod object_shape;
 mod parsing;
 mod reading;
-mod running;
 mod shape;
 mod stopwatch;
 
 use anyhow::Result;
 use command::{Command, USAGE};
 use kind::Kind;
-use loop_shape::LoopShape;
 use object_shape::ObjectShape;
 use shape::Shape;
 use std::env;
@@ -36,9 +33,6 @@ const FEW_BYTES: u32 = 1000;
 
 /// How many tokens each stream of the small run has at most.
 const FEW_TOKENS: u32 = 1000;
-
-/// How often each loop of the small run is made.
-const FEW_TIMES: u32 = 10;
 
 fn main(rt: HostRuntime) -> Result<ExitCode> {
     let words = words_of(&rt)?;
@@ -67,7 +61,6 @@ fn obey(rt: &HostRuntime, command: Command) -> Result<ExitCode> {
         Command::Parse(shape, tokens) => parsing::print_time(rt, shape, tokens)?,
         Command::Compile(bytes) => compiling::print_time(rt, bytes)?,
         Command::Read(shape, bytes) => reading::print_time(rt, shape, bytes)?,
-        Command::Run(shape, times) => running::print_time(rt, shape, times)?,
     }
     Ok(ExitCode::SUCCESS)
 }
@@ -83,9 +76,6 @@ fn print_counts(rt: &HostRuntime) -> Result<()> {
     compiling::print_counts(rt, FEW_BYTES)?;
     for shape in ObjectShape::ALL {
         reading::print_counts(rt, shape, FEW_BYTES)?;
-    }
-    for shape in LoopShape::ALL {
-        running::print_counts(rt, shape, FEW_TIMES)?;
     }
     Ok(())
 }
