@@ -1,29 +1,41 @@
 //! What the words ask for.
 use crate::kind::Kind;
+use crate::loop_shape::LoopShape;
 use crate::object_shape::ObjectShape;
 use crate::shape::Shape;
 
 pub const USAGE: &str =
-    "usage: m2_bench [lex KIND BYTES | parse SHAPE TOKENS | compile BYTES | read OBJECT BYTES], \
+    "usage: m2_bench [lex KIND BYTES | cut PROCEDURES | parse SHAPE TOKENS | compile BYTES | read OBJECT BYTES | run LOOP TIMES], \
     where KIND is ordinary, names, digits, blanks or symbols, \
     SHAPE is statements, semicolons, operators, names, brackets or loops, \
-    OBJECT is flat, deep or long, \
-    and BYTES and TOKENS are at most 1048576, and of an object 67108864";
+    OBJECT is flat, deep, long or short, \
+    LOOP is add, index or call, \
+    BYTES and TOKENS are at most 1048576, and of an object 67108864, PROCEDURES at most 16384, and TIMES at most 100000000";
 
 /// The most bytes of a text, and the most tokens of a stream.
 pub const MOST: u32 = 1_048_576;
 
+/// The most procedures of a text.
+pub const MOST_PROCEDURES: u32 = 16_384;
+
 /// The most bytes of an object.
 pub const MOST_OBJECT_BYTES: u32 = 67_108_864;
+
+/// The most times of a loop.
+pub const MOST_TIMES: u32 = 100_000_000;
 
 /// What to run. A text or an object has about as many bytes, and a stream as many tokens, as the number says.
 #[derive(Clone, Copy, Debug, PartialEq, Eq)]
 pub enum Command {
     Counts,
     Lex(Kind, u32),
+    /// How many procedures the text has.
+    Cut(u32),
     Parse(Shape, u32),
     Compile(u32),
     Read(ObjectShape, u32),
+    /// How often the loop is made.
+    Run(LoopShape, u32),
 }
 
 impl Command {
@@ -32,6 +44,9 @@ impl Command {
             [] => Some(Command::Counts),
             [part, kind, bytes] if part.as_str() == "lex" => {
                 Some(Command::Lex(kind.parse().ok()?, number_in(bytes, MOST)?))
+            }
+            [part, procedures] if part.as_str() == "cut" => {
+                Some(Command::Cut(number_in(procedures, MOST_PROCEDURES)?))
             }
             [part, shape, tokens] if part.as_str() == "parse" => {
                 Some(Command::Parse(shape.parse().ok()?, number_in(tokens, MOST)?))
@@ -42,6 +57,10 @@ impl Command {
             [part, shape, bytes] if part.as_str() == "read" => Some(Command::Read(
                 shape.parse().ok()?,
                 number_in(bytes, MOST_OBJECT_BYTES)?,
+            )),
+            [part, shape, times] if part.as_str() == "run" => Some(Command::Run(
+                shape.parse().ok()?,
+                number_in(times, MOST_TIMES)?,
             )),
             _ => None,
         }

@@ -1,25 +1,31 @@
 //! How long does a call of one crate take, by the size of its input?
 //!
-//! `m2_bench lex KIND BYTES` times `lex` over a text of one kind, `m2_bench parse SHAPE TOKENS` times `parse_stream` over
-//! a module of one shape, `m2_bench compile BYTES` times `m2c compile A` over a plain module, and `m2_bench read OBJECT
-//! BYTES` times `read_object` over an object of one shape, all in memory. The inputs are made from the words, and the
-//! times are those of the processor. With no words a small run of each part prints its counts alone, which are the same
-//! at every run. Each part stands in a module of its own; a part to come adds a variant to `Command`.
+//! `m2_bench lex KIND BYTES` times `lex` over a text of one kind, `m2_bench cut PROCEDURES` times `cut` over a text of so
+//! many procedures, `m2_bench parse SHAPE TOKENS` times `parse_stream` over a module of one shape, `m2_bench compile
+//! BYTES` times `m2c compile A` over a plain module, `m2_bench read OBJECT BYTES` times `read_object` over an object of one
+//! shape, and `m2_bench run LOOP TIMES` times a machine that makes a loop so many times, all in memory. The inputs are made
+//! from the words, and the times are those of the processor. With no words a small run of each part prints its counts
+//! alone, which are the same at every run. Each part stands in a module of its own; a part to come adds a variant to
+//! `Command`.
 #![tactic(auto)]
 
 mod command;
 mod compiling;
+mod cutting;
 mod kind;
 mod lexing;
+mod loop_shape;
 mod object_shape;
 mod parsing;
 mod reading;
+mod running;
 mod shape;
 mod stopwatch;
 
 use anyhow::Result;
 use command::{Command, USAGE};
 use kind::Kind;
+use loop_shape::LoopShape;
 use object_shape::ObjectShape;
 use shape::Shape;
 use std::env;
@@ -31,8 +37,14 @@ const NO_COMMAND: u8 = 2;
 /// How many bytes each text of the small run has.
 const FEW_BYTES: u32 = 1000;
 
+/// How many procedures the text of the small run has.
+const FEW_PROCEDURES: u32 = 10;
+
 /// How many tokens each stream of the small run has at most.
 const FEW_TOKENS: u32 = 1000;
+
+/// How often each loop of the small run is made.
+const FEW_TIMES: u32 = 10;
 
 fn main(rt: HostRuntime) -> Result<ExitCode> {
     let words = words_of(&rt)?;
@@ -58,9 +70,11 @@ fn obey(rt: &HostRuntime, command: Command) -> Result<ExitCode> {
     match command {
         Command::Counts => print_counts(rt)?,
         Command::Lex(kind, bytes) => lexing::print_time(rt, kind, bytes)?,
+        Command::Cut(procedures) => cutting::print_time(rt, procedures)?,
         Command::Parse(shape, tokens) => parsing::print_time(rt, shape, tokens)?,
         Command::Compile(bytes) => compiling::print_time(rt, bytes)?,
         Command::Read(shape, bytes) => reading::print_time(rt, shape, bytes)?,
+        Command::Run(shape, times) => running::print_time(rt, shape, times)?,
     }
     Ok(ExitCode::SUCCESS)
 }
@@ -70,12 +84,16 @@ fn print_counts(rt: &HostRuntime) -> Result<()> {
     for kind in Kind::ALL {
         lexing::print_counts(rt, kind, FEW_BYTES)?;
     }
+    cutting::print_counts(rt, FEW_PROCEDURES)?;
     for shape in Shape::ALL {
         parsing::print_counts(rt, shape, FEW_TOKENS)?;
     }
     compiling::print_counts(rt, FEW_BYTES)?;
     for shape in ObjectShape::ALL {
         reading::print_counts(rt, shape, FEW_BYTES)?;
+    }
+    for shape in LoopShape::ALL {
+        running::print_counts(rt, shape, FEW_TIMES)?;
     }
     Ok(())
 }

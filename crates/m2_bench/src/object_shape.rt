@@ -15,6 +15,8 @@ pub enum ObjectShape {
     Deep,
     /// One procedure has all the code.
     Long,
+    /// The same with instructions of one byte.
+    Short,
 }
 
 /// The number of procedures behind the body, and how many statements each has.
@@ -40,13 +42,19 @@ const OUTER_BYTES: u32 = 15;
 const FEW_STATEMENTS: u32 = 10;
 
 impl ObjectShape {
-    pub const ALL: [ObjectShape; 3] = [ObjectShape::Flat, ObjectShape::Deep, ObjectShape::Long];
+    pub const ALL: [ObjectShape; 4] = [
+        ObjectShape::Flat,
+        ObjectShape::Deep,
+        ObjectShape::Long,
+        ObjectShape::Short,
+    ];
 
     fn name(self) -> &'static str {
         match self {
             ObjectShape::Flat => "flat",
             ObjectShape::Deep => "deep",
             ObjectShape::Long => "long",
+            ObjectShape::Short => "short",
         }
     }
 
@@ -64,6 +72,10 @@ impl ObjectShape {
             ObjectShape::Long => Plan {
                 procedures: 1,
                 statements: bytes.saturating_sub(PROCEDURE_BYTES) / STATEMENT_BYTES,
+            },
+            ObjectShape::Short => Plan {
+                procedures: 1,
+                statements: bytes.saturating_sub(PROCEDURE_BYTES + OUTER_BYTES),
             },
         }
     }
@@ -87,22 +99,42 @@ impl ObjectShape {
         match self {
             ObjectShape::Deep => [k, 1],
             ObjectShape::Flat | ObjectShape::Long => [0, 3],
+            ObjectShape::Short => [0, 1],
         }
     }
 
     /// The code of procedure k + 1.
     fn code(self, alloc: Global, k: u32, statements: u32) -> Result<Vec<u8>, Memory> {
-        let statement = match self {
-            ObjectShape::Deep => of_outermost(alloc, k)?,
-            ObjectShape::Flat | ObjectShape::Long => of_module(alloc)?,
+        let mut code = match self {
+            ObjectShape::Deep => times(alloc, &of_outermost(alloc, k)?, statements)?,
+            ObjectShape::Flat | ObjectShape::Long => {
+                times(alloc, &of_module(alloc)?, statements)?
+            }
+            ObjectShape::Short => loads(alloc, statements)?,
         };
-        let mut code = Vec::new(alloc);
-        for _ in 0..statements {
-            code.extend_from_slice(&statement)?;
-        }
         encode(&Instr::Return, &mut code)?;
         Ok(code)
     }
+}
+
+/// A piece of code so many times.
+fn times(alloc: Global, piece: &[u8], times: u32) -> Result<Vec<u8>, Memory> {
+    let mut code = Vec::new(alloc);
+    for _ in 0..times {
+        code.extend_from_slice(piece)?;
+    }
+    Ok(code)
+}
+
+/// Follows the value of a variable so many times, and tests what is there.
+fn loads(alloc: Global, times: u32) -> Result<Vec<u8>, Memory> {
+    let mut code = Vec::new(alloc);
+    encode(&Instr::Global(0, 0), &mut code)?;
+    for _ in 0..times {
+        encode(&Instr::Load, &mut code)?;
+    }
+    encode(&Instr::JumpFalse(0), &mut code)?;
+    Ok(code)
 }
 
 fn returning(alloc: Global) -> Result<Vec<u8>, Memory> {

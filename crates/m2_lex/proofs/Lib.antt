@@ -5,3 +5,4 @@ mod LongestNumerals
 mod LongestRuns
 mod LongestStrings
 mod LongestSymbols
+pub mod TextUnit

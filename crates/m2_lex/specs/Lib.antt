@@ -2,6 +2,7 @@ pub mod Adding
 pub mod Ahead
 pub mod Depths
 pub mod Faults
+pub mod LoneTexts
 pub mod Numerals
 pub mod Places
 pub mod Symbols

@@ -2,11 +2,12 @@
 //!
 //! `lex` gives the tokens of a text by the definition in `m2_base` (`Tokens`): one pass, one lexeme at a time, each the
 //! longest match. The layer above uses the one contract of `lex`: what it gives are the text's tokens, and the names are
-//! numbered on from those that it was given.
+//! numbered on from those that it was given. `lone_text` is the unit of a main text alone.
 #![tactic(auto)]
 
 mod comment;
 mod lexer;
+mod lone;
 mod longest;
 mod meaning;
 mod position;
@@ -15,3 +16,4 @@ mod runs;
 mod tests;
 
 pub use lexer::{LexFault, lex};
+pub use lone::lone_text;

@@ -1,6 +1,7 @@
 -- The diagnostics of a plain text stand at its tokens.
 use Rattle.std.proofs.Common.{◌≡◌, ℕ, ◌+◌, ◌<◌, ◌==◌, Bool, true, false, List, [], ◌∷◌, ◌++◌, Option, Some, None, map, length, refl, sym, ap, subst, arith, if◌then◌else◌}
 use Rattle.m2_base.specs.Lists.{Each}
+use Rattle.m2_base.specs.Names.{standard_names}
 use Rattle.m2_base.specs.Units.{AreNumbered}
 use Rattle.m2_base.specs.declared.kind.TokenKind.{TokenKind}
 use Rattle.m2_base.specs.declared.kind.TokenKind.TheVariants as kind
@@ -17,7 +18,7 @@ use Rattle.m2c_top.specs.Trees.{Parsed}
 use Rattle.m2c_top.specs.Uses.{body_uses}
 use Rattle.m2c_top.specs.declared.plain.tree.Ident.{Ident}
 use Rattle.m2c_top.proofs.NamedSymbols.{NamedBy, variables_named, uses_named, close_named}
-use Rattle.m2c_top.proofs.TextUnit.{text_listed}
+use Rattle.m2_lex.proofs.TextUnit.{text_listed}
 
 below : (at : ℕ) (tokens : List Token) → AreNumbered at tokens → Each (λ (t : Token). t.at < at + length tokens) tokens
 below at [] h = absurd h
@@ -66,7 +67,7 @@ pub diags_below : (name text : List ℕ) (p : Parsed) → IsPlain name text p �
 diags_below name text p plain =
     let n = length p.tokens in
     let m = p.tree in
-    let numbered : AreNumbered 0 p.tokens = (text_listed plain.names text p.tokens plain.are_tokens plain.short).0 in
+    let numbered : AreNumbered 0 p.tokens = (text_listed standard_names plain.names text p.tokens plain.are_tokens plain.short).0 in
     let tokens : Each (λ (t : Token). t.at < length p.tokens) p.tokens =
     Each-map (λ (t : Token). t.at < 0 + length p.tokens) (λ (t : Token). t.at < length p.tokens) p.tokens (λ t b. omega (arith, b)) (below 0 p.tokens numbered) in
     let symbols = names_below (length p.tokens) p.tokens tokens in

@@ -20,7 +20,8 @@ use Rattle.scope_core.specs.PlainScopes.{Plain as Scopes, state_of, started}
 use Rattle.m2c_top.specs.Bindings.{IsName, Suits}
 use Rattle.m2c_top.specs.Declarations.{variable_rows}
 use Rattle.m2c_top.specs.Filled.{DeclaresRows, IsFilled}
-use Rattle.m2c_top.specs.Held.{IsHeld, main_tokens, one_text}
+use Rattle.m2_lex.specs.LoneTexts.{one_text}
+use Rattle.m2c_top.specs.Held.{IsHeld, main_tokens}
 use Rattle.m2c_top.specs.Symbols.{symbol_of}
 use Rattle.m2c_top.specs.Trees.{module_view}
 use Rattle.m2c_top.specs.Uses.{body_uses}

@@ -1,16 +1,13 @@
 -- The plain text that the program holds: a unit of one text, and the tree that its tokens spell.
-use Rattle.std.specs.Prelude.{◌≡◌, ℕ, true, false, List, [], ◌∷◌, None, map}
+use Rattle.std.specs.Prelude.{◌≡◌, true, List, [], ◌∷◌, map}
 use Rattle.m2_base.specs.Units.{TextOf, UnitTexts, IsUnit}
 use Rattle.m2_base.specs.declared.token.Token.{Token}
+use Rattle.m2_lex.specs.LoneTexts.{one_text}
 use Rattle.m2c_top.specs.Grammar.{Spells}
 use Rattle.m2c_top.specs.Sound.{is_sound}
 use Rattle.m2c_top.specs.Symbols.{symbol_of}
 use Rattle.m2c_top.specs.Trees.{Parsed, module_view}
 use Rattle.m2c_top.specs.declared.plain.text.Plain.{Plain}
-
--- the unit of a program module alone
-abbrev pub one_text : (names : List (List ℕ)) → (name : ℕ) → List Token → UnitTexts
-one_text names name tokens = record { names = names; list = record { name = name; definition = false; tokens = tokens } ∷ []; order = []; own = None }
 
 abbrev pub main_tokens : List TextOf → List Token
 main_tokens [] = []

@@ -6,7 +6,8 @@ ghost use Rattle.m2_base.specs.Units.{IsUnit};
 ghost use Rattle.m2_lex.specs.Faults.{HasTooMany};
 ghost use Rattle.m2c_top.specs.Plain.{IsPlain, is_named as spec_named, is_meant};
 ghost use Rattle.m2c_top.specs.Grammar.{Spells};
-ghost use Rattle.m2c_top.specs.Held.{IsHeld, held, one_text};
+ghost use Rattle.m2_lex.specs.LoneTexts.{one_text};
+ghost use Rattle.m2c_top.specs.Held.{IsHeld, held};
 ghost use Rattle.m2c_top.specs.Symbols.{symbol_of};
 ghost use Rattle.m2c_top.specs.Trees.{module_view, PlainModule, Parsed};
 

@@ -4,12 +4,14 @@ use Rattle.m2_base.specs.Tokens.{AreTokens}
 use Rattle.m2_base.specs.declared.token.Token.{Token}
 use Rattle.m2_base.specs.Units.{IsNamed, IsUnit}
 use Rattle.m2c_top.specs.Grammar.{Spells}
-use Rattle.m2c_top.specs.Held.{one_text}
+use Rattle.m2_lex.specs.LoneTexts.{one_text}
 use Rattle.m2c_top.specs.Plain.{is_meant}
 use Rattle.m2c_top.specs.Symbols.{symbol_of}
 use Rattle.m2c_top.specs.Trees.{module_view, PlainModule}
 use Rattle.m2c_top.proofs.PlainTexts.{too_many_plain, not_plain}
-use Rattle.m2c_top.proofs.TextUnit.{module_named, text_held, text_unit}
+use Rattle.m2_base.proofs.Kept.{IsPrefixOf-refl}
+use Rattle.m2_lex.proofs.TextUnit.{text_unit}
+use Rattle.m2c_top.proofs.TextUnit.{module_named, text_held}
 use Rattle.m2c_top.proofs.plain.text.plain_module.Goals as goal
 
 standard_few : length standard_names ≤ 4000000000
@@ -60,7 +62,7 @@ unit_of-requires c =
     let named : IsNamed names m.name.name = module_named names text tokens are short m spells in
     let countable : length names < 2 ^ 32 = omega (arith, c.count-countable.ensures) in
     let few : vec_len c.in-Some.tokens ≤ 1048576 = rw c.in-Some.is at c.in_ok-tokens.ensures.few in
-    text_unit names text tokens are short m.name.name named (omega (arith, few, c.as_slice.ensures.len)) countable
+    text_unit standard_names names text tokens are short m.name.name (IsPrefixOf-refl standard_names) named (omega (arith, few, c.as_slice.ensures.len)) countable
 
 pub returns-clause-held : goal.returns-clause-held
 returns-clause-held c =
@@ -75,5 +77,5 @@ returns-clause-held c =
     let named : IsNamed names m.name.name = module_named names text tokens are short m spells in
     let countable : length names < 2 ^ 32 = omega (arith, c.count-countable.ensures) in
     let few : vec_len c.in-Some.tokens ≤ 1048576 = rw c.in-Some.is at c.in_ok-tokens.ensures.few in
-    let unit : IsUnit (one_text names m.name.name tokens) = text_unit names text tokens are short m.name.name named (omega (arith, few, c.as_slice.ensures.len)) countable in
+    let unit : IsUnit (one_text names m.name.name tokens) = text_unit standard_names names text tokens are short m.name.name (IsPrefixOf-refl standard_names) named (omega (arith, few, c.as_slice.ensures.len)) countable in
     text_held (record { texts = c.in_ok-texts.texts; «module» = c.in-Some-2.module }) names c.args.name.now tokens c.in_ok-texts.ensures.texts unit spells (rw c.in-Some-2.is at c.in_ok-module.ensures.meant)
