@@ -26,3 +26,6 @@ pub mod EndFaults
 pub mod Agree
 pub mod Climbs
 pub mod WholeAgrees
+pub mod Lengths
+pub mod TypeSizes
+pub mod RowCounts
