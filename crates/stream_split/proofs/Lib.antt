@@ -29,3 +29,6 @@ pub mod WholeAgrees
 pub mod Lengths
 pub mod TypeSizes
 pub mod RowCounts
+pub mod Enclosures
+pub mod Declared
+pub mod BlocksAgree

@@ -5,4 +5,5 @@ pub mod Limits
 pub mod Rooms
 pub mod Sizes
 pub mod Streams
+pub mod Surroundings
 pub mod Views
