@@ -32,3 +32,4 @@ pub mod RowCounts
 pub mod Enclosures
 pub mod Declared
 pub mod BlocksAgree
+pub mod TestUnits

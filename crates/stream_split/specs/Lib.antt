@@ -6,4 +6,5 @@ pub mod Rooms
 pub mod Sizes
 pub mod Streams
 pub mod Surroundings
+pub mod TestUnits
 pub mod Views
