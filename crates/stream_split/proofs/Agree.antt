@@ -80,7 +80,7 @@ count_opened s (t ∷ ts) =
 
 -- ** Trees
 
-regroup : {A : Type 0} (xs ys zs : List A) (a b c d e : A) → (xs ++ (a ∷ b ∷ c ∷ (ys ++ (zs ++ (d ∷ []))))) ++ (e ∷ []) ≡ xs ++ (a ∷ b ∷ c ∷ (ys ++ (zs ++ (d ∷ e ∷ []))))
+pub regroup : {A : Type 0} (xs ys zs : List A) (a b c d e : A) → (xs ++ (a ∷ b ∷ c ∷ (ys ++ (zs ++ (d ∷ []))))) ++ (e ∷ []) ≡ xs ++ (a ∷ b ∷ c ∷ (ys ++ (zs ++ (d ∷ e ∷ []))))
 regroup xs ys zs a b c d e =
     append_assoc xs (a ∷ b ∷ c ∷ (ys ++ (zs ++ (d ∷ [])))) (e ∷ [])
     ∙ ap (λ q. xs ++ (a ∷ b ∷ c ∷ q)) (append_assoc ys (zs ++ (d ∷ [])) (e ∷ []) ∙ ap (λ q. ys ++ q) (append_assoc zs (d ∷ []) (e ∷ [])))

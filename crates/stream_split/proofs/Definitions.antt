@@ -46,7 +46,7 @@ definitions_step texts order i n xs ys v l h e m w =
 pub joined : (xs ys zs : List StreamTokens) (a b : List StreamOf) → zs ≡ xs ++ ys → map stream_view xs ≡ a → map stream_view ys ≡ b → map stream_view zs ≡ a ++ b
 joined xs ys zs a b e f g = ap (map stream_view) e ∙ map_append stream_view xs ys ∙ ap (λ z. z ++ map stream_view ys) f ∙ ap (λ z. a ++ z) g
 
-definitions_length : (j : ℕ) (texts : List TextOf) (order : List ℕ) → length (definition_streams j texts order) ≡ length order
+pub definitions_length : (j : ℕ) (texts : List TextOf) (order : List ℕ) → length (definition_streams j texts order) ≡ length order
 definitions_length j texts [] = refl
 definitions_length j texts (k ∷ order) = ap suc (definitions_length (suc j) texts order)
 

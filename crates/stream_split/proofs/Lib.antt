@@ -26,3 +26,10 @@ pub mod EndFaults
 pub mod Agree
 pub mod Climbs
 pub mod WholeAgrees
+pub mod Lengths
+pub mod TypeSizes
+pub mod RowCounts
+pub mod Enclosures
+pub mod Declared
+pub mod BlocksAgree
+pub mod TestUnits

@@ -39,7 +39,7 @@ passed_append n s (x ∷ xs) ys =
     by (Some l) p q r h = refl
 
 -- the streams of more procedures
-streams_append : (j : ℕ) (ps qs : List Enclosed) (es : List Event)
+pub streams_append : (j : ℕ) (ps qs : List Enclosed) (es : List Event)
     → procedure_streams j (ps ++ qs) es ≡ procedure_streams j ps es ++ procedure_streams (j + length ps) qs es
 streams_append j [] qs es = ap (λ z. procedure_streams z qs es) (plus j)
   where

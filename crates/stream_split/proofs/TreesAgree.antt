@@ -28,7 +28,7 @@ pub record Uncut (c : ℕ) (x : Tree Token) : Type 0 where
   pub count : blocks_after c x ≡ c
   pub none : parts c x ≡ []
 
-uncut : {r : Rule} {x : Tree Token} → Derives W r x → plain r ≡ true → (c : ℕ) → Uncut c x
+pub uncut : {r : Rule} {x : Tree Token} → Derives W r x → plain r ≡ true → (c : ℕ) → Uncut c x
 uncut of_empty h c = record { tree = refl; number = refl; count = refl; none = refl }
 uncut (of_token g) h c = record { tree = refl; number = refl; count = refl; none = refl }
 uncut (of_then {r = r} {d = x} {e = y} g g') h c =
@@ -56,7 +56,7 @@ uncut (of_more {d = x} {ds = y} g g') h c =
 uncut (of_deep g) h c = record { tree = refl; number = refl; count = refl; none = refl }
 uncut (of_sub g) h c = absurd (true≢false (sym h))
 
-same_count : {r : Rule} {x : Tree Token} → Derives W r x → (c : ℕ) → blocks_after c x ≡ streams_after c x
+pub same_count : {r : Rule} {x : Tree Token} → Derives W r x → (c : ℕ) → blocks_after c x ≡ streams_after c x
 same_count of_empty c = refl
 same_count (of_token g) c = refl
 same_count (of_then {d = x} {e = y} g g') c = ap (λ z. blocks_after z y) (same_count g c) ∙ same_count g' (streams_after c x)

@@ -2,6 +2,9 @@ pub mod Agreement
 pub mod Chains
 pub mod Cut
 pub mod Limits
+pub mod Rooms
 pub mod Sizes
 pub mod Streams
+pub mod Surroundings
+pub mod TestUnits
 pub mod Views

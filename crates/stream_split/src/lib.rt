@@ -18,7 +18,7 @@ mod surroundings;
 mod tests;
 
 pub use extents::sizes;
-pub use laws::streams_agree_with_the_text;
+pub use laws::{blocks_are_those_of_the_streams, rows_have_room, streams_agree_with_the_text};
 pub use splitting::cut;
 pub use streams::{SplitFault, StreamTokens};
 pub use surroundings::around;

@@ -1,5 +1,6 @@
 //! Cutting a unit.
-ghost use Rattle.std.specs.Prelude.{◌≡◌, IfOk, map, slice_get};
+ghost use Rattle.std.specs.Prelude.{◌≡◌, ◌<◌, ◌^◌, IfOk, length, map, slice_get};
+ghost use Rattle.std.specs.List.{All};
 ghost use Rattle.m2_base.specs.Statics.BlockLimits.{limit_of};
 ghost use Rattle.stream_split.specs.Limits.{Within};
 ghost use Rattle.stream_split.specs.Streams.{streams_of, main_tokens, definition_stream, definition_streams, tokens_in};
@@ -56,6 +57,7 @@ fn with_main(
 ) -> Result<Vec<StreamTokens>, SplitFault>
     requires { map stream_view streams.items ≡ definition_streams 1 texts.now.list texts.now.order }
     ensures streams { IfOk result (λ out. map stream_view out.items ≡ streams_of texts.now) }
+    ensures short { IfOk result (λ out. All (λ s. length s.tokens.items < 2 ^ 30) out.items) }
     ensures limits { Within (limit_of (main_tokens texts.now)) result }
 {
     let mut all = streams;
@@ -73,9 +75,10 @@ fn with_main(
 
 /// The streams of a unit: those of the definition modules in dependency order, of the main module, and of its procedures in
 /// the order of their PROCEDURE tokens. The first has the number 1. There are none where the main text has too many
-/// procedures, or one that is nested too deep.
+/// procedures, or one that is nested too deep. Each stream is short enough for `sizes`.
 pub fn cut(alloc: Global, texts: &Texts) -> Result<Vec<StreamTokens>, SplitFault>
     ensures streams { IfOk result (λ out. map stream_view out.items ≡ streams_of texts.now) }
+    ensures short { IfOk result (λ out. All (λ s. length s.tokens.items < 2 ^ 30) out.items) }
     ensures limits { Within (limit_of (main_tokens texts.now)) result }
 {
     match definition_texts(alloc, texts) {

@@ -1,6 +1,7 @@
 //! Streams of whole and broken texts, by another program and by hand.
 mod texts_1;
 mod texts_2;
+mod units;
 
 use crate::cutter::main_streams;
 use crate::{StreamTokens, sizes};

@@ -3,6 +3,7 @@ use Rattle.stream_split.specs.Limits.{Tells}
 use Rattle.stream_split.specs.Streams.{main_streams, main_tokens, main_number, tokens_in}
 use Rattle.stream_split.specs.Views.{stream_view}
 use Rattle.stream_split.proofs.Definitions.{joined, main_is}
+use Rattle.stream_split.proofs.Lengths.{streams_short}
 use Rattle.stream_split.proofs.LimitsAgree.{unit_limit}
 use Rattle.stream_split.proofs.splitting.with_main.Goals as goal
 
@@ -15,6 +16,9 @@ returns-in-Ok-append-clause-streams c =
     let first : c.in-Some.first ≡ main_number c.args.texts.now = main_is c.args.texts.now.list c.args.texts.now.order c.args.streams.items c.in-Some.first c.len.result c.requires count c.in-Some.ensures in
     joined c.args.streams.items c.in-Ok.more.items c.append.new.self.items _ _ all c.requires
     (c.in-Ok.ensures.streams ∙ ap (λ z. main_streams z c.as_slice.result.now) first ∙ ap (main_streams (main_number c.args.texts.now)) main)
+
+pub returns-in-Ok-append-clause-short : goal.returns-in-Ok-append-clause-short
+returns-in-Ok-append-clause-short c = streams_short c.args.texts.now c.main.ensures.unit c.append.new.self.items (returns-in-Ok-append-clause-streams c)
 
 pub returns-in-Ok-append-clause-limits : goal.returns-in-Ok-append-clause-limits
 returns-in-Ok-append-clause-limits c =

@@ -1,0 +1,254 @@
+-- A block has no more rows than tokens.
+use Rattle.std.proofs.Common.{◌≡◌, ℕ, zero, suc, Bool, List, [], ◌∷◌, ◌++◌, refl, ap, sym, ◌∙◌, subst, length, length-append, ◌≤◌, ◌+◌, arith, map, flat_map, Option, Some, None}
+use Rattle.std.proofs.lemmas.List.{length-map}
+use Rattle.std.specs.List.{AllZip}
+use Rattle.m2_base.proofs.LayoutLaws.{block_shaped, AreShaped-length}
+use Rattle.m2_base.specs.declared.kind.TokenKind.TheVariants.{Semicolon}
+use Rattle.m2_base.specs.declared.token.Token.{Token}
+use Rattle.m2_base.specs.declared.trees.declarations.StreamKind.{StreamKind}
+use Rattle.m2_base.specs.declared.trees.declarations.StreamKind.TheVariants as streams
+use Rattle.m2_base.specs.ExpressionsOf.{ident_of_token, idents_of, qual_of}
+use Rattle.m2_base.specs.Grammar.{grammar, levels, a, section, parameters, heading, constant, variables, type_declaration, defined_type, declaration, definition_declaration, procedure_cut, block, main, definition, procedure_stream, imported, stream}
+use Rattle.m2_base.specs.Grammar as rules
+use Rattle.m2_base.specs.Rows.{var_kind, param_kind, proc_kind, proc_type_kind, type_name_kind}
+use Rattle.m2_base.specs.declared.rows.Row.{Row}
+use Rattle.m2_base.specs.Standard.{standard_rows}
+use Rattle.m2_base.specs.Statics.BlockRows.{declare_block}
+use Rattle.m2_base.specs.Statics.Blocks.{BlockTree}
+use Rattle.m2_base.specs.Statics.Contexts.{Source}
+use Rattle.m2_base.specs.Statics.Items.{Item, heading_item, proc_item, import_item, import_items, heading_items, decl_item, items_of}
+use Rattle.m2_base.specs.Statics.Layouts.{firsts_from}
+use Rattle.m2_base.specs.Statics.Shapes.{Shape, nameless, named, open_shapes, own_section_shapes, section_shapes, item_shapes, type_shapes}
+use Rattle.m2_base.specs.StreamsOf as trees
+use Rattle.m2_base.specs.declared.trees.Ident.{Ident}
+use Rattle.m2_base.specs.Trees.{Section, Heading, Import, Decl, Stream}
+use Rattle.m2_base.specs.TypesOf.{is_there, type_of}
+use Rattle.ll_grammar.specs.Derivations.{Tree, leaf, both, left, right, last, more, tokens, Derives, of_empty, of_token, of_then, of_left, of_right, of_last, of_more}
+use Rattle.ll_grammar.specs.Grammar.{Rule, many, optional, ◌⨾◌}
+use Rattle.stream_split.specs.Agreement.{SpellsStream, SpellsStreams}
+use Rattle.stream_split.specs.Rooms.{last_of, rows_of, rows_of_scopes}
+use Rattle.stream_split.specs.Sizes.{sizes_of}
+use Rattle.stream_split.specs.Streams.{StreamOf}
+use Rattle.stream_split.proofs.TypeSizes.{size, size_is, idents_size, open_size, type_size}
+
+-- ** How many rows items have
+
+abbrev pub count : List Item → ℕ
+count [] = 0
+count (x ∷ xs) = length (item_shapes x) + count xs
+
+count_append : (xs ys : List Item) → count (xs ++ ys) ≡ count xs + count ys
+count_append [] ys = omega arith
+count_append (x ∷ xs) ys = let i = count_append xs ys in omega (arith, i)
+
+count_is : (xs : List Item) → length (flat_map item_shapes xs) ≡ count xs
+count_is [] = refl
+count_is (x ∷ xs) = let i = count_is xs in let l = length-append (item_shapes x) (flat_map item_shapes xs) in omega (arith, i, l)
+
+firsts_last : (o : ℕ) (xs : List Item) → last_of (firsts_from o xs) ≡ o + count xs
+firsts_last o [] = omega arith
+firsts_last o (x ∷ xs) = let i = firsts_last (o + length (item_shapes x)) xs in let e = passed_over (o + length (item_shapes x)) xs in omega (arith, i, e)
+  where
+    passed_over : (p : ℕ) (xs : List Item) → last_of (o ∷ firsts_from p xs) ≡ last_of (firsts_from p xs)
+    passed_over p [] = refl
+    passed_over p (y ∷ ys) = refl
+
+rows_are : (tree : Stream) → rows_of tree ≡ count (items_of tree)
+rows_are tree = let i = firsts_last 0 (items_of tree) in omega (arith, i)
+
+-- ** Headings
+
+-- both scopes of a heading have these rows of a section
+abbrev section_rows : Section → ℕ
+section_rows s = length (open_shapes s.is_open s.of) + length s.names
+
+section_size : {d : Tree Token} → Derives grammar section d → section_rows (trees.section_of d) ≤ size d
+section_size (of_then v (of_then h (of_then (of_token g) (of_then {e = q} o k)))) =
+    let i = idents_size h in
+    let j = open_size o (qual_of q) in
+    omega (arith, i, j)
+
+module _ (shapes : Section → List Shape) (counted : (s : Section) → length (shapes s) ≤ section_rows s) where
+  more_sections_size : {d : Tree Token} → Derives grammar (many (a Semicolon ⨾ section)) d → length (flat_map shapes (trees.more_sections_of d)) ≤ size d
+  more_sections_size of_last = omega arith
+  more_sections_size (of_more {ds = ss} (of_then {e = s} (of_token g) h) k) =
+      let i = section_size h in
+      let c = counted (trees.section_of s) in
+      let j = more_sections_size k in
+      let l = length-append (shapes (trees.section_of s)) (flat_map shapes (trees.more_sections_of ss)) in
+      omega (arith, i, c, j, l)
+
+  sections_size : {d : Tree Token} → Derives grammar (optional (rules.list section Semicolon)) d → length (flat_map shapes (trees.sections_of d)) ≤ size d
+  sections_size (of_left (of_then {d = s} {e = ss} h k)) =
+      let i = section_size h in
+      let c = counted (trees.section_of s) in
+      let j = more_sections_size k in
+      let l = length-append (shapes (trees.section_of s)) (flat_map shapes (trees.more_sections_of ss)) in
+      omega (arith, i, c, j, l)
+  sections_size (of_right of_empty) = omega arith
+
+  parameters_size : {d : Tree Token} → Derives grammar parameters d → length (flat_map shapes (trees.parameters_of d).0) ≤ size d
+  parameters_size (of_left (of_then (of_token g) (of_then h (of_then (of_token z) k)))) = let i = sections_size h in omega (arith, i)
+  parameters_size (of_right of_empty) = omega arith
+
+  -- PROCEDURE and the name are two further tokens
+  heading_size : {d : Tree Token} → Derives grammar heading d → length (flat_map shapes (trees.heading_of d).sections) + 2 ≤ size d
+  heading_size (of_then (of_token g) (of_then (of_token h) k)) = let i = parameters_size k in omega (arith, i)
+
+own_counted : (s : Section) → length (own_section_shapes s) ≤ section_rows s
+own_counted s =
+    let l = length-append (open_shapes s.is_open s.of) (map (named var_kind) s.names) in
+    let m = length-map s.names (named var_kind) in
+    omega (arith, l, m)
+
+outer_counted : (s : Section) → length (section_shapes s) ≤ section_rows s
+outer_counted s =
+    let l = length-append (open_shapes s.is_open s.of) (map (λ (i : Ident). nameless param_kind i.at) s.names) in
+    let m = length-map s.names (λ i. nameless param_kind i.at) in
+    omega (arith, l, m)
+
+procedure_size : {d : Tree Token} → Derives grammar heading d → (stream : ℕ) → length (item_shapes (proc_item (trees.heading_of d) stream)) ≤ size d
+procedure_size {d} h stream =
+    let i = heading_size section_shapes outer_counted h in
+    let l = length-append (flat_map section_shapes (trees.heading_of d).sections) (nameless proc_type_kind (trees.heading_of d).name.at ∷ named proc_kind (trees.heading_of d).name ∷ []) in
+    omega (arith, i, l)
+
+-- ** Declarations
+
+abbrev declared : List Decl → ℕ
+declared ds = count (map decl_item ds)
+
+declared_append : (xs ys : List Decl) → declared (xs ++ ys) ≡ declared xs + declared ys
+declared_append [] ys = omega arith
+declared_append (x ∷ xs) ys = let i = declared_append xs ys in omega (arith, i)
+
+constants_size : {d : Tree Token} → Derives grammar (many constant) d → declared (trees.constants_of d) ≤ size d
+constants_size of_last = omega arith
+constants_size (of_more (of_then (of_token g) (of_then (of_token e) (of_then h (of_token s)))) k) = let i = constants_size k in omega (arith, i)
+
+types_size : {d : Tree Token} → Derives grammar (many type_declaration) d → declared (trees.type_declarations_of d) ≤ size d
+types_size of_last = omega arith
+types_size (of_more (of_then (of_token {t = i} g) (of_then (of_token e) (of_then {d = t} h (of_token s)))) k) =
+    let j = type_size h in
+    let r = types_size k in
+    let l = length-append (type_shapes (type_of t)) (named type_name_kind (ident_of_token i) ∷ []) in
+    omega (arith, j, r, l)
+
+defined_types_size : {d : Tree Token} → Derives grammar (many defined_type) d → declared (trees.defined_types_of d) ≤ size d
+defined_types_size of_last = omega arith
+defined_types_size (of_more (of_then (of_token {t = i} g) (of_then (of_left (of_then {e = t} (of_token e) h)) (of_token s))) k) =
+    let j = type_size h in
+    let r = defined_types_size k in
+    let l = length-append (type_shapes (type_of t)) (named type_name_kind (ident_of_token i) ∷ []) in
+    omega (arith, j, r, l)
+defined_types_size (of_more (of_then (of_token g) (of_then (of_right of_empty) (of_token s))) k) = let r = defined_types_size k in omega (arith, r)
+
+variables_size : {d : Tree Token} → Derives grammar (many variables) d → declared (trees.all_variables_of d) ≤ size d
+variables_size of_last = omega arith
+variables_size (of_more (of_then {d = is} h (of_then (of_token g) (of_then {d = t} j (of_token s)))) k) =
+    let i = idents_size h in
+    let m = type_size j in
+    let r = variables_size k in
+    let l = length-append (type_shapes (type_of t)) (map (named var_kind) (idents_of is)) in
+    let n = length-map (idents_of is) (named var_kind) in
+    omega (arith, i, m, r, l, n)
+
+declaration_size : {d : Tree Token} → Derives grammar (declaration procedure_cut) d → declared (trees.declaration_of d) ≤ size d
+declaration_size (of_left (of_then (of_token g) h)) = let i = constants_size h in omega (arith, i)
+declaration_size (of_right (of_left (of_then (of_token g) h))) = let i = types_size h in omega (arith, i)
+declaration_size (of_right (of_right (of_left (of_then (of_token g) h)))) = let i = variables_size h in omega (arith, i)
+declaration_size (of_right (of_right (of_right (of_then h (of_then (of_token g) (of_token {t = c} k)))))) = let i = procedure_size h c.value in omega (arith, i)
+
+declarations_size : {d : Tree Token} → Derives grammar (many (declaration procedure_cut)) d → declared (trees.declarations_of d) ≤ size d
+declarations_size of_last = omega arith
+declarations_size (of_more {d = d} {ds = ds} h k) =
+    let i = declaration_size h in
+    let j = declarations_size k in
+    let l = declared_append (trees.declaration_of d) (trees.declarations_of ds) in
+    omega (arith, i, j, l)
+
+definition_size : {d : Tree Token} → Derives grammar definition_declaration d → declared (trees.definition_declaration_of d) ≤ size d
+definition_size (of_left (of_then (of_token g) h)) = let i = constants_size h in omega (arith, i)
+definition_size (of_right (of_left (of_then (of_token g) h))) = let i = defined_types_size h in omega (arith, i)
+definition_size (of_right (of_right (of_left (of_then (of_token g) h)))) = let i = variables_size h in omega (arith, i)
+definition_size (of_right (of_right (of_right (of_then h (of_token g))))) = let i = procedure_size h 0 in omega (arith, i)
+
+definitions_size : {d : Tree Token} → Derives grammar (many definition_declaration) d → declared (trees.definition_declarations_of d) ≤ size d
+definitions_size of_last = omega arith
+definitions_size (of_more {d = d} {ds = ds} h k) =
+    let i = definition_size h in
+    let j = definitions_size k in
+    let l = declared_append (trees.definition_declaration_of d) (trees.definition_declarations_of ds) in
+    omega (arith, i, j, l)
+
+block_size : {d : Tree Token} → Derives grammar (block procedure_cut) d → (w : List Token) → declared (trees.block_of d w).decls ≤ size d
+block_size (of_then h (of_then b (of_then e i))) w = let j = declarations_size h in omega (arith, j)
+
+-- ** Imports
+
+names_count : (from : Option Ident) (names : List Ident) → count (map (λ n. import_item from n) names) ≡ length names
+names_count from [] = refl
+names_count from (n ∷ names) = let i = names_count from names in omega (arith, i)
+
+imports_size : {d : Tree Token} → Derives grammar (many imported) d → count (flat_map import_items (trees.imports_of d)) ≤ size d
+imports_size of_last = omega arith
+imports_size (of_more {ds = is} (of_then {d = from} f (of_then (of_token g) (of_then {d = names} h (of_token s)))) k) =
+    let i = idents_size h in
+    let j = imports_size k in
+    let n = names_count (trees.from_of from) (idents_of names) in
+    let l = count_append (map (λ n. import_item (trees.from_of from) n) (idents_of names)) (flat_map import_items (trees.imports_of is)) in
+    omega (arith, i, j, n, l)
+
+-- ** Streams
+
+main_size : {d : Tree Token} → Derives grammar (main procedure_cut) d → rows_of (trees.main_of d []) ≤ size d
+main_size {d} (of_then m (of_then w (of_then i (of_then s (of_then {d = is} h (of_then {d = b} k (of_then {d = p} {e = z} l n))))))) =
+    let e = rows_are (trees.main_of d []) in
+    let f = imports_size h in
+    let g = block_size k (tokens (both p z) ++ []) in
+    let c = count_append (flat_map import_items (trees.imports_of is)) (map decl_item (trees.block_of b (tokens (both p z) ++ [])).decls) in
+    omega (arith, e, f, g, c)
+
+definition_rows_size : {d : Tree Token} → Derives grammar definition d → rows_of (trees.definition_of d []) ≤ size d
+definition_rows_size {d} (of_then m (of_then w (of_then i (of_then s (of_then {d = is} h (of_then x (of_then {d = ds} k (of_then l (of_then n (of_then p z)))))))))) =
+    let e = rows_are (trees.definition_of d []) in
+    let f = imports_size h in
+    let g = definitions_size k in
+    let c = count_append (flat_map import_items (trees.imports_of is)) (map decl_item (trees.definition_declarations_of ds)) in
+    omega (arith, e, f, g, c)
+
+procedure_rows_size : {d : Tree Token} → Derives grammar procedure_stream d → rows_of (trees.procedure_stream_of d []) ≤ size d
+procedure_rows_size {d} (of_then h (of_then s (of_then {d = b} k (of_then {d = p} {e = z} l n)))) =
+    let e = rows_are (trees.procedure_stream_of d []) in
+    let f = heading_size own_section_shapes own_counted h in
+    let g = block_size k (tokens (both p z) ++ []) in
+    omega (arith, e, f, g)
+
+stream_size : (kind : StreamKind) {d : Tree Token} → Derives grammar (stream kind) d → rows_of (trees.stream_of kind d []) ≤ size d
+stream_size streams.Main h = main_size h
+stream_size streams.Definition h = definition_rows_size h
+stream_size streams.Procedure h = procedure_rows_size h
+
+pub stream_rows : (tree : Stream) (s : StreamOf) → SpellsStream tree s → rows_of tree ≤ length s.tokens
+stream_rows tree s h =
+    let i = stream_size s.kind h.sentence.derives in
+    let j = size_is h.sentence.tree in
+    let k = ap length h.sentence.spells in
+    let l = ap rows_of h.gives in
+    omega (arith, i, j, k, l)
+
+pub scope_rows : (trees : List Stream) (streams : List StreamOf) → SpellsStreams trees streams → AllZip (λ rows room. rows ≤ room) (rows_of_scopes trees) (sizes_of streams)
+scope_rows trees streams h = (omega arith, on trees streams h)
+  where
+    on : (trees : List Stream) (streams : List StreamOf) → SpellsStreams trees streams → AllZip (λ rows room. rows ≤ room) (map rows_of trees) (map (λ (s : StreamOf). length s.tokens) streams)
+    on [] [] h = tt
+    on [] (s ∷ ss) h = absurd h
+    on (t ∷ ts) [] h = absurd h
+    on (t ∷ ts) (s ∷ ss) h = (stream_rows t s h.0, on ts ss h.1)
+
+pub finished_rows : (source : Source) (tables : List (List Row)) (b : BlockTree) → length (declare_block source tables b).rows ≡ rows_of b.tree
+finished_rows source tables b =
+    let i = AreShaped-length (block_shaped source tables b) in
+    let j = count_is (items_of b.tree) in
+    let k = rows_are b.tree in
+    omega (arith, i, j, k)

@@ -1,0 +1,5 @@
+use Rattle.stream_split.proofs.RowCounts.{stream_rows, scope_rows, finished_rows}
+use Rattle.stream_split.proofs.laws.rows_have_room.Goals as goal
+
+pub returns : goal.returns
+returns c = record { stream = stream_rows; scopes = scope_rows; made = finished_rows }
