@@ -1,14 +1,28 @@
-//! Runs of programs of one object, calculated from the definition outside this repository, and of programs that were worked by
-//! hand.
-mod rows;
+//! Runs of programs of one object: as another machine runs them, and worked by hand.
+mod runs_1;
+mod runs_2;
+mod worked;
 
-use crate::tests::rows::{ROWS, Row, WORKED};
+use self::worked::WORKED;
 use crate::{End, Machine, StartFault, Trap, loaded_code_is_valid, no_step_is_stuck};
 use m2_io::{MemSink, MemSource, Source};
 use object_file::{Program, read_object};
 use std::alloc::Global;
 use std::process::Abort;
 use std::test::Fail;
+
+/// A number, an object, the cells and the steps that it has, its input; how it ends, what it has printed, and what is left of
+/// the input.
+type Row = (
+    u32,
+    &'static [u8],
+    u32,
+    u64,
+    &'static [u8],
+    End,
+    &'static [u8],
+    &'static [u8],
+);
 
 /// The machine of an object, before its first step.
 fn machine(
@@ -79,14 +93,20 @@ fn runs_so(
     Ok(())
 }
 
+/// Asserts that rows run as they say.
+fn run_so(rt: &impl Abort, alloc: Global, rows: &[Row]) -> Result<(), Fail> {
+    for row in rows {
+        runs_so(rt, alloc, row, row.3, 1, 4096)?;
+    }
+    Ok(())
+}
+
 #[test]
 fn programs_run_so(rt: HostRuntime) -> Result<(), Fail> {
     no_step_is_stuck();
     loaded_code_is_valid();
-    for row in &ROWS {
-        runs_so(&rt, rt.alloc(), row, row.3, 1, 4096)?;
-    }
-    Ok(())
+    run_so(&rt, rt.alloc(), &runs_1::ROWS)?;
+    run_so(&rt, rt.alloc(), &runs_2::ROWS)
 }
 
 #[test]
