@@ -1,10 +1,9 @@
 -- What the use of a name leaves, and the texts of scopes.
-use Rattle.std.proofs.Common.{◌≡◌, ◌≢◌, ◌⊎◌, inl, inr, ℕ, zero, suc, ◌+◌, ◌-◌, ◌<◌, ◌≤◌, ◌^◌, ◌==◌, Bool, true, false, if◌then◌else◌, List, [], ◌∷◌, ◌++◌, Option, Some, None, Result, Ok, Err, length, map, take, drop, refl, sym, ◌∙◌, ap, subst, arith}
+use Rattle.std.proofs.Common.{◌≡◌, ◌≢◌, ◌⊎◌, inl, inr, ℕ, zero, suc, ◌+◌, ◌-◌, ◌<◌, ◌≤◌, ◌^◌, true, false, if◌then◌else◌, List, [], ◌∷◌, ◌++◌, Option, Some, None, Result, Ok, Err, length, map, take, drop, refl, sym, ◌∙◌, ap, subst, arith}
 use Rattle.std.specs.Prelude.{slice_index_or, slice_get, unwrap_or}
 use Rattle.std.specs.Result.{IfOk, OnErr}
 use Rattle.std.proofs.lemmas.List.{append-nil}
 use Rattle.m2_base.specs.Asks.{IfKnown}
-use Rattle.m2_base.specs.Finished.{IsTold}
 use Rattle.m2_base.specs.Gives.{Adds, and_then, gives, gives_answer}
 use Rattle.m2_base.specs.Lists.{IsPrefixOf, Each, IsIn}
 use Rattle.m2_base.specs.Rows.{row_of, row_meaning}
@@ -29,9 +28,9 @@ use Rattle.m2_base.proofs.Kept.{Works-trans, Works-kept, IsPrefixOf-refl, Each-m
 use Rattle.m2_base.proofs.RowLaws.{HasSmallNumbers-fits}
 use Rattle.m2_base.proofs.StandardLaws.{IsWellFormed-standard}
 use Rattle.type_rules.specs.Asks.{Reads}
-use Rattle.type_rules.specs.Scenes.{Suits, IsRowOf, rows_of, scene_of}
-use Rattle.type_rules.specs.Sites.{Looked, CanLook, SuitsSite, context_of, source_of, definitions_of}
-use Rattle.type_rules.proofs.Searches.{counted_below}
+use Rattle.type_rules.specs.Scenes.{Suits, IsRowOf, WhereTold, rows_of, scene_of}
+use Rattle.type_rules.specs.Sites.{AreOfSite, Looked, CanLook, SuitsSite, context_of, source_of, definitions_of}
+use Rattle.type_rules.proofs.Counting.{counted_below}
 
 -- of two facts, one by each outcome
 pub by_outcome : {T : Type 0} (r : Result T Memory) (P Q : Type 0) → IfOk r (λ _. P) → OnErr r Q → P ⊎ Q
@@ -109,7 +108,7 @@ rest_whole : (xs : List ℕ) → take (length xs - 1) (drop 1 xs) ≡ drop 1 xs
 rest_whole [] = refl
 rest_whole (x ∷ xs) = let one : suc (length xs) - 1 ≡ length xs = omega arith in ap (λ n. take n xs) one ∙ take_whole xs
 
-below_not : (n : ℕ) (chain : List ℕ) → Each (λ s. s < n) chain → IsIn n chain → ⊥
+pub below_not : (n : ℕ) (chain : List ℕ) → Each (λ s. s < n) chain → IsIn n chain → ⊥
 below_not n [] below on = on
 below_not n (s ∷ chain) below on = elim on as (λ _. ⊥) [ inl same ↦ (let e : n ≡ s = same in let b : s < n = below.0 in absurd (omega (arith, e, b))) | inr later ↦ below_not n chain below.1 later ]
 
@@ -150,21 +149,21 @@ can_whole f s xs same none suits =
 -- ** What is noted
 
 -- a found entry that isn't later, noted and followed
-pub outside_told : (answer : Result (Ask (Option Entry)) Memory) (f mid : Frame) (s : Site) (name at : ℕ) (e : Entry) (x y : Notes) (there : Option Entry) → mid ≡ f
-    → (IsTold f.setting.texts → there ≡ Some e) → stands_later (context_of f s) at e ≡ false
+pub outside_told : (answer : Result (Ask (Option Entry)) Memory) (f mid : Frame) (s : Site) (name at : ℕ) (e : Entry) (x y : Notes) (there : List Row → Option Entry) → mid ≡ f
+    → WhereTold f (λ made. there made ≡ Some e) → stands_later (context_of f [] s) at e ≡ false
     → IfOk answer (λ _. y.answers.items ≡ x.answers.items ++ answer_of name at e ∷ []) → y.diags.items ≡ x.diags.items
-    → (IsTold mid.setting.texts → IfKnown answer (λ found. found ≡ Some (followed (scene_of mid s.around.now) e)))
-    → IsTold f.setting.texts → IfKnown answer (λ entry. Adds x y (bound_outside (context_of f s) name at there) entry)
-outside_told (Ok (Known v)) f mid s name at e x y there same found earlier noted kept asked told =
-    let c = context_of f s in
-    let value : v ≡ Some (followed (scene_of f s.around.now) e) =
-    subst (λ (h : Frame). IsTold h.setting.texts → v ≡ Some (followed (scene_of h s.around.now) e)) same asked told in
+    → WhereTold mid (λ made. IfKnown answer (λ found. found ≡ Some (followed (scene_of mid made s.around.now) e)))
+    → WhereTold f (λ made. IfKnown answer (λ entry. Adds x y (bound_outside (context_of f made s) name at (there made)) entry))
+outside_told (Ok (Known v)) f mid s name at e x y there same found earlier noted kept asked made in_hand told =
+    let c = context_of f made s in
+    let value : v ≡ Some (followed (scene_of f made s.around.now) e) =
+    subst (λ (h : Frame). WhereTold h (λ rows. v ≡ Some (followed (scene_of h rows s.around.now) e))) same asked made in_hand told in
     let later = and_then (gives_answer (answer_of name at e) None) (λ none. refuse c at used_before none) in
-    let given : bound_outside c name at there ≡ bound c name at e =
-    ap (bound_outside c name at) (found told) ∙ ap (λ b. if b then later else bound c name at e) earlier in
+    let given : bound_outside c name at (there made) ≡ bound c name at e =
+    ap (bound_outside c name at) (found made in_hand told) ∙ ap (λ b. if b then later else bound c name at e) earlier in
     subst (λ g. Adds x y g v) (sym given) (record { value_is = value; diags = kept ∙ sym (append-nil x.diags.items); answers = noted })
-outside_told (Ok (DontKnowYet h)) f mid s name at e x y there same found earlier noted kept asked told = tt
-outside_told (Err m) f mid s name at e x y there same found earlier noted kept asked told = tt
+outside_told (Ok (DontKnowYet h)) f mid s name at e x y there same found earlier noted kept asked made in_hand told = tt
+outside_told (Err m) f mid s name at e x y there same found earlier noted kept asked made in_hand told = tt
 
 -- ** Standard names
 
@@ -179,13 +178,13 @@ get_is {A} (x ∷ xs) zero d r h = ap (λ (o : Option A). unwrap_or o r) h
 get_is (x ∷ xs) (suc i) d r h = get_is xs i d r h
 
 pub standard_told : (f : Frame) (s : Site) (name at : ℕ) (within : Option ℕ) (e : Entry) (n : Notes) → SuitsSite f s → within ≡ None → is_standard name ≡ true → e.0 ≡ standard_place name
-    → slice_get standard_rows (name + 10) ≡ Some e.1 → IsTold f.setting.texts → Adds n n (use_of (context_of f s) within name at) (Some e)
-standard_told f s name at within e n suits none is place row told =
-    let c = context_of f s in
+    → slice_get standard_rows (name + 10) ≡ Some e.1 → WhereTold f (λ made. AreOfSite s made → Adds n n (use_of (context_of f made s) within name at) (Some e))
+standard_told f s name at within e n suits none is place row made in_hand told of_site =
+    let c = context_of f made s in
     let agrees = suits.around.told told in
     let d : Row = row_of 0 0 Broken in
-    let rows : rows_at (rows_of f) 0 ≡ standard_rows = counted_below f 0 agrees suits.around.inner ∙ agrees.standard in
-    let here : row_at (rows_of f) (standard_place name) ≡ e.1 = ap (λ xs. slice_index_or xs (name + 10) d) rows ∙ get_is standard_rows (name + 10) d e.1 row in
+    let rows : rows_at (rows_of f made) 0 ≡ standard_rows = counted_below f made 0 agrees suits.around.inner ∙ agrees.standard in
+    let here : row_at (rows_of f made) (standard_place name) ≡ e.1 = ap (λ xs. slice_index_or xs (name + 10) d) rows ∙ get_is standard_rows (name + 10) d e.1 row in
     let entry : entry_at c.scene (standard_place name) ≡ e = ap (λ r. (standard_place name, r)) here ∙ ap (λ p. (p, e.1)) (sym place) in
     let given : use_of c within name at ≡ gives (Some e) =
     ap (λ w. use_of c w name at) none

@@ -1,6 +1,5 @@
 -- Answers that rest on others.
-use Rattle.std.proofs.Common.{◌≡◌, ◌∙◌, Bool, true, false, ◌&&◌, ◌||◌, not, sym, ap, subst}
-use Rattle.m2_base.specs.Finished.{IsTold}
+use Rattle.std.proofs.Common.{◌≡◌, ◌∙◌, Bool, true, false, ◌&&◌, ◌||◌, not, List, sym, ap, subst}
 use Rattle.m2_base.specs.Rows.{is_same_place}
 use Rattle.m2_base.specs.Standard.{character}
 use Rattle.m2_base.specs.States.{Frame}
@@ -11,16 +10,21 @@ use Rattle.m2_base.specs.Statics.Types.{base_of}
 use Rattle.m2_base.specs.declared.operands.Operand.{Operand}
 use Rattle.m2_base.specs.declared.replies.Ask.{Ask}
 use Rattle.m2_base.specs.declared.rows.Place.{Place}
-use Rattle.m2_base.specs.declared.sites.Around.{Around}
+use Rattle.m2_base.specs.declared.rows.Row.{Row}
 use Rattle.type_rules.specs.Asks.{WhereKnown}
-use Rattle.type_rules.specs.Scenes.{scene_of}
+use Rattle.type_rules.specs.Scenes.{WhereTold}
+
+-- what a later question says, over the frame that it was asked in
+pub told_later : (f mid : Frame) (P : Frame → List Row → Type 0) → mid ≡ f → WhereTold mid (P mid) → WhereTold f (P f)
+told_later f mid P same says = subst (λ (h : Frame). WhereTold h (P h)) same says
 
 -- The answer of a later question is the answer wanted: `given` is its definition, over the frame that it was asked in.
-pub told_as : {T : Type 0} (answer : Ask T) (f mid : Frame) (given : Frame → T) (value : T) → mid ≡ f
-    → (IsTold mid.setting.texts → WhereKnown answer (λ x. x ≡ given mid)) → (IsTold f.setting.texts → given f ≡ value)
-    → IsTold f.setting.texts → WhereKnown answer (λ x. x ≡ value)
-told_as {T} answer f mid given value same asked is told =
-    subst (λ (n : T). WhereKnown answer (λ x. x ≡ n)) (is told) (subst (λ (h : Frame). IsTold h.setting.texts → WhereKnown answer (λ x. x ≡ given h)) same asked told)
+pub told_as : {T : Type 0} (answer : Ask T) (f mid : Frame) (given : Frame → List Row → T) (value : List Row → T) → mid ≡ f
+    → WhereTold mid (λ made. WhereKnown answer (λ x. x ≡ given mid made)) → WhereTold f (λ made. given f made ≡ value made)
+    → WhereTold f (λ made. WhereKnown answer (λ x. x ≡ value made))
+told_as {T} answer f mid given value same asked is made in_hand told =
+    subst (λ (n : T). WhereKnown answer (λ x. x ≡ n)) (is made in_hand told)
+    (subst (λ (h : Frame). WhereTold h (λ rows. WhereKnown answer (λ x. x ≡ given h rows))) same asked made in_hand told)
 
 -- one of two operands of these bases is a string of one character, and the other a CHAR
 abbrev pub beside : Operand → Place → Operand → Place → Bool

@@ -1,10 +1,9 @@
 -- The quotient of two constants.
-use Rattle.std.specs.Prelude.{◌≡◌, refl, ℕ, zero, suc, ◌<◌, ◌/◌, ℤ, pos, negsuc, ◌<ℤ◌, int_lt, Option, Some, None, true, if◌then◌else◌}
-use Rattle.std.proofs.Common.{ap, sym, ◌∙◌, arith}
+use Rattle.std.specs.Prelude.{◌≡◌, zero, suc, ◌/◌, ℤ, pos, negsuc, ◌<ℤ◌, None, if◌then◌else◌}
+use Rattle.std.proofs.Common.{ap, sym, arith}
 use Rattle.std.proofs.lemmas.Bool.{lt-ltb}
 use Rattle.std.specs.Int.{int_div_euclid}
-use Rattle.m2_base.specs.Rows.{natural}
-use Rattle.m2_base.specs.Statics.Folding.{div_down, fold_number, where_in}
+use Rattle.m2_base.specs.Statics.Folding.{fold_number, where_in}
 use Rattle.m2_base.specs.Statics.Ranges.{Range}
 use Rattle.m2_base.specs.declared.trees.operators.Operator.TheVariants.{Div}
 

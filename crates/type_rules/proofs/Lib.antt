@@ -1,8 +1,10 @@
 pub mod Reading
+pub mod Counting
 pub mod Divisions
 pub mod Searches
 pub mod Opaque
 pub mod Walks
 pub mod Compatibles
 pub mod Binding
+pub mod Naming
 pub mod Procedures

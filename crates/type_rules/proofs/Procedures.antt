@@ -1,15 +1,13 @@
 -- Procedure types of the same form.
-use Rattle.std.proofs.Common.{◌≡◌, ◌∙◌, ℕ, Bool, true, false, not, ◌&&◌, ◌||◌, List, Option, Some, None, refl, sym, ap, subst}
+use Rattle.std.proofs.Common.{◌≡◌, ◌∙◌, ℕ, Bool, true, false, not, ◌&&◌, ◌||◌, Option, Some, None, refl, sym, ap, subst}
 use Rattle.std.specs.Prelude.{unwrap_or}
-use Rattle.m2_base.specs.Finished.{IsTold}
-use Rattle.m2_base.specs.Rows.{is_same_place}
 use Rattle.m2_base.specs.States.{Frame}
 use Rattle.m2_base.specs.Statics.Assignable.{are_both_numbers, is_open_array, is_procedure_kind, takes, takes_procedure}
 use Rattle.m2_base.specs.Statics.Compatible.{is_compatible}
 use Rattle.m2_base.specs.Statics.Operands.{operand_type}
 use Rattle.m2_base.specs.Statics.Contexts.{Scene}
 use Rattle.m2_base.specs.Statics.SameForm.{are_same_parameters, is_same_by, is_same_form, is_same_parameter_type, is_same_result}
-use Rattle.m2_base.specs.Statics.TypeParts.{Parameter, parameters_by as spec_parameters_by, result_by}
+use Rattle.m2_base.specs.Statics.TypeParts.{parameters_by as spec_parameters_by, result_by}
 use Rattle.m2_base.specs.Statics.Types.{base_of, kind_of, stands_for}
 use Rattle.m2_base.specs.declared.operands.Operand.{Operand}
 use Rattle.m2_base.specs.declared.operands.Operand.TheVariants.{Computed, Procedure, StringConstant}
@@ -21,7 +19,7 @@ use Rattle.m2_base.specs.declared.sites.Around.{Around}
 use Rattle.type_rules.specs.Asks.{WhereKnown}
 use Rattle.type_rules.specs.Assigning.{takes_closed, takes_value}
 use Rattle.type_rules.specs.Forms.{are_same_places, compared, form_by, parameters_by, parameters_from, same_by, same_forms, same_kinds}
-use Rattle.type_rules.specs.Scenes.{IsStood, scene_of}
+use Rattle.type_rules.specs.Scenes.{IsStood, WhereTold, scene_of}
 use Rattle.type_rules.specs.declared.forms.Compared.{Compared}
 use Rattle.type_rules.specs.declared.forms.Form.{Form}
 use Rattle.type_rules.specs.declared.forms.Formal.{Formal}
@@ -51,18 +49,20 @@ stood_same scene x y l r left right =
 -- ** Lists of parameters
 
 pub next_told : (answer : Ask Compared) (f mid : Frame) (a : Around) (x y : Place) (left right : ℕ) (o p : Option Formal) (first second : Formal) → mid ≡ f → o ≡ Some first → p ≡ Some second
-    → (IsTold f.setting.texts → parameters_from (scene_of f a) x left ≡ parameters_by (scene_of f a) x o)
-    → (IsTold f.setting.texts → parameters_from (scene_of f a) y right ≡ parameters_by (scene_of f a) y p)
-    → (IsTold mid.setting.texts → (x y : Place) → WhereKnown answer (λ step. are_same_parameters (scene_of mid a) (parameters_by (scene_of mid a) x (Some first)) (parameters_by (scene_of mid a) y (Some second)) ≡ compared (scene_of mid a) x y step))
-    → IsTold f.setting.texts → WhereKnown answer (λ step. are_same_parameters (scene_of f a) (parameters_from (scene_of f a) x left) (parameters_from (scene_of f a) y right) ≡ compared (scene_of f a) x y step)
-next_told answer f mid a x y left right o p first second same is_first is_second from_left from_right asked told =
-    let here : WhereKnown answer (λ step. are_same_parameters (scene_of f a) (parameters_by (scene_of f a) x (Some first)) (parameters_by (scene_of f a) y (Some second)) ≡ compared (scene_of f a) x y step) =
-    subst (λ (h : Frame). IsTold h.setting.texts → (x y : Place) → WhereKnown answer (λ step. are_same_parameters (scene_of h a) (parameters_by (scene_of h a) x (Some first)) (parameters_by (scene_of h a) y (Some second)) ≡ compared (scene_of h a) x y step)) same asked told x y in
-    let xs : parameters_by (scene_of f a) x (Some first) ≡ parameters_from (scene_of f a) x left = sym (from_left told ∙ ap (parameters_by (scene_of f a) x) is_first) in
-    let ys : parameters_by (scene_of f a) y (Some second) ≡ parameters_from (scene_of f a) y right = sym (from_right told ∙ ap (parameters_by (scene_of f a) y) is_second) in
-    let lists : are_same_parameters (scene_of f a) (parameters_by (scene_of f a) x (Some first)) (parameters_by (scene_of f a) y (Some second)) ≡ are_same_parameters (scene_of f a) (parameters_from (scene_of f a) x left) (parameters_from (scene_of f a) y right) =
-    ap (λ l. are_same_parameters (scene_of f a) l (parameters_by (scene_of f a) y (Some second))) xs ∙ ap (are_same_parameters (scene_of f a) (parameters_from (scene_of f a) x left)) ys in
-    subst (λ b. WhereKnown answer (λ step. b ≡ compared (scene_of f a) x y step)) lists here
+    → WhereTold f (λ made. parameters_from (scene_of f made a) x left ≡ parameters_by (scene_of f made a) x o)
+    → WhereTold f (λ made. parameters_from (scene_of f made a) y right ≡ parameters_by (scene_of f made a) y p)
+    → WhereTold mid (λ made. (x y : Place) → WhereKnown answer (λ step. are_same_parameters (scene_of mid made a) (parameters_by (scene_of mid made a) x (Some first)) (parameters_by (scene_of mid made a) y (Some second)) ≡ compared (scene_of mid made a) x y step))
+    → WhereTold f (λ made. WhereKnown answer (λ step. are_same_parameters (scene_of f made a) (parameters_from (scene_of f made a) x left) (parameters_from (scene_of f made a) y right) ≡ compared (scene_of f made a) x y step))
+next_told answer f mid a x y left right o p first second same is_first is_second from_left from_right asked made in_hand told =
+    let scene = scene_of f made a in
+    let here : WhereKnown answer (λ step. are_same_parameters scene (parameters_by scene x (Some first)) (parameters_by scene y (Some second)) ≡ compared scene x y step) =
+    subst (λ (h : Frame). WhereTold h (λ rows. (x y : Place) → WhereKnown answer (λ step. are_same_parameters (scene_of h rows a) (parameters_by (scene_of h rows a) x (Some first)) (parameters_by (scene_of h rows a) y (Some second)) ≡ compared (scene_of h rows a) x y step)))
+    same asked made in_hand told x y in
+    let xs : parameters_by scene x (Some first) ≡ parameters_from scene x left = sym (from_left made in_hand told ∙ ap (parameters_by scene x) is_first) in
+    let ys : parameters_by scene y (Some second) ≡ parameters_from scene y right = sym (from_right made in_hand told ∙ ap (parameters_by scene y) is_second) in
+    let lists : are_same_parameters scene (parameters_by scene x (Some first)) (parameters_by scene y (Some second)) ≡ are_same_parameters scene (parameters_from scene x left) (parameters_from scene y right) =
+    ap (λ l. are_same_parameters scene l (parameters_by scene y (Some second))) xs ∙ ap (are_same_parameters scene (parameters_from scene x left)) ys in
+    subst (λ b. WhereKnown answer (λ step. b ≡ compared scene x y step)) lists here
 
 -- ** Procedure types
 

@@ -1,13 +1,9 @@
 -- What questions leave as before, one after another.
-use Rattle.std.proofs.Common.{◌≡◌, ℕ, ◌+◌, ◌*◌, ◌<◌, ◌≤◌, ◌^◌, false, List, [], ◌∷◌, ◌++◌, Option, Some, None, refl, sym, ◌∙◌, ap, subst, arith}
-use Rattle.m2_base.specs.Lists.{Each}
-use Rattle.m2_base.specs.Rows.{IsBefore}
-use Rattle.m2_base.specs.declared.rows.Place.{Place}
-use Rattle.m2_base.specs.States.{State, Frame, Look, Keeps, Waits, fills_of}
+use Rattle.std.proofs.Common.{◌≡◌, [], ◌++◌}
+use Rattle.m2_base.specs.States.{State, Look, Keeps, Waits}
 use Rattle.m2_base.specs.declared.replies.Head.{Head}
-use Rattle.m2_base.proofs.Kept.{Keeps-refl, Keeps-trans, Each-append, Waits_after, Waits_before}
+use Rattle.m2_base.proofs.Kept.{Keeps-refl, Keeps-trans, Each-append, Waits_after}
 use Rattle.type_rules.specs.Asks.{Reads}
-use Rattle.type_rules.specs.Scenes.{IsThere}
 
 pub Reads-refl : (a : State) → Reads a a
 Reads-refl a = record { looks = []; keeps = Keeps-refl a; silent = tt }

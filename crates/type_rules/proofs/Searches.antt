@@ -1,50 +1,32 @@
 -- What a search finds in the rows that count.
-use Rattle.std.proofs.Common.{◌≡◌, ◌≢◌, ◌⊎◌, inl, inr, ℕ, zero, suc, ◌+◌, ◌==◌, ◌<◌, ◌≤◌, ◌^◌, Bool, true, false, List, [], ◌∷◌, ◌++◌, Option, Some, None, length, take, refl, sym, ◌∙◌, ap, subst, arith, if◌then◌else◌}
-use Rattle.std.specs.Prelude.{slice_index_or, slice_get, unwrap_or, option_map}
+use Rattle.std.proofs.Common.{◌≡◌, ◌≢◌, inl, inr, ℕ, zero, suc, ◌+◌, ◌==◌, ◌<◌, ◌≤◌, ◌^◌, Bool, true, false, List, [], ◌∷◌, ◌++◌, Option, Some, None, length, refl, sym, ◌∙◌, ap, subst, arith, if◌then◌else◌}
+use Rattle.std.specs.Prelude.{slice_get, unwrap_or, option_map}
 use Rattle.std.proofs.lemmas.Bool.{true≢false}
 use Rattle.m2_base.specs.Finished.{IsTold, finished}
-use Rattle.m2_base.specs.Lists.{IsIn, IsPrefixOf, Each, Grows, WhereLast}
+use Rattle.m2_base.specs.Lists.{IsIn, Each, Grows, WhereLast}
 use Rattle.m2_base.specs.Rows.{at_place, row_meaning, IsWellFormed}
-use Rattle.m2_base.specs.Scopes.{CanSearch, Searched, IsShown, looks_of}
+use Rattle.m2_base.specs.Scopes.{CanSearch, Searched, looks_of}
 use Rattle.m2_base.specs.States.{State, Frame, Look, IsAmong, Waits, texts_of, fills_of, finished_of}
+use Rattle.m2_base.specs.Statics.Contexts.{Scene}
 use Rattle.m2_base.specs.Statics.Lookup.{entry_in}
+use Rattle.m2_base.specs.Statics.Types.{named_or, type_named}
 use Rattle.m2_base.specs.Statics.Uses.{answer_of}
-use Rattle.m2_base.specs.Tables.{lookup, found_or, first_named, rows_at, Settles, Lacks}
+use Rattle.m2_base.specs.Tables.{lookup, found_or, first_named, rows_at, Lacks}
 use Rattle.m2_base.specs.declared.replies.Ask.TheVariants.{Known, DontKnowYet as Waiting}
 use Rattle.m2_base.specs.declared.replies.Head.{Head}
 use Rattle.m2_base.specs.declared.replies.Reply.{Reply}
 use Rattle.m2_base.specs.declared.replies.Reply.TheVariants.{Found, Absent, DontKnowYet}
 use Rattle.m2_base.specs.declared.rows.Place.{Place}
 use Rattle.m2_base.specs.declared.rows.Row.{Row}
+use Rattle.m2_base.specs.declared.rows.RowMeaning.{RowMeaning}
+use Rattle.m2_base.specs.declared.rows.RowMeaning.TheVariants.{TypeName}
 use Rattle.m2_base.specs.declared.sites.Around.{Around}
 use Rattle.m2_base.proofs.Kept.{Each-map}
 use Rattle.m2_base.proofs.RowLaws.{HasSmallNumbers-fits}
 use Rattle.type_rules.specs.Asks.{Reads}
-use Rattle.type_rules.specs.Scenes.{Suits, Agrees, IsThere, IsRowOf, rows_of}
+use Rattle.type_rules.specs.Scenes.{Suits, Agrees, AreInHand, IsRowOf, NamesNoType, rows_of}
 use Rattle.type_rules.specs.Sites.{CanLook, Looked, IsLookFor}
-
--- ** Rows that count
-
-rows_below : (tables : List (List Row)) (own : List Row) (n s : ℕ) → s < n → n < length tables → slice_index_or (take n tables ++ own ∷ []) s [] ≡ slice_index_or tables s []
-rows_below [] own n s below there = absurd (omega (arith, there))
-rows_below (x ∷ tables) own zero s below there = absurd (omega (arith, below))
-rows_below (x ∷ tables) own (suc n) zero below there = refl
-rows_below (x ∷ tables) own (suc n) (suc s) below there = rows_below tables own n s (omega (arith, below)) (omega (arith, there))
-
-rows_here : (tables : List (List Row)) (own : List Row) (n : ℕ) → n < length tables → slice_index_or (take n tables ++ own ∷ []) n [] ≡ own
-rows_here [] own n there = absurd (omega (arith, there))
-rows_here (x ∷ tables) own zero there = refl
-rows_here (x ∷ tables) own (suc n) there = rows_here tables own n (omega (arith, there))
-
-pub below_or_same : (a b : ℕ) → a ≤ b → (a < b) ⊎ (a ≡ b)
-below_or_same a b h = grind arith
-
--- the rows of a scope before the own one are the finished ones, and those of the own one are entered
-pub counted_below : (f : Frame) (s : ℕ) → Agrees f → s < f.setting.fills → rows_at (rows_of f) s ≡ rows_at (finished f.setting.texts) s
-counted_below f s agrees below = rows_below (finished f.setting.texts) f.entered f.setting.fills s below agrees.scopes
-
-pub counted_own : (f : Frame) → Agrees f → rows_at (rows_of f) f.setting.fills ≡ f.entered
-counted_own f agrees = rows_here (finished f.setting.texts) f.entered f.setting.fills agrees.scopes
+use Rattle.type_rules.proofs.Counting.{below_or_same, counted_below, counted_closed, counted_own}
 
 -- ** The first row of a name
 
@@ -64,6 +46,36 @@ first_in_front name (x ∷ xs) rest n k r h front = go (x.name == name) (λ e. f
     go true next e = e
     go false next e = next e
 
+-- more rows come behind
+first_front : (name : ℕ) (xs ys : List Row) (n k : ℕ) (r : Row) → first_named name xs n ≡ Some (k, r) → first_named name (xs ++ ys) n ≡ Some (k, r)
+first_front name [] ys n k r h = absurd (cc)
+first_front name (x ∷ xs) ys n k r h = go (x.name == name) (first_front name xs ys (n + 1) k r) h
+  where
+    go : (b : Bool) → (first_named name xs (n + 1) ≡ Some (k, r) → first_named name (xs ++ ys) (n + 1) ≡ Some (k, r)) → (if b then Some (n, x) else first_named name xs (n + 1)) ≡ Some (k, r) → (if b then Some (n, x) else first_named name (xs ++ ys) (n + 1)) ≡ Some (k, r)
+    go true next e = e
+    go false next e = next e
+
+first_behind : (name : ℕ) (xs ys : List Row) (n : ℕ) → first_named name xs n ≡ None → first_named name (xs ++ ys) n ≡ first_named name ys (n + length xs)
+first_behind name [] ys n h = ap (first_named name ys) (omega arith)
+first_behind name (x ∷ xs) ys n h = go (x.name == name) (first_behind name xs ys (n + 1)) h
+  where
+    further : first_named name ys (n + 1 + length xs) ≡ first_named name ys (n + suc (length xs))
+    further = ap (first_named name ys) (omega arith)
+
+    go : (b : Bool) → (first_named name xs (n + 1) ≡ None → first_named name (xs ++ ys) (n + 1) ≡ first_named name ys (n + 1 + length xs)) → (if b then Some (n, x) else first_named name xs (n + 1)) ≡ None
+        → (if b then Some (n, x) else first_named name (xs ++ ys) (n + 1)) ≡ first_named name ys (n + suc (length xs))
+    go true next e = absurd (cc)
+    go false next e = next e ∙ further
+
+-- rows that lack a name do so from any ordinal on
+lacks_from : (name : ℕ) (xs : List Row) (n m : ℕ) → first_named name xs n ≡ None → first_named name xs m ≡ None
+lacks_from name [] n m h = refl
+lacks_from name (x ∷ xs) n m h = go (x.name == name) (lacks_from name xs (n + 1) (m + 1)) h
+  where
+    go : (b : Bool) → (first_named name xs (n + 1) ≡ None → first_named name xs (m + 1) ≡ None) → (if b then Some (n, x) else first_named name xs (n + 1)) ≡ None → (if b then Some (m, x) else first_named name xs (m + 1)) ≡ None
+    go true next e = absurd (cc)
+    go false next e = next e
+
 -- ** A search in one scope
 
 at_once : (s : ℕ) (o : Option (ℕ × Row)) (p : Place) (r : Row) → found_or s o None ≡ Some (p, r) → o ≡ Some (p.ordinal, r)
@@ -79,26 +91,26 @@ slice_within [] i r h = absurd (cc)
 slice_within (x ∷ xs) zero r h = omega arith
 slice_within (x ∷ xs) (suc i) r h = let k = slice_within xs i r h in omega (arith, k)
 
--- where nothing is entered of the name
-lacks_own : (f : Frame) (name : ℕ) → Agrees f → Lacks f.entered name → entry_in (rows_of f) f.setting.fills name ≡ None
-lacks_own f name agrees lacks =
-    ap (λ rows. found_or f.setting.fills (first_named name rows 0) None) (counted_own f agrees)
-    ∙ ap (λ o. found_or f.setting.fills o None) lacks
+-- where nothing is entered of the name, and nothing in hand
+lacks_own : (f : Frame) (made : List Row) (name : ℕ) → Agrees f → Lacks f.entered name → Lacks made name → entry_in (rows_of f made) f.setting.fills name ≡ None
+lacks_own f made name agrees entered lacks =
+    ap (λ rows. found_or f.setting.fills (first_named name rows 0) None) (counted_own f made agrees)
+    ∙ ap (λ o. found_or f.setting.fills o None) (first_behind name f.entered made 0 entered ∙ lacks_from name made 0 (0 + length f.entered) lacks)
 
-settled_below : (f : Frame) (s name : ℕ) → Agrees f → s < f.setting.fills → entry_in (rows_of f) s name ≡ lookup (finished f.setting.texts) (s ∷ []) name
-settled_below f s name agrees below = ap (λ rows. found_or s (first_named name rows 0) None) (counted_below f s agrees below)
+settled_below : (f : Frame) (made : List Row) (s name : ℕ) → Agrees f → s < f.setting.fills → entry_in (rows_of f made) s name ≡ lookup (finished f.setting.texts) (s ∷ []) name
+settled_below f made s name agrees below = ap (λ rows. found_or s (first_named name rows 0) None) (counted_below f made s agrees below)
 
-found_own : (f : Frame) (name : ℕ) (p : Place) (r : Row) → Agrees f → lookup (finished f.setting.texts) (f.setting.fills ∷ []) name ≡ Some (p, r) → slice_get f.entered p.ordinal ≡ Some r
-    → entry_in (rows_of f) f.setting.fills name ≡ Some (p, r)
-found_own f name p r agrees settled entered =
+found_own : (f : Frame) (made : List Row) (name : ℕ) (p : Place) (r : Row) → Agrees f → lookup (finished f.setting.texts) (f.setting.fills ∷ []) name ≡ Some (p, r) → slice_get f.entered p.ordinal ≡ Some r
+    → entry_in (rows_of f made) f.setting.fills name ≡ Some (p, r)
+found_own f made name p r agrees settled entered =
     let fills = f.setting.fills in
     let full = rows_at (finished f.setting.texts) fills in
     let first : first_named name full 0 ≡ Some (p.ordinal, r) = at_once fills (first_named name full 0) p r settled in
     let front : first_named name (f.entered ++ agrees.entered.rest) 0 ≡ Some (p.ordinal, r) = subst (λ rows. first_named name rows 0 ≡ Some (p.ordinal, r)) (sym agrees.entered.joined) first in
     let own : first_named name f.entered 0 ≡ Some (p.ordinal, r) = first_in_front name f.entered agrees.entered.rest 0 p.ordinal r front (let k = slice_within f.entered p.ordinal r entered in omega (arith, k)) in
     let place : at_place fills p.ordinal ≡ p = ap (λ s. at_place s p.ordinal) (sym (scope_once fills (first_named name full 0) p r settled)) in
-    ap (λ rows. found_or fills (first_named name rows 0) None) (counted_own f agrees)
-    ∙ ap (λ o. found_or fills o None) own
+    ap (λ rows. found_or fills (first_named name rows 0) None) (counted_own f made agrees)
+    ∙ ap (λ o. found_or fills o None) (first_front name f.entered made 0 p.ordinal r own)
     ∙ ap (λ q. Some (q, r)) place
 
 -- ** What a search answers
@@ -106,41 +118,73 @@ found_own f name p r agrees settled entered =
 pub can_search : (old : State) (a : Around) (s name : ℕ) → Suits old.frame a → s ≤ fills_of old → name ≢ 0 → CanSearch old (s ∷ []) name
 can_search old a s name suits inner named = record { short = omega arith; exist = (let e = suits.exist in omega (arith, e, inner), tt); named = named }
 
-pub found_in : (old new : State) (a : Around) (at s name : ℕ) (p : Place) (r : Row) → Suits old.frame a → s ≤ fills_of old → Searched old new at (s ∷ []) name (Found p r)
-    → IsTold (texts_of old) → entry_in (rows_of old.frame) s name ≡ Some (p, r)
-found_in old new a at s name p r suits inner searched told =
-    let agrees = suits.told told in
-    elim (below_or_same s (fills_of old) inner) as (λ _. entry_in (rows_of old.frame) s name ≡ Some (p, r)) [
-      | inl below ↦ settled_below old.frame s name agrees below ∙ searched.settled told
-      | inr same ↦ (
-          let settled : lookup (finished_of old) (fills_of old ∷ []) name ≡ Some (p, r) = subst (λ k. lookup (finished_of old) (k ∷ []) name ≡ Some (p, r)) same (searched.settled told) in
-          let scope : p.scope ≡ fills_of old = scope_once (fills_of old) (first_named name (rows_at (finished_of old) (fills_of old)) 0) p r settled in
-          let entered : slice_get old.frame.entered p.ordinal ≡ Some r =
-          subst (λ (f : Frame). slice_get f.entered p.ordinal ≡ Some r) searched.keeps.frame
-          (searched.says.shown.own (scope ∙ ap (λ (f : Frame). f.setting.fills) (sym searched.keeps.frame))) in
-          ap (λ k. entry_in (rows_of old.frame) k name) same ∙ found_own old.frame name p r agrees settled entered)
-    ]
+module _ (old new : State) (a : Around) (at name : ℕ) (made : List Row) (suits : Suits old.frame a) (in_hand : AreInHand old.frame made) (told : IsTold (texts_of old)) where
+  pub found_in : (s : ℕ) (p : Place) (r : Row) → s ≤ fills_of old → Searched old new at (s ∷ []) name (Found p r) → entry_in (rows_of old.frame made) s name ≡ Some (p, r)
+  found_in s p r inner searched =
+      let agrees = suits.told told in
+      elim (below_or_same s (fills_of old) inner) as (λ _. entry_in (rows_of old.frame made) s name ≡ Some (p, r)) [
+        | inl below ↦ settled_below old.frame made s name agrees below ∙ searched.settled told
+        | inr same ↦ (
+            let settled : lookup (finished_of old) (fills_of old ∷ []) name ≡ Some (p, r) = subst (λ k. lookup (finished_of old) (k ∷ []) name ≡ Some (p, r)) same (searched.settled told) in
+            let scope : p.scope ≡ fills_of old = scope_once (fills_of old) (first_named name (rows_at (finished_of old) (fills_of old)) 0) p r settled in
+            let entered : slice_get old.frame.entered p.ordinal ≡ Some r =
+            subst (λ (f : Frame). slice_get f.entered p.ordinal ≡ Some r) searched.keeps.frame
+            (searched.says.shown.own (scope ∙ ap (λ (f : Frame). f.setting.fills) (sym searched.keeps.frame))) in
+            ap (λ k. entry_in (rows_of old.frame made) k name) same ∙ found_own old.frame made name p r agrees settled entered)
+      ]
 
-pub absent_in : (old new : State) (a : Around) (at s name : ℕ) → Suits old.frame a → s ≤ fills_of old → Searched old new at (s ∷ []) name Absent
-    → IsTold (texts_of old) → entry_in (rows_of old.frame) s name ≡ None
-absent_in old new a at s name suits inner searched told =
-    let agrees = suits.told told in
-    elim (below_or_same s (fills_of old) inner) as (λ _. entry_in (rows_of old.frame) s name ≡ None) [
-      | inl below ↦ settled_below old.frame s name agrees below ∙ searched.settled told
-      | inr same ↦ (
-          let here : fills_of new ≡ s = ap (λ (f : Frame). f.setting.fills) searched.keeps.frame ∙ sym same in
-          let lacks : Lacks old.frame.entered name = subst (λ (f : Frame). Lacks f.entered name) searched.keeps.frame (searched.says.own (inl here)).1 in
-          ap (λ k. entry_in (rows_of old.frame) k name) same ∙ lacks_own old.frame name agrees lacks)
-    ]
+  pub absent_in : (s : ℕ) → s ≤ fills_of old → Searched old new at (s ∷ []) name Absent → entry_in (rows_of old.frame made) s name ≡ None
+  absent_in s inner searched =
+      let agrees = suits.told told in
+      elim (below_or_same s (fills_of old) inner) as (λ _. entry_in (rows_of old.frame made) s name ≡ None) [
+        | inl below ↦ settled_below old.frame made s name agrees below ∙ searched.settled told
+        | inr same ↦ (
+            let here : fills_of new ≡ s = ap (λ (f : Frame). f.setting.fills) searched.keeps.frame ∙ sym same in
+            let own : (old.frame.closed ≡ true) × Lacks old.frame.entered name =
+            subst (λ (f : Frame). (f.closed ≡ true) × Lacks f.entered name) searched.keeps.frame (searched.says.own (inl here)) in
+            ap (λ k. entry_in (rows_of old.frame made) k name) same
+            ∙ ap (λ rows. found_or (fills_of old) (first_named name rows 0) None) (counted_closed old.frame made agrees in_hand own.0)
+            ∙ ap (λ o. found_or (fills_of old) o None) own.1)
+      ]
 
 -- the own scope lacks the name so far
-pub unknown_in : (old new : State) (a : Around) (at name s : ℕ) (h : Head) → Suits old.frame a → Searched old new at (s ∷ []) name (DontKnowYet h) → h.scope ≡ fills_of old
-    → IsTold (texts_of old) → entry_in (rows_of old.frame) s name ≡ None
-unknown_in old new a at name s h suits searched same told =
-    let lacks : Lacks old.frame.entered name = subst (λ (f : Frame). Lacks f.entered name) searched.keeps.frame
-    (searched.says.own (same ∙ ap (λ (f : Frame). f.setting.fills) (sym searched.keeps.frame))) in
+lacks_yet : (old new : State) (at name : ℕ) (chain : List ℕ) (h : Head) → Searched old new at chain name (DontKnowYet h) → h.scope ≡ fills_of old → Lacks old.frame.entered name
+lacks_yet old new at name chain h searched same =
+    subst (λ (f : Frame). Lacks f.entered name) searched.keeps.frame (searched.says.own (same ∙ ap (λ (f : Frame). f.setting.fills) (sym searched.keeps.frame)))
+
+unknown_in : (old new : State) (a : Around) (at name : ℕ) (made : List Row) (h : Head) → Suits old.frame a → Searched old new at (fills_of old ∷ []) name (DontKnowYet h) → h.scope ≡ fills_of old
+    → Lacks made name → IsTold (texts_of old) → entry_in (rows_of old.frame made) (fills_of old) name ≡ None
+unknown_in old new a at name made h suits searched same lacks told =
+    lacks_own old.frame made name (suits.told told) (lacks_yet old new at name (fills_of old ∷ []) h searched same) lacks
+
+-- ** A type that the module declares
+
+other_type : (scene : Scene) (t : Place) (m : RowMeaning) → NamesNoType m → type_named scene t m ≡ t
+other_type scene t (TypeName u) none = absurd none
+other_type scene t m none = refl
+
+-- no row in hand is that of a type's name
+no_type : (scene : Scene) (t : Place) (s name : ℕ) (made : List Row) (n : ℕ) → Each (λ r. NamesNoType (row_meaning r)) made → named_or scene t (found_or s (first_named name made n) None) ≡ t
+no_type scene t s name [] n types = refl
+no_type scene t s name (r ∷ made) n types = go (r.name == name) (no_type scene t s name made (n + 1) types.1)
+  where
+    go : (b : Bool) → named_or scene t (found_or s (first_named name made (n + 1)) None) ≡ t → named_or scene t (found_or s (if b then Some (n, r) else first_named name made (n + 1)) None) ≡ t
+    go true rest = other_type scene t (row_meaning r) types.0
+    go false rest = rest
+
+-- so where the own scope lacks the name so far, it has no type of that name
+pub type_unknown : (old new : State) (a : Around) (at name s : ℕ) (made : List Row) (h : Head) → Suits old.frame a → AreInHand old.frame made → Searched old new at (s ∷ []) name (DontKnowYet h)
+    → h.scope ≡ fills_of old → IsTold (texts_of old) → (scene : Scene) (t : Place) → t ≡ named_or scene t (entry_in (rows_of old.frame made) s name)
+type_unknown old new a at name s made h suits in_hand searched same told scene t =
+    let f = old.frame in
+    let fills = f.setting.fills in
+    let entered = lacks_yet old new at name (s ∷ []) h searched same in
     let on : h.scope ≡ s = elim searched.says.on as (λ _. h.scope ≡ s) [ inl e ↦ e | inr e ↦ absurd e ] in
-    ap (λ k. entry_in (rows_of old.frame) k name) (sym on ∙ same) ∙ lacks_own old.frame name (suits.told told) lacks
+    sym (
+    ap (λ k. named_or scene t (entry_in (rows_of f made) k name)) (sym on ∙ same)
+    ∙ ap (λ rows. named_or scene t (found_or fills (first_named name rows 0) None)) (counted_own f made (suits.told told))
+    ∙ ap (λ o. named_or scene t (found_or fills o None)) (first_behind name f.entered made 0 entered)
+    ∙ no_type scene t fills name made (0 + length f.entered) in_hand.types)
 
 inside : (n s : ℕ) (chain : List ℕ) → Each (λ k. k ≤ n) chain → IsIn s chain → s ≤ n
 inside n s [] h on = absurd on
@@ -182,51 +226,54 @@ found_row old new a at name chain p r suits inner s o searched =
 -- ** A search in a chain
 
 -- the rows of the scopes of a chain are the finished ones, where the own scope is none of them or complete
-lookup_all : (f : Frame) (name : ℕ) (chain : List ℕ) → Agrees f → Each (λ s. s ≤ f.setting.fills) chain → (IsIn f.setting.fills chain → f.closed ≡ true)
-    → lookup (rows_of f) chain name ≡ lookup (finished f.setting.texts) chain name
-lookup_all f name [] agrees inner settled = refl
-lookup_all f name (s ∷ chain) agrees inner settled =
-    let rest : lookup (rows_of f) chain name ≡ lookup (finished f.setting.texts) chain name = lookup_all f name chain agrees inner.1 (λ on. settled (inr on)) in
-    let here : rows_at (rows_of f) s ≡ rows_at (finished f.setting.texts) s =
-    elim (below_or_same s f.setting.fills inner.0) as (λ _. rows_at (rows_of f) s ≡ rows_at (finished f.setting.texts) s) [
-      | inl below ↦ counted_below f s agrees below
-      | inr same ↦ subst (λ k. rows_at (rows_of f) k ≡ rows_at (finished f.setting.texts) k) (sym same) (counted_own f agrees ∙ agrees.whole (settled (inl (sym same))))
+lookup_all : (f : Frame) (made : List Row) (name : ℕ) (chain : List ℕ) → Agrees f → AreInHand f made → Each (λ s. s ≤ f.setting.fills) chain → (IsIn f.setting.fills chain → f.closed ≡ true)
+    → lookup (rows_of f made) chain name ≡ lookup (finished f.setting.texts) chain name
+lookup_all f made name [] agrees in_hand inner settled = refl
+lookup_all f made name (s ∷ chain) agrees in_hand inner settled =
+    let rest : lookup (rows_of f made) chain name ≡ lookup (finished f.setting.texts) chain name = lookup_all f made name chain agrees in_hand inner.1 (λ on. settled (inr on)) in
+    let here : rows_at (rows_of f made) s ≡ rows_at (finished f.setting.texts) s =
+    elim (below_or_same s f.setting.fills inner.0) as (λ _. rows_at (rows_of f made) s ≡ rows_at (finished f.setting.texts) s) [
+      | inl below ↦ counted_below f made s agrees below
+      | inr same ↦ (
+          let closed = settled (inl (sym same)) in
+          subst (λ k. rows_at (rows_of f made) k ≡ rows_at (finished f.setting.texts) k) (sym same) (counted_closed f made agrees in_hand closed ∙ agrees.whole closed))
     ] in
-    ap (λ rows. found_or s (first_named name rows 0) (lookup (rows_of f) chain name)) here
+    ap (λ rows. found_or s (first_named name rows 0) (lookup (rows_of f made) chain name)) here
     ∙ ap (λ o. found_or s (first_named name (rows_at (finished f.setting.texts) s) 0) o) rest
 
-module _ (old new : State) (a : Around) (at name : ℕ) (chain : List ℕ) (suits : Suits old.frame a) (can : CanLook old.frame chain) where
-  pub can_look : name ≢ 0 → CanSearch old chain name
-  can_look named = record {
-    short = can.short;
-    exist = Each-map (λ s. s ≤ fills_of old) (λ s. s < length old.frame.setting.areas) chain (λ s k. let e = suits.exist in omega (arith, e, k)) can.inner;
-    named = named;
-  }
+pub can_look : (st : State) (a : Around) (name : ℕ) (chain : List ℕ) → Suits st.frame a → CanLook st.frame chain → name ≢ 0 → CanSearch st chain name
+can_look st a name chain suits can named = record {
+  short = can.short;
+  exist = Each-map (λ s. s ≤ fills_of st) (λ s. s < length st.frame.setting.areas) chain (λ s k. let e = suits.exist in omega (arith, e, k)) can.inner;
+  named = named;
+}
 
-  pub found_on : (p : Place) (r : Row) → Searched old new at chain name (Found p r) → IsTold (texts_of old) → lookup (rows_of old.frame) chain name ≡ Some (p, r)
-  found_on p r searched told =
-      elim can.settled as (λ _. lookup (rows_of old.frame) chain name ≡ Some (p, r)) [
-        | inl own ↦ subst (λ c. lookup (rows_of old.frame) c name ≡ Some (p, r)) (sym own) (
-            found_in old new a at (fills_of old) name p r suits (omega arith) (subst (λ c. Searched old new at c name (Found p r)) own searched) told)
-        | inr closed ↦ lookup_all old.frame name chain (suits.told told) can.inner closed ∙ searched.settled told
+module _ (old new : State) (a : Around) (at name : ℕ) (chain : List ℕ) (made : List Row) (suits : Suits old.frame a) (can : CanLook old.frame chain) (in_hand : AreInHand old.frame made) (told : IsTold (texts_of old)) where
+  pub found_on : (p : Place) (r : Row) → Searched old new at chain name (Found p r) → lookup (rows_of old.frame made) chain name ≡ Some (p, r)
+  found_on p r searched =
+      elim can.settled as (λ _. lookup (rows_of old.frame made) chain name ≡ Some (p, r)) [
+        | inl own ↦ subst (λ c. lookup (rows_of old.frame made) c name ≡ Some (p, r)) (sym own) (
+            found_in old new a at name made suits in_hand told (fills_of old) p r (omega arith) (subst (λ c. Searched old new at c name (Found p r)) own searched))
+        | inr closed ↦ lookup_all old.frame made name chain (suits.told told) in_hand can.inner closed ∙ searched.settled told
       ]
 
-  pub absent_on : Searched old new at chain name Absent → IsTold (texts_of old) → lookup (rows_of old.frame) chain name ≡ None
-  absent_on searched told =
-      elim can.settled as (λ _. lookup (rows_of old.frame) chain name ≡ None) [
-        | inl own ↦ subst (λ c. lookup (rows_of old.frame) c name ≡ None) (sym own) (
-            absent_in old new a at (fills_of old) name suits (omega arith) (subst (λ c. Searched old new at c name Absent) own searched) told)
-        | inr closed ↦ lookup_all old.frame name chain (suits.told told) can.inner closed ∙ searched.settled told
+  pub absent_on : Searched old new at chain name Absent → lookup (rows_of old.frame made) chain name ≡ None
+  absent_on searched =
+      elim can.settled as (λ _. lookup (rows_of old.frame made) chain name ≡ None) [
+        | inl own ↦ subst (λ c. lookup (rows_of old.frame made) c name ≡ None) (sym own) (
+            absent_in old new a at name made suits in_hand told (fills_of old) (omega arith) (subst (λ c. Searched old new at c name Absent) own searched))
+        | inr closed ↦ lookup_all old.frame made name chain (suits.told told) in_hand can.inner closed ∙ searched.settled told
       ]
 
-  pub unknown_on : (h : Head) → Searched old new at chain name (DontKnowYet h) → h.scope ≡ fills_of old → IsTold (texts_of old) → lookup (rows_of old.frame) chain name ≡ None
-  unknown_on h searched same told =
-      elim can.settled as (λ _. lookup (rows_of old.frame) chain name ≡ None) [
-        | inl own ↦ subst (λ c. lookup (rows_of old.frame) c name ≡ None) (sym own) (
-            unknown_in old new a at name (fills_of old) h suits (subst (λ c. Searched old new at c name (DontKnowYet h)) own searched) same told)
+  pub unknown_on : (h : Head) → Searched old new at chain name (DontKnowYet h) → h.scope ≡ fills_of old → (IsIn (fills_of old) chain → Lacks made name) → lookup (rows_of old.frame made) chain name ≡ None
+  unknown_on h searched same lacks =
+      let on : IsIn (fills_of old) chain = subst (λ s. IsIn s chain) same searched.says.on in
+      elim can.settled as (λ _. lookup (rows_of old.frame made) chain name ≡ None) [
+        | inl own ↦ subst (λ c. lookup (rows_of old.frame made) c name ≡ None) (sym own) (
+            unknown_in old new a at name made h suits (subst (λ c. Searched old new at c name (DontKnowYet h)) own searched) same (lacks on) told)
         | inr closed ↦ absurd (
             let open_yet : new.frame.closed ≡ false = (searched.says.stops.own (same ∙ ap (λ (f : Frame). f.setting.fills) (sym searched.keeps.frame))).0 in
-            true≢false (sym (closed (subst (λ s. IsIn s chain) same searched.says.on)) ∙ ap (λ (f : Frame). f.closed) (sym searched.keeps.frame) ∙ open_yet))
+            true≢false (sym (closed on) ∙ ap (λ (f : Frame). f.closed) (sym searched.keeps.frame) ∙ open_yet))
       ]
 
 found_among : (at name : ℕ) (chain : List ℕ) (heads : List Head) (p : Place) (r : Row) → IsIn p.scope chain → IsAmong (looks_of at name chain heads (Found p r)) (answer_of name at (p, r))

@@ -4,7 +4,6 @@ use Rattle.std.specs.Prelude.{find, filter_map, option_map}
 use Rattle.std.specs.List.{cons_option}
 use Rattle.std.proofs.lemmas.Bool.{true≢false}
 use Rattle.std.proofs.lemmas.List.{drop_more, drop_all}
-use Rattle.m2_base.specs.Finished.{IsTold}
 use Rattle.m2_base.specs.Rows.{row_of, at_place}
 use Rattle.m2_base.specs.States.{Frame}
 use Rattle.m2_base.specs.Statics.Contexts.{row_at}
@@ -15,7 +14,7 @@ use Rattle.m2_base.specs.declared.rows.Row.{Row}
 use Rattle.m2_base.specs.declared.rows.RowMeaning.TheVariants.{Broken}
 use Rattle.m2_base.specs.declared.sites.Around.{Around}
 use Rattle.type_rules.specs.Forms.{parameters_from}
-use Rattle.type_rules.specs.Scenes.{scene_of, rows_of}
+use Rattle.type_rules.specs.Scenes.{WhereTold, rows_of, scene_of}
 use Rattle.std.proofs.Math.ListN.{get_or-eq_default}
 
 -- the items from an ordinal up to another
@@ -64,29 +63,29 @@ find_hit {A} test xs d i upto none below taken =
 
 -- the row at an ordinal of a scope, as a walk reads it
 abbrev pub IsReadAt : Frame → Place → (i : ℕ) → Row → Type 0
-IsReadAt f of i row = IsTold f.setting.texts → row ≡ row_at (rows_of f) (at_place of.scope i)
+IsReadAt f of i row = WhereTold f (λ made. row ≡ row_at (rows_of f made) (at_place of.scope i))
 
 pub read_before : (f mid : Frame) (of : Place) (i : ℕ) (row : Row) → mid ≡ f → IsReadAt mid of i row → IsReadAt f of i row
 read_before f mid of i row same read = subst (λ (g : Frame). IsReadAt g of i row) same read
 
 module _ (f : Frame) (a : Around) (of : Place) (first name : ℕ) where
   -- the field of this name from an ordinal on
-  abbrev pub field_from : (i : ℕ) → Option Row
-  field_from i = find (is_field of.ordinal name) (rows_between (scene_of f a) of.scope i of.ordinal)
+  abbrev pub field_from : (made : List Row) (i : ℕ) → Option Row
+  field_from made i = find (is_field of.ordinal name) (rows_between (scene_of f made a) of.scope i of.ordinal)
 
-  pub field_found : (i : ℕ) (row : Row) → IsReadAt f of i row → i < of.ordinal → is_field of.ordinal name row ≡ true → (IsTold f.setting.texts → field_from i ≡ field_from first)
-      → IsTold f.setting.texts → Some row ≡ field_from first
-  field_found i row read below taken left told =
-      let same = read told in
-      sym (find_hit (is_field of.ordinal name) (rows_at (rows_of f) of.scope) (row_of 0 0 Broken) i of.ordinal refl below (ap (is_field of.ordinal name) (sym same) ∙ taken) ∙ ap Some (sym same))
-      ∙ left told
+  pub field_found : (i : ℕ) (row : Row) → IsReadAt f of i row → i < of.ordinal → is_field of.ordinal name row ≡ true → WhereTold f (λ made. field_from made i ≡ field_from made first)
+      → WhereTold f (λ made. Some row ≡ field_from made first)
+  field_found i row read below taken left made in_hand told =
+      let same = read made in_hand told in
+      sym (find_hit (is_field of.ordinal name) (rows_at (rows_of f made) of.scope) (row_of 0 0 Broken) i of.ordinal refl below (ap (is_field of.ordinal name) (sym same) ∙ taken) ∙ ap Some (sym same))
+      ∙ left made in_hand told
 
-  pub field_passed : (i : ℕ) (row : Row) → IsReadAt f of i row → i < of.ordinal → is_field of.ordinal name row ≡ false → (IsTold f.setting.texts → field_from i ≡ field_from first)
-      → IsTold f.setting.texts → field_from (i + 1) ≡ field_from first
-  field_passed i row read below refused left told =
-      let same = read told in
-      find_skip (is_field of.ordinal name) (rows_at (rows_of f) of.scope) (row_of 0 0 Broken) i of.ordinal below (ap (is_field of.ordinal name) (sym same) ∙ refused)
-      ∙ left told
+  pub field_passed : (i : ℕ) (row : Row) → IsReadAt f of i row → i < of.ordinal → is_field of.ordinal name row ≡ false → WhereTold f (λ made. field_from made i ≡ field_from made first)
+      → WhereTold f (λ made. field_from made (i + 1) ≡ field_from made first)
+  field_passed i row read below refused left made in_hand told =
+      let same = read made in_hand told in
+      find_skip (is_field of.ordinal name) (rows_at (rows_of f made) of.scope) (row_of 0 0 Broken) i of.ordinal below (ap (is_field of.ordinal name) (sym same) ∙ refused)
+      ∙ left made in_hand told
 
 -- ** The parameters of a procedure type
 
@@ -112,17 +111,17 @@ as_parameter p = record { typ = p.0; by_ref = p.1 }
 
 module _ (f : Frame) (a : Around) (of : Place) (start : ℕ) where
   pub parameter_found : (i : ℕ) (row : Row) (o : Option (Place × Bool)) (typ : Place) (by_ref : Bool) → IsReadAt f of i row → i < of.ordinal → o ≡ Some (typ, by_ref)
-      → option_map as_parameter o ≡ parameter_of of.ordinal row → (IsTold f.setting.texts → parameters_from (scene_of f a) of start ≡ parameters_from (scene_of f a) of i)
-      → IsTold f.setting.texts → parameters_from (scene_of f a) of start ≡ record { typ = typ; by_ref = by_ref } ∷ parameters_from (scene_of f a) of (i + 1)
-  parameter_found i row o typ by_ref read below is said left told =
-      left told
-      ∙ filter_hit (parameter_of of.ordinal) (rows_at (rows_of f) of.scope) (row_of 0 0 Broken) i of.ordinal (record { typ = typ; by_ref = by_ref }) refl below
-      (ap (parameter_of of.ordinal) (sym (read told)) ∙ sym said ∙ ap (option_map as_parameter) is)
+      → option_map as_parameter o ≡ parameter_of of.ordinal row → WhereTold f (λ made. parameters_from (scene_of f made a) of start ≡ parameters_from (scene_of f made a) of i)
+      → WhereTold f (λ made. parameters_from (scene_of f made a) of start ≡ record { typ = typ; by_ref = by_ref } ∷ parameters_from (scene_of f made a) of (i + 1))
+  parameter_found i row o typ by_ref read below is said left made in_hand told =
+      left made in_hand told
+      ∙ filter_hit (parameter_of of.ordinal) (rows_at (rows_of f made) of.scope) (row_of 0 0 Broken) i of.ordinal (record { typ = typ; by_ref = by_ref }) refl below
+      (ap (parameter_of of.ordinal) (sym (read made in_hand told)) ∙ sym said ∙ ap (option_map as_parameter) is)
 
   pub parameter_passed : (i : ℕ) (row : Row) (o : Option (Place × Bool)) → IsReadAt f of i row → i < of.ordinal → o ≡ None
-      → option_map as_parameter o ≡ parameter_of of.ordinal row → (IsTold f.setting.texts → parameters_from (scene_of f a) of start ≡ parameters_from (scene_of f a) of i)
-      → IsTold f.setting.texts → parameters_from (scene_of f a) of start ≡ parameters_from (scene_of f a) of (i + 1)
-  parameter_passed i row o read below is said left told =
-      left told
-      ∙ filter_skip (parameter_of of.ordinal) (rows_at (rows_of f) of.scope) (row_of 0 0 Broken) i of.ordinal below
-      (ap (parameter_of of.ordinal) (sym (read told)) ∙ sym said ∙ ap (option_map as_parameter) is)
+      → option_map as_parameter o ≡ parameter_of of.ordinal row → WhereTold f (λ made. parameters_from (scene_of f made a) of start ≡ parameters_from (scene_of f made a) of i)
+      → WhereTold f (λ made. parameters_from (scene_of f made a) of start ≡ parameters_from (scene_of f made a) of (i + 1))
+  parameter_passed i row o read below is said left made in_hand told =
+      left made in_hand told
+      ∙ filter_skip (parameter_of of.ordinal) (rows_at (rows_of f made) of.scope) (row_of 0 0 Broken) i of.ordinal below
+      (ap (parameter_of of.ordinal) (sym (read made in_hand told)) ∙ sym said ∙ ap (option_map as_parameter) is)

@@ -1,5 +1,5 @@
 -- Facts about the answer of a question of types, and what such a question leaves as before.
-use Rattle.std.specs.Prelude.{◌≡◌, List, Option, Some, None}
+use Rattle.std.specs.Prelude.{◌≡◌, List}
 use Rattle.m2_base.specs.Lists.{Each}
 use Rattle.m2_base.specs.States.{State, Look, Keeps}
 use Rattle.m2_base.specs.declared.replies.Ask.{Ask}

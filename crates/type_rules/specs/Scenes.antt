@@ -1,12 +1,12 @@
 -- What a block sees of the scopes, and when the scopes suit its questions.
-use Rattle.std.specs.Prelude.{◌≡◌, ℕ, ◌<◌, ◌≤◌, ◌^◌, true, false, List, [], ◌∷◌, ◌++◌, Option, Some, None, length, take}
+use Rattle.std.specs.Prelude.{◌≡◌, ℕ, ◌<◌, ◌≤◌, ◌^◌, true, false, List, [], ◌∷◌, ◌++◌, length, take}
 use Rattle.m2_base.specs.Finished.{IsTold, finished}
-use Rattle.m2_base.specs.Lists.{IsPrefixOf, WhereKept}
+use Rattle.m2_base.specs.Lists.{Each, IsPrefixOf, WhereKept}
 use Rattle.m2_base.specs.Names.{standard_names}
 use Rattle.m2_base.specs.Standard.{standard_rows}
 use Rattle.m2_base.specs.Rows.{Fits, HasSmallNumbers, row_meaning}
 use Rattle.m2_base.specs.States.{Frame}
-use Rattle.m2_base.specs.Statics.Contexts.{Block, Scene, row_at}
+use Rattle.m2_base.specs.Statics.Contexts.{Block, Scene}
 use Rattle.m2_base.specs.Statics.Types.{stands_for, kind_of}
 use Rattle.m2_base.specs.Tables.{rows_at}
 use Rattle.m2_base.specs.declared.operands.Operand.{Operand}
@@ -14,19 +14,35 @@ use Rattle.m2_base.specs.declared.operands.Operand.TheVariants.{Constant, Comput
 use Rattle.m2_base.specs.declared.rows.Place.{Place}
 use Rattle.m2_base.specs.declared.rows.Row.{Row}
 use Rattle.m2_base.specs.declared.rows.RowMeaning.{RowMeaning}
+use Rattle.m2_base.specs.declared.rows.RowMeaning.TheVariants.{TypeName}
 use Rattle.m2_base.specs.declared.sites.Around.{Around}
 
 -- what surrounds a block, as the definitions see it
 abbrev pub block_of : Around → Block
 block_of a = record { scope = a.scope; text = a.text; level = a.level; home = a.module; own = a.own; chain = a.chain }
 
--- the rows that count: of the scopes before the own one all, of the own one those that are entered
-abbrev pub rows_of : Frame → List (List Row)
-rows_of f = take f.setting.fills (finished f.setting.texts) ++ f.entered ∷ []
+-- The rows that count: of the scopes before the own one all; of the own one those that are entered, and after them those in
+-- hand, which are made but not entered yet.
+abbrev pub rows_of : Frame → (made : List Row) → List (List Row)
+rows_of f made = take f.setting.fills (finished f.setting.texts) ++ (f.entered ++ made) ∷ []
 
 -- a block and the rows that count there
-abbrev pub scene_of : Frame → Around → Scene
-scene_of f a = record { block = block_of a; tables = rows_of f }
+abbrev pub scene_of : Frame → (made : List Row) → Around → Scene
+scene_of f made a = record { block = block_of a; tables = rows_of f made }
+
+-- not the row of a type's name
+abbrev pub NamesNoType : RowMeaning → Type 0
+NamesNoType (TypeName t) = ⊥
+NamesNoType other = Unit {0}
+
+-- Rows can be in hand: a complete scope has none, and none of them is that of a type's name, which is the last of its item.
+pub record AreInHand (f : Frame) (made : List Row) : Type 0 where
+  pub closed : f.closed ≡ true → made ≡ []
+  pub types : Each (λ r. NamesNoType (row_meaning r)) made
+
+-- P of any rows in hand, where the unit is told
+abbrev pub WhereTold : Frame → (List Row → Type 0) → Type 0
+WhereTold f P = (made : List Row) → AreInHand f made → IsTold f.setting.texts → P made
 
 -- What holds of the scopes where the texts are told: the finished rows of the scopes before are there, scope 0 is the standard
 -- one, each scope has fewer rows than numbers of 32 bits, and what is entered is the beginning of the own scope's rows, in the end the whole.

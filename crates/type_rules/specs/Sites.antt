@@ -1,5 +1,5 @@
 -- Where a name is used, and what a search for it leaves.
-use Rattle.std.specs.Prelude.{◌≡◌, ◌⊎◌, ℕ, ◌<◌, ◌≤◌, nat_lt, if◌then◌else◌, true, List, [], ◌∷◌, ◌++◌, Option, Some, None, length, drop, map, slice_index_or}
+use Rattle.std.specs.Prelude.{◌≡◌, ◌≢◌, ◌⊎◌, ℕ, ◌<◌, ◌≤◌, nat_lt, if◌then◌else◌, true, List, [], ◌∷◌, ◌++◌, Option, Some, None, length, drop, map, slice_index_or}
 use Rattle.std.specs.Option.{IfSome}
 use Rattle.m2_base.specs.Lists.{IsIn, Each, WhereLast}
 use Rattle.m2_base.specs.Rows.{row_meaning}
@@ -8,6 +8,7 @@ use Rattle.m2_base.specs.States.{State, Frame, Look, Keeps, IsAmong}
 use Rattle.m2_base.specs.Statics.Contexts.{Context, DefinitionModule, Source}
 use Rattle.m2_base.specs.Statics.Lookup.{Entry, first_entry}
 use Rattle.m2_base.specs.Statics.Uses.{answer_of}
+use Rattle.m2_base.specs.Tables.{Lacks}
 use Rattle.m2_base.specs.Units.{UnitTexts, TextOf}
 use Rattle.m2_base.specs.declared.notes.Answer.{Answer}
 use Rattle.m2_base.specs.declared.notes.Notes.{Notes}
@@ -35,8 +36,16 @@ abbrev pub source_of : UnitTexts → Source
 source_of u = record { spellings = u.names; definitions = definitions_of u }
 
 -- the place where a name stands, as the definitions see it
-abbrev pub context_of : Frame → Site → Context
-context_of f s = record { source = source_of s.texts.now; scene = scene_of f s.around.now; layout = s.layout.now.names; item = s.item }
+abbrev pub context_of : Frame → (made : List Row) → Site → Context
+context_of f made s = record { source = source_of s.texts.now; scene = scene_of f made s.around.now; layout = s.layout.now.names; item = s.item }
+
+-- rows of an item: none has a name that the layout first gives to an earlier item
+pub record AreOfItem (layout : List Named) (item : ℕ) (made : List Row) : Type 0 where
+  pub lack : (name : ℕ) (e : Named) → name ≢ 0 → first_entry layout name ≡ Some e → e.item < item → Lacks made name
+
+-- rows of the item in which a name stands
+abbrev pub AreOfSite : Site → List Row → Type 0
+AreOfSite s made = IfSome s.item (λ item. AreOfItem s.layout.now.names item made)
 
 -- The scopes suit a site: its texts are theirs, its chain has the own scope and then scopes before it, and where it stands in no
 -- declaration the own scope is complete.

@@ -1,16 +1,15 @@
 //! When an operand can be assigned to a variable of a type.
 ghost use Rattle.std.specs.Prelude.{◌≡◌, option_map};
 ghost use Rattle.std.specs.Option.{IfSome};
-ghost use Rattle.m2_base.specs.Finished.{IsTold};
 ghost use Rattle.m2_base.specs.Rows.{IsValue};
-ghost use Rattle.m2_base.specs.States.{Waits, texts_of};
+ghost use Rattle.m2_base.specs.States.{Waits};
 ghost use Rattle.m2_base.specs.Statics.Assignable.{is_assignable, takes as spec_takes, takes_procedure as spec_takes_procedure, takes_string as spec_takes_string, is_open_array as spec_open_array, is_long_enough as spec_long_enough};
 ghost use Rattle.m2_base.specs.Statics.Ranges.{range};
 ghost use Rattle.m2_base.specs.Statics.Types.{stands_for as spec_stands, kind_of};
 ghost use Rattle.type_rules.specs.Asks.{Reads, WhereKnown, WhereWaiting};
 ghost use Rattle.type_rules.specs.Assigning.{takes_char as spec_takes_char, takes_text as spec_takes_text, takes_value as spec_takes_value, takes_other as spec_takes_other, takes_closed as spec_takes_closed, array_takes};
 ghost use Rattle.type_rules.specs.Forms.{form_by, IsFormHere};
-ghost use Rattle.type_rules.specs.Scenes.{Suits, IsThere, IsOperandThere, IsSaid, scene_of};
+ghost use Rattle.type_rules.specs.Scenes.{Suits, IsThere, IsOperandThere, IsSaid, scene_of, WhereTold};
 
 use crate::compatibility::{bases_of, compatible};
 use crate::forms::{Form, form_of, same_form};
@@ -27,8 +26,8 @@ fn is_open_array<S: Scopes>(scopes: &mut S, around: &Around, of: Place) -> Ask<b
     requires there { IsThere (S.state scopes.old).frame of }
     ensures reads { Reads (S.state scopes.old) (S.state scopes.new) }
     ensures waits { WhereWaiting result (λ head. Waits (S.state scopes.old) (S.state scopes.new) head) }
-    ensures told { IsTold (texts_of (S.state scopes.old)) →
-        WhereKnown result (λ holds. holds ≡ spec_open_array (scene_of (S.state scopes.old).frame around.now) of) }
+    ensures told { WhereTold (S.state scopes.old).frame (λ made.
+        WhereKnown result (λ holds. holds ≡ spec_open_array (scene_of (S.state scopes.old).frame made around.now) of)) }
 {
     let (_, meaning) = known!(stand(scopes, around, of));
     Ask::Known(matches!(meaning, RowMeaning::OpenArray(_)))
@@ -47,10 +46,10 @@ fn forms_of<S: Scopes>(
     requires y { IsThere (S.state scopes.old).frame y }
     ensures reads { Reads (S.state scopes.old) (S.state scopes.new) }
     ensures waits { WhereWaiting result (λ head. Waits (S.state scopes.old) (S.state scopes.new) head) }
-    ensures left { IsTold (texts_of (S.state scopes.old)) →
-        WhereKnown result (λ forms. forms.0 ≡ form_by (spec_stands (scene_of (S.state scopes.old).frame around.now) x) (kind_of (scene_of (S.state scopes.old).frame around.now) x)) }
-    ensures right { IsTold (texts_of (S.state scopes.old)) →
-        WhereKnown result (λ forms. forms.1 ≡ form_by (spec_stands (scene_of (S.state scopes.old).frame around.now) y) (kind_of (scene_of (S.state scopes.old).frame around.now) y)) }
+    ensures left { WhereTold (S.state scopes.old).frame (λ made.
+        WhereKnown result (λ forms. forms.0 ≡ form_by (spec_stands (scene_of (S.state scopes.old).frame made around.now) x) (kind_of (scene_of (S.state scopes.old).frame made around.now) x))) }
+    ensures right { WhereTold (S.state scopes.old).frame (λ made.
+        WhereKnown result (λ forms. forms.1 ≡ form_by (spec_stands (scene_of (S.state scopes.old).frame made around.now) y) (kind_of (scene_of (S.state scopes.old).frame made around.now) y))) }
     ensures here { WhereKnown result (λ forms. IfSome forms.0 (IsFormHere (S.state scopes.old).frame) × IfSome forms.1 (IsFormHere (S.state scopes.old).frame)) }
 {
     let left = known!(form_of(scopes, around, x));
@@ -66,8 +65,8 @@ fn takes_procedure<S: Scopes>(scopes: &mut S, around: &Around, to: Place, of: Pl
     requires of { IsThere (S.state scopes.old).frame of }
     ensures reads { Reads (S.state scopes.old) (S.state scopes.new) }
     ensures waits { WhereWaiting result (λ head. Waits (S.state scopes.old) (S.state scopes.new) head) }
-    ensures told { IsTold (texts_of (S.state scopes.old)) →
-        WhereKnown result (λ holds. holds ≡ spec_takes_procedure (scene_of (S.state scopes.old).frame around.now) to of) }
+    ensures told { WhereTold (S.state scopes.old).frame (λ made.
+        WhereKnown result (λ holds. holds ≡ spec_takes_procedure (scene_of (S.state scopes.old).frame made around.now) to of)) }
 {
     let (left, right) = known!(forms_of(scopes, around, to, of));
     let Some(left) = left else {
@@ -107,8 +106,8 @@ fn takes_string<S: Scopes>(
     requires of { IsThere (S.state scopes.old).frame of }
     ensures reads { Reads (S.state scopes.old) (S.state scopes.new) }
     ensures waits { WhereWaiting result (λ head. Waits (S.state scopes.old) (S.state scopes.new) head) }
-    ensures told { IsTold (texts_of (S.state scopes.old)) →
-        WhereKnown result (λ holds. holds ≡ array_takes (scene_of (S.state scopes.old).frame around.now) length index of) }
+    ensures told { WhereTold (S.state scopes.old).frame (λ made.
+        WhereKnown result (λ holds. holds ≡ array_takes (scene_of (S.state scopes.old).frame made around.now) length index of)) }
 {
     if !known!(same(scopes, around, of, CHARACTER)) {
         return Ask::Known(false);
@@ -124,8 +123,8 @@ fn array_takes<S: Scopes>(scopes: &mut S, around: &Around, to: Place, length: u3
     requires to { IsThere (S.state scopes.old).frame to }
     ensures reads { Reads (S.state scopes.old) (S.state scopes.new) }
     ensures waits { WhereWaiting result (λ head. Waits (S.state scopes.old) (S.state scopes.new) head) }
-    ensures told { IsTold (texts_of (S.state scopes.old)) →
-        WhereKnown result (λ holds. holds ≡ spec_takes_string (scene_of (S.state scopes.old).frame around.now) length (kind_of (scene_of (S.state scopes.old).frame around.now) to)) }
+    ensures told { WhereTold (S.state scopes.old).frame (λ made.
+        WhereKnown result (λ holds. holds ≡ spec_takes_string (scene_of (S.state scopes.old).frame made around.now) length (kind_of (scene_of (S.state scopes.old).frame made around.now) to))) }
 {
     let (_, meaning) = known!(stand(scopes, around, to));
     match meaning {
@@ -141,8 +140,8 @@ fn takes_char<S: Scopes>(scopes: &mut S, around: &Around, to: Place, length: u32
     requires to { IsThere (S.state scopes.old).frame to }
     ensures reads { Reads (S.state scopes.old) (S.state scopes.new) }
     ensures waits { WhereWaiting result (λ head. Waits (S.state scopes.old) (S.state scopes.new) head) }
-    ensures told { IsTold (texts_of (S.state scopes.old)) →
-        WhereKnown result (λ holds. holds ≡ spec_takes_char (scene_of (S.state scopes.old).frame around.now) to length) }
+    ensures told { WhereTold (S.state scopes.old).frame (λ made.
+        WhereKnown result (λ holds. holds ≡ spec_takes_char (scene_of (S.state scopes.old).frame made around.now) to length)) }
 {
     if length != 1 {
         return Ask::Known(false);
@@ -158,8 +157,8 @@ fn takes_text<S: Scopes>(scopes: &mut S, around: &Around, to: Place, length: u32
     requires to { IsThere (S.state scopes.old).frame to }
     ensures reads { Reads (S.state scopes.old) (S.state scopes.new) }
     ensures waits { WhereWaiting result (λ head. Waits (S.state scopes.old) (S.state scopes.new) head) }
-    ensures told { IsTold (texts_of (S.state scopes.old)) →
-        WhereKnown result (λ holds. holds ≡ spec_takes_text (scene_of (S.state scopes.old).frame around.now) to length) }
+    ensures told { WhereTold (S.state scopes.old).frame (λ made.
+        WhereKnown result (λ holds. holds ≡ spec_takes_text (scene_of (S.state scopes.old).frame made around.now) to length)) }
 {
     if known!(takes_char(scopes, around, to, length)) {
         return Ask::Known(true);
@@ -175,8 +174,8 @@ fn takes_other<S: Scopes>(scopes: &mut S, around: &Around, to: Place, of: Place)
     requires of { IsThere (S.state scopes.old).frame of }
     ensures reads { Reads (S.state scopes.old) (S.state scopes.new) }
     ensures waits { WhereWaiting result (λ head. Waits (S.state scopes.old) (S.state scopes.new) head) }
-    ensures told { IsTold (texts_of (S.state scopes.old)) →
-        WhereKnown result (λ holds. holds ≡ spec_takes_other (scene_of (S.state scopes.old).frame around.now) to of) }
+    ensures told { WhereTold (S.state scopes.old).frame (λ made.
+        WhereKnown result (λ holds. holds ≡ spec_takes_other (scene_of (S.state scopes.old).frame made around.now) to of)) }
 {
     let (left, right) = known!(bases_of(scopes, around, to, of));
     if is_integer_or_cardinal(left) && is_integer_or_cardinal(right) {
@@ -198,8 +197,8 @@ fn takes_value<S: Scopes>(
     requires operand { IsOperandThere (S.state scopes.old).frame operand.now }
     ensures reads { Reads (S.state scopes.old) (S.state scopes.new) }
     ensures waits { WhereWaiting result (λ head. Waits (S.state scopes.old) (S.state scopes.new) head) }
-    ensures told { IsTold (texts_of (S.state scopes.old)) →
-        WhereKnown result (λ holds. holds ≡ spec_takes_value (scene_of (S.state scopes.old).frame around.now) to operand.now) }
+    ensures told { WhereTold (S.state scopes.old).frame (λ made.
+        WhereKnown result (λ holds. holds ≡ spec_takes_value (scene_of (S.state scopes.old).frame made around.now) to operand.now)) }
 {
     if known!(compatible(scopes, around, operand, &Operand::Computed(to))) {
         return Ask::Known(true);
@@ -220,8 +219,8 @@ fn takes_closed<S: Scopes>(
     requires operand { IsOperandThere (S.state scopes.old).frame operand.now }
     ensures reads { Reads (S.state scopes.old) (S.state scopes.new) }
     ensures waits { WhereWaiting result (λ head. Waits (S.state scopes.old) (S.state scopes.new) head) }
-    ensures told { IsTold (texts_of (S.state scopes.old)) →
-        WhereKnown result (λ holds. holds ≡ spec_takes_closed (scene_of (S.state scopes.old).frame around.now) to operand.now) }
+    ensures told { WhereTold (S.state scopes.old).frame (λ made.
+        WhereKnown result (λ holds. holds ≡ spec_takes_closed (scene_of (S.state scopes.old).frame made around.now) to operand.now)) }
 {
     if known!(is_open_array(scopes, around, operand_type(operand))) {
         return Ask::Known(false);
@@ -237,8 +236,8 @@ fn takes<S: Scopes>(scopes: &mut S, around: &Around, to: Place, operand: &Operan
     requires operand { IsOperandThere (S.state scopes.old).frame operand.now }
     ensures reads { Reads (S.state scopes.old) (S.state scopes.new) }
     ensures waits { WhereWaiting result (λ head. Waits (S.state scopes.old) (S.state scopes.new) head) }
-    ensures told { IsTold (texts_of (S.state scopes.old)) →
-        WhereKnown result (λ holds. holds ≡ spec_takes (scene_of (S.state scopes.old).frame around.now) to operand.now) }
+    ensures told { WhereTold (S.state scopes.old).frame (λ made.
+        WhereKnown result (λ holds. holds ≡ spec_takes (scene_of (S.state scopes.old).frame made around.now) to operand.now)) }
 {
     match *operand {
         Operand::Procedure(_, of, _, _) => takes_procedure(scopes, around, to, of),
@@ -260,8 +259,8 @@ pub fn assignable<S: Scopes>(
     requires operand { IsOperandThere (S.state scopes.old).frame operand.now }
     ensures reads { Reads (S.state scopes.old) (S.state scopes.new) }
     ensures waits { WhereWaiting result (λ head. Waits (S.state scopes.old) (S.state scopes.new) head) }
-    ensures told { IsTold (texts_of (S.state scopes.old)) →
-        WhereKnown result (λ holds. holds ≡ is_assignable (scene_of (S.state scopes.old).frame around.now) to operand.now) }
+    ensures told { WhereTold (S.state scopes.old).frame (λ made.
+        WhereKnown result (λ holds. holds ≡ is_assignable (scene_of (S.state scopes.old).frame made around.now) to operand.now)) }
 {
     if known!(is_open_array(scopes, around, to)) {
         return Ask::Known(false);

@@ -3,12 +3,11 @@ ghost use Rattle.std.specs.Prelude.{◌≡◌, ◌&&◌, ◌||◌, not};
 ghost use Rattle.m2_base.specs.Rows.{is_same_place};
 ghost use Rattle.m2_base.specs.Standard.{character};
 ghost use Rattle.m2_base.specs.Statics.Operands.{is_string as spec_string, is_one_char as spec_one_char};
-ghost use Rattle.m2_base.specs.Finished.{IsTold};
-ghost use Rattle.m2_base.specs.States.{Waits, texts_of};
+ghost use Rattle.m2_base.specs.States.{Waits};
 ghost use Rattle.m2_base.specs.Statics.Compatible.{is_compatible, are_compatible_bases, is_pointer as spec_pointer};
 ghost use Rattle.m2_base.specs.Statics.Types.{base_of as spec_base};
 ghost use Rattle.type_rules.specs.Asks.{Reads, WhereKnown, WhereWaiting};
-ghost use Rattle.type_rules.specs.Scenes.{Suits, IsThere, IsOperandThere, scene_of};
+ghost use Rattle.type_rules.specs.Scenes.{Suits, IsThere, IsOperandThere, scene_of, WhereTold};
 
 use crate::operands::{
     CHARACTER, NIL, WHOLE, is_integer_or_cardinal, is_one_char, is_string, operand_type,
@@ -24,8 +23,8 @@ fn is_pointer<S: Scopes>(scopes: &mut S, around: &Around, of: Place) -> Ask<bool
     requires there { IsThere (S.state scopes.old).frame of }
     ensures reads { Reads (S.state scopes.old) (S.state scopes.new) }
     ensures waits { WhereWaiting result (λ head. Waits (S.state scopes.old) (S.state scopes.new) head) }
-    ensures told { IsTold (texts_of (S.state scopes.old)) →
-        WhereKnown result (λ holds. holds ≡ spec_pointer (scene_of (S.state scopes.old).frame around.now) of) }
+    ensures told { WhereTold (S.state scopes.old).frame (λ made.
+        WhereKnown result (λ holds. holds ≡ spec_pointer (scene_of (S.state scopes.old).frame made around.now) of)) }
 {
     let (_, meaning) = known!(stand(scopes, around, of));
     Ask::Known(matches!(meaning, RowMeaning::Pointer(_) | RowMeaning::Opaque))
@@ -40,8 +39,8 @@ fn compatible_bases<S: Scopes>(scopes: &mut S, around: &Around, x: Place, y: Pla
     requires y { IsThere (S.state scopes.old).frame y }
     ensures reads { Reads (S.state scopes.old) (S.state scopes.new) }
     ensures waits { WhereWaiting result (λ head. Waits (S.state scopes.old) (S.state scopes.new) head) }
-    ensures told { IsTold (texts_of (S.state scopes.old)) →
-        WhereKnown result (λ holds. holds ≡ are_compatible_bases (scene_of (S.state scopes.old).frame around.now) x y) }
+    ensures told { WhereTold (S.state scopes.old).frame (λ made.
+        WhereKnown result (λ holds. holds ≡ are_compatible_bases (scene_of (S.state scopes.old).frame made around.now) x y)) }
 {
     if x == y {
         return Ask::Known(true);
@@ -80,10 +79,10 @@ pub(crate) fn bases_of<S: Scopes>(
     requires y { IsThere (S.state scopes.old).frame y }
     ensures reads { Reads (S.state scopes.old) (S.state scopes.new) }
     ensures waits { WhereWaiting result (λ head. Waits (S.state scopes.old) (S.state scopes.new) head) }
-    ensures left { IsTold (texts_of (S.state scopes.old)) →
-        WhereKnown result (λ bases. bases.0 ≡ spec_base (scene_of (S.state scopes.old).frame around.now) x) }
-    ensures right { IsTold (texts_of (S.state scopes.old)) →
-        WhereKnown result (λ bases. bases.1 ≡ spec_base (scene_of (S.state scopes.old).frame around.now) y) }
+    ensures left { WhereTold (S.state scopes.old).frame (λ made.
+        WhereKnown result (λ bases. bases.0 ≡ spec_base (scene_of (S.state scopes.old).frame made around.now) x)) }
+    ensures right { WhereTold (S.state scopes.old).frame (λ made.
+        WhereKnown result (λ bases. bases.1 ≡ spec_base (scene_of (S.state scopes.old).frame made around.now) y)) }
     ensures there { WhereKnown result (λ bases. IsThere (S.state scopes.old).frame bases.0 × IsThere (S.state scopes.old).frame bases.1) }
 {
     let left = known!(base_of(scopes, around, x));
@@ -99,8 +98,8 @@ pub fn compatible<S: Scopes>(scopes: &mut S, around: &Around, x: &Operand, y: &O
     requires y { IsOperandThere (S.state scopes.old).frame y.now }
     ensures reads { Reads (S.state scopes.old) (S.state scopes.new) }
     ensures waits { WhereWaiting result (λ head. Waits (S.state scopes.old) (S.state scopes.new) head) }
-    ensures told { IsTold (texts_of (S.state scopes.old)) →
-        WhereKnown result (λ holds. holds ≡ is_compatible (scene_of (S.state scopes.old).frame around.now) x.now y.now) }
+    ensures told { WhereTold (S.state scopes.old).frame (λ made.
+        WhereKnown result (λ holds. holds ≡ is_compatible (scene_of (S.state scopes.old).frame made around.now) x.now y.now)) }
 {
     let (left, right) = known!(bases_of(scopes, around, operand_type(x), operand_type(y)));
     if is_char_beside(x, left, y, right) {

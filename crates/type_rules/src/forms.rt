@@ -1,16 +1,15 @@
 //! When two procedure types are of the same form.
 ghost use Rattle.std.specs.Prelude.{◌≡◌, ◌≤◌, ◌<◌, option_map};
 ghost use Rattle.std.specs.Option.{IfSome};
-ghost use Rattle.m2_base.specs.Finished.{IsTold};
 ghost use Rattle.m2_base.specs.Rows.{row_meaning, HasSmallNumbers};
 ghost use Rattle.m2_base.specs.declared.rows.Place.{Place as Spot};
-ghost use Rattle.m2_base.specs.States.{Waits, texts_of};
+ghost use Rattle.m2_base.specs.States.{Waits};
 ghost use Rattle.m2_base.specs.Statics.SameForm.{is_same_part as spec_same_part, is_same_parameter_type as spec_same_parameter, are_same_parameters, is_same_result as spec_same_result};
 ghost use Rattle.m2_base.specs.Statics.TypeParts.{Parameter, parameter_of as spec_parameter};
 ghost use Rattle.m2_base.specs.Statics.Types.{stands_for as spec_stands, kind_of};
 ghost use Rattle.type_rules.specs.Asks.{Reads, WhereKnown, WhereWaiting};
 ghost use Rattle.type_rules.specs.Forms.{form_by, are_same_places, same_by as spec_same_by, IsFormHere, parameters_from, parameters_by, GoesOn, Progresses, GoesLater, same_forms, compared};
-ghost use Rattle.type_rules.specs.Scenes.{Suits, IsThere, IsStood, IsStoodHere, scene_of};
+ghost use Rattle.type_rules.specs.Scenes.{Suits, IsThere, IsStood, IsStoodHere, scene_of, WhereTold};
 
 use crate::operands::BROKEN;
 use crate::rows::row_at;
@@ -47,8 +46,8 @@ pub(crate) fn form_of<S: Scopes>(scopes: &mut S, around: &Around, of: Place) -> 
     requires there { IsThere (S.state scopes.old).frame of }
     ensures reads { Reads (S.state scopes.old) (S.state scopes.new) }
     ensures waits { WhereWaiting result (λ head. Waits (S.state scopes.old) (S.state scopes.new) head) }
-    ensures told { IsTold (texts_of (S.state scopes.old)) → WhereKnown result (λ form.
-        form ≡ form_by (spec_stands (scene_of (S.state scopes.old).frame around.now) of) (kind_of (scene_of (S.state scopes.old).frame around.now) of)) }
+    ensures told { WhereTold (S.state scopes.old).frame (λ made. WhereKnown result (λ form.
+        form ≡ form_by (spec_stands (scene_of (S.state scopes.old).frame made around.now) of) (kind_of (scene_of (S.state scopes.old).frame made around.now) of))) }
     ensures here { WhereKnown result (λ form. IfSome form (λ form. IsFormHere (S.state scopes.old).frame form)) }
 {
     let (stood, meaning) = known!(stand(scopes, around, of));
@@ -70,8 +69,8 @@ fn same_part<S: Scopes>(scopes: &mut S, around: &Around, x: Place, y: Place) -> 
     requires y { IsThere (S.state scopes.old).frame y }
     ensures reads { Reads (S.state scopes.old) (S.state scopes.new) }
     ensures waits { WhereWaiting result (λ head. Waits (S.state scopes.old) (S.state scopes.new) head) }
-    ensures told { IsTold (texts_of (S.state scopes.old)) →
-        WhereKnown result (λ same. same ≡ spec_same_part (scene_of (S.state scopes.old).frame around.now) x y) }
+    ensures told { WhereTold (S.state scopes.old).frame (λ made.
+        WhereKnown result (λ same. same ≡ spec_same_part (scene_of (S.state scopes.old).frame made around.now) x y)) }
 {
     let left = known!(stands_for(scopes, around, x));
     let right = known!(stands_for(scopes, around, y));
@@ -101,8 +100,8 @@ fn next_parameter<S: Scopes>(
     requires there { IsThere (S.state scopes.old).frame of }
     ensures reads { Reads (S.state scopes.old) (S.state scopes.new) }
     ensures waits { WhereWaiting result (λ head. Waits (S.state scopes.old) (S.state scopes.new) head) }
-    ensures told { IsTold (texts_of (S.state scopes.old)) → WhereKnown result (λ formal.
-        parameters_from (scene_of (S.state scopes.old).frame around.now) of start ≡ parameters_by (scene_of (S.state scopes.old).frame around.now) of formal) }
+    ensures told { WhereTold (S.state scopes.old).frame (λ made. WhereKnown result (λ formal.
+        parameters_from (scene_of (S.state scopes.old).frame made around.now) of start ≡ parameters_by (scene_of (S.state scopes.old).frame made around.now) of formal)) }
     ensures goes_on { WhereKnown result (λ formal. IfSome formal (λ formal. GoesOn (S.state scopes.old).frame of start formal)) }
 {
     for ordinal in start..of.ordinal {
@@ -135,10 +134,10 @@ fn stand_both<S: Scopes>(
     requires y { IsThere (S.state scopes.old).frame y }
     ensures reads { Reads (S.state scopes.old) (S.state scopes.new) }
     ensures waits { WhereWaiting result (λ head. Waits (S.state scopes.old) (S.state scopes.new) head) }
-    ensures left { IsTold (texts_of (S.state scopes.old)) →
-        WhereKnown result (λ both. IsStood (scene_of (S.state scopes.old).frame around.now) x both.0) }
-    ensures right { IsTold (texts_of (S.state scopes.old)) →
-        WhereKnown result (λ both. IsStood (scene_of (S.state scopes.old).frame around.now) y both.1) }
+    ensures left { WhereTold (S.state scopes.old).frame (λ made.
+        WhereKnown result (λ both. IsStood (scene_of (S.state scopes.old).frame made around.now) x both.0)) }
+    ensures right { WhereTold (S.state scopes.old).frame (λ made.
+        WhereKnown result (λ both. IsStood (scene_of (S.state scopes.old).frame made around.now) y both.1)) }
     ensures here { WhereKnown result (λ both. IsStoodHere (S.state scopes.old).frame both.0 × IsStoodHere (S.state scopes.old).frame both.1) }
 {
     let left = known!(stand(scopes, around, x));
@@ -166,8 +165,8 @@ fn same_by<S: Scopes>(
     requires right { IsStoodHere (S.state scopes.old).frame right }
     ensures reads { Reads (S.state scopes.old) (S.state scopes.new) }
     ensures waits { WhereWaiting result (λ head. Waits (S.state scopes.old) (S.state scopes.new) head) }
-    ensures told { IsTold (texts_of (S.state scopes.old)) →
-        WhereKnown result (λ same. same ≡ spec_same_by (scene_of (S.state scopes.old).frame around.now) left right) }
+    ensures told { WhereTold (S.state scopes.old).frame (λ made.
+        WhereKnown result (λ same. same ≡ spec_same_by (scene_of (S.state scopes.old).frame made around.now) left right)) }
 {
     match (left.1, right.1) {
         (RowMeaning::OpenArray(x), RowMeaning::OpenArray(y)) => same_part(scopes, around, x, y),
@@ -185,8 +184,8 @@ fn same_parameter<S: Scopes>(scopes: &mut S, around: &Around, x: Place, y: Place
     requires y { IsThere (S.state scopes.old).frame y }
     ensures reads { Reads (S.state scopes.old) (S.state scopes.new) }
     ensures waits { WhereWaiting result (λ head. Waits (S.state scopes.old) (S.state scopes.new) head) }
-    ensures told { IsTold (texts_of (S.state scopes.old)) →
-        WhereKnown result (λ same. same ≡ spec_same_parameter (scene_of (S.state scopes.old).frame around.now) x y) }
+    ensures told { WhereTold (S.state scopes.old).frame (λ made.
+        WhereKnown result (λ same. same ≡ spec_same_parameter (scene_of (S.state scopes.old).frame made around.now) x y)) }
 {
     let (left, right) = known!(stand_both(scopes, around, x, y));
     same_by(scopes, around, left, right)
@@ -207,10 +206,10 @@ fn next_pair<S: Scopes>(
     requires y { IsThere (S.state scopes.old).frame y }
     ensures reads { Reads (S.state scopes.old) (S.state scopes.new) }
     ensures waits { WhereWaiting result (λ head. Waits (S.state scopes.old) (S.state scopes.new) head) }
-    ensures left { IsTold (texts_of (S.state scopes.old)) → WhereKnown result (λ pair.
-        parameters_from (scene_of (S.state scopes.old).frame around.now) x left ≡ parameters_by (scene_of (S.state scopes.old).frame around.now) x pair.0) }
-    ensures right { IsTold (texts_of (S.state scopes.old)) → WhereKnown result (λ pair.
-        parameters_from (scene_of (S.state scopes.old).frame around.now) y right ≡ parameters_by (scene_of (S.state scopes.old).frame around.now) y pair.1) }
+    ensures left { WhereTold (S.state scopes.old).frame (λ made. WhereKnown result (λ pair.
+        parameters_from (scene_of (S.state scopes.old).frame made around.now) x left ≡ parameters_by (scene_of (S.state scopes.old).frame made around.now) x pair.0)) }
+    ensures right { WhereTold (S.state scopes.old).frame (λ made. WhereKnown result (λ pair.
+        parameters_from (scene_of (S.state scopes.old).frame made around.now) y right ≡ parameters_by (scene_of (S.state scopes.old).frame made around.now) y pair.1)) }
     ensures left_goes_on { WhereKnown result (λ pair. IfSome pair.0 (GoesOn (S.state scopes.old).frame x left)) }
     ensures right_goes_on { WhereKnown result (λ pair. IfSome pair.1 (GoesOn (S.state scopes.old).frame y right)) }
 {
@@ -232,8 +231,8 @@ fn compare<S: Scopes>(
     requires second { IsThere (S.state scopes.old).frame second.typ }
     ensures reads { Reads (S.state scopes.old) (S.state scopes.new) }
     ensures waits { WhereWaiting result (λ head. Waits (S.state scopes.old) (S.state scopes.new) head) }
-    ensures told { IsTold (texts_of (S.state scopes.old)) → (x y : Spot) → WhereKnown result (λ step.
-        are_same_parameters (scene_of (S.state scopes.old).frame around.now) (parameters_by (scene_of (S.state scopes.old).frame around.now) x (Some first)) (parameters_by (scene_of (S.state scopes.old).frame around.now) y (Some second)) ≡ compared (scene_of (S.state scopes.old).frame around.now) x y step) }
+    ensures told { WhereTold (S.state scopes.old).frame (λ made. (x y : Spot) → WhereKnown result (λ step.
+        are_same_parameters (scene_of (S.state scopes.old).frame made around.now) (parameters_by (scene_of (S.state scopes.old).frame made around.now) x (Some first)) (parameters_by (scene_of (S.state scopes.old).frame made around.now) y (Some second)) ≡ compared (scene_of (S.state scopes.old).frame made around.now) x y step)) }
     ensures next { WhereKnown result (λ step. Progresses first.next step) }
 {
     if first.by_ref != second.by_ref {
@@ -261,8 +260,8 @@ fn compare_next<S: Scopes>(
     requires y { IsThere (S.state scopes.old).frame y }
     ensures reads { Reads (S.state scopes.old) (S.state scopes.new) }
     ensures waits { WhereWaiting result (λ head. Waits (S.state scopes.old) (S.state scopes.new) head) }
-    ensures told { IsTold (texts_of (S.state scopes.old)) → WhereKnown result (λ step.
-        are_same_parameters (scene_of (S.state scopes.old).frame around.now) (parameters_from (scene_of (S.state scopes.old).frame around.now) x left) (parameters_from (scene_of (S.state scopes.old).frame around.now) y right) ≡ compared (scene_of (S.state scopes.old).frame around.now) x y step) }
+    ensures told { WhereTold (S.state scopes.old).frame (λ made. WhereKnown result (λ step.
+        are_same_parameters (scene_of (S.state scopes.old).frame made around.now) (parameters_from (scene_of (S.state scopes.old).frame made around.now) x left) (parameters_from (scene_of (S.state scopes.old).frame made around.now) y right) ≡ compared (scene_of (S.state scopes.old).frame made around.now) x y step)) }
     ensures later { WhereKnown result (λ step. GoesLater left x.ordinal step) }
 {
     match known!(next_pair(scopes, around, x, left, y, right)) {
@@ -280,8 +279,8 @@ fn same_parameters<S: Scopes>(scopes: &mut S, around: &Around, x: Form, y: Form)
     requires y { IsFormHere (S.state scopes.old).frame y }
     ensures reads { Reads (S.state scopes.old) (S.state scopes.new) }
     ensures waits { WhereWaiting result (λ head. Waits (S.state scopes.old) (S.state scopes.new) head) }
-    ensures told { IsTold (texts_of (S.state scopes.old)) →
-        WhereKnown result (λ same. same ≡ are_same_parameters (scene_of (S.state scopes.old).frame around.now) (parameters_from (scene_of (S.state scopes.old).frame around.now) x.of x.first) (parameters_from (scene_of (S.state scopes.old).frame around.now) y.of y.first)) }
+    ensures told { WhereTold (S.state scopes.old).frame (λ made.
+        WhereKnown result (λ same. same ≡ are_same_parameters (scene_of (S.state scopes.old).frame made around.now) (parameters_from (scene_of (S.state scopes.old).frame made around.now) x.of x.first) (parameters_from (scene_of (S.state scopes.old).frame made around.now) y.of y.first))) }
 {
     let mut left = x.first;
     let mut right = y.first;
@@ -309,8 +308,8 @@ fn same_result<S: Scopes>(
     requires y { IfSome y (IsThere (S.state scopes.old).frame) }
     ensures reads { Reads (S.state scopes.old) (S.state scopes.new) }
     ensures waits { WhereWaiting result (λ head. Waits (S.state scopes.old) (S.state scopes.new) head) }
-    ensures told { IsTold (texts_of (S.state scopes.old)) →
-        WhereKnown result (λ same. same ≡ spec_same_result (scene_of (S.state scopes.old).frame around.now) x y) }
+    ensures told { WhereTold (S.state scopes.old).frame (λ made.
+        WhereKnown result (λ same. same ≡ spec_same_result (scene_of (S.state scopes.old).frame made around.now) x y)) }
 {
     match (x, y) {
         (None, None) => Ask::Known(true),
@@ -327,8 +326,8 @@ pub(crate) fn same_form<S: Scopes>(scopes: &mut S, around: &Around, x: Form, y: 
     requires y { IsFormHere (S.state scopes.old).frame y }
     ensures reads { Reads (S.state scopes.old) (S.state scopes.new) }
     ensures waits { WhereWaiting result (λ head. Waits (S.state scopes.old) (S.state scopes.new) head) }
-    ensures told { IsTold (texts_of (S.state scopes.old)) →
-        WhereKnown result (λ same. same ≡ same_forms (scene_of (S.state scopes.old).frame around.now) x y) }
+    ensures told { WhereTold (S.state scopes.old).frame (λ made.
+        WhereKnown result (λ same. same ≡ same_forms (scene_of (S.state scopes.old).frame made around.now) x y)) }
 {
     if !known!(same_parameters(scopes, around, x, y)) {
         return Ask::Known(false);

@@ -1,13 +1,12 @@
 //! The search for a name in the scopes of a chain.
 ghost use Rattle.std.specs.Prelude.{◌≡◌, ◌≢◌};
 ghost use Rattle.std.specs.Option.{IfSome};
-ghost use Rattle.m2_base.specs.Finished.{IsTold};
-ghost use Rattle.m2_base.specs.Lists.{WhereLast};
-ghost use Rattle.m2_base.specs.States.{Waits, texts_of};
-ghost use Rattle.m2_base.specs.Tables.{lookup};
+ghost use Rattle.m2_base.specs.Lists.{IsIn, WhereLast};
+ghost use Rattle.m2_base.specs.States.{Waits, fills_of};
+ghost use Rattle.m2_base.specs.Tables.{Lacks, lookup};
 ghost use Rattle.m2_base.specs.declared.replies.Reply.TheVariants.{DontKnowYet as Unknown};
 ghost use Rattle.type_rules.specs.Asks.{WhereKnown, WhereWaiting};
-ghost use Rattle.type_rules.specs.Scenes.{Suits, IsRowOf, rows_of};
+ghost use Rattle.type_rules.specs.Scenes.{Suits, IsRowOf, rows_of, WhereTold};
 ghost use Rattle.type_rules.specs.Sites.{CanLook, Looked, IsLookFor};
 
 use m2_base::{Around, Ask, Place, Reply, Row, Scopes};
@@ -26,8 +25,9 @@ pub(crate) fn look_up<S: Scopes>(
     ensures looked { Looked (S.state scopes.old) (S.state scopes.new) at name result }
     ensures waits { WhereWaiting result (λ head. Waits (S.state scopes.old) (S.state scopes.new) head) }
     ensures asked { WhereWaiting result (λ head. WhereLast (S.state scopes.new).looks (IsLookFor at name chain.now (Unknown head))) }
-    ensures told { IsTold (texts_of (S.state scopes.old)) →
-        WhereKnown result (λ entry. entry ≡ lookup (rows_of (S.state scopes.old).frame) chain.now name) }
+    ensures told { WhereTold (S.state scopes.old).frame (λ made.
+        (IsIn (fills_of (S.state scopes.old)) chain.now → Lacks made name) →
+        WhereKnown result (λ entry. entry ≡ lookup (rows_of (S.state scopes.old).frame made) chain.now name)) }
     ensures row { WhereKnown result (λ entry. IfSome entry (λ entry. IsRowOf (S.state scopes.old).frame entry.0 entry.1)) }
 {
     match scopes.search(at, chain, name) {

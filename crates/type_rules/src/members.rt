@@ -1,12 +1,11 @@
 //! The parts of a type: the fields of a record, and the index type and the elements of an array.
 ghost use Rattle.std.specs.Prelude.{◌≡◌, ◌≤◌, find};
 ghost use Rattle.std.specs.Option.{IfSome};
-ghost use Rattle.m2_base.specs.Finished.{IsTold};
 ghost use Rattle.m2_base.specs.Rows.{row_meaning, HasSmallNumbers};
-ghost use Rattle.m2_base.specs.States.{Waits, texts_of};
+ghost use Rattle.m2_base.specs.States.{Waits};
 ghost use Rattle.m2_base.specs.Statics.TypeParts.{field_of as spec_field, index_of as spec_index, is_field as spec_is_field, rows_between};
 ghost use Rattle.type_rules.specs.Asks.{Reads, WhereKnown, WhereWaiting};
-ghost use Rattle.type_rules.specs.Scenes.{Suits, IsThere, IsHere, scene_of};
+ghost use Rattle.type_rules.specs.Scenes.{Suits, IsThere, IsHere, scene_of, WhereTold};
 
 use crate::rows::row_at;
 use crate::standing::{stand, stands_for};
@@ -19,8 +18,8 @@ pub fn index_of<S: Scopes>(scopes: &mut S, around: &Around, of: Place) -> Ask<Op
     requires there { IsThere (S.state scopes.old).frame of }
     ensures reads { Reads (S.state scopes.old) (S.state scopes.new) }
     ensures waits { WhereWaiting result (λ head. Waits (S.state scopes.old) (S.state scopes.new) head) }
-    ensures told { IsTold (texts_of (S.state scopes.old)) →
-        WhereKnown result (λ row. row ≡ spec_index (scene_of (S.state scopes.old).frame around.now) of) }
+    ensures told { WhereTold (S.state scopes.old).frame (λ made.
+        WhereKnown result (λ row. row ≡ spec_index (scene_of (S.state scopes.old).frame made around.now) of)) }
     ensures here { WhereKnown result (λ row. IfSome row (λ row. IsHere (S.state scopes.old).frame row)) }
 {
     let stood = known!(stands_for(scopes, around, of));
@@ -55,8 +54,8 @@ fn field_among<S: Scopes>(
     requires there { IsThere (S.state scopes.old).frame of }
     ensures reads { Reads (S.state scopes.old) (S.state scopes.new) }
     ensures waits { WhereWaiting result (λ head. Waits (S.state scopes.old) (S.state scopes.new) head) }
-    ensures told { IsTold (texts_of (S.state scopes.old)) →
-        WhereKnown result (λ row. row ≡ find (spec_is_field of.ordinal name) (rows_between (scene_of (S.state scopes.old).frame around.now) of.scope first of.ordinal)) }
+    ensures told { WhereTold (S.state scopes.old).frame (λ made.
+        WhereKnown result (λ row. row ≡ find (spec_is_field of.ordinal name) (rows_between (scene_of (S.state scopes.old).frame made around.now) of.scope first of.ordinal))) }
     ensures here { WhereKnown result (λ row. IfSome row (λ row. IsHere (S.state scopes.old).frame row)) }
 {
     for ordinal in first..of.ordinal {
@@ -84,8 +83,8 @@ pub fn field_of<S: Scopes>(
     requires there { IsThere (S.state scopes.old).frame of }
     ensures reads { Reads (S.state scopes.old) (S.state scopes.new) }
     ensures waits { WhereWaiting result (λ head. Waits (S.state scopes.old) (S.state scopes.new) head) }
-    ensures told { IsTold (texts_of (S.state scopes.old)) →
-        WhereKnown result (λ row. row ≡ spec_field (scene_of (S.state scopes.old).frame around.now) of name) }
+    ensures told { WhereTold (S.state scopes.old).frame (λ made.
+        WhereKnown result (λ row. row ≡ spec_field (scene_of (S.state scopes.old).frame made around.now) of name)) }
     ensures here { WhereKnown result (λ row. IfSome row (λ row. IsHere (S.state scopes.old).frame row)) }
 {
     let (stood, meaning) = known!(stand(scopes, around, of));

@@ -1,14 +1,13 @@
 //! The base and the range of a type.
 ghost use Rattle.std.specs.Prelude.{◌≡◌, ℕ, option_map};
 ghost use Rattle.std.specs.Option.{IfSome};
-ghost use Rattle.m2_base.specs.Finished.{IsTold};
 ghost use Rattle.m2_base.specs.Rows.{Fits, IsValue};
 ghost use Rattle.m2_base.specs.declared.rows.Place.{Place as Spot};
-ghost use Rattle.m2_base.specs.States.{Waits, texts_of};
+ghost use Rattle.m2_base.specs.States.{Waits};
 ghost use Rattle.m2_base.specs.Statics.Ranges.{range};
 ghost use Rattle.m2_base.specs.Statics.Types.{base_of as spec_base, range_by as spec_by, range_of as spec_range};
 ghost use Rattle.type_rules.specs.Asks.{Reads, WhereKnown, WhereWaiting};
-ghost use Rattle.type_rules.specs.Scenes.{Suits, IsThere, scene_of};
+ghost use Rattle.type_rules.specs.Scenes.{Suits, IsThere, scene_of, WhereTold};
 
 use crate::standing::stand;
 use m2_base::{Around, Ask, Place, RowMeaning, Scopes};
@@ -20,8 +19,8 @@ pub fn base_of<S: Scopes>(scopes: &mut S, around: &Around, of: Place) -> Ask<Pla
     requires there { IsThere (S.state scopes.old).frame of }
     ensures reads { Reads (S.state scopes.old) (S.state scopes.new) }
     ensures waits { WhereWaiting result (λ head. Waits (S.state scopes.old) (S.state scopes.new) head) }
-    ensures told { IsTold (texts_of (S.state scopes.old)) →
-        WhereKnown result (λ base. base ≡ spec_base (scene_of (S.state scopes.old).frame around.now) of) }
+    ensures told { WhereTold (S.state scopes.old).frame (λ made.
+        WhereKnown result (λ base. base ≡ spec_base (scene_of (S.state scopes.old).frame made around.now) of)) }
     ensures there { WhereKnown result (λ base. IsThere (S.state scopes.old).frame base) }
 {
     let (stood, meaning) = known!(stand(scopes, around, of));
@@ -53,8 +52,8 @@ pub fn range_of<S: Scopes>(scopes: &mut S, around: &Around, of: Place) -> Ask<Op
     requires there { IsThere (S.state scopes.old).frame of }
     ensures reads { Reads (S.state scopes.old) (S.state scopes.new) }
     ensures waits { WhereWaiting result (λ head. Waits (S.state scopes.old) (S.state scopes.new) head) }
-    ensures told { IsTold (texts_of (S.state scopes.old)) →
-        WhereKnown result (λ ends. option_map (λ ends. range ends.0 ends.1) ends ≡ spec_range (scene_of (S.state scopes.old).frame around.now) of) }
+    ensures told { WhereTold (S.state scopes.old).frame (λ made.
+        WhereKnown result (λ ends. option_map (λ ends. range ends.0 ends.1) ends ≡ spec_range (scene_of (S.state scopes.old).frame made around.now) of)) }
     ensures values { WhereKnown result (λ ends. IfSome ends (λ ends. IsValue ends.0 × IsValue ends.1)) }
 {
     let (_, meaning) = known!(stand(scopes, around, of));

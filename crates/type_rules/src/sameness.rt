@@ -1,10 +1,9 @@
 //! When two types are the same.
 ghost use Rattle.std.specs.Prelude.{◌≡◌};
-ghost use Rattle.m2_base.specs.Finished.{IsTold};
-ghost use Rattle.m2_base.specs.States.{Waits, texts_of};
+ghost use Rattle.m2_base.specs.States.{Waits};
 ghost use Rattle.m2_base.specs.Statics.Types.{is_same};
 ghost use Rattle.type_rules.specs.Asks.{Reads, WhereKnown, WhereWaiting};
-ghost use Rattle.type_rules.specs.Scenes.{Suits, IsThere, scene_of};
+ghost use Rattle.type_rules.specs.Scenes.{Suits, IsThere, scene_of, WhereTold};
 
 use crate::standing::stands_for;
 use m2_base::{Around, Ask, Place, Scopes};
@@ -17,8 +16,8 @@ pub fn same<S: Scopes>(scopes: &mut S, around: &Around, x: Place, y: Place) -> A
     requires y { IsThere (S.state scopes.old).frame y }
     ensures reads { Reads (S.state scopes.old) (S.state scopes.new) }
     ensures waits { WhereWaiting result (λ head. Waits (S.state scopes.old) (S.state scopes.new) head) }
-    ensures told { IsTold (texts_of (S.state scopes.old)) →
-        WhereKnown result (λ same. same ≡ is_same (scene_of (S.state scopes.old).frame around.now) x y) }
+    ensures told { WhereTold (S.state scopes.old).frame (λ made.
+        WhereKnown result (λ same. same ≡ is_same (scene_of (S.state scopes.old).frame made around.now) x y)) }
 {
     let left = known!(stands_for(scopes, around, x));
     let right = known!(stands_for(scopes, around, y));

@@ -1,10 +1,9 @@
 //! The cells of a type.
 ghost use Rattle.std.specs.Prelude.{◌≡◌};
-ghost use Rattle.m2_base.specs.Finished.{IsTold};
-ghost use Rattle.m2_base.specs.States.{Waits, texts_of};
+ghost use Rattle.m2_base.specs.States.{Waits};
 ghost use Rattle.m2_base.specs.Statics.Types.{size_of as spec_size};
 ghost use Rattle.type_rules.specs.Asks.{Reads, WhereKnown, WhereWaiting};
-ghost use Rattle.type_rules.specs.Scenes.{Suits, IsThere, scene_of};
+ghost use Rattle.type_rules.specs.Scenes.{Suits, IsThere, scene_of, WhereTold};
 
 use crate::standing::stand;
 use m2_base::{Around, Ask, Place, RowMeaning, Scopes};
@@ -16,8 +15,8 @@ pub fn size_of<S: Scopes>(scopes: &mut S, around: &Around, of: Place) -> Ask<u64
     requires there { IsThere (S.state scopes.old).frame of }
     ensures reads { Reads (S.state scopes.old) (S.state scopes.new) }
     ensures waits { WhereWaiting result (λ head. Waits (S.state scopes.old) (S.state scopes.new) head) }
-    ensures told { IsTold (texts_of (S.state scopes.old)) →
-        WhereKnown result (λ size. size ≡ spec_size (scene_of (S.state scopes.old).frame around.now) of) }
+    ensures told { WhereTold (S.state scopes.old).frame (λ made.
+        WhereKnown result (λ size. size ≡ spec_size (scene_of (S.state scopes.old).frame made around.now) of)) }
 {
     let (_, meaning) = known!(stand(scopes, around, of));
     match meaning {

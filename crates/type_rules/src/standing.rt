@@ -1,12 +1,11 @@
 //! The row that a type stands for. Inside an implementation module an opaque type of its own definition stands for the type
 //! that the module declares under that name.
 ghost use Rattle.std.specs.Prelude.{◌≡◌, ◌≢◌, Some};
-ghost use Rattle.m2_base.specs.Finished.{IsTold};
 ghost use Rattle.m2_base.specs.Rows.{row_meaning};
-ghost use Rattle.m2_base.specs.States.{Waits, texts_of};
+ghost use Rattle.m2_base.specs.States.{Waits};
 ghost use Rattle.m2_base.specs.Statics.Types.{stands_for as spec_stands, kind_of, opaque_as as spec_opaque, declared_as as spec_declared, type_named as spec_named};
 ghost use Rattle.type_rules.specs.Asks.{Reads, WhereKnown, WhereWaiting};
-ghost use Rattle.type_rules.specs.Scenes.{Suits, IsThere, IsRowOf, IsSaid, scene_of};
+ghost use Rattle.type_rules.specs.Scenes.{Suits, IsThere, IsRowOf, IsSaid, scene_of, WhereTold};
 
 use crate::finding::declared;
 use crate::rows::{meaning_at, row_at};
@@ -26,8 +25,8 @@ fn type_named<S: Scopes>(
     requires row { IsRowOf (S.state scopes.old).frame place row.now }
     ensures reads { Reads (S.state scopes.old) (S.state scopes.new) }
     ensures waits { WhereWaiting result (λ head. Waits (S.state scopes.old) (S.state scopes.new) head) }
-    ensures told { IsTold (texts_of (S.state scopes.old)) →
-        WhereKnown result (λ stood. stood ≡ spec_named (scene_of (S.state scopes.old).frame around.now) of (row_meaning row.now)) }
+    ensures told { WhereTold (S.state scopes.old).frame (λ made.
+        WhereKnown result (λ stood. stood ≡ spec_named (scene_of (S.state scopes.old).frame made around.now) of (row_meaning row.now))) }
     ensures there { WhereKnown result (λ stood. IsThere (S.state scopes.old).frame stood) }
 {
     let _place = place.scope;
@@ -47,8 +46,8 @@ fn declared_as<S: Scopes>(scopes: &mut S, around: &Around, of: Place, name: u32)
     requires there { IsThere (S.state scopes.old).frame of }
     ensures reads { Reads (S.state scopes.old) (S.state scopes.new) }
     ensures waits { WhereWaiting result (λ head. Waits (S.state scopes.old) (S.state scopes.new) head) }
-    ensures told { IsTold (texts_of (S.state scopes.old)) →
-        WhereKnown result (λ stood. stood ≡ spec_declared (scene_of (S.state scopes.old).frame around.now) of name) }
+    ensures told { WhereTold (S.state scopes.old).frame (λ made.
+        WhereKnown result (λ stood. stood ≡ spec_declared (scene_of (S.state scopes.old).frame made around.now) of name)) }
     ensures there { WhereKnown result (λ stood. IsThere (S.state scopes.old).frame stood) }
 {
     if name == 0 {
@@ -67,8 +66,8 @@ fn opaque_as<S: Scopes>(scopes: &mut S, around: &Around, of: Place) -> Ask<Place
     requires there { IsThere (S.state scopes.old).frame of }
     ensures reads { Reads (S.state scopes.old) (S.state scopes.new) }
     ensures waits { WhereWaiting result (λ head. Waits (S.state scopes.old) (S.state scopes.new) head) }
-    ensures told { IsTold (texts_of (S.state scopes.old)) →
-        WhereKnown result (λ stood. stood ≡ spec_opaque (scene_of (S.state scopes.old).frame around.now) of around.now.own) }
+    ensures told { WhereTold (S.state scopes.old).frame (λ made.
+        WhereKnown result (λ stood. stood ≡ spec_opaque (scene_of (S.state scopes.old).frame made around.now) of around.now.own)) }
     ensures there { WhereKnown result (λ stood. IsThere (S.state scopes.old).frame stood) }
 {
     if around.own != Some(of.scope) {
@@ -92,8 +91,8 @@ pub(crate) fn stands_for<S: Scopes>(scopes: &mut S, around: &Around, of: Place) 
     requires there { IsThere (S.state scopes.old).frame of }
     ensures reads { Reads (S.state scopes.old) (S.state scopes.new) }
     ensures waits { WhereWaiting result (λ head. Waits (S.state scopes.old) (S.state scopes.new) head) }
-    ensures told { IsTold (texts_of (S.state scopes.old)) →
-        WhereKnown result (λ stood. stood ≡ spec_stands (scene_of (S.state scopes.old).frame around.now) of) }
+    ensures told { WhereTold (S.state scopes.old).frame (λ made.
+        WhereKnown result (λ stood. stood ≡ spec_stands (scene_of (S.state scopes.old).frame made around.now) of)) }
     ensures there { WhereKnown result (λ stood. IsThere (S.state scopes.old).frame stood) }
 {
     match known!(meaning_at(scopes, around, of)) {
@@ -113,10 +112,10 @@ pub(crate) fn stand<S: Scopes>(
     requires there { IsThere (S.state scopes.old).frame of }
     ensures reads { Reads (S.state scopes.old) (S.state scopes.new) }
     ensures waits { WhereWaiting result (λ head. Waits (S.state scopes.old) (S.state scopes.new) head) }
-    ensures told { IsTold (texts_of (S.state scopes.old)) →
-        WhereKnown result (λ stood. stood.0 ≡ spec_stands (scene_of (S.state scopes.old).frame around.now) of) }
-    ensures kind { IsTold (texts_of (S.state scopes.old)) →
-        WhereKnown result (λ stood. stood.1 ≡ kind_of (scene_of (S.state scopes.old).frame around.now) of) }
+    ensures told { WhereTold (S.state scopes.old).frame (λ made.
+        WhereKnown result (λ stood. stood.0 ≡ spec_stands (scene_of (S.state scopes.old).frame made around.now) of)) }
+    ensures kind { WhereTold (S.state scopes.old).frame (λ made.
+        WhereKnown result (λ stood. stood.1 ≡ kind_of (scene_of (S.state scopes.old).frame made around.now) of)) }
     ensures there { WhereKnown result (λ stood. IsThere (S.state scopes.old).frame stood.0) }
     ensures said { WhereKnown result (λ stood. IsSaid (S.state scopes.old).frame stood.0 stood.1) }
 {

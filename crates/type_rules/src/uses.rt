@@ -2,19 +2,18 @@
 ghost use Rattle.std.specs.Prelude.{◌≡◌, ◌≢◌, ◌+◌, ◌<◌, ◌∷◌, ◌++◌, ◌==◌, ◌&&◌, ◌⊎◌, [], drop, length, nat_lt, slice_get, IfOk, OnErr, MatchOption, true};
 ghost use Rattle.std.specs.Option.{IfSome};
 ghost use Rattle.m2_base.specs.Asks.{IfKnown, IfWaits};
-ghost use Rattle.m2_base.specs.Finished.{IsTold};
 ghost use Rattle.m2_base.specs.Gives.{Adds};
-ghost use Rattle.m2_base.specs.Lists.{WhereKept};
+ghost use Rattle.m2_base.specs.Lists.{IsIn, WhereKept};
 ghost use Rattle.m2_base.specs.Standard.{is_standard as spec_is_standard};
-ghost use Rattle.m2_base.specs.States.{Works, Waits, texts_of, fills_of};
+ghost use Rattle.m2_base.specs.States.{Works, Waits, fills_of};
 ghost use Rattle.m2_base.specs.Statics.Contexts.{text_of_scope as spec_text};
 ghost use Rattle.m2_base.specs.Statics.Lookup.{entry_at, first_entry};
 ghost use Rattle.m2_base.specs.Statics.Uses.{answer_of, followed, bound_or as spec_bound_or, bound_outside as spec_bound_outside, use_in_item as spec_use_in_item, use_of as spec_use_of};
 ghost use Rattle.m2_base.specs.Standard.{standard_place, standard_rows as spec_rows};
-ghost use Rattle.m2_base.specs.Tables.{lookup};
+ghost use Rattle.m2_base.specs.Tables.{Lacks, lookup};
 ghost use Rattle.type_rules.specs.Asks.{Reads, WhereKnown, WhereWaiting};
-ghost use Rattle.type_rules.specs.Scenes.{Suits, IsRowOf, rows_of, scene_of};
-ghost use Rattle.type_rules.specs.Sites.{SuitsSite, CanLook, context_of, source_of, IsRefused, IsAskedIn, LeadsTo, chain_of, chain_in_item};
+ghost use Rattle.type_rules.specs.Scenes.{Suits, IsRowOf, rows_of, scene_of, WhereTold};
+ghost use Rattle.type_rules.specs.Sites.{AreOfItem, AreOfSite, SuitsSite, CanLook, context_of, source_of, IsRefused, IsAskedIn, LeadsTo, chain_of, chain_in_item};
 
 use crate::looking::look_up;
 use crate::rows::row_at;
@@ -66,8 +65,8 @@ fn follow<S: Scopes>(scopes: &mut S, around: &Around, entry: Entry) -> Ask<Entry
     requires row { IsRowOf (S.state scopes.old).frame entry.0 entry.1 }
     ensures reads { Reads (S.state scopes.old) (S.state scopes.new) }
     ensures waits { WhereWaiting result (λ head. Waits (S.state scopes.old) (S.state scopes.new) head) }
-    ensures told { IsTold (texts_of (S.state scopes.old)) →
-        WhereKnown result (λ found. found ≡ followed (scene_of (S.state scopes.old).frame around.now) entry) }
+    ensures told { WhereTold (S.state scopes.old).frame (λ made.
+        WhereKnown result (λ found. found ≡ followed (scene_of (S.state scopes.old).frame made around.now) entry)) }
     ensures row { WhereKnown result (λ found. IsRowOf (S.state scopes.old).frame found.0 found.1) }
     ensures of { WhereWaiting result (λ head. LeadsTo entry.1 head.scope) }
 {
@@ -112,8 +111,8 @@ fn bind<S: Scopes>(
     ensures kept { OnErr result (notes.new.answers.items ≡ notes.old.answers.items) }
     ensures diags { notes.new.diags.items ≡ notes.old.diags.items }
     ensures waits { IfWaits result (λ head. Waits (S.state scopes.old) (S.state scopes.new) head) }
-    ensures told { IsTold (texts_of (S.state scopes.old)) →
-        IfKnown result (λ found. found ≡ Some (followed (scene_of (S.state scopes.old).frame around.now) entry)) }
+    ensures told { WhereTold (S.state scopes.old).frame (λ made.
+        IfKnown result (λ found. found ≡ Some (followed (scene_of (S.state scopes.old).frame made around.now) entry))) }
     ensures row { IfKnown result (λ found. MatchOption found ⊥ (λ found. IsRowOf (S.state scopes.old).frame found.0 found.1)) }
     ensures of { IfWaits result (λ head. LeadsTo entry.1 head.scope) }
 {
@@ -140,8 +139,9 @@ fn bound_or<S: Scopes>(
     ensures works { Works (S.state scopes.old) (S.state scopes.new) notes.old notes.new }
     ensures waits { IfWaits result (λ head. Waits (S.state scopes.old) (S.state scopes.new) head) }
     ensures asked { IfWaits result (λ head. IsAskedIn (S.state scopes.new) notes.new at name chain.now head) }
-    ensures told { IsTold (texts_of (S.state scopes.old)) →
-        IfKnown result (λ entry. Adds notes.old notes.new (spec_bound_or (context_of (S.state scopes.old).frame site.now) code name at (lookup (rows_of (S.state scopes.old).frame) chain.now name)) entry) }
+    ensures told { WhereTold (S.state scopes.old).frame (λ made.
+        (IsIn (fills_of (S.state scopes.old)) chain.now → Lacks made name) →
+        IfKnown result (λ entry. Adds notes.old notes.new (spec_bound_or (context_of (S.state scopes.old).frame made site.now) code name at (lookup (rows_of (S.state scopes.old).frame made) chain.now name)) entry)) }
     ensures none { IfKnown result (λ entry. MatchOption entry (length notes.new.diags.items ≡ length notes.old.diags.items + 1) (λ _. notes.new.diags.items ≡ notes.old.diags.items)) }
     ensures row { IfKnown result (λ entry. IfSome entry (λ entry. IsRowOf (S.state scopes.old).frame entry.0 entry.1)) }
 {
@@ -192,8 +192,8 @@ fn bound_outside<S: Scopes>(
     ensures works { Works (S.state scopes.old) (S.state scopes.new) notes.old notes.new }
     ensures waits { IfWaits result (λ head. Waits (S.state scopes.old) (S.state scopes.new) head) }
     ensures asked { IfWaits result (λ head. IsAskedIn (S.state scopes.new) notes.new at name (drop 1 site.now.around.now.chain) head) }
-    ensures told { IsTold (texts_of (S.state scopes.old)) →
-        IfKnown result (λ entry. Adds notes.old notes.new (spec_bound_outside (context_of (S.state scopes.old).frame site.now) name at (lookup (rows_of (S.state scopes.old).frame) (drop 1 site.now.around.now.chain) name)) entry) }
+    ensures told { WhereTold (S.state scopes.old).frame (λ made.
+        IfKnown result (λ entry. Adds notes.old notes.new (spec_bound_outside (context_of (S.state scopes.old).frame made site.now) name at (lookup (rows_of (S.state scopes.old).frame made) (drop 1 site.now.around.now.chain) name)) entry)) }
     ensures none { IfKnown result (λ entry. MatchOption entry (length notes.new.diags.items ≡ length notes.old.diags.items + 1) (λ _. notes.new.diags.items ≡ notes.old.diags.items)) }
     ensures row { IfKnown result (λ entry. IfSome entry (λ entry. IsRowOf (S.state scopes.old).frame entry.0 entry.1)) }
 {
@@ -229,8 +229,9 @@ fn use_in_item<S: Scopes>(
     ensures works { Works (S.state scopes.old) (S.state scopes.new) notes.old notes.new }
     ensures waits { IfWaits result (λ head. Waits (S.state scopes.old) (S.state scopes.new) head) }
     ensures asked { IfWaits result (λ head. IsAskedIn (S.state scopes.new) notes.new at name (chain_in_item site.now item (first_entry site.now.layout.now.names name)) head) }
-    ensures told { IsTold (texts_of (S.state scopes.old)) →
-        IfKnown result (λ entry. Adds notes.old notes.new (spec_use_in_item (context_of (S.state scopes.old).frame site.now) item name at (first_entry site.now.layout.now.names name)) entry) }
+    ensures told { WhereTold (S.state scopes.old).frame (λ made.
+        AreOfItem site.now.layout.now.names item made →
+        IfKnown result (λ entry. Adds notes.old notes.new (spec_use_in_item (context_of (S.state scopes.old).frame made site.now) item name at (first_entry site.now.layout.now.names name)) entry)) }
     ensures none { IfKnown result (λ entry. MatchOption entry (length notes.new.diags.items ≡ length notes.old.diags.items + 1) (λ _. notes.new.diags.items ≡ notes.old.diags.items)) }
     ensures row { IfKnown result (λ entry. IfSome entry (λ entry. IsRowOf (S.state scopes.old).frame entry.0 entry.1)) }
 {
@@ -283,8 +284,9 @@ pub fn use_name<S: Scopes>(
     ensures works { Works (S.state scopes.old) (S.state scopes.new) notes.old notes.new }
     ensures waits { IfWaits result (λ head. Waits (S.state scopes.old) (S.state scopes.new) head) }
     ensures asked { IfWaits result (λ head. IsAskedIn (S.state scopes.new) notes.new at name (chain_of site.now within name) head) }
-    ensures told { IsTold (texts_of (S.state scopes.old)) →
-        IfKnown result (λ entry. Adds notes.old notes.new (spec_use_of (context_of (S.state scopes.old).frame site.now) within name at) entry) }
+    ensures told { WhereTold (S.state scopes.old).frame (λ made.
+        AreOfSite site.now made →
+        IfKnown result (λ entry. Adds notes.old notes.new (spec_use_of (context_of (S.state scopes.old).frame made site.now) within name at) entry)) }
     ensures none { IfKnown result (λ entry. MatchOption entry (length notes.new.diags.items ≡ length notes.old.diags.items + 1) (λ _. notes.new.diags.items ≡ notes.old.diags.items)) }
     ensures row { IfKnown result (λ entry. IfSome entry (λ entry. IsRowOf (S.state scopes.old).frame entry.0 entry.1)) }
 {

@@ -9,9 +9,9 @@ use Rattle.type_rules.proofs.assigning.takes.Goals as goal
 pub returns-in-Procedure-clause-told : goal.returns-in-Procedure-clause-told
 returns-in-Procedure-clause-told g c =
     let f = (g.S.Scopes.state c.args.scopes.now).frame in
-    told_as c.takes_procedure.result f f (λ h. spec_takes_procedure (scene_of h c.args.around.now) c.args.to c.in-Procedure.of)
-    (spec_takes (scene_of f c.args.around.now) c.args.to c.args.operand.now) refl c.takes_procedure.ensures.told
-    (λ told. ap (spec_takes (scene_of f c.args.around.now) c.args.to) (sym c.in-Procedure.is))
+    told_as c.takes_procedure.result f f (λ h made. spec_takes_procedure (scene_of h made c.args.around.now) c.args.to c.in-Procedure.of)
+    (λ made. spec_takes (scene_of f made c.args.around.now) c.args.to c.args.operand.now) refl c.takes_procedure.ensures.told
+    (λ made in_hand told. ap (spec_takes (scene_of f made c.args.around.now) c.args.to) (sym c.in-Procedure.is))
 
 pub returns-in_default : goal.returns-in_default
 returns-in_default g c =
@@ -19,7 +19,7 @@ returns-in_default g c =
     record {
       reads = c.takes_closed.ensures.reads;
       waits = c.takes_closed.ensures.waits;
-      told = told_as c.takes_closed.result f f (λ h. spec_takes_closed (scene_of h c.args.around.now) c.args.to c.args.operand.now)
-          (spec_takes (scene_of f c.args.around.now) c.args.to c.args.operand.now) refl c.takes_closed.ensures.told
-          (λ told. takes_default (scene_of f c.args.around.now) c.args.to c.args.operand.now c.in_default.not-Procedure c.in_default.not-StringConstant);
+      told = told_as c.takes_closed.result f f (λ h made. spec_takes_closed (scene_of h made c.args.around.now) c.args.to c.args.operand.now)
+          (λ made. spec_takes (scene_of f made c.args.around.now) c.args.to c.args.operand.now) refl c.takes_closed.ensures.told
+          (λ made in_hand told. takes_default (scene_of f made c.args.around.now) c.args.to c.args.operand.now c.in_default.not-Procedure c.in_default.not-StringConstant);
     }

@@ -9,7 +9,7 @@ use Rattle.type_rules.proofs.assigning.takes_closed.Goals as goal
 pub returns-clause-told : goal.returns-clause-told
 returns-clause-told g c =
     let f = (g.S.Scopes.state c.args.scopes.now).frame in
-    let scene = scene_of f c.args.around.now in
-    told_as c.takes_value.result f (g.S.Scopes.state c.is_open_array.new.scopes).frame (λ h. spec_takes_value (scene_of h c.args.around.now) c.args.to c.args.operand.now)
-    (spec_takes_closed scene c.args.to c.args.operand.now) c.in-Known.ensures.reads.keeps.frame c.takes_value.ensures.told
-    (λ told. takes_if_closed scene c.args.to c.args.operand.now (ap (spec_open_array scene) (sym c.operand_type.ensures) ∙ sym (c.in-Known.ensures.told told) ∙ c.if-value.false))
+    told_as c.takes_value.result f (g.S.Scopes.state c.is_open_array.new.scopes).frame (λ h made. spec_takes_value (scene_of h made c.args.around.now) c.args.to c.args.operand.now)
+    (λ made. spec_takes_closed (scene_of f made c.args.around.now) c.args.to c.args.operand.now) c.in-Known.ensures.reads.keeps.frame c.takes_value.ensures.told
+    (λ made in_hand told. takes_if_closed (scene_of f made c.args.around.now) c.args.to c.args.operand.now
+    (ap (spec_open_array (scene_of f made c.args.around.now)) (sym c.operand_type.ensures) ∙ sym (c.in-Known.ensures.told made in_hand told) ∙ c.if-value.false))

@@ -7,17 +7,16 @@ use Rattle.type_rules.proofs.Procedures.{forms_same, none_of, none_to}
 use Rattle.type_rules.proofs.assigning.takes_procedure.Goals as goal
 
 pub returns-in_default-clause-told : goal.returns-in_default-clause-told
-returns-in_default-clause-told g c told =
-    none_to (scene_of (g.S.Scopes.state c.args.scopes.now).frame c.args.around.now) c.args.to c.args.of (sym (c.in-Known.ensures.left told) ∙ c.in_default.is)
+returns-in_default-clause-told g c made in_hand told =
+    none_to (scene_of (g.S.Scopes.state c.args.scopes.now).frame made c.args.around.now) c.args.to c.args.of (sym (c.in-Known.ensures.left made in_hand told) ∙ c.in_default.is)
 
 pub returns-in_default-right-clause-told : goal.returns-in_default-right-clause-told
-returns-in_default-right-clause-told g c told =
-    none_of (scene_of (g.S.Scopes.state c.args.scopes.now).frame c.args.around.now) c.args.to c.args.of (sym (c.in-Known.ensures.right told) ∙ c.in_default-right.is)
+returns-in_default-right-clause-told g c made in_hand told =
+    none_of (scene_of (g.S.Scopes.state c.args.scopes.now).frame made c.args.around.now) c.args.to c.args.of (sym (c.in-Known.ensures.right made in_hand told) ∙ c.in_default-right.is)
 
 pub returns-clause-told : goal.returns-clause-told
 returns-clause-told g c =
     let f = (g.S.Scopes.state c.args.scopes.now).frame in
-    let scene = scene_of f c.args.around.now in
-    told_as c.same_form.result f (g.S.Scopes.state c.forms_of.new.scopes).frame (λ h. same_forms (scene_of h c.args.around.now) c.in-Some.left c.in-Some-right.right)
-    (spec_takes_procedure scene c.args.to c.args.of) c.in-Known.ensures.reads.keeps.frame c.same_form.ensures.told
-    (λ told. forms_same scene c.args.to c.args.of c.in-Some.left c.in-Some-right.right (sym (c.in-Known.ensures.left told) ∙ c.in-Some.is) (sym (c.in-Known.ensures.right told) ∙ c.in-Some-right.is))
+    told_as c.same_form.result f (g.S.Scopes.state c.forms_of.new.scopes).frame (λ h made. same_forms (scene_of h made c.args.around.now) c.in-Some.left c.in-Some-right.right)
+    (λ made. spec_takes_procedure (scene_of f made c.args.around.now) c.args.to c.args.of) c.in-Known.ensures.reads.keeps.frame c.same_form.ensures.told
+    (λ made in_hand told. forms_same (scene_of f made c.args.around.now) c.args.to c.args.of c.in-Some.left c.in-Some-right.right (sym (c.in-Known.ensures.left made in_hand told) ∙ c.in-Some.is) (sym (c.in-Known.ensures.right made in_hand told) ∙ c.in-Some-right.is))

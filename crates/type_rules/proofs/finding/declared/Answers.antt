@@ -1,5 +1,7 @@
-use Rattle.std.proofs.Common.{sym, ◌∙◌, ◌<◌, ◌^◌, Fits, w32, rules}
-use Rattle.type_rules.proofs.Searches.{can_search, found_in, absent_in, unknown_in, waits_at, Reads-searched, found_row}
+use Rattle.std.proofs.Common.{ap, sym, ◌∙◌, ◌<◌, ◌^◌, Fits, w32, rules}
+use Rattle.m2_base.specs.Statics.Types.{named_or}
+use Rattle.type_rules.specs.Scenes.{scene_of}
+use Rattle.type_rules.proofs.Searches.{can_search, found_in, absent_in, type_unknown, waits_at, Reads-searched, found_row}
 use Rattle.type_rules.proofs.finding.declared.Goals as goal
 
 pub search-requires : goal.search-requires
@@ -10,8 +12,9 @@ pub returns-in-Found-clause-reads : goal.returns-in-Found-clause-reads
 returns-in-Found-clause-reads g c = Reads-searched c.search.ensures
 
 pub returns-in-Found-clause-told : goal.returns-in-Found-clause-told
-returns-in-Found-clause-told g c told =
-    sym (found_in _ _ _ _ _ _ _ _ c.requires.suits c.requires.suits.home c.in-Found.ensures told)
+returns-in-Found-clause-told g c made in_hand told t =
+    ap (named_or (scene_of (g.S.Scopes.state c.args.scopes.now).frame made c.args.around.now) t)
+    (sym (found_in _ _ _ _ _ made c.requires.suits in_hand told _ _ _ c.requires.suits.home c.in-Found.ensures))
 
 pub returns-in-Found-clause-row : goal.returns-in-Found-clause-row
 returns-in-Found-clause-row g c =
@@ -24,15 +27,17 @@ pub returns-in-Absent-clause-reads : goal.returns-in-Absent-clause-reads
 returns-in-Absent-clause-reads g c = Reads-searched c.search.ensures
 
 pub returns-in-Absent-clause-told : goal.returns-in-Absent-clause-told
-returns-in-Absent-clause-told g c told =
-    sym (absent_in _ _ _ _ _ _ c.requires.suits c.requires.suits.home c.in-Absent.ensures told)
+returns-in-Absent-clause-told g c made in_hand told t =
+    ap (named_or (scene_of (g.S.Scopes.state c.args.scopes.now).frame made c.args.around.now) t)
+    (sym (absent_in _ _ _ _ _ made c.requires.suits in_hand told _ c.requires.suits.home c.in-Absent.ensures))
 
 pub returns-in-DontKnowYet-clause-reads : goal.returns-in-DontKnowYet-clause-reads
 returns-in-DontKnowYet-clause-reads g c = Reads-searched c.search.ensures
 
 pub returns-in-DontKnowYet-clause-told : goal.returns-in-DontKnowYet-clause-told
-returns-in-DontKnowYet-clause-told g c told =
-    sym (unknown_in _ _ _ _ _ _ _ c.requires.suits c.in-DontKnowYet.ensures (c.if-head-around.true ∙ c.requires.suits.fills) told)
+returns-in-DontKnowYet-clause-told g c made in_hand told t =
+    type_unknown _ _ _ _ _ _ made _ c.requires.suits in_hand c.in-DontKnowYet.ensures (c.if-head-around.true ∙ c.requires.suits.fills) told
+    (scene_of (g.S.Scopes.state c.args.scopes.now).frame made c.args.around.now) t
 
 pub returns-in-DontKnowYet-2-clause-reads : goal.returns-in-DontKnowYet-2-clause-reads
 returns-in-DontKnowYet-2-clause-reads g c = Reads-searched c.search.ensures

@@ -1,4 +1,4 @@
-use Rattle.std.proofs.Common.{◌≡◌, ◌∙◌, ap, sym, arith, pos, ◌<ℤ◌, w64, FitsSigned, rules}
+use Rattle.std.proofs.Common.{◌∙◌, ap, sym, arith, pos, ◌<ℤ◌, w64, FitsSigned, rules}
 use Rattle.std.proofs.lemmas.Int.{ints, to_z-of_z}
 use Rattle.m2_base.specs.Statics.Folding.{fold_number as spec_number, where_in}
 use Rattle.m2_base.specs.Statics.Ranges.{range}

@@ -1,4 +1,3 @@
-use Rattle.std.proofs.Common.{◌∙◌, sym}
 use Rattle.type_rules.proofs.Reading.{Reads-trans}
 use Rattle.type_rules.proofs.Walks.{read_before, parameter_found, parameter_passed}
 use Rattle.type_rules.proofs.forms.next_parameter.Goals as goal

@@ -9,7 +9,7 @@ returns-in_default g c =
     record {
       reads = Reads-refl _;
       waits = tt;
-      told = λ told. c.same_places.ensures
-          ∙ default_same (scene_of (g.S.Scopes.state c.args.scopes.now).frame c.args.around.now) c.args.left.0 c.args.right.0 c.args.left.1 c.args.right.1
+      told = λ made in_hand told. c.same_places.ensures
+          ∙ default_same (scene_of (g.S.Scopes.state c.args.scopes.now).frame made c.args.around.now) c.args.left.0 c.args.right.0 c.args.left.1 c.args.right.1
           c.in_default.not-OpenArray-0 c.in_default.not-OpenArray-1;
     }

@@ -8,7 +8,6 @@ use Rattle.type_rules.proofs.forms.same_parameter.Goals as goal
 pub returns-clause-told : goal.returns-clause-told
 returns-clause-told g c =
     let f = (g.S.Scopes.state c.args.scopes.now).frame in
-    let scene = scene_of f c.args.around.now in
-    told_as c.same_by.result f (g.S.Scopes.state c.stand_both.new.scopes).frame (λ h. spec_same_by (scene_of h c.args.around.now) c.in-Known.value.0 c.in-Known.value.1)
-    (is_same_parameter_type scene c.args.x c.args.y) c.in-Known.ensures.reads.keeps.frame c.same_by.ensures.told
-    (λ told. stood_same scene c.args.x c.args.y c.in-Known.value.0 c.in-Known.value.1 (c.in-Known.ensures.left told) (c.in-Known.ensures.right told))
+    told_as c.same_by.result f (g.S.Scopes.state c.stand_both.new.scopes).frame (λ h made. spec_same_by (scene_of h made c.args.around.now) c.in-Known.value.0 c.in-Known.value.1)
+    (λ made. is_same_parameter_type (scene_of f made c.args.around.now) c.args.x c.args.y) c.in-Known.ensures.reads.keeps.frame c.same_by.ensures.told
+    (λ made in_hand told. stood_same (scene_of f made c.args.around.now) c.args.x c.args.y c.in-Known.value.0 c.in-Known.value.1 (c.in-Known.ensures.left made in_hand told) (c.in-Known.ensures.right made in_hand told))

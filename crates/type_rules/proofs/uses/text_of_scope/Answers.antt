@@ -1,5 +1,4 @@
-use Rattle.std.proofs.Common.{◌≡◌, ap, rules}
-use Rattle.m2_base.specs.Units.{UnitTexts}
+use Rattle.std.proofs.Common.{◌≡◌, rules}
 use Rattle.type_rules.proofs.Binding.{text_of_inside}
 use Rattle.type_rules.proofs.uses.text_of_scope.Goals as goal
 
