@@ -1,0 +1,45 @@
+-- Rows as the layout gives them: each has the kind and the token of its shape, and its name or none.
+use Rattle.std.specs.Prelude.{◌≡◌, ◌≢◌, ℕ, ◌+◌, ◌==◌, Bool, false, if◌then◌else◌, List, [], ◌∷◌, ◌++◌, Option, None, Some, option_map}
+use Rattle.m2_base.specs.declared.rows.Row.{Row}
+use Rattle.m2_base.specs.Standard.{is_standard}
+use Rattle.m2_base.specs.declared.sites.Named.{Named}
+use Rattle.m2_base.specs.Statics.Lookup.{first_entry}
+use Rattle.m2_base.specs.Statics.Shapes.{Shape}
+
+-- the entry is of the row with this ordinal
+abbrev pub is_of : (ordinal : ℕ) → Option Named → Bool
+is_of o None = false
+is_of o (Some n) = n.ordinal == o
+
+-- the name that the row with this ordinal keeps: none, where it is a standard name, or where the layout has an earlier row of
+-- that name
+abbrev pub kept_name : List Named → (ordinal name : ℕ) → ℕ
+kept_name names o name = if is_standard name then 0 else if is_of o (first_entry names name) then name else 0
+
+-- the row with this ordinal is as the layout gives it
+pub record IsLaid (names : List Named) (o : ℕ) (s : Shape) (r : Row) : Type 0 where
+  pub kind : r.kind ≡ s.kind
+  pub at : r.at ≡ s.at
+  pub name : r.name ≡ kept_name names o s.name
+
+-- the rows from this ordinal on are as many as the shapes, and each is as the layout gives it
+pub data AreLaid : List Named → (o : ℕ) → List Shape → List Row → Type 0 where
+  none_laid : {names : List Named} {o : ℕ} → AreLaid names o [] []
+  more_laid : {names : List Named} {o : ℕ} {s : Shape} {ss : List Shape} {r : Row} {rs : List Row}
+      → IsLaid names o s r → AreLaid names (o + 1) ss rs → AreLaid names o (s ∷ ss) (r ∷ rs)
+
+-- the ordinal of the first shape of this name, where the first of them has this ordinal
+abbrev pub first_shape : (name : ℕ) → List Shape → (o : ℕ) → Option ℕ
+first_shape name [] o = None
+first_shape name (s ∷ ss) o = if s.name == name then Some o else first_shape name ss (o + 1)
+
+-- the layout has the first of each name among the shapes
+abbrev pub HasFirsts : List Named → List Shape → Type 0
+HasFirsts names shapes = (name : ℕ) → name ≢ 0 → option_map (λ n. n.ordinal) (first_entry names name) ≡ first_shape name shapes 0
+
+-- These rows of the block are made, as the layout gives them, and these shapes are the next.
+pub record IsAhead (names : List Named) (rows : List Row) (ahead : List Shape) : Type 0 where
+  pub before : List Shape
+  pub rest : List Shape
+  pub laid : AreLaid names 0 before rows
+  pub firsts : HasFirsts names (before ++ (ahead ++ rest))

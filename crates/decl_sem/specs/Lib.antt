@@ -1,0 +1,5 @@
+pub mod Closing
+pub mod LaidRows
+pub mod Making
+pub mod Progress
+pub mod Shapes

@@ -1,0 +1,123 @@
+//! The rows of the item in hand, one after another.
+ghost use Rattle.std.specs.Prelude.{◌≡◌, ◌∷◌, ◌++◌, [], ◌+◌, ◌<◌, ◌^◌, length, IfOk, OnErr};
+ghost use Rattle.m2_base.specs.Lists.{IsPrefixOf};
+ghost use Rattle.m2_base.specs.Rows.{at_place, row_of, HasSmallScopes};
+ghost use Rattle.m2_base.specs.Standard.{is_standard as spec_is_standard};
+ghost use Rattle.m2_base.specs.Statics.Contexts.{Context};
+ghost use Rattle.m2_base.specs.Statics.Lookup.{first_entry};
+ghost use Rattle.m2_base.specs.Statics.Makes.{makes_named, makes_row};
+ghost use Rattle.decl_sem.specs.LaidRows.{is_of, kept_name as spec_kept_name};
+ghost use Rattle.decl_sem.specs.Making.{IsInHand, IsNext, MakesAll, name_refusals, next_ordinal};
+
+use m2_base::{Diag, Layout, Memory, Notes, Place, Row, RowMeaning, Site, write_row};
+
+/// The codes of a name that the block declares twice, and of a standard name that is declared.
+const DECLARED_TWICE: u8 = 42;
+
+const STANDARD_DECLARED: u8 = 43;
+
+/// What is made of the item in hand so far.
+#[derive(Drop)]
+pub(crate) struct Made {
+    /// The ordinal of its first row.
+    pub(crate) first: u32,
+    pub(crate) rows: Vec<Row>,
+    pub(crate) notes: Notes,
+}
+
+/// Whether a name is a standard one.
+fn is_standard(name: u32) -> bool
+    ensures { result ≡ spec_is_standard name }
+{
+    1 <= name && name <= 26
+}
+
+/// Whether the layout has the first row of a name at this ordinal.
+fn is_first(layout: &Layout, ordinal: u32, name: u32) -> bool
+    ensures { result ≡ is_of ordinal (first_entry layout.now.names name) }
+{
+    match layout.first(name) {
+        Some(named) => named.ordinal == ordinal,
+        None => false,
+    }
+}
+
+/// The name that the row with this ordinal keeps. A standard name, and one that an earlier row of the block has, is
+/// refused.
+fn kept_name(
+    site: &Site,
+    ordinal: u32,
+    name: u32,
+    at: u32,
+    notes: &mut Notes,
+) -> Result<u32, Memory>
+    ensures kept { IfOk result (λ kept. kept ≡ spec_kept_name site.now.layout.now.names ordinal name) }
+    ensures diags { IfOk result (λ kept. notes.new.diags.items ≡ notes.old.diags.items ++ name_refusals site.now.around.now.text site.now.layout.now.names ordinal name at) }
+    ensures unchanged { OnErr result (notes.new.diags.items ≡ notes.old.diags.items) }
+    ensures answers { notes.new.answers.items ≡ notes.old.answers.items }
+{
+    let code = if is_standard(name) {
+        STANDARD_DECLARED
+    } else if is_first(site.layout, ordinal, name) {
+        return Ok(name);
+    } else {
+        DECLARED_TWICE
+    };
+    let text = site.around.text;
+    notes.diags.push(Diag { text, at, code })?;
+    Ok(0)
+}
+
+/// One more row, whose place is the value.
+fn put_row(site: &Site, made: &mut Made, row: Row) -> Result<Place, Memory>
+    requires { next_ordinal made.old < 2 ^ 32 }
+    ensures place { IfOk result (λ place. place ≡ at_place site.now.around.now.scope (next_ordinal made.old)) }
+    ensures rows { IfOk result (λ place. made.new.rows.items ≡ made.old.rows.items ++ row ∷ []) }
+    ensures notes { made.new.notes ≡ made.old.notes }
+    ensures first { made.new.first ≡ made.old.first }
+    ensures unchanged { OnErr result (made.new.rows.items ≡ made.old.rows.items) }
+{
+    let ordinal = made.first + made.rows.len() as u32;
+    made.rows.push(row)?;
+    let scope = site.around.scope;
+    Ok(Place { scope, ordinal })
+}
+
+/// A row without a name.
+pub(crate) fn make_row(
+    site: &Site,
+    made: &mut Made,
+    at: u32,
+    meaning: RowMeaning,
+) -> Result<Place, Memory>
+    requires room { next_ordinal made.old < 2 ^ 32 }
+    requires scopes { HasSmallScopes meaning }
+    ensures made { IfOk result (λ place. (c : Context) → IsInHand c site.now made.old → MakesAll made.old made.new (makes_row c at meaning) place) }
+    ensures rows { IfOk result (λ place. made.new.rows.items ≡ made.old.rows.items ++ row_of 0 at meaning ∷ []) }
+    ensures notes { made.new.notes ≡ made.old.notes }
+    ensures first { made.new.first ≡ made.old.first }
+{
+    put_row(site, made, write_row(0, at, meaning))
+}
+
+/// A row with a name. One that declares a standard name, and the second of a name in its scope, is nameless and refused.
+#[tactic(auto, using(crate::proofs::NextRows::by_layout))]
+pub(crate) fn make_named(
+    site: &Site,
+    made: &mut Made,
+    name: u32,
+    at: u32,
+    meaning: RowMeaning,
+) -> Result<Place, Memory>
+    requires room { next_ordinal made.old < 2 ^ 32 }
+    requires scopes { HasSmallScopes meaning }
+    ensures made { IfOk result (λ place. (c : Context) → IsInHand c site.now made.old → IsNext c name → MakesAll made.old made.new (makes_named c name at meaning) place) }
+    ensures rows { IfOk result (λ place. made.new.rows.items ≡ made.old.rows.items ++ row_of (spec_kept_name site.now.layout.now.names (next_ordinal made.old) name) at meaning ∷ []) }
+    ensures diags { IsPrefixOf made.old.notes.diags.items made.new.notes.diags.items }
+    ensures answers { made.new.notes.answers.items ≡ made.old.notes.answers.items }
+    ensures first { made.new.first ≡ made.old.first }
+{
+    let ordinal = made.first + made.rows.len() as u32;
+    let kept = kept_name(site, ordinal, name, at, &mut made.notes)?;
+    put_row(site, made, write_row(kept, at, meaning))
+}
