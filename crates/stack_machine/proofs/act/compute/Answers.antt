@@ -4,8 +4,8 @@ use Rattle.stack_machine.specs.declared.op.Op.TheVariants.{Add, Sub, Mul, Div, M
 use Rattle.stack_machine.specs.Computing.{computes}
 use Rattle.stack_machine.proofs.act.compute.Goals as goal
 
-pub unreachable-clause : goal.unreachable-clause
-unreachable-clause c =
+pub unreachable-requires : goal.unreachable-requires
+unreachable-requires c =
     (elim c.args.op as (λ (op : Op). c.args.op ≡ op → computes op ≡ true → ⊥) [
       | Add kind ↦ λ e h. absurd (c.in_default.not-Add kind e)
       | Sub kind ↦ λ e h. absurd (c.in_default.not-Sub kind e)
