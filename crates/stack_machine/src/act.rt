@@ -1,11 +1,12 @@
 //! One operation that calls no procedure of InOut.
-ghost use Rattle.std.specs.Prelude.{◌≡◌, ◌≤◌, ◌<◌, ◌+◌, ◌*◌, ◌^◌, None, Some, ℕ, length, slice_get, IfSome};
+ghost use Rattle.std.specs.Prelude.{◌≡◌, ◌≤◌, ◌<◌, ◌+◌, ◌*◌, ◌^◌, None, Some, true, ℕ, length, slice_get, IfSome};
 ghost use Rattle.stack_machine.specs.Able.{HasRoom, CanDo, Comes};
+ghost use Rattle.stack_machine.specs.Computing.{computes};
 ghost use Rattle.stack_machine.specs.InOut.{Got, params_of, services};
 ghost use Rattle.stack_machine.specs.Ready.{Able, AsksCall, IsSmall};
 ghost use Rattle.stack_machine.specs.Runs.{asked_by};
-ghost use Rattle.stack_machine.specs.State.{state_of, program_of};
-ghost use Rattle.stack_machine.specs.Step.{does, callee_of, numbered as procedure_numbered, routine_if, service_if, number_out, link_of};
+ghost use Rattle.stack_machine.specs.State.{Program, state_of, program_of};
+ghost use Rattle.stack_machine.specs.Step.{does, takes, callee_of, numbered as procedure_numbered, routine_if, service_if, number_out, link_of};
 ghost use Rattle.stack_machine.specs.declared.code.Routine.{Routine as RoutineData};
 ghost use Rattle.stack_machine.specs.declared.op.Op.TheVariants.{Call, CallVar};
 
@@ -145,27 +146,16 @@ fn call_value(code: &Code, core: &mut Core, n: u32, r: u32) -> Next
     }
 }
 
-/// One operation that calls no procedure of InOut.
+/// One operation on values alone.
 #[inline(always)]
 #[tactic(auto, unfolding(crate::specs::Step::does))]
-pub(crate) fn act(code: &Code, core: &mut Core, op: Op) -> Next
-    requires able { Able (program_of code.now) core.old op }
-    requires asked { asked_by (program_of code.now) (Some op) (state_of core.old) ≡ None }
-    ensures comes { (got : Got) → Comes result (does (program_of code.now) got op (state_of core.old)) (state_of core.old) (state_of core.new) }
+fn compute(core: &mut Core, op: Op) -> Next
+    requires able { CanDo core.old (takes op) }
+    requires computes { computes op ≡ true }
+    ensures comes { (p : Program) (got : Got) → Comes result (does p got op (state_of core.old)) (state_of core.old) (state_of core.new) }
     ensures room { HasRoom core.new }
 {
     match op {
-        Op::Push(v) => push(core, v),
-        Op::Local(h, o) => local(core, h, o),
-        Op::Load => load(core),
-        Op::Store => store(core),
-        Op::Move(n) => copy_cells(core, n),
-        Op::Dup => duplicate(core),
-        Op::Offset(n) => offset(core, n),
-        Op::Index(low, n, size) => index(core, low, n, size),
-        Op::IndexOpen(size) => open_index(core, size),
-        Op::Check(low, high) => check(core, low, high),
-        Op::Nil => not_nil(core),
         Op::Add(kind) => add(core, kind),
         Op::Sub(kind) => subtract(core, kind),
         Op::Mul(kind) => multiply(core, kind),
@@ -189,11 +179,37 @@ pub(crate) fn act(code: &Code, core: &mut Core, op: Op) -> Next
         Op::In => contains(core),
         Op::Bit => single(core),
         Op::Span => range(core),
+        Op::More(c) => more(core, c),
+        Op::Cap => capitalize(core),
+        _ => unreachable!(),
+    }
+}
+
+/// One operation that calls no procedure of InOut.
+#[inline(always)]
+#[tactic(auto, unfolding(crate::specs::Step::does))]
+pub(crate) fn act(code: &Code, core: &mut Core, op: Op) -> Next
+    requires able { Able (program_of code.now) core.old op }
+    requires asked { asked_by (program_of code.now) (Some op) (state_of core.old) ≡ None }
+    ensures comes { (got : Got) → Comes result (does (program_of code.now) got op (state_of core.old)) (state_of core.old) (state_of core.new) }
+    ensures room { HasRoom core.new }
+{
+    match op {
+        Op::Push(v) => push(core, v),
+        Op::Local(h, o) => local(core, h, o),
+        Op::Load => load(core),
+        Op::Store => store(core),
+        Op::Move(n) => copy_cells(core, n),
+        Op::Dup => duplicate(core),
+        Op::Offset(n) => offset(core, n),
+        Op::Index(low, n, size) => index(core, low, n, size),
+        Op::IndexOpen(size) => open_index(core, size),
+        Op::Check(low, high) => check(core, low, high),
+        Op::Nil => not_nil(core),
         Op::Jump(to) => jump(core, to),
         Op::JumpFalse(to) => jump_false(core, to),
         Op::AndJump(to) => and_jump(core, to),
         Op::OrJump(to) => or_jump(core, to),
-        Op::More(c) => more(core, c),
         Op::Call(k, h) => call_routine(code, core, k, h),
         Op::CallService(_) => unreachable!(),
         Op::CallVar(n, r) => call_value(code, core, n, r),
@@ -202,6 +218,6 @@ pub(crate) fn act(code: &Code, core: &mut Core, op: Op) -> Next
         Op::New(n) => allocate(core, n),
         Op::OpenCopy(o, size) => open_copy(core, o, size),
         Op::Halt => Next::Halts,
-        Op::Cap => capitalize(core),
+        _ => compute(core, op),
     }
 }
