@@ -1,5 +1,5 @@
 -- The layout of a block, item after item.
-use Rattle.std.specs.Prelude.{List, [], length, flat_map, ℕ, ◌+◌, ◌∷◌, ◌++◌}
+use Rattle.std.specs.Prelude.{List, [], length, ℕ, ◌+◌, ◌∷◌, ◌++◌}
 use Rattle.m2_base.specs.declared.sites.Named.{Named}
 use Rattle.m2_base.specs.Statics.Items.{Item}
 use Rattle.m2_base.specs.Statics.Layouts.{names_of_item}
@@ -28,7 +28,3 @@ with_item p shapes =
 abbrev pub with_items : Progress → List Item → Progress
 with_items p [] = p
 with_items p (x ∷ items) = with_items (with_item p (item_shapes x)) items
-
--- the number of rows that items have
-abbrev pub rows_of : List Item → ℕ
-rows_of items = length (flat_map item_shapes items)

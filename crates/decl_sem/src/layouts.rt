@@ -1,11 +1,10 @@
 //! The layout of a block: each name that it declares, with the ordinal, kind, token and item of its row. It follows from
 //! the syntax alone.
-ghost use Rattle.std.specs.Prelude.{◌≡◌, ◌∷◌, ◌++◌, [], ◌+◌, ◌<◌, ◌^◌, flat_map, length, map, option_map, IfOk, OnOk};
-ghost use Rattle.m2_base.specs.Statics.Items.{heading_item, heading_items, import_item, import_items, decl_item, items_of};
+ghost use Rattle.std.specs.Prelude.{◌≡◌, ◌∷◌, ◌++◌, [], ◌+◌, flat_map, map, option_map, IfOk, IfSome, OnOk};
+ghost use Rattle.m2_base.specs.Statics.Items.{heading_items, import_item, import_items, decl_item};
 ghost use Rattle.m2_base.specs.Statics.Layouts.{layout_of};
-ghost use Rattle.m2_base.specs.Statics.Shapes.{item_shapes};
 ghost use Rattle.m2_base.specs.Views.{decl_view, heading_view, import_view, stream_view};
-ghost use Rattle.decl_sem.specs.Progress.{Progress as PlainProgress, at_start, with_item, with_items, rows_of};
+ghost use Rattle.decl_sem.specs.Progress.{Progress as PlainProgress, at_start, with_item, with_items};
 
 use crate::shapes::{Shapes, put_declaration, put_heading, put_import};
 use m2_base::{Decl, Heading, Ident, Import, Layout, Memory, Named, Stream};
@@ -41,23 +40,24 @@ impl Progress {
         }
     }
 
-    /// One more item, whose rows have these shapes. A table of more items than numbers finds no memory.
+    /// One more item, whose rows have these shapes. A layout of more items or rows than numbers finds no memory.
     fn add(&mut self, shapes: &Shapes) -> Result<(), Memory>
-        requires { self.old.rows + length shapes.now < 2 ^ 32 }
         ensures { OnOk result (self.new ≡ with_item self.old shapes.now) }
     {
         let Ok(item) = u32::try_from(self.firsts.len()) else {
             return Err(Memory);
         };
+        let Some(rows) = sum(self.rows, shapes.count()) else {
+            return Err(Memory);
+        };
         shapes.name_in(&mut self.names, item, self.rows)?;
         self.firsts.push(self.rows)?;
-        self.rows += shapes.count() as u32;
+        self.rows = rows;
         Ok(())
     }
 
     /// The heading of a procedure's block is its first item.
     fn add_heading(&mut self, alloc: Global, heading: &Option<Heading>) -> Result<(), Memory>
-        requires { self.old.rows + rows_of (heading_items (option_map heading_view heading.now)) < 2 ^ 32 }
         ensures { OnOk result (self.new ≡ with_items self.old (heading_items (option_map heading_view heading.now))) }
     {
         let Some(heading) = heading else {
@@ -75,7 +75,6 @@ impl Progress {
         from: &Option<Ident>,
         names: &[Ident],
     ) -> Result<(), Memory>
-        requires { self.old.rows + rows_of (map (import_item from.now) names.now) < 2 ^ 32 }
         ensures { OnOk result (self.new ≡ with_items self.old (map (import_item from.now) names.now)) }
     {
         for name in names {
@@ -88,7 +87,6 @@ impl Progress {
 
     /// The names of an import.
     fn add_import(&mut self, alloc: Global, import: &Import) -> Result<(), Memory>
-        requires { self.old.rows + rows_of (import_items (import_view import.now)) < 2 ^ 32 }
         ensures { OnOk result (self.new ≡ with_items self.old (import_items (import_view import.now))) }
     {
         self.add_names(alloc, &import.from, &import.names)
@@ -96,7 +94,6 @@ impl Progress {
 
     /// The names of all imports.
     fn add_imports(&mut self, alloc: Global, imports: &[Import]) -> Result<(), Memory>
-        requires { self.old.rows + rows_of (flat_map import_items (map import_view imports.now)) < 2 ^ 32 }
         ensures { OnOk result (self.new ≡ with_items self.old (flat_map import_items (map import_view imports.now))) }
     {
         for import in imports {
@@ -107,7 +104,6 @@ impl Progress {
 
     /// Each declaration is an item.
     fn add_declarations(&mut self, alloc: Global, declarations: &[Decl]) -> Result<(), Memory>
-        requires { self.old.rows + rows_of (map decl_item (map decl_view declarations.now)) < 2 ^ 32 }
         ensures { OnOk result (self.new ≡ with_items self.old (map decl_item (map decl_view declarations.now))) }
     {
         for declaration in declarations {
@@ -133,10 +129,16 @@ impl Progress {
     }
 }
 
+/// The sum, where it is a number of 32 bits.
+fn sum(rows: u32, more: usize) -> Option<u32>
+    ensures { IfSome result (λ sum. sum ≡ rows + more) }
+{
+    rows.checked_add(u32::try_from(more).ok()?)
+}
+
 /// The layout of a block by its syntax: the name of each row that has one, and the first ordinal of each item with the
 /// number of all rows last.
 pub fn layout(alloc: Global, stream: &Stream) -> Result<Layout, Memory>
-    requires { rows_of (items_of (stream_view stream.now)) < 2 ^ 32 }
     ensures { IfOk result (λ layout. layout ≡ layout_of (stream_view stream.now)) }
 {
     let mut progress = Progress::new(alloc);
