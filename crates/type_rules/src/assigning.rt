@@ -21,7 +21,7 @@ use m2_base::{Around, Ask, Operand, Place, RowMeaning, Scopes};
 
 /// Whether a type is an open array.
 #[tactic(auto, using(crate::proofs::Reading::reading))]
-fn is_open_array<S: Scopes>(scopes: &mut S, around: &Around, of: Place) -> Ask<bool>
+pub fn is_open_array<S: Scopes>(scopes: &mut S, around: &Around, of: Place) -> Ask<bool>
     requires suits { Suits (S.state scopes.old).frame around.now }
     requires there { IsThere (S.state scopes.old).frame of }
     ensures reads { Reads (S.state scopes.old) (S.state scopes.new) }

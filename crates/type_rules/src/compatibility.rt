@@ -18,7 +18,7 @@ use m2_base::{Around, Ask, Operand, Place, RowMeaning, Scopes};
 
 /// Whether a type is a pointer or opaque.
 #[tactic(auto, using(crate::proofs::Reading::reading))]
-fn is_pointer<S: Scopes>(scopes: &mut S, around: &Around, of: Place) -> Ask<bool>
+pub fn is_pointer<S: Scopes>(scopes: &mut S, around: &Around, of: Place) -> Ask<bool>
     requires suits { Suits (S.state scopes.old).frame around.now }
     requires there { IsThere (S.state scopes.old).frame of }
     ensures reads { Reads (S.state scopes.old) (S.state scopes.new) }
@@ -68,7 +68,7 @@ fn is_char_beside(x: &Operand, left: Place, y: &Operand, right: Place) -> bool
 
 /// The bases of two types.
 #[tactic(auto, using(crate::proofs::Reading::reading))]
-pub(crate) fn bases_of<S: Scopes>(
+pub fn bases_of<S: Scopes>(
     scopes: &mut S,
     around: &Around,
     x: Place,

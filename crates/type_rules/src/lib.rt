@@ -34,8 +34,8 @@ mod standing;
 mod tests;
 mod uses;
 
-pub use assigning::assignable;
-pub use compatibility::compatible;
+pub use assigning::{assignable, is_open_array};
+pub use compatibility::{bases_of, compatible, is_pointer};
 pub use folding::fold;
 pub use members::{field_of, index_of};
 pub use operands::{
@@ -45,4 +45,5 @@ pub use operands::{
 pub use ordinals::{base_of, range_of};
 pub use sameness::same;
 pub use sizes::size_of;
+pub use standing::stand;
 pub use uses::use_name;

@@ -1,5 +1,5 @@
 //! The cells of a type.
-ghost use Rattle.std.specs.Prelude.{◌≡◌};
+ghost use Rattle.std.specs.Prelude.{◌≡◌, ◌<◌, ◌^◌};
 ghost use Rattle.m2_base.specs.States.{Waits};
 ghost use Rattle.m2_base.specs.Statics.Types.{size_of as spec_size};
 ghost use Rattle.type_rules.specs.Asks.{Reads, WhereKnown, WhereWaiting};
@@ -17,6 +17,7 @@ pub fn size_of<S: Scopes>(scopes: &mut S, around: &Around, of: Place) -> Ask<u64
     ensures waits { WhereWaiting result (λ head. Waits (S.state scopes.old) (S.state scopes.new) head) }
     ensures told { WhereTold (S.state scopes.old).frame (λ made.
         WhereKnown result (λ size. size ≡ spec_size (scene_of (S.state scopes.old).frame made around.now) of)) }
+    ensures small { WhereKnown result (λ size. size < 2 ^ 32) }
 {
     let (_, meaning) = known!(stand(scopes, around, of));
     match meaning {

@@ -103,11 +103,7 @@ pub(crate) fn stands_for<S: Scopes>(scopes: &mut S, around: &Around, of: Place) 
 
 /// What a type stands for, and what its row says.
 #[tactic(auto, using(crate::proofs::Reading::reading))]
-pub(crate) fn stand<S: Scopes>(
-    scopes: &mut S,
-    around: &Around,
-    of: Place,
-) -> Ask<(Place, RowMeaning)>
+pub fn stand<S: Scopes>(scopes: &mut S, around: &Around, of: Place) -> Ask<(Place, RowMeaning)>
     requires suits { Suits (S.state scopes.old).frame around.now }
     requires there { IsThere (S.state scopes.old).frame of }
     ensures reads { Reads (S.state scopes.old) (S.state scopes.new) }

@@ -1,0 +1,14 @@
+pub mod Analysing
+pub mod Arguments
+pub mod Besides
+pub mod Bits
+pub mod Elements
+pub mod Judging
+pub mod Operating
+pub mod Refusals
+pub mod SetElements
+pub mod SetRows
+pub mod Standard
+pub mod TypeArguments
+pub mod TypePairs
+pub mod TypesThere

@@ -1,0 +1,20 @@
+use Rattle.std.proofs.Common.{ap}
+use Rattle.m2_base.specs.Gives.{and_then}
+use Rattle.m2_base.specs.Standard.{cardinal}
+use Rattle.m2_base.specs.Statics.Functions.{converted}
+use Rattle.type_rules.specs.Sites.{context_of}
+use Rattle.const_eval.proofs.Judging.{after_ok, judged_as}
+use Rattle.const_eval.proofs.functions.ord_of.Goals as goal
+
+pub returns-in-Ok-clause-told : goal.returns-in-Ok-clause-told
+returns-in-Ok-clause-told g c made in_hand told =
+    let f = (g.S.Scopes.state c.args.scopes.now).frame in
+    let s = c.args.site.now in
+    judged_as c.converted.result f _ s (λ h rows. converted (context_of h rows s) c.args.at cardinal c.in-Ok.x) made _
+    c.in-Known.ensures.reads.keeps.frame c.converted.ensures.told
+    (after_ok _ c.in-Ok.x (λ v. converted (context_of f made s) c.args.at cardinal v) ((rw c.in-Ok.is at c.in-Known.ensures.told) made in_hand told)) in_hand told
+
+pub returns-in-Err-clause-told : goal.returns-in-Err-clause-told
+returns-in-Err-clause-told g c made in_hand told =
+    let now = context_of (g.S.Scopes.state c.args.scopes.now).frame made c.args.site.now in
+    ap (λ t. and_then t (λ v. converted now c.args.at cardinal v)) ((rw c.in-Err.is at c.in-Known.ensures.told) made in_hand told)

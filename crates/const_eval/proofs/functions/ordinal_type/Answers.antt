@@ -1,0 +1,16 @@
+use Rattle.std.proofs.Common.{◌∙◌}
+use Rattle.m2_base.specs.Statics.Types.{range_of}
+use Rattle.type_rules.specs.Scenes.{scene_of}
+use Rattle.type_rules.specs.Sites.{context_of}
+use Rattle.const_eval.proofs.Arguments.{type_by_range}
+use Rattle.const_eval.proofs.Judging.{told_first}
+use Rattle.const_eval.proofs.functions.ordinal_type.Goals as goal
+
+pub returns-clause-told : goal.returns-clause-told
+returns-clause-told g c made in_hand told =
+    let f = (g.S.Scopes.state c.args.scopes.now).frame in
+    let s = c.args.site.now in
+    let now = context_of f made s in
+    c.type_with_range.ensures.told now
+    ∙ type_by_range now c.args.at c.args.of c.in-Known.value _ (c.in-Known.ensures.told made in_hand told)
+    (told_first _ f _ (λ h rows. range_of (scene_of h rows s.around.now) c.args.of) c.in-Known.ensures.reads.keeps.frame c.in-Known-range_of.ensures.told made in_hand told)

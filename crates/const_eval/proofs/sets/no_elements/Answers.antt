@@ -1,0 +1,15 @@
+use Rattle.std.proofs.Common.{◌∙◌, ap, pos, if◌then◌else◌}
+use Rattle.m2_base.specs.Statics.Types.{is_broken}
+use Rattle.m2_base.specs.declared.operands.Operand.TheVariants.{Constant, InError}
+use Rattle.type_rules.specs.Scenes.{scene_of}
+use Rattle.const_eval.proofs.Judging.{told_first}
+use Rattle.const_eval.proofs.sets.no_elements.Goals as goal
+
+pub returns-clause-told : goal.returns-clause-told
+returns-clause-told g c made in_hand told =
+    let f = (g.S.Scopes.state c.args.scopes.now).frame in
+    let a = c.args.site.now.around.now in
+    c.empty_set.ensures.told
+    ∙ ap (λ b. if b then InError else Constant c.args.of (pos 0))
+    (told_first _ f _ (λ h rows. is_broken (scene_of h rows a) c.in-Known.value) c.in-Known.ensures.reads.keeps.frame c.in-Known-is_broken.ensures.told made in_hand told
+    ∙ ap (is_broken (scene_of f made a)) (c.in-Known.ensures.told made in_hand told))

@@ -1,0 +1,7 @@
+pub mod Analyses
+pub mod Ends
+pub mod Extremes
+pub mod Judgements
+pub mod Numbers
+pub mod Sites
+pub mod Structures

@@ -1,0 +1,454 @@
+//! The standard functions that constants may have: what each takes and gives.
+ghost use Rattle.std.specs.Prelude.{◌≡◌, ◌&&◌, IfOk, if◌then◌else◌, is_none, not, option_map};
+ghost use Rattle.m2_base.specs.Gives.{and_then, gives};
+ghost use Rattle.m2_base.specs.Rows.{is_same_place};
+ghost use Rattle.m2_base.specs.Standard.{boolean, broken as broken_type, character};
+ghost use Rattle.m2_base.specs.States.{Frame, Waits};
+ghost use Rattle.m2_base.specs.Statics.Contexts.{Context, Source, refuse};
+ghost use Rattle.m2_base.specs.Statics.Diagnostics.{wrong_argument};
+ghost use Rattle.m2_base.specs.Statics.Folding.{number_kind as spec_number_kind, number_type as spec_number_type};
+ghost use Rattle.m2_base.specs.Statics.Operands.{char_or_same as spec_char_or_same};
+ghost use Rattle.m2_base.specs.Statics.Operations.{base_type};
+ghost use Rattle.m2_base.specs.Statics.Ranges.{range};
+ghost use Rattle.m2_base.specs.Statics.Types.{range_of as spec_range};
+ghost use Rattle.m2_base.specs.Statics.Functions.{abs_of as spec_abs, absolute as spec_absolute, cap_of as spec_cap, capital as spec_capital, chr_of as spec_chr, converted as spec_converted, number_argument as spec_number, odd_of as spec_odd, oddness as spec_oddness, ord_of as spec_ord, ordinal_argument as spec_ordinal_argument, ordinal_type as spec_ordinal_type, ordinal_type_argument as spec_ordinal_type_argument, type_argument as spec_type_argument, val_as as spec_val_as, wrong_at};
+ghost use Rattle.const_eval.specs.Judgements.{judged, judged_or};
+ghost use Rattle.const_eval.specs.Sites.{IsNamed, IsOperand, IsSmallConstant};
+ghost use Rattle.type_rules.specs.Asks.{Reads, WhereKnown, WhereWaiting};
+ghost use Rattle.type_rules.specs.Scenes.{IsThere, WhereTold};
+ghost use Rattle.type_rules.specs.Sites.{SuitsSite, context_of};
+
+use crate::faults::{Fault, FaultKind};
+use crate::numbers::{number_kind, number_type};
+use crate::operands::{char_or_same, is_bad};
+use crate::operators::is_number;
+use crate::pairs::{is_ordinal, is_within};
+use crate::structures::is_broken;
+use m2_base::{Ask, Operand, Place, Scopes, Site};
+use type_rules::{BOOLEAN, BROKEN, CARDINAL, CHARACTER, INTEGER, base_of, operand_type, range_of};
+
+/// An argument under a condition, or what is refused otherwise.
+fn kept_or_refused(holds: bool, at: u32, x: Operand) -> Result<Operand, Fault>
+    ensures told { (c : Context) → judged c result ≡ (if holds then gives x else wrong_at c at) }
+    ensures there { (f : Frame) → IsOperand f x → IfOk result (λ operand. IsOperand f operand) }
+{
+    if holds {
+        Ok(x)
+    } else {
+        fault!(at, WrongArgument)
+    }
+}
+
+/// An argument that is a number.
+#[tactic(auto, using(type_rules::proofs::Reading::reading, crate::proofs::TypesThere::there))]
+fn number_argument<S: Scopes>(
+    scopes: &mut S,
+    site: &Site,
+    at: u32,
+    x: Operand,
+) -> Ask<Result<Operand, Fault>>
+    requires suits { SuitsSite (S.state scopes.old).frame site.now }
+    requires x { IsOperand (S.state scopes.old).frame x }
+    ensures reads { Reads (S.state scopes.old) (S.state scopes.new) }
+    ensures waits { WhereWaiting result (λ head. Waits (S.state scopes.old) (S.state scopes.new) head) }
+    ensures told { WhereTold (S.state scopes.old).frame (λ made.
+        WhereKnown result (λ given. let c = context_of (S.state scopes.old).frame made site.now in judged c given ≡ spec_number c at x)) }
+    ensures there { WhereKnown result (λ given. IfOk given (λ operand. IsOperand (S.state scopes.old).frame operand)) }
+{
+    if is_bad(x) {
+        return Ask::Known(Ok(x));
+    }
+    let base = known!(base_of(scopes, site.around, operand_type(&x)));
+    Ask::Known(kept_or_refused(is_number(base), at, x))
+}
+
+/// A string of one character as a CHAR, anything else as it is, by the names of the site.
+fn char_of_string(site: &Site, x: Operand) -> Operand
+    requires { IsNamed site.now.texts.now.names x }
+    ensures told { (source : Source) → source.spellings ≡ site.now.texts.now.names → result ≡ spec_char_or_same source x }
+    ensures there { (f : Frame) → IsThere f character → IsOperand f x → IsOperand f result }
+{
+    let texts = site.texts;
+    char_or_same(&texts.names, x)
+}
+
+/// An argument of an ordinal type; a string of one character is a CHAR.
+#[tactic(auto, using(type_rules::proofs::Reading::reading, crate::proofs::TypesThere::there))]
+pub(crate) fn ordinal_argument<S: Scopes>(
+    scopes: &mut S,
+    site: &Site,
+    at: u32,
+    x: Operand,
+) -> Ask<Result<Operand, Fault>>
+    requires suits { SuitsSite (S.state scopes.old).frame site.now }
+    requires x { IsOperand (S.state scopes.old).frame x }
+    ensures reads { Reads (S.state scopes.old) (S.state scopes.new) }
+    ensures waits { WhereWaiting result (λ head. Waits (S.state scopes.old) (S.state scopes.new) head) }
+    ensures told { WhereTold (S.state scopes.old).frame (λ made.
+        WhereKnown result (λ given. let c = context_of (S.state scopes.old).frame made site.now in judged c given ≡ spec_ordinal_argument c at x)) }
+    ensures there { WhereKnown result (λ given. IfOk given (λ operand. IsOperand (S.state scopes.old).frame operand)) }
+{
+    if is_bad(x) {
+        return Ask::Known(Ok(x));
+    }
+    let taken = char_of_string(site, x);
+    let ordinal = known!(is_ordinal(scopes, site, taken));
+    Ask::Known(kept_or_refused(ordinal, at, taken))
+}
+
+/// An argument that is a type.
+fn type_argument(at: u32, x: Operand) -> Result<Place, Fault>
+    ensures told { (c : Context) → judged_or c broken_type result ≡ spec_type_argument c at x }
+    ensures there { (f : Frame) → IsOperand f x → IsThere f broken_type → IfOk result (λ of. IsThere f of) }
+{
+    match x {
+        Operand::NamedType(of) => Ok(of),
+        Operand::InError => Ok(BROKEN),
+        _ => fault!(at, NotAType),
+    }
+}
+
+/// A type that has these ends, or is in error; anything else is refused.
+fn type_with_range(
+    at: u32,
+    of: Place,
+    broken: bool,
+    ends: Option<(i64, i64)>,
+) -> Result<Place, Fault>
+    ensures told { (c : Context) → judged_or c broken_type result ≡ (if not broken && is_none (option_map (λ ends. range ends.0 ends.1) ends) then refuse c at wrong_argument broken_type else gives of) }
+    ensures there { (f : Frame) → IsThere f of → IfOk result (λ of. IsThere f of) }
+{
+    if broken {
+        return Ok(of);
+    }
+    match ends {
+        Some(_) => Ok(of),
+        None => fault!(at, WrongArgument),
+    }
+}
+
+/// A type that must be ordinal, unless it is in error.
+#[tactic(auto, using(type_rules::proofs::Reading::reading, crate::proofs::TypesThere::there))]
+fn ordinal_type<S: Scopes>(
+    scopes: &mut S,
+    site: &Site,
+    at: u32,
+    of: Place,
+) -> Ask<Result<Place, Fault>>
+    requires suits { SuitsSite (S.state scopes.old).frame site.now }
+    requires of { IsThere (S.state scopes.old).frame of }
+    ensures reads { Reads (S.state scopes.old) (S.state scopes.new) }
+    ensures waits { WhereWaiting result (λ head. Waits (S.state scopes.old) (S.state scopes.new) head) }
+    ensures told { WhereTold (S.state scopes.old).frame (λ made.
+        WhereKnown result (λ given. let c = context_of (S.state scopes.old).frame made site.now in judged_or c broken_type given ≡ spec_ordinal_type c at of)) }
+    ensures there { WhereKnown result (λ given. IfOk given (λ of. IsThere (S.state scopes.old).frame of)) }
+{
+    let broken = known!(is_broken(scopes, site.around, of));
+    let ends = known!(range_of(scopes, site.around, of));
+    Ask::Known(type_with_range(at, of, broken, ends))
+}
+
+/// An argument that is an ordinal type.
+#[tactic(auto, using(type_rules::proofs::Reading::reading, crate::proofs::TypesThere::there))]
+pub fn ordinal_type_argument<S: Scopes>(
+    scopes: &mut S,
+    site: &Site,
+    at: u32,
+    x: Operand,
+) -> Ask<Result<Place, Fault>>
+    requires suits { SuitsSite (S.state scopes.old).frame site.now }
+    requires x { IsOperand (S.state scopes.old).frame x }
+    ensures reads { Reads (S.state scopes.old) (S.state scopes.new) }
+    ensures waits { WhereWaiting result (λ head. Waits (S.state scopes.old) (S.state scopes.new) head) }
+    ensures told { WhereTold (S.state scopes.old).frame (λ made.
+        WhereKnown result (λ given. let c = context_of (S.state scopes.old).frame made site.now in judged_or c broken_type given ≡ spec_ordinal_type_argument c at x)) }
+    ensures there { WhereKnown result (λ given. IfOk given (λ of. IsThere (S.state scopes.old).frame of)) }
+{
+    match type_argument(at, x) {
+        Ok(of) => ordinal_type(scopes, site, at, of),
+        Err(fault) => Ask::Known(Err(fault)),
+    }
+}
+
+/// A value as one of a type with these ends; a constant outside them is refused.
+fn converted_within(
+    at: u32,
+    of: Place,
+    ends: Option<(i64, i64)>,
+    x: Operand,
+) -> Result<Operand, Fault>
+    ensures told { (c : Context) → option_map (λ ends. range ends.0 ends.1) ends ≡ spec_range c.scene of → judged c result ≡ spec_converted c at of x }
+    ensures there { (f : Frame) → IsThere f of → IsOperand f x → IfOk result (λ operand. IsOperand f operand) }
+{
+    match x {
+        Operand::Constant(_, value) => {
+            if is_within(ends, value) {
+                Ok(Operand::Constant(of, value))
+            } else {
+                fault!(at, OutOfRange)
+            }
+        }
+        Operand::InError | Operand::NotConstant => Ok(x),
+        _ => Ok(Operand::Computed(of)),
+    }
+}
+
+/// A value as one of another ordinal type; a constant outside its range is refused.
+#[tactic(auto, using(type_rules::proofs::Reading::reading, crate::proofs::TypesThere::there))]
+pub(crate) fn converted<S: Scopes>(
+    scopes: &mut S,
+    site: &Site,
+    at: u32,
+    of: Place,
+    x: Operand,
+) -> Ask<Result<Operand, Fault>>
+    requires suits { SuitsSite (S.state scopes.old).frame site.now }
+    requires of { IsThere (S.state scopes.old).frame of }
+    requires x { IsOperand (S.state scopes.old).frame x }
+    ensures reads { Reads (S.state scopes.old) (S.state scopes.new) }
+    ensures waits { WhereWaiting result (λ head. Waits (S.state scopes.old) (S.state scopes.new) head) }
+    ensures told { WhereTold (S.state scopes.old).frame (λ made.
+        WhereKnown result (λ given. let c = context_of (S.state scopes.old).frame made site.now in judged c given ≡ spec_converted c at of x)) }
+    ensures there { WhereKnown result (λ given. IfOk given (λ operand. IsOperand (S.state scopes.old).frame operand)) }
+{
+    let ends = known!(range_of(scopes, site.around, of));
+    Ask::Known(converted_within(at, of, ends, x))
+}
+
+/// The absolute value, of a base type; a constant that leaves INTEGER is refused.
+fn absolute(at: u32, of: Place, x: Operand) -> Result<Operand, Fault>
+    requires { IsSmallConstant x }
+    ensures told { (c : Context) → judged c result ≡ spec_absolute c at of x }
+    ensures there { (f : Frame) → IsThere f of → IfOk result (λ operand. IsOperand f operand) }
+{
+    match x {
+        Operand::Constant(_, value) => {
+            let value = value.abs();
+            if of == INTEGER && value > 2_147_483_647 {
+                return fault!(at, OutOfRange);
+            }
+            Ok(Operand::Constant(of, value))
+        }
+        Operand::InError | Operand::NotConstant => Ok(x),
+        _ => Ok(Operand::Computed(of)),
+    }
+}
+
+/// The absolute value of a number, of its base type.
+#[tactic(auto, using(type_rules::proofs::Reading::reading, crate::proofs::TypesThere::there))]
+fn number_absolute<S: Scopes>(
+    scopes: &mut S,
+    site: &Site,
+    at: u32,
+    x: Operand,
+) -> Ask<Result<Operand, Fault>>
+    requires suits { SuitsSite (S.state scopes.old).frame site.now }
+    requires x { IsOperand (S.state scopes.old).frame x }
+    ensures reads { Reads (S.state scopes.old) (S.state scopes.new) }
+    ensures waits { WhereWaiting result (λ head. Waits (S.state scopes.old) (S.state scopes.new) head) }
+    ensures told { WhereTold (S.state scopes.old).frame (λ made.
+        WhereKnown result (λ given. let c = context_of (S.state scopes.old).frame made site.now in judged c given ≡ spec_absolute c at (spec_number_type (spec_number_kind (base_type c x))) x)) }
+    ensures there { WhereKnown result (λ given. IfOk given (λ operand. IsOperand (S.state scopes.old).frame operand)) }
+{
+    let base = known!(base_of(scopes, site.around, operand_type(&x)));
+    Ask::Known(absolute(at, number_type(number_kind(base)), x))
+}
+
+/// ABS: a number of the argument's base type.
+#[tactic(auto, using(type_rules::proofs::Reading::reading, crate::proofs::TypesThere::there))]
+pub fn abs_of<S: Scopes>(
+    scopes: &mut S,
+    site: &Site,
+    at: u32,
+    x: Operand,
+) -> Ask<Result<Operand, Fault>>
+    requires suits { SuitsSite (S.state scopes.old).frame site.now }
+    requires x { IsOperand (S.state scopes.old).frame x }
+    ensures reads { Reads (S.state scopes.old) (S.state scopes.new) }
+    ensures waits { WhereWaiting result (λ head. Waits (S.state scopes.old) (S.state scopes.new) head) }
+    ensures told { WhereTold (S.state scopes.old).frame (λ made.
+        WhereKnown result (λ given. let c = context_of (S.state scopes.old).frame made site.now in judged c given ≡ spec_abs c at x)) }
+    ensures there { WhereKnown result (λ given. IfOk given (λ operand. IsOperand (S.state scopes.old).frame operand)) }
+{
+    match known!(number_argument(scopes, site, at, x)) {
+        Ok(x) => number_absolute(scopes, site, at, x),
+        Err(fault) => Ask::Known(Err(fault)),
+    }
+}
+
+/// A letter as a capital, any other character as it is.
+fn capital(x: Operand) -> Operand
+    ensures told { result ≡ spec_capital x }
+    ensures there { (f : Frame) → IsOperand f x → IsThere f character → IsOperand f result }
+{
+    match x {
+        Operand::Constant(_, value) if 97 <= value && value <= 122 => {
+            Operand::Constant(CHARACTER, value - 32)
+        }
+        Operand::Constant(_, value) => Operand::Constant(CHARACTER, value),
+        _ => Operand::Computed(CHARACTER),
+    }
+}
+
+/// The capital of an operand whose base is CHAR; any other is refused.
+fn capital_or_refused(at: u32, base: Place, x: Operand) -> Result<Operand, Fault>
+    ensures told { (c : Context) → judged c result ≡ (if is_same_place base character then gives (spec_capital x) else wrong_at c at) }
+    ensures there { (f : Frame) → IsThere f character → IsOperand f x → IfOk result (λ operand. IsOperand f operand) }
+{
+    if base == CHARACTER {
+        Ok(capital(x))
+    } else {
+        fault!(at, WrongArgument)
+    }
+}
+
+/// CAP: a CHAR, small letters as capitals.
+#[tactic(auto, using(type_rules::proofs::Reading::reading, crate::proofs::TypesThere::there))]
+pub fn cap_of<S: Scopes>(
+    scopes: &mut S,
+    site: &Site,
+    at: u32,
+    x: Operand,
+) -> Ask<Result<Operand, Fault>>
+    requires suits { SuitsSite (S.state scopes.old).frame site.now }
+    requires x { IsOperand (S.state scopes.old).frame x }
+    ensures reads { Reads (S.state scopes.old) (S.state scopes.new) }
+    ensures waits { WhereWaiting result (λ head. Waits (S.state scopes.old) (S.state scopes.new) head) }
+    ensures told { WhereTold (S.state scopes.old).frame (λ made.
+        WhereKnown result (λ given. let c = context_of (S.state scopes.old).frame made site.now in judged c given ≡ spec_cap c at x)) }
+    ensures there { WhereKnown result (λ given. IfOk given (λ operand. IsOperand (S.state scopes.old).frame operand)) }
+{
+    if is_bad(x) {
+        return Ask::Known(Ok(x));
+    }
+    let taken = char_of_string(site, x);
+    let base = known!(base_of(scopes, site.around, operand_type(&taken)));
+    Ask::Known(capital_or_refused(at, base, taken))
+}
+
+/// CHR: the CHAR of a number.
+#[tactic(auto, using(type_rules::proofs::Reading::reading, crate::proofs::TypesThere::there))]
+pub fn chr_of<S: Scopes>(
+    scopes: &mut S,
+    site: &Site,
+    at: u32,
+    x: Operand,
+) -> Ask<Result<Operand, Fault>>
+    requires suits { SuitsSite (S.state scopes.old).frame site.now }
+    requires x { IsOperand (S.state scopes.old).frame x }
+    ensures reads { Reads (S.state scopes.old) (S.state scopes.new) }
+    ensures waits { WhereWaiting result (λ head. Waits (S.state scopes.old) (S.state scopes.new) head) }
+    ensures told { WhereTold (S.state scopes.old).frame (λ made.
+        WhereKnown result (λ given. let c = context_of (S.state scopes.old).frame made site.now in judged c given ≡ spec_chr c at x)) }
+    ensures there { WhereKnown result (λ given. IfOk given (λ operand. IsOperand (S.state scopes.old).frame operand)) }
+{
+    match known!(number_argument(scopes, site, at, x)) {
+        Ok(x) => converted(scopes, site, at, CHARACTER, x),
+        Err(fault) => Ask::Known(Err(fault)),
+    }
+}
+
+/// Whether a number is odd.
+fn oddness(x: Operand) -> Operand
+    ensures told { result ≡ spec_oddness x }
+    ensures there { (f : Frame) → IsThere f boolean → IsOperand f result }
+{
+    match x {
+        Operand::Constant(_, value) => Operand::Constant(BOOLEAN, value.rem_euclid(2)),
+        Operand::InError | Operand::NotConstant => x,
+        _ => Operand::Computed(BOOLEAN),
+    }
+}
+
+/// ODD: a BOOLEAN.
+#[tactic(auto, using(type_rules::proofs::Reading::reading, crate::proofs::TypesThere::there))]
+pub fn odd_of<S: Scopes>(
+    scopes: &mut S,
+    site: &Site,
+    at: u32,
+    x: Operand,
+) -> Ask<Result<Operand, Fault>>
+    requires suits { SuitsSite (S.state scopes.old).frame site.now }
+    requires x { IsOperand (S.state scopes.old).frame x }
+    ensures reads { Reads (S.state scopes.old) (S.state scopes.new) }
+    ensures waits { WhereWaiting result (λ head. Waits (S.state scopes.old) (S.state scopes.new) head) }
+    ensures told { WhereTold (S.state scopes.old).frame (λ made.
+        WhereKnown result (λ given. let c = context_of (S.state scopes.old).frame made site.now in judged c given ≡ spec_odd c at x)) }
+    ensures there { WhereKnown result (λ given. IfOk given (λ operand. IsOperand (S.state scopes.old).frame operand)) }
+{
+    match known!(number_argument(scopes, site, at, x)) {
+        Ok(x) => Ask::Known(Ok(oddness(x))),
+        Err(fault) => Ask::Known(Err(fault)),
+    }
+}
+
+/// ORD: an ordinal value as a CARDINAL.
+#[tactic(auto, using(type_rules::proofs::Reading::reading, crate::proofs::TypesThere::there))]
+pub fn ord_of<S: Scopes>(
+    scopes: &mut S,
+    site: &Site,
+    at: u32,
+    x: Operand,
+) -> Ask<Result<Operand, Fault>>
+    requires suits { SuitsSite (S.state scopes.old).frame site.now }
+    requires x { IsOperand (S.state scopes.old).frame x }
+    ensures reads { Reads (S.state scopes.old) (S.state scopes.new) }
+    ensures waits { WhereWaiting result (λ head. Waits (S.state scopes.old) (S.state scopes.new) head) }
+    ensures told { WhereTold (S.state scopes.old).frame (λ made.
+        WhereKnown result (λ given. let c = context_of (S.state scopes.old).frame made site.now in judged c given ≡ spec_ord c at x)) }
+    ensures there { WhereKnown result (λ given. IfOk given (λ operand. IsOperand (S.state scopes.old).frame operand)) }
+{
+    match known!(ordinal_argument(scopes, site, at, x)) {
+        Ok(x) => converted(scopes, site, at, CARDINAL, x),
+        Err(fault) => Ask::Known(Err(fault)),
+    }
+}
+
+/// A value as one of a type, unless that is in error.
+#[tactic(auto, using(type_rules::proofs::Reading::reading, crate::proofs::TypesThere::there))]
+fn val_as<S: Scopes>(
+    scopes: &mut S,
+    site: &Site,
+    at: u32,
+    of: Place,
+    x: Operand,
+) -> Ask<Result<Operand, Fault>>
+    requires suits { SuitsSite (S.state scopes.old).frame site.now }
+    requires of { IsThere (S.state scopes.old).frame of }
+    requires x { IsOperand (S.state scopes.old).frame x }
+    ensures reads { Reads (S.state scopes.old) (S.state scopes.new) }
+    ensures waits { WhereWaiting result (λ head. Waits (S.state scopes.old) (S.state scopes.new) head) }
+    ensures told { WhereTold (S.state scopes.old).frame (λ made.
+        WhereKnown result (λ given. let c = context_of (S.state scopes.old).frame made site.now in judged c given ≡ spec_val_as c at of x)) }
+    ensures there { WhereKnown result (λ given. IfOk given (λ operand. IsOperand (S.state scopes.old).frame operand)) }
+{
+    let broken = known!(is_broken(scopes, site.around, of));
+    if broken {
+        return Ask::Known(Ok(Operand::InError));
+    }
+    converted(scopes, site, at, of, x)
+}
+
+/// VAL: an ordinal value as one of this type.
+#[tactic(auto, using(type_rules::proofs::Reading::reading, crate::proofs::TypesThere::there))]
+pub fn val_of<S: Scopes>(
+    scopes: &mut S,
+    site: &Site,
+    at: u32,
+    of: Place,
+    x: Operand,
+) -> Ask<Result<Operand, Fault>>
+    requires suits { SuitsSite (S.state scopes.old).frame site.now }
+    requires of { IsThere (S.state scopes.old).frame of }
+    requires x { IsOperand (S.state scopes.old).frame x }
+    ensures reads { Reads (S.state scopes.old) (S.state scopes.new) }
+    ensures waits { WhereWaiting result (λ head. Waits (S.state scopes.old) (S.state scopes.new) head) }
+    ensures told { WhereTold (S.state scopes.old).frame (λ made.
+        WhereKnown result (λ given. let c = context_of (S.state scopes.old).frame made site.now in judged c given ≡ and_then (spec_ordinal_argument c at x) (λ x. spec_val_as c at of x))) }
+    ensures there { WhereKnown result (λ given. IfOk given (λ operand. IsOperand (S.state scopes.old).frame operand)) }
+{
+    match known!(ordinal_argument(scopes, site, at, x)) {
+        Ok(x) => val_as(scopes, site, at, of, x),
+        Err(fault) => Ask::Known(Err(fault)),
+    }
+}

@@ -1,0 +1,66 @@
+//! What is the value of a constant expression?
+//!
+//! The answer is the definition's (`m2_base`'s `specs/Statics/Constants`), or that it isn't known yet. What operators and
+//! standard functions give of operands is judged first: a judgement is the operand, or a fault at a token
+//! (`specs/Judgements`). It stands on the questions of `type_rules`, and its clauses have their names: `told` says that
+//! the answer is the definition's, `waits` of which scope it isn't known yet, `reads` what stays as before.
+#![tactic(auto)]
+
+/// The value of an answer, or the end of the function where it isn't known yet.
+macro_rules! known {
+    ($asked:expr) => {
+        match $asked {
+            Ask::Known(value) => value,
+            Ask::DontKnowYet(head) => return Ask::DontKnowYet(head),
+        }
+    };
+}
+
+/// The value of an analysis, or the end of the function where it isn't known yet or memory is wanted.
+macro_rules! analysed {
+    ($asked:expr) => {
+        match $asked {
+            Ok(asked) => match asked {
+                Ask::Known(value) => value,
+                Ask::DontKnowYet(head) => return Ok(Ask::DontKnowYet(head)),
+            },
+            Err(memory) => return Err(memory),
+        }
+    };
+}
+
+/// A judgement that something is wrong at a token.
+macro_rules! fault {
+    ($at:expr, $kind:ident) => {
+        Err(Fault {
+            at: $at,
+            kind: FaultKind::$kind,
+        })
+    };
+}
+
+mod extremes;
+mod faults;
+mod functions;
+mod membership;
+mod names;
+mod noting;
+mod numbers;
+mod operands;
+mod operators;
+mod pairs;
+mod set_bits;
+mod sets;
+mod structures;
+mod values;
+
+pub use extremes::{Extreme, extreme_of, size_value};
+pub use faults::{Fault, FaultKind};
+pub use functions::{abs_of, cap_of, chr_of, odd_of, ord_of, ordinal_type_argument, val_of};
+pub use names::{name_operand, operand_of};
+pub use noting::{note, note_type};
+pub use operands::Argument;
+pub use operators::{apply_one, operate};
+pub use set_bits::with_elements;
+pub use sets::{element_of, no_elements, set_base, set_type_of};
+pub use values::{in_constant, selected, spoilt_by, value_wanted};

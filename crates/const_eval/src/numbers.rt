@@ -1,0 +1,267 @@
+//! What operators give of operands whose types are known.
+ghost use Rattle.std.specs.Prelude.{◌≡◌, IfOk, None, Some};
+ghost use Rattle.m2_base.specs.Lists.{WhereKept};
+ghost use Rattle.m2_base.specs.Rows.{IsValue};
+ghost use Rattle.m2_base.specs.States.{Frame};
+ghost use Rattle.m2_base.specs.Statics.Contexts.{Context};
+ghost use Rattle.m2_base.specs.Statics.Folding.{is_arithmetic as spec_arithmetic, is_equality as spec_equality, is_relation as spec_relation, number_kind as spec_kind, number_type as spec_type, where_in};
+ghost use Rattle.m2_base.specs.Statics.Operations.{apply_one_by, base_type, compares_sets as spec_compares_sets, folded as spec_folded, gives_result, makes_set as spec_makes_set, is_member as spec_is_member, member_of_set as spec_member, number_operation as spec_number_operation, signed as spec_signed, set_operation as spec_set_operation, negated as spec_negated, with_sign as spec_with_sign};
+ghost use Rattle.m2_base.specs.Standard.{boolean, cardinal, integer, whole};
+ghost use Rattle.m2_base.specs.Statics.Ranges.{range};
+ghost use Rattle.m2_base.proofs.SoundOperands.{AreValues};
+ghost use Rattle.m2_base.specs.Statics.Operands.{operand_type as spec_operand_type};
+ghost use Rattle.const_eval.specs.Judgements.{judged};
+ghost use Rattle.const_eval.specs.Sites.{IsOperand};
+ghost use Rattle.type_rules.specs.Scenes.{IsThere};
+
+use crate::faults::{Fault, FaultKind};
+use crate::operands::{constant_value, is_bad};
+use m2_base::{FoldKind, Operand, Operator, Place};
+use type_rules::{BOOLEAN, CARDINAL, INTEGER, WHOLE, fold, operand_type};
+
+/// The least number, INTEGER or whole.
+const LEAST: i64 = -2_147_483_648;
+
+const GREATEST_INTEGER: i64 = 2_147_483_647;
+
+const GREATEST_WHOLE: i64 = 4_294_967_295;
+
+/// Whether an operator gives a number of two numbers.
+pub(crate) fn is_arithmetic(operator: Operator) -> bool
+    ensures { result ≡ spec_arithmetic operator }
+{
+    matches!(
+        operator,
+        Operator::Plus | Operator::Minus | Operator::Times | Operator::Div | Operator::Mod
+    )
+}
+
+/// Whether an operator is equal or unequal.
+pub(crate) fn is_equality(operator: Operator) -> bool
+    ensures { result ≡ spec_equality operator }
+{
+    matches!(operator, Operator::Equal | Operator::Unequal)
+}
+
+/// Whether an operator compares.
+pub(crate) fn is_relation(operator: Operator) -> bool
+    ensures { result ≡ spec_relation operator }
+{
+    matches!(
+        operator,
+        Operator::Equal
+            | Operator::Unequal
+            | Operator::Less
+            | Operator::Greater
+            | Operator::LessEqual
+            | Operator::GreaterEqual
+    )
+}
+
+/// Whether an operator gives a set of two sets.
+fn makes_set(operator: Operator) -> bool
+    ensures { result ≡ spec_makes_set operator }
+{
+    matches!(
+        operator,
+        Operator::Plus | Operator::Minus | Operator::Times | Operator::Slash
+    )
+}
+
+/// Whether an operator compares two sets.
+fn compares_sets(operator: Operator) -> bool
+    ensures { result ≡ spec_compares_sets operator }
+{
+    matches!(
+        operator,
+        Operator::Equal | Operator::Unequal | Operator::LessEqual | Operator::GreaterEqual
+    )
+}
+
+/// The kind of a base type of numbers.
+pub(crate) fn number_kind(base: Place) -> FoldKind
+    ensures { result ≡ spec_kind base }
+{
+    if base == INTEGER {
+        return FoldKind::Integer;
+    }
+    if base == CARDINAL {
+        FoldKind::Cardinal
+    } else {
+        FoldKind::Whole
+    }
+}
+
+/// The type of numbers of a kind.
+pub(crate) fn number_type(kind: FoldKind) -> Place
+    ensures { result ≡ spec_type kind }
+{
+    match kind {
+        FoldKind::Integer => INTEGER,
+        FoldKind::Cardinal => CARDINAL,
+        _ => WHOLE,
+    }
+}
+
+/// A constant of this value; a value that is out of range is refused at the operator.
+fn folded(at: u32, of: Place, value: Option<i64>) -> Result<Operand, Fault>
+    requires { WhereKept value IsValue }
+    ensures told { (c : Context) → judged c result ≡ spec_folded c at of value }
+    ensures there { (f : Frame) → IsThere f of → IfOk result (λ operand. IsOperand f operand) }
+{
+    match value {
+        Some(value) => Ok(Operand::Constant(of, value)),
+        None => fault!(at, OutOfRange),
+    }
+}
+
+/// The result of two operands of one kind, of this type.
+#[tactic(auto, using(m2_base::proofs::SoundOperands::fold_value))]
+pub(crate) fn combined(
+    at: u32,
+    kind: FoldKind,
+    operator: Operator,
+    of: Place,
+    x: Operand,
+    y: Operand,
+) -> Result<Operand, Fault>
+    ensures told { (c : Context) → judged c result ≡ gives_result c at kind operator of x y }
+    ensures there { (f : Frame) → IsThere f of → IfOk result (λ operand. IsOperand f operand) }
+{
+    if is_bad(x) || is_bad(y) {
+        return Ok(Operand::InError);
+    }
+    match (constant_value(x), constant_value(y)) {
+        (Some(left), Some(right)) => folded(at, of, fold(kind, operator, left, right)),
+        _ => Ok(Operand::Computed(of)),
+    }
+}
+
+/// The result of two sets of one type.
+pub(crate) fn set_operation(
+    at: u32,
+    operator: Operator,
+    x: Operand,
+    y: Operand,
+) -> Result<Operand, Fault>
+    ensures told { (c : Context) → judged c result ≡ spec_set_operation c operator at x y }
+    ensures there { (f : Frame) → IsThere f (spec_operand_type x) → IsThere f boolean → IfOk result (λ operand. IsOperand f operand) }
+{
+    if makes_set(operator) {
+        return combined(at, FoldKind::Set, operator, operand_type(&x), x, y);
+    }
+    if compares_sets(operator) {
+        combined(at, FoldKind::Set, operator, BOOLEAN, x, y)
+    } else {
+        fault!(at, WrongOperands)
+    }
+}
+
+/// The result of two numbers, of which the left has this base.
+pub(crate) fn number_operation(
+    at: u32,
+    operator: Operator,
+    base: Place,
+    x: Operand,
+    y: Operand,
+) -> Result<Operand, Fault>
+    ensures told { (c : Context) → base ≡ base_type c x → judged c result ≡ spec_number_operation c operator at x y }
+    ensures there { (f : Frame) → IsThere f integer → IsThere f cardinal → IsThere f whole → IsThere f boolean → IfOk result (λ operand. IsOperand f operand) }
+{
+    let kind = number_kind(base);
+    if is_arithmetic(operator) {
+        return combined(at, kind, operator, number_type(kind), x, y);
+    }
+    if is_relation(operator) {
+        combined(at, kind, operator, BOOLEAN, x, y)
+    } else {
+        fault!(at, WrongOperands)
+    }
+}
+
+/// NOT of a BOOLEAN.
+fn negated(operand: Operand) -> Operand
+    ensures told { result ≡ spec_negated operand }
+    ensures there { (f : Frame) → IsThere f boolean → IsOperand f result }
+{
+    match operand {
+        Operand::Constant(_, value) => Operand::Constant(BOOLEAN, (value == 0) as i64),
+        _ => Operand::Computed(BOOLEAN),
+    }
+}
+
+/// A value from low to high, with its sign; none where that is outside.
+fn signed(low: i64, high: i64, operator: Operator, value: i64) -> Option<i64>
+    ensures { result ≡ where_in (range low high) (spec_signed operator value) }
+{
+    let value = match operator {
+        Operator::Minus => value.checked_neg()?,
+        _ => value,
+    };
+    if low <= value && value <= high {
+        Some(value)
+    } else {
+        None
+    }
+}
+
+/// A sign on a number of this type, whose values are from low to high.
+#[tactic(auto, using(m2_base::proofs::SoundOperands::where_in_value))]
+fn with_sign(
+    at: u32,
+    operator: Operator,
+    of: Place,
+    low: i64,
+    high: i64,
+    operand: Operand,
+) -> Result<Operand, Fault>
+    requires { AreValues (range low high) }
+    ensures told { (c : Context) → judged c result ≡ spec_with_sign c operator at of (range low high) operand }
+    ensures there { (f : Frame) → IsThere f of → IfOk result (λ operand. IsOperand f operand) }
+{
+    match operand {
+        Operand::Constant(_, value) => folded(at, of, signed(low, high, operator, value)),
+        _ => Ok(Operand::Computed(of)),
+    }
+}
+
+/// An operator before one operand of this base.
+#[tactic(auto, using(m2_base::proofs::SoundOperands::integer_values, m2_base::proofs::SoundOperands::whole_values))]
+pub(crate) fn applied(
+    at: u32,
+    operator: Operator,
+    base: Place,
+    operand: Operand,
+) -> Result<Operand, Fault>
+    ensures told { (c : Context) → base ≡ base_type c operand → judged c result ≡ apply_one_by c operator at operand }
+    ensures there { (f : Frame) → IsThere f integer → IsThere f whole → IsThere f boolean → IfOk result (λ operand. IsOperand f operand) }
+{
+    match operator {
+        Operator::Not if base == BOOLEAN => Ok(negated(operand)),
+        Operator::Not => fault!(at, WrongOperands),
+        _ if base == INTEGER => with_sign(at, operator, INTEGER, LEAST, GREATEST_INTEGER, operand),
+        _ if base == WHOLE => with_sign(at, operator, WHOLE, LEAST, GREATEST_WHOLE, operand),
+        _ => fault!(at, WrongOperands),
+    }
+}
+
+/// Whether an element is in a set of constants.
+fn is_member(value: i64, bits: i64) -> bool
+    ensures { result ≡ spec_is_member value bits }
+{
+    0 <= value && value <= 31 && 0 <= bits && bits >> value & 1 == 1
+}
+
+/// Whether an element is in a set.
+pub(crate) fn member_of_set(x: Operand, y: Operand) -> Operand
+    ensures told { result ≡ spec_member x y }
+    ensures there { (f : Frame) → IsThere f boolean → IsOperand f result }
+{
+    match (x, y) {
+        (Operand::Constant(_, value), Operand::Constant(_, bits)) => {
+            Operand::Constant(BOOLEAN, is_member(value, bits) as i64)
+        }
+        (Operand::InError, _) => Operand::InError,
+        _ => Operand::Computed(BOOLEAN),
+    }
+}

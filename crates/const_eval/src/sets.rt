@@ -1,0 +1,225 @@
+//! Sets between brackets: their type, and their elements.
+ghost use Rattle.std.specs.Prelude.{◌≡◌, IfOk, if◌then◌else◌, option_map, pos};
+ghost use Rattle.m2_base.specs.States.{Frame, Waits};
+ghost use Rattle.m2_base.specs.Standard.{broken};
+ghost use Rattle.m2_base.specs.Statics.Compatible.{is_compatible, taken_beside as spec_taken};
+ghost use Rattle.m2_base.specs.Statics.Contexts.{Context, refuse};
+ghost use Rattle.std.specs.Option.{IfSome};
+ghost use Rattle.const_eval.specs.Structures.{base_by, type_by};
+ghost use Rattle.m2_base.specs.Statics.Diagnostics.{not_assignable};
+ghost use Rattle.m2_base.specs.Statics.Sets.{checked_element as spec_checked, element_of as spec_element, no_elements as spec_no_elements, set_base as spec_base, set_type_of as spec_set_type};
+ghost use Rattle.m2_base.specs.Statics.Ranges.{range};
+ghost use Rattle.m2_base.specs.Statics.Types.{range_of as spec_range};
+ghost use Rattle.m2_base.specs.declared.rows.Place.{Place as Spot};
+ghost use Rattle.const_eval.specs.Judgements.{judged, judged_or};
+ghost use Rattle.const_eval.specs.Sites.{IsOperand};
+ghost use Rattle.type_rules.specs.Asks.{Reads, WhereKnown, WhereWaiting};
+ghost use Rattle.type_rules.specs.Scenes.{IsThere, WhereTold};
+ghost use Rattle.type_rules.specs.Sites.{SuitsSite, context_of};
+
+use crate::faults::{Fault, FaultKind};
+use crate::operands::{is_bad, is_procedure};
+use crate::pairs::{compatible_pair, is_within};
+use crate::structures::{is_broken, set_row};
+use m2_base::{Ask, Operand, Place, Scopes, Site};
+use type_rules::{BROKEN, range_of};
+
+/// The type of a set's row, or what is refused where a type has none.
+fn set_type(at: u32, row: Option<(Place, Place)>) -> Result<Place, Fault>
+    ensures told { (c : Context) → judged_or c broken result ≡ type_by c at row }
+    ensures there { (f : Frame) → IfSome row (λ row. IsThere f row.0) → IfOk result (λ of. IsThere f of) }
+{
+    match row {
+        Some((place, _)) => Ok(place),
+        None => fault!(at, WrongIndex),
+    }
+}
+
+/// The base in a set's row; where there is none, the type of parts in error.
+fn base_in_row(row: Option<(Place, Place)>) -> Place
+    ensures told { result ≡ base_by row }
+    ensures there { (f : Frame) → IfSome row (λ row. IsThere f row.1) → IsThere f broken → IsThere f result }
+{
+    match row {
+        Some((_, base)) => base,
+        None => BROKEN,
+    }
+}
+
+/// The type before the brackets of a set, which is named.
+#[tactic(auto, using(type_rules::proofs::Reading::reading, crate::proofs::TypesThere::there))]
+fn named_set_type<S: Scopes>(
+    scopes: &mut S,
+    site: &Site,
+    at: u32,
+    of: Place,
+) -> Ask<Result<Place, Fault>>
+    requires suits { SuitsSite (S.state scopes.old).frame site.now }
+    requires of { IsThere (S.state scopes.old).frame of }
+    ensures reads { Reads (S.state scopes.old) (S.state scopes.new) }
+    ensures waits { WhereWaiting result (λ head. Waits (S.state scopes.old) (S.state scopes.new) head) }
+    ensures told { WhereTold (S.state scopes.old).frame (λ made.
+        WhereKnown result (λ given. let c = context_of (S.state scopes.old).frame made site.now in judged_or c broken given ≡ spec_set_type c at (Operand.NamedType of))) }
+    ensures there { WhereKnown result (λ given. IfOk given (λ of. IsThere (S.state scopes.old).frame of)) }
+{
+    Ask::Known(set_type(at, known!(set_row(scopes, site.around, of))))
+}
+
+/// The type before the brackets of a set, by its operand and that one's first token.
+#[tactic(auto, using(type_rules::proofs::Reading::reading, crate::proofs::TypesThere::there))]
+pub fn set_type_of<S: Scopes>(
+    scopes: &mut S,
+    site: &Site,
+    at: u32,
+    x: Operand,
+) -> Ask<Result<Place, Fault>>
+    requires suits { SuitsSite (S.state scopes.old).frame site.now }
+    requires x { IsOperand (S.state scopes.old).frame x }
+    ensures reads { Reads (S.state scopes.old) (S.state scopes.new) }
+    ensures waits { WhereWaiting result (λ head. Waits (S.state scopes.old) (S.state scopes.new) head) }
+    ensures told { WhereTold (S.state scopes.old).frame (λ made.
+        WhereKnown result (λ given. let c = context_of (S.state scopes.old).frame made site.now in judged_or c broken given ≡ spec_set_type c at x)) }
+    ensures there { WhereKnown result (λ given. IfOk given (λ of. IsThere (S.state scopes.old).frame of)) }
+{
+    match x {
+        Operand::NamedType(of) => named_set_type(scopes, site, at, of),
+        Operand::InError => Ask::Known(Ok(BROKEN)),
+        _ => Ask::Known(fault!(at, NotAType)),
+    }
+}
+
+/// The base of a set type.
+#[tactic(auto, using(type_rules::proofs::Reading::reading, crate::proofs::TypesThere::there))]
+pub fn set_base<S: Scopes>(scopes: &mut S, site: &Site, of: Place) -> Ask<Place>
+    requires suits { SuitsSite (S.state scopes.old).frame site.now }
+    requires of { IsThere (S.state scopes.old).frame of }
+    ensures reads { Reads (S.state scopes.old) (S.state scopes.new) }
+    ensures waits { WhereWaiting result (λ head. Waits (S.state scopes.old) (S.state scopes.new) head) }
+    ensures told { WhereTold (S.state scopes.old).frame (λ made.
+        WhereKnown result (λ given. let c = context_of (S.state scopes.old).frame made site.now in given ≡ spec_base c of)) }
+    ensures there { WhereKnown result (λ given. IsThere (S.state scopes.old).frame given) }
+{
+    Ask::Known(base_in_row(known!(set_row(scopes, site.around, of))))
+}
+
+/// The set of a type without elements; in error where its base is.
+fn empty_set(broken: bool, of: Place) -> Operand
+    ensures told { result ≡ (if broken then Operand.InError else Operand.Constant of (pos 0)) }
+    ensures there { (f : Frame) → IsThere f of → IsOperand f result }
+{
+    if broken {
+        Operand::InError
+    } else {
+        Operand::Constant(of, 0)
+    }
+}
+
+/// The set of a type without elements.
+#[tactic(auto, using(type_rules::proofs::Reading::reading, crate::proofs::TypesThere::there))]
+pub fn no_elements<S: Scopes>(scopes: &mut S, site: &Site, of: Place) -> Ask<Operand>
+    requires suits { SuitsSite (S.state scopes.old).frame site.now }
+    requires of { IsThere (S.state scopes.old).frame of }
+    ensures reads { Reads (S.state scopes.old) (S.state scopes.new) }
+    ensures waits { WhereWaiting result (λ head. Waits (S.state scopes.old) (S.state scopes.new) head) }
+    ensures told { WhereTold (S.state scopes.old).frame (λ made.
+        WhereKnown result (λ given. let c = context_of (S.state scopes.old).frame made site.now in given ≡ spec_no_elements c of)) }
+    ensures there { WhereKnown result (λ given. IsOperand (S.state scopes.old).frame given) }
+{
+    let base = known!(set_base(scopes, site, of));
+    let broken = known!(is_broken(scopes, site.around, base));
+    Ask::Known(empty_set(broken, of))
+}
+
+/// An element of a base with these ends: a constant outside them is refused.
+fn element_within(at: u32, ends: Option<(i64, i64)>, x: Operand) -> Result<Operand, Fault>
+    ensures told { (c : Context) (base : Spot) → option_map (λ ends. range ends.0 ends.1) ends ≡ spec_range c.scene base → judged c result ≡ spec_checked c base at x }
+    ensures there { (f : Frame) → IsOperand f x → IfOk result (λ operand. IsOperand f operand) }
+{
+    match x {
+        Operand::Constant(_, value) => {
+            if is_within(ends, value) {
+                Ok(x)
+            } else {
+                fault!(at, OutOfRange)
+            }
+        }
+        _ => Ok(x),
+    }
+}
+
+/// A constant element outside the base's range is refused.
+#[tactic(auto, using(type_rules::proofs::Reading::reading, crate::proofs::TypesThere::there))]
+fn checked_element<S: Scopes>(
+    scopes: &mut S,
+    site: &Site,
+    base: Place,
+    at: u32,
+    x: Operand,
+) -> Ask<Result<Operand, Fault>>
+    requires suits { SuitsSite (S.state scopes.old).frame site.now }
+    requires base { IsThere (S.state scopes.old).frame base }
+    requires x { IsOperand (S.state scopes.old).frame x }
+    ensures reads { Reads (S.state scopes.old) (S.state scopes.new) }
+    ensures waits { WhereWaiting result (λ head. Waits (S.state scopes.old) (S.state scopes.new) head) }
+    ensures told { WhereTold (S.state scopes.old).frame (λ made.
+        WhereKnown result (λ given. let c = context_of (S.state scopes.old).frame made site.now in judged c given ≡ spec_checked c base at x)) }
+    ensures there { WhereKnown result (λ given. IfOk given (λ operand. IsOperand (S.state scopes.old).frame operand)) }
+{
+    let ends = known!(range_of(scopes, site.around, base));
+    Ask::Known(element_within(at, ends, x))
+}
+
+/// An element as it is taken into a set whose base isn't in error.
+#[tactic(auto, using(type_rules::proofs::Reading::reading, crate::proofs::TypesThere::there))]
+fn taken_element<S: Scopes>(
+    scopes: &mut S,
+    site: &Site,
+    base: Place,
+    at: u32,
+    x: Operand,
+) -> Ask<Result<Operand, Fault>>
+    requires suits { SuitsSite (S.state scopes.old).frame site.now }
+    requires base { IsThere (S.state scopes.old).frame base }
+    requires x { IsOperand (S.state scopes.old).frame x }
+    ensures reads { Reads (S.state scopes.old) (S.state scopes.new) }
+    ensures waits { WhereWaiting result (λ head. Waits (S.state scopes.old) (S.state scopes.new) head) }
+    ensures told { WhereTold (S.state scopes.old).frame (λ made.
+        WhereKnown result (λ given. let c = context_of (S.state scopes.old).frame made site.now in judged c given ≡ (if is_compatible c.scene x (Operand.Computed base) then spec_checked c base at (spec_taken c.source c.scene x (Operand.Computed base)) else refuse c at not_assignable Operand.InError))) }
+    ensures there { WhereKnown result (λ given. IfOk given (λ operand. IsOperand (S.state scopes.old).frame operand)) }
+{
+    match known!(compatible_pair(scopes, site, x, Operand::Computed(base))) {
+        Some(pair) => checked_element(scopes, site, base, at, pair.0),
+        None => Ask::Known(fault!(at, NotAssignable)),
+    }
+}
+
+/// An element as it is taken into a set: compatible with the base, and a constant in the base's range.
+#[tactic(auto, using(type_rules::proofs::Reading::reading, crate::proofs::TypesThere::there))]
+pub fn element_of<S: Scopes>(
+    scopes: &mut S,
+    site: &Site,
+    base: Place,
+    at: u32,
+    x: Operand,
+) -> Ask<Result<Operand, Fault>>
+    requires suits { SuitsSite (S.state scopes.old).frame site.now }
+    requires base { IsThere (S.state scopes.old).frame base }
+    requires x { IsOperand (S.state scopes.old).frame x }
+    ensures reads { Reads (S.state scopes.old) (S.state scopes.new) }
+    ensures waits { WhereWaiting result (λ head. Waits (S.state scopes.old) (S.state scopes.new) head) }
+    ensures told { WhereTold (S.state scopes.old).frame (λ made.
+        WhereKnown result (λ given. let c = context_of (S.state scopes.old).frame made site.now in judged c given ≡ spec_element c base at x)) }
+    ensures there { WhereKnown result (λ given. IfOk given (λ operand. IsOperand (S.state scopes.old).frame operand)) }
+{
+    if is_bad(x) {
+        return Ask::Known(Ok(x));
+    }
+    let broken = known!(is_broken(scopes, site.around, base));
+    if broken {
+        return Ask::Known(Ok(Operand::InError));
+    }
+    if is_procedure(x) {
+        return Ask::Known(fault!(at, NotAssignable));
+    }
+    taken_element(scopes, site, base, at, x)
+}

@@ -1,0 +1,63 @@
+//! What the row of a type says that isn't ordinal.
+ghost use Rattle.std.specs.Prelude.{◌≡◌};
+ghost use Rattle.std.specs.Option.{IfSome};
+ghost use Rattle.m2_base.specs.States.{Waits};
+ghost use Rattle.m2_base.specs.Statics.Types.{is_broken as spec_broken, kind_of, stands_for};
+ghost use Rattle.const_eval.specs.Structures.{are_alike as spec_alike, set_row_by};
+ghost use Rattle.type_rules.specs.Asks.{Reads, WhereKnown, WhereWaiting};
+ghost use Rattle.type_rules.specs.Scenes.{Suits, IsThere, scene_of, WhereTold};
+
+use m2_base::{Around, Ask, Place, RowMeaning, Scopes};
+use type_rules::{BROKEN, same, stand};
+
+/// Whether a type is that of parts in error.
+#[tactic(auto, using(type_rules::proofs::Reading::reading, crate::proofs::TypesThere::there))]
+pub(crate) fn is_broken<S: Scopes>(scopes: &mut S, around: &Around, of: Place) -> Ask<bool>
+    requires suits { Suits (S.state scopes.old).frame around.now }
+    requires there { IsThere (S.state scopes.old).frame of }
+    ensures reads { Reads (S.state scopes.old) (S.state scopes.new) }
+    ensures waits { WhereWaiting result (λ head. Waits (S.state scopes.old) (S.state scopes.new) head) }
+    ensures told { WhereTold (S.state scopes.old).frame (λ made.
+        WhereKnown result (λ holds. holds ≡ spec_broken (scene_of (S.state scopes.old).frame made around.now) of)) }
+{
+    same(scopes, around, of, BROKEN)
+}
+
+/// The place and the base of a set's row.
+fn set_by(place: Place, meaning: RowMeaning) -> Option<(Place, Place)>
+    ensures { result ≡ set_row_by place meaning }
+{
+    match meaning {
+        RowMeaning::Set(base) => Some((place, base)),
+        _ => None,
+    }
+}
+
+/// Whether two sets' rows are one.
+pub(crate) fn are_alike(x: Option<(Place, Place)>, y: Option<(Place, Place)>) -> bool
+    ensures { result ≡ spec_alike x y }
+{
+    match (x, y) {
+        (Some((left, _)), Some((right, _))) => left == right,
+        _ => false,
+    }
+}
+
+/// The place and the base of the row of a set type; none where a type is no set.
+#[tactic(auto, using(type_rules::proofs::Reading::reading))]
+pub(crate) fn set_row<S: Scopes>(
+    scopes: &mut S,
+    around: &Around,
+    of: Place,
+) -> Ask<Option<(Place, Place)>>
+    requires suits { Suits (S.state scopes.old).frame around.now }
+    requires there { IsThere (S.state scopes.old).frame of }
+    ensures reads { Reads (S.state scopes.old) (S.state scopes.new) }
+    ensures waits { WhereWaiting result (λ head. Waits (S.state scopes.old) (S.state scopes.new) head) }
+    ensures told { WhereTold (S.state scopes.old).frame (λ made.
+        WhereKnown result (λ row. let scene = scene_of (S.state scopes.old).frame made around.now in row ≡ set_row_by (stands_for scene of) (kind_of scene of))) }
+    ensures there { WhereKnown result (λ row. IfSome row (λ row. IsThere (S.state scopes.old).frame row.0 × IsThere (S.state scopes.old).frame row.1)) }
+{
+    let (place, meaning) = known!(stand(scopes, around, of));
+    Ask::Known(set_by(place, meaning))
+}
