@@ -1,5 +1,5 @@
 -- The index of a layout is made from the last name to the first.
-use Rattle.std.proofs.Common.{◌≡◌, ℕ, Bool, cond, List, [], ◌∷◌, ◌++◌, length, Option, None, Some, refl, sym, ap, ◌∙◌, nat_eq, suc-ne-zero}
+use Rattle.std.proofs.Common.{◌≡◌, ℕ, cond, List, [], ◌∷◌, ◌++◌, length, Option, None, Some, sym, ap, ◌∙◌, nat_eq, suc-ne-zero}
 use Rattle.std.proofs.lemmas.List.{append-nil, append_assoc}
 use Rattle.m2_base.specs.Statics.Lookup.{first_entry}
 use Rattle.m2_base.specs.declared.sites.Named.{Named}

@@ -11,6 +11,10 @@ pub mod Numbers
 pub mod OneList
 pub mod OneReading
 mod ReservedWords
+pub mod ReadExpressions
+pub mod ReadSound
+pub mod ReadStreams
+pub mod ReadTypes
 pub mod RowLaws
 pub mod SceneLaws
 pub mod Seen

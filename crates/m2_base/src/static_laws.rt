@@ -12,10 +12,16 @@ ghost use Rattle.m2_base.specs.Statics.Items.{Item, items_of};
 ghost use Rattle.m2_base.specs.Statics.NewRows.{AreNew};
 ghost use Rattle.m2_base.specs.Statics.Ranges.{Range};
 ghost use Rattle.m2_base.specs.Statics.ShapedRows.{AreShaped};
+ghost use Rattle.m2_base.specs.Statics.SoundTrees.{IsSoundItem};
 ghost use Rattle.m2_base.specs.Statics.Shapes.{item_shapes};
 ghost use Rattle.m2_base.specs.Statics.Types.{is_same, stands_for, range_of};
 ghost use Rattle.m2_base.specs.Statics.UnitRows.{unit_rows};
-ghost use Rattle.m2_base.specs.Trees.{StreamKind as KindOfStream};
+ghost use Rattle.m2_base.specs.Grammar.{grammar, levels, stream};
+ghost use Rattle.m2_base.specs.Statics.ReadTrees.{IsReadItem, IsReadToken};
+ghost use Rattle.m2_base.specs.StreamsOf.{stream_of};
+ghost use Rattle.m2_base.specs.Trees.{Stream, StreamKind as KindOfStream};
+ghost use Rattle.m2_base.specs.declared.token.Token.{Token};
+ghost use Rattle.ll_grammar.specs.Texts.{Spells};
 
 /// That two types are the same is an equivalence.
 pub fn same_is_an_equivalence()
@@ -47,6 +53,12 @@ pub fn chains_go_down()
 pub fn second_rows_are_nameless()
     ensures items { (c : Context) (kind : KindOfStream) (x : Item) (cell : ℕ) → AreNew c.scene (declare c kind x cell).rows }
     ensures blocks { (source : Source) (tables : List (List Row)) (b : BlockTree) → b.block.scope ≤ length tables → HasNoRepeats (λ r. r.name) (declare_block source tables b).rows }
+{}
+
+/// The items of a stream are as read, where the tokens are that spell its tree; and then they are sound.
+pub fn items_are_read()
+    ensures read { (names : List (List ℕ)) (kind : KindOfStream) (tree : Stream) (tokens : List Token) → Spells grammar levels (stream kind) (stream_of kind) tree tokens → Each (IsReadToken names) tokens → Each (IsReadItem names) (items_of tree) }
+    ensures sound { (names : List (List ℕ)) (x : Item) → IsReadItem names x → IsSoundItem (length names) x }
 {}
 
 /// The rows of a block are right, each at its place: well formed, and each array and record has a cell. The block stands
