@@ -1,6 +1,7 @@
 pub mod Analysing
 pub mod Besides
 pub mod Bits
+pub mod CallKinds
 pub mod Elements
 pub mod FunctionArguments
 pub mod Judging
