@@ -4,6 +4,7 @@ use Rattle.std.specs.Result.{IfOk}
 use Rattle.m2_base.specs.Asks.{IfKnown, IfWaits}
 use Rattle.m2_base.specs.Gives.{Adds, Gives, and_then, gives}
 use Rattle.m2_base.specs.Lists.{IsPrefixOf}
+use Rattle.m2_base.specs.Standard.{broken}
 use Rattle.m2_base.specs.States.{Frame, State, Waits, Works}
 use Rattle.m2_base.specs.Statics.Contexts.{Context}
 use Rattle.m2_base.specs.declared.memory.Memory.{Memory}
@@ -12,11 +13,12 @@ use Rattle.m2_base.specs.declared.operands.Operand.{Operand}
 use Rattle.m2_base.specs.declared.replies.Ask.{Ask}
 use Rattle.m2_base.specs.declared.replies.Ask.TheVariants.{Known, DontKnowYet}
 use Rattle.m2_base.specs.declared.replies.Head.{Head}
+use Rattle.m2_base.specs.declared.rows.Place.{Place}
 use Rattle.m2_base.specs.declared.rows.Row.{Row}
 use Rattle.m2_base.specs.declared.sites.Site.{Site}
 use Rattle.m2_base.proofs.Kept.{Adds-and_then, Adds-refl, Waits_after, IsPrefixOf-refl, Works-kept, Works-refl, Works-trans}
 use Rattle.type_rules.specs.Asks.{Reads, WhereKnown, WhereWaiting}
-use Rattle.type_rules.specs.Scenes.{WhereTold}
+use Rattle.type_rules.specs.Scenes.{IsThere, WhereTold}
 use Rattle.type_rules.specs.Sites.{AreOfSite, context_of}
 use Rattle.type_rules.proofs.Compatibles.{told_later}
 use Rattle.const_eval.specs.Analyses.{Analysed}
@@ -34,6 +36,11 @@ value_alone a n s v P g h e =
       told = λ made in_hand told of_site. subst (λ given. Adds n n given v) (e made) (Adds-refl n v);
       there = h;
     }
+
+-- the same, of a description that gives it everywhere
+pub value_everywhere : {T : Type 0} (a : State) (n : Notes) (s : Site) (v : T) (P : Frame → T → Type 0) (g : Context → Gives T)
+    → P a.frame v → ((c : Context) → gives v ≡ g c) → Analysed a a n n s (Ok (Known v)) P g
+value_everywhere a n s v P g h e = value_alone a n s v P g h (λ made. e (context_of a.frame made s))
 
 module _ {T U : Type 0} {a b : State} {x y : Notes} {s : Site} {P : Frame → T → Type 0} {Q : Frame → U → Type 0} {g : Context → Gives T} {h : Context → Gives U} where
   -- after want of memory nothing more is said
@@ -146,3 +153,16 @@ pub noted_operand : {a b : State} (x y : Notes) (s : Site) (asked : Ask (Result 
 noted_operand {a} {b} x y s asked answer g answers diags same there told reads waits is stands =
     noted x y s asked answer IsOperand g reads waits answers diags same
     (λ made in_hand t of_site. told (context_of a.frame made s) (g (context_of a.frame made s)) refl (is made in_hand t)) (there a.frame stands)
+
+-- a question about types, after which its judgement is noted in the site's text
+pub noted_type : {a b : State} (x y : Notes) (s : Site) (asked : Ask (Result Place Fault)) (answer : Result (Ask Place) Memory) (g : Context → Gives Place)
+    → y.answers.items ≡ x.answers.items → IsPrefixOf x.diags.items y.diags.items → IfWaits answer (λ head. asked ≡ DontKnowYet head)
+    → ((f : Frame) → IsThere f broken → WhereKnown asked (λ j. IfOk j (λ of. IsThere f of)) → IfKnown answer (λ of. IsThere f of))
+    → ((c : Context) (given : Gives Place) → c.scene.block.text ≡ s.around.now.text → WhereKnown asked (λ j. judged_or c broken j ≡ given) → IfKnown answer (λ of. Adds x y given of))
+    → IsThere a.frame broken → Reads a b → WhereWaiting asked (λ head. Waits a b head)
+    → WhereTold a.frame (λ made. WhereKnown asked (λ j. judged_or (context_of a.frame made s) broken j ≡ g (context_of a.frame made s)))
+    → WhereKnown asked (λ j. IfOk j (λ of. IsThere a.frame of))
+    → Analysed a b x y s answer IsThere g
+noted_type {a} {b} x y s asked answer g answers diags same there told standard reads waits is stands =
+    noted x y s asked answer IsThere g reads waits answers diags same
+    (λ made in_hand t of_site. told (context_of a.frame made s) (g (context_of a.frame made s)) refl (is made in_hand t)) (there a.frame standard stands)

@@ -1,8 +1,9 @@
 pub mod Analysing
-pub mod Arguments
 pub mod Besides
 pub mod Bits
+pub mod CallKinds
 pub mod Elements
+pub mod FunctionArguments
 pub mod Judging
 pub mod Operating
 pub mod Refusals

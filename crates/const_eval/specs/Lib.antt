@@ -1,4 +1,5 @@
 pub mod Analyses
+pub mod Calls
 pub mod Ends
 pub mod Extremes
 pub mod Judgements

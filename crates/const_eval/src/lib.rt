@@ -39,6 +39,8 @@ macro_rules! fault {
     };
 }
 
+mod arguments;
+mod calls;
 mod extremes;
 mod faults;
 mod functions;
@@ -54,6 +56,8 @@ mod sets;
 mod structures;
 mod values;
 
+pub use arguments::{Arguments, Shape};
+pub use calls::call_of;
 pub use extremes::{Extreme, extreme_of, size_value};
 pub use faults::{Fault, FaultKind};
 pub use functions::{abs_of, cap_of, chr_of, odd_of, ord_of, ordinal_type_argument, val_of};

@@ -65,7 +65,7 @@ fn are_ranges(x: Option<(i64, i64)>, y: Option<(i64, i64)>) -> bool
 }
 
 /// Whether one of two holds.
-fn either(x: bool, y: bool) -> bool
+pub(crate) fn either(x: bool, y: bool) -> bool
     ensures { result ≡ (x || y) }
 {
     x || y

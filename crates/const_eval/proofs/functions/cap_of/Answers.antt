@@ -1,7 +1,7 @@
 use Rattle.std.proofs.Common.{◌∙◌, sym, ap, refl}
 use Rattle.m2_base.specs.Statics.Types.{base_of}
 use Rattle.type_rules.specs.Sites.{context_of}
-use Rattle.const_eval.proofs.Arguments.{cap_bad, cap_by}
+use Rattle.const_eval.proofs.FunctionArguments.{cap_bad, cap_by}
 use Rattle.const_eval.proofs.functions.cap_of.Goals as goal
 
 pub returns-then-is_bad-clause-told : goal.returns-then-is_bad-clause-told

@@ -2,7 +2,7 @@ use Rattle.std.proofs.Common.{◌∙◌, sym, ap}
 use Rattle.m2_base.specs.Statics.Compatible.{is_number_type}
 use Rattle.m2_base.specs.Statics.Types.{base_of}
 use Rattle.type_rules.specs.Sites.{context_of}
-use Rattle.const_eval.proofs.Arguments.{number_bad, number_by}
+use Rattle.const_eval.proofs.FunctionArguments.{number_bad, number_by}
 use Rattle.const_eval.proofs.functions.number_argument.Goals as goal
 
 pub returns-then-is_bad-clause-told : goal.returns-then-is_bad-clause-told

@@ -1,6 +1,6 @@
 use Rattle.std.proofs.Common.{◌∙◌, sym, refl}
 use Rattle.type_rules.specs.Sites.{context_of}
-use Rattle.const_eval.proofs.Arguments.{ordinal_bad, ordinal_by}
+use Rattle.const_eval.proofs.FunctionArguments.{ordinal_bad, ordinal_by}
 use Rattle.const_eval.proofs.TypesThere.{standard_there}
 use Rattle.const_eval.proofs.functions.ordinal_argument.Goals as goal
 

@@ -2,7 +2,7 @@ use Rattle.std.proofs.Common.{◌∙◌}
 use Rattle.m2_base.specs.Statics.Types.{range_of}
 use Rattle.type_rules.specs.Scenes.{scene_of}
 use Rattle.type_rules.specs.Sites.{context_of}
-use Rattle.const_eval.proofs.Arguments.{type_by_range}
+use Rattle.const_eval.proofs.FunctionArguments.{type_by_range}
 use Rattle.const_eval.proofs.Judging.{told_first}
 use Rattle.const_eval.proofs.functions.ordinal_type.Goals as goal
 

@@ -1,7 +1,7 @@
 use Rattle.std.proofs.Common.{◌∙◌, sym}
 use Rattle.m2_base.specs.Statics.Functions.{converted, val_as}
 use Rattle.type_rules.specs.Sites.{context_of}
-use Rattle.const_eval.proofs.Arguments.{val_by}
+use Rattle.const_eval.proofs.FunctionArguments.{val_by}
 use Rattle.const_eval.proofs.Judging.{judged_as}
 use Rattle.const_eval.proofs.functions.val_as.Goals as goal
 
