@@ -1,5 +1,5 @@
 //! Each public call with ample memory, a failing object of each kind, and the objects over the real thing.
-use crate::{
+use m2_io::{
     FolderShelf, Gate, MemShelf, MemSink, MemSource, NoGate, Shelf, ShelfError, Sink, SinkError,
     Source, SourceError, StdSink, StdSource, write_all,
 };

@@ -1,6 +1,6 @@
 //! Worked commands over texts in memory. The objects were worked out by hand from the tables of instructions and of the format.
-use crate::m2c;
 use m2_io::{MemShelf, MemSink, MemSource, NoGate};
+use m2c_top::m2c;
 use std::alloc::{AllocError, Global};
 use std::collections::BTreeMap;
 use std::test::Fail;
