@@ -4,9 +4,9 @@ mod runs_2;
 mod worked;
 
 use self::worked::WORKED;
-use crate::{End, Machine, StartFault, Trap, loaded_code_is_valid, no_step_is_stuck};
 use m2_io::{MemSink, MemSource, Source};
 use object_file::{Program, read_object};
+use stack_machine::{End, Machine, StartFault, Trap, loaded_code_is_valid, no_step_is_stuck};
 use std::alloc::Global;
 use std::process::Abort;
 use std::test::Fail;

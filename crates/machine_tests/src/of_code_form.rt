@@ -1,5 +1,5 @@
 //! Instructions with their bytes, from the table.
-use crate::{Instr, decode, encode};
+use code_form::{Instr, decode, encode};
 use std::process::Abort;
 
 /// One of each kind of operand, and the ends of the ranges.

@@ -1,6 +1,6 @@
 //! Programs that were worked by hand, and how they run.
 use super::Row;
-use crate::End;
+use stack_machine::End;
 
 /// The programs that were worked by hand.
 pub(super) const WORKED: [Row; 11] = [

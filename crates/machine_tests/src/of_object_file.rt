@@ -6,7 +6,7 @@ mod objects_4;
 
 ghost use Rattle.std.specs.Prelude.{◌<◌};
 
-use crate::{
+use object_file::{
     Object, ObjectFault, Program, ProgramFault, one_fault, one_object, read_object, write_object,
 };
 use std::alloc::{AllocError, Global};

@@ -1,6 +1,6 @@
 //! Runs 1 to 42 as another machine runs them. Written by tools/run_tables.py.
 use super::Row;
-use crate::End;
+use stack_machine::End;
 
 /// These runs.
 pub(super) const ROWS: [Row; 42] = [

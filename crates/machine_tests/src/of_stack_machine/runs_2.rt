@@ -1,6 +1,6 @@
 //! Runs 43 to 84 as another machine runs them. Written by tools/run_tables.py.
 use super::Row;
-use crate::End;
+use stack_machine::End;
 
 /// These runs.
 pub(super) const ROWS: [Row; 42] = [
