@@ -1,5 +1,5 @@
 //! Layouts of small blocks, calculated outside.
-use super::*;
+use decl_sem::layout;
 use m2_base::{
     Decl, Expr, ExprForm, FieldList, Heading, Ident, Import, Layout, Qual, Section, Stream,
     StreamKind, TypeExpr, TypeForm,

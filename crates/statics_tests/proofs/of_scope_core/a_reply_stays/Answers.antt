@@ -1,7 +1,7 @@
 use Rattle.std.proofs.Common.{refl}
 use Rattle.scope_core.specs.declared.event.Event.TheVariants.{Enter}
 use Rattle.scope_core.proofs.Checks.{IsLawful-test, IsRun-test}
-use Rattle.scope_core.proofs.tests.a_reply_stays.Goals as goal
+use Rattle.statics_tests.proofs.of_scope_core.a_reply_stays.Goals as goal
 
 pub step-requires-clause-lawful : goal.step-requires-clause-lawful
 step-requires-clause-lawful g c =

@@ -1,10 +1,10 @@
-//! Tests.
+//! Answers of a search before and after events, and a flight.
 ghost use Rattle.std.specs.Prelude.{◌≡◌};
 ghost use Rattle.m2_base.specs.Rows.{row_of};
 ghost use Rattle.m2_base.specs.declared.rows.RowMeaning.TheVariants.{Standard};
 
-use crate::{Event, Flight, Tables, look, settle, step};
 use m2_base::{Head, Place, Reply, Row, RowMeaning, write_row};
+use scope_core::{Event, Flight, Tables, look, settle, step};
 use std::test::Fail;
 
 /// A row of this name.

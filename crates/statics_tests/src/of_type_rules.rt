@@ -1,6 +1,6 @@
 //! The values of operators on constants.
-use crate::fold;
 use m2_base::{FoldKind, Operator};
+use type_rules::fold;
 
 /// Numbers as the report has them, with the limits of each kind.
 #[test]
