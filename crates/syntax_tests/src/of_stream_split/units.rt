@@ -1,19 +1,13 @@
 //! The streams of whole units and what surrounds their blocks, by hand. The texts have blanks between their tokens.
-ghost use Rattle.std.specs.Prelude.{◌≡◌, ◌<◌, IfSome, length};
-ghost use Rattle.m2_base.specs.Names.{standard_names};
-ghost use Rattle.m2_base.specs.Units.{HasValue, IsInner};
-ghost use Rattle.stream_split.specs.TestUnits.{AreInner};
+ghost use Rattle.std.specs.Prelude.{◌<◌, length};
 
-use crate::cutter::number_of;
-use crate::{SplitFault, StreamTokens, around, cut, sizes};
-use m2_base::{Memory, Names, Text, Texts, Token, TokenKind, reserved_kind, symbol_kind};
+use super::making::unit_of;
+use m2_base::{Texts, Token, TokenKind, reserved_kind, symbol_kind};
 use std::alloc::{AllocError, Global};
 use std::fmt::Write;
 use std::process::Abort;
 use std::test::Fail;
-
-/// A text has at most so many tokens.
-const MOST_TOKENS: usize = 1_048_576;
+use stream_split::{SplitFault, StreamTokens, around, cut, sizes};
 
 /// The kind of a token that is spelled so. A comment that isn't closed is spelled by its first two bytes.
 fn kind_of(word: &str) -> TokenKind {
@@ -31,73 +25,13 @@ fn kind_of(word: &str) -> TokenKind {
     }
 }
 
-/// A value that a token of this kind may have: of a name the first that each unit has, since the cut asks for none. None of
-/// what the texts here don't have.
-#[tactic(auto, using(crate::proofs::TestUnits::first_name))]
-fn value_of(kind: TokenKind) -> Option<u64>
-    ensures inner { IfSome result (λ value. IsInner kind) }
-    ensures value { IfSome result (λ value. HasValue standard_names kind value) }
-{
-    match kind {
-        TokenKind::EndOfText
-        | TokenKind::Cut
-        | TokenKind::StreamEnd
-        | TokenKind::Character
-        | TokenKind::String => None,
-        TokenKind::Identifier => Some(1),
-        TokenKind::Bad => Some(11),
-        _ => Some(0),
-    }
-}
-
 /// The unit of one text, which is the main module's.
-fn unit_of(alloc: Global, text: &str) -> Result<Texts, Memory> {
-    let mut tokens = Vec::new(alloc);
+fn unit_of_words(alloc: Global, text: &str) -> Result<Texts, Fail> {
+    let mut kinds = Vec::new(alloc);
     for word in text.split_whitespace() {
-        let kind = kind_of(word);
-        let Some(value) = value_of(kind) else {
-            return Err(Memory);
-        };
-        let Some(at) = number_of(0, tokens.len()) else {
-            return Err(Memory);
-        };
-        tokens.push(Token {
-            kind,
-            value,
-            at,
-            line: 1,
-            column: 1,
-        })?;
+        kinds.push(kind_of(word))?;
     }
-    ended(alloc, tokens)
-}
-
-/// The unit of these tokens and the end of the text.
-fn ended(alloc: Global, tokens: Vec<Token>) -> Result<Texts, Memory>
-    requires { AreInner 0 tokens.items }
-{
-    let mut all = tokens;
-    let Some(at) = number_of(0, all.len()) else {
-        return Err(Memory);
-    };
-    if all.len() >= MOST_TOKENS {
-        return Err(Memory);
-    }
-    all.push(Token {
-        kind: TokenKind::EndOfText,
-        value: 0,
-        at,
-        line: 1,
-        column: 1,
-    })?;
-    let names = Names::new(alloc)?;
-    let text = Text {
-        name: 1,
-        definition: false,
-        tokens: all,
-    };
-    let list = vec![in alloc; text]?;
-    Ok(Texts::new(names, list, Vec::new(alloc), None))
+    Ok(unit_of(alloc, kinds.as_slice())?)
 }
 
 /// The tokens of a stream, spelled by the words of their text.
@@ -127,7 +61,10 @@ fn row_of(
 ) -> Result<String, Fail>
     requires { index < length streams.now }
 {
-    let Some(number) = number_of(1, index) else {
+    let Some(number) = index
+        .checked_add(1)
+        .and_then(|next| u32::try_from(next).ok())
+    else {
         return Err(Fail::from(AllocError));
     };
     let around = around(alloc, texts, streams, number)?;
@@ -237,7 +174,7 @@ fn agrees(rt: &impl Abort, alloc: Global, text: &str, rows: &[&str]) -> Result<(
     for word in text.split_whitespace() {
         words.push(word)?;
     }
-    let texts = unit_of(alloc, text)?;
+    let texts = unit_of_words(alloc, text)?;
     let Ok(streams) = cut(alloc, &texts) else {
         return Err(Fail::from(AllocError));
     };
@@ -283,7 +220,7 @@ fn count_of(
     then: &str,
 ) -> Result<Result<usize, SplitFault>, Fail> {
     let text = repeated(alloc, count, first, then)?;
-    let texts = unit_of(alloc, &text)?;
+    let texts = unit_of_words(alloc, &text)?;
     match cut(alloc, &texts) {
         Ok(streams) => Ok(Ok(streams.len())),
         Err(fault) => Ok(Err(fault)),
@@ -306,7 +243,7 @@ fn procedures_have_limits(rt: HostRuntime) -> Result<(), Fail> {
 #[test]
 fn chain_has_each_level(rt: HostRuntime) -> Result<(), Fail> {
     let text = repeated(rt.alloc(), 16, "PROCEDURE P ; ", "END P ; ")?;
-    let texts = unit_of(rt.alloc(), &text)?;
+    let texts = unit_of_words(rt.alloc(), &text)?;
     let Ok(streams) = cut(rt.alloc(), &texts) else {
         return Err(Fail::from(AllocError));
     };

@@ -1,15 +1,16 @@
 //! Streams of whole and broken texts, by another program and by hand.
+mod making;
 mod texts_1;
 mod texts_2;
 mod units;
 
-use crate::cutter::main_streams;
-use crate::{StreamTokens, sizes};
+use self::making::{unit_of, unit_with_definitions};
 use m2_base::{StreamKind, Token, TokenKind};
 use std::alloc::{AllocError, Global};
 use std::fmt::Write;
 use std::process::Abort;
 use std::test::Fail;
+use stream_split::{StreamTokens, cut, sizes};
 
 /// Every kind of token.
 const KINDS: [TokenKind; 72] = [
@@ -90,25 +91,18 @@ const KINDS: [TokenKind; 72] = [
 /// By how much the character of a token lies behind its kind's number.
 const FIRST: u8 = 40;
 
-/// The tokens that these characters stand for.
-fn tokens_of(alloc: Global, text: &str) -> Result<Vec<Token>, AllocError> {
-    let mut tokens = Vec::new(alloc);
-    let mut at: u32 = 0;
-    for letter in text.as_bytes() {
+/// The kinds of token that these characters stand for, but for the end.
+fn kinds_of(alloc: Global, text: &str) -> Result<Vec<TokenKind>, Fail> {
+    let inner = text.strip_suffix('(').ok_or("no end")?;
+    let mut kinds = Vec::new(alloc);
+    for letter in inner.as_bytes() {
         for kind in KINDS {
             if (kind as u8).wrapping_add(FIRST) == *letter {
-                tokens.push(Token {
-                    kind,
-                    value: 0,
-                    at,
-                    line: 1,
-                    column: at.wrapping_add(1),
-                })?;
+                kinds.push(kind)?;
             }
         }
-        at = at.wrapping_add(1);
     }
-    Ok(tokens)
+    Ok(kinds)
 }
 
 /// Whether the tokens of a stream, but for its cuts and its end, are those of the text.
@@ -144,26 +138,18 @@ fn written(alloc: Global, stream: &[Token]) -> Result<String, Fail> {
     Ok(row)
 }
 
-/// The streams of a main text.
-fn streams_of(
-    alloc: Global,
-    first: u32,
-    tokens: &[Token],
-) -> Result<Vec<StreamTokens>, AllocError> {
-    main_streams(alloc, first, tokens).map_err(|_| AllocError)
-}
-
 /// Whether the streams of the texts are those of the table.
 fn agrees(rt: &impl Abort, alloc: Global, rows: &[&str]) -> Result<(), Fail> {
     for row in rows {
         let (text, expected) = row.rsplit_once('\n').ok_or("no streams")?;
-        let tokens = tokens_of(alloc, text)?;
+        let texts = unit_of(alloc, kinds_of(alloc, text)?.as_slice())?;
+        let Ok(streams) = cut(alloc, &texts) else {
+            return Err("no streams".into());
+        };
+        let tokens = texts.main().tokens.as_slice();
         let mut found = String::new(alloc);
-        for stream in streams_of(alloc, 1, tokens.as_slice())?.as_slice() {
-            assert!(rt;
-                are_of(tokens.as_slice(), stream.tokens.as_slice()),
-                "in {text}"
-            );
+        for stream in streams.as_slice() {
+            assert!(rt; are_of(tokens, stream.tokens.as_slice()), "in {text}");
             found.push_str(&written(alloc, stream.tokens.as_slice())?)?;
         }
         assert_eq!(rt; found.trim_end_matches("; "), expected, "in {text}");
@@ -181,18 +167,24 @@ fn cuts_the_texts_that_another_program_cuts(rt: HostRuntime) -> Result<(), Fail>
 /// MODULE a; PROCEDURE b; PROCEDURE c; END c; END b; PROCEDURE d; END d; END a.
 const NESTED: &str = "H)aM)aM)a=)a=)aM)a=)a=)_(";
 
-/// The number, the scope round it, the level, the kind and the number of tokens of each stream, where the module has number 3.
-const HEADS: [(u32, u32, u32, StreamKind, usize); 4] = [
-    (3, 0, 0, StreamKind::Main, 15),
-    (4, 3, 1, StreamKind::Procedure, 11),
-    (5, 4, 2, StreamKind::Procedure, 7),
-    (6, 3, 1, StreamKind::Procedure, 7),
+/// The number, the text, the scope round it, the level, the kind and the number of tokens of each stream, where there are two
+/// definition modules.
+const HEADS: [(u32, u32, u32, u32, StreamKind, usize); 6] = [
+    (1, 1, 0, 0, StreamKind::Definition, 1),
+    (2, 2, 0, 0, StreamKind::Definition, 1),
+    (3, 0, 0, 0, StreamKind::Main, 15),
+    (4, 0, 3, 1, StreamKind::Procedure, 11),
+    (5, 0, 4, 2, StreamKind::Procedure, 7),
+    (6, 0, 3, 1, StreamKind::Procedure, 7),
 ];
 
 #[test]
 fn streams_know_their_places(rt: HostRuntime) -> Result<(), Fail> {
-    let tokens = tokens_of(rt.alloc(), NESTED)?;
-    let found = streams_of(rt.alloc(), 3, tokens.as_slice())?;
+    let kinds = kinds_of(rt.alloc(), NESTED)?;
+    let texts = unit_with_definitions(rt.alloc(), kinds.as_slice())?;
+    let Ok(found) = cut(rt.alloc(), &texts) else {
+        return Err("no streams".into());
+    };
     assert_eq!(rt; found.len(), HEADS.len());
     for (stream, head) in found.as_slice().iter().zip(HEADS) {
         let StreamTokens {
@@ -203,8 +195,7 @@ fn streams_know_their_places(rt: HostRuntime) -> Result<(), Fail> {
             kind,
             ..
         } = *stream;
-        assert_eq!(rt; text, 0);
-        assert!(rt; (number, outer, level, kind, stream.tokens.len()) == head);
+        assert!(rt; (number, text, outer, level, kind, stream.tokens.len()) == head);
     }
     let most = sizes(rt.alloc(), &[])?;
     assert!(rt; most.as_slice() == [37].as_slice());

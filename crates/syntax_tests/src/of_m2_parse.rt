@@ -1,7 +1,9 @@
 //! Streams with their trees or refused tokens: by hand from the grammar, and by another parser.
-use crate::vectors::TEXTS;
-use crate::{ParseFault, front, names_fit, parse_stream, values_fit};
+mod texts;
+
+use self::texts::TEXTS;
 use m2_base::{Diag, StreamFault, StreamKind, Token, TokenKind, reserved_kind, symbol_kind};
+use m2_parse::{ParseFault, front, names_fit, parse_stream, values_fit};
 use std::alloc::{AllocError, Global};
 use std::process::Abort;
 use std::test::Fail;

@@ -4,8 +4,8 @@ mod texts_2;
 mod texts_3;
 mod texts_4;
 
-use crate::lex;
 use m2_base::{Names, Token, TokenKind};
+use m2_lex::lex;
 use std::alloc::Global;
 use std::process::Abort;
 use std::test::Fail;
