@@ -4,11 +4,10 @@
 usage: object_tables.py CASES.jsonl FOLDER [STAGE]
 
 A line of CASES.jsonl has bytes in hex, and the answer of each stage of the product: an object, or the offset of the first
-broken place with its code. STAGE is `first` if left out, where objects have version 1. FOLDER is object_file's src/tests;
-each file there holds 65 rows. Run `rt fmt` in the crate afterwards.
+broken place with its code. STAGE is `first` if left out, where objects have version 1. FOLDER is that of the tests
+(crates/machine_tests/src/of_object_file); each file there holds 65 rows. Run `rt fmt` in the crate afterwards.
 """
-import json
-import sys
+import tables
 
 ROWS = 65
 
@@ -27,17 +26,11 @@ def row(case, stage):
 
 
 def main():
-    cases = [json.loads(line) for line in open(sys.argv[1])]
-    folder = sys.argv[2]
-    stage = sys.argv[3] if len(sys.argv) > 3 else "first"
-    for number, first in enumerate(range(0, len(cases), ROWS)):
-        part = cases[first:first + ROWS]
-        with open("%s/objects_%d.rt" % (folder, number + 1), "w") as out:
-            out.write("//! Bytes %d to %d with what another reader answers. Written by tools/object_tables.py.\n"
-                      % (first + 1, first + len(part)))
-            out.write("use super::Row;\n\n/// These bytes.\npub(super) const ROWS: [Row; %d] = [\n" % len(part))
-            out.write("".join(row(case, stage) for case in part))
-            out.write("];\n")
+    stage = tables.word(3, "first")
+    tables.write("objects", ROWS, tables.cases(),
+                 "//! Bytes %d to %d with what another reader answers. Written by tools/object_tables.py.\n",
+                 "use super::Row;\n\n/// These bytes.\npub(super) const ROWS: [Row; %d] = [\n",
+                 lambda case: row(case, stage))
 
 
 main()

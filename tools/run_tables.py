@@ -7,12 +7,12 @@ A line of CASES.jsonl has the objects of a run and its input in hex, the words `
 is printed and what is left of the input. Taken are the runs of one object that begin: those that halt, trap or spend their
 steps. What is printed has a last line of the command's own where the run traps or spends its steps: it tells how the row
 ends. VERSION is the version of the objects that are read, 1 if left out: from an object of version 2 the keys of the module
-and of its imports are dropped then, since that is all in which the versions differ. FOLDER is stack_machine's src/tests; each
-file there holds 42 rows. Run `rt fmt` in the crate afterwards.
+and of its imports are dropped then, since that is all in which the versions differ. FOLDER is that of the tests
+(crates/machine_tests/src/of_stack_machine); each file there holds 42 rows. Run `rt fmt` in the crate afterwards.
 """
-import json
 import re
-import sys
+
+import tables
 
 ROWS, KEY = 42, 32
 HALTED, TRAPPED, SPENT = 0, 9, 10
@@ -78,18 +78,12 @@ def row(case, version):
 
 
 def main():
-    cases = [json.loads(line) for line in open(sys.argv[1])]
-    folder = sys.argv[2]
-    version = int(sys.argv[3]) if len(sys.argv) > 3 else 1
-    cases = [case for case in cases if len(case["files"]) == 1 and case["status"] in (HALTED, TRAPPED, SPENT)]
-    for number, first in enumerate(range(0, len(cases), ROWS)):
-        part = cases[first:first + ROWS]
-        with open("%s/runs_%d.rt" % (folder, number + 1), "w") as out:
-            out.write("//! Runs %d to %d as another machine runs them. Written by tools/run_tables.py.\n"
-                      % (first + 1, first + len(part)))
-            out.write("use super::Row;\nuse crate::End;\n\n/// These runs.\npub(super) const ROWS: [Row; %d] = [\n" % len(part))
-            out.write("".join(row(case, version) for case in part))
-            out.write("];\n")
+    version = int(tables.word(3, 1))
+    cases = [case for case in tables.cases() if len(case["files"]) == 1 and case["status"] in (HALTED, TRAPPED, SPENT)]
+    tables.write("runs", ROWS, cases,
+                 "//! Runs %d to %d as another machine runs them. Written by tools/run_tables.py.\n",
+                 "use super::Row;\nuse stack_machine::End;\n\n/// These runs.\npub(super) const ROWS: [Row; %d] = [\n",
+                 lambda case: row(case, version))
 
 
 main()

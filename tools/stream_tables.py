@@ -3,15 +3,14 @@
 
 usage: stream_tables.py CASES.jsonl FOLDER
 
-A line of CASES.jsonl has the streams of a text, the module's first, each as tokens [kind, value, number]. FOLDER is
-stream_split's src/tests; each file there holds 44 texts. A row is one literal, since tables of tuples cost the check far
-more: the kinds of the text's tokens, each as the character 40 behind its number, and in a second line the streams. Of a
-stream it has the number of the first token of each run, `cut N at A` for a Cut, `end at A` for a StreamEnd, and the number
-of the last token.
+A line of CASES.jsonl has the streams of a text, the module's first, each as tokens [kind, value, number]. FOLDER is that of
+the tests (crates/syntax_tests/src/of_stream_split); each file there holds 44 texts. A row is one literal, since tables of
+tuples cost the check far more: the kinds of the text's tokens, each as the character 40 behind its number, and in a second
+line the streams. Of a stream it has the number of the first token of each run, `cut N at A` for a Cut, `end at A` for a
+StreamEnd, and the number of the last token.
 Run `rt fmt` in the crate afterwards.
 """
-import json
-import sys
+import tables
 
 CUT, END = 6, 7
 ROWS, WIDTH = 44, 92
@@ -51,18 +50,15 @@ def broken(text):
     return "\\\n     ".join(pieces)
 
 
+def row(case):
+    streams = [s if isinstance(s, list) else s["tokens"] for s in case["streams"]]
+    return '    "%s\\n\\\n     %s",\n' % (broken(letters(streams)), broken("; ".join(stream(s) for s in streams)))
+
+
 def main():
-    cases = [json.loads(line) for line in open(sys.argv[1])]
-    for number, first in enumerate(range(0, len(cases), ROWS)):
-        part = cases[first:first + ROWS]
-        with open("%s/texts_%d.rt" % (sys.argv[2], number + 1), "w") as out:
-            out.write("//! Texts %d to %d with the streams that another program cuts them into. Written by tools/stream_tables.py.\n"
-                      % (first + 1, first + len(part)))
-            out.write("\nconst TEXTS: [&str; %d] = [\n" % len(part))
-            for case in part:
-                streams = [s if isinstance(s, list) else s["tokens"] for s in case["streams"]]
-                out.write('    "%s\\n\\\n     %s",\n' % (broken(letters(streams)), broken("; ".join(stream(s) for s in streams))))
-            out.write("];\n\n/// These texts.\npub fn texts() -> &'static [&'static str] {\n    &TEXTS\n}\n")
+    tables.write("texts", ROWS, tables.cases(),
+                 "//! Texts %d to %d with the streams that another program cuts them into. Written by tools/stream_tables.py.\n",
+                 tables.TEXTS, row, tables.TEXTS_END)
 
 
 main()

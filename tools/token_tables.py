@@ -4,13 +4,14 @@
 usage: token_tables.py CASES.jsonl FOLDER [ROWS]
 
 A line of CASES.jsonl is a text with its tokens as [kind, value, line, column], a name's and a string's bytes written
-out as the value, and each byte as one character. FOLDER is m2_lex's src/tests; each file there holds ROWS rows, 100 if
-left out. A row is one literal, since tables of tuples cost the check far more.
+out as the value, and each byte as one character. FOLDER is that of the tests (crates/syntax_tests/src/of_m2_lex); each file
+there holds ROWS rows, 100 if left out. A row is one literal, since tables of tuples cost the check far more.
 Run `rt fmt` in the crate afterwards.
 """
-import json
 import re
 import sys
+
+import tables
 
 KIND = re.compile(r"^    ([A-Z][A-Za-z]+) = ([0-9]+),$", re.M)
 WIDTH = 92
@@ -53,18 +54,10 @@ def row(case, names):
 
 
 def main():
-    cases = [json.loads(line) for line in open(sys.argv[1])]
-    folder = sys.argv[2]
-    rows = int(sys.argv[3]) if len(sys.argv) > 3 else 100
-    names = kinds(folder + "/../../../m2_base/src/kind.rt")
-    for number, first in enumerate(range(0, len(cases), rows)):
-        part = cases[first:first + rows]
-        with open("%s/texts_%d.rt" % (folder, number + 1), "w") as out:
-            out.write("//! Texts %d to %d with the tokens that another lexer found. Written by tools/token_tables.py.\n"
-                      % (first + 1, first + len(part)))
-            out.write("\nconst TEXTS: [&str; %d] = [\n" % len(part))
-            out.write("".join(row(case, names) for case in part))
-            out.write("];\n\n/// These texts.\npub fn texts() -> &'static [&'static str] {\n    &TEXTS\n}\n")
+    names = kinds(sys.argv[2] + "/../../../m2_base/src/kind.rt")
+    tables.write("texts", int(tables.word(3, 100)), tables.cases(),
+                 "//! Texts %d to %d with the tokens that another lexer found. Written by tools/token_tables.py.\n",
+                 tables.TEXTS, lambda case: row(case, names), tables.TEXTS_END)
 
 
 main()

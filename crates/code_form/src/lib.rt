@@ -11,8 +11,6 @@ mod instr;
 mod laws;
 mod read;
 mod table;
-#[cfg(test)]
-mod tests;
 mod write;
 
 pub use effect::Effect;

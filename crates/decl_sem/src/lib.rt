@@ -10,8 +10,6 @@ mod kinds;
 mod layouts;
 mod making;
 mod shapes;
-#[cfg(test)]
-mod tests;
 
 pub use closing::close_check;
 pub use layouts::layout;

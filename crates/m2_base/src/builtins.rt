@@ -48,24 +48,3 @@ pub fn standard_procedure(name: u32) -> Builtin
         _ => Builtin::Val,
     }
 }
-
-#[cfg(test)]
-mod tests {
-    use super::*;
-    use std::test::Fail;
-
-    #[test]
-    fn names_standard_procedures(rt: HostRuntime) -> Result<(), Fail> {
-        for (name, procedure) in [
-            (10, Builtin::Abs),
-            (13, Builtin::Dec),
-            (17, Builtin::High),
-            (18, Builtin::Inc),
-            (25, Builtin::Size),
-            (26, Builtin::Val),
-        ] {
-            assert_eq!(rt; standard_procedure(name), procedure);
-        }
-        Ok(())
-    }
-}

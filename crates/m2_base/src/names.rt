@@ -164,34 +164,3 @@ impl Names {
         self.texts.as_slice()[name as usize].as_slice()
     }
 }
-
-#[cfg(test)]
-mod tests {
-    use super::*;
-    use std::test::Fail;
-
-    #[test]
-    fn numbers_texts(rt: HostRuntime) -> Result<(), Fail> {
-        let alloc = rt.alloc();
-        let mut names = Names::new(alloc)?;
-        assert_eq!(rt; names.count(), 28);
-        let cases: [(&[u8], u32); 7] = [
-            (b"INTEGER", 1),
-            (b"InOut", 27),
-            (b"x", 28),
-            (b"inout", 29),
-            (b"x", 28),
-            (b"", 0),
-            (b"\xff\0", 30),
-        ];
-        for (text, number) in cases {
-            names.prepare(alloc, text)?;
-            assert!(rt; names.count() < 100);
-            assert_eq!(rt; names.intern(alloc, text)?, number);
-            assert!(rt; number < names.count());
-            assert!(rt; names.bytes(number) == text, "number {number}");
-        }
-        assert_eq!(rt; names.count(), 31);
-        Ok(())
-    }
-}

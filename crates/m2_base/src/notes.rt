@@ -40,17 +40,3 @@ impl Notes {
         }
     }
 }
-
-#[cfg(test)]
-mod tests {
-    use super::*;
-    use std::test::Fail;
-
-    #[test]
-    fn nothing_is_noted_at_first(rt: HostRuntime) -> Result<(), Fail> {
-        let notes = Notes::new(rt.alloc());
-        assert!(rt; notes.diags.is_empty());
-        assert!(rt; notes.answers.is_empty());
-        Ok(())
-    }
-}

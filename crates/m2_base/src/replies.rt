@@ -51,22 +51,3 @@ pub enum Ask<T> {
     Known(T),
     DontKnowYet(Head),
 }
-
-#[cfg(test)]
-mod tests {
-    use super::*;
-    use std::test::Fail;
-
-    #[test]
-    fn chain_shows_its_scopes(rt: HostRuntime) -> Result<(), Fail> {
-        let mut scopes = Vec::new(rt.alloc());
-        for scope in [3, 1, 0] {
-            scopes.push(scope)?;
-        }
-        let chain = Chain { scopes };
-        assert_eq!(rt; chain.scopes().len(), 3);
-        assert_eq!(rt; chain.scopes()[0], 3);
-        assert_eq!(rt; chain.scopes()[2], 0);
-        Ok(())
-    }
-}

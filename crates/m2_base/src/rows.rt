@@ -276,29 +276,3 @@ fn numbers_for(meaning: RowMeaning) -> (u8, i64, i64, i64, i64)
         RowMeaning::Opaque => (19, 0, 0, 0, 0),
     }
 }
-
-#[cfg(test)]
-mod tests {
-    use super::*;
-    use std::test::Fail;
-
-    #[test]
-    fn reads_what_it_writes(rt: HostRuntime) -> Result<(), Fail> {
-        let here = Place {
-            scope: 3,
-            ordinal: 4_000_000_000,
-        };
-        let array = write_row(28, 5, RowMeaning::Array(here, here, 6));
-        assert_eq!(rt; array.kind, 13);
-        assert_eq!(rt; array.a, 3 * 4_294_967_296 + 4_000_000_000);
-        assert_eq!(rt; array.c, 6);
-        assert_eq!(rt; read_row(&array), RowMeaning::Array(here, here, 6));
-        let subrange = write_row(0, 5, RowMeaning::Subrange(here, -5, 4_294_967_295));
-        assert_eq!(rt; subrange.b, -5);
-        assert_eq!(rt;
-            read_row(&subrange),
-            RowMeaning::Subrange(here, -5, 4_294_967_295)
-        );
-        Ok(())
-    }
-}

@@ -113,34 +113,3 @@ pub struct Site<'a> {
     /// The item of a declaration; none in statements.
     pub item: Option<u32>,
 }
-
-#[cfg(test)]
-mod tests {
-    use super::*;
-    use std::test::Fail;
-
-    #[test]
-    fn finds_first_entries(rt: HostRuntime) -> Result<(), Fail> {
-        let alloc = rt.alloc();
-        let mut names = Vec::new(alloc);
-        for (ordinal, name) in [28, 30, 28].into_iter().enumerate() {
-            names.push(Named {
-                name,
-                ordinal: ordinal as u32,
-                kind: 2,
-                at: 7,
-                item: 0,
-            })?;
-        }
-        let mut firsts = Vec::new(alloc);
-        firsts.push(0)?;
-        firsts.push(3)?;
-        let layout = Layout::new(alloc, names, firsts)?;
-        for (name, ordinal) in [(28, Some(0)), (29, None), (30, Some(1))] {
-            assert!(rt; layout.first(name).map(|named| named.ordinal) == ordinal);
-        }
-        assert_eq!(rt; layout.names().len(), 3);
-        assert_eq!(rt; layout.firsts().len(), 2);
-        Ok(())
-    }
-}

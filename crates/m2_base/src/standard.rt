@@ -56,29 +56,3 @@ pub fn standard_rows() -> [Row; 37]
         procedures: 10 11 12 13 14 15 16 17 18 19 20 21 22 23 24 25 26
     )
 }
-
-#[cfg(test)]
-mod tests {
-    use super::*;
-    use crate::rows::read_row;
-    use std::test::Fail;
-
-    /// The first and the last name, and some between: ordinal, name and meaning.
-    #[test]
-    fn standard_names_have_their_rows(rt: HostRuntime) -> Result<(), Fail> {
-        let rows = standard_rows();
-        let expected = [
-            (11, 1, RowMeaning::TypeName(of!(0))),
-            (15, 5, RowMeaning::TypeName(of!(5))),
-            (17, 7, RowMeaning::Const(of!(3), 1, 0)),
-            (19, 9, RowMeaning::Const(of!(7), 0, 0)),
-            (36, 26, RowMeaning::Standard(26)),
-        ];
-        for (ordinal, name, meaning) in expected {
-            let row = &rows[ordinal];
-            assert_eq!(rt; row.name, name);
-            assert_eq!(rt; read_row(row), meaning);
-        }
-        Ok(())
-    }
-}

@@ -28,6 +28,3 @@ pub use shelf::{Shelf, ShelfError};
 pub use sink::{Sink, SinkError, write_all};
 pub use source::{Source, SourceError};
 pub use stdio::{StdSink, StdSource};
-
-#[cfg(test)]
-mod tests;

@@ -12,8 +12,6 @@ mod longest;
 mod meaning;
 mod position;
 mod runs;
-#[cfg(test)]
-mod tests;
 
 pub use lexer::{LexFault, lex};
 pub use lone::lone_text;

@@ -20,12 +20,8 @@ mod operators;
 mod reading;
 mod statements;
 mod streams;
-#[cfg(test)]
-mod tests;
 mod tokens;
 mod types;
-#[cfg(test)]
-mod vectors;
 
 pub use faults::ParseFault;
 pub use fitting::{names_fit, values_fit};

@@ -18,6 +18,3 @@ mod top;
 
 pub use laws::{diagnostics_have_lines, one_outcome};
 pub use top::m2c;
-
-#[cfg(test)]
-mod tests;

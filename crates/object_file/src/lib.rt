@@ -25,8 +25,6 @@ mod reading;
 mod sizes;
 mod survey;
 mod targets;
-#[cfg(test)]
-mod tests;
 mod walk;
 mod wanted;
 mod writing;

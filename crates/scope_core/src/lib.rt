@@ -13,8 +13,6 @@ mod flight;
 mod kept;
 mod plain_scopes;
 mod tables;
-#[cfg(test)]
-mod tests;
 
 pub use event::Event;
 pub use flight::{Flight, Load};

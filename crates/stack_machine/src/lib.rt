@@ -30,8 +30,6 @@ mod services;
 mod sets;
 mod stack;
 mod start;
-#[cfg(test)]
-mod tests;
 mod trap;
 
 pub use code::{Callee, Code, Origin, Routine};

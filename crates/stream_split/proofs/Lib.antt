@@ -32,4 +32,3 @@ pub mod RowCounts
 pub mod Enclosures
 pub mod Declared
 pub mod BlocksAgree
-pub mod TestUnits

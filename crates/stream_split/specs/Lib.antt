@@ -6,5 +6,4 @@ pub mod Rooms
 pub mod Sizes
 pub mod Streams
 pub mod Surroundings
-pub mod TestUnits
 pub mod Views

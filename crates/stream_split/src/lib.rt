@@ -14,8 +14,6 @@ mod sorts;
 mod splitting;
 mod streams;
 mod surroundings;
-#[cfg(test)]
-mod tests;
 
 pub use extents::sizes;
 pub use laws::{blocks_are_those_of_the_streams, rows_have_room, streams_agree_with_the_text};

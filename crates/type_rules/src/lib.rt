@@ -30,8 +30,6 @@ mod rows;
 mod sameness;
 mod sizes;
 mod standing;
-#[cfg(test)]
-mod tests;
 mod uses;
 
 pub use assigning::{assignable, is_open_array};

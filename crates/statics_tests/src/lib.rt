@@ -1,0 +1,11 @@
+//! Tests of the calls by which declarations become rows: those of `m2_base`, `scope_core`, `type_rules` and `decl_sem`.
+#![tactic(auto)]
+
+#[cfg(test)]
+mod of_decl_sem;
+#[cfg(test)]
+mod of_m2_base;
+#[cfg(test)]
+mod of_scope_core;
+#[cfg(test)]
+mod of_type_rules;

@@ -1,0 +1,9 @@
+//! Tests of the calls that make tokens, trees and streams of a text: those of `m2_lex`, `m2_parse` and `stream_split`.
+#![tactic(auto)]
+
+#[cfg(test)]
+mod of_m2_lex;
+#[cfg(test)]
+mod of_m2_parse;
+#[cfg(test)]
+mod of_stream_split;
