@@ -5,7 +5,7 @@ use Rattle.code_form.specs.declared.instr.Instr.{Instr}
 use Rattle.code_form.specs.Bytes.{size, BeginsWith}
 use Rattle.code_form.specs.Heights.{Callees, step_among}
 use Rattle.code_form.specs.Modules.{Procedure, World}
-use Rattle.code_form.specs.Valid.{Point as PointOf, AreInstrs, StopsAt, callees_of, points, highest, IsValidCode, IsFault, in_code, of_high}
+use Rattle.code_form.specs.Valid.{Point as PointOf, AreInstrs, callees_of, points, IsValidCode, IsFault, in_code, of_high}
 use Rattle.object_file.specs.declared.point.Place.{Place}
 use Rattle.object_file.specs.declared.point.Point.{Point}
 use Rattle.object_file.specs.declared.fault.CodeFault.{CodeFault}

@@ -1,5 +1,5 @@
 -- What a walk over a code keeps of it.
-use Rattle.std.specs.Prelude.{◌≡◌, ◌⊎◌, ℕ, pos, List, Result, Ok, Err}
+use Rattle.std.specs.Prelude.{◌≡◌, ℕ, pos, List, Result, Ok, Err}
 use Rattle.code_form.specs.declared.instr.Instr.{Instr}
 use Rattle.code_form.specs.Modules.{Procedure, World}
 use Rattle.code_form.specs.Valid.{AreInstrs, StopsAt, callees_of, points, highest, first_not}
