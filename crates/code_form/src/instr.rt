@@ -79,6 +79,7 @@ macro_rules! name_arms {
 
 impl Instr {
     /// What it does to the stack's height.
+    #[inline(always)]
     pub fn effect(&self) -> Effect
         ensures { result ≡ (line_of self.now).effect }
     {

@@ -87,6 +87,7 @@ macro_rules! read_arms {
     };
 }
 
+#[inline(always)]
 #[tactic(auto, unfolding(crate::specs::Reading::instr_at, crate::specs::Reading::rows))]
 fn operands(op: u8, rest: &[u8]) -> Option<(Instr, &[u8])>
     ensures { Reads (λ x. (x.0, x.1.now)) result (instr_at op rest.now) }
@@ -94,6 +95,7 @@ fn operands(op: u8, rest: &[u8]) -> Option<(Instr, &[u8])>
     instructions!(read_arms(op, rest))
 }
 
+#[inline(always)]
 #[tactic(auto, unfolding(crate::specs::Reading::decoded))]
 fn instr(bytes: &[u8]) -> Option<(Instr, &[u8])>
     ensures { Reads (λ x. (x.0, x.1.now)) result (decoded bytes.now) }
@@ -105,6 +107,7 @@ fn instr(bytes: &[u8]) -> Option<(Instr, &[u8])>
 }
 
 /// The instruction at a place, and the place after it.
+#[inline(always)]
 pub fn decode(bytes: &[u8], at: usize) -> Option<(Instr, usize)>
     requires { at ≤ length bytes.now }
     ensures found { IfSome result (λ x. BeginsWith (drop at bytes.now) x.0 (drop x.1 bytes.now)) }

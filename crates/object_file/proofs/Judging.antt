@@ -11,7 +11,8 @@ use Rattle.code_form.specs.Modules.{Procedure, World}
 use Rattle.code_form.specs.Valid.{Point as PointOf, AreInstrs, points, at_place, when_there, same_place, jump_of, target_passes, same_height, is_right, is_level, first_not, highest, fault_among, in_code, of_high, Fault, in_code_or, callees_of, IsFault, no_instr}
 use Rattle.object_file.specs.declared.point.Place.{Place}
 use Rattle.object_file.specs.declared.point.Point.{Point}
-use Rattle.object_file.specs.Points.{point_of, Surveys, Tells}
+use Rattle.object_file.specs.Points.{point_of, Tells}
+use Rattle.object_file.specs.Surveys.{Surveys}
 use Rattle.object_file.specs.declared.fault.CodeFault.{CodeFault}
 use Rattle.object_file.specs.declared.fault.CodeFault.TheVariants as faults
 use Rattle.object_file.specs.Targets.{point_at, height_at}
@@ -74,7 +75,7 @@ fault_is w k p is empty right level high e r l g =
     ∙ ap (decide empty right level) g
 
 -- what a walk tells is told of the code
-pub walk_told : (w : World) (k : ℕ) (p : Procedure) (e : CodeFault) → Surveys w p (Err e) → Tells w k p (Err e)
+pub walk_told : (w : World) (k : ℕ) (p : Procedure) (e : CodeFault) → Surveys w k p (Err e) → Tells w k p (Err e)
 walk_told w k p faults.Memory h = tt
 walk_told w k p (faults.InCode at code) h = subst (λ (n : ℕ). IsFault w k p (in_code at n)) (sym h.1) (no_instr at h.0)
 walk_told w k p faults.OfHigh h = absurd h

@@ -4,7 +4,7 @@ use Rattle.std.specs.Prelude.{ℤ, pos, negsuc, ◌+ℤ◌, ◌-ℤ◌, ◌⊎�
 use Rattle.std.specs.List.{AllByRecursion}
 use Rattle.std.specs.Option.{option_map}
 use Rattle.std.proofs.lemmas.Bool.{ne_eqb}
-use Rattle.std.proofs.lemmas.List.{drop_at, length-append, take_all}
+use Rattle.std.proofs.lemmas.List.{drop_at, length-append}
 use Rattle.std.proofs.lemmas.Grind.{flat_map-append}
 use Rattle.std.proofs.Math.Seq.{append_snoc}
 use Rattle.code_form.specs.declared.instr.Instr.{Instr}
@@ -16,8 +16,8 @@ use Rattle.code_form.specs.Valid.{Point as PointOf, points, AreInstrs, StopsAt, 
 use Rattle.code_form.proofs.Spellings.{one_instr, length-spelling}
 use Rattle.object_file.specs.declared.point.Place.{Place}
 use Rattle.object_file.specs.declared.point.Point.{Point}
-use Rattle.object_file.specs.declared.survey.Survey.{Survey}
-use Rattle.object_file.specs.Points.{point_of, end_of, height_of, IsBehind, IsPassed, IsPointAt, AreMarks, IsKnown, IsSurvey}
+use Rattle.object_file.specs.Firsts.{IsLeft}
+use Rattle.object_file.specs.Points.{point_of, end_of, height_of, IsBehind, IsPassed, IsPointAt, AreMarks, IsKnown}
 use Rattle.object_file.specs.Targets.{point_at, height_at}
 use Rattle.object_file.proofs.Listings.{AreInstrs-more, stops, points-more, end_of-more, height_of-more, length-code_bytes, point-is}
 use Rattle.object_file.proofs.Matching.{eq-eqb}
@@ -97,12 +97,6 @@ passed_on w p at h q passed here = record {
 }
 
 -- ---- the first that fails a test
-
--- of what stands behind a place the first that fails the test is that of all
-abbrev pub IsLeft : World → Procedure → (List PointOf → PointOf → Bool) → ℕ → ℤ → Type 0
-IsLeft w p test at h =
-    (is : List Instr) → AreInstrs p.code is → (b : IsBehind (callees_of w p) is at h)
-    × (first_not (test (points (callees_of w p) 0 (pos 0) is)) (points (callees_of w p) at h b.later) ≡ first_not (test (points (callees_of w p) 0 (pos 0) is)) (points (callees_of w p) 0 (pos 0) is))
 
 pub left_first : (w : World) (p : Procedure) (test : List PointOf → PointOf → Bool) (at : ℕ) (h : ℤ) → at ≡ 0 → h ≡ pos 0 → IsLeft w p test at h
 left_first w p test at h e f = λ is a. rw (e, f) (start_is (callees_of w p) is, refl)
@@ -382,11 +376,3 @@ walk_on w p old new most m q walk here added =
 
 pub walk_stops : (w : World) (p : Procedure) (marks : List Place) (most : ℤ) (at : ℕ) (h : ℤ) → IsWalk w p marks most at h → at < length p.code → BeginsNone (drop at p.code) → StopsAt p.code at
 walk_stops w p marks most at h walk lt none = stops p.code at walk.before walk.instrs_are lt none
-
-pub walk_ends : (w : World) (p : Procedure) (s : Survey) (at : ℕ) (h : ℤ) → IsWalk w p s.marks.items s.highest at h → length p.code ≤ at → IsSurvey w p s
-walk_ends w p s at h walk le = record {
-  is = walk.before;
-  instrs_are = subst (λ (b : List ℕ). AreInstrs b walk.before) (take_all at p.code le) walk.instrs_are;
-  highest_is = walk.most_is;
-  marks_are = walk.marked;
-}

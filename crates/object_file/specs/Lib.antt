@@ -7,6 +7,8 @@ pub mod Validity
 pub mod Views
 pub mod Targets
 pub mod Points
+pub mod Firsts
+pub mod Surveys
 pub mod Telling
 pub mod Short
 pub mod Named

@@ -5,10 +5,9 @@ use Rattle.code_form.specs.declared.instr.Instr.{Instr}
 use Rattle.code_form.specs.Bytes.{size, BeginsWith}
 use Rattle.code_form.specs.Heights.{Callees, step_among}
 use Rattle.code_form.specs.Modules.{Procedure, World}
-use Rattle.code_form.specs.Valid.{Point as PointOf, AreInstrs, StopsAt, callees_of, points, highest, IsValidCode, IsFault, in_code, of_high}
+use Rattle.code_form.specs.Valid.{Point as PointOf, AreInstrs, callees_of, points, IsValidCode, IsFault, in_code, of_high}
 use Rattle.object_file.specs.declared.point.Place.{Place}
 use Rattle.object_file.specs.declared.point.Point.{Point}
-use Rattle.object_file.specs.declared.survey.Survey.{Survey}
 use Rattle.object_file.specs.declared.fault.CodeFault.{CodeFault}
 use Rattle.object_file.specs.declared.fault.CodeFault.TheVariants as faults
 
@@ -55,20 +54,6 @@ AreMarks w p marks = AllByRecursion (λ m. IsPassed w p m.at m.height) marks
 -- where the code begins, or one of the marks
 abbrev pub IsKnown : List Place → Place → Type 0
 IsKnown marks m = ((m.at ≡ 0) × (m.height ≡ pos 0)) ⊎ ((k : ℕ) × (slice_get marks k ≡ Some m))
-
--- the code is instructions, and this is kept of them
-pub record IsSurvey (w : World) (p : Procedure) (s : Survey) : Type 0 where
-  pub is : List Instr
-  pub instrs_are : AreInstrs p.code is
-  pub highest_is : s.highest ≡ highest (pos 0) (points (callees_of w p) 0 (pos 0) is)
-  pub marks_are : AreMarks w p s.marks.items
-
--- what a walk over a code answers
-abbrev pub Surveys : World → Procedure → Result Survey CodeFault → Type 0
-Surveys w p (Ok s) = IsSurvey w p s
-Surveys w p (Err faults.Memory) = Unit {0}
-Surveys w p (Err (faults.InCode at code)) = StopsAt p.code at × (code ≡ 5)
-Surveys w p (Err faults.OfHigh) = ⊥
 
 -- what is told of a code
 abbrev pub Tells : World → (k : ℕ) → Procedure → Result (Unit {0}) CodeFault → Type 0

@@ -1,5 +1,5 @@
 //! Where instructions lead to.
-ghost use Rattle.std.specs.Prelude.{◌≡◌, FitsSigned, IfSome};
+ghost use Rattle.std.specs.Prelude.{◌≡◌, FitsSigned, IfSome, is_some};
 ghost use Rattle.std.specs.Int.{w32};
 ghost use Rattle.code_form.specs.Valid.{jump_of as spec_jump, is_end as spec_end};
 
@@ -16,6 +16,16 @@ pub(crate) fn jump_of(instr: &Instr) -> Option<(i32, u32)>
         Instr::AndJump(j) => Some((j, 0)),
         Instr::OrJump(j) => Some((j, 0)),
         _ => None,
+    }
+}
+
+/// The instruction is a jump.
+pub(crate) fn jumps(instr: &Instr) -> bool
+    ensures { result ≡ is_some (spec_jump instr.now) }
+{
+    match *instr {
+        Instr::Jump(_) | Instr::JumpFalse(_) | Instr::AndJump(_) | Instr::OrJump(_) => true,
+        _ => false,
     }
 }
 

@@ -136,6 +136,7 @@ fn has_local(parts: &Parts, links: &Links, from: u32, h: u32, o: u32) -> bool
 }
 
 /// What the operands of an instruction in the code of procedure k name is there.
+#[inline(always)]
 pub(crate) fn names_what_is_there(
     parts: &Parts,
     links: &Links,
@@ -189,6 +190,7 @@ fn import_callee(parts: &Parts, m: u32, k: u32) -> (u64, u64)
 }
 
 /// What an instruction takes and leaves.
+#[inline(always)]
 pub(crate) fn step(parts: &Parts, own: &ProcCode, instr: &Instr) -> (u64, u64)
     ensures { record { instr = instr.now; takes = result.0; leaves = result.1 } ≡ step_among (callees_of (world_in parts.now) (procedure_of own.now)) instr.now }
 {

@@ -21,6 +21,7 @@ pub(crate) fn first() -> Place
 }
 
 /// The instruction that begins at a place of a procedure's code.
+#[inline(always)]
 pub(crate) fn point_at(parts: &Parts, own: &ProcCode, place: Place) -> Option<Point>
     requires { place.at ≤ length own.now.code.items }
     ensures found { IfSome result (λ q. IsPointAt (world_in parts.now) (procedure_of own.now) place.at place.height q) }
@@ -39,6 +40,7 @@ pub(crate) fn point_at(parts: &Parts, own: &ProcCode, place: Place) -> Option<Po
 }
 
 /// The place behind an instruction.
+#[inline(always)]
 pub(crate) fn behind(point: &Point) -> Place
     ensures at { result.at ≡ point.now.end }
     ensures height { result.height ≡ height_behind (point_of point.now) }
