@@ -3,12 +3,17 @@ pub mod Besides
 pub mod Bits
 pub mod CallKinds
 pub mod Elements
+pub mod Folding
 pub mod FunctionArguments
 pub mod Judging
 pub mod Operating
+pub mod PartsGiven
+pub mod ReadParts
 pub mod Refusals
+pub mod Sequences
 pub mod SetElements
 pub mod SetRows
+pub mod Sizes
 pub mod Standard
 pub mod TypeArguments
 pub mod TypePairs

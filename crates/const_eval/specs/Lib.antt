@@ -4,5 +4,7 @@ pub mod Ends
 pub mod Extremes
 pub mod Judgements
 pub mod Numbers
+pub mod Parts
+pub mod ReadTrees
 pub mod Sites
 pub mod Structures

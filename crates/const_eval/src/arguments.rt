@@ -2,6 +2,7 @@
 ghost use Rattle.std.specs.Prelude.{◌≡◌, ◌++◌, ◌∷◌, [], List};
 ghost use Rattle.m2_base.specs.States.{Frame};
 ghost use Rattle.const_eval.specs.Calls.{IsSummary, instead_of, is_in_error as spec_in_error, with_argument as spec_with};
+ghost use Rattle.const_eval.specs.Parts.{with_more};
 ghost use Rattle.const_eval.specs.Sites.{AreArguments, IsOperand};
 
 use crate::operands::Argument;
@@ -58,6 +59,7 @@ impl Arguments {
     /// These arguments and a further one.
     pub fn with(self, arg: Argument) -> Arguments
         ensures summary { (list : List Argument) → IsSummary self list → IsSummary result (list ++ arg ∷ []) }
+        ensures added { result ≡ with_more self arg }
         ensures there { (f : Frame) → AreArguments f self → IsOperand f arg.operand → AreArguments f result }
     {
         Arguments {

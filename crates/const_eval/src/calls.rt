@@ -154,7 +154,7 @@ pub(crate) fn of_type<S: Scopes>(
 }
 
 /// An operand where a value is wanted; what is refused is noted.
-fn value_noted(
+pub(crate) fn value_noted(
     site: &Site,
     at: u32,
     operand: Operand,
@@ -288,7 +288,7 @@ fn call_of_type_and_value<S: Scopes>(
 }
 
 /// A fault at a token is noted, and the operand is in error.
-fn fault_noted(
+pub(crate) fn fault_noted(
     site: &Site,
     at: u32,
     kind: FaultKind,
@@ -324,7 +324,7 @@ fn builtin_call<S: Scopes>(
 }
 
 /// A call by its operand and its arguments; of anything but a standard function it is no constant.
-fn call_with<S: Scopes>(
+pub(crate) fn call_with<S: Scopes>(
     scopes: &mut S,
     site: &Site,
     at: u32,

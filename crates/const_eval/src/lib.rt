@@ -41,6 +41,8 @@ macro_rules! fault {
 
 mod arguments;
 mod calls;
+mod constants;
+mod expressions;
 mod extremes;
 mod faults;
 mod functions;
@@ -53,11 +55,13 @@ mod operators;
 mod pairs;
 mod set_bits;
 mod sets;
+mod steps;
 mod structures;
 mod values;
 
 pub use arguments::{Arguments, Shape};
 pub use calls::call_of;
+pub use constants::constant;
 pub use extremes::{Extreme, extreme_of, size_value};
 pub use faults::{Fault, FaultKind};
 pub use functions::{abs_of, cap_of, chr_of, odd_of, ord_of, ordinal_type_argument, val_of};

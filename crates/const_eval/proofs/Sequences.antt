@@ -1,0 +1,51 @@
+-- One step after another: what a later one finds of an earlier one, and what loops give.
+use Rattle.std.proofs.Common.{◌≡◌, ◌∙◌, ◌++◌, ◌∷◌, [], ℕ, ◌+◌, ◌<◌, ◌≤◌, List, length, take, Result, Ok, Err, ap, sym, subst}
+use Rattle.std.specs.Prelude.{get_or}
+use Rattle.std.proofs.lemmas.List.{take_all, take_more}
+use Rattle.m2_base.specs.Gives.{Gives}
+use Rattle.m2_base.specs.States.{Frame, State}
+use Rattle.m2_base.specs.Statics.Contexts.{Context}
+use Rattle.m2_base.specs.declared.memory.Memory.{Memory}
+use Rattle.m2_base.specs.declared.notes.Notes.{Notes}
+use Rattle.m2_base.specs.declared.replies.Ask.{Ask}
+use Rattle.m2_base.specs.declared.replies.Ask.TheVariants.{DontKnowYet, Known}
+use Rattle.m2_base.specs.declared.replies.Head.{Head}
+use Rattle.m2_base.specs.declared.sites.Site.{Site}
+use Rattle.m2_base.proofs.Kept.{Waits_after, Works-trans}
+use Rattle.const_eval.specs.Analyses.{Analysed}
+use Rattle.const_eval.proofs.Analysing.{and_after, described}
+use Rattle.const_eval.proofs.Folding.{folded, folded_more}
+
+-- what may stand after an analysis: its value
+pub stands_after : {T : Type 0} {a b : State} {x y : Notes} {s : Site} {P : Frame → T → Type 0} {g : Context → Gives T} {v : T} → Analysed a b x y s (Ok (Known v)) P g → P b.frame v
+stands_after {T} {a} {b} {x} {y} {s} {P} {g} {v} p = subst (λ (f : Frame). P f v) (sym p.works.keeps.frame) p.there
+
+-- and what could stand before
+pub stays_after : {T : Type 0} {a b : State} {x y : Notes} {s : Site} {P : Frame → T → Type 0} {g : Context → Gives T} {answer : Result (Ask T) Memory} (Q : Frame → Type 0) → Analysed a b x y s answer P g → Q a.frame → Q b.frame
+stays_after {T} {a} {b} {x} {y} {s} {P} {g} {answer} Q p h = subst (λ (f : Frame). Q f) (sym p.works.keeps.frame) h
+
+module _ {S T U : Type 0} {a b d : State} {x y z : Notes} {s : Site} {P : Frame → T → Type 0} {Q : Frame → U → Type 0} {R : Frame → S → Type 0} {g : Context → Gives T} {h : Context → Gives U} {k : Context → Gives S} {first : Result (Ask T) Memory} where
+  -- after want of memory in a later step nothing more is said
+  pub failed_after : {m : Memory} → Analysed a b x y s first P g → Analysed b d y z s (Err m) Q h → (n : Memory) → Analysed a d x z s (Err n) R k
+  failed_after p q n = record { works = Works-trans p.works q.works; waits = tt; told = λ made in_hand told of_site. tt; there = tt }
+
+  -- what isn't known yet of a later step isn't known yet of the whole
+  pub waiting_after : {head : Head} → Analysed a b x y s first P g → Analysed b d y z s (Ok (DontKnowYet head)) Q h → Analysed a d x z s (Ok (DontKnowYet head)) R k
+  waiting_after p q =
+      record { works = Works-trans p.works q.works; waits = Waits_after p.works.keeps q.waits; told = λ made in_hand told of_site. tt; there = tt }
+
+module _ {A B : Type 0} (f : Context → A → B → Gives A) (first : A) (items : List B) (i : ℕ) where
+  -- one more item of a loop
+  pub one_more : {a b d : State} {x y z : Notes} {s : Site} {P : Frame → A → Type 0} {v w : A} (item : B) → i < length items → item ≡ get_or items i item
+      → Analysed a b x y s (Ok (Known v)) P (λ c. folded (f c) first (take i items)) → Analysed b d y z s (Ok (Known w)) P (λ c. f c v item)
+      → Analysed a d x z s (Ok (Known w)) P (λ c. folded (f c) first (take (i + 1) items))
+  one_more {w = w} item h e p q =
+      let longer : take i items ++ item ∷ [] ≡ take (i + 1) items = ap (λ (u : B). take i items ++ u ∷ []) e ∙ sym (take_more items i item h) in
+      described (Ok (Known w)) (and_after (λ c. folded (f c) first (take i items)) (λ u c. f c u item) (Ok (Known w)) p q)
+      (λ c. folded_more (f c) first (take i items) item ∙ ap (λ (l : List B). folded (f c) first l) longer)
+
+  -- all items of a loop
+  pub whole : {a b : State} {x y : Notes} {s : Site} {P : Frame → A → Type 0} {v : A} (g : Context → Gives A) → length items ≤ i
+      → Analysed a b x y s (Ok (Known v)) P (λ c. folded (f c) first (take i items)) → ((c : Context) → folded (f c) first items ≡ g c)
+      → Analysed a b x y s (Ok (Known v)) P g
+  whole {v = v} g h p e = described (Ok (Known v)) p (λ c. ap (λ (l : List B). folded (f c) first l) (take_all i items h) ∙ e c)

@@ -1,0 +1,26 @@
+use Rattle.std.proofs.Common.{ℕ, ap, sym, ◌∙◌}
+use Rattle.m2_base.specs.Gives.{and_then}
+use Rattle.m2_base.specs.States.{Frame}
+use Rattle.m2_base.specs.Statics.Constants.{constant_or_refused, operand_in, value_wanted}
+use Rattle.m2_base.specs.Trees.{expr_at}
+use Rattle.m2_base.specs.Views.{expr_view}
+use Rattle.const_eval.specs.Parts.{value_in}
+use Rattle.const_eval.proofs.Analysing.{and_after, and_then_assoc, described, failed, waiting}
+use Rattle.const_eval.proofs.ReadParts.{at_seen}
+use Rattle.const_eval.proofs.Sequences.{stands_after}
+use Rattle.const_eval.proofs.constants.constant.Goals as goal
+
+pub returns-in-DontKnowYet : goal.returns-in-DontKnowYet
+returns-in-DontKnowYet g c = waiting (rw c.in-DontKnowYet.is at c.in-Ok.ensures)
+
+pub returns-in-Err : goal.returns-in-Err
+returns-in-Err g c = failed c.in-Err.ensures _
+
+pub returns : goal.returns
+returns g c =
+    let one = rw c.in-Known.is at c.in-Ok.ensures in
+    let tree = expr_view c.args.e.now in
+    let two = c.constant_or_refused.ensures (g.S.Scopes.state c.value_in.new.scopes) (stands_after one) in
+    described c.constant_or_refused.result (and_after (λ k. value_in k tree) (λ v k. constant_or_refused k c.args.e.now.at v) c.constant_or_refused.result one two)
+    (λ k. ap (λ (at : ℕ). and_then (value_in k tree) (λ v. constant_or_refused k at v)) (sym (at_seen c.args.e.now))
+    ∙ and_then_assoc (operand_in k tree) (λ o. value_wanted k (expr_at tree) o) (λ v. constant_or_refused k (expr_at tree) v))

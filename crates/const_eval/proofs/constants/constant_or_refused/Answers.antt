@@ -1,0 +1,51 @@
+use Rattle.std.proofs.Common.{◌≡◌, ◌∙◌, ℕ, ℤ, None, Ok, Option, Some, refl, ap, sym}
+use Rattle.std.specs.Option.{IfSome}
+use Rattle.m2_base.specs.Gives.{gives}
+use Rattle.m2_base.specs.States.{Frame}
+use Rattle.m2_base.specs.Statics.Constants.{constant_or_refused}
+use Rattle.m2_base.specs.Statics.Contexts.{Context, refuse}
+use Rattle.m2_base.specs.Statics.Diagnostics.{not_a_constant}
+use Rattle.m2_base.specs.declared.operands.Operand.{Operand}
+use Rattle.m2_base.specs.declared.operands.Operand.TheVariants.{Constant, InError, StringConstant}
+use Rattle.m2_base.specs.declared.replies.Ask.TheVariants.{Known}
+use Rattle.m2_base.specs.declared.rows.Place.{Place}
+use Rattle.const_eval.specs.Sites.{IsOperand}
+use Rattle.const_eval.proofs.Analysing.{and_after, described, failed, value_everywhere, waiting}
+use Rattle.const_eval.proofs.constants.constant_or_refused.Goals as goal
+
+abbrev MayStand : Frame → Option Operand → Type 0
+MayStand f constant = IfSome constant (λ operand. IsOperand f operand)
+
+none_given : (c : Context) (at : ℕ) (o : Operand) → ((t : Place) (v : ℤ) → o ≡ Constant t v → ⊥) → ((n l : ℕ) → o ≡ StringConstant n l → ⊥) → (o ≡ InError → ⊥)
+    → refuse {T = Option Operand} c at not_a_constant None ≡ constant_or_refused c at o
+none_given c at (Constant t v) constant string in_error = absurd (constant t v refl)
+none_given c at (StringConstant n l) constant string in_error = absurd (string n l refl)
+none_given c at InError constant string in_error = absurd (in_error refl)
+none_given c at o constant string in_error = refl
+
+pub returns-in-Constant : goal.returns-in-Constant
+returns-in-Constant c now h =
+    value_everywhere now c.args.notes.now c.args.site.now (Some c.args.operand) MayStand (λ k. constant_or_refused k c.args.at c.args.operand) h
+    (λ k. ap (λ o. gives (Some o)) c.in-Constant.is ∙ ap (constant_or_refused k c.args.at) (sym c.in-Constant.is))
+
+pub returns-in-StringConstant : goal.returns-in-StringConstant
+returns-in-StringConstant c now h =
+    value_everywhere now c.args.notes.now c.args.site.now (Some c.args.operand) MayStand (λ k. constant_or_refused k c.args.at c.args.operand) h
+    (λ k. ap (λ o. gives (Some o)) c.in-StringConstant.is ∙ ap (constant_or_refused k c.args.at) (sym c.in-StringConstant.is))
+
+pub returns-in-InError : goal.returns-in-InError
+returns-in-InError c now h =
+    value_everywhere now c.args.notes.now c.args.site.now None MayStand (λ k. constant_or_refused k c.args.at c.args.operand) tt
+    (λ k. ap (constant_or_refused k c.args.at) (sym c.in-InError.is))
+
+pub returns-in-DontKnowYet : goal.returns-in-DontKnowYet
+returns-in-DontKnowYet c now h = waiting (rw c.in-DontKnowYet.is at c.in-Ok.ensures now)
+
+pub returns-in-Err : goal.returns-in-Err
+returns-in-Err c now h = failed (c.in-Err.ensures now) _
+
+pub returns-in-Known : goal.returns-in-Known
+returns-in-Known c now h =
+    described (Ok (Known None)) (and_after (λ k. refuse k c.args.at not_a_constant InError) (λ o k. gives None) (Ok (Known None)) (rw c.in-Known.is at c.in-Ok.ensures now)
+    (value_everywhere now c.fault_noted.new.notes c.args.site.now None MayStand (λ k. gives None) tt (λ k. refl)))
+    (λ k. none_given k c.args.at c.args.operand c.in_default.not-Constant c.in_default.not-StringConstant c.in_default.not-InError)

@@ -1,0 +1,49 @@
+//! The constant that an expression stands for.
+ghost use Rattle.std.specs.Option.{IfSome};
+ghost use Rattle.m2_base.specs.States.{State};
+ghost use Rattle.m2_base.specs.Statics.Constants.{constant_of, constant_or_refused as spec_constant};
+ghost use Rattle.m2_base.specs.Views.{expr_view};
+ghost use Rattle.const_eval.specs.Analyses.{Analysed};
+ghost use Rattle.const_eval.specs.ReadTrees.{IsReadExpr};
+ghost use Rattle.const_eval.specs.Sites.{IsOperand};
+ghost use Rattle.type_rules.specs.Sites.{SuitsSite};
+
+use crate::calls::fault_noted;
+use crate::expressions::value_in;
+use crate::faults::FaultKind;
+use m2_base::{Ask, Expr, Memory, Notes, Operand, Scopes, Site};
+
+/// The constant; what is in error gives nothing more, anything else is no constant.
+fn constant_or_refused(
+    site: &Site,
+    at: u32,
+    operand: Operand,
+    notes: &mut Notes,
+) -> Result<Ask<Option<Operand>>, Memory>
+    ensures { (now : State) → IsOperand now.frame operand → Analysed now now notes.old notes.new site.now result (λ f constant. IfSome constant (λ operand. IsOperand f operand)) (λ c. spec_constant c at operand) }
+{
+    match operand {
+        Operand::Constant(..) => Ok(Ask::Known(Some(operand))),
+        Operand::StringConstant(..) => Ok(Ask::Known(Some(operand))),
+        Operand::InError => Ok(Ask::Known(None)),
+        _ => {
+            let _in_error = analysed!(fault_noted(site, at, FaultKind::NotAConstant, notes));
+            Ok(Ask::Known(None))
+        }
+    }
+}
+
+/// The constant that an expression stands for. There is none where a diagnostic was noted or a part is in error.
+pub fn constant<S: Scopes>(
+    scopes: &mut S,
+    site: &Site,
+    e: &Expr,
+    notes: &mut Notes,
+) -> Result<Ask<Option<Operand>>, Memory>
+    requires suits { SuitsSite (S.state scopes.old).frame site.now }
+    requires read { IsReadExpr site.now.texts.now.names (expr_view e.now) }
+    ensures { Analysed (S.state scopes.old) (S.state scopes.new) notes.old notes.new site.now result (λ f constant. IfSome constant (λ operand. IsOperand f operand)) (λ c. constant_of c (expr_view e.now)) }
+{
+    let operand = analysed!(value_in(scopes, site, e, notes));
+    constant_or_refused(site, e.at, operand, notes)
+}
