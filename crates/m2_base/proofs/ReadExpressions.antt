@@ -9,7 +9,7 @@ use Rattle.ll_grammar.proofs.KindSets.{or_cases}
 use Rattle.m2_base.specs.ExpressionsOf as of
 use Rattle.m2_base.specs.Grammar as rules
 use Rattle.m2_base.specs.Grammar.{grammar, number_of_token}
-use Rattle.m2_base.specs.Statics.ReadTrees.{AreReadExprs, AreReadIdents, AreReadLabels, AreReadNexts, AreReadSelectors, IsReadDesignator, IsReadExpr, IsReadIdent, IsReadLabel, IsReadName, IsReadQual, IsReadSelector, IsReadToken}
+use Rattle.m2_base.specs.Statics.ReadTrees.{AreReadExprs, AreReadNames, AreReadLabels, AreReadNexts, AreReadSelectors, IsReadDesignator, IsReadExpr, IsReadOption, IsReadLabel, IsReadName, IsReadQual, IsReadSelector, IsReadToken}
 use Rattle.m2_base.specs.Trees.{Expr, Next, expr, exprs, in_brackets, label_with, labels, nexts, selectors, with_operators}
 use Rattle.m2_base.specs.declared.kind.TokenKind.{TokenKind}
 use Rattle.m2_base.specs.declared.kind.TokenKind.TheVariants.{Comma}
@@ -40,22 +40,22 @@ module _ (names : List (List ℕ)) where
   AreRead (inner d) = AreRead d
   AreRead (part d) = AreRead d
 
-  pub name_read : {d : Tree Token} → Derives grammar rules.ident d → AreRead d → IsReadName names (of.ident_of d).name
+  pub name_read : {d : Tree Token} → Derives grammar rules.ident d → AreRead d → IsReadName names (of.ident_of d)
   name_read (of_token {t = t} m) r = r.name (kind_is (number_of_token t) 1 m)
 
-  more_names_read : {d : Tree Token} → Derives grammar (after_commas rules.ident) d → AreRead d → AreReadIdents names (of.more_idents_of d)
+  more_names_read : {d : Tree Token} → Derives grammar (after_commas rules.ident) d → AreRead d → AreReadNames names (of.more_idents_of d)
   more_names_read of_last r = tt
   more_names_read (of_more (of_then comma i) is) r = (name_read i r.0.1, more_names_read is r.1)
 
-  pub names_read : {d : Tree Token} → Derives grammar rules.idents d → AreRead d → AreReadIdents names (of.idents_of d)
+  pub names_read : {d : Tree Token} → Derives grammar rules.idents d → AreRead d → AreReadNames names (of.idents_of d)
   names_read (of_then i is) r = (name_read i r.0, more_names_read is r.1)
 
-  second_read : {d : Tree Token} → Derives grammar rules.second_name d → AreRead d → IsReadIdent names (of.second_of d)
+  second_read : {d : Tree Token} → Derives grammar rules.second_name d → AreRead d → IsReadOption names (of.second_of d)
   second_read (of_left (of_then period i)) r = name_read i r.1
   second_read (of_right of_empty) r = tt
 
   pub qual_read : {d : Tree Token} → Derives grammar rules.qual d → AreRead d → IsReadQual names (of.qual_of d)
-  qual_read (of_then i second) r = (name_read i r.0, second_read second r.1)
+  qual_read (of_then i second) r = record { first = name_read i r.0; second = second_read second r.1 }
 
   operators_read : (first : Expr) (ns : List Next) → IsReadExpr names first → AreReadNexts names (nexts ns) → IsReadExpr names (with_operators first ns)
   operators_read first [] p q = p
@@ -106,14 +106,14 @@ module _ (names : List (List ℕ)) where
     arguments_read (of_right of_empty) r = tt
 
     pub designator_read : {d : Tree Token} → Derives grammar rules.designator d → AreRead d → IsReadDesignator names (of.designator_of d)
-    designator_read (of_then i p) r = (name_read i r.0, selectors_read p r.1)
+    designator_read (of_then i p) r = ((name_read i r.0).some, selectors_read p r.1)
 
     selectors_read : {d : Tree Token} → Derives grammar (many rules.selector) d → AreRead d → AreReadSelectors names (selectors (of.selectors_of d))
     selectors_read of_last r = tt
     selectors_read (of_more p q) r = (selector_read p r.0, selectors_read q r.1)
 
     selector_read : {d : Tree Token} → Derives grammar rules.selector d → AreRead d → IsReadSelector names (of.selector_of d)
-    selector_read (of_left (of_then (of_token m) i)) r = name_read i r.1
+    selector_read (of_left (of_then (of_token m) i)) r = (name_read i r.1).some
     selector_read (of_right (of_left (of_then (of_token m) (of_then p close)))) r = exprs_read p r.1.0
     selector_read (of_right (of_right (of_token m))) r = tt
 

@@ -2,7 +2,7 @@
 use Rattle.std.specs.Prelude.{ℕ, List, [], ◌∷◌, length, Option, Some, None}
 use Rattle.m2_base.specs.Lists.{Each}
 use Rattle.m2_base.specs.Statics.Items.{Item, const_item, heading_item, import_item, proc_item, type_item, vars_item}
-use Rattle.m2_base.specs.Statics.ReadTrees.{AreReadArms, AreReadExprs, AreReadFields, AreReadIdents, AreReadLabels, AreReadNexts, AreReadTypes, IsReadArm, IsReadExpr, IsReadField, IsReadForm, IsReadIdent, IsReadItem, IsReadLabel, IsReadNext, IsReadOption, IsReadSection, IsReadType, IsReadTypeForm}
+use Rattle.m2_base.specs.Statics.ReadTrees.{AreReadArms, AreReadExprs, AreReadFields, AreReadNames, AreReadLabels, AreReadNexts, AreReadTypes, IsReadArm, IsReadExpr, IsReadField, IsReadForm, IsReadOption, IsReadItem, IsReadLabel, IsReadNext, IsReadTypeOption, IsReadSection, IsReadType, IsReadTypeForm}
 use Rattle.m2_base.specs.Statics.SoundTrees.{AreSoundArms, AreSoundExprs, AreSoundFields, AreSoundLabels, AreSoundNames, AreSoundNexts, AreSoundSections, AreSoundTypes, IsSoundArm, IsSoundExpr, IsSoundField, IsSoundForm, IsSoundItem, IsSoundLabel, IsSoundNext, IsSoundOption, IsSoundTag, IsSoundType, IsSoundTypeForm}
 use Rattle.m2_base.specs.Trees.{Expr, ExprForm, Exprs, FieldList, FieldLists, Ident, Label, Labels, Next, Nexts, Section, TypeExpr, TypeExprs, TypeForm, VariantArm, VariantArms, array_type, call_form, case_fields, char_form, enum_type, expr, many_form, more_exprs, more_fields, more_labels, more_nexts, more_types, more_variant_arms, name_form, named_type, next, no_exprs, no_fields, no_labels, no_nexts, no_types, no_variant_arms, number_form, one_form, one_label, plain_fields, pointer_type, proc_type, range_label, record_type, set_form, set_type, string_form, sub_type, type_expr, typed_set_form, variant_arm}
 
@@ -41,13 +41,13 @@ module _ (names : List (List ℕ)) where
     label_sound (one_label e) r = expr_sound e r
     label_sound (range_label low high) r = (expr_sound low r.0, expr_sound high r.1)
 
-  idents_sound : (is : List Ident) → AreReadIdents names is → AreSoundNames (length names) is
+  idents_sound : (is : List Ident) → AreReadNames names is → AreSoundNames (length names) is
   idents_sound [] r = tt
-  idents_sound (i ∷ is) r = (r.0.1, idents_sound is r.1)
+  idents_sound (i ∷ is) r = (r.0.known, idents_sound is r.1)
 
-  tag_sound : (tag : Option Ident) → IsReadIdent names tag → IsSoundTag (length names) tag
+  tag_sound : (tag : Option Ident) → IsReadOption names tag → IsSoundTag (length names) tag
   tag_sound None r = tt
-  tag_sound (Some i) r = r.1
+  tag_sound (Some i) r = r.known
 
   mutual
     type_sound : (t : TypeExpr) → IsReadType names t → IsSoundType (length names) t
@@ -82,18 +82,18 @@ module _ (names : List (List ℕ)) where
     arm_sound : (a : VariantArm) → IsReadArm names a → IsSoundArm (length names) a
     arm_sound (variant_arm ls fields) r = fields_sound fields r.1
 
-  option_sound : (t : Option TypeExpr) → IsReadOption names t → IsSoundOption (length names) t
+  option_sound : (t : Option TypeExpr) → IsReadTypeOption names t → IsSoundOption (length names) t
   option_sound None r = tt
   option_sound (Some t) r = type_sound t r
 
   sections_sound : (ss : List Section) → Each (IsReadSection names) ss → AreSoundSections (length names) ss
   sections_sound [] r = tt
-  sections_sound (s ∷ ss) r = (idents_sound s.names r.0.0, sections_sound ss r.1)
+  sections_sound (s ∷ ss) r = (idents_sound s.names r.0.idents, sections_sound ss r.1)
 
   pub item_sound : (x : Item) → IsReadItem names x → IsSoundItem (length names) x
   item_sound (heading_item h) r = sections_sound h.sections r.sections
-  item_sound (import_item from i) r = r.1.1
-  item_sound (const_item i e) r = (r.0.1, expr_sound e r.1)
-  item_sound (type_item i t) r = (r.0.1, option_sound t r.1)
+  item_sound (import_item from i) r = r.1.known
+  item_sound (const_item i e) r = (r.0.known, expr_sound e r.1)
+  item_sound (type_item i t) r = (r.0.known, option_sound t r.1)
   item_sound (vars_item idents t) r = (idents_sound idents r.0, type_sound t r.1)
-  item_sound (proc_item h stream) r = (r.0.name.1, sections_sound h.sections r.0.sections, r.1)
+  item_sound (proc_item h stream) r = (r.0.name.known, sections_sound h.sections r.0.sections, r.1)

@@ -7,7 +7,7 @@ use Rattle.m2_base.specs.Grammar as rules
 use Rattle.m2_base.specs.Grammar.{grammar, levels, number_of_token}
 use Rattle.m2_base.specs.Lists.{Each}
 use Rattle.m2_base.specs.Statics.Items.{decl_item, heading_items, import_item, import_items, items_of}
-use Rattle.m2_base.specs.Statics.ReadTrees.{AreReadIdents, IsReadHeading, IsReadIdent, IsReadItem, IsReadNamed, IsReadOption, IsReadSection, IsReadToken}
+use Rattle.m2_base.specs.Statics.ReadTrees.{AreReadNames, IsReadHeading, IsReadOption, IsReadItem, IsReadQualOption, IsReadTypeOption, IsReadSection, IsReadToken}
 use Rattle.m2_base.specs.StreamsOf as streams
 use Rattle.m2_base.specs.Trees.{Decl, Heading, Ident, Import, Qual, Section, Stream, StreamKind}
 use Rattle.m2_base.specs.declared.kind.TokenKind.TheVariants.{Equal, Semicolon}
@@ -40,7 +40,7 @@ module _ (names : List (List ℕ)) where
   leaves_read (part d) h = leaves_read d h
 
   section_read : {d : Tree Token} → Derives grammar rules.section d → AreRead names d → IsReadSection names (streams.section_of d)
-  section_read (of_then by_ref (of_then p (of_then colon (of_then is_open q)))) r = (names_read names p r.1.0, qual_read names q r.1.1.1.1)
+  section_read (of_then by_ref (of_then p (of_then colon (of_then is_open q)))) r = record { idents = names_read names p r.1.0; of = qual_read names q r.1.1.1.1 }
 
   more_sections_read : {d : Tree Token} → Derives grammar (many (rules.a Semicolon ⨾ rules.section)) d → AreRead names d → Each (IsReadSection names) (streams.more_sections_of d)
   more_sections_read of_last r = tt
@@ -52,7 +52,7 @@ module _ (names : List (List ℕ)) where
 
   -- what stands behind the name of a heading
   abbrev AreReadParameters : List Section × Option Qual → Type 0
-  AreReadParameters parameters = Each (IsReadSection names) parameters.0 × IsReadNamed names parameters.1
+  AreReadParameters parameters = Each (IsReadSection names) parameters.0 × IsReadQualOption names parameters.1
 
   parameters_read : {d : Tree Token} → Derives grammar rules.parameters d → AreRead names d → AreReadParameters (streams.parameters_of d)
   parameters_read (of_left (of_then opening (of_then p (of_then close q)))) r = (sections_read p r.1.0, result_read names q r.1.1.1)
@@ -95,7 +95,7 @@ module _ (names : List (List ℕ)) where
   block_read : {d : Tree Token} (w : List Token) → Derives grammar (rules.block rules.procedure_cut) d → AreRead names d → Each IsReadDecl (streams.block_of d w).decls
   block_read w (of_then p (of_then b (of_then end i))) r = declarations_read p r.0
 
-  defined_read : {d : Tree Token} → Derives grammar (optional (rules.a Equal ⨾ rules.type_expr)) d → AreRead names d → IsReadOption names (streams.defined_of d)
+  defined_read : {d : Tree Token} → Derives grammar (optional (rules.a Equal ⨾ rules.type_expr)) d → AreRead names d → IsReadTypeOption names (streams.defined_of d)
   defined_read (of_left (of_then equal p)) r = type_read names p r.1
   defined_read (of_right of_empty) r = tt
 
@@ -116,9 +116,9 @@ module _ (names : List (List ℕ)) where
 
   -- the names of an import
   abbrev IsReadImport : Import → Type 0
-  IsReadImport i = IsReadIdent names i.from × AreReadIdents names i.names
+  IsReadImport i = IsReadOption names i.from × AreReadNames names i.names
 
-  from_read : {d : Tree Token} → Derives grammar rules.from d → AreRead names d → IsReadIdent names (streams.from_of d)
+  from_read : {d : Tree Token} → Derives grammar rules.from d → AreRead names d → IsReadOption names (streams.from_of d)
   from_read (of_left (of_then from i)) r = name_read names i r.1
   from_read (of_right of_empty) r = tt
 
@@ -131,7 +131,7 @@ module _ (names : List (List ℕ)) where
 
   -- ** Items
 
-  import_items_read : (from : Option Ident) (idents : List Ident) → IsReadIdent names from → AreReadIdents names idents → Each (IsReadItem names) (map (λ n. import_item from n) idents)
+  import_items_read : (from : Option Ident) (idents : List Ident) → IsReadOption names from → AreReadNames names idents → Each (IsReadItem names) (map (λ n. import_item from n) idents)
   import_items_read from [] p q = tt
   import_items_read from (i ∷ idents) p q = ((p, q.0), import_items_read from idents p q.1)
 

@@ -6,7 +6,7 @@ use Rattle.m2_base.specs.ExpressionsOf as of
 use Rattle.m2_base.specs.Grammar as rules
 use Rattle.m2_base.specs.Grammar.{grammar}
 use Rattle.m2_base.specs.Lists.{Each}
-use Rattle.m2_base.specs.Statics.ReadTrees.{AreReadArms, AreReadFields, AreReadTypes, IsReadExpr, IsReadField, IsReadIdent, IsReadNamed, IsReadQual, IsReadType, IsReadTypeForm}
+use Rattle.m2_base.specs.Statics.ReadTrees.{AreReadArms, AreReadFields, AreReadTypes, IsReadExpr, IsReadField, IsReadOption, IsReadQualOption, IsReadQual, IsReadType, IsReadTypeForm}
 use Rattle.m2_base.specs.Trees.{FieldList, Formal, Qual, VariantArm, field_lists, type_exprs, variant_arms}
 use Rattle.m2_base.specs.TypesOf as types
 use Rattle.m2_base.specs.declared.kind.TokenKind.TheVariants.{Bar, Comma, Semicolon}
@@ -46,7 +46,7 @@ module _ (names : List (List ℕ)) where
   simples_read : {d : Tree Token} → Derives grammar (rules.list rules.simple Comma) d → AreRead names d → AreReadTypes names (type_exprs (types.simples_of d))
   simples_read (of_then p q) r = (simple_read p r.0, more_simples_read q r.1)
 
-  pub result_read : {d : Tree Token} → Derives grammar rules.result d → AreRead names d → IsReadNamed names (types.result_of d)
+  pub result_read : {d : Tree Token} → Derives grammar rules.result d → AreRead names d → IsReadQualOption names (types.result_of d)
   result_read (of_left (of_then colon p)) r = qual_read names p r.1
   result_read (of_right of_empty) r = tt
 
@@ -69,7 +69,7 @@ module _ (names : List (List ℕ)) where
   formals_read (of_left (of_then opening (of_then p (of_then close q)))) r = (formal_list_read p r.1.0, result_read q r.1.1.1)
   formals_read (of_right of_empty) r = (tt, tt)
 
-  tag_read : {d : Tree Token} → Derives grammar (optional rules.ident) d → AreRead names d → IsReadIdent names (types.tag_of d)
+  tag_read : {d : Tree Token} → Derives grammar (optional rules.ident) d → AreRead names d → IsReadOption names (types.tag_of d)
   tag_read (of_left p) r = name_read names p r
   tag_read (of_right of_empty) r = tt
 

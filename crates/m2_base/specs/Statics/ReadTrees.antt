@@ -7,10 +7,12 @@ use Rattle.m2_base.specs.Statics.Items.{Item, const_item, heading_item, import_i
 use Rattle.m2_base.specs.Trees.{Designator, Expr, ExprForm, Exprs, FieldList, FieldLists, Heading, Ident, Label, Labels, Next, Nexts, Qual, Section, Selector, Selectors, TypeExpr, TypeExprs, TypeForm, VariantArm, VariantArms, array_type, call_form, case_fields, char_form, deref_selector, designator, enum_type, expr, field_selector, index_selector, many_form, more_exprs, more_fields, more_labels, more_nexts, more_selectors, more_types, more_variant_arms, name_form, named_type, next, no_exprs, no_fields, no_labels, no_nexts, no_selectors, no_types, no_variant_arms, number_form, one_form, one_label, plain_fields, pointer_type, proc_type, range_label, record_type, set_form, set_type, string_form, sub_type, type_expr, typed_set_form, variant_arm}
 use Rattle.m2_base.specs.declared.kind.TokenKind.TheVariants.{Character, Cut, Identifier, Number, String}
 use Rattle.m2_base.specs.declared.token.Token.{Token}
+use Rattle.m2_base.specs.declared.trees.types.Formal.{Formal}
 
 -- a name of the unit, and not the empty one
-abbrev pub IsReadName : (names : List (List ℕ)) → ℕ → Type 0
-IsReadName names n = (n ≢ 0) × (n < length names)
+pub record IsReadName (names : List (List ℕ)) (i : Ident) : Type 0 where
+  pub some : i.name ≢ 0
+  pub known : i.name < length names
 
 -- a string of the unit, whose length is a number of 32 bits
 abbrev pub IsReadString : (names : List (List ℕ)) → ℕ → Type 0
@@ -18,7 +20,7 @@ IsReadString names n = (n < length names) × (length (slice_index_or names n [])
 
 -- the value of a token, where it is a name, a number, a character, a string or the cut of a procedure
 pub record IsReadToken (names : List (List ℕ)) (t : Token) : Type 0 where
-  pub name : kind_number t.kind ≡ kind_number Identifier → IsReadName names t.value
+  pub name : kind_number t.kind ≡ kind_number Identifier → IsReadName names (record { name = t.value; at = t.at })
   pub number : kind_number t.kind ≡ kind_number Number → t.value < 2 ^ 32
   pub character : kind_number t.kind ≡ kind_number Character → t.value < 256
   pub text : kind_number t.kind ≡ kind_number String → IsReadString names t.value
@@ -65,9 +67,9 @@ abbrev mutual
   IsReadLabel names (one_label e) = IsReadExpr names e
   IsReadLabel names (range_label low high) = IsReadExpr names low × IsReadExpr names high
 
-  -- a designator
+  -- a designator: its names aren't empty
   pub IsReadDesignator : (names : List (List ℕ)) → Designator → Type 0
-  IsReadDesignator names (designator first rest) = IsReadName names first.name × AreReadSelectors names rest
+  IsReadDesignator names (designator first rest) = (first.name ≢ 0) × AreReadSelectors names rest
 
   -- selectors
   pub AreReadSelectors : (names : List (List ℕ)) → Selectors → Type 0
@@ -76,27 +78,32 @@ abbrev mutual
 
   -- a selector
   pub IsReadSelector : (names : List (List ℕ)) → Selector → Type 0
-  IsReadSelector names (field_selector i dot) = IsReadName names i.name
+  IsReadSelector names (field_selector i dot) = i.name ≢ 0
   IsReadSelector names (index_selector es bracket) = AreReadExprs names es
   IsReadSelector names (deref_selector caret) = Unit {0}
 
--- names that are declared
-abbrev pub AreReadIdents : (names : List (List ℕ)) → List Ident → Type 0
-AreReadIdents names idents = Each (λ i. IsReadName names i.name) idents
-
 -- a name that stands or doesn't
-abbrev pub IsReadIdent : (names : List (List ℕ)) → Option Ident → Type 0
-IsReadIdent names None = Unit {0}
-IsReadIdent names (Some i) = IsReadName names i.name
+abbrev pub IsReadOption : (names : List (List ℕ)) → Option Ident → Type 0
+IsReadOption names None = Unit {0}
+IsReadOption names (Some i) = IsReadName names i
 
--- a name, or a name of a module
-abbrev pub IsReadQual : (names : List (List ℕ)) → Qual → Type 0
-IsReadQual names q = IsReadName names q.first.name × IsReadIdent names q.second
+-- a name with or without a module before it
+pub record IsReadQual (names : List (List ℕ)) (q : Qual) : Type 0 where
+  pub first : IsReadName names q.first
+  pub second : IsReadOption names q.second
 
 -- a type's name that stands or doesn't
-abbrev pub IsReadNamed : (names : List (List ℕ)) → Option Qual → Type 0
-IsReadNamed names None = Unit {0}
-IsReadNamed names (Some q) = IsReadQual names q
+abbrev pub IsReadQualOption : (names : List (List ℕ)) → Option Qual → Type 0
+IsReadQualOption names None = Unit {0}
+IsReadQualOption names (Some q) = IsReadQual names q
+
+-- names that are declared
+abbrev pub AreReadNames : (names : List (List ℕ)) → List Ident → Type 0
+AreReadNames names idents = Each (λ i. IsReadName names i) idents
+
+-- the parameters of a procedure type
+abbrev pub AreReadFormals : (names : List (List ℕ)) → List Formal → Type 0
+AreReadFormals names formals = Each (λ f. IsReadQual names f.of) formals
 
 abbrev mutual
   -- a type
@@ -106,13 +113,13 @@ abbrev mutual
   -- by its form
   pub IsReadTypeForm : (names : List (List ℕ)) → TypeForm → Type 0
   IsReadTypeForm names (named_type q) = IsReadQual names q
-  IsReadTypeForm names (enum_type idents) = AreReadIdents names idents
-  IsReadTypeForm names (sub_type base low high) = IsReadNamed names base × IsReadExpr names low × IsReadExpr names high
+  IsReadTypeForm names (enum_type idents) = AreReadNames names idents
+  IsReadTypeForm names (sub_type base low high) = IsReadQualOption names base × IsReadExpr names low × IsReadExpr names high
   IsReadTypeForm names (array_type index of) = AreReadTypes names index × IsReadType names of
   IsReadTypeForm names (record_type fields) = AreReadFields names fields
   IsReadTypeForm names (set_type of) = IsReadType names of
   IsReadTypeForm names (pointer_type of) = IsReadType names of
-  IsReadTypeForm names (proc_type formals result) = Each (λ f. IsReadQual names f.of) formals × IsReadNamed names result
+  IsReadTypeForm names (proc_type formals result) = AreReadFormals names formals × IsReadQualOption names result
 
   -- index types
   pub AreReadTypes : (names : List (List ℕ)) → TypeExprs → Type 0
@@ -126,8 +133,8 @@ abbrev mutual
 
   -- fields of one type, or a variant part
   pub IsReadField : (names : List (List ℕ)) → FieldList → Type 0
-  IsReadField names (plain_fields idents t) = AreReadIdents names idents × IsReadType names t
-  IsReadField names (case_fields tag of arms other) = IsReadIdent names tag × IsReadQual names of × AreReadArms names arms × AreReadFields names other
+  IsReadField names (plain_fields idents t) = AreReadNames names idents × IsReadType names t
+  IsReadField names (case_fields tag of arms other) = IsReadOption names tag × IsReadQual names of × AreReadArms names arms × AreReadFields names other
 
   -- the variants
   pub AreReadArms : (names : List (List ℕ)) → VariantArms → Type 0
@@ -136,28 +143,29 @@ abbrev mutual
 
   -- a variant: its labels and its fields
   pub IsReadArm : (names : List (List ℕ)) → VariantArm → Type 0
-  IsReadArm names (variant_arm ls fields) = AreReadLabels names ls × AreReadFields names fields
+  IsReadArm names (variant_arm labels fields) = AreReadLabels names labels × AreReadFields names fields
 
 -- the type of a type's declaration, if there is one
-abbrev pub IsReadOption : (names : List (List ℕ)) → Option TypeExpr → Type 0
-IsReadOption names None = Unit {0}
-IsReadOption names (Some t) = IsReadType names t
+abbrev pub IsReadTypeOption : (names : List (List ℕ)) → Option TypeExpr → Type 0
+IsReadTypeOption names None = Unit {0}
+IsReadTypeOption names (Some t) = IsReadType names t
 
 -- parameters of one type
-abbrev pub IsReadSection : (names : List (List ℕ)) → Section → Type 0
-IsReadSection names s = AreReadIdents names s.names × IsReadQual names s.of
+pub record IsReadSection (names : List (List ℕ)) (s : Section) : Type 0 where
+  pub idents : AreReadNames names s.names
+  pub of : IsReadQual names s.of
 
 -- a procedure's heading
 pub record IsReadHeading (names : List (List ℕ)) (h : Heading) : Type 0 where
-  pub name : IsReadName names h.name.name
+  pub name : IsReadName names h.name
   pub sections : Each (IsReadSection names) h.sections
-  pub result : IsReadNamed names h.result
+  pub result : IsReadQualOption names h.result
 
 -- an item; the number of a procedure's stream has 32 bits
 abbrev pub IsReadItem : (names : List (List ℕ)) → Item → Type 0
 IsReadItem names (heading_item h) = IsReadHeading names h
-IsReadItem names (import_item from i) = IsReadIdent names from × IsReadName names i.name
-IsReadItem names (const_item i e) = IsReadName names i.name × IsReadExpr names e
-IsReadItem names (type_item i t) = IsReadName names i.name × IsReadOption names t
-IsReadItem names (vars_item idents t) = AreReadIdents names idents × IsReadType names t
+IsReadItem names (import_item from i) = IsReadOption names from × IsReadName names i
+IsReadItem names (const_item i e) = IsReadName names i × IsReadExpr names e
+IsReadItem names (type_item i t) = IsReadName names i × IsReadTypeOption names t
+IsReadItem names (vars_item idents t) = AreReadNames names idents × IsReadType names t
 IsReadItem names (proc_item h stream) = IsReadHeading names h × (stream < 2 ^ 32)
