@@ -15,7 +15,7 @@ use Rattle.m2_base.specs.declared.trees.expressions as expressions
 use Rattle.m2_base.specs.declared.trees.expressions.Label.{out-Label}
 use Rattle.m2_base.proofs.SoundOperands.{natural-value}
 use Rattle.m2_base.proofs.Seen.{designator_seen, expr_seen, label_seen, next_seen}
-use Rattle.const_eval.specs.ReadTrees.{AreReadExprs, AreReadLabels, AreReadNexts, AreReadSelectors, IsReadDesignator, IsReadExpr, IsReadForm, IsReadLabel, IsReadNext, IsReadSelector}
+use Rattle.m2_base.specs.Statics.ReadTrees.{AreReadExprs, AreReadLabels, AreReadNexts, AreReadSelectors, IsReadDesignator, IsReadExpr, IsReadForm, IsReadLabel, IsReadNext, IsReadSelector}
 
 -- an expression's first token
 pub at_seen : (e : expressions.Expr.Expr) → expr_at (expr_view e) ≡ e.at

@@ -5,6 +5,5 @@ pub mod Extremes
 pub mod Judgements
 pub mod Numbers
 pub mod Parts
-pub mod ReadTrees
 pub mod Sites
 pub mod Structures

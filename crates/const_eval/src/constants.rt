@@ -4,7 +4,7 @@ ghost use Rattle.m2_base.specs.States.{State};
 ghost use Rattle.m2_base.specs.Statics.Constants.{constant_of, constant_or_refused as spec_constant};
 ghost use Rattle.m2_base.specs.Views.{expr_view};
 ghost use Rattle.const_eval.specs.Analyses.{Analysed};
-ghost use Rattle.const_eval.specs.ReadTrees.{IsReadExpr};
+ghost use Rattle.m2_base.specs.Statics.ReadTrees.{IsReadExpr};
 ghost use Rattle.const_eval.specs.Sites.{IsOperand};
 ghost use Rattle.type_rules.specs.Sites.{SuitsSite};
 

@@ -7,7 +7,7 @@ ghost use Rattle.m2_base.specs.Trees.{designator_at, exprs, labels, nexts, selec
 ghost use Rattle.m2_base.specs.Views.{designator_view, expr_view, label_view, next_view, selector_view};
 ghost use Rattle.const_eval.specs.Analyses.{Analysed};
 ghost use Rattle.const_eval.specs.Parts.{arguments_in as spec_arguments, called_in as spec_called, index_in as spec_index, member_in as spec_member, value_in as spec_value};
-ghost use Rattle.const_eval.specs.ReadTrees.{AreReadExprs, AreReadLabels, AreReadNexts, AreReadSelectors, IsReadDesignator, IsReadExpr, IsReadLabel, IsReadNext, IsReadSelector};
+ghost use Rattle.m2_base.specs.Statics.ReadTrees.{AreReadExprs, AreReadLabels, AreReadNexts, AreReadSelectors, IsReadDesignator, IsReadExpr, IsReadLabel, IsReadNext, IsReadSelector};
 ghost use Rattle.const_eval.specs.Sites.{AreArguments, IsOperand};
 ghost use Rattle.type_rules.specs.Scenes.{IsThere};
 ghost use Rattle.type_rules.specs.Sites.{SuitsSite};
