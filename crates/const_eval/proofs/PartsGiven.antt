@@ -1,5 +1,5 @@
 -- What parts give one after another is what the whole expression gives.
-use Rattle.std.proofs.Common.{◌≡◌, ◌∙◌, ℕ, refl, ap, sym}
+use Rattle.std.proofs.Common.{◌≡◌, ◌∙◌, ℕ}
 use Rattle.m2_base.specs.Gives.{Gives, and_then, gives}
 use Rattle.m2_base.specs.Statics.Constants.{designator_in, element_in, elements_in, form_in, many_in, next_in, operand_in, value_wanted}
 use Rattle.m2_base.specs.Statics.Contexts.{Context}

@@ -1,16 +1,13 @@
 -- What is read of a tree is read of its parts, and what is given of a part is given of the tree.
-use Rattle.std.proofs.Common.{◌≡◌, ◌∙◌, ℕ, zero, suc, ◌+◌, ◌<◌, List, [], ◌∷◌, Option, Some, None, map, ap, sym, subst, refl, arith, to_z, w64}
+use Rattle.std.proofs.Common.{◌≡◌, ◌∙◌, ℕ, zero, suc, ◌<◌, List, [], ◌∷◌, Option, Some, None, map, ap, sym, subst, arith, to_z, w64}
 use Rattle.std.proofs.lemmas.Int.{to_z_pos}
 use Rattle.std.specs.Prelude.{option_map, get_or, length, ◌^◌, pos}
 use Rattle.m2_base.specs.Rows.{IsValue}
-use Rattle.m2_base.specs.Gives.{Gives}
-use Rattle.m2_base.specs.Statics.Constants.{designator_in, element_in, form_in, next_in, operand_in, selector_in}
+use Rattle.m2_base.specs.Statics.Constants.{form_in, operand_in}
 use Rattle.m2_base.specs.Statics.Contexts.{Context}
 use Rattle.m2_base.specs.Trees as plain
 use Rattle.m2_base.specs.Trees.{expr_at, designator_at}
 use Rattle.m2_base.specs.Views.{designator_view, expr_view, form_view, label_view, next_view, selector_view}
-use Rattle.m2_base.specs.declared.operands.Operand.{Operand}
-use Rattle.m2_base.specs.declared.rows.Place.{Place}
 use Rattle.m2_base.specs.declared.trees.expressions as expressions
 use Rattle.m2_base.specs.declared.trees.expressions.Label.{out-Label}
 use Rattle.m2_base.proofs.SoundOperands.{natural-value}

@@ -1,19 +1,18 @@
 -- Parts of trees are smaller than the whole.
-use Rattle.std.proofs.Common.{◌≡◌, ◌∙◌, ℕ, ◌<◌, ◌≤◌, List, Option, Some, None, ap, arith, length, sym, subst}
+use Rattle.std.proofs.Common.{◌≡◌, ℕ, ◌<◌, ◌≤◌, List, Option, Some, arith, length, sym, subst}
 use Rattle.std.specs.Prelude.{get_or}
 use Rattle.std.specs.declared.alloc.Global.{Global}
 use Rattle.std.specs.declared.boxed.Box.{Box}
 use Rattle.std.specs.declared.vec.Vec.{Vec}
-use Rattle.m2_base.specs.declared.trees.Ident.{Ident}
 use Rattle.m2_base.specs.declared.trees.operators.Operator.{Operator}
 use Rattle.m2_base.specs.declared.trees.expressions.Designator.{Designator, size-Designator, size_is-Designator}
 use Rattle.m2_base.specs.declared.trees.expressions.Expr.{Expr, size-Expr, size_is-Expr}
-use Rattle.m2_base.specs.declared.trees.expressions.ExprForm.{ExprForm, size-ExprForm, size_is-ExprForm}
+use Rattle.m2_base.specs.declared.trees.expressions.ExprForm.{size-ExprForm}
 use Rattle.m2_base.specs.declared.trees.expressions.ExprForm.TheVariants.{Call, Many, Name, One, Set}
 use Rattle.m2_base.specs.declared.trees.expressions.ExprForm.TheViews.{sized-Call, sized-Index, sized-Many, sized-Name, sized-One, sized-Set}
 use Rattle.m2_base.specs.declared.trees.expressions.Label.{Label, out-Label, size-Label, size_is-Label}
 use Rattle.m2_base.specs.declared.trees.expressions.Next.{Next, size-Next, size_is-Next}
-use Rattle.m2_base.specs.declared.trees.expressions.Selector.{Selector, size-Selector, size_is-Selector}
+use Rattle.m2_base.specs.declared.trees.expressions.Selector.{Selector, size-Selector}
 use Rattle.m2_base.specs.declared.trees.expressions.Selector.TheVariants.{Index}
 use denote.Param.Weighed.{at_most, most}
 

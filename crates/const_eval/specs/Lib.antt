@@ -3,6 +3,7 @@ pub mod Calls
 pub mod Ends
 pub mod Extremes
 pub mod Judgements
+pub mod NamedTexts
 pub mod Numbers
 pub mod Parts
 pub mod Sites

@@ -1,9 +1,13 @@
 //! The constant that an expression stands for.
+ghost use Rattle.std.specs.Prelude.{◌≡◌};
 ghost use Rattle.std.specs.Option.{IfSome};
+ghost use Rattle.m2_base.specs.Rows.{is_same_place};
+ghost use Rattle.m2_base.specs.Standard.{text_type};
 ghost use Rattle.m2_base.specs.States.{State};
 ghost use Rattle.m2_base.specs.Statics.Constants.{constant_of, constant_or_refused as spec_constant};
 ghost use Rattle.m2_base.specs.Views.{expr_view};
 ghost use Rattle.const_eval.specs.Analyses.{Analysed};
+ghost use Rattle.const_eval.specs.NamedTexts.{IsNamedText};
 ghost use Rattle.m2_base.specs.Statics.ReadTrees.{IsReadExpr};
 ghost use Rattle.const_eval.specs.Sites.{IsOperand};
 ghost use Rattle.type_rules.specs.Sites.{SuitsSite};
@@ -11,19 +15,33 @@ ghost use Rattle.type_rules.specs.Sites.{SuitsSite};
 use crate::calls::fault_noted;
 use crate::expressions::value_in;
 use crate::faults::FaultKind;
-use m2_base::{Ask, Expr, Memory, Notes, Operand, Scopes, Site};
+use m2_base::{Ask, Expr, Memory, Notes, Operand, Place, Scopes, Site};
+use type_rules::TEXT;
 
-/// The constant; what is in error gives nothing more, anything else is no constant.
+/// Whether a type is that of strings.
+fn is_text(of: Place) -> bool
+    ensures { result ≡ is_same_place of text_type }
+{
+    of == TEXT
+}
+
+/// The constant; what is in error gives nothing more, anything else is no constant. No text asks for a constant of the type of
+/// strings that is no string.
 fn constant_or_refused(
     site: &Site,
     at: u32,
     operand: Operand,
     notes: &mut Notes,
 ) -> Result<Ask<Option<Operand>>, Memory>
-    ensures { (now : State) → IsOperand now.frame operand → Analysed now now notes.old notes.new site.now result (λ f constant. IfSome constant (λ operand. IsOperand f operand)) (λ c. spec_constant c at operand) }
+    ensures { (now : State) → IsOperand now.frame operand → Analysed now now notes.old notes.new site.now result (λ f constant. IfSome constant (λ operand. IsOperand f operand × IsNamedText f operand)) (λ c. spec_constant c at operand) }
 {
     match operand {
-        Operand::Constant(..) => Ok(Ask::Known(Some(operand))),
+        Operand::Constant(of, _) => {
+            if is_text(of) {
+                return Err(Memory);
+            }
+            Ok(Ask::Known(Some(operand)))
+        }
         Operand::StringConstant(..) => Ok(Ask::Known(Some(operand))),
         Operand::InError => Ok(Ask::Known(None)),
         _ => {
@@ -42,7 +60,7 @@ pub fn constant<S: Scopes>(
 ) -> Result<Ask<Option<Operand>>, Memory>
     requires suits { SuitsSite (S.state scopes.old).frame site.now }
     requires read { IsReadExpr site.now.texts.now.names (expr_view e.now) }
-    ensures { Analysed (S.state scopes.old) (S.state scopes.new) notes.old notes.new site.now result (λ f constant. IfSome constant (λ operand. IsOperand f operand)) (λ c. constant_of c (expr_view e.now)) }
+    ensures { Analysed (S.state scopes.old) (S.state scopes.new) notes.old notes.new site.now result (λ f constant. IfSome constant (λ operand. IsOperand f operand × IsNamedText f operand)) (λ c. constant_of c (expr_view e.now)) }
 {
     let operand = analysed!(value_in(scopes, site, e, notes));
     constant_or_refused(site, e.at, operand, notes)

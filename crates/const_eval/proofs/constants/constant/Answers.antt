@@ -1,6 +1,5 @@
 use Rattle.std.proofs.Common.{ℕ, ap, sym, ◌∙◌}
 use Rattle.m2_base.specs.Gives.{and_then}
-use Rattle.m2_base.specs.States.{Frame}
 use Rattle.m2_base.specs.Statics.Constants.{constant_or_refused, operand_in, value_wanted}
 use Rattle.m2_base.specs.Trees.{expr_at}
 use Rattle.m2_base.specs.Views.{expr_view}

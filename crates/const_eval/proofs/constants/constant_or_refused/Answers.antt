@@ -1,6 +1,8 @@
-use Rattle.std.proofs.Common.{◌≡◌, ◌∙◌, ℕ, ℤ, None, Ok, Option, Some, refl, ap, sym}
+use Rattle.std.proofs.Common.{◌≡◌, ◌∙◌, ℕ, ℤ, None, Ok, Option, Some, false, refl, true, ap, sym, subst}
 use Rattle.std.specs.Option.{IfSome}
 use Rattle.m2_base.specs.Gives.{gives}
+use Rattle.m2_base.specs.Rows.{is_same_place}
+use Rattle.m2_base.specs.Standard.{text_type}
 use Rattle.m2_base.specs.States.{Frame}
 use Rattle.m2_base.specs.Statics.Constants.{constant_or_refused}
 use Rattle.m2_base.specs.Statics.Contexts.{Context, refuse}
@@ -9,12 +11,14 @@ use Rattle.m2_base.specs.declared.operands.Operand.{Operand}
 use Rattle.m2_base.specs.declared.operands.Operand.TheVariants.{Constant, InError, StringConstant}
 use Rattle.m2_base.specs.declared.replies.Ask.TheVariants.{Known}
 use Rattle.m2_base.specs.declared.rows.Place.{Place}
+use Rattle.m2_base.proofs.Kept.{Works-refl}
+use Rattle.const_eval.specs.NamedTexts.{IsNamedText}
 use Rattle.const_eval.specs.Sites.{IsOperand}
 use Rattle.const_eval.proofs.Analysing.{and_after, described, failed, value_everywhere, waiting}
 use Rattle.const_eval.proofs.constants.constant_or_refused.Goals as goal
 
 abbrev MayStand : Frame → Option Operand → Type 0
-MayStand f constant = IfSome constant (λ operand. IsOperand f operand)
+MayStand f constant = IfSome constant (λ operand. IsOperand f operand × IsNamedText f operand)
 
 none_given : (c : Context) (at : ℕ) (o : Operand) → ((t : Place) (v : ℤ) → o ≡ Constant t v → ⊥) → ((n l : ℕ) → o ≡ StringConstant n l → ⊥) → (o ≡ InError → ⊥)
     → refuse {T = Option Operand} c at not_a_constant None ≡ constant_or_refused c at o
@@ -23,14 +27,28 @@ none_given c at (StringConstant n l) constant string in_error = absurd (string n
 none_given c at InError constant string in_error = absurd (in_error refl)
 none_given c at o constant string in_error = refl
 
-pub returns-in-Constant : goal.returns-in-Constant
-returns-in-Constant c now h =
-    value_everywhere now c.args.notes.now c.args.site.now (Some c.args.operand) MayStand (λ k. constant_or_refused k c.args.at c.args.operand) h
-    (λ k. ap (λ o. gives (Some o)) c.in-Constant.is ∙ ap (constant_or_refused k c.args.at) (sym c.in-Constant.is))
+true_not_false : true ≡ false → ⊥
+true_not_false e = absurd (cc)
+
+no_text : (f : Frame) (o : Operand) (t : Place) (v : ℤ) → o ≡ Constant t v → is_same_place t text_type ≡ false → IsNamedText f o
+no_text f o t v e other = subst (λ (u : Operand). IsNamedText f u) (sym e) (λ same. absurd (true_not_false (sym (ap (λ u. is_same_place u text_type) same) ∙ other)))
+
+named : (f : Frame) (o : Operand) (n l : ℕ) → o ≡ StringConstant n l → IsNamedText f o
+named f o n l e = subst (λ (u : Operand). IsNamedText f u) (sym e) tt
+
+pub returns-then-is_text : goal.returns-then-is_text
+returns-then-is_text c now h = record { works = Works-refl now c.args.notes.now; waits = tt; told = λ made in_hand told of_site. tt; there = tt }
+
+pub returns-else-is_text : goal.returns-else-is_text
+returns-else-is_text c now h =
+    value_everywhere now c.args.notes.now c.args.site.now (Some (Constant c.in-Constant.of c.in-Constant.field-1)) MayStand (λ k. constant_or_refused k c.args.at c.args.operand)
+    (subst (λ (u : Operand). IsOperand now.frame u) c.in-Constant.is h, no_text now.frame (Constant c.in-Constant.of c.in-Constant.field-1) c.in-Constant.of c.in-Constant.field-1 refl (sym c.is_text.ensures ∙ c.if-is_text.false))
+    (λ k. ap (constant_or_refused k c.args.at) (sym c.in-Constant.is))
 
 pub returns-in-StringConstant : goal.returns-in-StringConstant
 returns-in-StringConstant c now h =
-    value_everywhere now c.args.notes.now c.args.site.now (Some c.args.operand) MayStand (λ k. constant_or_refused k c.args.at c.args.operand) h
+    value_everywhere now c.args.notes.now c.args.site.now (Some c.args.operand) MayStand (λ k. constant_or_refused k c.args.at c.args.operand)
+    (h, named now.frame c.args.operand c.in-StringConstant.field-0 c.in-StringConstant.field-1 c.in-StringConstant.is)
     (λ k. ap (λ o. gives (Some o)) c.in-StringConstant.is ∙ ap (constant_or_refused k c.args.at) (sym c.in-StringConstant.is))
 
 pub returns-in-InError : goal.returns-in-InError

@@ -1,4 +1,4 @@
-use Rattle.std.proofs.Common.{◌≡◌, ◌∙◌, [], ℕ, List, None, Ok, Some, ap, arith, map, refl, rules, sym, to_z, w64}
+use Rattle.std.proofs.Common.{◌∙◌, [], ℕ, List, None, Ok, Some, ap, arith, map, refl, rules, sym, to_z, w64}
 use denote.Param.Weighed.{most}
 use Rattle.std.specs.Prelude.{option_map}
 use Rattle.m2_base.specs.Gives.{and_then, gives}

@@ -1,4 +1,4 @@
-use Rattle.std.proofs.Common.{Ok, [], map, take}
+use Rattle.std.proofs.Common.{Ok, [], take}
 use Rattle.m2_base.specs.Statics.Constants.{element_in, next_in, selector_in}
 use Rattle.m2_base.specs.Views.{expr_view, label_view, next_view, selector_view}
 use Rattle.m2_base.specs.declared.replies.Ask.TheVariants.{Known}
