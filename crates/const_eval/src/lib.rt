@@ -39,6 +39,7 @@ macro_rules! fault {
     };
 }
 
+mod constants;
 mod extremes;
 mod faults;
 mod functions;
@@ -54,6 +55,7 @@ mod sets;
 mod structures;
 mod values;
 
+pub use constants::constant;
 pub use extremes::{Extreme, extreme_of, size_value};
 pub use faults::{Fault, FaultKind};
 pub use functions::{abs_of, cap_of, chr_of, odd_of, ord_of, ordinal_type_argument, val_of};
