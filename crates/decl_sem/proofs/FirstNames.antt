@@ -117,7 +117,7 @@ known_before names rows s ss some plain ahead =
 
 -- ** Going on
 
-AreLaid-append : {names : List Named} {o : ℕ} {xs ys : List Shape} {rs qs : List Row} → AreLaid names o xs rs → AreLaid names (o + length rs) ys qs → AreLaid names o (xs ++ ys) (rs ++ qs)
+pub AreLaid-append : {names : List Named} {o : ℕ} {xs ys : List Shape} {rs qs : List Row} → AreLaid names o xs rs → AreLaid names (o + length rs) ys qs → AreLaid names o (xs ++ ys) (rs ++ qs)
 AreLaid-append {names} {o} {ys = ys} {qs = qs} none_laid h = subst (λ m. AreLaid names m ys qs) (let e : o + 0 ≡ o = omega arith in e) h
 AreLaid-append {names} {o} {ys = ys} {qs = qs} (more_laid {rs = rs} l more) h =
     more_laid l (AreLaid-append more (subst (λ m. AreLaid names m ys qs) (let e : o + suc (length rs) ≡ o + 1 + length rs = omega arith in e) h))

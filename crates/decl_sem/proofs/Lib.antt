@@ -1,8 +1,10 @@
 pub mod Alone
 pub mod FirstNames
+pub mod Hands
 pub mod ItemShapes
 pub mod MakingOn
 pub mod ManyItems
 pub mod Namings
 pub mod NextRows
+pub mod Pieces
 pub mod TypeShapes

@@ -1,5 +1,7 @@
 pub mod Closing
 pub mod LaidRows
 pub mod Making
+pub mod Pieces
 pub mod Progress
+pub mod ReadTypes
 pub mod Shapes

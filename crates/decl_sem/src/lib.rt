@@ -12,6 +12,7 @@ mod making;
 mod shapes;
 #[cfg(test)]
 mod tests;
+mod types;
 
 pub use closing::close_check;
 pub use layouts::layout;
