@@ -1,4 +1,5 @@
 pub mod Alone
+pub mod Constants
 pub mod FirstNames
 pub mod Hands
 pub mod ItemShapes
@@ -6,5 +7,6 @@ pub mod MakingOn
 pub mod ManyItems
 pub mod Namings
 pub mod NextRows
+pub mod OneRows
 pub mod Pieces
 pub mod TypeShapes

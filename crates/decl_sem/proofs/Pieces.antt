@@ -1,7 +1,9 @@
 -- Pieces of an item, one after another.
 use Rattle.std.specs.Prelude.{◌≡◌, ◌≢◌, ℕ, suc, ◌+◌, ◌<◌, ◌≤◌, ◌==◌, ◌^◌, Bool, true, false, if◌then◌else◌, List, [], ◌∷◌, ◌++◌, length, Option, None, Some, Result, Ok, Err}
 use Rattle.std.proofs.Common.{refl, sym, ap, ◌∙◌, subst, arith}
-use Rattle.std.proofs.lemmas.List.{append_assoc, append-nil, append_cancel_left, length-append}
+use Rattle.std.proofs.lemmas.List.{append_assoc, append-nil, length-append}
+use Rattle.std.specs.declared.alloc.Global.{Global}
+use Rattle.std.specs.declared.vec.Vec.{Vec}
 use Rattle.m2_base.specs.Asks.{IfKnown, IfWaits}
 use Rattle.m2_base.specs.Finished.{IsTold}
 use Rattle.m2_base.specs.Gives.{Adds, Gives}
@@ -23,13 +25,14 @@ use Rattle.m2_base.specs.declared.sites.Site.{Site}
 use Rattle.m2_base.proofs.Kept.{IsPrefixOf-refl, Waits_after, Works-kept, Works-refl, Works-trans}
 use Rattle.type_rules.specs.Asks.{Reads, WhereKnown, WhereWaiting}
 use Rattle.type_rules.specs.Scenes.{AreInHand, NamesNoType, WhereTold}
-use Rattle.type_rules.specs.Sites.{SuitsSite, context_of}
-use Rattle.decl_sem.specs.LaidRows.{AreLaid, none_laid, more_laid, IsAhead, IsLaid}
+use Rattle.type_rules.specs.Sites.{AreOfSite, SuitsSite, context_of}
+use Rattle.const_eval.specs.Analyses.{Analysed}
+use Rattle.decl_sem.specs.LaidRows.{AreLaid, HasFirsts, IsAhead, IsLaid, none_laid, more_laid}
 use Rattle.decl_sem.specs.Making.{MakesAll, next_ordinal}
 use Rattle.decl_sem.specs.Pieces.{AreNewRows, BeginsAt, Declares, Grown, IsMaking, IsNewRow, IsOwned, WhereMaking, item_end}
 use Rattle.decl_sem.specs.declared.making.Made.{Made}
 use Rattle.decl_sem.proofs.FirstNames.{AreLaid-append, gone_on}
-use Rattle.decl_sem.proofs.Hands.{hand_with, hand_none, in_hand}
+use Rattle.decl_sem.proofs.Hands.{hand_with, hand_none, in_hand, of_this_site}
 use Rattle.decl_sem.proofs.MakingOn.{makes_none, makes_then}
 
 -- ** Rows that are added
@@ -113,6 +116,11 @@ waits_on : {U : Type 0} {a b : State} (d : State) {x y : Notes} (answer : Result
 waits_on d (Ok (Known v)) w h = tt
 waits_on d (Ok (DontKnowYet head)) w h = Waits_after w.keeps h
 waits_on d (Err m) w h = tt
+
+if_any : {U : Type 0} {G : Type 0} (answer : Result (Ask U) Memory) → G → IfKnown answer (λ v. G)
+if_any (Ok (Known v)) h = h
+if_any (Ok (DontKnowYet head)) h = tt
+if_any (Err m) h = tt
 
 if_known : {U : Type 0} (P Q : U → Type 0) (answer : Result (Ask U) Memory) → ((v : U) → P v → Q v) → IfKnown answer P → IfKnown answer Q
 if_known P Q (Ok (Known v)) f h = f v h
@@ -219,3 +227,126 @@ module _ {T U : Type 0} {a b d : State} {x y z : Made} {s : Site} {ss ts : List 
           let same_rows : hand ++ (g c).rows ≡ y.rows.items = ap (λ rows. rows ++ (g c).rows) same ∙ sym m.rows in
           let r = later (hand ++ (g c).rows) (subst (λ (rows : List Row). AreInHand a.frame rows) (sym same_rows) after) told same_rows in
           if_known _ _ answer (λ w n. makes_then c (g c) (λ e u. h u e) m (subst (λ (k : Context). MakesAll y z (h v k) w) (sym (hand_with hand (g c).rows making.suits told)) n)) r
+
+-- the front of what is ahead
+pub making_front : {f : Frame} {s : Site} {x : Made} (ss ts : List Shape) → IsMaking f s x (ss ++ ts) → IsMaking f s x ss
+making_front {f} {s} {x} ss ts h =
+    record {
+      suits = h.suits;
+      small = h.small;
+      begun = h.begun;
+      item = h.item;
+      of_item = h.of_item;
+      begins = h.begins;
+      count = h.count;
+      entered = h.entered;
+      types = h.types;
+      rows = h.rows;
+      ahead = record {
+        before = h.ahead.before;
+        rest = ts ++ h.ahead.rest;
+        laid = h.ahead.laid;
+        firsts = subst (λ shapes. HasFirsts s.layout.now.names shapes) (ap (λ zs. h.ahead.before ++ zs) (append_assoc ss ts h.ahead.rest)) h.ahead.firsts;
+      };
+      room = let l = length-append ss ts in let r = h.room in omega arith;
+      few = h.few;
+    }
+
+-- ** Questions and analyses
+
+-- what a question answers
+pub asked : {T : Type 0} {a b : State} (x : Made) (s : Site) (answer : Ask T) (Q : Frame → ℕ → T → Type 0) (f : Context → T)
+    → Reads a b → WhereWaiting answer (λ head. Waits a b head) → WhereMaking a.frame x (λ hand. WhereKnown answer (λ v. v ≡ f (context_of a.frame hand s)))
+    → WhereKnown answer (λ v. Q a.frame (next_ordinal x) v) → Declares a b x x s (Ok answer) [] Q (λ c. makes (f c))
+asked {T} {a} {b} x s (Known v) Q f reads waits told there =
+    record {
+      works = Works-kept x.notes x.notes reads.keeps refl (IsPrefixOf-refl x.notes.diags.items);
+      waits = tt;
+      first = refl;
+      grown = grown_none a.frame s x;
+      told = λ hand in_hand t same. subst (λ (w : T). MakesAll x x (makes w) v) (told hand in_hand t same) (makes_none x v);
+      there = there;
+    }
+asked x s (DontKnowYet head) Q f reads waits told there =
+    record {
+      works = Works-kept x.notes x.notes reads.keeps refl (IsPrefixOf-refl x.notes.diags.items);
+      waits = waits;
+      first = refl;
+      grown = tt;
+      told = λ hand in_hand t same. tt;
+      there = tt;
+    }
+
+-- an analysis with its own notes
+pub analysed : {T : Type 0} {a b : State} {x y : Made} {s : Site} (answer : Result (Ask T) Memory) {P : Frame → T → Type 0} {Q : Frame → ℕ → T → Type 0} {g : Context → Gives T} {ss : List Shape}
+    → IsMaking a.frame s x ss → y.rows ≡ x.rows → y.first ≡ x.first → ((v : T) → P a.frame v → Q a.frame (next_ordinal y) v)
+    → Analysed a b x.notes y.notes s answer P g → Declares a b x y s answer [] Q (λ c. only_gives (g c))
+analysed {T} {a} {b} {x} {y} {s} answer {P} {Q} {g} making rows first stands p =
+    record {
+      works = p.works;
+      waits = p.waits;
+      first = first;
+      grown = if_any answer (record { rows = []; more = ap (λ (v : Vec Row Global). v.items) rows ∙ sym (append-nil x.rows.items); laid = none_laid; new = tt });
+      told = λ hand in_hand t same. if_known _ _ answer (λ v m. record { value_is = m.value_is; rows = ap (λ (v : Vec Row Global). v.items) rows ∙ sym (append-nil x.rows.items); diags = m.diags; answers = m.answers })
+          (p.told hand in_hand t (subst (λ (rows : List Row). AreOfSite s rows) (sym same) (of_this_site making)));
+      there = if_known _ _ answer stands p.there;
+    }
+
+module _ {T U : Type 0} {a b d : State} {x z : Made} {s : Site} {ts : List Shape} {P : Frame → ℕ → T → Type 0} {Q : Frame → ℕ → U → Type 0} (f : Context → T) (h : T → Context → Makes U) where
+  -- a question, and what comes after it
+  pub asked_then : {v : T} (answer : Result (Ask U) Memory) → IsMaking a.frame s x ts → Declares a b x x s (Ok (Known v)) [] P (λ c. makes (f c)) → Declares b d x z s answer ts Q (h v)
+      → Declares a d x z s answer ts Q (λ c. h (f c) c)
+  asked_then {v} answer making p q =
+      described answer (λ c. h (f c) c) (then_after (λ c. makes (f c)) h answer tt making p q)
+      (λ hand in_hand told same. ap (λ (k : Context). h (f (context_of a.frame hand s)) k) (hand_none hand making.suits told))
+
+-- ** The rest of a whole
+
+-- What is made of a whole so far: whatever the rest makes from here on, they make together.
+pub record GoesOn {U : Type 0} (a b : State) (x y : Made) (s : Site) (whole rest : List Shape) (Q : Frame → ℕ → U → Type 0) (g h : Context → Makes U) : Type 0 where
+  pub making : IsMaking b.frame s y rest
+  pub on : (d : State) (z : Made) (answer : Result (Ask U) Memory) → Declares b d y z s answer rest Q h → Declares a d x z s answer whole Q g
+
+pub goes_start : {U : Type 0} {a : State} {x : Made} {s : Site} {whole : List Shape} {Q : Frame → ℕ → U → Type 0} {g : Context → Makes U} → IsMaking a.frame s x whole → GoesOn a a x x s whole whole Q g g
+goes_start making = record { making = making; on = λ d z answer p. p }
+
+module _ {T U : Type 0} {a b d : State} {x y z : Made} {s : Site} {whole ss ts : List Shape} {P : Frame → ℕ → T → Type 0} {Q : Frame → ℕ → U → Type 0} {g : Context → Makes U} (p : Context → Makes T) (h : T → Context → Makes U) where
+  -- one more piece
+  pub goes_step : {v : T} → AreNoTypes ss → GoesOn a b x y s whole (ss ++ ts) Q g (λ c. make_then c (p c) (λ e u. h u e)) → Declares b d y z s (Ok (Known v)) ss P p → GoesOn a d x z s whole ts Q g (h v)
+  goes_step none so q =
+      record {
+        making = making_on none so.making q;
+        on = λ k w answer r. so.on k w answer (then_after p h answer none so.making q r);
+      }
+
+module _ {T U : Type 0} {a b d : State} {x y : Made} {s : Site} {whole ts : List Shape} {P : Frame → ℕ → T → Type 0} {Q : Frame → ℕ → U → Type 0} {g : Context → Makes U} (f : Context → T) (h : T → Context → Makes U) where
+  -- one more question
+  pub goes_ask : {v : T} → GoesOn a b x y s whole ts Q g (λ c. h (f c) c) → Declares b d y y s (Ok (Known v)) [] P (λ c. makes (f c)) → GoesOn a d x y s whole ts Q g (h v)
+  goes_ask so q =
+      record {
+        making = making_on {ss = []} tt so.making q;
+        on = λ k w answer r. so.on k w answer (asked_then f h answer so.making q r);
+      }
+
+module _ {T U : Type 0} {a b d : State} {x y z : Made} {s : Site} {whole ss ts : List Shape} {P : Frame → ℕ → T → Type 0} {Q : Frame → ℕ → U → Type 0} {g h : Context → Makes U} {p : Context → Makes T} where
+  -- want of memory in a piece
+  pub goes_failed : {m : Memory} → GoesOn a b x y s whole ts Q g h → Declares b d y z s (Err m) ss P p → (n : Memory) → Declares a d x z s (Err n) whole Q g
+  goes_failed so q n = so.on d z (Err n) (failed q n)
+
+  -- what isn't known yet of a piece
+  pub goes_waiting : {head : Head} → GoesOn a b x y s whole ts Q g h → Declares b d y z s (Ok (DontKnowYet head)) ss P p → Declares a d x z s (Ok (DontKnowYet head)) whole Q g
+  goes_waiting {head} so q = so.on d z (Ok (DontKnowYet head)) (waiting q)
+
+-- nothing is left
+pub goes_end : {U : Type 0} {a b : State} {x y : Made} {s : Site} {whole : List Shape} {Q : Frame → ℕ → U → Type 0} {g : Context → Makes U} (v : U)
+    → GoesOn a b x y s whole [] Q g (λ c. makes v) → Q b.frame (next_ordinal y) v → Declares a b x y s (Ok (Known v)) whole Q g
+goes_end {b = b} {y = y} {s = s} {Q = Q} v so h = so.on b y (Ok (Known v)) (value_alone b y s v Q h)
+
+-- the rest, described otherwise
+pub goes_as : {U : Type 0} {a b : State} {x y : Made} {s : Site} {whole rest : List Shape} {Q : Frame → ℕ → U → Type 0} {g h : Context → Makes U} (ts : List Shape) (k : Context → Makes U)
+    → rest ≡ ts → WhereMaking b.frame y (λ hand. k (context_of b.frame hand s) ≡ h (context_of b.frame hand s)) → GoesOn a b x y s whole rest Q g h → GoesOn a b x y s whole ts Q g k
+goes_as {b = b} {y = y} {s = s} {h = h} ts k e same so =
+    record {
+      making = subst (λ shapes. IsMaking b.frame s y shapes) e so.making;
+      on = λ d z answer p. so.on d z answer (described answer h (reshaped answer _ (sym e) p) same);
+    }

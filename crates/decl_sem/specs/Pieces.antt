@@ -3,10 +3,10 @@
 use Rattle.std.specs.Prelude.{◌≡◌, ◌≢◌, ℕ, ◌+◌, ◌<◌, ◌≤◌, ◌^◌, false, List, [], ◌∷◌, ◌++◌, length, slice_index_or, Option, Some, None, Result, Ok, Err}
 use Rattle.m2_base.specs.Asks.{IfKnown, IfWaits}
 use Rattle.m2_base.specs.Lists.{Each}
-use Rattle.m2_base.specs.Rows.{at_place, row_meaning}
+use Rattle.m2_base.specs.Rows.{Fits, HasSmallOrdinals, HasSmallScopes, at_place, numbers_of, row_meaning}
 use Rattle.m2_base.specs.States.{Frame, State, Waits, Works}
 use Rattle.m2_base.specs.Statics.Contexts.{Context}
-use Rattle.m2_base.specs.Statics.FormedRows.{IsRight}
+use Rattle.m2_base.specs.Statics.FormedRows.{IsFilled, IsRight}
 use Rattle.m2_base.specs.Statics.Lookup.{first_entry}
 use Rattle.m2_base.specs.Statics.Makes.{Makes}
 use Rattle.m2_base.specs.Statics.Shapes.{Shape}
@@ -57,9 +57,26 @@ pub record IsBehind (f : Frame) (next : ℕ) (p : Place) : Type 0 where
   pub scope : p.scope ≤ f.setting.fills
   pub before : p.scope ≡ f.setting.fills → p.ordinal < next
 
+-- a type in hand of the own scope
+pub record IsOwnType (f : Frame) (next : ℕ) (p : Place) : Type 0 where
+  pub own : p.scope ≡ f.setting.fills
+  pub behind : IsBehind f next p
+
 -- any value may stand
 abbrev pub IsAny : {T : Type 0} → Frame → (next : ℕ) → T → Type 0
 IsAny f next v = Unit {0}
+
+-- A meaning for the row in hand with this ordinal: the row will be right, and its places can be named by numbers.
+pub record IsNewMeaning (f : Frame) (s : Site) (o : ℕ) (m : RowMeaning) : Type 0 where
+  pub small : HasSmallOrdinals m
+  pub scopes : HasSmallScopes m
+  pub fits : Fits (length f.setting.texts.names) (at_place f.setting.fills o) m
+  pub filled : IsFilled m
+  pub owned : IsOwned (item_end s) m
+
+-- the kind of the rows of a meaning
+abbrev pub kind_number : RowMeaning → ℕ
+kind_number m = (numbers_of m).0
 
 -- ** What making a piece needs
 

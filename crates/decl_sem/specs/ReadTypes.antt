@@ -2,7 +2,10 @@
 -- expressions were read.
 use Rattle.std.specs.Prelude.{◌≢◌, ℕ, ◌<◌, List, length, Option, Some, None}
 use Rattle.m2_base.specs.Lists.{Each}
-use Rattle.m2_base.specs.Trees.{Formal, Ident, Qual, TypeExpr, type_expr, TypeForm, named_type, enum_type, sub_type, array_type, record_type, set_type, pointer_type, proc_type, TypeExprs, no_types, more_types, FieldList, plain_fields, case_fields, FieldLists, no_fields, more_fields, VariantArm, variant_arm, VariantArms, no_variant_arms, more_variant_arms}
+use Rattle.m2_base.specs.Trees.{TypeExpr, type_expr, TypeForm, named_type, enum_type, sub_type, array_type, record_type, set_type, pointer_type, proc_type, TypeExprs, no_types, more_types, FieldList, plain_fields, case_fields, FieldLists, no_fields, more_fields, VariantArm, variant_arm, VariantArms, no_variant_arms, more_variant_arms}
+use Rattle.m2_base.specs.declared.trees.Ident.{Ident}
+use Rattle.m2_base.specs.declared.trees.Qual.{Qual}
+use Rattle.m2_base.specs.declared.trees.types.Formal.{Formal}
 use Rattle.const_eval.specs.ReadTrees.{AreReadLabels, IsReadExpr}
 
 -- a name

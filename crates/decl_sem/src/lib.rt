@@ -6,6 +6,7 @@
 #![tactic(auto)]
 
 mod closing;
+mod enumerations;
 mod kinds;
 mod layouts;
 mod making;
