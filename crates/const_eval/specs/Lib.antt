@@ -2,6 +2,7 @@ pub mod Analyses
 pub mod Ends
 pub mod Extremes
 pub mod Judgements
+pub mod NamedTexts
 pub mod Numbers
 pub mod ReadTrees
 pub mod Sites

@@ -3,6 +3,7 @@ ghost use Rattle.std.specs.Option.{IfSome};
 ghost use Rattle.m2_base.specs.Statics.Constants.{constant_of};
 ghost use Rattle.m2_base.specs.Views.{expr_view};
 ghost use Rattle.const_eval.specs.Analyses.{Analysed};
+ghost use Rattle.const_eval.specs.NamedTexts.{IsNamedText};
 ghost use Rattle.const_eval.specs.ReadTrees.{IsReadExpr};
 ghost use Rattle.const_eval.specs.Sites.{IsOperand};
 ghost use Rattle.type_rules.specs.Sites.{SuitsSite};
@@ -18,7 +19,7 @@ pub fn constant<S: Scopes>(
 ) -> Result<Ask<Option<Operand>>, Memory>
     requires suits { SuitsSite (S.state _scopes.old).frame site.now }
     requires read { IsReadExpr site.now.texts.now.names (expr_view e.now) }
-    ensures { Analysed (S.state _scopes.old) (S.state _scopes.new) notes.old notes.new site.now result (λ f constant. IfSome constant (λ operand. IsOperand f operand)) (λ c. constant_of c (expr_view e.now)) }
+    ensures { Analysed (S.state _scopes.old) (S.state _scopes.new) notes.old notes.new site.now result (λ f constant. IfSome constant (λ operand. IsOperand f operand × IsNamedText f operand)) (λ c. constant_of c (expr_view e.now)) }
 {
     Err(Memory)
 }

@@ -2,6 +2,7 @@ pub mod Alone
 pub mod Constants
 pub mod FirstNames
 pub mod Hands
+pub mod HeadingSums
 pub mod ItemShapes
 pub mod MakingOn
 pub mod ManyItems
@@ -9,4 +10,6 @@ pub mod Namings
 pub mod NextRows
 pub mod OneRows
 pub mod Pieces
+pub mod SizesInHand
 pub mod TypeShapes
+pub mod VariableLists

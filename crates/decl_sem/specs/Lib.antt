@@ -5,3 +5,4 @@ pub mod Pieces
 pub mod Progress
 pub mod ReadTypes
 pub mod Shapes
+pub mod Variables

@@ -5,15 +5,19 @@
 //! (`specs/Statics`). When a block's scope is complete, its closing name is checked (`close_check`).
 #![tactic(auto)]
 
+mod cells;
 mod closing;
 mod enumerations;
+mod heading_sizes;
 mod kinds;
 mod layouts;
 mod making;
+mod meanings;
 mod shapes;
 #[cfg(test)]
 mod tests;
 mod types;
+mod variables;
 
 pub use closing::close_check;
 pub use layouts::layout;
