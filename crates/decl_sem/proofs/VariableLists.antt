@@ -81,13 +81,13 @@ module _ {a : State} {s : Site} {before now : Made} {of : Place} {size first : �
   pub this_making : IsMaking a.frame s now (named var_kind i ∷ [])
   this_making = making_front (named var_kind i ∷ []) (shapes (drop (k + 1) names)) variables_at.making
 
-  pub this_meaning : of.ordinal < 2 ^ 32 → IsBehind a.frame (next_ordinal before) of → IsNewMeaning a.frame s (next_ordinal now) (Var of Plain cell)
-  this_meaning ordinal behind =
+  pub this_meaning : IsBehind a.frame (next_ordinal before) of → IsNewMeaning a.frame s (next_ordinal now) (Var of Plain cell)
+  this_meaning behind =
       let here = behind_more so.count behind in
       record {
-        small = ordinal;
+        small = behind.small;
         scopes = small_scope this_making here;
-        fits = (before_next ordinal here, let n = so.cell_is in omega arith);
+        fits = (before_next here, let n = so.cell_is in omega arith);
         filled = tt;
         owned = tt;
       }
