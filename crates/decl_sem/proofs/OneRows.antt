@@ -44,15 +44,15 @@ same_or_not m n = go (m == n) refl
 pub small_scope : {f : Frame} {s : Site} {x : Made} {ss : List Shape} {next : ℕ} {p : Place} → IsMaking f s x ss → IsBehind f next p → IsSmallScope p
 small_scope making h = let a = making.small in let b = h.scope in omega arith
 
-pub before_next : {f : Frame} {next : ℕ} {p : Place} → p.ordinal < 2 ^ 32 → IsBehind f next p → IsBefore p (at_place f.setting.fills next)
-before_next {f} {next} {p} small h = go (same_or_not p.scope f.setting.fills)
+pub before_next : {f : Frame} {next : ℕ} {p : Place} → IsBehind f next p → IsBefore p (at_place f.setting.fills next)
+before_next {f} {next} {p} h = go (same_or_not p.scope f.setting.fills)
   where
     go : (p.scope ≡ f.setting.fills) ⊎ (p.scope ≢ f.setting.fills) → IsBefore p (at_place f.setting.fills next)
     go (inl e) = let b = h.before e in omega arith
-    go (inr n) = let a = h.scope in omega (arith, a, n, small)
+    go (inr n) = let a = h.scope in let small = h.small in omega (arith, a, n, small)
 
 pub behind_more : {f : Frame} {m n : ℕ} {p : Place} → m ≤ n → IsBehind f m p → IsBehind f n p
-behind_more h b = record { scope = b.scope; before = λ e. let k = b.before e in omega (arith, h, k) }
+behind_more h b = record { small = b.small; scope = b.scope; before = λ e. let k = b.before e in omega (arith, h, k) }
 
 -- ** The row
 
@@ -104,6 +104,7 @@ one_piece {s} {x} {y} shape row g (Ok place) a made rows is answers diags first 
       told = made;
       there = subst (λ (p : Place). IsBehind a.frame (next_ordinal y) p) (sym is)
           (record {
+            small = let r = making.room in let b = making.few in omega arith;
             scope = let e = making.suits.around.fills in omega arith;
             before = λ e. let l = length-append x.rows.items (row ∷ []) in let n = ap length rows in omega arith;
           });

@@ -133,6 +133,14 @@ if_known P Q (Err m) f h = tt
 abbrev pub AreNoTypes : List Shape → Type 0
 AreNoTypes shapes = Each (λ s. s.kind ≢ type_name_kind) shapes
 
+-- a shape of another kind
+pub not_a_type : (shape : Shape) → (shape.kind == type_name_kind) ≡ false → AreNoTypes (shape ∷ [])
+not_a_type shape other = ((λ e. let h : (shape.kind == type_name_kind) ≡ true = grind (arith, e) in let bad : true ≡ false = sym h ∙ other in absurd (cc)), tt)
+
+pub no_types-append : (xs ys : List Shape) → AreNoTypes xs → AreNoTypes ys → AreNoTypes (xs ++ ys)
+no_types-append [] ys h k = k
+no_types-append (x ∷ xs) ys h k = (h.0, no_types-append xs ys h.1 k)
+
 unless : (b : Bool) (m n : RowMeaning) → NamesNoType m → NamesNoType n → NamesNoType (if b then m else n)
 unless true m n h k = h
 unless false m n h k = k

@@ -54,6 +54,7 @@ AreNewRows f limit o (r ∷ rows) = IsNewRow f limit o r × AreNewRows f limit (
 -- A type stands before the row with this ordinal: its scope isn't above the block's, and in the own scope it is entered or in
 -- hand.
 pub record IsBehind (f : Frame) (next : ℕ) (p : Place) : Type 0 where
+  pub small : p.ordinal < 2 ^ 32
   pub scope : p.scope ≤ f.setting.fills
   pub before : p.scope ≡ f.setting.fills → p.ordinal < next
 

@@ -26,7 +26,7 @@ fn make_constants(
 {
     for (value, name) in names.iter().enumerate() {
         let meaning = RowMeaning::Const(of, value as i64, 0);
-        put_named(site, made, *name, meaning)?;
+        put!(put_named(site, made, *name, meaning));
     }
     Ok(of)
 }
@@ -43,6 +43,6 @@ pub(crate) fn make_enumeration(
     ensures { (a : State) → IsMaking a.frame site.now made.old (form_shapes at (enum_type names.now)) → AreReadNames a.frame.setting.texts.names names.now → Declares a a made.old made.new site.now (known_of result) (form_shapes at (enum_type names.now)) IsBehind (λ c. form_rows c at (enum_type names.now)) }
 {
     let count = names.len() as u32;
-    let of = put_plain(site, made, at, RowMeaning::Enum(count))?;
+    let of = put!(put_plain(site, made, at, RowMeaning::Enum(count)));
     make_constants(site, made, of, names)
 }
