@@ -1,10 +1,11 @@
 -- The sizes of a heading, section after section.
-use Rattle.std.specs.Prelude.{◌≡◌, ℕ, ◌+◌, ◌<◌, List, [], ◌∷◌, length, drop, map, get_or}
-use Rattle.std.proofs.Common.{refl, sym, ap, ◌∙◌, arith, drop-cons}
+use Rattle.std.specs.Prelude.{◌≡◌, ℕ, ◌+◌, ◌<◌, List, [], ◌∷◌, length, drop, map}
+use Rattle.std.proofs.Common.{refl, sym, ap, ◌∙◌, arith, get_or}
 use Rattle.m2_base.specs.Statics.ProcedureRows.{parameter_cells, parameter_count, section_cells, sections_length}
 use Rattle.m2_base.specs.Statics.Shapes.{section_shapes}
 use Rattle.m2_base.specs.Views.{section_view}
 use Rattle.m2_base.specs.declared.trees.declarations.Section.{Section}
+use Rattle.decl_sem.proofs.VariableLists.{next_left, none_left}
 use Rattle.decl_sem.specs.declared.heading_sizes.HeadingSizes.{HeadingSizes}
 
 -- the sizes are those of the first k sections
@@ -14,19 +15,15 @@ pub record IsSumUpTo (s : HeadingSizes) (sections : List Section) (k : ℕ) : Ty
   pub rows : s.rows + sections_length (map section_view (drop k sections)) ≡ sections_length (map section_view sections)
 
 -- of one more section
-pub one_more : (s t : HeadingSizes) (sections : List Section) (k : ℕ) (x : Section) → k < length sections → get_or sections k x ≡ x
-    → t.count ≡ s.count + length x.names.items → t.cells ≡ s.cells + section_cells (section_view x) → t.rows ≡ s.rows + length (section_shapes (section_view x))
+pub one_more : (s t : HeadingSizes) (sections : List Section) (k : ℕ) (d : Section) → k < length sections
+    → t.count ≡ s.count + length (get_or sections k d).names.items → t.cells ≡ s.cells + section_cells (section_view (get_or sections k d)) → t.rows ≡ s.rows + length (section_shapes (section_view (get_or sections k d)))
     → IsSumUpTo s sections k → IsSumUpTo t sections (k + 1)
-one_more s t sections k x h here count cells rows so =
-    let e : drop k sections ≡ x ∷ drop (k + 1) sections = drop-cons sections k x h ∙ ap (λ (y : Section). y ∷ drop (k + 1) sections) here in
+one_more s t sections k d h count cells rows so =
+    let e = next_left sections k d h in
     let count' = ap (λ (ss : List Section). parameter_count (map section_view ss)) e in
     let cells' = ap (λ (ss : List Section). parameter_cells (map section_view ss)) e in
     let rows' = ap (λ (ss : List Section). sections_length (map section_view ss)) e in
     record { count = omega (arith, so.count); cells = omega (arith, so.cells); rows = omega (arith, so.rows) }
-
-none_left : {A : Type 0} (xs : List A) → drop (length xs) xs ≡ []
-none_left [] = refl
-none_left (x ∷ xs) = none_left xs
 
 -- of all sections
 pub all_counted : (s : HeadingSizes) (sections : List Section) → IsSumUpTo s sections (length sections) → s.count ≡ parameter_count (map section_view sections)

@@ -1,5 +1,6 @@
 pub mod Alone
 pub mod Constants
+pub mod ConstantRows
 pub mod FirstNames
 pub mod Hands
 pub mod HeadingSums
@@ -8,6 +9,7 @@ pub mod MakingOn
 pub mod ManyItems
 pub mod Namings
 pub mod NextRows
+pub mod NoTypeNames
 pub mod OneRows
 pub mod Pieces
 pub mod SizesInHand

@@ -125,5 +125,5 @@ in_hand_more {f} {s} {x} hand more making same types =
 pub size_entered : {f : Frame} {s : Site} {x : Made} {ss : List Shape} (t : Place) (answer : Ask ℕ) → IsMaking f s x ss
     → WhereTold f (λ made. WhereKnown answer (λ size. size ≡ size_of (context_of f made s).scene t))
     → WhereMaking f x (λ hand. WhereKnown answer (λ size. (more : List Row) → Each (λ r. NamesNoType (row_meaning r)) more → size ≡ size_of (context_of f (hand ++ more) s).scene t))
-size_entered t (Known size) making all hand in_hand told same more types = all (hand ++ more) (in_hand_more hand more making same types) told
+size_entered t (Known size) making all hand in_hand told same = λ more types. all (hand ++ more) (in_hand_more hand more making same types) told
 size_entered t (DontKnowYet head) making all hand in_hand told same = tt

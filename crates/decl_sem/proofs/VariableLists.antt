@@ -43,6 +43,10 @@ use Rattle.decl_sem.proofs.Pieces.{GoesOn, asked, asked_then, described, goes_as
 abbrev pub shapes : List Ident → List Shape
 shapes names = map (named var_kind) names
 
+-- what stands for a name past the last
+abbrev pub no_ident : Ident
+no_ident = record { name = 0; at = 0 }
+
 -- ** In a loop
 
 -- the first k of the variables are made, and the next cell is this one
@@ -61,19 +65,22 @@ read_at texts (x ∷ xs) zero d h all = all.0
 read_at texts (x ∷ xs) (suc k) d h all = read_at texts xs k d (omega (arith, h)) all.1
 
 -- the names from the next on
-pub next_left : (xs : List Ident) (k : ℕ) (i : Ident) → k < length xs → i ≡ get_or xs k i → drop k xs ≡ i ∷ drop (k + 1) xs
-next_left xs k i h is =
+pub next_left : {A : Type 0} (xs : List A) (k : ℕ) (d : A) → k < length xs → drop k xs ≡ get_or xs k d ∷ drop (k + 1) xs
+next_left xs k d h =
     let e : suc k ≡ k + 1 = omega arith in
-    drop-cons xs k i h ∙ ap (λ (j : Ident). j ∷ drop (suc k) xs) (sym is) ∙ ap (λ (n : ℕ). i ∷ drop n xs) e
+    drop-cons xs k d h ∙ ap (λ (n : ℕ). get_or xs k d ∷ drop n xs) e
 
 pub none_left : {A : Type 0} (xs : List A) → drop (length xs) xs ≡ []
 none_left [] = refl
 none_left (x ∷ xs) = none_left xs
 
-module _ {a : State} {s : Site} {before now : Made} {of : Place} {size first : ℕ} {names : List Ident} {cell : ℕ} (k : ℕ) (i : Ident) (h : k < length names) (is : i ≡ get_or names k i) (so : HasVariables a s before now of size first names k cell) where
+module _ {a : State} {s : Site} {before now : Made} {of : Place} {size first : ℕ} {names : List Ident} {cell : ℕ} (k : ℕ) (d : Ident) (h : k < length names) (so : HasVariables a s before now of size first names k cell) where
+  abbrev i : Ident
+  i = get_or names k d
+
   variables_at : GoesOn a a before now s (shapes names) (named var_kind i ∷ shapes (drop (k + 1) names)) IsCell (λ c. sized_rows c of size first names) (λ c. sized_rows c of size cell (i ∷ drop (k + 1) names))
   variables_at =
-      let e = next_left names k i h is in
+      let e = next_left names k d h in
       goes_as (named var_kind i ∷ shapes (drop (k + 1) names)) (λ c. sized_rows c of size cell (i ∷ drop (k + 1) names)) (ap shapes e)
       (λ hand in_hand told same. ap (λ (xs : List Ident). sized_rows (context_of a.frame hand s) of size cell xs) (sym e)) so.on
 
@@ -170,9 +177,9 @@ size_asked {a} {b} {x} {s} t size reads is =
     (λ hand in_hand told same. is hand in_hand told same [] tt ∙ ap (λ (rows : List Row). size_of (context_of a.frame rows s).scene t) (append-nil hand)) tt
 
 -- variables of a type, after the question for its size
-pub of_this_size : {a b : State} {x z : Made} {s : Site} {t : Place} {cell : ℕ} {names : List Ident} (size : ℕ) (answer : Result (Ask ℕ) Memory) → IsMaking a.frame s x (shapes names) → Reads a b → IsSizeOf a.frame x s t size
+pub of_this_size : {a b : State} {x z : Made} {s : Site} (t : Place) (cell : ℕ) (names : List Ident) (size : ℕ) (answer : Result (Ask ℕ) Memory) → IsMaking a.frame s x (shapes names) → Reads a b → IsSizeOf a.frame x s t size
     → Declares b b x z s answer (shapes names) IsCell (λ c. sized_rows c t size cell names) → Declares a b x z s answer (shapes names) IsCell (λ c. var_rows c t cell names)
-of_this_size {a} {b} {x} {z} {s} {t} {cell} {names} size answer making reads is piece =
+of_this_size {a} {b} {x} {z} {s} t cell names size answer making reads is piece =
     described answer (λ c. var_rows c t cell names)
     (asked_then (λ c. size_of c.scene t) (λ size c. sized_rows c t size cell names) answer making (size_asked t size reads is) piece)
     (λ hand in_hand told same.

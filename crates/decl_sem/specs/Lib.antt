@@ -3,6 +3,7 @@ pub mod LaidRows
 pub mod Making
 pub mod Pieces
 pub mod Progress
+pub mod ReadItems
 pub mod ReadTypes
 pub mod Shapes
 pub mod Variables

@@ -1,5 +1,5 @@
 //! How many parameters, cells and rows a heading has, by its syntax.
-ghost use Rattle.std.specs.Prelude.{◌≡◌, ◌+◌, IfOk, IfSome, length, map};
+ghost use Rattle.std.specs.Prelude.{◌≡◌, ◌+◌, ◌*◌, if◌then◌else◌, IfOk, IfSome, length, map};
 ghost use Rattle.m2_base.specs.Statics.ProcedureRows.{heading_note as spec_note, parameter_cells, parameter_count, result_cells as spec_result, section_cells, sections_length};
 ghost use Rattle.m2_base.specs.Statics.Shapes.{section_shapes};
 ghost use Rattle.m2_base.specs.Views.{heading_view, section_view};

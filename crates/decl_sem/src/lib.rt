@@ -40,15 +40,18 @@ macro_rules! made {
 
 mod cells;
 mod closing;
+mod const_items;
 mod enumerations;
 mod heading_sizes;
 mod kinds;
 mod layouts;
 mod making;
 mod meanings;
+mod putting;
 mod shapes;
 #[cfg(test)]
 mod tests;
+mod type_items;
 mod types;
 mod variables;
 

@@ -3,7 +3,6 @@ ghost use Rattle.std.specs.Prelude.{◌≡◌, ◌∷◌, ◌++◌, [], ◌-◌,
 ghost use Rattle.m2_base.specs.Lists.{Each};
 ghost use Rattle.m2_base.specs.Rows.{HasSmallNumbers, row_meaning, var_kind};
 ghost use Rattle.m2_base.specs.States.{Waits};
-ghost use Rattle.m2_base.specs.Statics.Makes.{makes_named as spec_named};
 ghost use Rattle.m2_base.specs.Statics.NameRows.{var_rows as spec_vars, vars_rows as spec_all};
 ghost use Rattle.m2_base.specs.Statics.Shapes.{named, type_shapes};
 ghost use Rattle.m2_base.specs.Statics.Types.{size_by as spec_size_by, size_of as spec_size};
@@ -13,34 +12,19 @@ ghost use Rattle.type_rules.specs.Asks.{Reads, WhereKnown, WhereWaiting};
 ghost use Rattle.type_rules.specs.Scenes.{NamesNoType};
 ghost use Rattle.type_rules.specs.Sites.{context_of};
 ghost use Rattle.decl_sem.specs.Making.{next_ordinal};
-ghost use Rattle.decl_sem.specs.Pieces.{Declares, IsBehind, IsMaking, IsNewMeaning, WhereMaking, kind_number, known_of};
-ghost use Rattle.decl_sem.specs.ReadTypes.{AreReadNames, IsReadName, IsReadType};
+ghost use Rattle.decl_sem.specs.Pieces.{Declares, IsBehind, IsMaking, WhereMaking, known_of};
+ghost use Rattle.decl_sem.specs.ReadTypes.{AreReadNames, IsReadType};
 ghost use Rattle.decl_sem.specs.Variables.{IsCell, sized_rows};
 
 use crate::cells::capped;
-use crate::making::{Made, put_named};
+use crate::making::Made;
+use crate::putting::name_row;
 use crate::types::type_in;
 use m2_base::{
     Ask, Ident, Memory, Mode, Place, Row, RowMeaning, Scopes, Site, TypeExpr, read_row,
 };
 use std::alloc::Global;
 use type_rules::size_of;
-
-/// A row with a name, while the scopes are at hand.
-pub(crate) fn name_row<S: Scopes>(
-    _scopes: &S,
-    site: &Site,
-    made: &mut Made,
-    ident: Ident,
-    meaning: RowMeaning,
-) -> Result<Place, Memory>
-    requires making { IsMaking (S.state _scopes.now).frame site.now made.old (named (kind_number meaning) ident ∷ []) }
-    requires read { IsReadName site.now.texts.now.names ident }
-    requires meaning { IsNewMeaning (S.state _scopes.now).frame site.now (next_ordinal made.old) meaning }
-    ensures { Declares (S.state _scopes.now) (S.state _scopes.now) made.old made.new site.now (known_of result) (named (kind_number meaning) ident ∷ []) IsBehind (λ c. spec_named c ident.name ident.at meaning) }
-{
-    put_named(site, made, ident, meaning)
-}
 
 /// The row of a type, where it is in hand.
 fn row_in_hand(site: &Site, made: &Made, of: Place) -> Option<Row>

@@ -2,7 +2,7 @@ use Rattle.std.specs.Prelude.{◌<◌, length}
 use Rattle.std.proofs.Common.{subst}
 use Rattle.m2_base.specs.Units.{UnitTexts}
 use Rattle.decl_sem.proofs.OneRows.{room_for_row}
-use Rattle.decl_sem.proofs.variables.name_row.Goals as goal
+use Rattle.decl_sem.proofs.putting.name_row.Goals as goal
 
 pub put_named-requires-clause-room : goal.put_named-requires-clause-room
 put_named-requires-clause-room g c = room_for_row c.requires.making
