@@ -2,8 +2,11 @@ pub mod Alone
 pub mod Constants
 pub mod ConstantRows
 pub mod FirstNames
+pub mod FirstOrdinals
 pub mod Hands
 pub mod HeadingSums
+pub mod ItemBeginnings
+pub mod ItemEffects
 pub mod ItemShapes
 pub mod MakingOn
 pub mod ManyItems

@@ -1,4 +1,8 @@
 pub mod Closing
+pub mod DeclaredItems
+pub mod Effects
+pub mod ImportedModules
+pub mod Items
 pub mod LaidRows
 pub mod Making
 pub mod Pieces

@@ -41,12 +41,18 @@ macro_rules! made {
 mod cells;
 mod closing;
 mod const_items;
+mod declaring;
+mod effects;
 mod enumerations;
 mod heading_sizes;
+mod imports;
+mod items;
 mod kinds;
 mod layouts;
 mod making;
 mod meanings;
+mod own_headings;
+mod procedures;
 mod putting;
 mod shapes;
 #[cfg(test)]
@@ -56,4 +62,7 @@ mod types;
 mod variables;
 
 pub use closing::close_check;
+pub use declaring::{Declared, declare};
+pub use effects::{Effect, ParamCopy};
+pub use items::{Before, Item};
 pub use layouts::layout;
