@@ -55,7 +55,13 @@ fn put_string<S: Scopes>(
     ensures { Declares (S.state scopes.now) (S.state scopes.now) made.old made.new site.now (known_of result) (named const_kind name ∷ []) IsBehind (λ c. spec_named c name.name name.at (Const text_type (pos text) length)) }
 {
     let value = text as i64;
-    name_row(scopes, site, made, name, RowMeaning::Const(TEXT, value, length))
+    name_row(
+        scopes,
+        site,
+        made,
+        name,
+        RowMeaning::Const(TEXT, value, length),
+    )
 }
 
 /// The row of a constant in error.

@@ -41,7 +41,6 @@ fn with_section(sizes: HeadingSizes, section: &Section) -> Option<HeadingSizes>
     })
 }
 
-
 /// The sizes of a heading. Sizes of more than 32 bits find no memory.
 pub(crate) fn heading_sizes(sections: &[Section]) -> Result<HeadingSizes, Memory>
     ensures count { IfOk result (λ sizes. sizes.count ≡ parameter_count (map section_view sections.now)) }

@@ -20,9 +20,7 @@ use crate::cells::capped;
 use crate::making::Made;
 use crate::putting::name_row;
 use crate::types::type_in;
-use m2_base::{
-    Ask, Ident, Memory, Mode, Place, Row, RowMeaning, Scopes, Site, TypeExpr, read_row,
-};
+use m2_base::{Ask, Ident, Memory, Mode, Place, Row, RowMeaning, Scopes, Site, TypeExpr, read_row};
 use std::alloc::Global;
 use type_rules::size_of;
 
@@ -51,12 +49,7 @@ fn cells_in(row: &Row) -> u64
 }
 
 /// The cells of a type whose row may be in hand, now and when more rows are made.
-pub(crate) fn cells_of<S: Scopes>(
-    scopes: &mut S,
-    site: &Site,
-    made: &Made,
-    of: Place,
-) -> Ask<u64>
+pub(crate) fn cells_of<S: Scopes>(scopes: &mut S, site: &Site, made: &Made, of: Place) -> Ask<u64>
     requires making { IsMaking (S.state scopes.old).frame site.now made.now [] }
     requires of { IsBehind (S.state scopes.old).frame (next_ordinal made.now) of }
     ensures reads { Reads (S.state scopes.old) (S.state scopes.new) }
