@@ -5,6 +5,8 @@ pub mod FirstNames
 pub mod FirstOrdinals
 pub mod Hands
 pub mod HeadingSums
+pub mod ImportedNames
+pub mod ImportedScopes
 pub mod ItemBeginnings
 pub mod ItemEffects
 pub mod ItemShapes
