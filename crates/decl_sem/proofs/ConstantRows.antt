@@ -1,6 +1,6 @@
 -- What the rows of constants and of types' names say is right.
-use Rattle.std.specs.Prelude.{◌≡◌, ◌≢◌, ℕ, ℤ, ◌+◌, ◌<◌, ◌≤◌, ◌^◌, pos, List, [], ◌∷◌, ◌++◌, length, Option, None, Some, Result, Ok, Err}
-use Rattle.std.proofs.Common.{refl, sym, ap, ◌∙◌, subst, arith}
+use Rattle.std.specs.Prelude.{◌≡◌, ℕ, ℤ, ◌<◌, ◌^◌, pos, List, [], ◌∷◌, ◌++◌, length, Option, None, Some, Result, Ok}
+use Rattle.std.proofs.Common.{refl, sym, ap, subst, arith}
 use Rattle.m2_base.specs.Rows.{IsValue, const_kind, natural, opaque_kind, type_name_kind}
 use Rattle.m2_base.specs.Standard.{broken, text_type}
 use Rattle.m2_base.specs.States.{Frame, State}

@@ -1,15 +1,14 @@
 -- Where the rows of an item begin and end, by the layout.
-use Rattle.std.specs.Prelude.{◌≡◌, ◌≢◌, ℕ, zero, suc, ◌+◌, ◌<◌, ◌≤◌, ◌==◌, Bool, true, false, if◌then◌else◌, List, [], ◌∷◌, ◌++◌, length, flat_map, slice_get, slice_index_or, Option, None, Some}
-use Rattle.std.proofs.Common.{refl, sym, ap, ◌∙◌, subst, arith}
+use Rattle.std.specs.Prelude.{◌≡◌, ℕ, suc, ◌+◌, ◌<◌, ◌≤◌, ◌==◌, Bool, true, false, if◌then◌else◌, List, [], ◌∷◌, ◌++◌, length, flat_map, slice_get, slice_index_or, Some}
+use Rattle.std.proofs.Common.{refl, ap, ◌∙◌, subst, arith}
 use Rattle.std.proofs.lemmas.List.{length-append}
-use Rattle.std.proofs.lemmas.List.Concat.{flat_map-append}
 use Rattle.m2_base.specs.Lists.{Each}
 use Rattle.m2_base.specs.Statics.Items.{Item}
 use Rattle.m2_base.specs.Statics.Layouts.{firsts_from, names_from, names_of_item}
 use Rattle.m2_base.specs.Statics.Lookup.{first_entry}
 use Rattle.m2_base.specs.Statics.Shapes.{Shape, item_shapes}
 use Rattle.m2_base.specs.declared.sites.Named.{Named}
-use Rattle.m2_base.proofs.Kept.{Each-append, Each-map}
+use Rattle.m2_base.proofs.Kept.{Each-append}
 use Rattle.decl_sem.specs.Pieces.{BeginsAt}
 
 -- the rows of these items

@@ -1,6 +1,6 @@
 -- The sizes of a heading, section after section.
-use Rattle.std.specs.Prelude.{◌≡◌, ℕ, ◌+◌, ◌<◌, List, [], ◌∷◌, length, drop, map}
-use Rattle.std.proofs.Common.{refl, sym, ap, ◌∙◌, arith, get_or}
+use Rattle.std.specs.Prelude.{◌≡◌, ℕ, ◌+◌, ◌<◌, List, length, drop, map}
+use Rattle.std.proofs.Common.{ap, arith, get_or}
 use Rattle.m2_base.specs.Statics.ProcedureRows.{parameter_cells, parameter_count, section_cells, sections_length}
 use Rattle.m2_base.specs.Statics.Shapes.{section_shapes}
 use Rattle.m2_base.specs.Views.{section_view}

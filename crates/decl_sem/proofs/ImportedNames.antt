@@ -1,8 +1,7 @@
 -- The rows of imports.
 use Rattle.std.specs.Prelude.{◌≡◌, ℕ, ◌<◌, ◌^◌, List, [], ◌∷◌, Option, None, Some, Result, Ok, Err}
-use Rattle.std.proofs.Common.{refl, sym, ap, subst, arith}
+use Rattle.std.proofs.Common.{refl, sym, subst, arith}
 use Rattle.std.specs.Option.{IfSome}
-use Rattle.m2_base.specs.Asks.{IfWaits}
 use Rattle.m2_base.specs.Rows.{alias_kind}
 use Rattle.m2_base.specs.Standard.{broken}
 use Rattle.m2_base.specs.States.{Frame, State, Waits, Works}
@@ -20,7 +19,6 @@ use Rattle.m2_base.specs.declared.rows.Place.{Place}
 use Rattle.m2_base.specs.declared.rows.RowMeaning.TheVariants.{Alias, Module}
 use Rattle.m2_base.specs.declared.sites.Site.{Site}
 use Rattle.m2_base.specs.declared.trees.Ident.{Ident}
-use Rattle.m2_base.proofs.Kept.{Works-refl}
 use Rattle.type_rules.specs.Scenes.{IsRowOf}
 use Rattle.const_eval.specs.Analyses.{Analysed}
 use Rattle.decl_sem.specs.ImportedModules.{alias_rows}

@@ -1,7 +1,7 @@
 -- The scope of the definition module of a name: the modules one after another.
-use Rattle.std.specs.Prelude.{◌≡◌, ◌≢◌, ℕ, suc, ◌+◌, ◌<◌, ◌≤◌, ◌==◌, Bool, true, false, not, cond, nat_lt, if◌then◌else◌, List, [], ◌∷◌, length, drop, map, position, slice_index_or, Option, None, Some, option_map, unwrap_or, Result, Ok, Err}
+use Rattle.std.specs.Prelude.{◌≡◌, ℕ, suc, ◌+◌, ◌<◌, ◌==◌, Bool, true, false, not, cond, nat_lt, if◌then◌else◌, List, [], ◌∷◌, length, drop, map, position, slice_index_or, None, Some, option_map, unwrap_or, Result, Ok, Err}
 use Rattle.std.specs.List.{position_or_len}
-use Rattle.std.proofs.Common.{refl, sym, ap, ◌∙◌, subst, arith, get_or}
+use Rattle.std.proofs.Common.{refl, sym, ap, ◌∙◌, arith, get_or}
 use Rattle.m2_base.specs.Statics.Contexts.{DefinitionModule, scope_of_module}
 use Rattle.std.specs.Result.{IfOk}
 use Rattle.m2_base.specs.Units.{UnitTexts}

@@ -1,10 +1,9 @@
 -- An item's rows begin to be made, and all are made.
-use Rattle.std.specs.Prelude.{◌≡◌, ℕ, ◌+◌, ◌<◌, ◌≤◌, ◌^◌, List, [], ◌∷◌, ◌++◌, length, flat_map, slice_get, Option, Some, None, Result, Ok, Err}
-use Rattle.std.proofs.Common.{refl, sym, ap, ◌∙◌, subst, arith}
+use Rattle.std.specs.Prelude.{◌≡◌, ℕ, ◌+◌, ◌≤◌, ◌^◌, List, [], ◌∷◌, ◌++◌, length, flat_map, slice_get, Option, Some, Ok, Err}
+use Rattle.std.proofs.Common.{sym, ap, ◌∙◌, subst, arith}
 use Rattle.std.proofs.lemmas.List.{append-nil, length-append}
 use Rattle.std.proofs.lemmas.List.Concat.{flat_map-append}
 use Rattle.std.specs.Option.{IfSome}
-use Rattle.m2_base.specs.Asks.{IfKnown}
 use Rattle.m2_base.specs.Lists.{Each}
 use Rattle.m2_base.specs.declared.notes.Diag.{Diag}
 use Rattle.m2_base.specs.Rows.{row_meaning}
@@ -13,13 +12,12 @@ use Rattle.m2_base.specs.Statics.Contexts.{Context}
 use Rattle.m2_base.specs.Statics.Effects.{Effect}
 use Rattle.m2_base.specs.Statics.Items as items
 use Rattle.m2_base.specs.Statics.Items.{items_of}
-use Rattle.m2_base.specs.Statics.Layouts.{Layout, firsts_from, layout_of, names_from}
+use Rattle.m2_base.specs.Statics.Layouts.{Layout, firsts_from, names_from}
 use Rattle.m2_base.specs.Statics.Makes.{Makes}
 use Rattle.m2_base.specs.Statics.Shapes.{Shape, item_shapes}
 use Rattle.m2_base.specs.Trees.{Stream}
 use Rattle.m2_base.specs.declared.memory.Memory.{Memory}
 use Rattle.m2_base.specs.declared.notes.Answer.{Answer}
-use Rattle.m2_base.specs.declared.replies.Ask.{Ask}
 use Rattle.m2_base.specs.declared.replies.Ask.TheVariants.{DontKnowYet, Known}
 use Rattle.m2_base.specs.declared.replies.Head.{Head}
 use Rattle.m2_base.specs.declared.rows.Row.{Row}
@@ -28,7 +26,7 @@ use Rattle.m2_base.specs.declared.sites.Site.{Site}
 use Rattle.m2_base.proofs.Kept.{Keeps-refl}
 use Rattle.type_rules.specs.Scenes.{NamesNoType}
 use Rattle.type_rules.specs.Sites.{context_of}
-use Rattle.decl_sem.specs.DeclaredItems.{DeclaresItem, GivesAll}
+use Rattle.decl_sem.specs.DeclaredItems.{DeclaresItem}
 use Rattle.decl_sem.specs.Items.{IsAtItem}
 use Rattle.decl_sem.specs.LaidRows.{AreLaid, IsAhead}
 use Rattle.decl_sem.specs.Making.{next_ordinal}

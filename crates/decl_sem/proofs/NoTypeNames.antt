@@ -1,7 +1,6 @@
 -- No row of a type expression is that of a type's name.
 use Rattle.std.specs.Prelude.{◌≡◌, ◌≢◌, ℕ, Bool, true, false, List, [], ◌∷◌, ◌++◌, map, flat_map, Option, None, Some}
 use Rattle.std.proofs.Common.{arith}
-use Rattle.m2_base.specs.Lists.{Each}
 use Rattle.m2_base.specs.Rows.{array_kind, const_kind, enum_kind, field_kind, open_array_kind, param_kind, pointer_kind, proc_type_kind, record_kind, set_kind, subrange_kind, type_name_kind}
 use Rattle.m2_base.specs.Statics.Shapes.{Shape, arm_shapes, arms_shapes, array_shapes, field_shapes, fields_shapes, form_shapes, formal_shapes, named, nameless, open_shapes, tag_shapes, type_shapes, types_shapes}
 use Rattle.m2_base.specs.Trees.{TypeExpr, type_expr, TypeForm, named_type, enum_type, sub_type, array_type, record_type, set_type, pointer_type, proc_type, TypeExprs, no_types, more_types, FieldList, plain_fields, case_fields, FieldLists, no_fields, more_fields, VariantArm, variant_arm, VariantArms, no_variant_arms, more_variant_arms}

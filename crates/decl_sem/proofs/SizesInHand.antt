@@ -1,13 +1,10 @@
 -- The cells of a type whose row may be in hand.
-use Rattle.std.specs.Prelude.{◌≡◌, ◌≢◌, ℕ, zero, suc, ◌+◌, ◌-◌, ◌<◌, ◌≤◌, ◌==◌, ◌^◌, Bool, true, false, if◌then◌else◌, List, [], ◌∷◌, ◌++◌, length, slice_get, slice_index_or, Option, None, Some}
+use Rattle.std.specs.Prelude.{◌≡◌, ℕ, zero, suc, ◌+◌, ◌-◌, ◌<◌, ◌≤◌, ◌==◌, Bool, true, false, if◌then◌else◌, List, [], ◌∷◌, ◌++◌, length, slice_get, slice_index_or, Option, None, Some}
 use Rattle.std.proofs.Common.{refl, sym, ap, ◌∙◌, subst, arith}
-use Rattle.std.proofs.lemmas.List.{append-nil, append_assoc}
-use Rattle.m2_base.specs.Finished.{IsTold}
 use Rattle.m2_base.specs.Lists.{Each, WhereKept}
 use Rattle.m2_base.specs.Rows.{HasSmallNumbers, at_place, row_meaning, row_of}
-use Rattle.m2_base.specs.States.{Frame, State, Waits}
-use Rattle.m2_base.specs.Statics.Contexts.{Context, Scene, row_at}
-use Rattle.m2_base.specs.Statics.Makes.{own_rows}
+use Rattle.m2_base.specs.States.{Frame}
+use Rattle.m2_base.specs.Statics.Contexts.{Scene, row_at}
 use Rattle.m2_base.specs.Statics.Shapes.{Shape}
 use Rattle.m2_base.specs.Statics.Types.{declared_as, meaning_at, opaque_as, size_by, size_of, stands_as, stands_for}
 use Rattle.m2_base.specs.declared.replies.Ask.{Ask}
@@ -19,11 +16,11 @@ use Rattle.m2_base.specs.declared.rows.RowMeaning.TheVariants.{Broken, Opaque}
 use Rattle.m2_base.specs.declared.sites.Site.{Site}
 use Rattle.m2_base.proofs.Kept.{Each-append}
 use Rattle.m2_base.proofs.RowLaws.{HasSmallNumbers-fits}
-use Rattle.type_rules.specs.Asks.{Reads, WhereKnown, WhereWaiting}
+use Rattle.type_rules.specs.Asks.{WhereKnown}
 use Rattle.type_rules.specs.Scenes.{AreInHand, IsThere, NamesNoType, WhereTold}
 use Rattle.type_rules.specs.Sites.{context_of}
 use Rattle.decl_sem.specs.Making.{next_ordinal}
-use Rattle.decl_sem.specs.Pieces.{AreNewRows, Declares, IsAny, IsBehind, IsMaking, IsNewRow, WhereMaking, item_end}
+use Rattle.decl_sem.specs.Pieces.{AreNewRows, IsBehind, IsMaking, IsNewRow, WhereMaking, item_end}
 use Rattle.decl_sem.specs.declared.making.Made.{Made}
 use Rattle.decl_sem.proofs.Hands.{own_are}
 

@@ -1,5 +1,5 @@
 -- Variables of one type, one after another.
-use Rattle.std.specs.Prelude.{◌≡◌, ◌≢◌, ℕ, zero, suc, ◌+◌, ◌<◌, ◌≤◌, ◌^◌, Bool, true, false, if◌then◌else◌, List, [], ◌∷◌, ◌++◌, length, map, drop, min, Option, None, Some, Result, Ok, Err}
+use Rattle.std.specs.Prelude.{◌≡◌, ℕ, zero, suc, ◌+◌, ◌<◌, ◌≤◌, Bool, true, false, if◌then◌else◌, List, [], ◌∷◌, ◌++◌, length, map, drop, Result, Ok, Err}
 use Rattle.std.proofs.Common.{refl, sym, ap, ◌∙◌, subst, arith, get_or}
 use Rattle.std.proofs.Math.Seq.{drop-cons}
 use Rattle.std.proofs.lemmas.List.{append-nil}
@@ -27,7 +27,7 @@ use Rattle.m2_base.specs.declared.rows.RowMeaning.TheVariants.{Var}
 use Rattle.m2_base.specs.declared.sites.Site.{Site}
 use Rattle.m2_base.specs.declared.trees.Ident.{Ident}
 use Rattle.m2_base.proofs.SceneLaws.{with-twice}
-use Rattle.type_rules.specs.Asks.{Reads, WhereKnown, WhereWaiting}
+use Rattle.type_rules.specs.Asks.{Reads}
 use Rattle.type_rules.specs.Scenes.{NamesNoType}
 use Rattle.type_rules.specs.Sites.{context_of}
 use Rattle.decl_sem.specs.Making.{next_ordinal}
@@ -35,7 +35,7 @@ use Rattle.decl_sem.specs.Pieces.{Declares, IsAny, IsBehind, IsMaking, IsNewMean
 use Rattle.decl_sem.specs.ReadTypes.{AreReadNames, IsReadName}
 use Rattle.decl_sem.specs.Variables.{IsCell, sized_rows}
 use Rattle.decl_sem.specs.declared.making.Made.{Made}
-use Rattle.decl_sem.proofs.Hands.{hand_none, hand_with}
+use Rattle.decl_sem.proofs.Hands.{hand_with}
 use Rattle.decl_sem.proofs.OneRows.{before_next, behind_more, small_scope}
 use Rattle.decl_sem.proofs.Pieces.{GoesOn, asked, asked_then, described, goes_as, goes_end, goes_failed, goes_start, goes_step, making_front, next_on, waiting}
 

@@ -1,5 +1,5 @@
 -- What is answered for a declaration.
-use Rattle.std.specs.Prelude.{◌≡◌, ℕ, List, [], length, Result}
+use Rattle.std.specs.Prelude.{◌≡◌, List, [], length, Result}
 use Rattle.m2_base.specs.Asks.{IfKnown, IfWaits}
 use Rattle.m2_base.specs.Lists.{Each}
 use Rattle.m2_base.specs.States.{IsAmong, Keeps, Look, State, Waits}

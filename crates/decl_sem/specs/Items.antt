@@ -1,5 +1,5 @@
 -- The items of a block, and what they give, as the code has them.
-use Rattle.std.specs.Prelude.{◌≡◌, ℕ, ◌+◌, ◌<◌, ◌≤◌, ◌^◌, false, filter, length, flat_map, List, [], ◌∷◌, ◌++◌, Option, Some, None}
+use Rattle.std.specs.Prelude.{◌≡◌, ℕ, ◌+◌, ◌<◌, ◌≤◌, ◌^◌, false, filter, length, flat_map, List, ◌∷◌, ◌++◌, Some}
 use Rattle.m2_base.specs.Lists.{Each}
 use Rattle.m2_base.specs.Rows.{row_meaning}
 use Rattle.m2_base.specs.States.{Frame}

@@ -1,6 +1,3 @@
-use Rattle.std.proofs.Common.{◌≡◌, ◌+◌, drop, map}
-use Rattle.m2_base.specs.Statics.ProcedureRows.{parameter_cells, parameter_count, sections_length}
-use Rattle.m2_base.specs.Views.{section_view}
 use Rattle.decl_sem.proofs.HeadingSums.{IsSumUpTo}
 use Rattle.decl_sem.proofs.heading_sizes.heading_sizes.Given as goal
 

@@ -1,4 +1,4 @@
-use Rattle.std.proofs.Common.{length, arith}
+use Rattle.std.proofs.Common.{arith}
 use Rattle.decl_sem.proofs.VariableLists.{all_variables, no_ident, one_variable, this_making, this_meaning, variables_failed}
 use Rattle.decl_sem.proofs.variables.put_variables.Goals as goal
 
