@@ -1,7 +1,9 @@
 pub mod Alone
+pub mod Checks
 pub mod Constants
 pub mod FirstNames
 pub mod Hands
+pub mod Held
 pub mod ItemShapes
 pub mod MakingOn
 pub mod ManyItems
@@ -10,3 +12,4 @@ pub mod NextRows
 pub mod OneRows
 pub mod Pieces
 pub mod TypeShapes
+pub mod Uses

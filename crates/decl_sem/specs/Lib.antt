@@ -1,7 +1,10 @@
 pub mod Closing
+pub mod Hands
 pub mod LaidRows
 pub mod Making
 pub mod Pieces
 pub mod Progress
 pub mod ReadTypes
 pub mod Shapes
+pub mod Stood
+pub mod TypeUses
