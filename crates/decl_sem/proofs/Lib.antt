@@ -1,4 +1,5 @@
 pub mod Alone
+pub mod Asking
 pub mod Checks
 pub mod Constants
 pub mod FirstNames

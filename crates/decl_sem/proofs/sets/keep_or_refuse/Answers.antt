@@ -14,5 +14,5 @@ returns-then-keep c a making behind = kept a c.args.made.now c.args.site.now c.a
 pub returns-in-Err : goal.returns-in-Err
 returns-in-Err c a making behind = unnoted_piece a c.args.made.now c.args.site.now c.in-Err.memory _ making c.refuse.ensures.answers c.refuse.ensures.diags
 
-pub returns-in-Ok : goal.returns-in-Ok
-returns-in-Ok c a making behind = refused_piece a c.args.made.now c.args.site.now c.args.at c.args.keep c.args.of c.if-keep.false making c.in-Ok.ensures.noted c.refuse.ensures.answers c.refuse.ensures.diags
+pub returns : goal.returns
+returns c a making behind = refused_piece a c.args.made.now c.args.site.now c.args.at c.args.keep c.args.of c.if-keep.false making c.in-Ok.ensures.noted c.refuse.ensures.answers c.refuse.ensures.diags
