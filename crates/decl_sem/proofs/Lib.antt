@@ -12,5 +12,7 @@ pub mod Namings
 pub mod NextRows
 pub mod OneRows
 pub mod Pieces
+pub mod TypeForms
 pub mod TypeShapes
+pub mod TypeSizes
 pub mod Uses

@@ -14,12 +14,7 @@ use crate::making::{Made, put_named, put_plain};
 use m2_base::{Ident, Memory, Place, RowMeaning, Site};
 
 /// The constants of an enumeration, each with its value.
-fn make_constants(
-    site: &Site,
-    made: &mut Made,
-    of: Place,
-    names: &[Ident],
-) -> Result<Place, Memory>
+fn make_constants(site: &Site, made: &mut Made, of: Place, names: &[Ident]) -> Result<Place, Memory>
     requires room { next_ordinal made.old + length names.now ≤ 2 ^ 32 }
     requires scope { IsSmallScope of }
     ensures { (a : State) → IsMaking a.frame site.now made.old (map (named const_kind) names.now) → AreReadNames a.frame.setting.texts.names names.now → IsOwnType a.frame (next_ordinal made.old) of → Declares a a made.old made.new site.now (known_of result) (map (named const_kind) names.now) IsBehind (λ c. constant_rows c of 0 names.now) }

@@ -16,7 +16,9 @@ ghost use Rattle.decl_sem.specs.TypeUses.{IsScopeBefore, member_by, type_or};
 ghost use Rattle.type_rules.specs.Scenes.{IsRowOf, IsSaid, IsThere, Suits};
 ghost use Rattle.type_rules.specs.Sites.{IsRefused, SuitsSite};
 
-use m2_base::{Ask, Diag, Ident, Memory, Notes, Place, Qual, Row, RowMeaning, Scopes, Site, read_row};
+use m2_base::{
+    Ask, Diag, Ident, Memory, Notes, Place, Qual, Row, RowMeaning, Scopes, Site, read_row,
+};
 use type_rules::{BROKEN, use_name};
 
 /// The code of a name that is no type's.

@@ -31,7 +31,7 @@ returns-in-Wrong g c =
     let a = g.S.Scopes.state c.args.scopes.now in
     value_alone a c.args.notes.now c.args.site.now None (λ f (found : Option Entry). IfSome found (λ e. IsRowOf f e.0 e.1)) (λ k. member_of k c.args.at c.args.member (row_meaning c.args.outer.1)) tt
     (λ made. let k = context_of a.frame made c.args.site.now in
-        sym (c.in-Wrong.ensures.told k c.args.at c.args.member) ∙ ap (member_of k c.args.at c.args.member) c.read_row.ensures)
+    sym (c.in-Wrong.ensures.told k c.args.at c.args.member) ∙ ap (member_of k c.args.at c.args.member) c.read_row.ensures)
 
 pub returns-in-Ok : goal.returns-in-Ok
 returns-in-Ok g c =
@@ -43,7 +43,7 @@ pub returns-in-Scope : goal.returns-in-Scope
 returns-in-Scope g c =
     let a = g.S.Scopes.state c.args.scopes.now in
     let p : Analysed {T = Option Entry} a (g.S.Scopes.state c.use_name.new.scopes) c.args.notes.now c.use_name.new.notes c.args.site.now c.use_name.result (λ f found. IfSome found (λ e. IsRowOf f e.0 e.1))
-        (λ k. use_of k (Some c.in-Scope.scope) c.args.member.name c.args.member.at) =
+    (λ k. use_of k (Some c.in-Scope.scope) c.args.member.name c.args.member.at) =
     record { works = c.use_name.ensures.works; waits = c.use_name.ensures.waits; told = c.use_name.ensures.told; there = c.use_name.ensures.row } in
     described c.use_name.result p
     (λ k. sym (c.in-Scope.ensures.told k c.args.at c.args.member) ∙ ap (member_of k c.args.at c.args.member) c.read_row.ensures)

@@ -21,7 +21,7 @@ returns-in_default-second g c =
     value_alone a c.args.notes.now c.args.site.now (Some c.in-Some.outer) (λ f (found : Option Entry). IfSome found (λ e. IsRowOf f e.0 e.1)) (λ k. qualified k c.args.at c.args.second c.args.first)
     (subst (λ (o : Option Entry). IfSome o (λ e. IsRowOf a.frame e.0 e.1)) c.in-Some.is c.requires.row)
     (λ made. let k = context_of a.frame made c.args.site.now in
-        ap (λ (o : Option Ident). qualified k c.args.at o (Some c.in-Some.outer)) (sym c.in_default-second.is) ∙ ap (qualified k c.args.at c.args.second) (sym c.in-Some.is))
+    ap (λ (o : Option Ident). qualified k c.args.at o (Some c.in-Some.outer)) (sym c.in_default-second.is) ∙ ap (qualified k c.args.at c.args.second) (sym c.in-Some.is))
 
 pub returns : goal.returns
 returns g c =

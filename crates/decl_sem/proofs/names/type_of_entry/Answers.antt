@@ -27,7 +27,7 @@ returns-in-Some-type_in_row c a suits row =
     value_alone a c.args.notes.now c.args.site.now c.in-Some-type_in_row.of IsThere (λ k. type_of_entry k c.args.at c.args.entry)
     (c.in-Some-type_in_row.ensures.there a.frame c.args.site.now.around.now (length a.frame.setting.texts.names) e.0 suits.around c.small_place-place.ensures.small r.there fits)
     (λ made. let k = context_of a.frame made c.args.site.now in
-        sym (c.in-Some-type_in_row.ensures.told k c.args.at) ∙ ap (type_by k c.args.at) c.read_row.ensures ∙ ap (type_of_entry k c.args.at) (sym c.in-Some.is))
+    sym (c.in-Some-type_in_row.ensures.told k c.args.at) ∙ ap (type_by k c.args.at) c.read_row.ensures ∙ ap (type_of_entry k c.args.at) (sym c.in-Some.is))
 
 pub returns-in-Err : goal.returns-in-Err
 returns-in-Err c a suits row =
