@@ -1,10 +1,13 @@
 pub mod Alone
-pub mod Constants
+pub mod Asking
+pub mod Checks
 pub mod ConstantRows
+pub mod Constants
 pub mod FirstNames
 pub mod FirstOrdinals
 pub mod Hands
 pub mod HeadingSums
+pub mod Held
 pub mod ImportedNames
 pub mod ImportedScopes
 pub mod ItemBeginnings
@@ -18,5 +21,8 @@ pub mod NoTypeNames
 pub mod OneRows
 pub mod Pieces
 pub mod SizesInHand
+pub mod TypeForms
 pub mod TypeShapes
+pub mod TypeSizes
+pub mod Uses
 pub mod VariableLists

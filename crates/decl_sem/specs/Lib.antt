@@ -1,6 +1,7 @@
 pub mod Closing
 pub mod DeclaredItems
 pub mod Effects
+pub mod Hands
 pub mod ImportedModules
 pub mod Items
 pub mod LaidRows
@@ -10,4 +11,6 @@ pub mod Progress
 pub mod ReadItems
 pub mod ReadTypes
 pub mod Shapes
+pub mod Stood
+pub mod TypeUses
 pub mod Variables

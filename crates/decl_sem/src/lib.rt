@@ -25,6 +25,16 @@ macro_rules! known {
     };
 }
 
+/// The value of a question, or the end of a piece where it isn't known yet.
+macro_rules! ask {
+    ($asked:expr) => {
+        match $asked {
+            Ask::Known(value) => value,
+            Ask::DontKnowYet(head) => return Ok(Ask::DontKnowYet(head)),
+        }
+    };
+}
+
 /// The value of a piece, or the end of the function where it isn't known yet or memory is wanted.
 macro_rules! made {
     ($piece:expr) => {
@@ -51,10 +61,13 @@ mod kinds;
 mod layouts;
 mod making;
 mod meanings;
+mod names;
 mod own_headings;
 mod procedures;
 mod putting;
+mod sets;
 mod shapes;
+mod standing;
 #[cfg(test)]
 mod tests;
 mod type_items;
