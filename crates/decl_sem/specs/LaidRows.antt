@@ -43,3 +43,9 @@ pub record IsAhead (names : List Named) (rows : List Row) (ahead : List Shape) :
   pub rest : List Shape
   pub laid : AreLaid names 0 before rows
   pub firsts : HasFirsts names (before ++ (ahead ++ rest))
+
+-- The rows have grown by some that are as the layout gives them.
+pub record GrowsLaid (names : List Named) (before after : List Row) (o : ℕ) (shapes : List Shape) : Type 0 where
+  pub rows : List Row
+  pub more : after ≡ before ++ rows
+  pub laid : AreLaid names o shapes rows

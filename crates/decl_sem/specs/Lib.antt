@@ -1,5 +1,14 @@
 pub mod Closing
+pub mod DeclaredItems
+pub mod Effects
+pub mod Hands
+pub mod ImportedModules
+pub mod Items
 pub mod LaidRows
 pub mod Making
+pub mod Pieces
 pub mod Progress
 pub mod Shapes
+pub mod Stood
+pub mod TypeUses
+pub mod Variables

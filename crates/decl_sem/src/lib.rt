@@ -5,11 +5,75 @@
 //! (`specs/Statics`). When a block's scope is complete, its closing name is checked (`close_check`).
 #![tactic(auto)]
 
+/// The value of a piece that asks nothing, or the end of the function at want of memory.
+macro_rules! put {
+    ($made:expr) => {
+        match $made {
+            Ok(value) => value,
+            Err(memory) => return Err(memory),
+        }
+    };
+}
+
+/// The value of a question, or the end of the function where it isn't known yet.
+macro_rules! known {
+    ($asked:expr) => {
+        match $asked {
+            Ask::Known(value) => value,
+            Ask::DontKnowYet(head) => return Ask::DontKnowYet(head),
+        }
+    };
+}
+
+/// The value of a question, or the end of a piece where it isn't known yet.
+macro_rules! ask {
+    ($asked:expr) => {
+        match $asked {
+            Ask::Known(value) => value,
+            Ask::DontKnowYet(head) => return Ok(Ask::DontKnowYet(head)),
+        }
+    };
+}
+
+/// The value of a piece, or the end of the function where it isn't known yet or memory is wanted.
+macro_rules! made {
+    ($piece:expr) => {
+        match $piece {
+            Ok(asked) => match asked {
+                Ask::Known(value) => value,
+                Ask::DontKnowYet(head) => return Ok(Ask::DontKnowYet(head)),
+            },
+            Err(memory) => return Err(memory),
+        }
+    };
+}
+
+mod cells;
 mod closing;
+mod const_items;
+mod declaring;
+mod effects;
+mod enumerations;
+mod heading_sizes;
+mod imports;
+mod items;
 mod kinds;
 mod layouts;
 mod making;
+mod meanings;
+mod names;
+mod own_headings;
+mod procedures;
+mod putting;
+mod sets;
 mod shapes;
+mod standing;
+mod type_items;
+mod types;
+mod variables;
 
 pub use closing::close_check;
+pub use declaring::{Declared, declare};
+pub use effects::{Effect, ParamCopy};
+pub use items::{Before, Item};
 pub use layouts::layout;

@@ -1,15 +1,18 @@
 //! The rows of the item in hand, one after another.
-ghost use Rattle.std.specs.Prelude.{◌≡◌, ◌∷◌, ◌++◌, [], ◌+◌, ◌<◌, ◌^◌, length, IfOk, OnErr};
+ghost use Rattle.std.specs.Prelude.{◌≡◌, ◌≢◌, ◌∷◌, ◌++◌, [], ◌+◌, ◌<◌, ◌^◌, length, IfOk, OnErr};
 ghost use Rattle.m2_base.specs.Lists.{IsPrefixOf};
 ghost use Rattle.m2_base.specs.Rows.{at_place, row_of, HasSmallScopes};
 ghost use Rattle.m2_base.specs.Standard.{is_standard as spec_is_standard};
 ghost use Rattle.m2_base.specs.Statics.Contexts.{Context};
 ghost use Rattle.m2_base.specs.Statics.Lookup.{first_entry};
-ghost use Rattle.m2_base.specs.Statics.Makes.{makes_named, makes_row};
+ghost use Rattle.m2_base.specs.Statics.Makes.{makes_named as spec_named, makes_row as spec_row};
+ghost use Rattle.m2_base.specs.Statics.Shapes.{nameless, named};
+ghost use Rattle.m2_base.specs.States.{State};
+ghost use Rattle.decl_sem.specs.Pieces.{Declares, IsBehind, IsMaking, IsNewMeaning, kind_number, known_of};
 ghost use Rattle.decl_sem.specs.LaidRows.{is_of, kept_name as spec_kept_name};
 ghost use Rattle.decl_sem.specs.Making.{IsInHand, IsNext, MakesAll, name_refusals, next_ordinal};
 
-use m2_base::{Diag, Layout, Memory, Notes, Place, Row, RowMeaning, Site, write_row};
+use m2_base::{Diag, Ident, Layout, Memory, Notes, Place, Row, RowMeaning, Site, write_row};
 
 /// The codes of a name that the block declares twice, and of a standard name that is declared.
 const DECLARED_TWICE: u8 = 42;
@@ -92,7 +95,8 @@ pub(crate) fn make_row(
 ) -> Result<Place, Memory>
     requires room { next_ordinal made.old < 2 ^ 32 }
     requires scopes { HasSmallScopes meaning }
-    ensures made { IfOk result (λ place. (c : Context) → IsInHand c site.now made.old → MakesAll made.old made.new (makes_row c at meaning) place) }
+    ensures made { IfOk result (λ place. (c : Context) → IsInHand c site.now made.old → MakesAll made.old made.new (spec_row c at meaning) place) }
+    ensures place { IfOk result (λ place. place ≡ at_place site.now.around.now.scope (next_ordinal made.old)) }
     ensures rows { IfOk result (λ place. made.new.rows.items ≡ made.old.rows.items ++ row_of 0 at meaning ∷ []) }
     ensures notes { made.new.notes ≡ made.old.notes }
     ensures first { made.new.first ≡ made.old.first }
@@ -111,7 +115,8 @@ pub(crate) fn make_named(
 ) -> Result<Place, Memory>
     requires room { next_ordinal made.old < 2 ^ 32 }
     requires scopes { HasSmallScopes meaning }
-    ensures made { IfOk result (λ place. (c : Context) → IsInHand c site.now made.old → IsNext c name → MakesAll made.old made.new (makes_named c name at meaning) place) }
+    ensures made { IfOk result (λ place. (c : Context) → IsInHand c site.now made.old → IsNext c name → MakesAll made.old made.new (spec_named c name at meaning) place) }
+    ensures place { IfOk result (λ place. place ≡ at_place site.now.around.now.scope (next_ordinal made.old)) }
     ensures rows { IfOk result (λ place. made.new.rows.items ≡ made.old.rows.items ++ row_of (spec_kept_name site.now.layout.now.names (next_ordinal made.old) name) at meaning ∷ []) }
     ensures diags { IsPrefixOf made.old.notes.diags.items made.new.notes.diags.items }
     ensures answers { made.new.notes.answers.items ≡ made.old.notes.answers.items }
@@ -120,4 +125,36 @@ pub(crate) fn make_named(
     let ordinal = made.first + made.rows.len() as u32;
     let kept = kept_name(site, ordinal, name, at, &mut made.notes)?;
     put_row(site, made, write_row(kept, at, meaning))
+}
+
+/// A row without a name, as a piece of the item.
+pub(crate) fn put_plain(
+    site: &Site,
+    made: &mut Made,
+    at: u32,
+    meaning: RowMeaning,
+) -> Result<Place, Memory>
+    requires room { next_ordinal made.old < 2 ^ 32 }
+    requires scopes { HasSmallScopes meaning }
+    ensures piece { (a : State) → IsMaking a.frame site.now made.old (nameless (kind_number meaning) at ∷ []) → IsNewMeaning a.frame site.now (next_ordinal made.old) meaning → Declares a a made.old made.new site.now (known_of result) (nameless (kind_number meaning) at ∷ []) IsBehind (λ c. spec_row c at meaning) }
+    ensures place { IfOk result (λ place. place ≡ at_place site.now.around.now.scope (next_ordinal made.old)) }
+    ensures count { IfOk result (λ _. next_ordinal made.new ≡ next_ordinal made.old + 1) }
+{
+    make_row(site, made, at, meaning)
+}
+
+/// A row with a name, as a piece of the item.
+pub(crate) fn put_named(
+    site: &Site,
+    made: &mut Made,
+    ident: Ident,
+    meaning: RowMeaning,
+) -> Result<Place, Memory>
+    requires room { next_ordinal made.old < 2 ^ 32 }
+    requires scopes { HasSmallScopes meaning }
+    ensures piece { (a : State) → IsMaking a.frame site.now made.old (named (kind_number meaning) ident ∷ []) → ident.name ≢ 0 → ident.name < length a.frame.setting.texts.names → IsNewMeaning a.frame site.now (next_ordinal made.old) meaning → Declares a a made.old made.new site.now (known_of result) (named (kind_number meaning) ident ∷ []) IsBehind (λ c. spec_named c ident.name ident.at meaning) }
+    ensures place { IfOk result (λ place. place ≡ at_place site.now.around.now.scope (next_ordinal made.old)) }
+    ensures count { IfOk result (λ _. next_ordinal made.new ≡ next_ordinal made.old + 1) }
+{
+    make_named(site, made, ident.name, ident.at, meaning)
 }

@@ -1,0 +1,63 @@
+-- The rows of imports.
+use Rattle.std.specs.Prelude.{◌≡◌, ℕ, ◌<◌, ◌^◌, List, [], ◌∷◌, Option, None, Some, Result, Ok, Err}
+use Rattle.std.proofs.Common.{refl, sym, subst, arith}
+use Rattle.std.specs.Option.{IfSome}
+use Rattle.m2_base.specs.Rows.{alias_kind}
+use Rattle.m2_base.specs.Standard.{broken}
+use Rattle.m2_base.specs.States.{Frame, State, Waits, Works}
+use Rattle.m2_base.specs.Statics.Contexts.{Context}
+use Rattle.m2_base.specs.Statics.ImportRows.{place_or_broken}
+use Rattle.m2_base.specs.Statics.Makes.{Makes, makes_named, only_gives}
+use Rattle.m2_base.specs.Statics.Lookup.{Entry}
+use Rattle.m2_base.specs.Statics.Shapes.{Shape, named}
+use Rattle.m2_base.specs.Statics.Uses.{use_of}
+use Rattle.m2_base.specs.declared.memory.Memory.{Memory}
+use Rattle.m2_base.specs.declared.replies.Ask.{Ask}
+use Rattle.m2_base.specs.declared.replies.Ask.TheVariants.{DontKnowYet, Known}
+use Rattle.m2_base.specs.declared.replies.Head.{Head}
+use Rattle.m2_base.specs.declared.rows.Place.{Place}
+use Rattle.m2_base.specs.declared.rows.RowMeaning.TheVariants.{Alias, Module}
+use Rattle.m2_base.specs.declared.sites.Site.{Site}
+use Rattle.m2_base.specs.declared.trees.Ident.{Ident}
+use Rattle.type_rules.specs.Scenes.{IsRowOf}
+use Rattle.const_eval.specs.Analyses.{Analysed}
+use Rattle.decl_sem.specs.ImportedModules.{alias_rows}
+use Rattle.decl_sem.specs.Making.{next_ordinal}
+use Rattle.decl_sem.specs.Pieces.{Declares, IsBehind, IsMaking, IsNewMeaning}
+use Rattle.decl_sem.specs.declared.making.Made.{Made}
+use Rattle.decl_sem.proofs.ConstantRows.{behind_standard, behind_there}
+use Rattle.decl_sem.proofs.OneRows.{before_next, small_scope}
+use Rattle.decl_sem.proofs.Pieces.{analysed, then_after}
+
+-- the entry is that of a row that can be asked for
+abbrev pub IsEntry : Frame → Option Entry → Type 0
+IsEntry f o = IfSome o (λ e. IsRowOf f e.0 e.1)
+
+pub module_meaning : {f : Frame} (s : Site) (o scope m : ℕ) → scope ≡ m → m < f.setting.fills → IsNewMeaning f s o (Module scope)
+module_meaning s o scope m e h = record { small = tt; scopes = tt; fits = omega arith; filled = tt; owned = tt }
+
+target_behind : {f : Frame} {s : Site} {x : Made} {ss : List Shape} (o : Option Entry) → IsMaking f s x ss → (place_or_broken o).ordinal < 2 ^ 32 → IsEntry f o → IsBehind f (next_ordinal x) (place_or_broken o)
+target_behind None making small row = behind_standard broken making refl small
+target_behind (Some e) making small row = behind_there e.0 making small row.there
+
+pub alias_meaning : {f : Frame} {s : Site} {x : Made} {ss : List Shape} (o : Option Entry) (t : Place) → t ≡ place_or_broken o → IsMaking f s x ss → t.ordinal < 2 ^ 32 → IsEntry f o → IsNewMeaning f s (next_ordinal x) (Alias t)
+alias_meaning {f} {s} {x} o t e making small row =
+    let behind : IsBehind f (next_ordinal x) t = subst (λ (p : Place). IsBehind f (next_ordinal x) p) (sym e) (target_behind o making (subst (λ (p : Place). p.ordinal < 2 ^ 32) e small) row) in
+    record { small = small; scopes = small_scope making behind; fits = before_next behind; filled = tt; owned = tt }
+
+-- an alias, after the search for its target
+pub alias_row : {a b d : State} {x y z : Made} {s : Site} {o : Option Entry} (scope : ℕ) (name : Ident) (answer : Result (Ask Place) Memory) → IsMaking a.frame s x (named alias_kind name ∷ []) → y.rows ≡ x.rows → y.first ≡ x.first
+    → Analysed a b x.notes y.notes s (Ok (Known o)) IsEntry (λ c. use_of c (Some scope) name.name name.at)
+    → Declares b d y z s answer (named alias_kind name ∷ []) IsBehind (λ c. makes_named c name.name name.at (Alias (place_or_broken o)))
+    → Declares a d x z s answer (named alias_kind name ∷ []) IsBehind (λ c. alias_rows c scope name)
+alias_row {a} {b} {x = x} {y = y} {s = s} {o = o} scope name answer making rows first analysis piece =
+    let found : Declares a b x y s (Ok (Known o)) [] (λ f next v. IsEntry f v) (λ c. only_gives (use_of c (Some scope) name.name name.at)) = analysed (Ok (Known o)) making rows first (λ v h. h) analysis in
+    then_after (λ c. only_gives (use_of c (Some scope) name.name name.at)) (λ o c. makes_named c name.name name.at (Alias (place_or_broken o))) answer tt making found piece
+
+-- a search that waits
+pub search_waits : {T : Type 0} {a b : State} {x y : Made} (s : Site) (ss : List Shape) (P : Frame → ℕ → T → Type 0) (g : Context → Makes T) (head : Head) → y.first ≡ x.first → Works a b x.notes y.notes → Waits a b head → Declares a b x y s (Ok (DontKnowYet head)) ss P g
+search_waits s ss P g head first works waits = record { works = works; waits = waits; first = first; grown = tt; told = λ hand in_hand told same. tt; there = tt }
+
+-- want of memory
+pub search_failed : {T : Type 0} {a b : State} {x y : Made} (s : Site) (ss : List Shape) (P : Frame → ℕ → T → Type 0) (g : Context → Makes T) (m : Memory) → y.first ≡ x.first → Works a b x.notes y.notes → Declares a b x y s (Err m) ss P g
+search_failed s ss P g m first works = record { works = works; waits = tt; first = first; grown = tt; told = λ hand in_hand told same. tt; there = tt }

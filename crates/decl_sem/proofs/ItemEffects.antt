@@ -1,0 +1,38 @@
+-- What an item gives beside its rows.
+use Rattle.std.specs.Prelude.{◌≡◌, ℕ, List, ◌++◌, Ok}
+use Rattle.std.proofs.Common.{sym, ap, ◌∙◌}
+use Rattle.std.proofs.lemmas.List.{append-nil}
+use Rattle.m2_base.specs.States.{Frame, State}
+use Rattle.m2_base.specs.Statics.Contexts.{Context}
+use Rattle.m2_base.specs.Statics.Makes.{Makes, make_then, makes}
+use Rattle.m2_base.specs.Statics.Shapes.{Shape}
+use Rattle.m2_base.specs.declared.notes.Answer.{Answer}
+use Rattle.m2_base.specs.declared.notes.Diag.{Diag}
+use Rattle.m2_base.specs.declared.replies.Ask.TheVariants.{Known}
+use Rattle.m2_base.specs.declared.rows.Row.{Row}
+use Rattle.m2_base.specs.declared.sites.Site.{Site}
+use Rattle.type_rules.specs.Sites.{context_of}
+use Rattle.decl_sem.specs.Making.{next_ordinal}
+use Rattle.decl_sem.specs.Pieces.{Declares}
+use Rattle.decl_sem.specs.declared.making.Made.{Made}
+
+-- the value of a piece, seen otherwise
+pub valued : {T U : Type 0} {a b : State} {x y : Made} {s : Site} {ss : List Shape} {P : Frame → ℕ → T → Type 0} {g : Context → Makes T} {v : T} (Q : Frame → ℕ → U → Type 0) (F : T → U) (w : U) → w ≡ F v
+    → Q a.frame (next_ordinal y) w → Declares a b x y s (Ok (Known v)) ss P g → Declares a b x y s (Ok (Known w)) ss Q (λ c. make_then c (g c) (λ d p. makes (F p)))
+valued {a = a} {x = x} {s = s} {g = g} Q F w e h p =
+    record {
+      works = p.works;
+      waits = tt;
+      first = p.first;
+      grown = p.grown;
+      told = λ hand in_hand told same.
+          let m = p.told hand in_hand told same in
+          let c = context_of a.frame hand s in
+          record {
+            value_is = e ∙ ap F m.value_is;
+            rows = m.rows ∙ ap (λ (t : List Row). x.rows.items ++ t) (sym (append-nil (g c).rows));
+            diags = m.diags ∙ ap (λ (t : List Diag). x.notes.diags.items ++ t) (sym (append-nil (g c).diags));
+            answers = m.answers ∙ ap (λ (t : List Answer). x.notes.answers.items ++ t) (sym (append-nil (g c).answers));
+          };
+      there = h;
+    }

@@ -1,0 +1,9 @@
+use Rattle.m2_base.specs.Statics.Effects.{only_cell}
+use Rattle.decl_sem.specs.Items.{IsEffect}
+use Rattle.decl_sem.proofs.ItemEffects.{valued}
+use Rattle.decl_sem.proofs.items.type_item.Goals as goal
+
+pub returns-in-Ok-Known : goal.returns-in-Ok-Known
+returns-in-Ok-Known g c =
+    let p = rw c.in-Ok-Known.field-0-is at c.in-Ok-Known.ensures in
+    valued IsEffect (λ p. only_cell c.args.cell) c.only_cell.result c.only_cell.ensures (rw c.only_cell.ensures c.requires.cell) p

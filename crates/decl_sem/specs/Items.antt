@@ -1,0 +1,51 @@
+-- The items of a block, and what they give, as the code has them.
+use Rattle.std.specs.Prelude.{◌≡◌, ℕ, ◌+◌, ◌<◌, ◌≤◌, ◌^◌, false, filter, length, flat_map, List, ◌∷◌, ◌++◌, Some}
+use Rattle.m2_base.specs.Lists.{Each}
+use Rattle.m2_base.specs.Rows.{row_meaning}
+use Rattle.m2_base.specs.States.{Frame}
+use Rattle.m2_base.specs.Statics.Cells.{most_cells}
+use Rattle.m2_base.specs.Statics.Effects.{Effect}
+use Rattle.m2_base.specs.Statics.Items as items
+use Rattle.m2_base.specs.Statics.Items.{decl_item, heading_item, import_item, items_of}
+use Rattle.m2_base.specs.Statics.Layouts.{layout_of}
+use Rattle.m2_base.specs.Statics.ProcedureRows.{is_proc}
+use Rattle.m2_base.specs.Statics.Shapes.{item_shapes}
+use Rattle.m2_base.specs.Trees.{Stream}
+use Rattle.m2_base.specs.Views.{decl_view, heading_view}
+use Rattle.m2_base.specs.declared.sites.Site.{Site}
+use Rattle.type_rules.specs.Sites.{SuitsSite, source_of}
+use Rattle.decl_sem.specs.ImportedModules.{IsFromBefore}
+use Rattle.decl_sem.specs.LaidRows.{AreLaid}
+use Rattle.decl_sem.specs.Pieces.{IsOwned}
+use Rattle.m2_base.specs.Statics.ReadTrees.{IsReadItem}
+use Rattle.decl_sem.specs.declared.items.Item.{Item}
+use Rattle.decl_sem.specs.declared.items.Item.TheVariants.{Declaration, Heading, Import}
+
+-- an item
+abbrev pub item_view : Item → items.Item
+item_view (Heading h) = heading_item (heading_view h.now)
+item_view (Import from name) = import_item from.now name
+item_view (Declaration d) = decl_item (decl_view d.now)
+
+-- the next free cell is one
+abbrev pub IsEffect : Frame → (next : ℕ) → Effect → Type 0
+IsEffect f next e = e.cell ≤ most_cells + 1
+
+-- The site is in an item of the block: the rows of the items before are entered, as the layout gives them, each field before
+-- its record; the item was read from tokens, and its modules stand before.
+pub record IsAtItem (f : Frame) (s : Site) (stream : Stream) (x : items.Item) (cell procedures : ℕ) : Type 0 where
+  pub suits : SuitsSite f s
+  pub small : f.setting.fills < 2 ^ 31
+  pub begun : f.closed ≡ false
+  pub before : List items.Item
+  pub rest : List items.Item
+  pub items : items_of stream ≡ before ++ x ∷ rest
+  pub item : s.item ≡ Some (length before)
+  pub layout : s.layout.now ≡ layout_of stream
+  pub entered : AreLaid s.layout.now.names 0 (flat_map item_shapes before) f.entered
+  pub owned : Each (λ r. IsOwned (length f.entered) (row_meaning r)) f.entered
+  pub few : length (flat_map item_shapes (items_of stream)) ≤ 2 ^ 31
+  pub read : IsReadItem s.texts.now.names x
+  pub imports : IsFromBefore (source_of s.texts.now) f.setting.fills x
+  pub cells : cell ≤ most_cells + 1
+  pub headings : procedures ≡ length (filter is_proc f.entered)

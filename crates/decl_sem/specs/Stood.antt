@@ -1,0 +1,21 @@
+-- What the types of parts may be, by what they stand for and what its row says.
+use Rattle.std.specs.Prelude.{Bool, ◌||◌}
+use Rattle.m2_base.specs.Rows.{is_same_place}
+use Rattle.m2_base.specs.Standard.{broken}
+use Rattle.m2_base.specs.Statics.Arrays.{is_index_range, is_set_range}
+use Rattle.m2_base.specs.Statics.Contexts.{Context}
+use Rattle.m2_base.specs.Statics.Types.{kind_of, range_by, stands_for}
+use Rattle.m2_base.specs.declared.rows.Place.{Place}
+use Rattle.m2_base.specs.declared.rows.RowMeaning.{RowMeaning}
+
+-- what a type stands for, and what its row says
+abbrev pub stood_in : Place → Context → Place × RowMeaning
+stood_in t c = (stands_for c.scene t, kind_of c.scene t)
+
+-- the base of a set may be this, or is in error
+abbrev pub may_be_base : Place × RowMeaning → Bool
+may_be_base stood = is_same_place stood.0 broken || is_set_range (range_by stood.1)
+
+-- an index type may be this, or is in error
+abbrev pub may_be_index : Place × RowMeaning → Bool
+may_be_index stood = is_same_place stood.0 broken || is_index_range (range_by stood.1)

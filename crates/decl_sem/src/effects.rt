@@ -1,0 +1,56 @@
+//! What an item gives beside its rows.
+ghost use Rattle.std.specs.Prelude.{◌≡◌, []};
+ghost use Rattle.m2_base.specs.Statics.Effects.{only_cell as spec_only};
+
+use m2_base::HeadingNote;
+use std::alloc::Global;
+use std::marker::Model;
+
+/// What a procedure's body copies first.
+#[derive(Clone, Copy, Debug, PartialEq, Eq)]
+pub enum ParamCopy {
+    /// A structured value parameter, whose address is in a cell, into cells of its own.
+    Own(u32, u32, u32),
+    /// An open array by value, whose address is in a cell, and the size of its elements.
+    Open(u32, u32),
+}
+
+/// The next free cell, what the procedure's body copies first, and a note of the heading.
+#[derive(Drop)]
+pub struct Effect {
+    pub cell: u32,
+    pub prologue: Vec<ParamCopy>,
+    pub heading: Option<HeadingNote>,
+}
+
+impl Model for Effect {
+    ghost use Rattle.std.specs.Prelude.{map};
+    ghost use Rattle.m2_base.specs.Statics.Effects.{Effect as PlainEffect};
+    ghost use Rattle.decl_sem.specs.Effects.{copy_view};
+
+    ghost Value = { PlainEffect };
+
+    ghost view = { λ e. record { cell = e.cell; prologue = map copy_view e.prologue.items; heading = e.heading } };
+}
+
+/// The next free cell, and nothing else.
+pub(crate) fn only_cell(alloc: Global, cell: u32) -> Effect
+    ensures { result ≡ spec_only cell }
+{
+    Effect {
+        cell,
+        prologue: Vec::new(alloc),
+        heading: None,
+    }
+}
+
+/// The next free cell, and a note of a heading.
+pub(crate) fn noted(alloc: Global, cell: u32, heading: Option<HeadingNote>) -> Effect
+    ensures { result ≡ record { cell = cell; prologue = []; heading = heading } }
+{
+    Effect {
+        cell,
+        prologue: Vec::new(alloc),
+        heading,
+    }
+}
