@@ -2,6 +2,8 @@
 #![tactic(auto)]
 
 #[cfg(test)]
+mod of_decisions;
+#[cfg(test)]
 mod of_m2_io;
 #[cfg(test)]
 mod of_m2c_top;

@@ -109,7 +109,7 @@ fn says_what_it_cannot_do(rt: HostRuntime) -> Result<(), Fail> {
         (&["compile", ""], 2, USAGE),
         (&["compile", "B"], 3, "no text B.mod\n"),
         (&["compile", "InOut2"], 3, "no text InOut2.mod\n"),
-        (&["compile", "A"], 11, "not built yet\n"),
+        (&["compile", "A"], 1, "A.mod:1:1: 20 unexpected token\n"),
     ];
     for (words, status, printed) in table {
         let mut shelf = shelf_of(alloc, b"", &[], 0)?;
@@ -166,7 +166,6 @@ fn builds_only_plain_texts(rt: HostRuntime) -> Result<(), Fail> {
     let alloc = rt.alloc();
     let table = [
         "MODULE A; VAR c: CHAR; END A.",
-        "MODULE B; END B.",
         "MODULE A; VAR x: INTEGER; BEGIN x := 1 + 2 END A.",
         "MODULE A; VAR x: INTEGER; BEGIN x := 2147483648 END A.",
         "MODULE A; VAR x: INTEGER; BEGIN x := 1END A.",
@@ -175,8 +174,6 @@ fn builds_only_plain_texts(rt: HostRuntime) -> Result<(), Fail> {
         "MODULE A; VAR x: INTEGER; BEGIN x := 17B END A.",
         "MODULE A; VAR x: INTEGER; BEGIN x := (1) END A.",
         "MODULE A; (* nothing *) END A.",
-        "MODULE A; x: INTEGER; END A.",
-        "MODULE A; END A. x",
     ];
     for text in table {
         let mut shelf = shelf_of(alloc, text.as_bytes(), &[], 0)?;
@@ -221,7 +218,7 @@ fn answers_faults(rt: HostRuntime) -> Result<(), Fail> {
 #[test]
 fn prints_a_front_before_a_fault(rt: HostRuntime) -> Result<(), Fail> {
     let alloc = rt.alloc();
-    let mut shelf = shelf_of(alloc, b"", &[], 0)?;
+    let mut shelf = shelf_of(alloc, b"MODULE A; VAR c: CHAR; END A.", &[], 0)?;
     let mut print = MemSink::new(alloc, [2u32].to_vec(alloc)?, 7, 1000)?;
     assert_eq!(rt; run(alloc, &["compile", "A"], &mut shelf, &mut print)?, 5);
     assert!(rt; print.bytes() == b"not bui".as_slice());
@@ -231,7 +228,7 @@ fn prints_a_front_before_a_fault(rt: HostRuntime) -> Result<(), Fail> {
 #[test]
 fn takes_a_text_up_to_the_limit(rt: HostRuntime) -> Result<(), Fail> {
     let alloc = rt.alloc();
-    for (blanks, status) in [(1_048_560, 0), (1_048_561, 11)] {
+    for (blanks, status) in [(1_048_560, 0), (1_048_561, 7)] {
         let mut text = EMPTY_MODULE.as_bytes().to_vec(alloc)?;
         for _ in 0..blanks {
             text.push(b' ')?;

@@ -1,84 +1,105 @@
--- What delivering a plain module leaves, as the outcome of compiling it.
-use Rattle.std.proofs.Common.{◌≡◌, ◌≢◌, ◌==◌, false, length, inl, inr, ℕ, List, [], Option, Some, refl, sym, ◌∙◌, ap, subst, Result, Ok, Err, IfOk, IfSome, OnErr}
+-- What answering a decision leaves, as the outcome of compiling the module.
+use Rattle.std.proofs.Common.{◌≡◌, ◌≢◌, ◌==◌, false, length, inl, inr, ℕ, List, [], Option, Some, refl, sym, ◌∙◌, ap, Result, Ok, Err, IfOk, IfSome, OnErr}
 use Rattle.std.specs.FinMap.{insert}
 use Rattle.std.proofs.lemmas.Bool.{false≢true}
 use Rattle.m2_base.specs.declared.notes.Diag.{Diag}
 use Rattle.m2_io.specs.Files.{Files, with_file}
-use Rattle.m2_io.specs.Written.{WritesPart}
-use Rattle.m2c_top.specs.Delivery.{Delivered, PrintsListing, PutsObject}
+use Rattle.m2c_top.specs.Decisions.{Decision, limited, unbuilt, refused, plain}
+use Rattle.m2c_top.specs.Delivery.{Says, Answered, Delivered, PrintsFront, PrintsListing, PutsFront, PutsObject}
 use Rattle.m2c_top.specs.Diagnostics.{diags_of}
 use Rattle.m2c_top.specs.Listing.{listing}
 use Rattle.m2c_top.specs.Object.{object_bytes}
-use Rattle.m2c_top.specs.Outcome.{Outcome, Compiles, no_text, compiled, diagnosed, not_built, HasPlainText, HasFaultyText, text_name, object_name, Leaves, PrintsPart, KeepsButObject}
+use Rattle.m2c_top.specs.Outcome.{Compiles, compiled, diagnosed, wrong, over_limit, not_built, IsDecided, text_name, object_name, Leaves, PrintsPart, KeepsButObject}
 use Rattle.m2c_top.specs.Statuses.{status_number, IsAnswer}
 use Rattle.m2c_top.specs.Trees.{Parsed}
 use Rattle.m2c_top.specs.declared.status.Status.{Status}
 use Rattle.m2c_top.specs.declared.status.Status.TheVariants.{Done, Diagnosed}
 use Rattle.m2c_top.specs.declared.top.Stop.{Stop}
-use Rattle.m2c_top.proofs.OneOutcome.{sound_or_faulty}
-use Rattle.m2c_top.proofs.OnePlain.{one_plain}
-use Rattle.m2c_top.proofs.Outcomes.{told, with_nothing, lacks_has, plain_other}
+use Rattle.m2c_top.proofs.OneOutcome.{prints_part}
+use Rattle.m2c_top.proofs.Outcomes.{told, with_nothing}
 
 -- a list that isn't empty is none
 pub not_empty : (xs ds : List Diag) → (length xs == 0) ≡ false → xs ≡ ds → ds ≢ []
 not_empty xs ds test same none = false≢true (sym test ∙ ap (λ (l : List Diag). length l == 0) (same ∙ none))
 
-listing_printed : (name : List ℕ) (files : Files) (p : Parsed) (old new : Option (List ℕ)) → HasFaultyText name files p → WritesPart old (listing (text_name name) p.tokens (diags_of p.tree)) new
-    → (outcome : Outcome) → Compiles name files outcome → WritesPart old outcome.printed new
-listing_printed name files p old new h part outcome (compiled q k) = absurd (sound_or_faulty name files q p k h)
-listing_printed name files p old new h part outcome (diagnosed q k) =
-    subst (λ (x : Parsed). WritesPart old (listing (text_name name) x.tokens (diags_of x.tree)) new) (one_plain name files p q h.0 k.0) part
-listing_printed name files p old new h part outcome (no_text l) = absurd (lacks_has _ _ l h.0.1)
-listing_printed name files p old new h part outcome (not_built q) = absurd (plain_other name files p h.0 q)
+module _ (name : List ℕ) (holds after : Option Files) (old new : Option (List ℕ)) where
+  status_answers : (d : Decision) (status : Status) → Answered name d status holds after old new → IsAnswer status
+  status_answers (limited limit) status a = inr (inr (inr (inl a.status_is)))
+  status_answers unbuilt status a = inr (inr (inr (inr a.status_is)))
+  status_answers (refused tokens diag) status a = inr (inl a.status_is)
+  status_answers (plain p) status (inl a) = inl a.status_is
+  status_answers (plain p) status (inr a) = inr (inl a.status_is)
 
-module _ (name : List ℕ) (p : Parsed) (holds after : Option Files) (old new : Option (List ℕ)) where
-  done_answers : (status : Status) → Delivered name p status holds after old new → IsAnswer status
-  done_answers status (inl a) = inl a.status_is
-  done_answers status (inr a) = inr (inl a.status_is)
+  status_keeps : (d : Decision) (status : Status) → Answered name d status holds after old new → (status ≡ Done → ⊥) → after ≡ holds
+  status_keeps (limited limit) status a other = a.files
+  status_keeps unbuilt status a other = a.files
+  status_keeps (refused tokens diag) status a other = a.files
+  status_keeps (plain p) status (inl a) other = absurd (other a.status_is)
+  status_keeps (plain p) status (inr a) other = a.files
 
-  done_keeps : (status : Status) → Delivered name p status holds after old new → (status ≡ Done → ⊥) → after ≡ holds
-  done_keeps status (inl a) other = absurd (other a.status_is)
-  done_keeps status (inr a) other = a.files
+  pub answered_answers : (d : Decision) (r : Result Status Stop) → IfOk r (λ status. Answered name d status holds after old new) → IfOk r IsAnswer
+  answered_answers d (Ok status) h = status_answers d status h
+  answered_answers d (Err stop) h = tt
 
-  pub delivered_answers : (r : Result Status Stop) → IfOk r (λ status. Delivered name p status holds after old new) → IfOk r IsAnswer
-  delivered_answers (Ok status) h = done_answers status h
-  delivered_answers (Err stop) h = tt
+  pub answered_keeps : (d : Decision) (r : Result Status Stop) → IfOk r (λ status. Answered name d status holds after old new) → IfOk r (λ status. (status ≡ Done → ⊥) → after ≡ holds)
+  answered_keeps d (Ok status) h = status_keeps d status h
+  answered_keeps d (Err stop) h = tt
 
-  pub delivered_keeps : (r : Result Status Stop) → IfOk r (λ status. Delivered name p status holds after old new) → IfOk r (λ status. (status ≡ Done → ⊥) → after ≡ holds)
-  delivered_keeps (Ok status) h = done_keeps status h
-  delivered_keeps (Err stop) h = tt
+  -- what is decided, where the files are told
+  abbrev Decided : Decision → Type 0
+  Decided d = (files : Files) → holds ≡ Some files → IsDecided name files d
 
-  module _ (plain : (files : Files) → holds ≡ Some files → HasPlainText name files p) where
-    done_leaves : (status : Status) → Delivered name p status holds after old new → IfSome holds (λ files. Leaves (Compiles name files) (status_number status) after old new)
-    done_leaves status (inl a) = told holds (λ files has. record {
-      outcome = record { status = Done; printed = []; files = insert files (object_name name) (object_bytes name p.tree) };
-      is_given = compiled p (plain files has, a.sound);
-      status_is = ap status_number a.status_is;
-      files_are = a.files ∙ ap (λ f. with_file f (object_name name) (object_bytes name p.tree)) has;
-      printed_is = a.printed ∙ with_nothing old;
-    })
-    done_leaves status (inr a) = told holds (λ files has. record {
-      outcome = record { status = Diagnosed; printed = listing (text_name name) p.tokens (diags_of p.tree); files = files };
-      is_given = diagnosed p (plain files has, a.faulty);
-      status_is = ap status_number a.status_is;
-      files_are = a.files ∙ has;
-      printed_is = a.printed;
-    })
+  said : (bytes : List ℕ) (wanted status : Status) → Says bytes wanted status holds after old new
+      → ((files : Files) → holds ≡ Some files → Compiles name files (record { status = wanted; printed = bytes; files = files }))
+      → IfSome holds (λ files. Leaves (Compiles name files) (status_number status) after old new)
+  said bytes wanted status a given = told holds (λ files has. record {
+    outcome = record { status = wanted; printed = bytes; files = files };
+    is_given = given files has;
+    status_is = ap status_number a.status_is;
+    files_are = a.files ∙ has;
+    printed_is = a.printed;
+  })
 
-    pub delivered_leaves : (r : Result Status Stop) → IfOk r (λ status. Delivered name p status holds after old new)
-        → IfOk r (λ status. IfSome holds (λ files. Leaves (Compiles name files) (status_number status) after old new))
-    delivered_leaves (Ok status) h = done_leaves status h
-    delivered_leaves (Err stop) h = tt
+  status_leaves : (d : Decision) → Decided d → (status : Status) → Answered name d status holds after old new
+      → IfSome holds (λ files. Leaves (Compiles name files) (status_number status) after old new)
+  status_leaves (limited limit) decided status a = said _ _ status a (λ files has. over_limit limit (decided files has))
+  status_leaves unbuilt decided status a = said _ _ status a (λ files has. not_built (decided files has))
+  status_leaves (refused tokens diag) decided status a = said _ _ status a (λ files has. wrong tokens diag (decided files has))
+  status_leaves (plain p) decided status (inl a) = told holds (λ files has. record {
+    outcome = record { status = Done; printed = []; files = insert files (object_name name) (object_bytes name p.tree) };
+    is_given = compiled p (decided files has, a.sound);
+    status_is = ap status_number a.status_is;
+    files_are = a.files ∙ ap (λ f. with_file f (object_name name) (object_bytes name p.tree)) has;
+    printed_is = a.printed ∙ with_nothing old;
+  })
+  status_leaves (plain p) decided status (inr a) = told holds (λ files has. record {
+    outcome = record { status = Diagnosed; printed = listing (text_name name) p.tokens (diags_of p.tree); files = files };
+    is_given = diagnosed p (decided files has, a.faulty);
+    status_is = ap status_number a.status_is;
+    files_are = a.files ∙ has;
+    printed_is = a.printed;
+  })
 
-    part_prints : PrintsListing name p old new → IfSome holds (λ files. PrintsPart (Compiles name files) old new)
-    part_prints (inl same) = told holds (λ files has outcome given. (0, same ∙ with_nothing old))
-    part_prints (inr part) = told holds (λ files has outcome given. listing_printed name files p old new (plain files has, part.0) part.1 outcome given)
+  pub answered_leaves : (d : Decision) → Decided d → (r : Result Status Stop) → IfOk r (λ status. Answered name d status holds after old new)
+      → IfOk r (λ status. IfSome holds (λ files. Leaves (Compiles name files) (status_number status) after old new))
+  answered_leaves d decided (Ok status) h = status_leaves d decided status h
+  answered_leaves d decided (Err stop) h = tt
 
-    pub delivered_prints : (r : Result Status Stop) → OnErr r (PrintsListing name p old new) → OnErr r (IfSome holds (λ files. PrintsPart (Compiles name files) old new))
-    delivered_prints (Ok status) h = tt
-    delivered_prints (Err stop) h = part_prints h
+  front_prints : (d : Decision) → Decided d → PrintsFront name d old new → IfSome holds (λ files. PrintsPart (Compiles name files) old new)
+  front_prints (limited limit) decided part = told holds (λ files has. prints_part name files _ old new (over_limit limit (decided files has)) part)
+  front_prints unbuilt decided part = told holds (λ files has. prints_part name files _ old new (not_built (decided files has)) part)
+  front_prints (refused tokens diag) decided part = told holds (λ files has. prints_part name files _ old new (wrong tokens diag (decided files has)) part)
+  front_prints (plain p) decided (inl same) = told holds (λ files has outcome given. (0, same ∙ with_nothing old))
+  front_prints (plain p) decided (inr part) = told holds (λ files has. prints_part name files _ old new (diagnosed p (decided files has, part.0)) part.1)
 
-    pub delivered_part : PutsObject name p holds after → KeepsButObject name holds after
-    delivered_part (inl same) = inl same
-    delivered_part (inr (sound, inl same)) = inl same
-    delivered_part (inr (sound, inr put)) = inr (object_bytes name p.tree, told holds (λ files has. (p, (plain files has, sound), refl)), put)
+  pub answered_prints : (d : Decision) → Decided d → (r : Result Status Stop) → OnErr r (PrintsFront name d old new) → OnErr r (IfSome holds (λ files. PrintsPart (Compiles name files) old new))
+  answered_prints d decided (Ok status) h = tt
+  answered_prints d decided (Err stop) h = front_prints d decided h
+
+  pub answered_part : (d : Decision) → Decided d → PutsFront name d holds after → KeepsButObject name holds after
+  answered_part (limited limit) decided same = inl same
+  answered_part unbuilt decided same = inl same
+  answered_part (refused tokens diag) decided same = inl same
+  answered_part (plain p) decided (inl same) = inl same
+  answered_part (plain p) decided (inr (sound, inl same)) = inl same
+  answered_part (plain p) decided (inr (sound, inr put)) = inr (object_bytes name p.tree, told holds (λ files has. (p, (decided files has, sound), refl)), put)

@@ -9,6 +9,7 @@ use Rattle.m2_base.specs.declared.notes.Diag.{Diag}
 use Rattle.m2_base.specs.declared.token.Token.{Token}
 use Rattle.m2_base.proofs.Kept.{Each-append, Each-map}
 use Rattle.m2c_top.specs.Codes.{diag_at, unknown_name, closing_differs}
+use Rattle.m2c_top.specs.Decisions.{Lexed, HasTokens}
 use Rattle.m2c_top.specs.Declarations.{fault_of, declared_after, fault_diags, diags_after}
 use Rattle.m2c_top.specs.Diagnostics.{use_diags, uses_diags, closing_diags, diags_of}
 use Rattle.m2c_top.specs.Plain.{IsPlain}
@@ -63,13 +64,23 @@ module _ (n : ℕ) where
   uses_below variables (u ∷ uses) h =
       Each-append IsBelow (use_diags variables u) (uses_diags variables uses) (one_below (is_variable variables u.name) u.at unknown_name h.0) (uses_below variables uses h.1)
 
+-- the tokens of a text have the numbers below their count, of which there is one at least
+pub tokens_below : (text : List ℕ) (u : Lexed) → HasTokens text u → (0 < length u.tokens) × Each (λ (t : Token). t.at < length u.tokens) u.tokens
+tokens_below text u has =
+    let numbered : AreNumbered 0 u.tokens = (text_listed standard_names u.names text u.tokens has.are_tokens has.short).0 in (
+      some u.tokens numbered,
+      Each-map (λ (t : Token). t.at < 0 + length u.tokens) (λ (t : Token). t.at < length u.tokens) u.tokens (λ t b. omega (arith, b)) (below 0 u.tokens numbered),
+    )
+  where
+    some : (tokens : List Token) → AreNumbered 0 tokens → 0 < length tokens
+    some [] h = absurd h
+    some (t ∷ tokens) h = omega arith
+
 pub diags_below : (name text : List ℕ) (p : Parsed) → IsPlain name text p → Each (λ (d : Diag). d.at < length p.tokens) (diags_of p.tree)
 diags_below name text p plain =
     let n = length p.tokens in
     let m = p.tree in
-    let numbered : AreNumbered 0 p.tokens = (text_listed standard_names plain.names text p.tokens plain.are_tokens plain.short).0 in
-    let tokens : Each (λ (t : Token). t.at < length p.tokens) p.tokens =
-    Each-map (λ (t : Token). t.at < 0 + length p.tokens) (λ (t : Token). t.at < length p.tokens) p.tokens (λ t b. omega (arith, b)) (below 0 p.tokens numbered) in
+    let tokens = (tokens_below text (record { names = plain.names; tokens = p.tokens }) (record { short = plain.short; are_tokens = plain.are_tokens; few = plain.few })).1 in
     let symbols = names_below (length p.tokens) p.tokens tokens in
     Each-append (IsBelow n) (diags_after [] m.variables ++ uses_diags (names_of m.variables) (body_uses m.body)) (closing_diags m.name.name m.close)
     (Each-append (IsBelow n) (diags_after [] m.variables) (uses_diags (names_of m.variables) (body_uses m.body))

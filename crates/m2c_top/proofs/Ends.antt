@@ -4,14 +4,14 @@ use Rattle.std.specs.Prelude.{IsErrOf}
 use Rattle.m2_io.specs.Files.{Files}
 use Rattle.m2c_top.specs.Command.{IsNoCommand}
 use Rattle.m2c_top.specs.Ending.{ended_as}
-use Rattle.m2c_top.specs.Outcome.{Gives, AsksToCompile, Commands, LacksText, HasSoundText, HasFaultyText, HasOtherText, Leaves}
+use Rattle.m2c_top.specs.Outcome.{Gives, AsksToCompile, Commands, Leaves}
 use Rattle.m2c_top.specs.Statuses.{status_number, IsFault, IsStatus, IsAnswer, Exactly}
-use Rattle.m2c_top.specs.Trees.{Parsed}
 use Rattle.m2c_top.specs.declared.status.Status.{Status}
 use Rattle.m2c_top.specs.declared.status.Status.TheVariants.{Done, NoCommand}
 use Rattle.m2c_top.specs.declared.top.Stop.{Stop}
 use Rattle.m2c_top.specs.declared.top.Stop.TheVariants as stop
-use Rattle.m2c_top.proofs.Table.{table_lacks, table_sound, table_faulty, table_other, map_told, asks_none}
+use Rattle.m2c_top.proofs.Asking.{asks_none}
+use Rattle.m2c_top.proofs.Table.{RowOf, left_exactly, map_told}
 
 -- the number that the work ends with
 abbrev pub number_of : Result Status Stop → ℕ
@@ -29,11 +29,6 @@ faulty status wanted P fault other = record {
   always = λ p. inr fault;
 }
 
-not_fault : (wanted : ℕ) → (wanted ≡ 4 → ⊥) → (wanted ≡ 5 → ⊥) → (wanted ≡ 6 → ⊥) → IsFault wanted → ⊥
-not_fault wanted a b c (inl e) = a e
-not_fault wanted a b c (inr (inl e)) = b e
-not_fault wanted a b c (inr (inr e)) = c e
-
 told_all : (holds : Option Files) (P : Files → Type 0) → ((files : Files) → P files) → IfSome holds P
 told_all None P h = tt
 told_all (Some files) P h = h files
@@ -44,38 +39,27 @@ module _ (words : List (List ℕ)) (holds after : Option Files) (old new : Optio
   ends_leaving (Ok status) leaves = inr leaves
   ends_leaving (Err s) leaves = inl (stop_fault s)
 
-  pub ends_no_text : (r : Result Status Stop) → IfOk r (λ status. IfSome holds (λ files. Leaves (Gives words files) (status_number status) after old new))
-      → IfSome holds (λ files. Exactly (number_of r) 3 (AsksToCompile words (λ n. LacksText n files)))
-  ends_no_text (Ok status) leaves = map_told holds _ (λ files. Exactly (status_number status) 3 (AsksToCompile words (λ n. LacksText n files))) (λ files l. table_lacks words files old new (status_number status) after l) leaves
-  ends_no_text (Err s) leaves = told_all holds _ (λ files. faulty (number_of (Err s)) 3 (AsksToCompile words (λ n. LacksText n files)) (stop_fault s) (not_fault 3 (λ e. omega (arith, e)) (λ e. omega (arith, e)) (λ e. omega (arith, e))))
-
-  pub ends_done : (r : Result Status Stop) → IfOk r (λ status. IfSome holds (λ files. Leaves (Gives words files) (status_number status) after old new))
-      → IfSome holds (λ files. Exactly (number_of r) 0 (AsksToCompile words (λ n. (p : Parsed) × HasSoundText n files p)))
-  ends_done (Ok status) leaves = map_told holds _ (λ files. Exactly (status_number status) 0 (AsksToCompile words (λ n. (p : Parsed) × HasSoundText n files p))) (λ files l. table_sound words files old new (status_number status) after l) leaves
-  ends_done (Err s) leaves = told_all holds _ (λ files. faulty (number_of (Err s)) 0 (AsksToCompile words (λ n. (p : Parsed) × HasSoundText n files p)) (stop_fault s) (not_fault 0 (λ e. omega (arith, e)) (λ e. omega (arith, e)) (λ e. omega (arith, e))))
-
-  pub ends_refused : (r : Result Status Stop) → IfOk r (λ status. IfSome holds (λ files. Leaves (Gives words files) (status_number status) after old new))
-      → IfSome holds (λ files. Exactly (number_of r) 1 (AsksToCompile words (λ n. (p : Parsed) × HasFaultyText n files p)))
-  ends_refused (Ok status) leaves = map_told holds _ (λ files. Exactly (status_number status) 1 (AsksToCompile words (λ n. (p : Parsed) × HasFaultyText n files p))) (λ files l. table_faulty words files old new (status_number status) after l) leaves
-  ends_refused (Err s) leaves = told_all holds _ (λ files. faulty (number_of (Err s)) 1 (AsksToCompile words (λ n. (p : Parsed) × HasFaultyText n files p)) (stop_fault s) (not_fault 1 (λ e. omega (arith, e)) (λ e. omega (arith, e)) (λ e. omega (arith, e))))
-
-  pub ends_not_built : (r : Result Status Stop) → IfOk r (λ status. IfSome holds (λ files. Leaves (Gives words files) (status_number status) after old new))
-      → IfSome holds (λ files. Exactly (number_of r) 11 (AsksToCompile words (λ n. HasOtherText n files)))
-  ends_not_built (Ok status) leaves = map_told holds _ (λ files. Exactly (status_number status) 11 (AsksToCompile words (λ n. HasOtherText n files))) (λ files l. table_other words files old new (status_number status) after l) leaves
-  ends_not_built (Err s) leaves = told_all holds _ (λ files. faulty (number_of (Err s)) 11 (AsksToCompile words (λ n. HasOtherText n files)) (stop_fault s) (not_fault 11 (λ e. omega (arith, e)) (λ e. omega (arith, e)) (λ e. omega (arith, e))))
+  pub ends_exactly : (wanted : ℕ) (fact : List ℕ → Files → Type 0) → RowOf wanted fact → (r : Result Status Stop)
+      → IfOk r (λ status. IfSome holds (λ files. Leaves (Gives words files) (status_number status) after old new))
+      → IfSome holds (λ files. Exactly (number_of r) wanted (AsksToCompile words (λ n. fact n files)))
+  ends_exactly wanted fact row (Ok status) leaves =
+      map_told holds _ (λ files. Exactly (status_number status) wanted (AsksToCompile words (λ n. fact n files))) (λ files l. left_exactly words files old new wanted fact row (status_number status) after l) leaves
+  ends_exactly wanted fact row (Err s) leaves =
+      told_all holds _ (λ files. faulty (number_of (Err s)) wanted (AsksToCompile words (λ n. fact n files)) (stop_fault s) (λ f. row.other (inr f)))
 
 -- what an end without a fault is
 abbrev pub IsWellEnded : List (List ℕ) → Status → Type 0
 IsWellEnded words status = (IsAnswer status × Commands words) ⊎ ((status ≡ NoCommand) × IsNoCommand words)
 
 abbrev pub IsAnswered : ℕ → Type 0
-IsAnswered n = (n ≡ 0) ⊎ (n ≡ 1) ⊎ (n ≡ 3) ⊎ (n ≡ 11)
+IsAnswered n = (n ≡ 0) ⊎ (n ≡ 1) ⊎ (n ≡ 3) ⊎ (n ≡ 7) ⊎ (n ≡ 11)
 
 answer_number : (status : Status) → IsAnswer status → IsAnswered (status_number status)
 answer_number status (inl e) = inl (ap status_number e)
 answer_number status (inr (inl e)) = inr (inl (ap status_number e))
 answer_number status (inr (inr (inl e))) = inr (inr (inl (ap status_number e)))
-answer_number status (inr (inr (inr e))) = inr (inr (inr (ap status_number e)))
+answer_number status (inr (inr (inr (inl e)))) = inr (inr (inr (inl (ap status_number e))))
+answer_number status (inr (inr (inr (inr e)))) = inr (inr (inr (inr (ap status_number e))))
 
 well_number : (words : List (List ℕ)) (status : Status) → IsWellEnded words status → IsAnswered (status_number status) ⊎ (status_number status ≡ 2)
 well_number words status (inl p) = inl (answer_number status p.0)
@@ -87,6 +71,12 @@ well_is_no_fault words status well fault = clash (status_number status) (well_nu
     clash : (n : ℕ) → IsAnswered n ⊎ (n ≡ 2) → IsFault n → ⊥
     clash n a f = grind arith
 
+-- 2 is no fault
+two_fault : IsFault 2 → ⊥
+two_fault (inl e) = omega (arith, e)
+two_fault (inr (inl e)) = omega (arith, e)
+two_fault (inr (inr e)) = omega (arith, e)
+
 module _ (words : List (List ℕ)) where
   pub ends_as_no_command : (r : Result Status Stop) → IfOk r (IsWellEnded words) → Exactly (number_of r) 2 (IsNoCommand words)
   ends_as_no_command (Ok status) (inl p) = record {
@@ -97,7 +87,7 @@ module _ (words : List (List ℕ)) where
       clash : (n : ℕ) → IsAnswered n → n ≡ 2 → ⊥
       clash n a e = grind arith
   ends_as_no_command (Ok status) (inr p) = record { only = λ e. p.1; always = λ none. inl (ap status_number p.0) }
-  ends_as_no_command (Err s) well = faulty (number_of (Err s)) 2 (IsNoCommand words) (stop_fault s) (not_fault 2 (λ e. omega (arith, e)) (λ e. omega (arith, e)) (λ e. omega (arith, e)))
+  ends_as_no_command (Err s) well = faulty (number_of (Err s)) 2 (IsNoCommand words) (stop_fault s) two_fault
 
   pub ends_with_status : (r : Result Status Stop) → IfOk r (IsWellEnded words) → IsStatus (number_of r)
   ends_with_status (Ok status) well = listed (status_number status) (well_number words status well)
@@ -106,9 +96,10 @@ module _ (words : List (List ℕ)) where
       listed n (inl (inl a)) = inl a
       listed n (inl (inr (inl b))) = inr (inl b)
       listed n (inl (inr (inr (inl c)))) = inr (inr (inr (inl c)))
-      listed n (inl (inr (inr (inr d)))) = inr (inr (inr (inr (inl d))))
+      listed n (inl (inr (inr (inr (inl d))))) = inr (inr (inr (inr (inl d))))
+      listed n (inl (inr (inr (inr (inr f))))) = inr (inr (inr (inr (inr (inl f)))))
       listed n (inr e) = inr (inr (inl e))
-  ends_with_status (Err s) well = inr (inr (inr (inr (inr (stop_fault s)))))
+  ends_with_status (Err s) well = inr (inr (inr (inr (inr (inr (stop_fault s))))))
 
   -- which stop a fault's number tells
   pub ends_stopped : (P : Type 0) (r : Result Status Stop) → IfOk r (IsWellEnded words) → OnErr r P → IsFault (number_of r) → P

@@ -1,43 +1,71 @@
 -- The words have one outcome.
-use Rattle.std.proofs.Common.{◌≡◌, ℕ, List, [], refl, sym, ◌∙◌, ap, subst}
+use Rattle.std.proofs.Common.{◌≡◌, ◌≢◌, ◌⊎◌, inl, inr, ℕ, List, [], ◌∷◌, ◌++◌, Option, refl, sym, ◌∙◌, ap, subst}
+use Rattle.std.specs.Prelude.{codes}
 use Rattle.std.specs.FinMap.{insert}
+use Rattle.m2_base.specs.declared.notes.Diag.{Diag}
 use Rattle.m2_io.specs.Files.{Files}
+use Rattle.m2_io.specs.Written.{WritesPart}
 use Rattle.m2c_top.specs.Command.{compile, Asks, IsNoCommand}
+use Rattle.m2c_top.specs.Decisions.{Decision, limited, unbuilt, refused, plain, Decides}
 use Rattle.m2c_top.specs.Diagnostics.{diags_of}
+use Rattle.m2c_top.specs.Limits.{limit_text}
 use Rattle.m2c_top.specs.Listing.{listing}
 use Rattle.m2c_top.specs.Object.{object_bytes}
-use Rattle.m2c_top.specs.Outcome.{Outcome, Gives, no_command, compiles, Compiles, compiled, diagnosed, no_text, not_built, HasSoundText, HasFaultyText, text_name, object_name}
+use Rattle.m2c_top.specs.Outcome.{Outcome, Gives, no_command, compiles, Compiles, compiled, diagnosed, wrong, no_text, over_limit, not_built, LacksText, IsDecided, HasSoundText, HasFaultyText, text_name, object_name, line, PrintsPart}
 use Rattle.m2c_top.specs.Trees.{Parsed}
-use Rattle.m2c_top.specs.declared.status.Status.TheVariants.{Done, Diagnosed}
-use Rattle.m2c_top.proofs.OnePlain.{one_plain}
-use Rattle.m2c_top.proofs.Outcomes.{lacks_has, plain_other}
-use Rattle.m2c_top.proofs.Table.{asks_none, same_name}
+use Rattle.m2c_top.specs.declared.status.Status.TheVariants.{Done, Diagnosed, NoText, OverLimit, NotBuilt}
+use Rattle.m2c_top.proofs.Asking.{asks_none, same_name}
+use Rattle.m2c_top.proofs.OneDecision.{one_decision}
+use Rattle.m2c_top.proofs.Outcomes.{lacks_has, some_same}
 
 module _ (name : List ℕ) (files : Files) where
-  pub sound_or_faulty : (p q : Parsed) → HasSoundText name files p → HasFaultyText name files q → ⊥
-  sound_or_faulty p q a b = b.1 (ap (λ (x : Parsed). diags_of x.tree) (sym (one_plain name files p q a.0 b.0)) ∙ a.1)
+  -- one thing is decided of the module's text
+  one_decided : (d e : Decision) → IsDecided name files d → IsDecided name files e → d ≡ e
+  one_decided d e a b =
+      one_decision name b.text d e (subst (λ t. Decides name t d) (some_same a.text b.text (sym a.has ∙ b.has)) a.decided) b.decided
+
+  abbrev lacking : Outcome
+  lacking = record { status = NoText; printed = line (codes "no text " ++ text_name name); files = files }
+
+  abbrev plain_outcome : Parsed → List Diag → Outcome
+  plain_outcome p [] = record { status = Done; printed = []; files = insert files (object_name name) (object_bytes name p.tree) }
+  plain_outcome p (diag ∷ diags) = record { status = Diagnosed; printed = listing (text_name name) p.tokens (diags_of p.tree); files = files }
+
+  abbrev outcome_for : Decision → Outcome
+  outcome_for (limited limit) = record { status = OverLimit; printed = line (limit_text limit); files = files }
+  outcome_for unbuilt = record { status = NotBuilt; printed = line (codes "not built yet"); files = files }
+  outcome_for (refused tokens diag) = record { status = Diagnosed; printed = listing (text_name name) tokens (diag ∷ []); files = files }
+  outcome_for (plain p) = plain_outcome p (diags_of p.tree)
+
+  faulty_outcome : (p : Parsed) (diags : List Diag) → diags ≢ []
+      → record { status = Diagnosed; printed = listing (text_name name) p.tokens (diags_of p.tree); files = files } ≡ plain_outcome p diags
+  faulty_outcome p [] some = absurd (some refl)
+  faulty_outcome p (diag ∷ diags) some = refl
+
+  -- the text is lacking, or something is decided of it
+  abbrev Row : Outcome → Type 0
+  Row o = (LacksText name files × (o ≡ lacking)) ⊎ ((d : Decision) × IsDecided name files d × (o ≡ outcome_for d))
+
+  row_of : (o : Outcome) → Compiles name files o → Row o
+  row_of o (compiled p h) = inr (plain p, h.0, ap (plain_outcome p) (sym h.1))
+  row_of o (diagnosed p h) = inr (plain p, h.0, faulty_outcome p (diags_of p.tree) h.1)
+  row_of o (wrong tokens diag h) = inr (refused tokens diag, h, refl)
+  row_of o (no_text l) = inl (l, refl)
+  row_of o (over_limit limit h) = inr (limited limit, h, refl)
+  row_of o (not_built h) = inr (unbuilt, h, refl)
+
+  one_row : (these those : Outcome) → Row these → Row those → these ≡ those
+  one_row these those (inl a) (inl b) = a.1 ∙ sym b.1
+  one_row these those (inl a) (inr b) = absurd (lacks_has _ _ a.0 b.1.has)
+  one_row these those (inr a) (inl b) = absurd (lacks_has _ _ b.0 a.1.has)
+  one_row these those (inr a) (inr b) = a.2 ∙ ap outcome_for (one_decided a.0 b.0 a.1 b.1) ∙ sym b.2
 
   pub one_compiling : (these those : Outcome) → Compiles name files these → Compiles name files those → these ≡ those
-  one_compiling these those (compiled p a) (compiled q b) =
-      let outcome : Parsed → Outcome = λ x. record { status = Done; printed = []; files = insert files (object_name name) (object_bytes name x.tree) } in
-      ap outcome (one_plain name files p q a.0 b.0)
-  one_compiling these those (compiled p a) (diagnosed q b) = absurd (sound_or_faulty p q a b)
-  one_compiling these those (compiled p a) (no_text l) = absurd (lacks_has _ _ l a.0.1)
-  one_compiling these those (compiled p a) (not_built q) = absurd (plain_other name files p a.0 q)
-  one_compiling these those (diagnosed p a) (compiled q b) = absurd (sound_or_faulty q p b a)
-  one_compiling these those (diagnosed p a) (diagnosed q b) =
-      let outcome : Parsed → Outcome = λ x. record { status = Diagnosed; printed = listing (text_name name) x.tokens (diags_of x.tree); files = files } in
-      ap outcome (one_plain name files p q a.0 b.0)
-  one_compiling these those (diagnosed p a) (no_text l) = absurd (lacks_has _ _ l a.0.1)
-  one_compiling these those (diagnosed p a) (not_built q) = absurd (plain_other name files p a.0 q)
-  one_compiling these those (no_text l) (compiled q b) = absurd (lacks_has _ _ l b.0.1)
-  one_compiling these those (no_text l) (diagnosed q b) = absurd (lacks_has _ _ l b.0.1)
-  one_compiling these those (no_text l) (no_text k) = refl
-  one_compiling these those (no_text l) (not_built q) = absurd (lacks_has _ _ l q.1)
-  one_compiling these those (not_built q) (compiled p a) = absurd (plain_other name files p a.0 q)
-  one_compiling these those (not_built q) (diagnosed p a) = absurd (plain_other name files p a.0 q)
-  one_compiling these those (not_built q) (no_text k) = absurd (lacks_has _ _ k q.1)
-  one_compiling these those (not_built p) (not_built q) = refl
+  one_compiling these those h k = one_row these those (row_of these h) (row_of those k)
+
+  -- what is a front of what one outcome prints is a front of what is printed
+  pub prints_part : (outcome : Outcome) (old new : Option (List ℕ)) → Compiles name files outcome → WritesPart old outcome.printed new → PrintsPart (Compiles name files) old new
+  prints_part outcome old new h part other k = subst (λ (o : Outcome). WritesPart old o.printed new) (one_compiling outcome other h k) part
 
 compiling_one : (words : List (List ℕ)) (files : Files) (name : List ℕ) (these those : Outcome) → Asks words (compile name) → Compiles name files these → Gives words files those → these ≡ those
 compiling_one words files name these those asks h (no_command none) = absurd (asks_none words (compile name) asks none)

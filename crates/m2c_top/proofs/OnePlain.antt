@@ -1,16 +1,12 @@
 -- A text is that of one plain module.
-use Rattle.std.proofs.Common.{◌≡◌, ℕ, List, Some, sym, ◌∙◌, ap, subst, map}
-use Rattle.std.specs.FinMap.{get}
+use Rattle.std.proofs.Common.{◌≡◌, ℕ, List, sym, ◌∙◌, ap, map}
 use Rattle.m2_base.specs.Names.{standard_names}
 use Rattle.m2_base.proofs.OneList.{one_list_of_tokens}
-use Rattle.m2_io.specs.Files.{Files}
-use Rattle.m2c_top.specs.Outcome.{HasPlainText, text_name}
 use Rattle.m2c_top.specs.Plain.{IsPlain}
 use Rattle.m2c_top.specs.Reading.{module_at}
 use Rattle.m2c_top.specs.Symbols.{symbol_of}
 use Rattle.m2c_top.specs.Trees.{Parsed}
 use Rattle.m2c_top.proofs.Fronts.{some_is}
-use Rattle.m2c_top.proofs.Outcomes.{some_same}
 use Rattle.m2c_top.proofs.SpelledRead.{spelled_read}
 
 same_parts : (p q : Parsed) → p.tokens ≡ q.tokens → p.tree ≡ q.tree → p ≡ q
@@ -22,11 +18,3 @@ one_parsed name text p q a b =
     let same = one_list_of_tokens standard_names a.names b.names text p.tokens q.tokens a.are_tokens b.are_tokens in
     same_parts p q same
     (some_is p.tree q.tree (sym (spelled_read p.tree (map symbol_of p.tokens) a.spelled) ∙ ap (λ tokens. module_at (map symbol_of tokens)) same ∙ spelled_read q.tree (map symbol_of q.tokens) b.spelled))
-
-module _ (name : List ℕ) (files : Files) where
-  -- the shelf has one text of a name
-  pub same_text : (x y : List ℕ) → get files (text_name name) ≡ Some x → get files (text_name name) ≡ Some y → x ≡ y
-  same_text x y e f = some_same x y (sym e ∙ f)
-
-  pub one_plain : (p q : Parsed) → HasPlainText name files p → HasPlainText name files q → p ≡ q
-  one_plain p q a b = one_parsed name b.0 p q (subst (λ text. IsPlain name text p) (same_text a.0 b.0 a.1 b.1) a.2) b.2

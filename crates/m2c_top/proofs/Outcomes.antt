@@ -9,9 +9,8 @@ use Rattle.m2_base.specs.Kinds.{kind_in, reserved_words}
 use Rattle.m2_io.specs.Files.{Files, front_of}
 use Rattle.m2_io.specs.Written.{with_bytes, WritesPart}
 use Rattle.m2c_top.specs.Command.{is_name, is_identifier}
-use Rattle.m2c_top.specs.Outcome.{Outcome, Compiles, no_text, compiled, diagnosed, not_built, LacksText, HasPlainText, HasOtherText, text_name, line, Leaves, PrintsPart}
-use Rattle.m2c_top.specs.Plain.{IsPlain}
-use Rattle.m2c_top.specs.Trees.{Parsed}
+use Rattle.m2c_top.specs.Decisions.{Decision, Decides, too_long, too_many_tokens, other_form, other_name, faulty, plain_module, other_tree}
+use Rattle.m2c_top.specs.Outcome.{Outcome, LacksText, IsDecided, text_name, line, Leaves, PrintsPart}
 
 pub on_err : {T E : Type 0} (r : Result T E) {P : Type 0} → P → OnErr r P
 on_err (Ok x) p = tt
@@ -42,23 +41,6 @@ lacks_has o x e f = cc
 pub some_same : {X : Type 0} (x y : X) → Some x ≡ Some y → x ≡ y
 some_same x y p = cc
 
--- where the text is lacking, this line alone is printed
-pub prints_no_text : (name : List ℕ) (files : Files) (old new : Option (List ℕ)) → LacksText name files → WritesPart old (line (codes "no text " ++ text_name name)) new → PrintsPart (Compiles name files) old new
-prints_no_text name files old new lacks part answer (no_text l) = part
-prints_no_text name files old new lacks part answer (compiled p h) = absurd (lacks_has _ _ lacks h.0.1)
-prints_no_text name files old new lacks part answer (diagnosed p h) = absurd (lacks_has _ _ lacks h.0.1)
-prints_no_text name files old new lacks part answer (not_built h) = absurd (lacks_has _ _ lacks h.1)
-
-pub plain_other : (name : List ℕ) (files : Files) (p : Parsed) → HasPlainText name files p → HasOtherText name files → ⊥
-plain_other name files p h other = other.2 p (subst (λ text. IsPlain name text p) (some_same h.0 other.0 (sym h.1 ∙ other.1)) h.2)
-
--- where the text isn't plain, this line alone is printed
-pub prints_not_built : (name : List ℕ) (files : Files) (old new : Option (List ℕ)) → HasOtherText name files → WritesPart old (line (codes "not built yet")) new → PrintsPart (Compiles name files) old new
-prints_not_built name files old new other part answer (no_text l) = absurd (lacks_has _ _ l other.1)
-prints_not_built name files old new other part answer (compiled p h) = absurd (plain_other name files p h.0 other)
-prints_not_built name files old new other part answer (diagnosed p h) = absurd (plain_other name files p h.0 other)
-prints_not_built name files old new other part answer (not_built h) = part
-
 pub name_short : (name : List ℕ) → is_name name ≡ true → length name ≤ 64
 name_short name h =
     let parts = and_parts (is_identifier name && nat_le (length name) 64) (not (is_some (kind_in reserved_words name) || bytes_eq name (codes "InOut"))) h in
@@ -87,14 +69,31 @@ whole_front text most h = take_all most text (shorter most (length text) (subst 
     shorter : (a b : ℕ) → min a b < a → b ≤ a
     shorter a b p = omega arith
 
-plain_front : (name text x : List ℕ) (m : Parsed) (most : ℕ) → most ≡ 1048576 + 1 → x ≡ take most text → IsPlain name x m → IsPlain name text m
-plain_front name text x m most size is p =
-    let room : length (take most text) < most = subst (λ n. n < most) (ap length is) (omega (arith, p.short, size)) in
-    subst (λ t. IsPlain name t m) (is ∙ whole_front text most room) p
+-- what is decided of the front of a text is decided of the text
+front_decides : (name text x : List ℕ) (d : Decision) (most : ℕ) → most ≡ 1048576 + 1 → x ≡ take most text → Decides name x d → Decides name text d
+front_decides name text x d most size is h = go d h
+  where
+    -- a front within the limit is the text
+    whole : length x ≤ 1048576 → x ≡ text
+    whole short =
+        let room : length (take most text) < most = subst (λ n. n < most) (ap length is) (omega (arith, short, size)) in
+        is ∙ whole_front text most room
 
-front_plain : (name text x : List ℕ) (m : Parsed) (most : ℕ) → most ≡ 1048576 + 1 → x ≡ take most text → IsPlain name text m → IsPlain name x m
-front_plain name text x m most size is p =
-    subst (λ t. IsPlain name t m) (sym (is ∙ take_all most text (omega (arith, size, p.short)))) p
+    longer : 1048576 < length x → 1048576 < length text
+    longer long = omega (arith, long, ap length is ∙ length-take most text)
+
+    -- nothing but its length is decided of a longer one
+    within : (e : Decision) → length x ≤ 1048576 → Decides name x e → Decides name text e
+    within e short k = subst (λ t. Decides name t e) (whole short) k
+
+    go : (e : Decision) → Decides name x e → Decides name text e
+    go e (too_long long) = too_long (longer long)
+    go e (too_many_tokens short many) = within e short (too_many_tokens short many)
+    go e (other_form u t f) = within e t.short (other_form u t f)
+    go e (other_name u at b n) = within e b.has_tokens.short (other_name u at b n)
+    go e (faulty u f b n r) = within e b.has_tokens.short (faulty u f b n r)
+    go e (plain_module u t p b n r k) = within e b.has_tokens.short (plain_module u t p b n r k)
+    go e (other_tree u t b n r k) = within e b.has_tokens.short (other_tree u t b n r k)
 
 module _ {V : Type 0} (items : V → List ℕ) (holds : Option Files) (files : Files) (name : List ℕ) (most : ℕ) (found : Option V)
     (reads : IfSome holds (λ f. option_map items found ≡ front_of f (text_name name) most)) (has : holds ≡ Some files) where
@@ -104,16 +103,10 @@ module _ {V : Type 0} (items : V → List ℕ) (holds : Option Files) (files : F
   pub lacking : found ≡ None → LacksText name files
   lacking e = front_none files (text_name name) most (sym read ∙ ap (option_map items) e)
 
-  module _ (v : V) (x : List ℕ) (size : most ≡ 1048576 + 1) (e : found ≡ Some v) (same : x ≡ items v) where
-    pub has_plain : (m : Parsed) → IsPlain name x m → HasPlainText name files m
-    has_plain m plain =
-        let text = front_some files (text_name name) most (items v) (sym read ∙ ap (option_map items) e) in
-        (text.0, text.1, plain_front name text.0 x m most size (same ∙ text.2) plain)
-
-    pub has_other : ((m : Parsed) → IsPlain name x m → ⊥) → HasOtherText name files
-    has_other none =
-        let text = front_some files (text_name name) most (items v) (sym read ∙ ap (option_map items) e) in
-        (text.0, text.1, λ m plain. none m (front_plain name text.0 x m most size (same ∙ text.2) plain))
+  pub is_decided : (v : V) (x : List ℕ) (d : Decision) → most ≡ 1048576 + 1 → found ≡ Some v → x ≡ items v → Decides name x d → IsDecided name files d
+  is_decided v x d size e same decided =
+      let text = front_some files (text_name name) most (items v) (sym read ∙ ap (option_map items) e) in
+      record { text = text.0; has = text.1; decided = front_decides name text.0 x d most size (same ∙ text.2) decided }
 
 pub no_text_line : (name : List ℕ) → codes "no text " ++ name ++ codes ".mod\n" ≡ line (codes "no text " ++ text_name name)
 no_text_line name = ap (λ t. codes "no text " ++ t) (sym (append_assoc name (codes ".mod") (10 ∷ [])))

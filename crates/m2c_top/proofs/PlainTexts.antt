@@ -9,6 +9,7 @@ use Rattle.m2_base.proofs.OneReading.{one_list_of_lexemes}
 use Rattle.m2_base.proofs.OneList.{one_list_of_names, one_list_of_tokens}
 use Rattle.m2_lex.specs.Faults.{HasTooMany}
 use Rattle.m2c_top.specs.Bytes.{are_plain_bytes}
+use Rattle.m2c_top.specs.Decisions.{Lexed, HasTokens}
 use Rattle.m2c_top.specs.Grammar.{Spells}
 use Rattle.m2c_top.specs.Plain.{IsPlain, is_meant}
 use Rattle.m2c_top.specs.Reading.{module_at}
@@ -23,14 +24,14 @@ same_length R [] (y ∷ ys) h = absurd h
 same_length R (x ∷ xs) [] h = absurd h
 same_length R (x ∷ xs) (y ∷ ys) h = omega (arith, same_length R xs ys h.1)
 
--- a text of too many tokens is no plain module's
-pub too_many_plain : (name text : List ℕ) (p : Parsed) → HasTooMany text → IsPlain name text p → ⊥
-too_many_plain name text p many plain =
-    let tokens = plain.are_tokens in
+-- a text with tokens hasn't too many
+pub too_many : (text : List ℕ) (u : Lexed) → HasTokens text u → HasTooMany text → ⊥
+too_many text u has many =
+    let tokens = has.are_tokens in
     let same : tokens.lexemes ≡ many.0 = one_list_of_lexemes text tokens.lexemes many.0 tokens.split many.1 in
-    let count : length (placed tokens.lexemes) ≡ length p.tokens = same_length (IsToken plain.names) (placed tokens.lexemes) p.tokens tokens.each in
+    let count : length (placed tokens.lexemes) ≡ length u.tokens = same_length (IsToken u.names) (placed tokens.lexemes) u.tokens tokens.each in
     let many_placed : 1048576 < length (placed tokens.lexemes) = subst (λ lexemes. 1048576 < length (placed lexemes)) (sym same) many.2 in
-    omega (arith, plain.few, count, many_placed)
+    omega (arith, has.few, count, many_placed)
 
 none_some : {A : Type 0} (x : A) → None ≡ Some x → ⊥
 none_some x e = cc

@@ -1,90 +1,108 @@
 -- The table of statuses, from the outcomes.
-use Rattle.std.proofs.Common.{◌≡◌, inl, ℕ, List, [], ◌∷◌, Option, Some, None, refl, sym, ◌∙◌, ap, subst, arith, IfSome}
+use Rattle.std.proofs.Common.{◌≡◌, ◌⊎◌, inl, inr, ℕ, ◌==◌, ◌||◌, Bool, true, not, List, Option, Some, None, refl, sym, ◌∙◌, ap, subst, arith, IfSome}
 use Rattle.std.specs.Prelude.{codes}
+use Rattle.std.proofs.lemmas.Bool.{false≢true}
 use Rattle.m2_io.specs.Files.{Files}
 use Rattle.m2_io.specs.Written.{WritesPart, with_bytes}
-use Rattle.m2c_top.specs.Command.{Command, compile, Asks, IsNoCommand}
+use Rattle.m2c_top.specs.Command.{compile, Asks, IsNoCommand}
 use Rattle.m2c_top.specs.Trees.{Parsed}
-use Rattle.m2c_top.specs.Outcome.{Outcome, Gives, no_command, compiles, Compiles, no_text, compiled, diagnosed, not_built, AsksToCompile, LacksText, HasPlainText, HasSoundText, HasFaultyText, HasOtherText, line, Leaves, PrintsPart}
-use Rattle.m2c_top.specs.Statuses.{status_number, Exactly}
+use Rattle.m2c_top.specs.Outcome.{Outcome, Gives, no_command, compiles, Compiles, no_text, compiled, diagnosed, wrong, over_limit, not_built, AsksToCompile, LacksText, HasSoundText, HasDiagnostics, HasTooMuchText, HasOtherText, line, Leaves, PrintsPart}
+use Rattle.m2c_top.specs.Statuses.{status_number, IsFault, Exactly}
 use Rattle.m2c_top.specs.declared.status.Status.TheVariants.{NoCommand}
-use Rattle.m2c_top.specs.Diagnostics.{diags_of}
-use Rattle.m2c_top.proofs.OnePlain.{one_plain}
-use Rattle.m2c_top.proofs.Outcomes.{lacks_has, plain_other}
+use Rattle.m2c_top.specs.declared.verdict.Limit.{Limit}
+use Rattle.m2c_top.proofs.Asking.{asks_none, same_name}
+use Rattle.m2c_top.proofs.OneOutcome.{one_compiling}
 
-pub same_name : (words : List (List ℕ)) (a b : List ℕ) → Asks words (compile a) → Asks words (compile b) → a ≡ b
-same_name words a b p q = second (codes "compile") (codes "compile") a b (sym p.0 ∙ q.0)
+-- a status that is neither that of no command nor a fault
+abbrev is_other : ℕ → Bool
+is_other n = not (n == 2 || n == 4 || n == 5 || n == 6)
+
+-- The row of a status: this fact holds of a module exactly where compiling it ends with that.
+pub record RowOf (wanted : ℕ) (fact : List ℕ → Files → Type 0) : Type 0 where
+  pub other : (wanted ≡ 2) ⊎ IsFault wanted → ⊥
+  pub only : (name : List ℕ) (files : Files) (o : Outcome) → Compiles name files o → status_number o.status ≡ wanted → fact name files
+  pub always : (name : List ℕ) (files : Files) (o : Outcome) → fact name files → Compiles name files o → status_number o.status ≡ wanted
+
+-- where a fact gives an outcome with that status, compiling gives no other
+of_status : (name : List ℕ) (files : Files) (this o : Outcome) → Compiles name files this → Compiles name files o → status_number o.status ≡ status_number this.status
+of_status name files this o h k = ap (λ (x : Outcome). status_number x.status) (one_compiling name files o this k h)
+
+unlike : (n : ℕ) → is_other n ≡ true → (n ≡ 2) ⊎ IsFault n → ⊥
+unlike n e h = clash n e h
   where
-    second : (u v x y : List ℕ) → u ∷ x ∷ [] ≡ v ∷ y ∷ [] → x ≡ y
-    second u v x y e = cc
+    clash : (n : ℕ) → is_other n ≡ true → (n ≡ 2) ⊎ IsFault n → ⊥
+    clash n e (inl two) = false≢true (sym (ap is_other two) ∙ e)
+    clash n e (inr (inl four)) = false≢true (sym (ap is_other four) ∙ e)
+    clash n e (inr (inr (inl five))) = false≢true (sym (ap is_other five) ∙ e)
+    clash n e (inr (inr (inr six))) = false≢true (sym (ap is_other six) ∙ e)
 
--- no words both ask and are no command
-pub asks_none : (words : List (List ℕ)) (command : Command) → Asks words command → IsNoCommand words → ⊥
-asks_none words command asks none = none command asks
+pub lacks_row : RowOf 3 LacksText
+lacks_row = record { other = unlike 3 refl; only = only; always = λ name files o l k. of_status name files _ o (no_text l) k }
+  where
+    only : (name : List ℕ) (files : Files) (o : Outcome) → Compiles name files o → status_number o.status ≡ 3 → LacksText name files
+    only name files o (no_text l) e = l
+    only name files o (compiled p h) e = absurd (omega (arith, e))
+    only name files o (diagnosed p h) e = absurd (omega (arith, e))
+    only name files o (wrong tokens diag h) e = absurd (omega (arith, e))
+    only name files o (over_limit limit h) e = absurd (omega (arith, e))
+    only name files o (not_built h) e = absurd (omega (arith, e))
+
+pub sound_row : RowOf 0 (λ name files. (p : Parsed) × HasSoundText name files p)
+sound_row = record { other = unlike 0 refl; only = only; always = λ name files o h k. of_status name files _ o (compiled h.0 h.1) k }
+  where
+    only : (name : List ℕ) (files : Files) (o : Outcome) → Compiles name files o → status_number o.status ≡ 0 → (p : Parsed) × HasSoundText name files p
+    only name files o (compiled p h) e = (p, h)
+    only name files o (no_text l) e = absurd (omega (arith, e))
+    only name files o (diagnosed p h) e = absurd (omega (arith, e))
+    only name files o (wrong tokens diag h) e = absurd (omega (arith, e))
+    only name files o (over_limit limit h) e = absurd (omega (arith, e))
+    only name files o (not_built h) e = absurd (omega (arith, e))
+
+pub diagnostics_row : RowOf 1 HasDiagnostics
+diagnostics_row = record { other = unlike 1 refl; only = only; always = always }
+  where
+    only : (name : List ℕ) (files : Files) (o : Outcome) → Compiles name files o → status_number o.status ≡ 1 → HasDiagnostics name files
+    only name files o (diagnosed p h) e = inr (p, h)
+    only name files o (wrong tokens diag h) e = inl (tokens, diag, h)
+    only name files o (no_text l) e = absurd (omega (arith, e))
+    only name files o (compiled p h) e = absurd (omega (arith, e))
+    only name files o (over_limit limit h) e = absurd (omega (arith, e))
+    only name files o (not_built h) e = absurd (omega (arith, e))
+
+    always : (name : List ℕ) (files : Files) (o : Outcome) → HasDiagnostics name files → Compiles name files o → status_number o.status ≡ 1
+    always name files o (inl h) k = of_status name files _ o (wrong h.0 h.1 h.2) k
+    always name files o (inr h) k = of_status name files _ o (diagnosed h.0 h.1) k
+
+pub limit_row : RowOf 7 (λ name files. (limit : Limit) × HasTooMuchText name files limit)
+limit_row = record { other = unlike 7 refl; only = only; always = λ name files o h k. of_status name files _ o (over_limit h.0 h.1) k }
+  where
+    only : (name : List ℕ) (files : Files) (o : Outcome) → Compiles name files o → status_number o.status ≡ 7 → (limit : Limit) × HasTooMuchText name files limit
+    only name files o (over_limit limit h) e = (limit, h)
+    only name files o (no_text l) e = absurd (omega (arith, e))
+    only name files o (compiled p h) e = absurd (omega (arith, e))
+    only name files o (diagnosed p h) e = absurd (omega (arith, e))
+    only name files o (wrong tokens diag h) e = absurd (omega (arith, e))
+    only name files o (not_built h) e = absurd (omega (arith, e))
+
+pub other_row : RowOf 11 HasOtherText
+other_row = record { other = unlike 11 refl; only = only; always = λ name files o h k. of_status name files _ o (not_built h) k }
+  where
+    only : (name : List ℕ) (files : Files) (o : Outcome) → Compiles name files o → status_number o.status ≡ 11 → HasOtherText name files
+    only name files o (not_built h) e = h
+    only name files o (no_text l) e = absurd (omega (arith, e))
+    only name files o (compiled p h) e = absurd (omega (arith, e))
+    only name files o (diagnosed p h) e = absurd (omega (arith, e))
+    only name files o (wrong tokens diag h) e = absurd (omega (arith, e))
+    only name files o (over_limit limit h) e = absurd (omega (arith, e))
 
 module _ (words : List (List ℕ)) (files : Files) where
-  lacks_plain : (a b : List ℕ) → Asks words (compile a) → Asks words (compile b) → LacksText a files → (p : Parsed) → HasPlainText b files p → ⊥
-  lacks_plain a b p q l m h = lacks_has _ _ (subst (λ n. LacksText n files) (same_name words a b p q) l) h.1
-
-  lacks_sound : (a b : List ℕ) → Asks words (compile a) → Asks words (compile b) → LacksText a files → (p : Parsed) → HasSoundText b files p → ⊥
-  lacks_sound a b p q l m h = lacks_plain a b p q l m h.0
-
-  lacks_faulty : (a b : List ℕ) → Asks words (compile a) → Asks words (compile b) → LacksText a files → (p : Parsed) → HasFaultyText b files p → ⊥
-  lacks_faulty a b p q l m h = lacks_plain a b p q l m h.0
-
-  lacks_other : (a b : List ℕ) → Asks words (compile a) → Asks words (compile b) → LacksText a files → HasOtherText b files → ⊥
-  lacks_other a b p q l h = lacks_has _ _ (subst (λ n. LacksText n files) (same_name words a b p q) l) h.1
-
-  sound_faulty : (a b : List ℕ) → Asks words (compile a) → Asks words (compile b) → (m : Parsed) → HasSoundText a files m → (n : Parsed) → HasFaultyText b files n → ⊥
-  sound_faulty a b p q m h n k =
-      let same : m ≡ n = one_plain b files m n (subst (λ x. HasPlainText x files m) (same_name words a b p q) h.0) k.0 in
-      k.1 (ap (λ (x : Parsed). diags_of x.tree) (sym same) ∙ h.1)
-
-  sound_other : (a b : List ℕ) → Asks words (compile a) → Asks words (compile b) → (m : Parsed) → HasSoundText a files m → HasOtherText b files → ⊥
-  sound_other a b p q m h o = plain_other b files m (subst (λ n. HasPlainText n files m) (same_name words a b p q) h.0) o
-
-  faulty_other : (a b : List ℕ) → Asks words (compile a) → Asks words (compile b) → (m : Parsed) → HasFaultyText a files m → HasOtherText b files → ⊥
-  faulty_other a b p q m h o = plain_other b files m (subst (λ n. HasPlainText n files m) (same_name words a b p q) h.0) o
-
-  exactly_lacks_of : (name : List ℕ) (outcome : Outcome) → Asks words (compile name) → Compiles name files outcome → Exactly (status_number outcome.status) 3 (AsksToCompile words (λ n. LacksText n files))
-  exactly_lacks_of name outcome asks (no_text l) = record { only = λ e. (name, asks, l); always = λ a. inl refl }
-  exactly_lacks_of name outcome asks (compiled p h) = record { only = λ e. absurd (omega (arith, e)); always = λ a. absurd (lacks_sound a.0 name a.1 asks a.2 p h) }
-  exactly_lacks_of name outcome asks (diagnosed p h) = record { only = λ e. absurd (omega (arith, e)); always = λ a. absurd (lacks_faulty a.0 name a.1 asks a.2 p h) }
-  exactly_lacks_of name outcome asks (not_built h) = record { only = λ e. absurd (omega (arith, e)); always = λ a. absurd (lacks_other a.0 name a.1 asks a.2 h) }
-
-  exactly_sound_of : (name : List ℕ) (outcome : Outcome) → Asks words (compile name) → Compiles name files outcome → Exactly (status_number outcome.status) 0 (AsksToCompile words (λ n. (p : Parsed) × HasSoundText n files p))
-  exactly_sound_of name outcome asks (no_text l) = record { only = λ e. absurd (omega (arith, e)); always = λ a. absurd (lacks_sound name a.0 asks a.1 l a.2.0 a.2.1) }
-  exactly_sound_of name outcome asks (compiled p h) = record { only = λ e. (name, asks, (p, h)); always = λ a. inl refl }
-  exactly_sound_of name outcome asks (diagnosed p h) = record { only = λ e. absurd (omega (arith, e)); always = λ a. absurd (sound_faulty a.0 name a.1 asks a.2.0 a.2.1 p h) }
-  exactly_sound_of name outcome asks (not_built h) = record { only = λ e. absurd (omega (arith, e)); always = λ a. absurd (sound_other a.0 name a.1 asks a.2.0 a.2.1 h) }
-
-  exactly_faulty_of : (name : List ℕ) (outcome : Outcome) → Asks words (compile name) → Compiles name files outcome → Exactly (status_number outcome.status) 1 (AsksToCompile words (λ n. (p : Parsed) × HasFaultyText n files p))
-  exactly_faulty_of name outcome asks (no_text l) = record { only = λ e. absurd (omega (arith, e)); always = λ a. absurd (lacks_faulty name a.0 asks a.1 l a.2.0 a.2.1) }
-  exactly_faulty_of name outcome asks (compiled p h) = record { only = λ e. absurd (omega (arith, e)); always = λ a. absurd (sound_faulty name a.0 asks a.1 p h a.2.0 a.2.1) }
-  exactly_faulty_of name outcome asks (diagnosed p h) = record { only = λ e. (name, asks, (p, h)); always = λ a. inl refl }
-  exactly_faulty_of name outcome asks (not_built h) = record { only = λ e. absurd (omega (arith, e)); always = λ a. absurd (faulty_other a.0 name a.1 asks a.2.0 a.2.1 h) }
-
-  exactly_other_of : (name : List ℕ) (outcome : Outcome) → Asks words (compile name) → Compiles name files outcome → Exactly (status_number outcome.status) 11 (AsksToCompile words (λ n. HasOtherText n files))
-  exactly_other_of name outcome asks (no_text l) = record { only = λ e. absurd (omega (arith, e)); always = λ a. absurd (lacks_other name a.0 asks a.1 l a.2) }
-  exactly_other_of name outcome asks (compiled p h) = record { only = λ e. absurd (omega (arith, e)); always = λ a. absurd (sound_other name a.0 asks a.1 p h a.2) }
-  exactly_other_of name outcome asks (diagnosed p h) = record { only = λ e. absurd (omega (arith, e)); always = λ a. absurd (faulty_other name a.0 asks a.1 p h a.2) }
-  exactly_other_of name outcome asks (not_built h) = record { only = λ e. (name, asks, h); always = λ a. inl refl }
-
-  pub exactly_lacks : (outcome : Outcome) → Gives words files outcome → Exactly (status_number outcome.status) 3 (AsksToCompile words (λ n. LacksText n files))
-  exactly_lacks outcome (no_command n) = record { only = λ e. absurd (omega (arith, e)); always = λ a. absurd (asks_none words (compile a.0) a.1 n) }
-  exactly_lacks outcome (compiles name o asks h) = exactly_lacks_of name outcome asks h
-
-  pub exactly_sound : (outcome : Outcome) → Gives words files outcome → Exactly (status_number outcome.status) 0 (AsksToCompile words (λ n. (p : Parsed) × HasSoundText n files p))
-  exactly_sound outcome (no_command n) = record { only = λ e. absurd (omega (arith, e)); always = λ a. absurd (asks_none words (compile a.0) a.1 n) }
-  exactly_sound outcome (compiles name o asks h) = exactly_sound_of name outcome asks h
-
-  pub exactly_faulty : (outcome : Outcome) → Gives words files outcome → Exactly (status_number outcome.status) 1 (AsksToCompile words (λ n. (p : Parsed) × HasFaultyText n files p))
-  exactly_faulty outcome (no_command n) = record { only = λ e. absurd (omega (arith, e)); always = λ a. absurd (asks_none words (compile a.0) a.1 n) }
-  exactly_faulty outcome (compiles name o asks h) = exactly_faulty_of name outcome asks h
-
-  pub exactly_other : (outcome : Outcome) → Gives words files outcome → Exactly (status_number outcome.status) 11 (AsksToCompile words (λ n. HasOtherText n files))
-  exactly_other outcome (no_command n) = record { only = λ e. absurd (omega (arith, e)); always = λ a. absurd (asks_none words (compile a.0) a.1 n) }
-  exactly_other outcome (compiles name o asks h) = exactly_other_of name outcome asks h
+  given_exactly : (wanted : ℕ) (fact : List ℕ → Files → Type 0) → RowOf wanted fact → (outcome : Outcome) → Gives words files outcome
+      → Exactly (status_number outcome.status) wanted (AsksToCompile words (λ n. fact n files))
+  given_exactly wanted fact row outcome (no_command n) = record { only = λ e. absurd (row.other (inl (sym e))); always = λ a. absurd (asks_none words (compile a.0) a.1 n) }
+  given_exactly wanted fact row outcome (compiles name o asks h) = record {
+    only = λ e. (name, asks, row.only name files outcome h e);
+    always = λ a. inl (row.always name files outcome (subst (λ n. fact n files) (same_name words a.0 name a.1 asks) a.2) h);
+  }
 
   -- a command gives what compiling its module does
   compiles_given : (name : List ℕ) (outcome : Outcome) → Asks words (compile name) → Gives words files outcome → Compiles name files outcome
@@ -104,17 +122,9 @@ module _ (words : List (List ℕ)) (files : Files) where
     pub prints_given : (name : List ℕ) → Asks words (compile name) → PrintsPart (Compiles name files) old new → PrintsPart (Gives words files) old new
     prints_given name asks p outcome g = p outcome (compiles_given name outcome asks g)
 
-    pub table_lacks : (status : ℕ) (after : Option Files) → Leaves (Gives words files) status after old new → Exactly status 3 (AsksToCompile words (λ n. LacksText n files))
-    table_lacks status after l = subst (λ s. Exactly s 3 (AsksToCompile words (λ n. LacksText n files))) (sym l.status_is) (exactly_lacks l.outcome l.is_given)
-
-    pub table_sound : (status : ℕ) (after : Option Files) → Leaves (Gives words files) status after old new → Exactly status 0 (AsksToCompile words (λ n. (p : Parsed) × HasSoundText n files p))
-    table_sound status after l = subst (λ s. Exactly s 0 (AsksToCompile words (λ n. (p : Parsed) × HasSoundText n files p))) (sym l.status_is) (exactly_sound l.outcome l.is_given)
-
-    pub table_faulty : (status : ℕ) (after : Option Files) → Leaves (Gives words files) status after old new → Exactly status 1 (AsksToCompile words (λ n. (p : Parsed) × HasFaultyText n files p))
-    table_faulty status after l = subst (λ s. Exactly s 1 (AsksToCompile words (λ n. (p : Parsed) × HasFaultyText n files p))) (sym l.status_is) (exactly_faulty l.outcome l.is_given)
-
-    pub table_other : (status : ℕ) (after : Option Files) → Leaves (Gives words files) status after old new → Exactly status 11 (AsksToCompile words (λ n. HasOtherText n files))
-    table_other status after l = subst (λ s. Exactly s 11 (AsksToCompile words (λ n. HasOtherText n files))) (sym l.status_is) (exactly_other l.outcome l.is_given)
+    pub left_exactly : (wanted : ℕ) (fact : List ℕ → Files → Type 0) → RowOf wanted fact → (status : ℕ) (after : Option Files) → Leaves (Gives words files) status after old new
+        → Exactly status wanted (AsksToCompile words (λ n. fact n files))
+    left_exactly wanted fact row status after l = subst (λ s. Exactly s wanted (AsksToCompile words (λ n. fact n files))) (sym l.status_is) (given_exactly wanted fact row l.outcome l.is_given)
 
 -- where the words are no command, the usage line alone is printed
 pub prints_usage : (words : List (List ℕ)) (files : Files) (old new : Option (List ℕ)) → IsNoCommand words → WritesPart old (line (codes "usage: m2c compile NAME")) new → PrintsPart (Gives words files) old new

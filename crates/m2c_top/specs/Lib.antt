@@ -3,6 +3,7 @@ pub mod Bytes
 pub mod Code
 pub mod Codes
 pub mod Command
+pub mod Decisions
 pub mod Declarations
 pub mod Delivery
 pub mod Diagnostics
@@ -10,6 +11,7 @@ pub mod Ending
 pub mod Filled
 pub mod Grammar
 pub mod Held
+pub mod Limits
 pub mod Listing
 pub mod Object
 pub mod Outcome
@@ -20,3 +22,4 @@ pub mod Statuses
 pub mod Symbols
 pub mod Trees
 pub mod Uses
+pub mod Verdicts

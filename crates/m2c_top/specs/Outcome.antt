@@ -1,17 +1,21 @@
 -- What a command leaves: its status, what it prints, and the files of the shelf. No command reads the input yet.
 use Rattle.std.specs.Prelude.{◌≡◌, ◌≢◌, ◌⊎◌, ℕ, List, [], ◌∷◌, ◌++◌, Option, Some, None, IfSome, take, codes}
 use Rattle.std.specs.FinMap.{get, insert}
+use Rattle.m2_base.specs.declared.notes.Diag.{Diag}
+use Rattle.m2_base.specs.declared.token.Token.{Token}
 use Rattle.m2_io.specs.Files.{Files, with_file}
 use Rattle.m2_io.specs.Written.{with_bytes, WritesPart}
 use Rattle.m2c_top.specs.Command.{Command, compile, Asks, IsNoCommand}
+use Rattle.m2c_top.specs.Decisions.{Decision, limited, unbuilt, refused, plain, Decides}
 use Rattle.m2c_top.specs.Diagnostics.{diags_of}
+use Rattle.m2c_top.specs.Limits.{limit_text}
 use Rattle.m2c_top.specs.Listing.{listing}
 use Rattle.m2c_top.specs.Object.{object_bytes}
-use Rattle.m2c_top.specs.Plain.{IsPlain}
 use Rattle.m2c_top.specs.Statuses.{status_number}
 use Rattle.m2c_top.specs.Trees.{Parsed}
 use Rattle.m2c_top.specs.declared.status.Status.{Status}
-use Rattle.m2c_top.specs.declared.status.Status.TheVariants.{Done, Diagnosed, NoCommand, NoText, NotBuilt}
+use Rattle.m2c_top.specs.declared.status.Status.TheVariants.{Done, Diagnosed, NoCommand, NoText, OverLimit, NotBuilt}
+use Rattle.m2c_top.specs.declared.verdict.Limit.{Limit}
 
 pub record Outcome : Type 0 where
   pub status : Status
@@ -31,27 +35,43 @@ line text = text ++ 10 ∷ []
 abbrev pub LacksText : List ℕ → Files → Type 0
 LacksText name files = get files (text_name name) ≡ None
 
--- the shelf has the module's text, and it is that of this plain module
-abbrev pub HasPlainText : List ℕ → Files → Parsed → Type 0
-HasPlainText name files p = (text : List ℕ) × (get files (text_name name) ≡ Some text) × IsPlain name text p
+-- the shelf has the module's text, and this is decided of it
+pub record IsDecided (name : List ℕ) (files : Files) (d : Decision) : Type 0 where
+  pub text : List ℕ
+  pub has : get files (text_name name) ≡ Some text
+  pub decided : Decides name text d
 
--- it is that of this plain module, which has no diagnostic
-abbrev pub HasSoundText : List ℕ → Files → Parsed → Type 0
-HasSoundText name files p = HasPlainText name files p × (diags_of p.tree ≡ [])
+-- its text passes this limit
+abbrev pub HasTooMuchText : List ℕ → Files → Limit → Type 0
+HasTooMuchText name files limit = IsDecided name files (limited limit)
 
--- it is that of this plain module, which has diagnostics
-abbrev pub HasFaultyText : List ℕ → Files → Parsed → Type 0
-HasFaultyText name files p = HasPlainText name files p × (diags_of p.tree ≢ [])
-
--- the shelf has the module's text, and it is that of no plain module
+-- its text has a form that isn't built yet
 abbrev pub HasOtherText : List ℕ → Files → Type 0
-HasOtherText name files = (text : List ℕ) × (get files (text_name name) ≡ Some text) × ((p : Parsed) → IsPlain name text p → ⊥)
+HasOtherText name files = IsDecided name files unbuilt
+
+-- its text has these tokens, and is refused for what stands at one of them
+abbrev pub HasWrongText : List ℕ → Files → List Token → Diag → Type 0
+HasWrongText name files tokens diag = IsDecided name files (refused tokens diag)
+
+-- its text is that of this plain module, which has no diagnostic
+abbrev pub HasSoundText : List ℕ → Files → Parsed → Type 0
+HasSoundText name files p = IsDecided name files (plain p) × (diags_of p.tree ≡ [])
+
+-- its text is that of this plain module, which has diagnostics
+abbrev pub HasFaultyText : List ℕ → Files → Parsed → Type 0
+HasFaultyText name files p = IsDecided name files (plain p) × (diags_of p.tree ≢ [])
+
+-- its text has diagnostics: what it is refused for, or those of its plain module
+abbrev pub HasDiagnostics : List ℕ → Files → Type 0
+HasDiagnostics name files = ((tokens : List Token) × (diag : Diag) × HasWrongText name files tokens diag) ⊎ ((p : Parsed) × HasFaultyText name files p)
 
 -- The outcome of compiling a module of these files: one row of the table of statuses each.
 pub data Compiles (name : List ℕ) (files : Files) : Outcome → Type 0 where
   compiled : (p : Parsed) → HasSoundText name files p → Compiles name files (record { status = Done; printed = []; files = insert files (object_name name) (object_bytes name p.tree) })
   diagnosed : (p : Parsed) → HasFaultyText name files p → Compiles name files (record { status = Diagnosed; printed = listing (text_name name) p.tokens (diags_of p.tree); files = files })
+  wrong : (tokens : List Token) (diag : Diag) → HasWrongText name files tokens diag → Compiles name files (record { status = Diagnosed; printed = listing (text_name name) tokens (diag ∷ []); files = files })
   no_text : LacksText name files → Compiles name files (record { status = NoText; printed = line (codes "no text " ++ text_name name); files = files })
+  over_limit : (limit : Limit) → HasTooMuchText name files limit → Compiles name files (record { status = OverLimit; printed = line (limit_text limit); files = files })
   not_built : HasOtherText name files → Compiles name files (record { status = NotBuilt; printed = line (codes "not built yet"); files = files })
 
 -- The outcome of the words over these files.

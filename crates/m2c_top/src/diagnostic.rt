@@ -4,7 +4,19 @@ ghost use Rattle.m2c_top.specs.Codes.{text_of as spec_text, diag_at as spec_diag
 
 use m2_base::Diag;
 
+const CHARACTER_NOT_ALLOWED: u8 = 10;
+
+const COMMENT_NOT_CLOSED: u8 = 11;
+
+const STRING_NOT_CLOSED: u8 = 12;
+
+const NUMBER_TOO_LARGE: u8 = 13;
+
+const UNEXPECTED_TOKEN: u8 = 20;
+
 pub const CLOSING_DIFFERS: u8 = 21;
+
+pub const OTHER_MODULE: u8 = 31;
 
 pub const UNKNOWN_NAME: u8 = 40;
 
@@ -25,7 +37,13 @@ pub fn text_of(code: u8) -> &'static str
     ensures { result.now ≡ spec_text code }
 {
     match code {
+        CHARACTER_NOT_ALLOWED => "character not allowed",
+        COMMENT_NOT_CLOSED => "comment not closed",
+        STRING_NOT_CLOSED => "string not closed",
+        NUMBER_TOO_LARGE => "number too large",
+        UNEXPECTED_TOKEN => "unexpected token",
         CLOSING_DIFFERS => "closing name differs",
+        OTHER_MODULE => "module has another name",
         UNKNOWN_NAME => "unknown name",
         DECLARED_TWICE => "declared twice",
         _ => "standard name declared",

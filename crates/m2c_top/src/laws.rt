@@ -2,6 +2,9 @@
 ghost use Rattle.std.specs.Prelude.{◌≡◌, ◌<◌, ℕ, List, length};
 ghost use Rattle.m2_base.specs.Lists.{Each};
 ghost use Rattle.m2_io.specs.Files.{Files};
+ghost use Rattle.m2_base.specs.declared.notes.Diag.{Diag};
+ghost use Rattle.m2_base.specs.declared.token.Token.{Token};
+ghost use Rattle.m2c_top.specs.Decisions.{Decides, refused};
 ghost use Rattle.m2c_top.specs.Diagnostics.{diags_of};
 ghost use Rattle.m2c_top.specs.Outcome.{Outcome, Gives};
 ghost use Rattle.m2c_top.specs.Plain.{IsPlain};
@@ -15,4 +18,9 @@ pub fn one_outcome()
 /// Each diagnostic of a plain text stands at one of its tokens, and so has a line in the listing.
 pub fn diagnostics_have_lines()
     ensures { (name text : List ℕ) (p : Parsed) → IsPlain name text p → Each (λ diag. diag.at < length p.tokens) (diags_of p.tree) }
+{}
+
+/// What a text is refused for stands at one of its tokens, and so has a line in the listing.
+pub fn refusals_have_lines()
+    ensures { (name text : List ℕ) (tokens : List Token) (diag : Diag) → Decides name text (refused tokens diag) → diag.at < length tokens }
 {}

@@ -15,6 +15,7 @@ mod object;
 mod plain;
 mod status;
 mod top;
+mod verdict;
 
-pub use laws::{diagnostics_have_lines, one_outcome};
+pub use laws::{diagnostics_have_lines, one_outcome, refusals_have_lines};
 pub use top::m2c;

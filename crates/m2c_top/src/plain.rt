@@ -9,6 +9,6 @@ mod tree;
 mod uses;
 
 pub use check::is_standard;
-pub use text::{MOST_BYTES, Plain, plain_module};
+pub use text::{Plain, is_named, plain_module};
 pub use tree::{Ident, Module, Operand, Operator, Statement, Value};
 pub use uses::uses_of;

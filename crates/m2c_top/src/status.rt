@@ -12,6 +12,7 @@ pub enum Status {
     ReadFault,
     WriteFault,
     NoMemory,
+    OverLimit,
     NotBuilt,
 }
 
@@ -28,6 +29,7 @@ impl Status {
             Status::ReadFault => 4,
             Status::WriteFault => 5,
             Status::NoMemory => 6,
+            Status::OverLimit => 7,
             Status::NotBuilt => 11,
         }
     }

@@ -6,23 +6,27 @@ ghost use Rattle.m2_io.specs.Written.{with_bytes, WritesPart};
 ghost use Rattle.m2c_top.specs.Ending.{ended_as};
 ghost use Rattle.m2c_top.specs.Command.{is_name, IsNoCommand};
 ghost use Rattle.m2c_top.specs.Code.{cells_of};
-ghost use Rattle.m2c_top.specs.Delivery.{Delivered, PrintsListing, PutsObject};
+ghost use Rattle.m2c_top.specs.Delivery.{Answered, Delivered, PrintsFront, PrintsListing, PutsFront, PutsObject};
 ghost use Rattle.m2c_top.specs.Held.{IsHeld, held};
+ghost use Rattle.m2c_top.specs.Limits.{limit_text};
 ghost use Rattle.m2c_top.specs.Listing.{listing as spec_listing};
 ghost use Rattle.m2c_top.specs.Object.{object_bytes};
-ghost use Rattle.m2c_top.specs.Outcome.{AsksToCompile, Commands, line, text_name, object_name, Compiles, Gives, LacksText, HasSoundText, HasFaultyText, HasOtherText, Leaves, PrintsPart, PutsPart, KeepsButObject};
+ghost use Rattle.m2c_top.specs.Outcome.{AsksToCompile, Commands, line, text_name, object_name, Compiles, Gives, LacksText, HasTooMuchText, HasDiagnostics, HasSoundText, HasOtherText, Leaves, PrintsPart, PutsPart, KeepsButObject};
 ghost use Rattle.m2c_top.specs.Statuses.{status_number, IsFault, IsStatus, IsAnswer, Exactly};
 ghost use Rattle.m2c_top.specs.Sound.{names_of};
 ghost use Rattle.m2c_top.specs.Trees.{module_view, Parsed};
 ghost use Rattle.m2c_top.specs.Uses.{body_uses};
+ghost use Rattle.m2c_top.specs.Verdicts.{decision_of, HoldsPlain};
+ghost use Rattle.m2c_top.specs.declared.verdict.Limit.{Limit as SpecLimit};
 
 use crate::analysis::analyse;
 use crate::code::{body_code, body_high};
 use crate::command::module_to_compile;
 use crate::listing::listing;
 use crate::object::object_of;
-use crate::plain::{MOST_BYTES, Module, Plain, plain_module};
+use crate::plain::{Module, Plain};
 use crate::status::Status;
+use crate::verdict::{Limit, MOST_BYTES, Verdict, decide};
 use m2_base::{Diag, Memory, Token};
 use m2_io::{Gate, Shelf, ShelfError, Sink, SinkError, Source, write_all};
 use std::alloc::{AllocError, Global};
@@ -178,6 +182,59 @@ fn deliver<H: Shelf, P: Sink>(
     Ok(Status::Diagnosed)
 }
 
+/// Prints the line that goes with the status.
+fn print_line<P: Sink>(print: &mut P, line: &[u8], status: Status) -> Result<Status, Stop>
+    ensures ok { IfOk result (λ answer. answer ≡ status) }
+    ensures printed { OnOk result (P.written print.new ≡ with_bytes (P.written print.old) line.now) }
+    ensures stop { IfErr result (λ stop. stop ≡ Stop.Write) }
+    ensures part { OnErr result (WritesPart (P.written print.old) line.now (P.written print.new)) }
+    ensures write { OnErr result (Rose (P.faults print.old) (P.faults print.new)) }
+{
+    match write_all(print, line) {
+        Ok(()) => Ok(status),
+        Err(_) => Err(Stop::Write),
+    }
+}
+
+/// The line of a limit that is passed.
+fn limit_line(limit: Limit) -> &'static [u8]
+    ensures { result.now ≡ line (limit_text limit) }
+{
+    match limit {
+        Limit::TextBytes => b"limit text bytes 1048576\n",
+        Limit::Tokens => b"limit tokens 1048576\n",
+        Limit::Nesting => b"limit nesting 100\n",
+    }
+}
+
+/// Answers what was decided of the module's text.
+fn answer<H: Shelf, P: Sink>(
+    alloc: Global,
+    name: &str,
+    verdict: &Verdict,
+    shelf: &mut H,
+    print: &mut P,
+) -> Result<Status, Stop>
+    requires name { IsTrue (is_name name.now) }
+    requires held { HoldsPlain verdict.now }
+    ensures answered { IfOk result (λ status. Answered name.now (decision_of verdict.now) status (H.holds shelf.old) (H.holds shelf.new) (P.written print.old) (P.written print.new)) }
+    ensures prints { OnErr result (PrintsFront name.now (decision_of verdict.now) (P.written print.old) (P.written print.new)) }
+    ensures part { IsErrOf result Stop.Write → PutsFront name.now (decision_of verdict.now) (H.holds shelf.old) (H.holds shelf.new) }
+    ensures memory { IsErrOf result Stop.Memory → H.holds shelf.new ≡ H.holds shelf.old }
+    ensures no_read { IsErrOf result Stop.Read → ⊥ }
+    ensures write { IsErrOf result Stop.Write → Rose (H.put_faults shelf.old) (H.put_faults shelf.new) ⊎ Rose (P.faults print.old) (P.faults print.new) }
+{
+    match verdict {
+        Verdict::Limited(limit) => print_line(print, limit_line(*limit), Status::OverLimit),
+        Verdict::NotBuilt => print_line(print, b"not built yet\n", Status::NotBuilt),
+        Verdict::Refused(tokens, diag) => {
+            print_listing(alloc, name, tokens.as_slice(), &[*diag], print)?;
+            Ok(Status::Diagnosed)
+        }
+        Verdict::Plain(plain) => deliver(alloc, name, plain, shelf, print),
+    }
+}
+
 /// Compiles a module of the shelf.
 fn compile<H: Shelf, P: Sink>(
     alloc: Global,
@@ -206,11 +263,8 @@ fn compile<H: Shelf, P: Sink>(
         write_all(print, line.as_bytes())?;
         return Ok(Status::NoText);
     };
-    let Some(plain) = plain_module(alloc, name.as_bytes(), text.as_slice())? else {
-        write_all(print, b"not built yet\n")?;
-        return Ok(Status::NotBuilt);
-    };
-    deliver(alloc, name, &plain, shelf, print)
+    let verdict = decide(alloc, name.as_bytes(), text.as_slice())?;
+    answer(alloc, name, &verdict, shelf, print)
 }
 
 /// Says how the program is called.
@@ -221,10 +275,7 @@ fn print_usage<P: Sink>(print: &mut P) -> Result<Status, Stop>
     ensures part { OnErr result (WritesPart (P.written print.old) (line (codes "usage: m2c compile NAME")) (P.written print.new)) }
     ensures write { OnErr result (Rose (P.faults print.old) (P.faults print.new)) }
 {
-    match write_all(print, b"usage: m2c compile NAME\n") {
-        Ok(()) => Ok(Status::NoCommand),
-        Err(_) => Err(Stop::Write),
-    }
+    print_line(print, b"usage: m2c compile NAME\n", Status::NoCommand)
 }
 
 /// Does what the words ask.
@@ -265,8 +316,8 @@ fn status_of(ended: Result<Status, Stop>) -> Status
 }
 
 /// Does what the words ask, and answers the status: with 0 it is done, 1 says that the module has diagnostics, 2 that the words are no command, 3 that the
-/// module's text isn't there, 4 and 5 that reading and writing failed, 6 that memory ran out, 11 that the text has a form
-/// that isn't built yet.
+/// module's text isn't there, 4 and 5 that reading and writing failed, 6 that memory ran out, 7 that the text passes a limit, 11
+/// that it has a form that isn't built yet.
 pub fn m2c<R, H: Shelf, P: Sink, K: Source, G: Gate>(
     _rt: &R,
     alloc: Global,
@@ -284,7 +335,8 @@ pub fn m2c<R, H: Shelf, P: Sink, K: Source, G: Gate>(
     ensures no_command { Exactly result 2 (IsNoCommand (map string_bytes words.now)) }
     ensures no_text { IfSome (H.holds shelf.old) (λ files. Exactly result 3 (AsksToCompile (map string_bytes words.now) (λ name. LacksText name files))) }
     ensures done { IfSome (H.holds shelf.old) (λ files. Exactly result 0 (AsksToCompile (map string_bytes words.now) (λ name. (p : Parsed) × HasSoundText name files p))) }
-    ensures refused { IfSome (H.holds shelf.old) (λ files. Exactly result 1 (AsksToCompile (map string_bytes words.now) (λ name. (p : Parsed) × HasFaultyText name files p))) }
+    ensures refused { IfSome (H.holds shelf.old) (λ files. Exactly result 1 (AsksToCompile (map string_bytes words.now) (λ name. HasDiagnostics name files))) }
+    ensures limits { IfSome (H.holds shelf.old) (λ files. Exactly result 7 (AsksToCompile (map string_bytes words.now) (λ name. (limit : SpecLimit) × HasTooMuchText name files limit))) }
     ensures not_built { IfSome (H.holds shelf.old) (λ files. Exactly result 11 (AsksToCompile (map string_bytes words.now) (λ name. HasOtherText name files))) }
     ensures read { result ≡ 4 → Rose (H.faults shelf.old) (H.faults shelf.new) }
     ensures write { result ≡ 5 → Rose (H.put_faults shelf.old) (H.put_faults shelf.new) ⊎ Rose (P.faults print.old) (P.faults print.new) }

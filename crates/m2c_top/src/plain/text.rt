@@ -1,9 +1,7 @@
 //! The plain module that a text spells.
 ghost use Rattle.std.specs.Prelude.{◌≡◌, ◌⊎◌, ◌≤◌, ◌^◌, ◌<◌, ◌∷◌, [], ℕ, List, Some, None, true, false, length, vec_len, IfOk, IfSome, IfNone, MatchOption, map};
-ghost use Rattle.m2_base.specs.Names.{standard_names};
-ghost use Rattle.m2_base.specs.Tokens.{AreTokens};
+ghost use Rattle.m2c_top.specs.Decisions.{HasTokens};
 ghost use Rattle.m2_base.specs.Units.{IsUnit};
-ghost use Rattle.m2_lex.specs.Faults.{HasTooMany};
 ghost use Rattle.m2c_top.specs.Plain.{IsPlain, is_named as spec_named, is_meant};
 ghost use Rattle.m2c_top.specs.Grammar.{Spells};
 ghost use Rattle.m2_lex.specs.LoneTexts.{one_text};
@@ -16,11 +14,7 @@ use crate::plain::check::is_sound_body;
 use crate::plain::reader::module_at;
 use crate::plain::tree::Module;
 use m2_base::{Memory, Names, Text, Texts, Token};
-use m2_lex::{LexFault, lex};
 use std::alloc::Global;
-
-/// The most bytes of a text.
-pub const MOST_BYTES: usize = 1_048_576;
 
 /// A plain module: the unit of its text, and the tree.
 #[derive(Drop)]
@@ -29,18 +23,21 @@ pub struct Plain {
     pub module: Module,
 }
 
-/// The plain module of that name that the text spells.
-pub fn plain_module(alloc: Global, name: &[u8], text: &[u8]) -> Result<Option<Plain>, Memory>
+/// The plain module of that name, where the text with these tokens is that of one.
+pub fn plain_module(
+    alloc: Global,
+    name: &[u8],
+    text: &[u8],
+    names: Names,
+    tokens: Vec<Token>,
+) -> Result<Option<Plain>, Memory>
+    requires tokens { HasTokens text.now (record { names = names; tokens = tokens.items }) }
     ensures plain { IfOk result (λ found. MatchOption found ((p : Parsed) → IsPlain name.now text.now p → ⊥) (λ plain. IsPlain name.now text.now (held plain))) }
     ensures held { IfOk result (λ found. IfSome found IsHeld) }
 {
-    if text.len() > MOST_BYTES || !has_plain_bytes(text) {
+    if !has_plain_bytes(text) {
         return Ok(None);
     }
-    let mut names = Names::new(alloc)?;
-    let Some(tokens) = tokens_of(alloc, text, &mut names)? else {
-        return Ok(None);
-    };
     let Some(module) = module_of(alloc, &names, name, tokens.as_slice())? else {
         return Ok(None);
     };
@@ -84,22 +81,8 @@ fn unit_of(alloc: Global, names: Names, name: u32, tokens: Vec<Token>) -> Result
     Ok(Texts::new(names, list, Vec::new(alloc), None))
 }
 
-/// The tokens of a text that hasn't too many.
-fn tokens_of(alloc: Global, text: &[u8], names: &mut Names) -> Result<Option<Vec<Token>>, Memory>
-    requires short { length text.now ≤ 1048576 }
-    requires room { length names.old ≤ 4000000000 }
-    ensures tokens { IfOk result (λ found. MatchOption found (HasTooMany text.now) (λ tokens. AreTokens names.old names.new text.now tokens.items)) }
-    ensures few { IfOk result (λ found. IfSome found (λ tokens. vec_len tokens ≤ 1048576)) }
-{
-    match lex(alloc, text, names) {
-        Ok(tokens) => Ok(Some(tokens)),
-        Err(LexFault::TooManyTokens) => Ok(None),
-        Err(LexFault::Memory) => Err(Memory),
-    }
-}
-
 /// Whether the name of that number is this one.
-fn is_named(names: &Names, name: &[u8], number: u64) -> bool
+pub fn is_named(names: &Names, name: &[u8], number: u64) -> bool
     ensures { result ≡ spec_named names.now name.now number }
 {
     number < names.count() as u64 && name == names.bytes(number as u32)

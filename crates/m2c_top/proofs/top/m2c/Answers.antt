@@ -1,10 +1,13 @@
-use Rattle.std.proofs.Common.{◌≡◌, ◌⊎◌, ◌∙◌, sym, ap, subst, map, string_bytes, IfSome}
+use Rattle.std.proofs.Common.{◌≡◌, ◌⊎◌, ◌∙◌, ℕ, List, sym, ap, subst, map, string_bytes, IfSome}
 use Rattle.m2_io.specs.Causes.{Rose}
+use Rattle.m2_io.specs.Files.{Files}
 use Rattle.m2c_top.specs.Command.{IsNoCommand}
-use Rattle.m2c_top.specs.Outcome.{Gives, AsksToCompile, LacksText, HasSoundText, HasFaultyText, HasOtherText, Leaves, PrintsPart, PutsPart}
+use Rattle.m2c_top.specs.Outcome.{Gives, AsksToCompile, LacksText, HasSoundText, HasDiagnostics, HasTooMuchText, HasOtherText, Leaves, PrintsPart, PutsPart}
 use Rattle.m2c_top.specs.Statuses.{status_number, IsFault, IsStatus, Exactly}
 use Rattle.m2c_top.specs.Trees.{Parsed}
-use Rattle.m2c_top.proofs.Ends.{number_of, ends_leaving, ends_no_text, ends_done, ends_refused, ends_not_built, ends_as_no_command, ends_with_status, ends_stopped, ends_by_reading, ends_by_writing, ends_keeping}
+use Rattle.m2c_top.specs.declared.verdict.Limit.{Limit}
+use Rattle.m2c_top.proofs.Table.{RowOf, lacks_row, sound_row, diagnostics_row, limit_row, other_row}
+use Rattle.m2c_top.proofs.Ends.{number_of, ends_leaving, ends_exactly, ends_as_no_command, ends_with_status, ends_stopped, ends_by_reading, ends_by_writing, ends_keeping}
 use Rattle.m2c_top.proofs.top.m2c.Given as given
 use Rattle.m2c_top.proofs.top.m2c.Goals as goal
 
@@ -26,33 +29,29 @@ returns-clause-no_command g c =
     let words = map string_bytes c.args.words.now in
     subst (λ n. Exactly n 2 (IsNoCommand words)) (sym (numbered g c)) (ends_as_no_command words c.obey.result c.obey.ensures.status)
 
-pub returns-clause-no_text : goal.returns-clause-no_text
-returns-clause-no_text g c =
+-- the status of a row comes exactly where its fact holds
+exactly : (g : given.Over) (c : goal.After-number g) (wanted : ℕ) (fact : List ℕ → Files → Type 0) → RowOf wanted fact
+    → IfSome (g.H.Shelf.holds c.args.shelf.now) (λ files. Exactly c.number.result wanted (AsksToCompile (map string_bytes c.args.words.now) (λ name. fact name files)))
+exactly g c wanted fact row =
     let holds = g.H.Shelf.holds c.args.shelf.now in
     let words = map string_bytes c.args.words.now in
-    subst (λ n. IfSome holds (λ files. Exactly n 3 (AsksToCompile words (λ name. LacksText name files)))) (sym (numbered g c))
-    (ends_no_text words holds (g.H.Shelf.holds c.obey.new.shelf) (g.P.Sink.written c.args.print.now) (g.P.Sink.written c.obey.new.print) c.obey.result c.obey.ensures.leaves)
+    subst (λ n. IfSome holds (λ files. Exactly n wanted (AsksToCompile words (λ name. fact name files)))) (sym (numbered g c))
+    (ends_exactly words holds (g.H.Shelf.holds c.obey.new.shelf) (g.P.Sink.written c.args.print.now) (g.P.Sink.written c.obey.new.print) wanted fact row c.obey.result c.obey.ensures.leaves)
+
+pub returns-clause-no_text : goal.returns-clause-no_text
+returns-clause-no_text g c = exactly g c 3 (λ name files. LacksText name files) lacks_row
 
 pub returns-clause-done : goal.returns-clause-done
-returns-clause-done g c =
-    let holds = g.H.Shelf.holds c.args.shelf.now in
-    let words = map string_bytes c.args.words.now in
-    subst (λ n. IfSome holds (λ files. Exactly n 0 (AsksToCompile words (λ name. (p : Parsed) × HasSoundText name files p)))) (sym (numbered g c))
-    (ends_done words holds (g.H.Shelf.holds c.obey.new.shelf) (g.P.Sink.written c.args.print.now) (g.P.Sink.written c.obey.new.print) c.obey.result c.obey.ensures.leaves)
+returns-clause-done g c = exactly g c 0 (λ name files. (p : Parsed) × HasSoundText name files p) sound_row
 
 pub returns-clause-refused : goal.returns-clause-refused
-returns-clause-refused g c =
-    let holds = g.H.Shelf.holds c.args.shelf.now in
-    let words = map string_bytes c.args.words.now in
-    subst (λ n. IfSome holds (λ files. Exactly n 1 (AsksToCompile words (λ name. (p : Parsed) × HasFaultyText name files p)))) (sym (numbered g c))
-    (ends_refused words holds (g.H.Shelf.holds c.obey.new.shelf) (g.P.Sink.written c.args.print.now) (g.P.Sink.written c.obey.new.print) c.obey.result c.obey.ensures.leaves)
+returns-clause-refused g c = exactly g c 1 (λ name files. HasDiagnostics name files) diagnostics_row
+
+pub returns-clause-limits : goal.returns-clause-limits
+returns-clause-limits g c = exactly g c 7 (λ name files. (limit : Limit) × HasTooMuchText name files limit) limit_row
 
 pub returns-clause-not_built : goal.returns-clause-not_built
-returns-clause-not_built g c =
-    let holds = g.H.Shelf.holds c.args.shelf.now in
-    let words = map string_bytes c.args.words.now in
-    subst (λ n. IfSome holds (λ files. Exactly n 11 (AsksToCompile words (λ name. HasOtherText name files)))) (sym (numbered g c))
-    (ends_not_built words holds (g.H.Shelf.holds c.obey.new.shelf) (g.P.Sink.written c.args.print.now) (g.P.Sink.written c.obey.new.print) c.obey.result c.obey.ensures.leaves)
+returns-clause-not_built g c = exactly g c 11 (λ name files. HasOtherText name files) other_row
 
 pub returns-clause-read : goal.returns-clause-read
 returns-clause-read g c four =
