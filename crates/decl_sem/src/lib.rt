@@ -3,6 +3,10 @@
 //! The syntax alone says how many, and of each its name, kind and token: the layout of a block (`layout`). What the
 //! rows say comes from the rows of the items before and of the scopes round the block. The definitions are `m2_base`'s
 //! (`specs/Statics`). When a block's scope is complete, its closing name is checked (`close_check`).
+//!
+//! `declaring::declare` has the rows of an item, with the contract that it will keep. It isn't public yet: subranges, arrays,
+//! records, pointers and procedure types in `types`, and the headings in `procedures` and `own_headings`, answer want of
+//! memory till they are built.
 #![tactic(auto)]
 
 /// The value of a piece that asks nothing, or the end of the function at want of memory.
@@ -73,7 +77,4 @@ mod types;
 mod variables;
 
 pub use closing::close_check;
-pub use declaring::{Declared, declare};
-pub use effects::{Effect, ParamCopy};
-pub use items::{Before, Item};
 pub use layouts::layout;
