@@ -11,6 +11,7 @@ pub mod ManyItems
 pub mod Namings
 pub mod NextRows
 pub mod OneRows
+pub mod Parameters
 pub mod Pieces
 pub mod TypeForms
 pub mod TypeShapes

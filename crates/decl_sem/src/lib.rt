@@ -50,6 +50,7 @@ macro_rules! made {
 
 mod closing;
 mod enumerations;
+mod formals;
 mod kinds;
 mod layouts;
 mod making;

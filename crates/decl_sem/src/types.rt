@@ -16,7 +16,7 @@ use m2_base::{Ask, Memory, Place, Qual, Scopes, Site, TypeExpr, TypeForm};
 use std::alloc::Global;
 
 /// The type that a name leads to. It makes no row.
-fn name_in<S: Scopes>(
+pub(crate) fn name_in<S: Scopes>(
     scopes: &mut S,
     site: &Site,
     qual: Qual,
