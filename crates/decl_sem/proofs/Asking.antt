@@ -79,3 +79,14 @@ checked {a} {b} {x} {y} {s} test at t answer asks {stood} keep making reads wait
 -- the meaning of a set's row
 pub set_meaning : {f : Frame} {s : Site} {x : Made} {ss : List Shape} {t : Place} → IsMaking f s x ss → IsBehind f (next_ordinal x) t → IsNewMeaning f s (next_ordinal x) (Set t)
 set_meaning making h = record { small = h.small; scopes = small_scope making h; fits = before_next h; filled = tt; owned = tt }
+
+-- after a question of what a type stands for, by a value of the answer
+pub tested : {T V : Type 0} {a b : State} {x y : Made} {s : Site} {ss : List Shape} {Q : Frame → ℕ → T → Type 0} (of : Place × RowMeaning → V) (h : V → Context → Makes T) (t : Place) (answer : Result (Ask T) Memory) (asks : Ask (Place × RowMeaning)) {stood : Place × RowMeaning} (v : V)
+    → IsMaking a.frame s x ss → Reads a b → WhereWaiting asks (λ head. Waits a b head)
+    → WhereMaking a.frame x (λ hand. WhereKnown asks (λ stood. IsStood (scene_of a.frame hand s.around.now) t stood))
+    → asks ≡ Known stood → v ≡ of stood → Declares b b x y s answer ss Q (h v) → Declares a b x y s answer ss Q (λ c. h (of (stood_in t c)) c)
+tested {T} {V} {a} {b} {x} {y} {s} {ss} {Q} of h t answer asks {stood} v making reads waits told is same p =
+    let first : Declares a b x x s (Ok (Known stood)) [] IsAny (λ c. makes (stood_in t c)) =
+    subst (λ (k : Ask (Place × RowMeaning)). Declares a b x x s (Ok k) [] IsAny (λ c. makes (stood_in t c))) is (stood_piece x s asks t reads waits told) in
+    let q : Declares b b x y s answer ss Q (h (of stood)) = subst (λ (k : V). Declares b b x y s answer ss Q (h k)) same p in
+    asked_then (λ c. stood_in t c) (λ u c. h (of u) c) answer making first q

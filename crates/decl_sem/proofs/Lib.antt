@@ -13,6 +13,8 @@ pub mod NextRows
 pub mod OneRows
 pub mod Parameters
 pub mod Pieces
+pub mod ProcTypes
+pub mod Results
 pub mod TypeForms
 pub mod TypeShapes
 pub mod TypeSizes

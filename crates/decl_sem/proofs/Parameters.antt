@@ -87,7 +87,7 @@ formals_shapes formals = flat_map formal_shapes formals
 abbrev pub FormalsGo : (a b : State) (x y : Made) → Site → (own : ℕ) → List Formal → (k : ℕ) → Type 0
 FormalsGo a b x y s own formals k = GoesOn a b x y s (formals_shapes formals) (formals_shapes (drop k formals)) IsAny (λ c. formal_rows c own formals) (λ c. formal_rows c own (drop k formals))
 
-formals_from : (xs : List Formal) (k : ℕ) (d : Formal) → k < length xs → drop k xs ≡ get_or xs k d ∷ drop (k + 1) xs
+pub formals_from : (xs : List Formal) (k : ℕ) (d : Formal) → k < length xs → drop k xs ≡ get_or xs k d ∷ drop (k + 1) xs
 formals_from xs k d h = drop-cons xs k d h ∙ (let e : suc k ≡ k + 1 = omega arith in ap (λ (n : ℕ). get_or xs k d ∷ drop n xs) e)
 
 module _ {a b : State} {x y : Made} {s : Site} (own : ℕ) (formals : List Formal) (k : ℕ) (d : Formal) (h : k < length formals) where
@@ -98,8 +98,8 @@ module _ {a b : State} {x y : Made} {s : Site} (own : ℕ) (formals : List Forma
       goes_as (formal_shapes (get_or formals k d) ++ formals_shapes (drop (k + 1) formals)) (λ c. make_then c (formal_given own (get_or formals k d) c) (λ e p. formal_rows e own (drop (k + 1) formals)))
       (ap formals_shapes (formals_from formals k d h))
       (λ hand in_hand told same. let c = context_of b.frame hand s in let f = get_or formals k d in
-          make_then_assoc c (parameter_type c f.is_open f.of) (λ e t. makes_row e f.of.first.at (Param t f.by_ref own)) (λ e p. formal_rows e own (drop (k + 1) formals))
-          ∙ ap (formal_rows c own) (sym (formals_from formals k d h)))
+      make_then_assoc c (parameter_type c f.is_open f.of) (λ e t. makes_row e f.of.first.at (Param t f.by_ref own)) (λ e p. formal_rows e own (drop (k + 1) formals))
+      ∙ ap (formal_rows c own) (sym (formals_from formals k d h)))
       so
 
   pub next_making : FormalsGo a b x y s own formals k → IsMaking b.frame s y (formal_shapes (get_or formals k d))

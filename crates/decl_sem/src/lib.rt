@@ -55,6 +55,8 @@ mod kinds;
 mod layouts;
 mod making;
 mod names;
+mod outcomes;
+mod procedure_types;
 mod sets;
 mod shapes;
 mod standing;

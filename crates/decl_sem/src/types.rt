@@ -11,6 +11,7 @@ ghost use Rattle.decl_sem.specs.ReadTypes.{IsReadQual, IsReadType};
 use crate::enumerations::make_enumeration;
 use crate::making::Made;
 use crate::names::{small_place, type_of_qual};
+use crate::procedure_types::proc_in;
 use crate::sets::make_set;
 use m2_base::{Ask, Memory, Place, Qual, Scopes, Site, TypeExpr, TypeForm};
 use std::alloc::Global;
@@ -53,6 +54,10 @@ pub(crate) fn type_in<S: Scopes>(
             let base = made!(type_in(alloc, scopes, site, of, made));
             make_set(scopes, site, typ.at, of.at, base, made)
         }
+        TypeForm::Proc {
+            formals,
+            result: outcome,
+        } => proc_in(scopes, site, typ.at, formals, *outcome, made),
         _ => Err(Memory),
     }
 }
