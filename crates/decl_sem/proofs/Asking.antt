@@ -1,7 +1,7 @@
 -- Questions of types whose rows may be in hand, and what is made after them.
-use Rattle.std.specs.Prelude.{◌≡◌, ℕ, ◌<◌, ◌^◌, Bool, if◌then◌else◌, List, [], ◌∷◌, ◌++◌}
-use Rattle.std.proofs.Common.{refl, sym, ap, ◌∙◌, subst, arith, Ok, Err, Result}
-use Rattle.m2_base.specs.Gives.{Gives, gives}
+use Rattle.std.specs.Prelude.{◌≡◌, ℕ, Bool, if◌then◌else◌, List, []}
+use Rattle.std.proofs.Common.{sym, ap, ◌∙◌, subst, Ok, Result}
+use Rattle.m2_base.specs.Gives.{gives}
 use Rattle.m2_base.specs.Standard.{broken}
 use Rattle.m2_base.specs.States.{Frame, State, Waits}
 use Rattle.m2_base.specs.Statics.Contexts.{Context, Scene, refuse}
@@ -18,7 +18,6 @@ use Rattle.m2_base.specs.declared.rows.RowMeaning.TheVariants.{Set}
 use Rattle.m2_base.specs.declared.sites.Site.{Site}
 use Rattle.type_rules.specs.Asks.{Reads, WhereKnown, WhereWaiting}
 use Rattle.type_rules.specs.Scenes.{IsStood, scene_of}
-use Rattle.type_rules.specs.Sites.{context_of}
 use Rattle.decl_sem.specs.Making.{next_ordinal}
 use Rattle.decl_sem.specs.Pieces.{Declares, IsAny, IsBehind, IsMaking, IsNewMeaning, WhereMaking}
 use Rattle.decl_sem.specs.Stood.{stood_in}

@@ -1,12 +1,12 @@
 -- The constants of an enumeration, one after another.
-use Rattle.std.specs.Prelude.{◌≡◌, ◌≢◌, ℕ, zero, suc, ◌+◌, ◌<◌, ◌≤◌, ◌≤ℤ◌, ◌^◌, ℤ, pos, List, [], ◌∷◌, ◌++◌, length, map, drop, Result, Ok, Err}
+use Rattle.std.specs.Prelude.{◌≡◌, ◌≢◌, ℕ, zero, suc, ◌+◌, ◌<◌, ◌^◌, ℤ, pos, List, [], ◌∷◌, length, map, drop, Result, Ok, Err}
 use Rattle.std.proofs.Common.{refl, sym, ap, ◌∙◌, subst, arith, get_or}
 use Rattle.std.proofs.Math.Seq.{drop-cons}
-use Rattle.m2_base.specs.Rows.{Fits, IsValue, at_place, const_kind, type_name_kind}
+use Rattle.m2_base.specs.Rows.{at_place, const_kind}
 use Rattle.m2_base.specs.States.{Frame, State}
 use Rattle.m2_base.specs.Statics.Contexts.{Context}
 use Rattle.m2_base.specs.Statics.Enumerations.{constant_rows}
-use Rattle.m2_base.specs.Statics.Makes.{Makes, makes, makes_named}
+use Rattle.m2_base.specs.Statics.Makes.{makes, makes_named}
 use Rattle.m2_base.specs.Statics.Shapes.{Shape, named}
 use Rattle.m2_base.specs.declared.memory.Memory.{Memory}
 use Rattle.m2_base.specs.declared.replies.Ask.TheVariants.{Known}

@@ -1,6 +1,6 @@
 -- Where the rows so far are as the layout gives them, one of them has a name exactly where the layout has it at an earlier
 -- ordinal.
-use Rattle.std.specs.Prelude.{◌≡◌, ◌≢◌, ℕ, zero, suc, ◌+◌, ◌==◌, Bool, true, false, not, is_some, if◌then◌else◌, List, [], ◌∷◌, ◌++◌, length, flat_map, Option, None, Some, option_map}
+use Rattle.std.specs.Prelude.{◌≡◌, ◌≢◌, ℕ, suc, ◌+◌, ◌==◌, Bool, true, false, not, is_some, if◌then◌else◌, List, [], ◌∷◌, ◌++◌, length, flat_map, Option, None, Some, option_map}
 use Rattle.std.proofs.Common.{refl, sym, ap, ◌∙◌, subst, arith}
 use Rattle.std.proofs.lemmas.List.{append_assoc}
 use Rattle.std.proofs.lemmas.List.Concat.{flat_map-append}
@@ -12,7 +12,7 @@ use Rattle.m2_base.specs.Statics.Layouts.{names_of_item, names_from}
 use Rattle.m2_base.specs.Statics.Lookup.{first_entry}
 use Rattle.m2_base.specs.Statics.Shapes.{Shape, item_shapes}
 use Rattle.m2_base.specs.Tables.{first_named}
-use Rattle.decl_sem.specs.LaidRows.{is_of, kept_name, IsLaid, AreLaid, none_laid, more_laid, first_shape, HasFirsts, IsAhead}
+use Rattle.decl_sem.specs.LaidRows.{is_of, kept_name, AreLaid, none_laid, more_laid, first_shape, HasFirsts, IsAhead}
 
 -- ** Tests of numbers
 

@@ -1,25 +1,23 @@
 -- The rows in hand, as the definitions see them.
-use Rattle.std.specs.Prelude.{◌≡◌, ◌≢◌, ◌⊎◌, ℕ, zero, suc, ◌+◌, ◌<◌, ◌≤◌, ◌==◌, ◌^◌, Bool, true, false, not, is_some, if◌then◌else◌, List, [], ◌∷◌, ◌++◌, length, take, slice_set, slice_index_or, Option, None, Some}
+use Rattle.std.specs.Prelude.{◌≡◌, ◌≢◌, ℕ, zero, suc, ◌+◌, ◌<◌, ◌==◌, Bool, true, false, if◌then◌else◌, List, [], ◌∷◌, ◌++◌, length, take, slice_set, slice_index_or, Option, None, Some}
 use Rattle.std.proofs.Common.{refl, sym, ap, ◌∙◌, subst, arith}
 use Rattle.std.proofs.lemmas.List.{append_assoc, append-nil, length-append}
 use Rattle.std.specs.Option.{IfSome}
 use Rattle.m2_base.specs.Finished.{IsTold, finished}
-use Rattle.m2_base.specs.Lists.{Each}
 use Rattle.m2_base.specs.Standard.{is_standard}
 use Rattle.m2_base.specs.States.{Frame}
-use Rattle.m2_base.specs.Statics.Contexts.{Context, Scene}
 use Rattle.m2_base.specs.Statics.Lookup.{first_entry}
 use Rattle.m2_base.specs.Statics.Makes.{own_rows, with_rows}
 use Rattle.m2_base.specs.Statics.Shapes.{Shape}
-use Rattle.m2_base.specs.Tables.{Lacks, first_named, rows_at}
+use Rattle.m2_base.specs.Tables.{first_named, rows_at}
 use Rattle.m2_base.specs.declared.rows.Row.{Row}
 use Rattle.m2_base.specs.declared.sites.Named.{Named}
 use Rattle.m2_base.specs.declared.sites.Site.{Site}
-use Rattle.type_rules.specs.Scenes.{AreInHand, NamesNoType, rows_of}
+use Rattle.type_rules.specs.Scenes.{AreInHand, rows_of}
 use Rattle.type_rules.specs.Sites.{AreOfItem, AreOfSite, SuitsSite, context_of}
-use Rattle.decl_sem.specs.LaidRows.{AreLaid, none_laid, more_laid, IsAhead, IsLaid, is_of, kept_name}
-use Rattle.decl_sem.specs.Making.{IsInHand, IsNext, next_ordinal}
-use Rattle.decl_sem.specs.Pieces.{BeginsAt, IsMaking}
+use Rattle.decl_sem.specs.LaidRows.{AreLaid, none_laid, more_laid, IsAhead, is_of, kept_name}
+use Rattle.decl_sem.specs.Making.{IsInHand, IsNext}
+use Rattle.decl_sem.specs.Pieces.{IsMaking}
 use Rattle.decl_sem.specs.declared.making.Made.{Made}
 use Rattle.decl_sem.proofs.FirstNames.{known_before}
 

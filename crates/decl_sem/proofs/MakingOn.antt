@@ -1,15 +1,15 @@
 -- Parts of an item, made one after another.
-use Rattle.std.specs.Prelude.{◌≡◌, ℕ, ◌+◌, ◌<◌, List, [], ◌∷◌, ◌++◌, length}
+use Rattle.std.specs.Prelude.{◌≡◌, List, ◌++◌, length}
 use Rattle.std.proofs.Common.{refl, sym, ap, ◌∙◌, subst, arith}
-use Rattle.std.proofs.lemmas.List.{append_assoc, append-nil, length-append, length-set}
-use Rattle.m2_base.proofs.SceneLaws.{own-with, open-with, with-twice, with-none}
-use Rattle.m2_base.specs.Statics.Contexts.{Context, Scene}
+use Rattle.std.proofs.lemmas.List.{append_assoc, append-nil, length-append}
+use Rattle.m2_base.proofs.SceneLaws.{own-with, open-with}
+use Rattle.m2_base.specs.Statics.Contexts.{Context}
 use Rattle.m2_base.specs.Statics.Makes.{Makes, make_then, makes, own_rows, with_rows}
 use Rattle.m2_base.specs.Statics.Shapes.{Shape}
 use Rattle.m2_base.specs.declared.rows.Row.{Row}
 use Rattle.m2_base.specs.declared.sites.Site.{Site}
 use Rattle.decl_sem.specs.LaidRows.{AreLaid, IsAhead}
-use Rattle.decl_sem.specs.Making.{IsInHand, MakesAll, next_ordinal}
+use Rattle.decl_sem.specs.Making.{IsInHand, MakesAll}
 use Rattle.decl_sem.specs.declared.making.Made.{Made}
 use Rattle.decl_sem.proofs.FirstNames.{gone_on}
 

@@ -1,15 +1,14 @@
 -- A row with a name, by the layout.
-use Rattle.std.specs.Prelude.{◌≡◌, ℕ, Bool, true, false, not, is_some, if◌then◌else◌, List, [], ◌∷◌, length, Option, None, Some}
-use Rattle.std.proofs.Common.{refl, ap, ◌∙◌}
+use Rattle.std.specs.Prelude.{◌≡◌, ℕ, Bool, true, false, not, is_some, if◌then◌else◌, [], ◌∷◌, length, Option, None, Some}
+use Rattle.std.proofs.Common.{refl, ◌∙◌}
 use Rattle.m2_base.specs.Rows.{row_of}
 use Rattle.m2_base.specs.declared.rows.RowMeaning.{RowMeaning}
 use Rattle.m2_base.specs.Standard.{is_standard}
 use Rattle.m2_base.specs.Statics.Contexts.{Context, diag}
 use Rattle.m2_base.specs.Statics.Diagnostics.{declared_twice, standard_declared}
 use Rattle.m2_base.specs.Statics.Lookup.{first_entry, has_name}
-use Rattle.m2_base.specs.Statics.Makes.{Makes, own_rows, next_place, one_row, makes_named}
+use Rattle.m2_base.specs.Statics.Makes.{own_rows, one_row, makes_named}
 use Rattle.m2_base.specs.Tables.{first_named, found_or}
-use Rattle.m2_base.specs.declared.rows.Place.{Place}
 use Rattle.m2_base.specs.declared.rows.Row.{Row}
 use Rattle.decl_sem.specs.LaidRows.{is_of, kept_name}
 use Rattle.decl_sem.specs.Making.{IsNext, name_refusals}

@@ -1,13 +1,13 @@
 -- Pieces of one row.
-use Rattle.std.specs.Prelude.{◌≡◌, ◌≢◌, ◌⊎◌, ℕ, suc, Bool, true, false, if◌then◌else◌, ◌+◌, ◌<◌, ◌≤◌, ◌==◌, ◌^◌, List, [], ◌∷◌, ◌++◌, length, Option, None, Some, Result, Ok, Err}
+use Rattle.std.specs.Prelude.{◌≡◌, ◌≢◌, ◌⊎◌, ℕ, Bool, true, false, if◌then◌else◌, ◌<◌, ◌≤◌, ◌==◌, ◌^◌, List, [], ◌∷◌, ◌++◌, length, Result, Ok, Err}
 use Rattle.std.proofs.Common.{refl, sym, ap, ◌∙◌, subst, arith, inl, inr}
-use Rattle.std.proofs.lemmas.List.{append_assoc, append-nil, length-append}
+use Rattle.std.proofs.lemmas.List.{length-append}
 use Rattle.std.specs.Result.{IfOk}
 use Rattle.m2_base.specs.Finished.{IsTold}
 use Rattle.m2_base.specs.Lists.{IsPrefixOf}
 use Rattle.m2_base.specs.Names.{standard_names}
 use Rattle.m2_base.specs.Standard.{is_standard}
-use Rattle.m2_base.specs.Rows.{Fits, HasSmallNumbers, HasSmallOrdinals, IsBefore, IsSmallScope, at_place, row_meaning, row_of}
+use Rattle.m2_base.specs.Rows.{Fits, HasSmallOrdinals, IsBefore, IsSmallScope, at_place, row_of}
 use Rattle.m2_base.specs.States.{Frame, State}
 use Rattle.m2_base.specs.Statics.Contexts.{Context}
 use Rattle.m2_base.specs.Statics.FormedRows.{IsFilled}
@@ -26,9 +26,9 @@ use Rattle.m2_base.proofs.RowLaws.{row_meaning-row_of}
 use Rattle.m2_base.specs.declared.sites.Named.{Named}
 use Rattle.m2_base.specs.declared.trees.Ident.{Ident}
 use Rattle.type_rules.specs.Sites.{context_of}
-use Rattle.decl_sem.specs.LaidRows.{AreLaid, IsLaid, is_of, kept_name, more_laid, none_laid}
+use Rattle.decl_sem.specs.LaidRows.{IsLaid, is_of, kept_name, more_laid, none_laid}
 use Rattle.decl_sem.specs.Making.{IsInHand, IsNext, MakesAll, next_ordinal}
-use Rattle.decl_sem.specs.Pieces.{AreNewRows, Declares, Grown, IsBehind, IsMaking, IsNewMeaning, IsNewRow, IsOwned, WhereMaking, item_end, kind_number, known_of}
+use Rattle.decl_sem.specs.Pieces.{Declares, IsBehind, IsMaking, IsNewMeaning, IsNewRow, IsOwned, WhereMaking, item_end, kind_number, known_of}
 use Rattle.decl_sem.specs.declared.making.Made.{Made}
 use Rattle.decl_sem.proofs.Hands.{hand_is, hand_next}
 use Rattle.decl_sem.proofs.Pieces.{next_on}

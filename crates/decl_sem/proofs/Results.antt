@@ -1,15 +1,14 @@
 -- The results of procedure types.
-use Rattle.std.specs.Prelude.{◌≡◌, ℕ, ◌+◌, ◌<◌, ◌≤◌, ◌^◌, Bool, true, false, if◌then◌else◌, List, [], ◌∷◌, ◌++◌, length, Option, None, Some}
-use Rattle.std.proofs.Common.{refl, sym, ap, ◌∙◌, subst, arith, Ok, Err, Result}
+use Rattle.std.specs.Prelude.{◌≡◌, ℕ, Bool, true, false, if◌then◌else◌, [], Option, Some}
+use Rattle.std.proofs.Common.{refl, sym, ap, subst, Ok, Result}
 use Rattle.m2_base.specs.Gives.{Gives, and_then, gives}
 use Rattle.m2_base.specs.Lists.{IsPrefixOf}
 use Rattle.m2_base.specs.Standard.{broken}
-use Rattle.m2_base.specs.States.{Frame, State}
+use Rattle.m2_base.specs.States.{State}
 use Rattle.m2_base.specs.Statics.Contexts.{Context, refuse}
 use Rattle.m2_base.specs.Statics.Diagnostics.{result_not_scalar}
-use Rattle.m2_base.specs.Statics.Makes.{Makes, make_then, makes, only_gives}
+use Rattle.m2_base.specs.Statics.Makes.{only_gives}
 use Rattle.m2_base.specs.Statics.ProcedureTypes.{checked_result, result_type}
-use Rattle.m2_base.specs.Statics.Shapes.{Shape}
 use Rattle.m2_base.specs.Statics.TypeNames.{type_of_qual}
 use Rattle.m2_base.specs.declared.memory.Memory.{Memory}
 use Rattle.m2_base.specs.declared.notes.Notes.{Notes}

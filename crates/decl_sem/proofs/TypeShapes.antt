@@ -1,14 +1,14 @@
 -- The shapes of each form of type, as the code sees it.
-use Rattle.std.proofs.Common.{◌≡◌, ℕ, zero, suc, ◌+◌, ◌<◌, List, [], ◌∷◌, ◌++◌, length, map, take, refl, ap, arith, ◌∙◌, Option, Some, None}
+use Rattle.std.proofs.Common.{◌≡◌, ℕ, zero, suc, ◌+◌, ◌<◌, List, [], ◌∷◌, ◌++◌, length, map, take, refl, ap, arith, ◌∙◌, Option}
 use Rattle.std.specs.Prelude.{flat_map}
 use Rattle.std.specs.declared.alloc.Global.{Global}
 use Rattle.std.specs.declared.boxed.Box.{Box}
 use Rattle.std.specs.declared.vec.Vec.{Vec}
 use Rattle.m2_base.proofs.Seen.{type_seen, named_seen, enum_seen, sub_seen, array_seen, record_seen, set_of_seen, pointer_seen, proc_type_seen, plain_fields_seen, case_fields_seen, variant_arm_seen}
 use Rattle.m2_base.specs.Rows.{array_kind, const_kind, enum_kind, field_kind, pointer_kind, proc_type_kind, record_kind, set_kind, subrange_kind}
-use Rattle.m2_base.specs.Statics.Shapes.{Shape, named, nameless, tag_shapes, array_shapes, formal_shapes, type_shapes, form_shapes, types_shapes, field_shapes, fields_shapes, arms_shapes, arm_shapes}
+use Rattle.m2_base.specs.Statics.Shapes.{named, nameless, tag_shapes, array_shapes, formal_shapes, type_shapes, form_shapes, types_shapes, field_shapes, fields_shapes, arms_shapes, arm_shapes}
 use Rattle.decl_sem.specs.Shapes.{arrays_of}
-use Rattle.m2_base.specs.Trees.{TypeExpr, TypeForm, type_expr, type_exprs, FieldList, field_lists, VariantArm, variant_arms}
+use Rattle.m2_base.specs.Trees.{TypeExpr, type_exprs, FieldList, field_lists, VariantArm, variant_arms}
 use Rattle.m2_base.specs.Views.{type_view, type_form_view, field_list_view, variant_arm_view}
 use Rattle.m2_base.specs.declared.trees.Ident.{Ident}
 use Rattle.m2_base.specs.declared.trees.Qual.{Qual}

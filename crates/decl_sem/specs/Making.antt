@@ -1,6 +1,5 @@
 -- The item in hand: what is made of it so far, and what a part of it makes.
-use Rattle.std.specs.Prelude.{◌≡◌, ℕ, ◌+◌, ◌<◌, Bool, false, not, is_some, if◌then◌else◌, List, [], ◌∷◌, ◌++◌, length}
-use Rattle.m2_base.specs.declared.rows.Row.{Row}
+use Rattle.std.specs.Prelude.{◌≡◌, ℕ, ◌+◌, ◌<◌, false, not, is_some, if◌then◌else◌, List, [], ◌∷◌, ◌++◌, length}
 use Rattle.m2_base.specs.Standard.{is_standard}
 use Rattle.m2_base.specs.Statics.Contexts.{Context}
 use Rattle.m2_base.specs.Statics.Diagnostics.{declared_twice, standard_declared}

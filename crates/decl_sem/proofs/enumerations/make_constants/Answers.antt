@@ -1,6 +1,5 @@
-use Rattle.std.proofs.Common.{◌≡◌, ◌+◌, length, refl, arith, get_or, subst, to_z, w64}
+use Rattle.std.proofs.Common.{◌≡◌, length, arith, subst, to_z, w64}
 use Rattle.std.proofs.lemmas.Int.{to_z_pos}
-use Rattle.decl_sem.specs.Making.{next_ordinal}
 use Rattle.decl_sem.proofs.Constants.{HasConstants, all_constants, constants_failed, one_more_constant}
 use Rattle.decl_sem.proofs.enumerations.make_constants.Goals as goal
 

@@ -1,4 +1,4 @@
-use Rattle.std.proofs.Common.{◌≡◌, length, refl, subst, arith}
+use Rattle.std.proofs.Common.{◌≡◌, length, subst, arith}
 use Rattle.decl_sem.proofs.Asking.{first_made}
 use Rattle.decl_sem.proofs.Parameters.{FormalsGo, all_formals, formals_failed, formals_waiting, next_making, one_more_formal, read_formal}
 use Rattle.decl_sem.proofs.Pieces.{goes_start}

@@ -1,4 +1,4 @@
-use Rattle.std.proofs.Common.{[], ◌<◌, ◌^◌, Ok, Err, sym, subst, ℕ}
+use Rattle.std.proofs.Common.{[], Ok, Err, sym, subst}
 use Rattle.m2_base.specs.States.{Frame}
 use Rattle.m2_base.specs.Statics.Makes.{only_gives}
 use Rattle.m2_base.specs.Statics.ProcedureTypes.{open_array_row}

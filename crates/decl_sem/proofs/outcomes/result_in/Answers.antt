@@ -1,4 +1,4 @@
-use Rattle.std.proofs.Common.{[], Ok, None, Some, ap, sym, subst, Option}
+use Rattle.std.proofs.Common.{[], Ok, None, ap, sym, subst, Option}
 use Rattle.m2_base.specs.Statics.Makes.{only_gives}
 use Rattle.m2_base.specs.Statics.ProcedureTypes.{result_type}
 use Rattle.m2_base.specs.declared.replies.Ask.TheVariants.{Known}

@@ -1,4 +1,3 @@
-use Rattle.std.proofs.Common.{refl}
 use Rattle.decl_sem.proofs.Checks.{unnoted_piece}
 use Rattle.decl_sem.proofs.Results.{scalar, scalar_given, structured}
 use Rattle.decl_sem.proofs.outcomes.scalar_or_refuse.Goals as goal

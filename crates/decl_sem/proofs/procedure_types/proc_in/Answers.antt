@@ -1,10 +1,6 @@
-use Rattle.std.proofs.Common.{[], ◌∷◌, ◌++◌, Ok, ◌∙◌, sym, subst, arith, length, ℕ}
+use Rattle.std.proofs.Common.{[], ◌∷◌, arith}
 use Rattle.m2_base.specs.Rows.{proc_type_kind}
-use Rattle.m2_base.specs.Statics.Makes.{make_then, makes_row, only_gives}
-use Rattle.m2_base.specs.Statics.ProcedureTypes.{result_type}
 use Rattle.m2_base.specs.Statics.Shapes.{nameless}
-use Rattle.m2_base.specs.declared.rows.RowMeaning.TheVariants.{ProcType}
-use Rattle.decl_sem.specs.Pieces.{Declares, IsBehind}
 use Rattle.decl_sem.proofs.Asking.{first_made}
 use Rattle.decl_sem.proofs.OneRows.{room_before_row}
 use Rattle.decl_sem.proofs.Parameters.{formals_shapes}

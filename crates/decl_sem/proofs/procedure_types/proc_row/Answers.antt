@@ -1,4 +1,4 @@
-use Rattle.std.proofs.Common.{[], ◌∷◌, Ok, Err, sym, subst, Option}
+use Rattle.std.proofs.Common.{[], ◌∷◌, Ok, Err, sym, subst}
 use Rattle.m2_base.specs.Rows.{proc_type_kind}
 use Rattle.m2_base.specs.States.{Frame}
 use Rattle.m2_base.specs.Statics.Makes.{makes_row, only_gives}
