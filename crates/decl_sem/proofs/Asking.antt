@@ -1,7 +1,7 @@
 -- Questions of types whose rows may be in hand, and what is made after them.
-use Rattle.std.specs.Prelude.{◌≡◌, ℕ, ◌<◌, ◌^◌, Bool, if◌then◌else◌, List, [], ◌∷◌, ◌++◌}
-use Rattle.std.proofs.Common.{refl, sym, ap, ◌∙◌, subst, arith, Ok, Err, Result}
-use Rattle.m2_base.specs.Gives.{Gives, gives}
+use Rattle.std.specs.Prelude.{◌≡◌, ℕ, Bool, if◌then◌else◌, List, []}
+use Rattle.std.proofs.Common.{sym, ap, ◌∙◌, subst, Ok, Result}
+use Rattle.m2_base.specs.Gives.{gives}
 use Rattle.m2_base.specs.Standard.{broken}
 use Rattle.m2_base.specs.States.{Frame, State, Waits}
 use Rattle.m2_base.specs.Statics.Contexts.{Context, Scene, refuse}
@@ -18,7 +18,6 @@ use Rattle.m2_base.specs.declared.rows.RowMeaning.TheVariants.{Set}
 use Rattle.m2_base.specs.declared.sites.Site.{Site}
 use Rattle.type_rules.specs.Asks.{Reads, WhereKnown, WhereWaiting}
 use Rattle.type_rules.specs.Scenes.{IsStood, scene_of}
-use Rattle.type_rules.specs.Sites.{context_of}
 use Rattle.decl_sem.specs.Making.{next_ordinal}
 use Rattle.decl_sem.specs.Pieces.{Declares, IsAny, IsBehind, IsMaking, IsNewMeaning, WhereMaking}
 use Rattle.decl_sem.specs.Stood.{stood_in}
@@ -79,3 +78,14 @@ checked {a} {b} {x} {y} {s} test at t answer asks {stood} keep making reads wait
 -- the meaning of a set's row
 pub set_meaning : {f : Frame} {s : Site} {x : Made} {ss : List Shape} {t : Place} → IsMaking f s x ss → IsBehind f (next_ordinal x) t → IsNewMeaning f s (next_ordinal x) (Set t)
 set_meaning making h = record { small = h.small; scopes = small_scope making h; fits = before_next h; filled = tt; owned = tt }
+
+-- after a question of what a type stands for, by a value of the answer
+pub tested : {T V : Type 0} {a b : State} {x y : Made} {s : Site} {ss : List Shape} {Q : Frame → ℕ → T → Type 0} (of : Place × RowMeaning → V) (h : V → Context → Makes T) (t : Place) (answer : Result (Ask T) Memory) (asks : Ask (Place × RowMeaning)) {stood : Place × RowMeaning} (v : V)
+    → IsMaking a.frame s x ss → Reads a b → WhereWaiting asks (λ head. Waits a b head)
+    → WhereMaking a.frame x (λ hand. WhereKnown asks (λ stood. IsStood (scene_of a.frame hand s.around.now) t stood))
+    → asks ≡ Known stood → v ≡ of stood → Declares b b x y s answer ss Q (h v) → Declares a b x y s answer ss Q (λ c. h (of (stood_in t c)) c)
+tested {T} {V} {a} {b} {x} {y} {s} {ss} {Q} of h t answer asks {stood} v making reads waits told is same p =
+    let first : Declares a b x x s (Ok (Known stood)) [] IsAny (λ c. makes (stood_in t c)) =
+    subst (λ (k : Ask (Place × RowMeaning)). Declares a b x x s (Ok k) [] IsAny (λ c. makes (stood_in t c))) is (stood_piece x s asks t reads waits told) in
+    let q : Declares b b x y s answer ss Q (h (of stood)) = subst (λ (k : V). Declares b b x y s answer ss Q (h k)) same p in
+    asked_then (λ c. stood_in t c) (λ u c. h (of u) c) answer making first q

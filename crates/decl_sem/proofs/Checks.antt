@@ -1,29 +1,25 @@
 -- Types that are kept or refused.
-use Rattle.std.specs.Prelude.{◌≡◌, ℕ, ◌<◌, ◌^◌, Bool, true, false, if◌then◌else◌, List, [], ◌∷◌, ◌++◌}
-use Rattle.std.proofs.Common.{refl, sym, ap, ◌∙◌, subst, arith, Ok, Err, Result}
+use Rattle.std.specs.Prelude.{◌≡◌, ℕ, Bool, true, false, if◌then◌else◌, List, []}
+use Rattle.std.proofs.Common.{refl, sym, ap, subst, arith, Ok, Err}
 use Rattle.m2_base.specs.Gives.{Gives, gives}
 use Rattle.m2_base.specs.Lists.{IsPrefixOf}
 use Rattle.m2_base.specs.Standard.{broken}
 use Rattle.m2_base.specs.States.{Frame, State}
 use Rattle.m2_base.specs.Statics.Contexts.{Context, refuse}
 use Rattle.m2_base.specs.Statics.Diagnostics.{wrong_index}
-use Rattle.m2_base.specs.Statics.Makes.{Makes, only_gives}
+use Rattle.m2_base.specs.Statics.Makes.{only_gives}
 use Rattle.m2_base.specs.Statics.Shapes.{Shape}
 use Rattle.m2_base.specs.declared.memory.Memory.{Memory}
 use Rattle.m2_base.specs.declared.notes.Notes.{Notes}
-use Rattle.m2_base.specs.declared.replies.Ask.{Ask}
 use Rattle.m2_base.specs.declared.replies.Ask.TheVariants.{Known}
 use Rattle.m2_base.specs.declared.rows.Place.{Place}
 use Rattle.m2_base.specs.declared.sites.Site.{Site}
-use Rattle.type_rules.specs.Scenes.{IsThere}
 use Rattle.type_rules.specs.Sites.{IsRefused, context_of}
-use Rattle.const_eval.specs.Analyses.{Analysed}
 use Rattle.decl_sem.specs.Making.{next_ordinal}
 use Rattle.decl_sem.specs.Pieces.{Declares, IsBehind, IsMaking}
 use Rattle.decl_sem.specs.declared.making.Made.{Made}
-use Rattle.decl_sem.proofs.Held.{here_behind}
 use Rattle.decl_sem.proofs.Pieces.{analysed, described, value_alone}
-use Rattle.decl_sem.proofs.Uses.{broken_there, refused, unnoted}
+use Rattle.decl_sem.proofs.Uses.{refused, unnoted}
 
 pub broken_behind : {f : Frame} {s : Site} {x : Made} {ss : List Shape} {next : ℕ} → IsMaking f s x ss → IsBehind f next broken
 broken_behind making =

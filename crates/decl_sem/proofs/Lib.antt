@@ -19,8 +19,11 @@ pub mod Namings
 pub mod NextRows
 pub mod NoTypeNames
 pub mod OneRows
+pub mod Parameters
 pub mod Pieces
 pub mod SizesInHand
+pub mod ProcTypes
+pub mod Results
 pub mod TypeForms
 pub mod TypeShapes
 pub mod TypeSizes

@@ -16,6 +16,7 @@ use Rattle.m2_base.specs.Statics.Makes.{Makes, makes_named, makes_row}
 use Rattle.m2_base.specs.Statics.Shapes.{Shape, named, nameless}
 use Rattle.m2_base.specs.declared.memory.Memory.{Memory}
 use Rattle.m2_base.specs.declared.notes.Notes.{Notes}
+use Rattle.m2_base.specs.declared.replies.Ask.TheVariants.{Known}
 use Rattle.m2_base.specs.declared.rows.Place.{Place}
 use Rattle.m2_base.specs.declared.rows.Row.{Row}
 use Rattle.m2_base.specs.declared.rows.RowMeaning.{RowMeaning}
@@ -30,6 +31,7 @@ use Rattle.decl_sem.specs.Making.{IsInHand, IsNext, MakesAll, next_ordinal}
 use Rattle.decl_sem.specs.Pieces.{Declares, IsBehind, IsMaking, IsNewMeaning, IsNewRow, IsOwned, WhereMaking, item_end, kind_number, known_of}
 use Rattle.decl_sem.specs.declared.making.Made.{Made}
 use Rattle.decl_sem.proofs.Hands.{hand_is, hand_next}
+use Rattle.decl_sem.proofs.Pieces.{next_on}
 
 -- ** Places
 
@@ -167,3 +169,11 @@ named_piece {s} {x} {y} i m result made rows is answers diags first a making som
 -- there is room for a row
 pub room_for_row : {f : Frame} {s : Site} {x : Made} {shape : Shape} {ss : List Shape} → IsMaking f s x (shape ∷ ss) → next_ordinal x < 2 ^ 32
 room_for_row making = let a = making.room in let b = making.few in omega arith
+
+-- and after a piece without rows
+pub room_for_any : {T : Type 0} {a b : State} {s : Site} {x y : Made} {ss : List Shape} {P : Frame → ℕ → T → Type 0} {g : Context → Makes T} {v : T} → IsMaking a.frame s x ss → Declares a b x y s (Ok (Known v)) [] P g → next_ordinal x < 2 ^ 32 → next_ordinal y < 2 ^ 32
+room_for_any making p h = let e = next_on p.first p.grown in omega arith
+
+-- a row that comes after others has room for them
+pub room_before_row : {f : Frame} {s : Site} {x : Made} (ss : List Shape) (shape : Shape) → IsMaking f s x (ss ++ shape ∷ []) → next_ordinal x < 2 ^ 32
+room_before_row ss shape making = let l = length-append ss (shape ∷ []) in let a = making.room in let b = making.few in omega arith

@@ -1,12 +1,12 @@
 -- The forms of type expressions, as the code sees them.
-use Rattle.std.specs.Prelude.{◌≡◌, ℕ, ◌+◌, ◌<◌, ◌≤◌, ◌==◌, ◌^◌, Bool, true, false, List, [], ◌∷◌, ◌++◌, length, map, flat_map, Option, None, Some, Result, Ok, Err}
+use Rattle.std.specs.Prelude.{◌≡◌, ℕ, ◌+◌, ◌<◌, ◌==◌, ◌^◌, Bool, true, false, List, [], ◌∷◌, ◌++◌, length, map, flat_map, Option, None, Some, Result, Err}
 use Rattle.std.proofs.Common.{refl, sym, ap, ◌∙◌, subst, arith}
 use Rattle.std.specs.declared.alloc.Global.{Global}
 use Rattle.std.specs.declared.boxed.Box.{Box}
 use Rattle.std.specs.declared.vec.Vec.{Vec}
 use Rattle.std.proofs.lemmas.List.{length-map}
 use Rattle.m2_base.proofs.Kept.{Works-refl}
-use Rattle.m2_base.proofs.Seen.{type_seen, named_seen, enum_seen, set_of_seen}
+use Rattle.m2_base.proofs.Seen.{type_seen, named_seen, enum_seen, proc_type_seen, set_of_seen}
 use Rattle.m2_base.specs.Rows.{array_kind, const_kind, enum_kind, field_kind, open_array_kind, param_kind, pointer_kind, proc_type_kind, record_kind, set_kind, subrange_kind, type_name_kind}
 use Rattle.m2_base.specs.States.{Frame, State}
 use Rattle.m2_base.specs.Statics.Contexts.{Context}
@@ -23,7 +23,7 @@ use Rattle.m2_base.specs.declared.trees.Ident.{Ident}
 use Rattle.m2_base.specs.declared.trees.Qual.{Qual}
 use Rattle.m2_base.specs.declared.trees.types as code
 use Rattle.m2_base.specs.declared.trees.types.Formal.{Formal}
-use Rattle.m2_base.specs.declared.trees.types.TypeForm.TheVariants.{Named, Enum, Set as SetOf}
+use Rattle.m2_base.specs.declared.trees.types.TypeForm.TheVariants.{Named, Enum, Proc, Set as SetOf}
 use Rattle.m2_base.specs.Units.{UnitTexts}
 use Rattle.type_rules.specs.Sites.{SuitsSite}
 use Rattle.decl_sem.specs.Making.{next_ordinal}
@@ -55,6 +55,9 @@ is_enum t names l same e = ap type_form_view e ∙ enum_seen names ∙ ap enum_t
 
 pub is_set : (t : code.TypeExpr.TypeExpr) (of : Box code.TypeExpr.TypeExpr Global) (u : code.TypeExpr.TypeExpr) → u ≡ of.value → t.form ≡ SetOf of → type_form_view t.form ≡ set_type (type_view u)
 is_set t of u same e = ap type_form_view e ∙ set_of_seen of ∙ ap (λ (v : code.TypeExpr.TypeExpr). set_type (type_view v)) (sym same)
+
+pub is_proc : (t : code.TypeExpr.TypeExpr) (formals : Vec Formal Global) (q : Option Qual) (l : List Formal) → l ≡ formals.items → t.form ≡ Proc formals q → type_form_view t.form ≡ proc_type l q
+is_proc t formals q l same e = ap type_form_view e ∙ proc_type_seen formals q ∙ ap (λ (v : List Formal). proc_type v q) (sym same)
 
 -- the base of a set
 pub set_parts : {f : Frame} {s : Site} {x : Made} (t : code.TypeExpr.TypeExpr) (of : Box code.TypeExpr.TypeExpr Global) (u : code.TypeExpr.TypeExpr) → u ≡ of.value → t.form ≡ SetOf of → (names : List (List ℕ))
@@ -93,7 +96,7 @@ open_no_types : (b : Bool) (q : Qual) → AreNoTypes (open_shapes b q)
 open_no_types true q = not_a_type (nameless open_array_kind q.first.at) refl
 open_no_types false q = tt
 
-formals_no_types : (formals : List Formal) → AreNoTypes (flat_map formal_shapes formals)
+pub formals_no_types : (formals : List Formal) → AreNoTypes (flat_map formal_shapes formals)
 formals_no_types [] = tt
 formals_no_types (f ∷ formals) =
     no_types-append (formal_shapes f) (flat_map formal_shapes formals)

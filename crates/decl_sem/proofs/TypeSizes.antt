@@ -1,6 +1,6 @@
 -- The sizes of type expressions, by which the walk through them ends.
 use Rattle.std.specs.Prelude.{◌≡◌, ℕ, suc, ◌+◌, ◌<◌}
-use Rattle.std.proofs.Common.{sym, ap, ◌∙◌, subst, arith}
+use Rattle.std.proofs.Common.{ap, arith}
 use Rattle.m2_base.specs.Trees.{TypeExpr, TypeForm, type_expr, named_type, enum_type, sub_type, array_type, record_type, set_type, pointer_type, proc_type, TypeExprs, no_types, more_types, FieldList, plain_fields, case_fields, FieldLists, no_fields, more_fields, VariantArm, variant_arm, VariantArms, no_variant_arms, more_variant_arms}
 use Rattle.m2_base.specs.Views.{type_form_view, type_view}
 use Rattle.m2_base.specs.declared.trees.types as code

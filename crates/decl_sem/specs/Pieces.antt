@@ -63,6 +63,11 @@ pub record IsOwnType (f : Frame) (next : ℕ) (p : Place) : Type 0 where
   pub own : p.scope ≡ f.setting.fills
   pub behind : IsBehind f next p
 
+-- a type that may be absent
+abbrev pub IsOptionBehind : Frame → (next : ℕ) → Option Place → Type 0
+IsOptionBehind f next None = Unit {0}
+IsOptionBehind f next (Some p) = IsBehind f next p
+
 -- any value may stand
 abbrev pub IsAny : {T : Type 0} → Frame → (next : ℕ) → T → Type 0
 IsAny f next v = Unit {0}

@@ -4,6 +4,7 @@ use Rattle.m2_base.specs.Rows.{is_same_place}
 use Rattle.m2_base.specs.Standard.{broken}
 use Rattle.m2_base.specs.Statics.Arrays.{is_index_range, is_set_range}
 use Rattle.m2_base.specs.Statics.Contexts.{Context}
+use Rattle.m2_base.specs.Statics.ProcedureTypes.{is_structured_kind}
 use Rattle.m2_base.specs.Statics.Types.{kind_of, range_by, stands_for}
 use Rattle.m2_base.specs.declared.rows.Place.{Place}
 use Rattle.m2_base.specs.declared.rows.RowMeaning.{RowMeaning}
@@ -19,3 +20,7 @@ may_be_base stood = is_same_place stood.0 broken || is_set_range (range_by stood
 -- an index type may be this, or is in error
 abbrev pub may_be_index : Place × RowMeaning → Bool
 may_be_index stood = is_same_place stood.0 broken || is_index_range (range_by stood.1)
+
+-- an array or a record
+abbrev pub is_structured_row : Place × RowMeaning → Bool
+is_structured_row stood = is_structured_kind stood.1

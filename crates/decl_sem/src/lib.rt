@@ -5,7 +5,7 @@
 //! (`specs/Statics`). When a block's scope is complete, its closing name is checked (`close_check`).
 //!
 //! `declaring::declare` has the rows of an item, with the contract that it will keep. It isn't public yet: subranges, arrays,
-//! records, pointers and procedure types in `types`, and the headings in `procedures` and `own_headings`, answer want of
+//! records and pointers in `types`, and the headings in `procedures` and `own_headings`, answer want of
 //! memory till they are built.
 #![tactic(auto)]
 
@@ -58,6 +58,7 @@ mod const_items;
 mod declaring;
 mod effects;
 mod enumerations;
+mod formals;
 mod heading_sizes;
 mod imports;
 mod items;
@@ -66,7 +67,9 @@ mod layouts;
 mod making;
 mod meanings;
 mod names;
+mod outcomes;
 mod own_headings;
+mod procedure_types;
 mod procedures;
 mod putting;
 mod sets;

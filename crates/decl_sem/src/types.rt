@@ -11,12 +11,13 @@ ghost use Rattle.m2_base.specs.Statics.ReadTrees.{IsReadQual, IsReadType};
 use crate::enumerations::make_enumeration;
 use crate::making::Made;
 use crate::names::{small_place, type_of_qual};
+use crate::procedure_types::proc_in;
 use crate::sets::make_set;
 use m2_base::{Ask, Memory, Place, Qual, Scopes, Site, TypeExpr, TypeForm};
 use std::alloc::Global;
 
 /// The type that a name leads to. It makes no row.
-fn name_in<S: Scopes>(
+pub(crate) fn name_in<S: Scopes>(
     scopes: &mut S,
     site: &Site,
     qual: Qual,
@@ -53,6 +54,10 @@ pub(crate) fn type_in<S: Scopes>(
             let base = made!(type_in(alloc, scopes, site, of, made));
             make_set(scopes, site, typ.at, of.at, base, made)
         }
+        TypeForm::Proc {
+            formals,
+            result: outcome,
+        } => proc_in(scopes, site, typ.at, formals, *outcome, made),
         _ => Err(Memory),
     }
 }

@@ -1,8 +1,6 @@
-use Rattle.std.proofs.Common.{◌<◌, ◌∙◌, ap, sym, subst, length, arith, Option, None, Some}
+use Rattle.std.proofs.Common.{◌∙◌, ap, sym, subst, length, arith, Option, None, Some}
 use Rattle.std.specs.Option.{IfSome}
 use Rattle.m2_base.specs.Rows.{Fits, row_meaning}
-use Rattle.m2_base.specs.States.{Frame}
-use Rattle.m2_base.specs.Statics.Contexts.{Context}
 use Rattle.m2_base.specs.Statics.Lookup.{Entry}
 use Rattle.m2_base.specs.Statics.TypeNames.{member_of}
 use Rattle.m2_base.specs.Statics.Uses.{use_of}

@@ -1,8 +1,7 @@
 use Rattle.std.proofs.Common.{◌∙◌, ap, sym, subst, Option, None, Some}
 use Rattle.std.specs.Option.{IfSome}
 use Rattle.m2_base.specs.Statics.Lookup.{Entry}
-use Rattle.m2_base.specs.Statics.TypeNames.{member_of, qualified}
-use Rattle.m2_base.specs.Rows.{row_meaning}
+use Rattle.m2_base.specs.Statics.TypeNames.{qualified}
 use Rattle.m2_base.specs.declared.trees.Ident.{Ident}
 use Rattle.type_rules.specs.Scenes.{IsRowOf}
 use Rattle.type_rules.specs.Sites.{context_of}

@@ -1,12 +1,9 @@
 use Rattle.std.proofs.Common.{◌∙◌, ap, sym, subst, length, Option}
 use Rattle.std.specs.Option.{IfSome}
-use Rattle.m2_base.specs.Gives.{Gives}
-use Rattle.m2_base.specs.Rows.{Fits, row_meaning}
+use Rattle.m2_base.specs.Rows.{Fits}
 use Rattle.m2_base.specs.Standard.{broken}
 use Rattle.m2_base.specs.Statics.Lookup.{Entry}
 use Rattle.m2_base.specs.Statics.TypeNames.{type_by, type_of_entry}
-use Rattle.m2_base.specs.declared.rows.Place.{Place}
-use Rattle.m2_base.specs.declared.rows.Row.{Row}
 use Rattle.m2_base.specs.declared.rows.RowMeaning.{RowMeaning}
 use Rattle.type_rules.specs.Scenes.{IsRowOf, IsThere}
 use Rattle.type_rules.specs.Sites.{context_of}

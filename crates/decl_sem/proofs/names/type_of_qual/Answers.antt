@@ -1,12 +1,11 @@
-use Rattle.std.proofs.Common.{Ok, Err, Option, None, subst, sym}
+use Rattle.std.proofs.Common.{Ok, Err, Option, subst, sym}
 use Rattle.std.specs.Option.{IfSome}
-use Rattle.m2_base.specs.States.{Frame, State}
+use Rattle.m2_base.specs.States.{Frame}
 use Rattle.m2_base.specs.Statics.Lookup.{Entry}
 use Rattle.m2_base.specs.Statics.TypeNames.{entry_of_qual, type_of_entry}
 use Rattle.m2_base.specs.declared.replies.Ask.TheVariants.{Known}
-use Rattle.type_rules.specs.Scenes.{IsRowOf, IsThere}
+use Rattle.type_rules.specs.Scenes.{IsRowOf}
 use Rattle.type_rules.specs.Sites.{SuitsSite}
-use Rattle.const_eval.specs.Analyses.{Analysed}
 use Rattle.const_eval.proofs.Analysing.{and_after}
 use Rattle.decl_sem.proofs.Uses.{first_known}
 use Rattle.decl_sem.proofs.names.type_of_qual.Goals as goal

@@ -1,4 +1,4 @@
-use Rattle.std.proofs.Common.{[], Ok, Err, subst}
+use Rattle.std.proofs.Common.{Ok, Err}
 use Rattle.m2_base.specs.declared.replies.Ask.TheVariants.{Known}
 use Rattle.decl_sem.specs.Stood.{may_be_base}
 use Rattle.decl_sem.proofs.Asking.{behind_read, checked, making_read}

@@ -1,10 +1,3 @@
-use Rattle.std.proofs.Common.{◌∙◌, [], ap, sym, refl, true, false, if◌then◌else◌}
-use Rattle.m2_base.specs.Gives.{gives}
-use Rattle.m2_base.specs.Standard.{broken}
-use Rattle.m2_base.specs.Statics.Contexts.{refuse}
-use Rattle.m2_base.specs.Statics.Makes.{only_gives}
-use Rattle.type_rules.specs.Sites.{context_of}
-use Rattle.type_rules.specs.Scenes.{IsThere}
 use Rattle.decl_sem.proofs.Checks.{kept, refused_piece, unnoted_piece}
 use Rattle.decl_sem.proofs.sets.keep_or_refuse.Goals as goal
 

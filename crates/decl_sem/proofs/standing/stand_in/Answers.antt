@@ -1,10 +1,6 @@
-use Rattle.std.proofs.Common.{◌≡◌, ◌^◌, ◌<◌, ◌≤◌, ◌∙◌, sym, ap, subst, true, false}
-use Rattle.m2_base.specs.Rows.{HasSmallNumbers}
-use Rattle.m2_base.specs.States.{Frame}
+use Rattle.std.proofs.Common.{◌^◌, ◌<◌, ◌∙◌, sym, subst}
 use Rattle.m2_base.specs.declared.rows.Place.{Place}
 use Rattle.m2_base.specs.declared.rows.RowMeaning.{RowMeaning}
-use Rattle.decl_sem.specs.Hands.{held_meaning, is_held}
-use Rattle.decl_sem.specs.Making.{next_ordinal}
 use Rattle.type_rules.specs.Scenes.{IsSaid, IsStood, IsThere, scene_of}
 use Rattle.decl_sem.proofs.Held.{held_row, held_said, held_stands, unheld_there, here_behind, known_stood}
 use Rattle.decl_sem.proofs.standing.stand_in.Goals as goal

@@ -1,19 +1,17 @@
-use Rattle.std.proofs.Common.{[], ◌∷◌, ◌++◌, ◌+◌, ◌<◌, ◌^◌, ◌∙◌, Ok, Err, length, refl, ap, sym, subst, arith, List, ℕ, rules}
+use Rattle.std.proofs.Common.{[], ◌∷◌, ◌<◌, ◌∙◌, ap, sym, subst, ℕ}
 use Rattle.m2_base.specs.Rows.{set_kind}
-use Rattle.m2_base.specs.States.{Frame}
 use Rattle.m2_base.specs.Statics.Arrays.{checked_base}
 use Rattle.m2_base.specs.Statics.Makes.{make_then, makes_row, only_gives}
-use Rattle.m2_base.specs.Statics.Shapes.{nameless, type_shapes}
+use Rattle.m2_base.specs.Statics.Shapes.{nameless}
 use Rattle.m2_base.specs.Statics.TypeRows.{type_rows}
-use Rattle.m2_base.specs.Trees.{enum_type, named_type, set_type, type_at}
+use Rattle.m2_base.specs.Trees.{enum_type, named_type, proc_type, set_type, type_at}
 use Rattle.m2_base.specs.Views.{type_view}
-use Rattle.m2_base.specs.declared.replies.Ask.TheVariants.{Known}
 use Rattle.m2_base.specs.declared.rows.RowMeaning.TheVariants.{Set}
 use Rattle.m2_base.specs.declared.trees.types.TypeExpr.{TypeExpr}
 use Rattle.decl_sem.specs.Pieces.{Declares, IsBehind}
 use Rattle.decl_sem.proofs.Asking.{first_made}
-use Rattle.decl_sem.proofs.Pieces.{making_front, making_on, then_after}
-use Rattle.decl_sem.proofs.TypeForms.{at_seen, enum_room, form_made, form_making, form_read, is_enum, is_named, is_set, read_here, set_parts, type_no_types, unmade}
+use Rattle.decl_sem.proofs.Pieces.{making_on, then_after}
+use Rattle.decl_sem.proofs.TypeForms.{at_seen, enum_room, form_made, form_making, form_read, is_enum, is_named, is_proc, is_set, read_here, set_parts, type_no_types, unmade}
 use Rattle.decl_sem.proofs.TypeSizes.{size_type, smaller_base}
 use Rattle.decl_sem.proofs.types.+type_in.Goals as goal
 
@@ -75,3 +73,23 @@ returns-in-Known g t c =
 
 pub returns-in_default : goal.returns-in_default
 returns-in_default g t c = unmade _ _ _ _ _ _ _
+
+pub proc_in-requires-clause-making : goal.proc_in-requires-clause-making
+proc_in-requires-clause-making g t c =
+    let l = c.deref-in-Proc.result.now in
+    form_making c.args.typ.now (proc_type l c.in-Proc.outcome) (is_proc c.args.typ.now c.in-Proc.formals c.in-Proc.outcome l c.deref-in-Proc.ensures.value c.in-Proc.is) c.requires.making
+
+pub proc_in-requires-clause-formals : goal.proc_in-requires-clause-formals
+proc_in-requires-clause-formals g t c =
+    let l = c.deref-in-Proc.result.now in
+    (form_read c.args.typ.now (proc_type l c.in-Proc.outcome) c.args.site.now.texts.now.names (is_proc c.args.typ.now c.in-Proc.formals c.in-Proc.outcome l c.deref-in-Proc.ensures.value c.in-Proc.is) c.requires.read).0
+
+pub proc_in-requires-clause-read : goal.proc_in-requires-clause-read
+proc_in-requires-clause-read g t c =
+    let l = c.deref-in-Proc.result.now in
+    (form_read c.args.typ.now (proc_type l c.in-Proc.outcome) c.args.site.now.texts.now.names (is_proc c.args.typ.now c.in-Proc.formals c.in-Proc.outcome l c.deref-in-Proc.ensures.value c.in-Proc.is) c.requires.read).1
+
+pub returns-in-Proc : goal.returns-in-Proc
+returns-in-Proc g t c =
+    let l = c.deref-in-Proc.result.now in
+    form_made c.args.typ.now (proc_type l c.in-Proc.outcome) (is_proc c.args.typ.now c.in-Proc.formals c.in-Proc.outcome l c.deref-in-Proc.ensures.value c.in-Proc.is) c.proc_in.ensures

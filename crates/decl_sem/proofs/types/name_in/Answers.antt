@@ -1,4 +1,4 @@
-use Rattle.std.proofs.Common.{[], ◌^◌, ◌<◌, Ok, refl, sym, subst}
+use Rattle.std.proofs.Common.{Ok, refl, sym, subst}
 use Rattle.m2_base.specs.Statics.TypeNames.{type_of_qual}
 use Rattle.m2_base.specs.declared.rows.Place.{Place}
 use Rattle.m2_base.specs.declared.replies.Ask.TheVariants.{Known}
