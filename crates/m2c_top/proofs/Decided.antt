@@ -1,8 +1,7 @@
 -- What is decided of a text whose forms are built and whose front names no other module.
-use Rattle.std.proofs.Common.{◌≡◌, ℕ, List, Option, None, Result, Ok, Err, sym, subst, IfOk}
+use Rattle.std.proofs.Common.{◌≡◌, ℕ, List, None, Result, Ok, Err, sym, subst, IfOk}
 use Rattle.m2_base.specs.Trees.{Stream}
 use Rattle.m2_base.specs.declared.outputs.StreamFault.{StreamFault}
-use Rattle.m2_base.specs.declared.token.Token.{Token}
 use Rattle.m2c_top.specs.Decisions.{Decision, limited, unbuilt, refused, plain, Lexed, IsBuilt, NamesOther, Answers, decision_for, Decides, faulty, plain_module, other_tree}
 use Rattle.m2c_top.specs.Verdicts.{IsPlainOrNot}
 

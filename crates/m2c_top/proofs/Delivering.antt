@@ -5,13 +5,12 @@ use Rattle.std.proofs.lemmas.Bool.{false≢true}
 use Rattle.m2_base.specs.declared.notes.Diag.{Diag}
 use Rattle.m2_io.specs.Files.{Files, with_file}
 use Rattle.m2c_top.specs.Decisions.{Decision, limited, unbuilt, refused, plain}
-use Rattle.m2c_top.specs.Delivery.{Says, Answered, Delivered, PrintsFront, PrintsListing, PutsFront, PutsObject}
+use Rattle.m2c_top.specs.Delivery.{Says, Answered, PrintsFront, PutsFront}
 use Rattle.m2c_top.specs.Diagnostics.{diags_of}
 use Rattle.m2c_top.specs.Listing.{listing}
 use Rattle.m2c_top.specs.Object.{object_bytes}
 use Rattle.m2c_top.specs.Outcome.{Compiles, compiled, diagnosed, wrong, over_limit, not_built, IsDecided, text_name, object_name, Leaves, PrintsPart, KeepsButObject}
 use Rattle.m2c_top.specs.Statuses.{status_number, IsAnswer}
-use Rattle.m2c_top.specs.Trees.{Parsed}
 use Rattle.m2c_top.specs.declared.status.Status.{Status}
 use Rattle.m2c_top.specs.declared.status.Status.TheVariants.{Done, Diagnosed}
 use Rattle.m2c_top.specs.declared.top.Stop.{Stop}

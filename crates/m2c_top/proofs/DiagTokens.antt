@@ -1,5 +1,5 @@
 -- The diagnostics of a plain text stand at its tokens.
-use Rattle.std.proofs.Common.{◌≡◌, ℕ, ◌+◌, ◌<◌, ◌==◌, Bool, true, false, List, [], ◌∷◌, ◌++◌, Option, Some, None, map, length, refl, sym, ap, subst, arith, if◌then◌else◌}
+use Rattle.std.proofs.Common.{◌≡◌, ℕ, ◌+◌, ◌<◌, ◌==◌, Bool, true, false, List, [], ◌∷◌, ◌++◌, Option, Some, None, map, length, arith, if◌then◌else◌}
 use Rattle.m2_base.specs.Lists.{Each}
 use Rattle.m2_base.specs.Names.{standard_names}
 use Rattle.m2_base.specs.Units.{AreNumbered}

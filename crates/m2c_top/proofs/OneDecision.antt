@@ -1,5 +1,5 @@
 -- One thing is decided of a text.
-use Rattle.std.proofs.Common.{◌≡◌, ℕ, ◌<◌, ◌≤◌, Bool, true, false, List, [], ◌∷◌, Option, Some, None, Result, Ok, Err, length, refl, sym, ◌∙◌, ap, subst, arith}
+use Rattle.std.proofs.Common.{◌≡◌, ℕ, ◌<◌, ◌≤◌, Bool, true, false, List, Option, Some, None, Result, Ok, Err, length, refl, sym, ◌∙◌, ap, subst, arith}
 use Rattle.m2_base.specs.FaultsOf.{fault_in}
 use Rattle.m2_base.specs.Grammar.{grammar, levels, stream}
 use Rattle.m2_base.specs.Names.{standard_names}
@@ -14,7 +14,7 @@ use Rattle.ll_grammar.proofs.OneAnswer.{has_one_answer}
 use Rattle.m2_lex.specs.Faults.{HasTooMany}
 use Rattle.m2_parse.proofs.FrontLaws.{one_front}
 use Rattle.m2c_top.specs.Codes.{diag_at, other_module}
-use Rattle.m2c_top.specs.Decisions.{Decision, limited, unbuilt, refused, plain, Lexed, HasTokens, has_unbuilt, IsBuilt, other_name_at, NamesOther, Answers, decision_for, Decides, too_long, too_many_tokens, other_form, other_name, faulty, plain_module, other_tree}
+use Rattle.m2c_top.specs.Decisions.{Decision, limited, unbuilt, refused, plain, Lexed, HasTokens, has_unbuilt, other_name_at, NamesOther, Answers, decision_for, Decides, too_long, too_many_tokens, other_form, other_name, faulty, plain_module, other_tree}
 use Rattle.m2c_top.specs.Plain.{IsPlain}
 use Rattle.m2c_top.specs.Trees.{Parsed}
 use Rattle.m2c_top.specs.declared.verdict.Limit.TheVariants.{TextBytes, Tokens}

@@ -11,7 +11,7 @@ use Rattle.m2c_top.specs.Diagnostics.{diags_of}
 use Rattle.m2c_top.specs.Limits.{limit_text}
 use Rattle.m2c_top.specs.Listing.{listing}
 use Rattle.m2c_top.specs.Object.{object_bytes}
-use Rattle.m2c_top.specs.Outcome.{Outcome, Gives, no_command, compiles, Compiles, compiled, diagnosed, wrong, no_text, over_limit, not_built, LacksText, IsDecided, HasSoundText, HasFaultyText, text_name, object_name, line, PrintsPart}
+use Rattle.m2c_top.specs.Outcome.{Outcome, Gives, no_command, compiles, Compiles, compiled, diagnosed, wrong, no_text, over_limit, not_built, LacksText, IsDecided, text_name, object_name, line, PrintsPart}
 use Rattle.m2c_top.specs.Trees.{Parsed}
 use Rattle.m2c_top.specs.declared.status.Status.TheVariants.{Done, Diagnosed, NoText, OverLimit, NotBuilt}
 use Rattle.m2c_top.proofs.Asking.{asks_none, same_name}

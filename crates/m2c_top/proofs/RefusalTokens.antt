@@ -1,5 +1,5 @@
 -- What a text is refused for stands at one of its tokens.
-use Rattle.std.proofs.Common.{◌≡◌, ℕ, ◌+◌, ◌<◌, Bool, true, false, List, [], ◌∷◌, ◌++◌, Option, Some, None, Err, length, refl, sym, ◌∙◌, ap, subst, arith, if◌then◌else◌}
+use Rattle.std.proofs.Common.{◌≡◌, ℕ, ◌<◌, Bool, true, false, List, [], ◌∷◌, ◌++◌, Option, Some, None, Err, length, sym, ap, subst, if◌then◌else◌}
 use Rattle.ll_grammar.specs.Derivations.{Tree, tokens, Derives, of_token, of_then}
 use Rattle.ll_grammar.specs.Sentences.{Fault, Syntax, TooDeep}
 use Rattle.m2_base.specs.FaultsOf.{code_of, fault_in}
@@ -12,7 +12,7 @@ use Rattle.m2_base.specs.declared.outputs.StreamFault.{StreamFault}
 use Rattle.m2_base.specs.declared.outputs.StreamFault.TheVariants as faults
 use Rattle.m2_base.specs.declared.token.Token.{Token}
 use Rattle.m2_base.specs.declared.trees.Ident.{Ident}
-use Rattle.m2c_top.specs.Decisions.{Decision, refused, Lexed, HasTokens, other_name_at, NamesOther, Answers, decision_for, Decides, too_long, too_many_tokens, other_form, other_name, faulty, plain_module, other_tree}
+use Rattle.m2c_top.specs.Decisions.{Decision, refused, other_name_at, Answers, decision_for, Decides, too_long, too_many_tokens, other_form, other_name, faulty, plain_module, other_tree}
 use Rattle.m2c_top.specs.Plain.{is_named}
 use Rattle.m2c_top.proofs.DiagTokens.{tokens_below}
 

@@ -1,6 +1,6 @@
 -- The plain text that the program holds: a unit of one text, and the tree that its tokens spell.
 use Rattle.std.specs.Prelude.{◌≡◌, true, List, [], ◌∷◌, map}
-use Rattle.m2_base.specs.Units.{TextOf, UnitTexts, IsUnit}
+use Rattle.m2_base.specs.Units.{TextOf, IsUnit}
 use Rattle.m2_base.specs.declared.token.Token.{Token}
 use Rattle.m2_lex.specs.LoneTexts.{one_text}
 use Rattle.m2c_top.specs.Grammar.{Spells}

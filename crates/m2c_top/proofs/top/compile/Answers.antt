@@ -11,7 +11,6 @@ use Rattle.m2c_top.specs.Verdicts.{decision_of}
 use Rattle.m2c_top.proofs.Delivering.{answered_answers, answered_keeps, answered_leaves, answered_prints, answered_part}
 use Rattle.m2c_top.proofs.OneOutcome.{prints_part}
 use Rattle.m2c_top.proofs.Outcomes.{err_prints, leaves_told, prints_nothing, lacking, is_decided, no_text_line}
-use Rattle.m2c_top.proofs.top.compile.Given as given
 use Rattle.m2c_top.proofs.top.compile.Goals as goal
 
 pub returns-in_err-line-clause-prints : goal.returns-in_err-line-clause-prints

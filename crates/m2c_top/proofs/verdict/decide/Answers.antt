@@ -1,8 +1,7 @@
 use Rattle.std.proofs.Common.{◌≡◌, ◌∙◌, ◌≤◌, ap, subst, sym, arith, length, lit≤, true}
 use Rattle.m2_base.specs.Names.{standard_names}
 use Rattle.m2_base.specs.Tokens.{AreTokens}
-use Rattle.m2_base.specs.declared.token.Token.{Token}
-use Rattle.std.specs.Prelude.{List, vec_len}
+use Rattle.std.specs.Prelude.{vec_len}
 use Rattle.m2c_top.specs.Decisions.{too_long, too_many_tokens, other_form, has_unbuilt}
 use Rattle.m2c_top.proofs.verdict.decide.Goals as goal
 
