@@ -13,3 +13,4 @@ pub mod StandardProcedures
 pub mod Arguments
 pub mod Calls
 pub mod Expressions
+pub mod Heights

@@ -1,0 +1,7 @@
+pub mod Moves
+pub mod Values
+pub mod Functions
+pub mod Designators
+pub mod Passing
+pub mod Proper
+pub mod Law
