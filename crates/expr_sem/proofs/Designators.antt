@@ -9,7 +9,6 @@ use Rattle.expr_sem.proofs.Functions.{assigned-good}
 use Rattle.code_form.specs.declared.instr.Instr.{Instr}
 use Rattle.expr_sem.specs.Coded.{Coded, bare, coded, in_error, no_high, value_code}
 use Rattle.expr_sem.specs.Elements.{element_of_array, element_of_open, index_instr, of_array, of_pointer, select_element, select_target}
-use Rattle.expr_sem.specs.Expressions.{value}
 use Rattle.expr_sem.specs.Heights.{Moves}
 use Rattle.expr_sem.specs.Parts.{Part, plain, with_record, ◌⨟◌}
 use Rattle.expr_sem.specs.ProcedureNames.{import_number, is_own}

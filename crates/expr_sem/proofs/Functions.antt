@@ -1,5 +1,5 @@
 -- The heights of functions, designators, arguments and calls.
-use Rattle.std.specs.Prelude.{◌≡◌, refl, ℕ, Bool, true, false, ◌&&◌, ◌||◌, if◌then◌else◌, ℤ, pos, List, [], ◌∷◌, Option, Some, None, int_le}
+use Rattle.std.specs.Prelude.{◌≡◌, refl, ℕ, true, false, if◌then◌else◌, ℤ, pos, List, [], ◌∷◌, Option, Some, None}
 use Rattle.m2_base.specs.declared.rows.RowMeaning.TheVariants.{Array, OpenArray}
 use Rattle.m2_base.specs.declared.builtins.Builtin.TheVariants.{Abs, Cap, Chr, Dec, Dispose, Excl, Halt, High, Inc, Incl, Max, Min, New, Odd, Ord, Size, Val}
 use Rattle.code_form.specs.declared.instr.Instr.TheVariants.{Push, Check, Eq, Mod as Remainder, Abs as Magnitude, Cap as Capital}
@@ -7,7 +7,6 @@ use Rattle.expr_sem.proofs.Moves.{Moves-then, Moves-none, plain-moves}
 use Rattle.expr_sem.proofs.Values.{with_operand, GoodAs, Good, Valued, as_value-good, value-moves, made-good, both_ways, taken_go}
 use Rattle.code_form.specs.declared.instr.Instr.{Instr}
 use Rattle.expr_sem.specs.Coded.{Coded, bare, coded, in_error, taken, value_code}
-use Rattle.expr_sem.specs.Expressions.{value}
 use Rattle.expr_sem.specs.Fitting.{check_of, fit_check, fitted_code, reaches_beyond}
 use Rattle.expr_sem.specs.Heights.{Moves}
 use Rattle.expr_sem.specs.Operators.{made, side_of}

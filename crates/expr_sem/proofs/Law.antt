@@ -2,7 +2,7 @@
 -- before; a variable's code leaves its address. By induction on the syntax.
 use Rattle.std.specs.Prelude.{◌≡◌, ℕ, true, false, List, [], ◌∷◌}
 use Rattle.expr_sem.proofs.Moves.{Moves-none}
-use Rattle.expr_sem.proofs.Values.{Good, Valued, as_value-good, value-moves, one_coded-good, two_coded-valued, GoodSet, element-good, add_element-good, add_range-good, set-good}
+use Rattle.expr_sem.proofs.Values.{Good, GoodAs, Valued, as_value-good, value-moves, one_coded-good, two_coded-valued, GoodSet, element-good, add_element-good, add_range-good, set-good}
 use Rattle.expr_sem.proofs.Functions.{no_argument-good, one_argument-good, two_arguments-good}
 use Rattle.expr_sem.proofs.Designators.{name-good, select_field-good, select_target-good, select_element-good}
 use Rattle.expr_sem.proofs.Passing.{Passes, argument-good, after-all, called-good, by_called-good}
@@ -11,18 +11,21 @@ use Rattle.expr_sem.specs.Calls.{called, cells_of_all}
 use Rattle.expr_sem.specs.Coded.{Coded, value_code}
 use Rattle.expr_sem.specs.Elements.{select_element}
 use Rattle.expr_sem.specs.Expressions.{continued, count_of_exprs, designated, element, elements, expression, followed, form_coded, indexed, looked_at, passed, selected, selector, standard, value}
-use Rattle.expr_sem.specs.Heights.{Moves}
+use Rattle.expr_sem.specs.Heights.{IsAddressed, IsAddressedBy, Moves}
+use Rattle.expr_sem.specs.Parts.{Part}
 use Rattle.expr_sem.specs.RecordFields.{name_coded}
 use Rattle.expr_sem.specs.SetElements.{Elements, element_coded, no_elements_yet}
 use Rattle.expr_sem.specs.StandardProcedures.{first_of_two, is_function}
 use Rattle.expr_sem.specs.Values.{as_value}
 use Rattle.m2_base.specs.Standard.{bitset}
-use Rattle.m2_base.specs.Statics.Contexts.{Context}
+use Rattle.m2_base.specs.Statics.Contexts.{Context, Scene}
 use Rattle.m2_base.specs.Statics.Operands.{is_bad}
 use Rattle.m2_base.specs.Statics.Sets.{set_base, set_type_of}
 use Rattle.m2_base.specs.Statics.TypeParts.{Parameter}
 use Rattle.m2_base.specs.Trees.{Designator, Expr, ExprForm, Exprs, Label, Labels, Next, Nexts, Selector, Selectors, call_form, char_form, deref_selector, designator, designator_at, expr, expr_at, field_selector, index_selector, many_form, more_exprs, more_labels, more_nexts, more_selectors, name_form, next, no_exprs, no_labels, no_nexts, no_selectors, number_form, one_form, one_label, range_label, set_form, string_form, typed_set_form}
 use Rattle.m2_base.specs.declared.builtins.Builtin.{Builtin}
+use Rattle.m2_base.specs.declared.operands.Operand.{Operand}
+use Rattle.m2_base.specs.declared.operands.Operand.TheVariants.{NotConstant, Variable}
 use Rattle.m2_base.specs.declared.rows.Place.{Place}
 
 none_yet : (c : Context) (t : Place) → GoodSet (no_elements_yet c t)
@@ -138,3 +141,29 @@ pub law : (c : Context) (withs : List Place) (e : Expr) → is_bad (value c with
     → Moves 0 (value_code c (value c withs e).value) 1
 law c withs e b =
     value-moves c (value c withs e).value (as_value-good c (expr_at e) (expression c withs e).value (expression-good c withs e)) b
+
+addressed_by : (scene : Scene) (o : Operand) (code high : Part) → GoodAs scene code high o → IsAddressedBy code high o
+addressed_by scene (Variable t) code high g = g
+addressed_by scene o code high g = tt
+
+-- the code of a designator, where that is a variable, leaves its address
+pub variable-law : (c : Context) (withs : List Place) (d : Designator) → IsAddressed (designated c withs d).value
+variable-law c withs d =
+    let x : Coded = (designated c withs d).value in
+    addressed_by c.scene x.operand x.code x.high (designated-good c withs d)
+
+known_by : (scene : Scene) (o : Operand) (code high : Part) → GoodAs scene code high o → o ≡ NotConstant → ⊥
+known_by scene NotConstant code high g e = g
+known_by scene o code high g e = absurd cc
+
+-- what an expression stands for isn't left open
+pub expression-known : (c : Context) (withs : List Place) (e : Expr) → (expression c withs e).value.operand ≡ NotConstant → ⊥
+expression-known c withs e =
+    let x : Coded = (expression c withs e).value in
+    known_by c.scene x.operand x.code x.high (expression-good c withs e)
+
+-- what a designator stands for isn't left open
+pub designator-known : (c : Context) (withs : List Place) (d : Designator) → (designated c withs d).value.operand ≡ NotConstant → ⊥
+designator-known c withs d =
+    let x : Coded = (designated c withs d).value in
+    known_by c.scene x.operand x.code x.high (designated-good c withs d)

@@ -1,6 +1,6 @@
 -- How a part of code moves the height: from m operands above some height to n above the same, never taking what is below;
 -- and each jump in it goes to an instruction of the part or to its end, where the height is the one that the jump leaves.
-use Rattle.std.specs.Prelude.{◌≡◌, refl, ℕ, ◌+◌, ◌-◌, ◌≤◌, nat_le, ℤ, pos, negsuc, List, [], ◌∷◌, ◌++◌, map, Option, Some, None, if◌then◌else◌, Bool, true, false, ◌⊎◌}
+use Rattle.std.specs.Prelude.{◌≡◌, refl, ℕ, ◌+◌, ◌-◌, ◌≤◌, nat_le, ℤ, pos, negsuc, List, [], ◌∷◌, ◌++◌, map, Option, Some, None, if◌then◌else◌, Bool, true, false}
 use Rattle.std.proofs.lemmas.Bool.{leb-true}
 use Rattle.std.proofs.Common.{sym, ap, subst, arith, inl, inr}
 use Rattle.code_form.specs.declared.instr.Instr.TheVariants.{AndJump, OrJump}
@@ -12,7 +12,6 @@ use Rattle.expr_sem.specs.Coded.{characters}
 use Rattle.expr_sem.specs.Heights.{Fine, Jumps, Moves, Reaches}
 use Rattle.expr_sem.specs.Parts.{Part, call, none, plain, plain_step, skip, steps_size, text, ◌⨟◌}
 use Rattle.m2_base.specs.Statics.Assignable.{takes}
-use Rattle.m2_base.specs.Trees.{next}
 
 Reaches-here : (h : ℕ) (b : List Step) (k : ℕ) → h ≡ k → Reaches 0 h b k
 Reaches-here h [] k e = (refl, e)

@@ -12,7 +12,7 @@ use Rattle.code_form.specs.Valid.{jump_of}
 use Rattle.code_form.specs.declared.instr.Instr.{Instr}
 use Rattle.expr_sem.specs.Calls.{Called, call_coded, called, cells_of_all, no_call, procedure_call, standard_call}
 use Rattle.expr_sem.specs.Coded.{Coded, coded, in_error, taken, value_code}
-use Rattle.expr_sem.specs.Expressions.{by_called, call_alone, count_of_exprs, designated, expression, looked_at, passed, standard, value}
+use Rattle.expr_sem.specs.Expressions.{by_called, call_alone, count_of_exprs, designated, expression, looked_at, passed, standard}
 use Rattle.expr_sem.specs.Fitting.{check_of, fitted_code, reaches_beyond}
 use Rattle.expr_sem.specs.Heights.{Moves}
 use Rattle.expr_sem.specs.Operators.{side_of}

@@ -6,7 +6,6 @@ use Rattle.m2_base.specs.declared.trees.operators.Operator.TheVariants.{Plus, Mi
 use Rattle.code_form.specs.declared.instr.Instr.TheVariants.{AndJump, OrJump, Push, Load, Bit, Union, Span, Proc as ProcValue}
 use Rattle.expr_sem.proofs.Moves.{Moves-then, Moves-raise, plain-moves, text-moves, skip-and, skip-or}
 use Rattle.expr_sem.specs.Coded.{Coded, in_error, is_structured, taken, value_code, with_char}
-use Rattle.expr_sem.specs.Expressions.{value}
 use Rattle.expr_sem.specs.Heights.{Moves}
 use Rattle.expr_sem.specs.Operators.{made, one_coded, one_instr, operation_code, scalar_instr, set_instr, side_of, two_coded, two_instr}
 use Rattle.expr_sem.specs.Parts.{Part, plain, skip, ◌⨟◌}

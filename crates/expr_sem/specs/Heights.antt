@@ -5,6 +5,9 @@ use Rattle.std.specs.Prelude.{◌≡◌, ℕ, ◌-◌, ◌≤◌, ℤ, pos, negs
 use Rattle.code_form.specs.Bytes.{size}
 use Rattle.code_form.specs.Heights.{Step, after_step}
 use Rattle.code_form.specs.Valid.{jump_of}
+use Rattle.m2_base.specs.declared.operands.Operand.TheVariants.{Variable}
+use Rattle.m2_base.specs.declared.operands.Operand.{Operand}
+use Rattle.expr_sem.specs.Coded.{Coded}
 use Rattle.expr_sem.specs.Parts.{Part, Spot}
 
 -- So many bytes on from a height before these steps there is an instruction, or the end, and the height there is the last
@@ -27,3 +30,12 @@ Fine h (s ∷ ss) k = (s.takes ≤ h) × Jumps h (jump_of s.instr) (after_step h
 -- wherever it stands, the part moves the height from the first to the last
 abbrev pub Moves : (first : ℕ) → Part → (last : ℕ) → Type 0
 Moves m p n = (at : Spot) → Fine m (p at).code n
+
+-- by its operand, what the code of a variable leaves: its address, and of an open array the number of elements less 1
+abbrev pub IsAddressedBy : (code high : Part) → Operand → Type 0
+IsAddressedBy code high (Variable t) = Moves 0 code 1 × Moves 0 high 1
+IsAddressedBy code high other = Unit {0}
+
+-- where it is a variable, its code leaves its address
+abbrev pub IsAddressed : Coded → Type 0
+IsAddressed x = IsAddressedBy x.code x.high x.operand

@@ -5,3 +5,7 @@
 //! where it stands (`specs/Parts`). `specs/Expressions` goes over the trees; each rule of the language has a file of its
 //! own below it.
 #![tactic(auto)]
+
+mod laws;
+
+pub use laws::{heights_are_right, operands_are_known};
