@@ -1,4 +1,4 @@
--- The heights of designators.
+-- The heights of names, fields, elements and what pointers point to: a variable's code leaves its address.
 use Rattle.std.specs.Prelude.{◌≡◌, refl, ℕ, zero, suc, ◌+◌, ◌==◌, Bool, true, false, ◌||◌, if◌then◌else◌, List, [], ◌∷◌, Option, Some, None, pos, ◌-◌, slice_index}
 use Rattle.m2_base.specs.declared.rows.Mode.TheVariants.{Plain, ByAddress, Open}
 use Rattle.m2_base.specs.declared.rows.RowMeaning.TheVariants.{Const, TypeName, Var, Field, Array, OpenArray, Record, Pointer}

@@ -1,4 +1,4 @@
--- The heights of functions, designators, arguments and calls.
+-- The heights of fitted values, of standard functions and of assigned values, by those of their operands.
 use Rattle.std.specs.Prelude.{◌≡◌, refl, ℕ, true, false, if◌then◌else◌, ℤ, pos, List, [], ◌∷◌, Option, Some, None}
 use Rattle.m2_base.specs.declared.rows.RowMeaning.TheVariants.{Array, OpenArray}
 use Rattle.m2_base.specs.declared.builtins.Builtin.TheVariants.{Abs, Cap, Chr, Dec, Dispose, Excl, Halt, High, Inc, Incl, Max, Min, New, Odd, Ord, Size, Val}

@@ -1,4 +1,5 @@
 pub mod Moves
+pub mod CodeChecks
 pub mod Values
 pub mod Functions
 pub mod Designators

@@ -1,5 +1,4 @@
--- How a part of code moves the height: from m operands above some height to n above the same, never taking what is below;
--- and each jump in it goes to an instruction of the part or to its end, where the height is the one that the jump leaves.
+-- How parts that are put together move the height, by how each of them does.
 use Rattle.std.specs.Prelude.{◌≡◌, refl, ℕ, ◌+◌, ◌-◌, ◌≤◌, nat_le, ℤ, pos, negsuc, List, [], ◌∷◌, ◌++◌, map, Option, Some, None, if◌then◌else◌, Bool, true, false}
 use Rattle.std.proofs.lemmas.Bool.{leb-true}
 use Rattle.std.proofs.Common.{sym, ap, subst, arith, inl, inr}

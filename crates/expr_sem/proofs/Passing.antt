@@ -1,4 +1,4 @@
--- The heights of arguments and calls.
+-- The heights of arguments, each of which leaves the cells of its parameter, and of calls that give a value.
 use Rattle.std.specs.Prelude.{◌≡◌, refl, ℕ, ◌+◌, ◌-◌, ◌==◌, Bool, true, false, not, ◌&&◌, ◌||◌, if◌then◌else◌, List, [], ◌∷◌, Option, Some, None, pos, length, min, is_some}
 use Rattle.std.proofs.Common.{sym, subst, arith, zero-add}
 use Rattle.m2_base.specs.declared.rows.RowMeaning.TheVariants.{Array, OpenArray}

@@ -1,5 +1,4 @@
--- Each value's code leaves one operand, and each variable's code its address. This file has it for the operations, given it
--- for the operands; Law.antt has it for all expressions.
+-- The heights of values, operators and sets, by those of their operands: a value's code leaves one operand.
 use Rattle.std.specs.Prelude.{◌≡◌, refl, ℕ, ◌==◌, Bool, true, false, not, ◌&&◌, ◌||◌, if◌then◌else◌, pos, [], ◌∷◌, Option, Some, None, ◌⊎◌}
 use Rattle.std.proofs.Common.{sym, ◌∙◌, ap, subst, inl, inr}
 use Rattle.m2_base.specs.declared.trees.operators.Operator.TheVariants.{Plus, Minus, Times, Slash, Div, Mod, And, Or, Not, Equal, Unequal, Less, Greater, LessEqual, GreaterEqual, In}
