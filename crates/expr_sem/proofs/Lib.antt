@@ -1,5 +1,6 @@
 pub mod Moves
 pub mod CodeChecks
+pub mod CallChecks
 pub mod Values
 pub mod Functions
 pub mod Designators
