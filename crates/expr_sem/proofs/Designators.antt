@@ -64,9 +64,9 @@ high_of_mode-moves b s o Open =
 high_of_mode-moves b s o Plain = no_high-moves
 high_of_mode-moves b s o ByAddress = no_high-moves
 
-row-good : (c : Context) (s name : ℕ) (m : RowMeaning) → Good c.scene (with_address c.scene.block s (operand_by c.scene name m) m)
+row-good : (c : Context) (s name : ℕ) (m : RowMeaning) → Good c.scene (with_address c.scene.block s m (operand_by c.scene name m))
 row-good c s name (Var t mode o) =
-    both_ways (λ x. GoodAs c.scene (plain (cell_instr c.scene.block s o ∷ through mode)) (high_of_mode c.scene.block s o mode) x)
+    both_ways (λ x. Good c.scene (with_address c.scene.block s (Var t mode o) x))
     (is_in_error c.scene t) InError (Variable t) tt
     (address-moves c.scene.block s o mode, high_of_mode-moves c.scene.block s o mode)
 row-good c s name (Const t v len) =

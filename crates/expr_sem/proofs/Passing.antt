@@ -9,8 +9,8 @@ use Rattle.expr_sem.proofs.Functions.{fitted-moves, assigned-good}
 use Rattle.code_form.specs.Valid.{jump_of}
 use Rattle.code_form.specs.declared.instr.Instr.{Instr}
 use Rattle.expr_sem.specs.Arguments.{after_argument, alike, argument, array_argument, by_address, by_mode, by_value, checked_mode, is_variable, open_argument, open_element, string_copy, value_argument}
-use Rattle.expr_sem.specs.Calls.{Called, allowed, allowed_by_type, call_coded, called, cells_of, cells_of_all, is_same_truth, links_to, no_call, of_target, of_variable, procedure_call, standard_call}
-use Rattle.expr_sem.specs.Coded.{Coded, characters}
+use Rattle.expr_sem.specs.Calls.{call_code, Called, allowed, allowed_by_type, call_coded, called, cells_of, cells_of_all, is_same_truth, links_to, no_call, of_target, of_variable, procedure_call, standard_call}
+use Rattle.expr_sem.specs.Coded.{coded, in_error, Coded, characters}
 use Rattle.expr_sem.specs.Expressions.{by_called, passed, standard}
 use Rattle.expr_sem.specs.Heights.{Moves}
 use Rattle.expr_sem.specs.Parts.{Part, call, plain, text, ◌⨟◌}
@@ -219,8 +219,7 @@ call-good : (scene : Scene) (ps : List Parameter) (before : Part) (i : Instr) (r
 call-good scene ps before i result more None e g j p = tt
 call-good scene ps before i None more (Some args) e g j p = absurd cc
 call-good scene ps before i (Some t) more (Some args) e g j p =
-    both_ways (λ o. GoodAs scene (before ⨟ args ⨟ call i (cells_of_all scene ps + more) 1) (plain (Push (pos 0) ∷ [])) o)
-    (is_broken scene t) InError (Computed t) tt
+    both_ways (Good scene) (is_broken scene t) in_error (coded (Computed t) (call_code scene ps before i (Some t) more args)) tt
     (Moves-then before (args ⨟ call i (cells_of_all scene ps + more) 1) 0 more 1 g
     (Moves-then args (call i (cells_of_all scene ps + more) 1) more (cells_of_all scene ps + more) 1
     (Moves-at args (0 + more) more (cells_of_all scene ps + more) (cells_of_all scene ps + more) (zero-add more) refl

@@ -107,14 +107,14 @@ called c is_wanted at n x = called_by c is_wanted at n x.code x.operand
 
 -- ---- the call
 
--- what a call with this result stands for
-abbrev pub result_operand : Scene → Option Place → Operand
-result_operand scene None = no_value
-result_operand scene (Some t) = if is_broken scene t then InError else Computed t
+-- the code of a call: what comes before the arguments, the arguments, and the instruction
+abbrev pub call_code : Scene → List Parameter → (before : Part) → Instr → Option Place → (more : ℕ) → (args : Part) → Part
+call_code scene ps before i result more args =
+    before ⨟ args ⨟ call i (cells_of_all scene ps + more) (result_cells result)
 
--- the call, once its arguments are there
-abbrev pub call_coded : Scene → List Parameter → Part → Instr → Option Place → (more : ℕ) → Option Part → Coded
+-- The call, once its arguments are there. Without one of them it is in error, and so it is where the result's type is.
+abbrev pub call_coded : Scene → List Parameter → (before : Part) → Instr → Option Place → (more : ℕ) → Option Part → Coded
 call_coded scene ps before i result more None = in_error
-call_coded scene ps before i result more (Some args) =
-    coded (result_operand scene result)
-    (before ⨟ args ⨟ call i (cells_of_all scene ps + more) (result_cells result))
+call_coded scene ps before i None more (Some args) = coded no_value (call_code scene ps before i None more args)
+call_coded scene ps before i (Some t) more (Some args) =
+    if is_broken scene t then in_error else coded (Computed t) (call_code scene ps before i (Some t) more args)

@@ -11,6 +11,7 @@ use Rattle.m2_base.specs.Statics.Contexts.{Context, Block, level_of}
 use Rattle.m2_base.specs.Statics.Lookup.{Entry}
 use Rattle.m2_base.specs.Statics.NamedOperands.{operand_of}
 use Rattle.m2_base.specs.declared.operands.Operand.{Operand}
+use Rattle.m2_base.specs.declared.operands.Operand.TheVariants.{Variable}
 use Rattle.code_form.specs.declared.instr.Instr.{Instr}
 use Rattle.code_form.specs.declared.instr.Instr.TheVariants.{Local, Global, Load}
 use Rattle.expr_sem.specs.Coded.{Coded, bare, in_error, no_high}
@@ -39,16 +40,17 @@ abbrev pub high_of_mode : Block → (scope offset : ℕ) → Mode → Part
 high_of_mode b s o Open = plain (cell_instr b s (o + 1) ∷ Load ∷ [])
 high_of_mode b s o other = no_high
 
--- an operand with the address of the variable that the row's meaning tells, if it tells of one
-abbrev pub with_address : Block → (scope : ℕ) → Operand → RowMeaning → Coded
-with_address b s x (Var t mode o) = record {
-  operand = x;
+-- An operand with the address of the variable that the row's meaning tells of. What is no variable has none, nor has a
+-- variable in error.
+abbrev pub with_address : Block → (scope : ℕ) → RowMeaning → Operand → Coded
+with_address b s (Var t mode o) (Variable u) = record {
+  operand = Variable u;
   code = plain (cell_instr b s o ∷ through mode);
   high = high_of_mode b s o mode;
 }
-with_address b s x other = bare x
+with_address b s other x = bare x
 
 -- what a name is bound to, with its address where that is a variable
 abbrev pub entry_coded : Context → Option Entry → Coded
 entry_coded c None = in_error
-entry_coded c (Some e) = with_address c.scene.block e.0.scope (operand_of c.scene e) (row_meaning e.1)
+entry_coded c (Some e) = with_address c.scene.block e.0.scope (row_meaning e.1) (operand_of c.scene e)
