@@ -1,7 +1,7 @@
 -- The heights of names, fields, elements and what pointers point to: a variable's code leaves its address.
 use Rattle.std.specs.Prelude.{◌≡◌, refl, ℕ, zero, suc, ◌+◌, ◌==◌, Bool, true, false, ◌||◌, if◌then◌else◌, List, [], ◌∷◌, Option, Some, None, pos, ◌-◌, slice_index}
 use Rattle.m2_base.specs.declared.rows.Mode.TheVariants.{Plain, ByAddress, Open}
-use Rattle.m2_base.specs.declared.rows.RowMeaning.TheVariants.{Const, TypeName, Var, Field, Array, OpenArray, Record, Pointer}
+use Rattle.m2_base.specs.declared.rows.RowMeaning.TheVariants.{Proc, Module, Standard, Const, TypeName, Var, Field, Array, OpenArray, Record, Pointer}
 use Rattle.code_form.specs.declared.instr.Instr.TheVariants.{Push, Local, Global, Load, Offset, Index, IndexOpen, Nil}
 use Rattle.expr_sem.proofs.Moves.{Moves-then, Moves-none, Moves-raise, plain-moves}
 use Rattle.expr_sem.proofs.Values.{with_operand, GoodAs, Good, Valued, value-moves, both_ways}
@@ -67,18 +67,21 @@ high_of_mode-moves b s o ByAddress = no_high-moves
 row-good : (c : Context) (s name : ℕ) (m : RowMeaning) → Good c.scene (with_address c.scene.block s m (operand_by c.scene name m))
 row-good c s name (Var t mode o) =
     both_ways (λ x. Good c.scene (with_address c.scene.block s (Var t mode o) x))
-    (is_in_error c.scene t) InError (Variable t) tt
+    (is_in_error c.scene t) InError (Variable t) refl
     (address-moves c.scene.block s o mode, high_of_mode-moves c.scene.block s o mode)
 row-good c s name (Const t v len) =
     both_ways (λ x. Good c.scene (bare x)) (is_broken c.scene t) InError
-    (if is_same_place t text_type then StringConstant (natural v) len else Constant t v) tt
+    (if is_same_place t text_type then StringConstant (natural v) len else Constant t v) refl
     (both_ways (λ x. Good c.scene (bare x)) (is_same_place t text_type) (StringConstant (natural v) len) (Constant t v) tt tt)
 row-good c s name (TypeName t) =
-    both_ways (λ x. Good c.scene (bare x)) (is_broken c.scene t) InError (NamedType t) tt tt
-row-good c s name m = tt
+    both_ways (λ x. Good c.scene (bare x)) (is_broken c.scene t) InError (NamedType t) refl tt
+row-good c s name (Proc t k n) = tt
+row-good c s name (Module n) = tt
+row-good c s name (Standard n) = tt
+row-good c s name m = refl
 
 pub entry-good : (c : Context) (e : Option Entry) → Good c.scene (entry_coded c e)
-entry-good c None = tt
+entry-good c None = refl
 entry-good c (Some e) = row-good c e.0.scope e.1.name (row_meaning e.1)
 
 -- ---- fields
@@ -89,9 +92,9 @@ offset-moves (suc n) = plain-moves (Offset (suc n) ∷ []) 1 1 refl
 
 field-good : (scene : Scene) (code : Part) (m : RowMeaning) → Moves 0 code 1 → Good scene (field_by scene code m)
 field-good scene code (Field t o r n) g =
-    both_ways (Good scene) (is_broken scene t) in_error (coded (Variable t) (code ⨟ offset_code o)) tt
+    both_ways (Good scene) (is_broken scene t) in_error (coded (Variable t) (code ⨟ offset_code o)) refl
     (Moves-then code (offset_code o) 0 1 1 g (offset-moves o), no_high-moves)
-field-good scene code m g = tt
+field-good scene code m g = refl
 
 record-moves : (k : ℕ) → Moves 0 (with_record k) 1
 record-moves k = λ at. plain-moves (Local 0 (slice_index at.withs k) ∷ Load ∷ []) 0 1 refl at
@@ -120,18 +123,18 @@ name-good c withs i = use-good c i (with_field c.scene 0 withs i.name) (with_fie
 -- ---- selectors
 
 found-good : (c : Context) (code : Part) (i : Ident) (f : Option Row) → Moves 0 code 1 → Good c.scene (found_field c code i f).value
-found-good c code i None g = tt
+found-good c code i None g = refl
 found-good c code i (Some f) g = field-good c.scene code (row_meaning f) g
 
 record-good : (c : Context) (at : ℕ) (code : Part) (i : Ident) (t : Place) (m : RowMeaning) → Moves 0 code 1 → Good c.scene (of_record c at code i t m).value
 record-good c at code i t (Record f s) g = found-good c code i (field_of c.scene t i.name) g
-record-good c at code i t m g = tt
+record-good c at code i t m g = refl
 
 field_go : (c : Context) (first at : ℕ) (i : Ident) (o : Operand) (code high : Part) → GoodAs c.scene code high o
     → Good c.scene (select_field c first at i (with_operand o code high)).value
 field_go c first at i (ModuleName s) code high g = entry-good c (use_of c (Some s) i.name i.at).value
 field_go c first at i (Variable t) code high g = record-good c at code i t (kind_of c.scene t) g.0
-field_go c first at i o code high g = tt
+field_go c first at i o code high g = refl
 
 pub select_field-good : (c : Context) (first at : ℕ) (i : Ident) (x : Coded) → Good c.scene x → Good c.scene (select_field c first at i x).value
 select_field-good c first at i x g = field_go c first at i x.operand x.code x.high g
@@ -139,14 +142,14 @@ select_field-good c first at i x g = field_go c first at i x.operand x.code x.hi
 pointer-good : (c : Context) (at : ℕ) (code : Part) (t : Place) (m : RowMeaning) → Moves 0 code 1 → Good c.scene (of_pointer c at code t m).value
 pointer-good c at code t (Pointer p) g =
     both_ways (λ r. Good c.scene r.value) (is_broken c.scene (target_of c.scene t)) (gives in_error)
-    (gives (coded (Variable (target_of c.scene t)) (code ⨟ plain (Load ∷ Nil ∷ [])))) tt
+    (gives (coded (Variable (target_of c.scene t)) (code ⨟ plain (Load ∷ Nil ∷ [])))) refl
     (Moves-then code (plain (Load ∷ Nil ∷ [])) 0 1 1 g (plain-moves (Load ∷ Nil ∷ []) 1 1 refl), no_high-moves)
-pointer-good c at code t m g = tt
+pointer-good c at code t m g = refl
 
 target_go : (c : Context) (first at : ℕ) (o : Operand) (code high : Part) → GoodAs c.scene code high o
     → Good c.scene (select_target c first at (with_operand o code high)).value
 target_go c first at (Variable t) code high g = pointer-good c at code t (kind_of c.scene t) g.0
-target_go c first at o code high g = tt
+target_go c first at o code high g = refl
 
 pub select_target-good : (c : Context) (first at : ℕ) (x : Coded) → Good c.scene x → Good c.scene (select_target c first at x).value
 select_target-good c first at x g = target_go c first at x.operand x.code x.high g
@@ -166,7 +169,7 @@ array_element-good : (c : Context) (x : Coded) (index elem : Place) (i : Coded) 
 array_element-good c x index elem i g v =
     unless_either (λ r. Good c.scene r.value) (is_bad i.operand) (is_broken c.scene elem) (gives in_error)
     (gives (coded (Variable elem)
-    (x.code ⨟ value_code c i ⨟ plain (index_instr (range_of c.scene index) (size_of c.scene elem) ∷ [])))) tt
+    (x.code ⨟ value_code c i ⨟ plain (index_instr (range_of c.scene index) (size_of c.scene elem) ∷ [])))) refl
     (λ b. (
       Moves-then x.code (value_code c i ⨟ plain (index_instr (range_of c.scene index) (size_of c.scene elem) ∷ [])) 0 1 1 g
           (Moves-then (value_code c i) (plain (index_instr (range_of c.scene index) (size_of c.scene elem) ∷ [])) 1 2 1
@@ -178,7 +181,7 @@ open_element-good : (c : Context) (x : Coded) (elem : Place) (i : Coded) → Mov
     → Good c.scene (element_of_open c x elem i).value
 open_element-good c x elem i g h v =
     unless_either (λ r. Good c.scene r.value) (is_bad i.operand) (is_broken c.scene elem) (gives in_error)
-    (gives (coded (Variable elem) (x.code ⨟ x.high ⨟ value_code c i ⨟ plain (IndexOpen (size_of c.scene elem) ∷ [])))) tt
+    (gives (coded (Variable elem) (x.code ⨟ x.high ⨟ value_code c i ⨟ plain (IndexOpen (size_of c.scene elem) ∷ [])))) refl
     (λ b. (
       Moves-then x.code (x.high ⨟ value_code c i ⨟ plain (IndexOpen (size_of c.scene elem) ∷ [])) 0 1 1 g
           (Moves-then x.high (value_code c i ⨟ plain (IndexOpen (size_of c.scene elem) ∷ [])) 1 2 1 (Moves-raise x.high 0 1 1 h)
@@ -193,13 +196,13 @@ array-good c at x i_at i (Array index elem s) g h v =
     array_element-good c x index elem (assigned_to c index i_at not_assignable i).value g (assigned-good c index i_at not_assignable i v)
 array-good c at x i_at i (OpenArray elem) g h v =
     open_element-good c x elem (assigned_to c cardinal i_at not_assignable i).value g h (assigned-good c cardinal i_at not_assignable i v)
-array-good c at x i_at i m g h v = tt
+array-good c at x i_at i m g h v = refl
 
 element_go : (c : Context) (first at i_at : ℕ) (i : Coded) (o : Operand) (code high : Part) → Valued c.scene i → GoodAs c.scene code high o
     → Good c.scene (select_element c first at i_at i (with_operand o code high)).value
 element_go c first at i_at i (Variable t) code high v g =
     array-good c at (with_operand (Variable t) code high) i_at i (kind_of c.scene t) g.0 g.1 v
-element_go c first at i_at i o code high v g = tt
+element_go c first at i_at i o code high v g = refl
 
 pub select_element-good : (c : Context) (first at i_at : ℕ) (i x : Coded) → Valued c.scene i → Good c.scene x
     → Good c.scene (select_element c first at i_at i x).value

@@ -85,14 +85,14 @@ magnitude-moves scene t =
     both_ways (λ is. Moves 1 (plain is) 1) (is_same_place (base_of scene t) integer) (Magnitude ∷ []) [] (plain-moves (Magnitude ∷ []) 1 1 refl) (plain-moves [] 1 1 refl)
 
 end-good : (c : Context) (t : Place) (end : Range → ℤ) (r : Option Range) → Good c.scene (bare (end_value c t end r))
-end-good c t end None = tt
+end-good c t end None = refl
 end-good c t end (Some r) = tt
 
 variable_go : (c : Context) (at : ℕ) (o : Operand) (code high : Part) → GoodAs c.scene code high o
     → Good c.scene (as_variable c at (with_operand o code high)).value
 variable_go c at (Variable t) code high g = g
-variable_go c at NotConstant code high g = tt
-variable_go c at o code high g = tt
+variable_go c at NotConstant code high g = refl
+variable_go c at o code high g = refl
 
 pub as_variable-good : (c : Context) (at : ℕ) (x : Coded) → Good c.scene x → Good c.scene (as_variable c at x).value
 as_variable-good c at x g = variable_go c at x.operand x.code x.high g
@@ -100,33 +100,33 @@ as_variable-good c at x g = variable_go c at x.operand x.code x.high g
 high_kind : (c : Context) (at : ℕ) (x : Coded) (m : RowMeaning) → Moves 0 x.high 1 → Good c.scene (high_of c at x m).value
 high_kind c at x (Array i t s) h =
     both_ways (λ r. Good c.scene r.value) (is_broken c.scene i) (gives in_error)
-    (gives (coded (Computed cardinal) (high_code c.scene x (Array i t s)))) tt
+    (gives (coded (Computed cardinal) (high_code c.scene x (Array i t s)))) refl
     (plain-moves (Push (high_of_range (range_of c.scene i)) ∷ []) 0 1 refl)
 high_kind c at x (OpenArray t) h = h
-high_kind c at x m h = tt
+high_kind c at x m h = refl
 
 high_go : (c : Context) (at : ℕ) (o : Operand) (code high : Part) → GoodAs c.scene code high o
     → Good c.scene (high_of_variable c at (as_variable c at (with_operand o code high)).value).value
 high_go c at (Variable t) code high g = high_kind c at (with_operand (Variable t) code high) (kind_of c.scene t) g.1
 high_go c at NotConstant code high g = absurd g
-high_go c at o code high g = tt
+high_go c at o code high g = refl
 
 pub function-good : (c : Context) (f : Builtin) (at : ℕ) (x : Coded) → Good c.scene x → Good c.scene (function_of_one c f at x).value
 function-good c Abs at x g =
-    on_value-good c at x (abs_of c at) (λ v. value_code c v ⨟ plain (magnitude c.scene (operand_type v.operand))) g (λ p. tt)
+    on_value-good c at x (abs_of c at) (λ v. value_code c v ⨟ plain (magnitude c.scene (operand_type v.operand))) g (λ p. refl)
     (λ v w b. then-plain c (magnitude c.scene (operand_type v.operand)) v w b (magnitude-moves c.scene (operand_type v.operand)))
 function-good c Cap at x g =
-    on_value-good c at x (cap_of c at) (λ v. value_code c v ⨟ plain (Capital ∷ [])) g (λ p. tt)
+    on_value-good c at x (cap_of c at) (λ v. value_code c v ⨟ plain (Capital ∷ [])) g (λ p. refl)
     (λ v w b. then-plain c (Capital ∷ []) v w b (plain-moves (Capital ∷ []) 1 1 refl))
 function-good c Chr at x g =
-    on_value-good c at x (chr_of c at) (λ v. fitted_code c character v) g (λ p. tt) (λ v w b. fitted-moves c character v w b)
+    on_value-good c at x (chr_of c at) (λ v. fitted_code c character v) g (λ p. refl) (λ v w b. fitted-moves c character v w b)
 function-good c Odd at x g =
     on_value-good c at x (odd_of c at)
-    (λ v. value_code c v ⨟ plain (Push (pos 2) ∷ Remainder (side_of c.scene (operand_type v.operand)) ∷ Push (pos 1) ∷ Eq ∷ [])) g (λ p. tt)
+    (λ v. value_code c v ⨟ plain (Push (pos 2) ∷ Remainder (side_of c.scene (operand_type v.operand)) ∷ Push (pos 1) ∷ Eq ∷ [])) g (λ p. refl)
     (λ v w b. then-plain c (Push (pos 2) ∷ Remainder (side_of c.scene (operand_type v.operand)) ∷ Push (pos 1) ∷ Eq ∷ []) v w b
     (plain-moves (Push (pos 2) ∷ Remainder (side_of c.scene (operand_type v.operand)) ∷ Push (pos 1) ∷ Eq ∷ []) 1 1 refl))
 function-good c Ord at x g =
-    on_value-good c at x (ord_of c at) (λ v. fitted_code c cardinal v) g (λ p. tt) (λ v w b. fitted-moves c cardinal v w b)
+    on_value-good c at x (ord_of c at) (λ v. fitted_code c cardinal v) g (λ p. refl) (λ v w b. fitted-moves c cardinal v w b)
 function-good c Min at x g =
     end-good c (ordinal_type_argument c at x.operand).value (λ r. r.low) (range_of c.scene (ordinal_type_argument c at x.operand).value)
 function-good c Max at x g =
@@ -135,11 +135,11 @@ function-good c Size at x g =
     made-good c.scene (size_value c at x.operand).value (plain (Push (pos (size_of c.scene (operand_type x.operand))) ∷ []))
     (plain-moves (Push (pos (size_of c.scene (operand_type x.operand))) ∷ []) 0 1 refl)
 function-good c High at x g = high_go c at x.operand x.code x.high g
-function-good c f at x g = tt
+function-good c f at x g = refl
 
 val_broken : (c : Context) (t_at : ℕ) (t : Operand) (at : ℕ) (p : Part) → Good c.scene (made (val_of c t_at t at InError).value p)
 val_broken c t_at t at p =
-    both_ways (λ r. Good c.scene (made r.value p)) (is_broken c.scene (ordinal_type_argument c t_at t).value) (gives InError) (gives InError) tt tt
+    both_ways (λ r. Good c.scene (made r.value p)) (is_broken c.scene (ordinal_type_argument c t_at t).value) (gives InError) (gives InError) refl refl
 
 pub of_two-good : (c : Context) (t_at : ℕ) (t : Coded) (at : ℕ) (x : Coded) → Good c.scene x → Good c.scene (value_of_type c t_at t at x).value
 of_two-good c t_at t at x g =
@@ -149,7 +149,7 @@ of_two-good c t_at t at x g =
 -- the standard functions, by the number of their arguments
 pub no_argument-good : (c : Context) (f : Builtin) → is_function f ≡ true → Good c.scene (of_no_argument f)
 no_argument-good c Halt e = absurd cc
-no_argument-good c f e = tt
+no_argument-good c f e = refl
 
 pub one_argument-good : (c : Context) (f : Builtin) (at : ℕ) (x : Coded) → is_function f ≡ true → Good c.scene x
     → Good c.scene (of_one_argument c f at x).value
@@ -166,7 +166,7 @@ two_arguments-good c Dec x_at x at y e g = absurd cc
 two_arguments-good c Incl x_at x at y e g = absurd cc
 two_arguments-good c Excl x_at x at y e g = absurd cc
 two_arguments-good c Val x_at x at y e g = of_two-good c x_at x at y g
-two_arguments-good c f x_at x at y e g = tt
+two_arguments-good c f x_at x at y e g = refl
 
 -- ---- assigned values
 
@@ -174,7 +174,7 @@ pub range_go : (c : Context) (at : ℕ) (r : Option Range) (o : Operand) (code h
     → Valued c.scene (in_range_by c at r (with_operand o code high) o).value
 range_go c at r (Constant t v) code high w =
     both_ways (λ x. Valued c.scene x.value) (is_within r v)
-    (gives (with_operand (Constant t v) code high)) (refuse c at out_of_range in_error) (tt, tt) (tt, tt)
+    (gives (with_operand (Constant t v) code high)) (refuse c at out_of_range in_error) (tt, tt) (refl, tt)
 range_go c at r o code high w = w
 
 pub assigned-good : (c : Context) (to : Place) (at code : ℕ) (x : Coded) → Valued c.scene x → Valued c.scene (assigned_to c to at code x).value
@@ -184,12 +184,12 @@ assigned-good c to at code x v =
     (if is_assignable c.scene to x.operand
     then in_range c at to (taken (taken_into c.source c.scene to x.operand) x)
     else refuse c at code in_error)
-    (tt, tt)
+    (refl, tt)
     (both_ways P (is_assignable c.scene to x.operand)
     (in_range c at to (taken (taken_into c.source c.scene to x.operand) x)) (refuse c at code in_error)
     (range_go c at (range_of c.scene to) (taken_into c.source c.scene to x.operand) x.code x.high
     (taken_go c x.operand (Computed to) x.code x.high v))
-    (tt, tt))
+    (refl, tt))
   where
     P : Gives Coded → Type 0
     P r = Valued c.scene r.value

@@ -1,6 +1,6 @@
 -- The law of heights: whatever an expression is, the code of its value leaves one operand, and never takes what was there
 -- before; a variable's code leaves its address. By induction on the syntax.
-use Rattle.std.specs.Prelude.{◌≡◌, ℕ, true, false, List, [], ◌∷◌}
+use Rattle.std.specs.Prelude.{◌≡◌, refl, ℕ, true, false, List, [], ◌∷◌}
 use Rattle.expr_sem.proofs.Moves.{Moves-none}
 use Rattle.expr_sem.proofs.Values.{Good, GoodAs, Valued, as_value-good, value-moves, one_coded-good, two_coded-valued, GoodSet, element-good, add_element-good, add_range-good, set-good}
 use Rattle.expr_sem.proofs.Functions.{no_argument-good, one_argument-good, two_arguments-good}
@@ -12,7 +12,7 @@ use Rattle.expr_sem.specs.Coded.{Coded, value_code}
 use Rattle.expr_sem.specs.Elements.{select_element}
 use Rattle.expr_sem.specs.Expressions.{continued, count_of_exprs, designated, element, elements, expression, followed, form_coded, indexed, looked_at, passed, selected, selector, standard, value}
 use Rattle.expr_sem.specs.Heights.{IsAddressed, IsAddressedBy, Moves}
-use Rattle.expr_sem.specs.Parts.{Part}
+use Rattle.expr_sem.specs.Parts.{Part, none}
 use Rattle.expr_sem.specs.RecordFields.{name_coded}
 use Rattle.expr_sem.specs.SetElements.{Elements, element_coded, no_elements_yet}
 use Rattle.expr_sem.specs.StandardProcedures.{first_of_two, is_function}
@@ -25,7 +25,7 @@ use Rattle.m2_base.specs.Statics.TypeParts.{Parameter}
 use Rattle.m2_base.specs.Trees.{Designator, Expr, ExprForm, Exprs, Label, Labels, Next, Nexts, Selector, Selectors, call_form, char_form, deref_selector, designator, designator_at, expr, expr_at, field_selector, index_selector, many_form, more_exprs, more_labels, more_nexts, more_selectors, name_form, next, no_exprs, no_labels, no_nexts, no_selectors, number_form, one_form, one_label, range_label, set_form, string_form, typed_set_form}
 use Rattle.m2_base.specs.declared.builtins.Builtin.{Builtin}
 use Rattle.m2_base.specs.declared.operands.Operand.{Operand}
-use Rattle.m2_base.specs.declared.operands.Operand.TheVariants.{NotConstant, Variable}
+use Rattle.m2_base.specs.declared.operands.Operand.TheVariants.{InError, NotConstant, Variable}
 use Rattle.m2_base.specs.declared.rows.Place.{Place}
 
 none_yet : (c : Context) (t : Place) → GoodSet (no_elements_yet c t)
@@ -100,7 +100,7 @@ mutual
       (argument-good c p (expr_at e) (expression c withs e).value (expression-good c withs e)) (passed-good c withs ps es)
 
   pub looked-good : (c : Context) (withs : List Place) (es : Exprs) → Good c.scene (looked_at c withs es).value
-  looked-good c withs no_exprs = tt
+  looked-good c withs no_exprs = refl
   looked-good c withs (more_exprs e es) = looked-good c withs es
 
   pub standard-good : (c : Context) (withs : List Place) (f : Builtin) (es : Exprs) → is_function f ≡ true
@@ -167,3 +167,28 @@ pub designator-known : (c : Context) (withs : List Place) (d : Designator) → (
 designator-known c withs d =
     let x : Coded = (designated c withs d).value in
     known_by c.scene x.operand x.code x.high (designated-good c withs d)
+
+clean_by : (scene : Scene) (o : Operand) (code high : Part) → GoodAs scene code high o → o ≡ InError → code ≡ none
+clean_by scene InError code high g e = g
+clean_by scene o code high g e = absurd cc
+
+-- an expression in error has no code
+pub expression-clean : (c : Context) (withs : List Place) (e : Expr) → (expression c withs e).value.operand ≡ InError
+    → (expression c withs e).value.code ≡ none
+expression-clean c withs e =
+    let x : Coded = (expression c withs e).value in
+    clean_by c.scene x.operand x.code x.high (expression-good c withs e)
+
+-- nor where a value is wanted
+pub value-clean : (c : Context) (withs : List Place) (e : Expr) → (value c withs e).value.operand ≡ InError → (value c withs e).value.code ≡ none
+value-clean c withs e =
+    let x : Coded = (value c withs e).value in
+    let v : Valued c.scene x = as_value-good c (expr_at e) (expression c withs e).value (expression-good c withs e) in
+    clean_by c.scene x.operand x.code x.high v.0
+
+-- nor has a designator in error
+pub designator-clean : (c : Context) (withs : List Place) (d : Designator) → (designated c withs d).value.operand ≡ InError
+    → (designated c withs d).value.code ≡ none
+designator-clean c withs d =
+    let x : Coded = (designated c withs d).value in
+    clean_by c.scene x.operand x.code x.high (designated-good c withs d)

@@ -216,10 +216,10 @@ called-good c value at n x g = called_go c value at n x.operand x.code x.high g
 -- a call that gives a value leaves it
 call-good : (scene : Scene) (ps : List Parameter) (before : Part) (i : Instr) (result : Option Place) (more : ℕ) (args : Option Part)
     → is_some result ≡ true → Moves 0 before more → jump_of i ≡ None → Passes (cells_of_all scene ps) args → Good scene (call_coded scene ps before i result more args)
-call-good scene ps before i result more None e g j p = tt
+call-good scene ps before i result more None e g j p = refl
 call-good scene ps before i None more (Some args) e g j p = absurd cc
 call-good scene ps before i (Some t) more (Some args) e g j p =
-    both_ways (Good scene) (is_broken scene t) in_error (coded (Computed t) (call_code scene ps before i (Some t) more args)) tt
+    both_ways (Good scene) (is_broken scene t) in_error (coded (Computed t) (call_code scene ps before i (Some t) more args)) refl
     (Moves-then before (args ⨟ call i (cells_of_all scene ps + more) 1) 0 more 1 g
     (Moves-then args (call i (cells_of_all scene ps + more) 1) more (cells_of_all scene ps + more) 1
     (Moves-at args (0 + more) more (cells_of_all scene ps + more) (cells_of_all scene ps + more) (zero-add more) refl

@@ -129,23 +129,23 @@ step-valued c x at n g =
     let v : Coded = (as_value c at n).value in
     let w : Place = step_type c.scene (operand_type x.operand) in
     both_ways (λ r. Valued c.scene r.value) (is_bad x.operand || is_bad v.operand) (gives in_error)
-    (number_of_type c at w v) (tt, tt)
+    (number_of_type c at w v) (refl, tt)
     (both_ways (λ r. Valued c.scene r.value) (is_step c.scene w v.operand) (in_range c at w v) (refuse c at wrong_argument in_error)
-    (range_go c at (range_of c.scene w) v.operand v.code v.high (as_value-good c at n g)) (tt, tt))
+    (range_go c at (range_of c.scene w) v.operand v.code v.high (as_value-good c at n g)) (refl, tt))
 
 member-valued : (c : Context) (x : Coded) (at : ℕ) (e : Coded) → Good c.scene e → Valued c.scene (set_member c x at e).value
 member-valued c x at e g =
     let v : Coded = (as_value c at e).value in
     let base : Place = set_base c (operand_type x.operand) in
-    both_ways P (is_bad x.operand || is_bad v.operand) (gives in_error) (element_of_base c at base v) (tt, tt)
+    both_ways P (is_bad x.operand || is_bad v.operand) (gives in_error) (element_of_base c at base v) (refl, tt)
     (both_ways P (is_broken c.scene base) (gives in_error)
     (if is_compatible c.scene v.operand (Computed base)
     then in_range c at base (taken (taken_into c.source c.scene base v.operand) v)
-    else refuse c at wrong_argument in_error) (tt, tt)
+    else refuse c at wrong_argument in_error) (refl, tt)
     (both_ways P (is_compatible c.scene v.operand (Computed base))
     (in_range c at base (taken (taken_into c.source c.scene base v.operand) v)) (refuse c at wrong_argument in_error)
     (range_go c at (range_of c.scene base) (taken_into c.source c.scene base v.operand) v.code v.high
-    (taken_go c v.operand (Computed base) v.code v.high (as_value-good c at e g))) (tt, tt)))
+    (taken_go c v.operand (Computed base) v.code v.high (as_value-good c at e g))) (refl, tt)))
   where
     P : Gives Coded → Type 0
     P r = Valued c.scene r.value

@@ -7,9 +7,9 @@ use Rattle.expr_sem.proofs.Moves.{Moves-then, Moves-raise, plain-moves, text-mov
 use Rattle.expr_sem.specs.Coded.{Coded, in_error, is_structured, taken, value_code, with_char}
 use Rattle.expr_sem.specs.Heights.{Moves}
 use Rattle.expr_sem.specs.Operators.{made, one_coded, one_instr, operation_code, scalar_instr, set_instr, side_of, two_coded, two_instr}
-use Rattle.expr_sem.specs.Parts.{Part, plain, skip, ◌⨟◌}
+use Rattle.expr_sem.specs.Parts.{Part, none, plain, skip, ◌⨟◌}
 use Rattle.expr_sem.specs.ProcedureNames.{Target, import_of_target, procedure_code, target_of_procedure}
-use Rattle.expr_sem.specs.SetElements.{Elements, add_element, add_range, element_coded, set_coded}
+use Rattle.expr_sem.specs.SetElements.{element_as, Elements, add_element, add_range, element_coded, set_coded}
 use Rattle.expr_sem.specs.Values.{as_value}
 use Rattle.m2_base.specs.Gives.{Gives, gives}
 use Rattle.m2_base.specs.Statics.Compatible.{is_beside_char, is_compatible, taken_beside}
@@ -33,6 +33,7 @@ abbrev pub GoodAs : Scene → Part → Part → Operand → Type 0
 GoodAs scene code high (Computed t) = Moves 0 code 1
 GoodAs scene code high (Variable t) = Moves 0 code 1 × Moves 0 high 1
 GoodAs scene code high NotConstant = ⊥
+GoodAs scene code high InError = code ≡ none
 GoodAs scene code high other = Unit {0}
 
 abbrev pub Good : Scene → Coded → Type 0
@@ -54,16 +55,16 @@ as_value_go c at (Constant t v) code high g = (tt, tt)
 as_value_go c at (StringConstant n l) code high g = (tt, tt)
 as_value_go c at (Computed t) code high g = (g, tt)
 as_value_go c at (Variable t) code high g = (g, tt)
-as_value_go c at (NamedType t) code high g = (tt, tt)
+as_value_go c at (NamedType t) code high g = (refl, tt)
 as_value_go c at (Procedure n t k s) code high g = go (level_of c.scene.block t.scope == 0)
   where
     go : (b : Bool) → Valued c.scene (if b then gives (with_operand (Procedure n t k s) code high) else refuse c at 66 in_error).value
     go true = (g, tt)
-    go false = (tt, tt)
-as_value_go c at (StandardProcedure n) code high g = (tt, tt)
-as_value_go c at (ModuleName s) code high g = (tt, tt)
+    go false = (refl, tt)
+as_value_go c at (StandardProcedure n) code high g = (refl, tt)
+as_value_go c at (ModuleName s) code high g = (refl, tt)
 as_value_go c at NotConstant code high g = absurd g
-as_value_go c at InError code high g = (tt, tt)
+as_value_go c at InError code high g = (g, tt)
 
 pub as_value-good : (c : Context) (at : ℕ) (x : Coded) → Good c.scene x → Valued c.scene (as_value c at x).value
 as_value-good c at x g = as_value_go c at x.operand x.code x.high g
@@ -97,14 +98,14 @@ value-moves c x v b = value_go c x.operand x.code x.high v.0 v.1 b
 pub made-good : (scene : Scene) (r : Operand) (code : Part) → Moves 0 code 1 → Good scene (made r code)
 made-good scene (Computed t) code g = g
 made-good scene (Constant t v) code g = tt
-made-good scene (StringConstant n l) code g = tt
-made-good scene (Variable t) code g = tt
-made-good scene (NamedType t) code g = tt
-made-good scene (Procedure n t k s) code g = tt
-made-good scene (StandardProcedure n) code g = tt
-made-good scene (ModuleName s) code g = tt
-made-good scene NotConstant code g = tt
-made-good scene InError code g = tt
+made-good scene (StringConstant n l) code g = refl
+made-good scene (Variable t) code g = refl
+made-good scene (NamedType t) code g = refl
+made-good scene (Procedure n t k s) code g = refl
+made-good scene (StandardProcedure n) code g = refl
+made-good scene (ModuleName s) code g = refl
+made-good scene NotConstant code g = refl
+made-good scene InError code g = refl
 
 -- in error, apart from what only constant expressions have
 abbrev pub is_in_error_operand : Operand → Bool
@@ -142,14 +143,14 @@ either_bad o = go (is_bad o) refl
 made_bad : (scene : Scene) (r : Operand) (code : Part) → is_bad r ≡ true → Good scene (made r code)
 made_bad scene (Computed t) code b = absurd cc
 made_bad scene (Constant t v) code b = tt
-made_bad scene (StringConstant n l) code b = tt
-made_bad scene (Variable t) code b = tt
-made_bad scene (NamedType t) code b = tt
-made_bad scene (Procedure n t k s) code b = tt
-made_bad scene (StandardProcedure n) code b = tt
-made_bad scene (ModuleName s) code b = tt
-made_bad scene NotConstant code b = tt
-made_bad scene InError code b = tt
+made_bad scene (StringConstant n l) code b = refl
+made_bad scene (Variable t) code b = refl
+made_bad scene (NamedType t) code b = refl
+made_bad scene (Procedure n t k s) code b = refl
+made_bad scene (StandardProcedure n) code b = refl
+made_bad scene (ModuleName s) code b = refl
+made_bad scene NotConstant code b = refl
+made_bad scene InError code b = refl
 
 -- a sign or NOT
 pub one_coded-good : (c : Context) (op : Operator) (op_at : ℕ) (x : Coded) → Valued c.scene x → Good c.scene (one_coded c op op_at x).value
@@ -246,7 +247,7 @@ with_char_go c (Procedure n t k s) code high g w = (tt, tt)
 with_char_go c (StandardProcedure n) code high g w = absurd w
 with_char_go c (ModuleName s) code high g w = absurd w
 with_char_go c NotConstant code high g w = absurd g
-with_char_go c InError code high g w = (tt, tt)
+with_char_go c InError code high g w = (g, tt)
 
 with_char_bad : (c : Context) (o : Operand) → is_bad o ≡ false → is_bad (char_or_same c.source o) ≡ false
 with_char_bad c (StringConstant n l) b = go (l == 1)
@@ -270,9 +271,9 @@ char-moves c x v b =
 
 -- the worse of two operands is no value
 made_worse : (scene : Scene) (o p : Operand) (code : Part) → Good scene (made (worse o p) code)
-made_worse scene InError p code = tt
-made_worse scene o InError code = tt
-made_worse scene o p code = tt
+made_worse scene InError p code = refl
+made_worse scene o InError code = refl
+made_worse scene o p code = refl
 
 -- where a test holds, what is made is made of the first
 when_true : (scene : Scene) (b : Bool) (w r : Gives Operand) (code : Operand → Part) → b ≡ true
@@ -320,12 +321,16 @@ pub as_char_go : (c : Context) (o : Operand) (code high : Part) → Valued c.sce
 as_char_go c (StringConstant n l) code high v = (tt, tt)
 as_char_go c o code high v = v
 
-checked_go : (c : Context) (base : Place) (at : ℕ) (o : Operand) (code high : Part) → Valued c.scene (with_operand o code high)
-    → Valued c.scene (with_operand (checked_element c base at o).value code high)
-checked_go c base at (Constant t v) code high g =
-    both_ways (λ r. Valued c.scene (with_operand r.value code high)) (is_within (range_of c.scene base) v)
-    (gives (Constant t v)) (refuse c at out_of_range InError) (tt, tt) (tt, tt)
-checked_go c base at o code high g = g
+element_go : (c : Context) (x : Coded) (o : Operand) → Valued c.scene (with_operand o x.code x.high) → Valued c.scene (element_as x o)
+element_go c x InError v = (refl, tt)
+element_go c x o v = v
+
+checked_go : (c : Context) (base : Place) (at : ℕ) (x : Coded) (o : Operand) → Valued c.scene (with_operand o x.code x.high)
+    → Valued c.scene (element_as x (checked_element c base at o).value)
+checked_go c base at x (Constant t v) g =
+    both_ways (λ r. Valued c.scene (element_as x r.value)) (is_within (range_of c.scene base) v) (gives (Constant t v))
+    (refuse c at out_of_range InError) (tt, tt) (refl, tt)
+checked_go c base at x o g = element_go c x o g
 
 pub taken_go : (c : Context) (o p : Operand) (code high : Part) → Valued c.scene (with_operand o code high)
     → Valued c.scene (with_operand (taken_beside c.source c.scene o p) code high)
@@ -340,21 +345,21 @@ element-good c base at x v =
     (if not (is_procedure x.operand) && is_compatible c.scene x.operand (Computed base) then
     checked_element c base at (taken_beside c.source c.scene x.operand (Computed base))
     else refuse c at not_assignable InError))
-    v
+    (element_go c x x.operand v)
     (both_ways P (is_broken c.scene base) (gives InError)
     (if not (is_procedure x.operand) && is_compatible c.scene x.operand (Computed base) then
     checked_element c base at (taken_beside c.source c.scene x.operand (Computed base))
     else refuse c at not_assignable InError)
-    (tt, tt)
+    (refl, tt)
     (both_ways P (not (is_procedure x.operand) && is_compatible c.scene x.operand (Computed base))
     (checked_element c base at (taken_beside c.source c.scene x.operand (Computed base)))
     (refuse c at not_assignable InError)
-    (checked_go c base at (taken_beside c.source c.scene x.operand (Computed base)) x.code x.high
+    (checked_go c base at x (taken_beside c.source c.scene x.operand (Computed base))
     (taken_go c x.operand (Computed base) x.code x.high v))
-    (tt, tt)))
+    (refl, tt)))
   where
     P : Gives Operand → Type 0
-    P r = Valued c.scene (with_operand r.value x.code x.high)
+    P r = Valued c.scene (element_as x r.value)
 
 -- what isn't broken has its code
 not_bad : (scene : Scene) (o : Operand) (code high : Part) → GoodAs scene code high o → is_in_error_operand o ≡ false → is_bad o ≡ false
@@ -414,7 +419,7 @@ add_range-good c es x y g v w = λ e.
 set_go : (scene : Scene) (t : Place) (o : Operand) (code : Part) → (is_in_error_operand o ≡ false → Moves 1 code 1)
     → Good scene (set_coded t (record { set = o; code = code }))
 set_go scene t (Constant u s) code g = tt
-set_go scene t InError code g = tt
+set_go scene t InError code g = refl
 set_go scene t o code g = Moves-then (plain (Push (pos 0) ∷ [])) code 0 1 1 (plain-moves (Push (pos 0) ∷ []) 0 1 refl) (g refl)
 
 pub set-good : (scene : Scene) (t : Place) (es : Elements) → GoodSet es → Good scene (set_coded t es)

@@ -34,9 +34,14 @@ add_range c es x y = record {
   code = es.code ⨟ value_code c x ⨟ value_code c y ⨟ plain (Span ∷ Union ∷ []);
 }
 
+-- an element or a bound, as the static rule takes it
+abbrev pub element_as : Coded → Operand → Coded
+element_as x InError = in_error
+element_as x o = taken o x
+
 -- an element or a bound, as it is taken into a set with this base
 abbrev pub element_coded : Context → (base : Place) → (at : ℕ) → Coded → Gives Coded
-element_coded c base at x = and_then (element_of c base at x.operand) (λ o. gives (taken o x))
+element_coded c base at x = and_then (element_of c base at x.operand) (λ o. gives (element_as x o))
 
 -- a set of this type, by the static rule's set and the code that adds its elements
 abbrev pub set_by : Place → Part → Operand → Coded

@@ -6,8 +6,9 @@ ghost use Rattle.m2_base.specs.Trees.{Designator, Expr, Exprs};
 ghost use Rattle.m2_base.specs.declared.rows.Place.{Place};
 ghost use Rattle.expr_sem.specs.Coded.{value_code};
 ghost use Rattle.expr_sem.specs.Expressions.{call_alone, designated, expression, value};
-ghost use Rattle.m2_base.specs.declared.operands.Operand.TheVariants.{NotConstant};
+ghost use Rattle.m2_base.specs.declared.operands.Operand.TheVariants.{InError, NotConstant};
 ghost use Rattle.expr_sem.specs.Heights.{IsAddressed, Moves};
+ghost use Rattle.expr_sem.specs.Parts.{none};
 
 /// Wherever it stands, the code of a value leaves one operand more, and that of a variable its address; a call as a statement
 /// leaves the height as it was. None takes what was there before, and its jumps stay in the code.
@@ -22,4 +23,11 @@ pub fn heights_are_right()
 pub fn operands_are_known()
     ensures expressions { (c : Context) (withs : List Place) (e : Expr) → (expression c withs e).value.operand ≡ NotConstant → ⊥ }
     ensures designators { (c : Context) (withs : List Place) (d : Designator) → (designated c withs d).value.operand ≡ NotConstant → ⊥ }
+{}
+
+/// What is in error has no code, and so no temporary cells and no data.
+pub fn errors_have_no_code()
+    ensures expressions { (c : Context) (withs : List Place) (e : Expr) → (expression c withs e).value.operand ≡ InError → (expression c withs e).value.code ≡ none }
+    ensures values { (c : Context) (withs : List Place) (e : Expr) → (value c withs e).value.operand ≡ InError → (value c withs e).value.code ≡ none }
+    ensures designators { (c : Context) (withs : List Place) (d : Designator) → (designated c withs d).value.operand ≡ InError → (designated c withs d).value.code ≡ none }
 {}

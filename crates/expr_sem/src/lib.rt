@@ -8,4 +8,4 @@
 
 mod laws;
 
-pub use laws::{heights_are_right, operands_are_known};
+pub use laws::{errors_have_no_code, heights_are_right, operands_are_known};
