@@ -1,0 +1,16 @@
+pub mod Parts
+pub mod ProcedureNames
+pub mod Coded
+pub mod Fitting
+pub mod Values
+pub mod Variables
+pub mod RecordFields
+pub mod Elements
+pub mod Operators
+pub mod SetElements
+pub mod StandardFunctions
+pub mod StandardProcedures
+pub mod Arguments
+pub mod Calls
+pub mod Expressions
+pub mod Heights

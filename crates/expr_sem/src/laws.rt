@@ -1,0 +1,33 @@
+//! Laws on the definitions, each the contract of a function that does nothing.
+ghost use Rattle.std.specs.Prelude.{◌≡◌, false, List};
+ghost use Rattle.m2_base.specs.Statics.Contexts.{Context};
+ghost use Rattle.m2_base.specs.Statics.Operands.{is_bad};
+ghost use Rattle.m2_base.specs.Trees.{Designator, Expr, Exprs};
+ghost use Rattle.m2_base.specs.declared.rows.Place.{Place};
+ghost use Rattle.expr_sem.specs.Coded.{value_code};
+ghost use Rattle.expr_sem.specs.Expressions.{call_alone, designated, expression, value};
+ghost use Rattle.m2_base.specs.declared.operands.Operand.TheVariants.{InError, NotConstant};
+ghost use Rattle.expr_sem.specs.Heights.{IsAddressed, Moves};
+ghost use Rattle.expr_sem.specs.Parts.{none};
+
+/// Wherever it stands, the code of a value leaves one operand more, and that of a variable its address; a call as a statement
+/// leaves the height as it was. None takes what was there before, and its jumps stay in the code.
+pub fn heights_are_right()
+    ensures values { (c : Context) (withs : List Place) (e : Expr) → is_bad (value c withs e).value.operand ≡ false → Moves 0 (value_code c (value c withs e).value) 1 }
+    ensures variables { (c : Context) (withs : List Place) (d : Designator) → IsAddressed (designated c withs d).value }
+    ensures calls { (c : Context) (withs : List Place) (d : Designator) (args : Exprs) → is_bad (call_alone c withs d args).value.operand ≡ false → Moves 0 (call_alone c withs d args).value.code 0 }
+{}
+
+/// What an expression or a designator of a statement stands for is known, or it is in error: it is never what only a constant
+/// expression can leave open.
+pub fn operands_are_known()
+    ensures expressions { (c : Context) (withs : List Place) (e : Expr) → (expression c withs e).value.operand ≡ NotConstant → ⊥ }
+    ensures designators { (c : Context) (withs : List Place) (d : Designator) → (designated c withs d).value.operand ≡ NotConstant → ⊥ }
+{}
+
+/// What is in error has no code, and so no temporary cells and no data.
+pub fn errors_have_no_code()
+    ensures expressions { (c : Context) (withs : List Place) (e : Expr) → (expression c withs e).value.operand ≡ InError → (expression c withs e).value.code ≡ none }
+    ensures values { (c : Context) (withs : List Place) (e : Expr) → (value c withs e).value.operand ≡ InError → (value c withs e).value.code ≡ none }
+    ensures designators { (c : Context) (withs : List Place) (d : Designator) → (designated c withs d).value.operand ≡ InError → (designated c withs d).value.code ≡ none }
+{}
