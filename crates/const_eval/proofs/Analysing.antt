@@ -1,5 +1,5 @@
 -- Analyses one after another.
-use Rattle.std.proofs.Common.{◌≡◌, ◌∙◌, ◌++◌, ◌∷◌, [], ℕ, List, Result, Ok, Err, ap, sym, subst, refl, append_assoc}
+use Rattle.std.proofs.Common.{◌≡◌, ◌∙◌, ◌++◌, ◌∷◌, [], ℕ, Result, Ok, Err, ap, sym, subst, refl, append_assoc}
 use Rattle.std.specs.Result.{IfOk}
 use Rattle.m2_base.specs.Asks.{IfKnown, IfWaits}
 use Rattle.m2_base.specs.Gives.{Adds, Gives, and_then, gives}
@@ -14,11 +14,10 @@ use Rattle.m2_base.specs.declared.replies.Ask.{Ask}
 use Rattle.m2_base.specs.declared.replies.Ask.TheVariants.{Known, DontKnowYet}
 use Rattle.m2_base.specs.declared.replies.Head.{Head}
 use Rattle.m2_base.specs.declared.rows.Place.{Place}
-use Rattle.m2_base.specs.declared.rows.Row.{Row}
 use Rattle.m2_base.specs.declared.sites.Site.{Site}
 use Rattle.m2_base.proofs.Kept.{Adds-and_then, Adds-refl, Waits_after, IsPrefixOf-refl, Works-kept, Works-refl, Works-trans}
 use Rattle.type_rules.specs.Asks.{Reads, WhereKnown, WhereWaiting}
-use Rattle.type_rules.specs.Scenes.{IsThere, WhereTold}
+use Rattle.type_rules.specs.Scenes.{Hand, IsThere, WhereTold}
 use Rattle.type_rules.specs.Sites.{AreOfSite, context_of}
 use Rattle.type_rules.proofs.Compatibles.{told_later}
 use Rattle.const_eval.specs.Analyses.{Analysed}
@@ -28,7 +27,7 @@ use Rattle.const_eval.specs.declared.faults.Fault.{Fault}
 
 -- a value alone
 pub value_alone : {T : Type 0} (a : State) (n : Notes) (s : Site) (v : T) (P : Frame → T → Type 0) (g : Context → Gives T)
-    → P a.frame v → ((made : List Row) → gives v ≡ g (context_of a.frame made s)) → Analysed a a n n s (Ok (Known v)) P g
+    → P a.frame v → ((made : Hand) → gives v ≡ g (context_of a.frame made s)) → Analysed a a n n s (Ok (Known v)) P g
 value_alone a n s v P g h e =
     record {
       works = Works-refl a n;
@@ -68,7 +67,7 @@ module _ {T U : Type 0} {a b d : State} {x y z : Notes} {s : Site} {P : Frame �
         there = subst (λ (f : Frame). IfKnown answer (λ w. Q f w)) p.works.keeps.frame q.there;
       }
     where
-      both : (made : List Row) (answer : Result (Ask U) Memory) → Adds x y (g (context_of a.frame made s)) v → IfKnown answer (λ w. Adds y z (h v (context_of a.frame made s)) w)
+      both : (made : Hand) (answer : Result (Ask U) Memory) → Adds x y (g (context_of a.frame made s)) v → IfKnown answer (λ w. Adds y z (h v (context_of a.frame made s)) w)
           → IfKnown answer (λ w. Adds x z (and_then (g (context_of a.frame made s)) (λ u. h u (context_of a.frame made s))) w)
       both made (Ok (Known w)) p' q' = Adds-and_then (g (context_of a.frame made s)) (λ u. h u (context_of a.frame made s)) p' q'
       both made (Ok (DontKnowYet head)) p' q' = tt

@@ -1,5 +1,5 @@
 -- What operators give, by what their operands' types are.
-use Rattle.std.proofs.Common.{◌≡◌, ◌∙◌, ℕ, Bool, false, sym, ap, if◌then◌else◌}
+use Rattle.std.proofs.Common.{◌≡◌, ◌≢◌, ◌∙◌, ℕ, Bool, false, refl, sym, ap, if◌then◌else◌}
 use Rattle.std.specs.Prelude.{◌&&◌, ◌||◌, is_some}
 use Rattle.m2_base.specs.Gives.{and_then, gives}
 use Rattle.m2_base.specs.Rows.{is_same_place}
@@ -8,9 +8,10 @@ use Rattle.m2_base.specs.Statics.Compatible.{is_pointer}
 use Rattle.m2_base.specs.Statics.Contexts.{Context}
 use Rattle.m2_base.specs.Statics.Folding.{is_arithmetic, is_equality, is_relation}
 use Rattle.m2_base.specs.Statics.Operands.{is_bad}
-use Rattle.m2_base.specs.Statics.Operations.{apply_one, apply_one_by, as_number, base_type, gives_result, logical, number_operation, on_numbers, on_scalars, wrong}
+use Rattle.m2_base.specs.Statics.Operations.{apply_one, apply_one_by, as_number, base_type, gives_result, logical, number_operation, on_alike, on_numbers, on_scalars, operate_by, wrong}
 use Rattle.m2_base.specs.Statics.Types.{range_of}
 use Rattle.m2_base.specs.declared.trees.operators.Operator.{Operator}
+use Rattle.m2_base.specs.declared.trees.operators.Operator.TheVariants.{And, In, Or}
 use Rattle.m2_base.specs.declared.operands.FoldKind.TheVariants as kinds
 use Rattle.m2_base.specs.declared.operands.Operand.{Operand}
 use Rattle.m2_base.specs.declared.rows.Place.{Place}
@@ -39,3 +40,10 @@ module _ (c : Context) (op : Operator) (at : ℕ) (x y : Operand) (l r : Place) 
 pub numbers_none : (c : Context) (op : Operator) (at : ℕ) (x : Operand) (x_at : ℕ) (y : Operand) (y_at : ℕ) → (is_arithmetic op || is_relation op) ≡ false → wrong c at ≡ on_numbers c op at x x_at y y_at
 numbers_none c op at x x_at y y_at h =
     sym (ap (λ b. if b then and_then (as_number c x_at (base_type c y) x) (λ x'. and_then (as_number c y_at (base_type c x) y) (λ y'. number_operation c op at x' y')) else wrong c at) h)
+
+-- neither AND, OR nor IN
+pub other_operator : (c : Context) (op : Operator) (at : ℕ) (x : Operand) (x_at : ℕ) (y : Operand) (y_at : ℕ) → op ≢ And → op ≢ Or → op ≢ In → on_alike c op at x x_at y y_at ≡ operate_by c op at x x_at y y_at
+other_operator c And at x x_at y y_at no_and no_or no_in = absurd (no_and refl)
+other_operator c Or at x x_at y y_at no_and no_or no_in = absurd (no_or refl)
+other_operator c In at x x_at y y_at no_and no_or no_in = absurd (no_in refl)
+other_operator c _ at x x_at y y_at no_and no_or no_in = refl

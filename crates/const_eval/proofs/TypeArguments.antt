@@ -1,7 +1,7 @@
 -- Arguments that are types, and what is refused there.
-use Rattle.std.proofs.Common.{◌≡◌, ◌∙◌, ℕ, ℤ, Bool, true, false, List, Result, Err, refl, sym, ap, if◌then◌else◌}
+use Rattle.std.proofs.Common.{◌≡◌, ◌∙◌, ℕ, ℤ, Bool, true, false, Result, Err, refl, sym, ap, if◌then◌else◌}
 use Rattle.std.specs.Prelude.{◌&&◌, is_none, not}
-use Rattle.m2_base.specs.Finished.{IsTold}
+use Rattle.m2_base.specs.Finished.{IsFinished}
 use Rattle.m2_base.specs.Gives.{Gives, and_then, gives}
 use Rattle.m2_base.specs.Rows.{is_same_place}
 use Rattle.m2_base.specs.Standard.{broken}
@@ -16,9 +16,9 @@ use Rattle.m2_base.specs.declared.operands.Operand.TheVariants.{InError}
 use Rattle.m2_base.specs.declared.replies.Ask.{Ask}
 use Rattle.m2_base.specs.declared.replies.Ask.TheVariants.{Known, DontKnowYet}
 use Rattle.m2_base.specs.declared.rows.Place.{Place}
-use Rattle.m2_base.specs.declared.rows.Row.{Row}
 use Rattle.m2_base.specs.declared.sites.Site.{Site}
 use Rattle.type_rules.specs.Asks.{WhereKnown}
+use Rattle.type_rules.specs.Scenes.{Hand}
 use Rattle.type_rules.specs.Sites.{SuitsSite, context_of}
 use Rattle.const_eval.specs.Judgements.{code_of, judged, judged_or}
 use Rattle.const_eval.specs.declared.faults.Fault.{Fault}
@@ -41,19 +41,19 @@ type_judged_as (Known j) c given value told is = told ∙ is
 type_judged_as (DontKnowYet head) c given value told is = tt
 
 -- the type of parts in error passes for an ordinal one
-broken_passes : (f : Frame) (made : List Row) (s : Site) → SuitsSite f s → IsTold f.setting.texts → (at : ℕ) → ordinal_type (context_of f made s) at broken ≡ gives broken
+broken_passes : (f : Frame) (made : Hand) (s : Site) → SuitsSite f s → IsFinished f.setting.texts made.finished → (at : ℕ) → ordinal_type (context_of f made s) at broken ≡ gives broken
 broken_passes f made s suits told at =
     let c = context_of f made s in
     ap (λ (t : Place). if not (is_same_place t broken) && is_none (range_of c.scene broken) then refuse c at wrong_argument broken else gives broken)
     (broken_stands f made s.around.now suits.around told)
 
-pub type_refused : (f : Frame) (made : List Row) (s : Site) → SuitsSite f s → IsTold f.setting.texts → (fault : Fault) (at : ℕ)
+pub type_refused : (f : Frame) (made : Hand) (s : Site) → SuitsSite f s → IsFinished f.setting.texts made.finished → (fault : Fault) (at : ℕ)
     → judged_or (context_of f made s) broken (Err fault) ≡ and_then (judged_or (context_of f made s) broken (Err fault)) (ordinal_type (context_of f made s) at)
 type_refused f made s suits told fault at =
     let c = context_of f made s in
     ap (λ (g : Gives Place). and_then (judged_or c broken (Err fault)) (λ v. g)) (sym (broken_passes f made s suits told at))
 
-pub end_refused : (f : Frame) (made : List Row) (s : Site) → SuitsSite f s → IsTold f.setting.texts → (fault : Fault) (end : Range → ℤ)
+pub end_refused : (f : Frame) (made : Hand) (s : Site) → SuitsSite f s → IsFinished f.setting.texts made.finished → (fault : Fault) (end : Range → ℤ)
     → judged (context_of f made s) (Err fault) ≡ and_then (judged_or (context_of f made s) broken (Err fault)) (λ of. gives (end_value (context_of f made s) of end (range_of (context_of f made s).scene of)))
 end_refused f made s suits told fault end =
     let c = context_of f made s in

@@ -3,7 +3,9 @@ use Rattle.std.specs.Prelude.{◌≡◌, ◌≢◌, ℕ, zero, suc, ◌+◌, ◌
 use Rattle.std.proofs.Common.{refl, sym, ap, ◌∙◌, subst, arith}
 use Rattle.std.proofs.lemmas.List.{append_assoc, append-nil, length-append}
 use Rattle.std.specs.Option.{IfSome}
-use Rattle.m2_base.specs.Finished.{IsTold, finished}
+use Rattle.m2_base.specs.Finished.{IsFinished}
+use Rattle.m2_base.specs.Lists.{Each}
+use Rattle.m2_base.specs.Rows.{row_meaning}
 use Rattle.m2_base.specs.Standard.{is_standard}
 use Rattle.m2_base.specs.States.{Frame}
 use Rattle.m2_base.specs.Statics.Lookup.{first_entry}
@@ -13,11 +15,11 @@ use Rattle.m2_base.specs.Tables.{first_named, rows_at}
 use Rattle.m2_base.specs.declared.rows.Row.{Row}
 use Rattle.m2_base.specs.declared.sites.Named.{Named}
 use Rattle.m2_base.specs.declared.sites.Site.{Site}
-use Rattle.type_rules.specs.Scenes.{AreInHand, rows_of}
+use Rattle.type_rules.specs.Scenes.{AreInHand, Hand, NamesNoType, rows_of}
 use Rattle.type_rules.specs.Sites.{AreOfItem, AreOfSite, SuitsSite, context_of}
-use Rattle.decl_sem.specs.LaidRows.{AreLaid, none_laid, more_laid, IsAhead, is_of, kept_name}
-use Rattle.decl_sem.specs.Making.{IsInHand, IsNext}
-use Rattle.decl_sem.specs.Pieces.{IsMaking}
+use Rattle.decl_sem.specs.LaidRows.{AreLaid, none_laid, more_laid, IsAhead, IsLaid, is_of, kept_name}
+use Rattle.decl_sem.specs.Making.{IsInHand, IsNext, next_ordinal}
+use Rattle.decl_sem.specs.Pieces.{BeginsAt, IsMaking, holding}
 use Rattle.decl_sem.specs.declared.making.Made.{Made}
 use Rattle.decl_sem.proofs.FirstNames.{known_before}
 
@@ -40,60 +42,60 @@ length-taken [] n h = absurd (omega (arith, h))
 length-taken (x ∷ xs) zero h = refl
 length-taken (x ∷ xs) (suc n) h = ap suc (length-taken xs n (omega (arith, h)))
 
-scopes_before : {f : Frame} {s : Site} → SuitsSite f s → IsTold f.setting.texts → length (take f.setting.fills (finished f.setting.texts)) ≡ f.setting.fills
-scopes_before {f} suits told = length-taken (finished f.setting.texts) f.setting.fills (suits.around.told told).scopes
+scopes_before : {f : Frame} {s : Site} (hand : Hand) → SuitsSite f s → IsFinished f.setting.texts hand.finished → length (take f.setting.fills hand.finished) ≡ f.setting.fills
+scopes_before {f} hand suits told = length-taken hand.finished f.setting.fills (suits.around.told hand.finished told).scopes
 
 own_at : (tables : List (List Row)) (scope n : ℕ) (own : List Row) → length tables ≡ n → scope ≡ n → rows_at (tables ++ own ∷ []) scope ≡ own
 own_at tables scope n own e h = at_last tables scope own [] (e ∙ sym h)
 
 -- the own rows are those entered and then those in hand
-pub own_are : {f : Frame} {s : Site} (hand : List Row) → SuitsSite f s → IsTold f.setting.texts → own_rows (context_of f hand s) ≡ f.entered ++ hand
-own_are {f = f} {s = s} hand suits told = own_at (take f.setting.fills (finished f.setting.texts)) s.around.now.scope f.setting.fills (f.entered ++ hand) (scopes_before suits told) suits.around.fills
+pub own_are : {f : Frame} {s : Site} (hand : Hand) → SuitsSite f s → IsFinished f.setting.texts hand.finished → own_rows (context_of f hand s) ≡ f.entered ++ hand.rows
+own_are {f = f} {s = s} hand suits told = own_at (take f.setting.fills hand.finished) s.around.now.scope f.setting.fills (f.entered ++ hand.rows) (scopes_before hand suits told) suits.around.fills
 
 -- more rows in hand
-pub hand_with : {f : Frame} {s : Site} (hand more : List Row) → SuitsSite f s → IsTold f.setting.texts → with_rows (context_of f hand s) more ≡ context_of f (hand ++ more) s
+pub hand_with : {f : Frame} {s : Site} (hand : Hand) (more : List Row) → SuitsSite f s → IsFinished f.setting.texts hand.finished → with_rows (context_of f hand s) more ≡ context_of f (holding hand more) s
 hand_with {f} {s} hand more suits told =
-    let before = take f.setting.fills (finished f.setting.texts) in
-    let e : slice_set (rows_of f hand) s.around.now.scope (own_rows (context_of f hand s) ++ more) ≡ rows_of f (hand ++ more) =
+    let before = take f.setting.fills hand.finished in
+    let e : slice_set (rows_of f hand) s.around.now.scope (own_rows (context_of f hand s) ++ more) ≡ rows_of f (holding hand more) =
     ap (λ (own : List Row). slice_set (rows_of f hand) s.around.now.scope (own ++ more)) (own_are hand suits told)
-    ∙ set_last before s.around.now.scope (f.entered ++ hand) ((f.entered ++ hand) ++ more) (scopes_before suits told ∙ sym suits.around.fills)
-    ∙ ap (λ (own : List Row). before ++ own ∷ []) (append_assoc f.entered hand more) in
+    ∙ set_last before s.around.now.scope (f.entered ++ hand.rows) ((f.entered ++ hand.rows) ++ more) (scopes_before hand suits told ∙ sym suits.around.fills)
+    ∙ ap (λ (own : List Row). before ++ own ∷ []) (append_assoc f.entered hand.rows more) in
     let c = context_of f hand s in
     ap (λ (tables : List (List Row)). record { source = c.source; scene = record { block = c.scene.block; tables = tables }; layout = c.layout; item = c.item }) e
 
-pub hand_none : {f : Frame} {s : Site} (hand : List Row) → SuitsSite f s → IsTold f.setting.texts → with_rows (context_of f hand s) [] ≡ context_of f hand s
-hand_none {f} {s} hand suits told = hand_with hand [] suits told ∙ ap (λ (rows : List Row). context_of f rows s) (append-nil hand)
+pub hand_none : {f : Frame} {s : Site} (hand : Hand) → SuitsSite f s → IsFinished f.setting.texts hand.finished → with_rows (context_of f hand s) [] ≡ context_of f hand s
+hand_none {f} {s} hand suits told = hand_with hand [] suits told ∙ ap (λ (rows : List Row). context_of f (record { finished = hand.finished; rows = rows }) s) (append-nil hand.rows)
 
 -- ** Rows in hand, while an item's are made
 
 module _ {f : Frame} {s : Site} {made : Made} {shapes : List Shape} (making : IsMaking f s made shapes) where
-  pub in_hand : AreInHand f made.rows.items
-  in_hand = record { closed = λ e. absurd (let h : true ≡ false = sym e ∙ making.begun in cc); types = making.types }
+  pub in_hand : (hand : Hand) → hand.rows ≡ made.rows.items → AreInHand f hand
+  in_hand hand same = record { closed = λ e. absurd (let h : true ≡ false = sym e ∙ making.begun in cc); types = subst (λ (rows : List Row). Each (λ r. NamesNoType (row_meaning r)) rows) (sym same) making.types }
 
   -- the context is that of the item in hand
-  pub hand_is : (hand : List Row) → hand ≡ made.rows.items → IsTold f.setting.texts → IsInHand (context_of f hand s) s made
+  pub hand_is : (hand : Hand) → hand.rows ≡ made.rows.items → IsFinished f.setting.texts hand.finished → IsInHand (context_of f hand s) s made
   hand_is hand same told =
       let own = own_are {f = f} {s = s} hand making.suits told in
       record {
         scope = refl;
-        exists = let n = scopes_before making.suits told in
-            let l = length-append (take f.setting.fills (finished f.setting.texts)) ((f.entered ++ hand) ∷ []) in
+        exists = let n = scopes_before hand making.suits told in
+            let l = length-append (take f.setting.fills hand.finished) ((f.entered ++ hand.rows) ∷ []) in
             let e = making.suits.around.fills in omega (arith, n, l, e);
         text = refl;
         layout = refl;
         count = let n = ap length own in
-            let l = length-append f.entered hand in
+            let l = length-append f.entered hand.rows in
             let k = ap length same in
             let e = making.count in omega (arith, n, l, k, e);
       }
 
   -- the shapes are ahead there
-  pub hand_ahead : (hand : List Row) → hand ≡ made.rows.items → IsTold f.setting.texts → IsAhead s.layout.now.names (own_rows (context_of f hand s)) shapes
+  pub hand_ahead : (hand : Hand) → hand.rows ≡ made.rows.items → IsFinished f.setting.texts hand.finished → IsAhead s.layout.now.names (own_rows (context_of f hand s)) shapes
   hand_ahead hand same told =
       subst (λ (own : List Row). IsAhead s.layout.now.names own shapes) (ap (λ (rows : List Row). f.entered ++ rows) (sym same) ∙ sym (own_are {f = f} {s = s} hand making.suits told)) making.ahead
 
 -- a name that is next
-pub hand_next : {f : Frame} {s : Site} {made : Made} {shape : Shape} {shapes : List Shape} → IsMaking f s made (shape ∷ shapes) → shape.name ≢ 0 → (hand : List Row) → hand ≡ made.rows.items → IsTold f.setting.texts
+pub hand_next : {f : Frame} {s : Site} {made : Made} {shape : Shape} {shapes : List Shape} → IsMaking f s made (shape ∷ shapes) → shape.name ≢ 0 → (hand : Hand) → hand.rows ≡ made.rows.items → IsFinished f.setting.texts hand.finished
     → IsNext (context_of f hand s) shape.name
 hand_next {f} {s} {made} {shape} {shapes} making some hand same told plain =
     known_before s.layout.now.names (own_rows (context_of f hand s)) shape shapes some plain (hand_ahead making hand same told)
@@ -127,9 +129,10 @@ lacking {names} name e some entry o k (more_laid {s = s} {r = r} {rs = rs} l mor
     ap (λ (b : Bool). if b then Some (k, r) else first_named name rs (k + 1)) other ∙ lacking name e some entry (o + 1) (k + 1) more (omega (arith, h))
 
 -- none has a name that the layout first gives to an earlier item
-pub of_this_site : {f : Frame} {s : Site} {made : Made} {shapes : List Shape} → IsMaking f s made shapes → AreOfSite s made.rows.items
-of_this_site {f} {s} {made} {shapes} making =
-    subst (λ (o : Option ℕ). IfSome o (λ item. AreOfItem s.layout.now.names item made.rows.items)) (sym making.of_item) of
+pub of_this_site : {f : Frame} {s : Site} {made : Made} {shapes : List Shape} → IsMaking f s made shapes → (hand : Hand) → hand.rows ≡ made.rows.items → AreOfSite s hand
+of_this_site {f} {s} {made} {shapes} making hand same =
+    subst (λ (o : Option ℕ). IfSome o (λ item. AreOfItem s.layout.now.names item hand.rows)) (sym making.of_item)
+    (subst (λ (rows : List Row). AreOfItem s.layout.now.names making.item rows) (sym same) of)
   where
     of : AreOfItem s.layout.now.names making.item made.rows.items
     of = record {

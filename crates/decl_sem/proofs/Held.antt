@@ -1,7 +1,8 @@
 -- What rows in hand say.
 use Rattle.std.specs.Prelude.{◌≡◌, ℕ, zero, suc, ◌+◌, ◌-◌, ◌<◌, ◌≤◌, ◌==◌, ◌^◌, Bool, true, false, if◌then◌else◌, List, [], ◌∷◌, ◌++◌, length, slice_index_or, Option, None, Some}
 use Rattle.std.proofs.Common.{refl, sym, ap, ◌∙◌, subst, arith}
-use Rattle.m2_base.specs.Finished.{IsTold}
+use Rattle.std.proofs.lemmas.List.{length-append}
+use Rattle.m2_base.specs.Finished.{IsFinished}
 use Rattle.m2_base.specs.Lists.{WhereKept}
 use Rattle.m2_base.specs.Rows.{at_place, row_meaning, row_of}
 use Rattle.m2_base.specs.States.{Frame}
@@ -14,7 +15,11 @@ use Rattle.m2_base.specs.declared.rows.RowMeaning.{RowMeaning}
 use Rattle.m2_base.specs.declared.rows.RowMeaning.TheVariants.{Broken, Opaque}
 use Rattle.m2_base.specs.declared.sites.Site.{Site}
 use Rattle.m2_base.proofs.RowLaws.{HasSmallNumbers-fits}
-use Rattle.type_rules.specs.Scenes.{IsSaid, IsStood, IsThere, rows_of, scene_of}
+use Rattle.m2_base.specs.declared.replies.Ask.{Ask}
+use Rattle.m2_base.specs.declared.replies.Ask.TheVariants.{Known, DontKnowYet}
+use Rattle.type_rules.specs.Asks.{WhereKnown}
+use Rattle.type_rules.specs.Scenes.{Hand, IsSaid, IsStood, IsThere, rows_of, scene_of}
+use Rattle.type_rules.specs.Sites.{context_of}
 use Rattle.decl_sem.specs.Hands.{held_meaning, is_held}
 use Rattle.decl_sem.specs.Making.{next_ordinal}
 use Rattle.decl_sem.specs.Pieces.{AreNewRows, IsBehind, IsMaking, IsNewRow, item_end}
@@ -88,19 +93,19 @@ module _ {f : Frame} {s : Site} {made : Made} (making : IsMaking f s made []) {p
   stands_itself Opaque scene h = h
   stands_itself other scene h = refl
 
-  meaning_is : is_held s.around.now.scope made.first p ≡ true → (hand : List Row) → hand ≡ made.rows.items → IsTold f.setting.texts → meaning_at (scene_of f hand s.around.now) p ≡ held_meaning made p
+  meaning_is : is_held s.around.now.scope made.first p ≡ true → (hand : Hand) → hand.rows ≡ made.rows.items → IsFinished f.setting.texts hand.finished → meaning_at (scene_of f hand s.around.now) p ≡ held_meaning made p
   meaning_is h hand same told =
       let e = held_true s.around.now.scope made.first p h in
-      let own : rows_at (rows_of f hand) p.scope ≡ f.entered ++ hand = ap (rows_at (rows_of f hand)) e.0 ∙ own_are {f = f} {s = s} hand making.suits told in
+      let own : rows_at (rows_of f hand) p.scope ≡ f.entered ++ hand.rows = ap (rows_at (rows_of f hand)) e.0 ∙ own_are {f = f} {s = s} hand making.suits told in
       let c = making.count in
       let e1 = e.1 in
       let at : p.ordinal ≡ length f.entered + (p.ordinal - made.first) = omega arith in
       ap (λ (rows : List Row). row_meaning (slice_index_or rows p.ordinal (row_of 0 0 Broken))) own
-      ∙ ap (λ n. row_meaning (slice_index_or (f.entered ++ hand) n (row_of 0 0 Broken))) at
-      ∙ ap row_meaning (behind_front f.entered hand (p.ordinal - made.first) (row_of 0 0 Broken))
+      ∙ ap (λ n. row_meaning (slice_index_or (f.entered ++ hand.rows) n (row_of 0 0 Broken))) at
+      ∙ ap row_meaning (behind_front f.entered hand.rows (p.ordinal - made.first) (row_of 0 0 Broken))
       ∙ ap (λ (rows : List Row). row_meaning (slice_index_or rows (p.ordinal - made.first) (row_of 0 0 Broken))) same
 
-  pub held_stands : is_held s.around.now.scope made.first p ≡ true → (hand : List Row) → hand ≡ made.rows.items → IsTold f.setting.texts → IsStood (scene_of f hand s.around.now) p (p, held_meaning made p)
+  pub held_stands : is_held s.around.now.scope made.first p ≡ true → (hand : Hand) → hand.rows ≡ made.rows.items → IsFinished f.setting.texts hand.finished → IsStood (scene_of f hand s.around.now) p (p, held_meaning made p)
   held_stands h hand same told =
       let e = held_true s.around.now.scope made.first p h in
       let scene = scene_of f hand s.around.now in

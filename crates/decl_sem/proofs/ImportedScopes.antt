@@ -6,7 +6,7 @@ use Rattle.m2_base.specs.Statics.Contexts.{DefinitionModule, scope_of_module}
 use Rattle.std.specs.Result.{IfOk}
 use Rattle.m2_base.specs.Units.{UnitTexts}
 use Rattle.m2_base.specs.declared.memory.Memory.{Memory}
-use Rattle.type_rules.specs.Sites.{definitions_of, no_text, source_of}
+use Rattle.m2_base.specs.Finished.{definitions_of, no_text, source_of}
 use Rattle.std.proofs.lemmas.Bool.{lt-ltb}
 use Rattle.decl_sem.specs.ImportedModules.{first_from, is_text_named}
 use Rattle.decl_sem.proofs.VariableLists.{next_left, none_left}

@@ -3,7 +3,7 @@ use Rattle.std.specs.Prelude.{◌≡◌, ◌≢◌, ◌⊎◌, ℕ, Bool, true, 
 use Rattle.std.proofs.Common.{refl, sym, ap, ◌∙◌, subst, arith, inl, inr}
 use Rattle.std.proofs.lemmas.List.{length-append}
 use Rattle.std.specs.Result.{IfOk}
-use Rattle.m2_base.specs.Finished.{IsTold}
+use Rattle.m2_base.specs.Finished.{IsFinished}
 use Rattle.m2_base.specs.Lists.{IsPrefixOf}
 use Rattle.m2_base.specs.Names.{standard_names}
 use Rattle.m2_base.specs.Standard.{is_standard}
@@ -26,7 +26,8 @@ use Rattle.m2_base.proofs.RowLaws.{row_meaning-row_of}
 use Rattle.m2_base.specs.declared.sites.Named.{Named}
 use Rattle.m2_base.specs.declared.trees.Ident.{Ident}
 use Rattle.type_rules.specs.Sites.{context_of}
-use Rattle.decl_sem.specs.LaidRows.{IsLaid, is_of, kept_name, more_laid, none_laid}
+use Rattle.type_rules.specs.Scenes.{Hand}
+use Rattle.decl_sem.specs.LaidRows.{AreLaid, IsLaid, is_of, kept_name, more_laid, none_laid}
 use Rattle.decl_sem.specs.Making.{IsInHand, IsNext, MakesAll, next_ordinal}
 use Rattle.decl_sem.specs.Pieces.{Declares, IsBehind, IsMaking, IsNewMeaning, IsNewRow, IsOwned, WhereMaking, item_end, kind_number, known_of}
 use Rattle.decl_sem.specs.declared.making.Made.{Made}
@@ -114,7 +115,7 @@ one_piece {s} {x} {y} shape row g (Ok place) a made rows is answers diags first 
 one_piece {s} {x} {y} shape row g (Err m) a made rows is answers diags first making laid new =
     record { works = Works-notes a x.notes y.notes answers diags; waits = tt; first = first; grown = tt; told = λ hand in_hand told same. tt; there = tt }
 
-at_context : (s : Site) (x y : Made) (g : Context → Makes Place) (result : Result Place Memory) (f : Frame) → ((hand : List Row) → hand ≡ x.rows.items → IsTold f.setting.texts → IfOk result (λ place. MakesAll x y (g (context_of f hand s)) place))
+at_context : (s : Site) (x y : Made) (g : Context → Makes Place) (result : Result Place Memory) (f : Frame) → ((hand : Hand) → hand.rows ≡ x.rows.items → IsFinished f.setting.texts hand.finished → IfOk result (λ place. MakesAll x y (g (context_of f hand s)) place))
     → IfOk result (λ place. WhereMaking f x (λ hand. MakesAll x y (g (context_of f hand s)) place))
 at_context s x y g (Ok place) f h = λ hand in_hand told same. h hand same told
 at_context s x y g (Err m) f h = tt
@@ -134,7 +135,7 @@ row_piece {s} {x} {y} at m result made rows is notes first a making h =
     (record { kind = refl; at = refl; name = sym (nameless_kept s.layout.now.names (next_ordinal x)) })
     (new_row a.frame s (next_ordinal x) 0 at m (some_names making) h)
   where
-    at_hand : (r : Result Place Memory) → IfOk r (λ place. (c : Context) → IsInHand c s x → MakesAll x y (makes_row c at m) place) → (hand : List Row) → hand ≡ x.rows.items → IsTold a.frame.setting.texts
+    at_hand : (r : Result Place Memory) → IfOk r (λ place. (c : Context) → IsInHand c s x → MakesAll x y (makes_row c at m) place) → (hand : Hand) → hand.rows ≡ x.rows.items → IsFinished a.frame.setting.texts hand.finished
         → IfOk r (λ place. MakesAll x y (makes_row (context_of a.frame hand s) at m) place)
     at_hand (Ok place) f hand same told = f (context_of a.frame hand s) (hand_is making hand same told)
     at_hand (Err e) f hand same told = tt
@@ -161,7 +162,7 @@ named_piece {s} {x} {y} i m result made rows is answers diags first a making som
     (record { kind = refl; at = refl; name = refl })
     (new_row a.frame s (next_ordinal x) (kept_name s.layout.now.names (next_ordinal x) i.name) i.at m (kept_small s.layout.now.names (next_ordinal x) i.name (length a.frame.setting.texts.names) known) h)
   where
-    at_hand : (r : Result Place Memory) → IfOk r (λ place. (c : Context) → IsInHand c s x → IsNext c i.name → MakesAll x y (makes_named c i.name i.at m) place) → (hand : List Row) → hand ≡ x.rows.items → IsTold a.frame.setting.texts
+    at_hand : (r : Result Place Memory) → IfOk r (λ place. (c : Context) → IsInHand c s x → IsNext c i.name → MakesAll x y (makes_named c i.name i.at m) place) → (hand : Hand) → hand.rows ≡ x.rows.items → IsFinished a.frame.setting.texts hand.finished
         → IfOk r (λ place. MakesAll x y (makes_named (context_of a.frame hand s) i.name i.at m) place)
     at_hand (Ok place) f hand same told = f (context_of a.frame hand s) (hand_is making hand same told) (hand_next making some hand same told)
     at_hand (Err e) f hand same told = tt

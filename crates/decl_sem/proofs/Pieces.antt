@@ -5,8 +5,9 @@ use Rattle.std.proofs.lemmas.List.{append_assoc, append-nil, length-append}
 use Rattle.std.specs.declared.alloc.Global.{Global}
 use Rattle.std.specs.declared.vec.Vec.{Vec}
 use Rattle.m2_base.specs.Asks.{IfKnown, IfWaits}
-use Rattle.m2_base.specs.Gives.{Gives}
-use Rattle.m2_base.specs.Lists.{Each}
+use Rattle.m2_base.specs.Finished.{IsFinished}
+use Rattle.m2_base.specs.Gives.{Adds, Gives}
+use Rattle.m2_base.specs.Lists.{Each, IsPrefixOf}
 use Rattle.m2_base.specs.Rows.{basic_of, natural, row_meaning, type_name_kind}
 use Rattle.m2_base.specs.States.{Frame, State, Waits, Works}
 use Rattle.m2_base.specs.Statics.Contexts.{Context}
@@ -23,12 +24,12 @@ use Rattle.m2_base.specs.declared.sites.Named.{Named}
 use Rattle.m2_base.specs.declared.sites.Site.{Site}
 use Rattle.m2_base.proofs.Kept.{IsPrefixOf-refl, Waits_after, Works-kept, Works-refl, Works-trans}
 use Rattle.type_rules.specs.Asks.{Reads, WhereKnown, WhereWaiting}
-use Rattle.type_rules.specs.Scenes.{AreInHand, NamesNoType}
-use Rattle.type_rules.specs.Sites.{AreOfSite, context_of}
+use Rattle.type_rules.specs.Scenes.{AreInHand, Hand, NamesNoType, WhereTold}
+use Rattle.type_rules.specs.Sites.{AreOfSite, SuitsSite, context_of}
 use Rattle.const_eval.specs.Analyses.{Analysed}
 use Rattle.decl_sem.specs.LaidRows.{AreLaid, HasFirsts, IsAhead, none_laid, more_laid}
 use Rattle.decl_sem.specs.Making.{MakesAll, next_ordinal}
-use Rattle.decl_sem.specs.Pieces.{AreNewRows, BeginsAt, Declares, Grown, IsMaking, IsOwned, WhereMaking, item_end}
+use Rattle.decl_sem.specs.Pieces.{AreNewRows, BeginsAt, Declares, Grown, IsMaking, holding, IsNewRow, IsOwned, WhereMaking, item_end}
 use Rattle.decl_sem.specs.declared.making.Made.{Made}
 use Rattle.decl_sem.proofs.FirstNames.{AreLaid-append, gone_on}
 use Rattle.decl_sem.proofs.Hands.{hand_with, hand_none, in_hand, of_this_site}
@@ -221,8 +222,8 @@ module _ {T U : Type 0} {a b d : State} {x y z : Made} {s : Site} {ss ts : List 
       same_frame : b.frame ≡ a.frame
       same_frame = p.works.keeps.frame
 
-      after : AreInHand a.frame y.rows.items
-      after = subst (λ (f : Frame). AreInHand f y.rows.items) same_frame (in_hand (making_on none making p))
+      after : (held : Hand) → held.rows ≡ y.rows.items → AreInHand a.frame held
+      after held same = subst (λ (f : Frame). AreInHand f held) same_frame (in_hand (making_on none making p) held same)
 
       later : WhereMaking a.frame y (λ hand. IfKnown answer (λ w. MakesAll y z (h v (context_of a.frame hand s)) w))
       later = subst (λ (f : Frame). WhereMaking f y (λ hand. IfKnown answer (λ w. MakesAll y z (h v (context_of f hand s)) w))) same_frame q.told
@@ -231,8 +232,8 @@ module _ {T U : Type 0} {a b d : State} {x y z : Made} {s : Site} {ss ts : List 
       both hand in_hand told same =
           let c = context_of a.frame hand s in
           let m = p.told hand in_hand told same in
-          let same_rows : hand ++ (g c).rows ≡ y.rows.items = ap (λ rows. rows ++ (g c).rows) same ∙ sym m.rows in
-          let r = later (hand ++ (g c).rows) (subst (λ (rows : List Row). AreInHand a.frame rows) (sym same_rows) after) told same_rows in
+          let same_rows : hand.rows ++ (g c).rows ≡ y.rows.items = ap (λ rows. rows ++ (g c).rows) same ∙ sym m.rows in
+          let r = later (holding hand (g c).rows) (after (holding hand (g c).rows) same_rows) told same_rows in
           if_known _ _ answer (λ w n. makes_then c (g c) (λ e u. h u e) m (subst (λ (k : Context). MakesAll y z (h v k) w) (sym (hand_with hand (g c).rows making.suits told)) n)) r
 
 -- the front of what is ahead
@@ -295,7 +296,7 @@ analysed {T} {a} {b} {x} {y} {s} answer {P} {Q} {g} making rows first stands p =
       first = first;
       grown = if_any answer (record { rows = []; more = ap (λ (v : Vec Row Global). v.items) rows ∙ sym (append-nil x.rows.items); laid = none_laid; new = tt });
       told = λ hand in_hand t same. if_known _ _ answer (λ v m. record { value_is = m.value_is; rows = ap (λ (v : Vec Row Global). v.items) rows ∙ sym (append-nil x.rows.items); diags = m.diags; answers = m.answers })
-          (p.told hand in_hand t (subst (λ (rows : List Row). AreOfSite s rows) (sym same) (of_this_site making)));
+          (p.told hand in_hand t (of_this_site making hand same));
       there = if_known _ _ answer stands p.there;
     }
 

@@ -17,10 +17,10 @@ use Rattle.m2_base.specs.declared.sites.Site.{Site}
 use Rattle.m2_base.proofs.Kept.{Each-append}
 use Rattle.m2_base.proofs.RowLaws.{HasSmallNumbers-fits}
 use Rattle.type_rules.specs.Asks.{WhereKnown}
-use Rattle.type_rules.specs.Scenes.{AreInHand, IsThere, NamesNoType, WhereTold}
+use Rattle.type_rules.specs.Scenes.{AreInHand, Hand, IsThere, NamesNoType, WhereTold}
 use Rattle.type_rules.specs.Sites.{context_of}
 use Rattle.decl_sem.specs.Making.{next_ordinal}
-use Rattle.decl_sem.specs.Pieces.{AreNewRows, IsBehind, IsMaking, IsNewRow, WhereMaking, item_end}
+use Rattle.decl_sem.specs.Pieces.{AreNewRows, IsBehind, IsMaking, IsNewRow, WhereMaking, holding, item_end}
 use Rattle.decl_sem.specs.declared.making.Made.{Made}
 use Rattle.decl_sem.proofs.Hands.{own_are}
 
@@ -84,19 +84,19 @@ own_before {f} {s} t making e =
 
 -- the row of a type in hand
 pub size_found : {f : Frame} {s : Site} {x : Made} {ss : List Shape} (t : Place) (r : Row) → IsMaking f s x ss → t.scope ≡ s.around.now.scope → x.first ≤ t.ordinal → slice_get x.rows.items (t.ordinal - x.first) ≡ Some r
-    → WhereMaking f x (λ hand. (more : List Row) → Each (λ r. NamesNoType (row_meaning r)) more → size_by (row_meaning r) ≡ size_of (context_of f (hand ++ more) s).scene t)
+    → WhereMaking f x (λ hand. (more : List Row) → Each (λ r. NamesNoType (row_meaning r)) more → size_by (row_meaning r) ≡ size_of (context_of f (holding hand more) s).scene t)
 size_found {f} {s} {x} t r making own from found hand in_hand told same more types =
-    let c = context_of f (hand ++ more) s in
+    let c = context_of f (holding hand more) s in
     let d : Row = row_of 0 0 Broken in
     let n = making.count in
     let at : t.ordinal ≡ length f.entered + (t.ordinal - x.first) = omega arith in
-    let here : slice_get hand (t.ordinal - x.first) ≡ Some r = ap (λ (rows : List Row). slice_get rows (t.ordinal - x.first)) same ∙ found in
+    let here : slice_get hand.rows (t.ordinal - x.first) ≡ Some r = ap (λ (rows : List Row). slice_get rows (t.ordinal - x.first)) same ∙ found in
     let row : row_at c.scene.tables t ≡ r =
     ap (λ (scope : ℕ). slice_index_or (slice_index_or c.scene.tables scope []) t.ordinal d) own
-    ∙ ap (λ (rows : List Row). slice_index_or rows t.ordinal d) (own_are {f = f} {s = s} (hand ++ more) making.suits told)
-    ∙ ap (λ (o : ℕ). slice_index_or (f.entered ++ (hand ++ more)) o d) at
-    ∙ index_behind f.entered (hand ++ more) (t.ordinal - x.first) d
-    ∙ index_front hand more (t.ordinal - x.first) r d here in
+    ∙ ap (λ (rows : List Row). slice_index_or rows t.ordinal d) (own_are {f = f} {s = s} (holding hand more) making.suits told)
+    ∙ ap (λ (o : ℕ). slice_index_or (f.entered ++ (hand.rows ++ more)) o d) at
+    ∙ index_behind f.entered (hand.rows ++ more) (t.ordinal - x.first) d
+    ∙ index_front hand.rows more (t.ordinal - x.first) r d here in
     sym (size_here c.scene t (own_before t making own) ∙ ap (λ (r : Row). size_by (row_meaning r)) row)
 
 -- ** A type whose row is entered
@@ -112,15 +112,15 @@ there_before {f} {s} {x} t making behind before =
           omega arith;
     }
 
-in_hand_more : {f : Frame} {s : Site} {x : Made} {ss : List Shape} (hand more : List Row) → IsMaking f s x ss → hand ≡ x.rows.items → Each (λ r. NamesNoType (row_meaning r)) more → AreInHand f (hand ++ more)
+in_hand_more : {f : Frame} {s : Site} {x : Made} {ss : List Shape} (hand : Hand) (more : List Row) → IsMaking f s x ss → hand.rows ≡ x.rows.items → Each (λ r. NamesNoType (row_meaning r)) more → AreInHand f (holding hand more)
 in_hand_more {f} {s} {x} hand more making same types =
     record {
       closed = λ e. absurd (let b = making.begun in let h : true ≡ false = sym e ∙ b in cc);
-      types = Each-append (λ (r : Row). NamesNoType (row_meaning r)) hand more (subst (λ (rows : List Row). Each (λ r. NamesNoType (row_meaning r)) rows) (sym same) making.types) types;
+      types = Each-append (λ (r : Row). NamesNoType (row_meaning r)) hand.rows more (subst (λ (rows : List Row). Each (λ r. NamesNoType (row_meaning r)) rows) (sym same) making.types) types;
     }
 
 pub size_entered : {f : Frame} {s : Site} {x : Made} {ss : List Shape} (t : Place) (answer : Ask ℕ) → IsMaking f s x ss
     → WhereTold f (λ made. WhereKnown answer (λ size. size ≡ size_of (context_of f made s).scene t))
-    → WhereMaking f x (λ hand. WhereKnown answer (λ size. (more : List Row) → Each (λ r. NamesNoType (row_meaning r)) more → size ≡ size_of (context_of f (hand ++ more) s).scene t))
-size_entered t (Known size) making all hand in_hand told same = λ more types. all (hand ++ more) (in_hand_more hand more making same types) told
+    → WhereMaking f x (λ hand. WhereKnown answer (λ size. (more : List Row) → Each (λ r. NamesNoType (row_meaning r)) more → size ≡ size_of (context_of f (holding hand more) s).scene t))
+size_entered t (Known size) making all hand in_hand told same = λ more types. all (holding hand more) (in_hand_more hand more making same types) told
 size_entered t (DontKnowYet head) making all hand in_hand told same = tt

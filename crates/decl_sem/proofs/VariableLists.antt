@@ -31,7 +31,7 @@ use Rattle.type_rules.specs.Asks.{Reads}
 use Rattle.type_rules.specs.Scenes.{NamesNoType}
 use Rattle.type_rules.specs.Sites.{context_of}
 use Rattle.decl_sem.specs.Making.{next_ordinal}
-use Rattle.decl_sem.specs.Pieces.{Declares, IsAny, IsBehind, IsMaking, IsNewMeaning, WhereMaking}
+use Rattle.decl_sem.specs.Pieces.{Declares, IsAny, IsBehind, IsMaking, IsNewMeaning, WhereMaking, holding}
 use Rattle.m2_base.specs.Statics.ReadTrees.{AreReadNames, IsReadName}
 use Rattle.decl_sem.specs.Variables.{IsCell, sized_rows}
 use Rattle.decl_sem.specs.declared.making.Made.{Made}
@@ -163,7 +163,7 @@ sized (i ∷ names) c t size cell has =
 
 -- the size of a type, where told
 abbrev pub IsSizeOf : Frame → Made → Site → Place → (size : ℕ) → Type 0
-IsSizeOf f x s t size = WhereMaking f x (λ hand. (more : List Row) → Each (λ r. NamesNoType (row_meaning r)) more → size ≡ size_of (context_of f (hand ++ more) s).scene t)
+IsSizeOf f x s t size = WhereMaking f x (λ hand. (more : List Row) → Each (λ r. NamesNoType (row_meaning r)) more → size ≡ size_of (context_of f (holding hand more) s).scene t)
 
 has_size : {f : Frame} {s : Site} {x : Made} {ss : List Shape} (t : Place) (size : ℕ) → IsMaking f s x ss → IsSizeOf f x s t size → WhereMaking f x (λ hand. HasSize (context_of f hand s) t size)
 has_size t size making is hand in_hand told same rows none =
@@ -174,7 +174,7 @@ size_asked : {a b : State} {x : Made} {s : Site} (t : Place) (size : ℕ) → Re
     → Declares a b x x s (Ok (Known size)) [] IsAny (λ c. makes (size_of c.scene t))
 size_asked {a} {b} {x} {s} t size reads is =
     asked x s (Known size) IsAny (λ c. size_of c.scene t) reads tt
-    (λ hand in_hand told same. is hand in_hand told same [] tt ∙ ap (λ (rows : List Row). size_of (context_of a.frame rows s).scene t) (append-nil hand)) tt
+    (λ hand in_hand told same. is hand in_hand told same [] tt ∙ ap (λ (rows : List Row). size_of (context_of a.frame (record { finished = hand.finished; rows = rows }) s).scene t) (append-nil hand.rows)) tt
 
 -- variables of a type, after the question for its size
 pub of_this_size : {a b : State} {x z : Made} {s : Site} (t : Place) (cell : ℕ) (names : List Ident) (size : ℕ) (answer : Result (Ask ℕ) Memory) → IsMaking a.frame s x (shapes names) → Reads a b → IsSizeOf a.frame x s t size
@@ -185,7 +185,7 @@ of_this_size {a} {b} {x} {z} {s} t cell names size answer making reads is piece 
     (λ hand in_hand told same.
     let c = context_of a.frame hand s in
     let has = has_size t size making is hand in_hand told same in
-    let one : size ≡ size_of c.scene t = is hand in_hand told same [] tt ∙ ap (λ (rows : List Row). size_of (context_of a.frame rows s).scene t) (append-nil hand) in
+    let one : size ≡ size_of c.scene t = is hand in_hand told same [] tt ∙ ap (λ (rows : List Row). size_of (context_of a.frame (record { finished = hand.finished; rows = rows }) s).scene t) (append-nil hand.rows) in
     sized names c t (size_of c.scene t) cell (subst (λ (n : ℕ). HasSize c t n) one has))
 
 pub size_waits : {a b : State} {x : Made} {s : Site} {ts : List Shape} {h : Context → Makes ℕ} (t : Place) (head : Head) → Reads a b → Waits a b head → Declares a b x x s (Ok (DontKnowYet head)) ts IsCell h

@@ -33,4 +33,4 @@ pub record DeclaresItem (old new : State) (s : Site) (answer : Result (Ask Decla
   pub shown : IfKnown answer (λ d. Each (IsAmong looks) d.notes.answers.items)
   pub laid : IfKnown answer (λ d. AreLaid s.layout.now.names (length old.frame.entered) shapes d.rows.items)
   pub new_rows : IfKnown answer (λ d. AreNewRows old.frame (item_end s) (length old.frame.entered) d.rows.items)
-  pub told : WhereTold old.frame (λ hand. hand ≡ [] → IfKnown answer (λ d. GivesAll d (given (context_of old.frame hand s))))
+  pub told : WhereTold old.frame (λ hand. hand.rows ≡ [] → IfKnown answer (λ d. GivesAll d (given (context_of old.frame hand s))))

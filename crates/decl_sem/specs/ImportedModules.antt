@@ -10,7 +10,7 @@ use Rattle.m2_base.specs.Units.{UnitTexts}
 use Rattle.m2_base.specs.declared.rows.Place.{Place}
 use Rattle.m2_base.specs.declared.rows.RowMeaning.TheVariants.{Alias}
 use Rattle.m2_base.specs.declared.trees.Ident.{Ident}
-use Rattle.type_rules.specs.Sites.{no_text}
+use Rattle.m2_base.specs.Finished.{no_text}
 
 -- a module that an import names has a scope before this one
 abbrev pub IsFromBefore : Source → (scope : ℕ) → items.Item → Type 0

@@ -19,7 +19,7 @@ use Rattle.m2_base.specs.declared.rows.RowMeaning.{RowMeaning}
 use Rattle.m2_base.specs.declared.rows.RowMeaning.TheVariants.{Field}
 use Rattle.m2_base.specs.declared.sites.Named.{Named}
 use Rattle.m2_base.specs.declared.sites.Site.{Site}
-use Rattle.type_rules.specs.Scenes.{NamesNoType, WhereTold}
+use Rattle.type_rules.specs.Scenes.{Hand, NamesNoType, WhereTold, hand}
 use Rattle.type_rules.specs.Sites.{SuitsSite, context_of}
 use Rattle.decl_sem.specs.LaidRows.{AreLaid, IsAhead}
 use Rattle.decl_sem.specs.Making.{MakesAll, next_ordinal}
@@ -117,8 +117,12 @@ pub record Grown (f : Frame) (s : Site) (before after : Made) (shapes : List Sha
   pub new : AreNewRows f (item_end s) (next_ordinal before) rows
 
 -- P of the rows in hand, where the texts are told
-abbrev pub WhereMaking : Frame → Made → (List Row → Type 0) → Type 0
-WhereMaking f made P = WhereTold f (λ hand. hand ≡ made.rows.items → P hand)
+abbrev pub WhereMaking : Frame → Made → (Hand → Type 0) → Type 0
+WhereMaking f made P = WhereTold f (λ held. held.rows ≡ made.rows.items → P held)
+
+-- with more rows in hand
+abbrev pub holding : Hand → List Row → Hand
+holding held more = hand held.finished (held.rows ++ more)
 
 -- Previous notes stay, and each answer noted was found by a search. The scope that the answer waits for is incomplete, and
 -- before the own one. Where the answer is known, rows of these shapes are made, and the value may stand behind them; where the

@@ -12,7 +12,7 @@ ghost use Rattle.type_rules.specs.Asks.{Reads, WhereKnown, WhereWaiting};
 ghost use Rattle.type_rules.specs.Scenes.{NamesNoType};
 ghost use Rattle.type_rules.specs.Sites.{context_of};
 ghost use Rattle.decl_sem.specs.Making.{next_ordinal};
-ghost use Rattle.decl_sem.specs.Pieces.{Declares, IsBehind, IsMaking, WhereMaking, known_of};
+ghost use Rattle.decl_sem.specs.Pieces.{Declares, IsBehind, IsMaking, WhereMaking, holding, known_of};
 ghost use Rattle.m2_base.specs.Statics.ReadTrees.{AreReadNames, IsReadType};
 ghost use Rattle.decl_sem.specs.Variables.{IsCell, sized_rows};
 
@@ -55,7 +55,7 @@ pub(crate) fn cells_of<S: Scopes>(scopes: &mut S, site: &Site, made: &Made, of: 
     ensures reads { Reads (S.state scopes.old) (S.state scopes.new) }
     ensures waits { WhereWaiting result (λ head. Waits (S.state scopes.old) (S.state scopes.new) head) }
     ensures told { WhereMaking (S.state scopes.old).frame made.now (λ hand. WhereKnown result (λ size. (more : List PlainRow) → Each (λ r. NamesNoType (row_meaning r)) more →
-        size ≡ spec_size (context_of (S.state scopes.old).frame (hand ++ more) site.now).scene of)) }
+        size ≡ spec_size (context_of (S.state scopes.old).frame (holding hand more) site.now).scene of)) }
     ensures small { WhereKnown result (λ size. size < 2 ^ 32) }
 {
     match row_in_hand(site, made, of) {

@@ -1,6 +1,6 @@
 -- What calls of Scopes leave as before and what grows, through calls one after another.
 use Rattle.std.proofs.Common.{◌≡◌, ℕ, ◌<◌, true, List, [], ◌∷◌, ◌++◌, Option, Some, None, refl, sym, ◌∙◌, ap, subst, arith, append_assoc, inl, inr}
-use Rattle.m2_base.specs.Finished.{IsTold}
+use Rattle.m2_base.specs.Finished.{WhereFinished}
 use Rattle.m2_base.specs.Gives.{Gives, gives, and_then, Adds}
 use Rattle.m2_base.specs.Lists.{IsPrefixOf, IsIn, Each, Grows}
 use Rattle.m2_base.specs.Rows.{Row, Place}
@@ -129,8 +129,8 @@ pub Works-trans5 : {a b c d e f : State} {x y z w v u : Notes} → Works a b x y
 Works-trans5 p q r s t = Works-trans (Works-trans4 p q r s) t
 
 -- what is told of the texts after a call is told of those before it
-pub told_before : {a b : State} {x y : Notes} (Q : UnitTexts → Type 0) → Works a b x y → (IsTold (texts_of b) → Q (texts_of b)) → IsTold (texts_of a) → Q (texts_of a)
-told_before {a} {b} Q w h = subst (λ (f : Frame). IsTold f.setting.texts → Q f.setting.texts) w.keeps.frame h
+pub told_before : {a b : State} {x y : Notes} (Q : UnitTexts → List (List Row) → Type 0) → Works a b x y → WhereFinished (texts_of b) (Q (texts_of b)) → WhereFinished (texts_of a) (Q (texts_of a))
+told_before {a} {b} Q w h = subst (λ (f : Frame). WhereFinished f.setting.texts (Q f.setting.texts)) w.keeps.frame h
 
 -- ** Waiting
 

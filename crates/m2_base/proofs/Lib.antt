@@ -4,6 +4,7 @@ pub mod ChainLaws
 pub mod FinishedLaws
 pub mod Kept
 pub mod KindTables
+pub mod LoneModules
 mod NameTexts
 pub mod NewLaws
 pub mod NoRepeats

@@ -1,42 +1,81 @@
--- What the texts of a unit mean for the tables: whether all can be read, and the rows that each scope has in the end.
--- Both are for plain modules so far: where a unit is anything else, it isn't told.
-use Rattle.std.specs.Prelude.{◌≡◌, ℕ, ◌+◌, ◌==◌, ◌||◌, if◌then◌else◌, Bool, true, false, List, [], ◌∷◌}
-use Rattle.std.specs.List.{list_any}
-use Rattle.m2_base.specs.PlainModules.{is_plain, variables_in}
-use Rattle.m2_base.specs.Rows.{Row, row_of, Var, Plain}
-use Rattle.m2_base.specs.Standard.{standard_rows, is_standard, integer}
-use Rattle.m2_base.specs.Units.{UnitTexts, TextOf}
+-- What the texts of a unit mean for the tables: the rows that each scope has in the end, where all texts can be read.
+use Rattle.std.specs.Prelude.{◌≡◌, ℕ, ◌+◌, ◌==◌, true, false, List, [], ◌∷◌, Option, Some, None, length, map, option_map, position, slice_get, slice_index_or}
+use Rattle.std.specs.List.{AllZip}
+use Rattle.m2_base.specs.Lists.{Each}
+use Rattle.m2_base.specs.Rows.{Row}
+use Rattle.m2_base.specs.Statics.BlockLimits.{is_procedure_word, limit_of}
+use Rattle.m2_base.specs.Statics.Blocks.{UnitTrees}
+use Rattle.m2_base.specs.Statics.Contexts.{DefinitionModule, Source}
+use Rattle.m2_base.specs.Statics.UnitRows.{unit_rows}
+use Rattle.m2_base.specs.Trees.{Stream}
+use Rattle.m2_base.specs.Units.{TextOf, UnitTexts}
+use Rattle.m2_base.specs.WholeTexts.{SpellsDefinition, SpellsMain}
 use Rattle.m2_base.specs.declared.token.Token.{Token}
 
-abbrev pub told_by : List TextOf → Bool
-told_by [] = false
-told_by (main ∷ []) = is_plain main.tokens
-told_by (main ∷ text ∷ texts) = false
+-- ** What is read of a unit's texts
 
--- no text of the unit has a syntax error
-unfoldable pub told : UnitTexts → Bool
-told u = told_by u.list
+-- the tokens of a text, if there is one
+abbrev pub tokens_in : Option TextOf → List Token
+tokens_in None = []
+tokens_in (Some t) = t.tokens
 
-abbrev pub IsTold : UnitTexts → Type 0
-IsTold u = told u ≡ true
+-- the text of this number
+abbrev pub tokens_of : UnitTexts → ℕ → List Token
+tokens_of u k = tokens_in (slice_get u.list k)
 
--- the name of a row: none, where it is a standard name or one of the rows before has it
-abbrev pub name_after : (rows : List Row) → (name : ℕ) → ℕ
-name_after rows name = if is_standard name || list_any (λ r. r.name == name) rows then 0 else name
+-- the main text
+abbrev pub main_tokens : UnitTexts → List Token
+main_tokens u = tokens_in (slice_get u.list 0)
 
--- the rows of variables, after these rows; each has the next cell
-abbrev pub variable_rows : (rows : List Row) → (cell : ℕ) → List Token → List Row
-variable_rows rows cell [] = []
-variable_rows rows cell (t ∷ variables) =
-    let row = row_of (name_after rows t.value) t.at (Var integer Plain cell) in
-    row ∷ variable_rows (row ∷ rows) (cell + 1) variables
+-- the scope of the main module: scope 0 has the standard rows, and the definition modules come first
+abbrev pub main_number : UnitTexts → ℕ
+main_number u = length u.order + 1
 
--- the scope of the main module
-abbrev pub main_rows : List TextOf → List Row
-main_rows [] = []
-main_rows (main ∷ texts) = variable_rows [] 0 (variables_in main.tokens)
+-- the scope of a definition text
+abbrev pub scope_in : (order : List ℕ) → Option ℕ → Option ℕ
+scope_in order None = None
+scope_in order (Some k) = option_map (λ n. n + 1) (position (λ x. x == k) order)
 
--- The rows of each scope in the end: of scope 0 the standard rows, of scope 1 those of the module's variables. It is
--- used where told.
-unfoldable pub finished : UnitTexts → List (List Row)
-finished u = standard_rows ∷ main_rows u.list ∷ []
+-- the scope of the own definition of an implementation module
+abbrev pub own_scope : UnitTexts → Option ℕ
+own_scope u = scope_in u.order u.own
+
+abbrev pub no_text : TextOf
+no_text = record { name = 0; definition = true; tokens = [] }
+
+-- the definition modules of a unit, in the order of their scopes
+abbrev pub definitions_of : UnitTexts → List DefinitionModule
+definitions_of u = map (λ k. record { name = (slice_index_or u.list k no_text).name; text = k }) u.order
+
+-- what the definitions read of a unit's texts
+abbrev pub source_of : UnitTexts → Source
+source_of u = record { spellings = u.names; definitions = definitions_of u }
+
+-- ** Finished rows
+
+-- These are the trees of a unit: its definition texts, in dependency order, spell one each, and the main text spells its blocks.
+-- No text has a syntax error, and the main text passes no limit on procedures.
+pub record AreRead (u : UnitTexts) (trees : UnitTrees) : Type 0 where
+  pub source : trees.source ≡ source_of u
+  pub own : trees.own ≡ own_scope u
+  pub definitions : AllZip (λ k tree. SpellsDefinition (tree ∷ []) (tokens_of u k)) u.order trees.definitions
+  pub main : SpellsMain (main_number u) trees.main (main_tokens u)
+  pub limits : limit_of (main_tokens u) ≡ None
+
+-- These are the finished rows of a unit: its texts have trees, and the declarations of these make the rows.
+pub record IsFinished (u : UnitTexts) (tables : List (List Row)) : Type 0 where
+  pub trees : UnitTrees
+  pub read : AreRead u trees
+  pub rows : tables ≡ unit_rows trees
+
+-- none of the tokens is the word PROCEDURE
+abbrev pub HasNoProcedure : List Token → Type 0
+HasNoProcedure tokens = Each (λ t. is_procedure_word t.kind ≡ false) tokens
+
+-- the trees of a unit of one text without procedures: that of the main module
+abbrev pub lone_trees : UnitTexts → Stream → UnitTrees
+lone_trees u tree = record { source = source_of u; own = None; definitions = []; main = tree ∷ [] }
+
+-- P of the finished rows, where no text has a syntax error
+abbrev pub WhereFinished : UnitTexts → (List (List Row) → Type 0) → Type 0
+WhereFinished u P = (tables : List (List Row)) → IsFinished u tables → P tables

@@ -14,7 +14,6 @@ pub mod Lists
 pub mod Meanings
 pub mod Names
 pub mod Operators
-pub mod PlainModules
 pub mod Positions
 pub mod Rows
 pub mod Runs

@@ -1,9 +1,9 @@
 -- The calls of Scopes: when each may be made, and what it leaves and answers.
 use Rattle.std.specs.Prelude.{◌≡◌, ◌≢◌, ◌⊎◌, ℕ, ◌+◌, ◌<◌, ◌≤◌, true, false, List, [], ◌∷◌, ◌++◌, Option, Some, None, length, slice_get, slice_index}
-use Rattle.m2_base.specs.Finished.{IsTold}
+use Rattle.m2_base.specs.Finished.{WhereFinished}
 use Rattle.m2_base.specs.Lists.{IsPrefixOf, IsIn, Each, WhereKept, HasNoRepeats}
 use Rattle.m2_base.specs.Rows.{Row, Place, at_place, IsWellFormed}
-use Rattle.m2_base.specs.States.{State, Look, IsLater, Keeps, mark_of, texts_of, fills_of, areas_of, others_of, finished_of, tables_of}
+use Rattle.m2_base.specs.States.{State, Look, IsLater, Keeps, mark_of, texts_of, fills_of, areas_of, others_of, tables_of}
 use Rattle.m2_base.specs.Tables.{Lacks, Settles, lookup, one_thread, reply_of_heads, rows_at}
 use Rattle.m2_base.specs.declared.replies.Ask.{Ask}
 use Rattle.m2_base.specs.declared.replies.Ask.TheVariants.{Known, DontKnowYet as Waiting}
@@ -78,9 +78,9 @@ Replied old new chain name (Found p r) = IsFound new chain name p r
 Replied old new chain name Absent = IsAbsent new chain name
 Replied old new chain name (DontKnowYet h) = IsUnknown old new chain name h
 
--- A search loads `heads`, each in this call, and its reply comes from the last. Where told, the reply is that of the
--- finished rows which these heads show; Found and Absent are those of all finished rows. Where nobody else changes the
--- tables, it is what one thread answers.
+-- A search loads `heads`, each in this call, and its reply comes from the last. Where the unit has finished rows, the reply is
+-- that of those which these heads show, and Found and Absent are those of all. Where nobody else changes the tables, it is what
+-- one thread answers.
 pub record Searched (old new : State) (at : ℕ) (chain : List ℕ) (name : ℕ) (reply : Reply) : Type 0 where
   pub heads : List Head
   pub taken : IsTaken chain heads reply
@@ -88,8 +88,8 @@ pub record Searched (old new : State) (at : ℕ) (chain : List ℕ) (name : ℕ)
   pub keeps : Keeps old new (looks_of at name chain heads reply)
   pub elsewhere : (s : ℕ) → (IsIn s chain → ⊥) → new.seen s ≡ old.seen s
   pub says : Replied old new chain name reply
-  pub lawful : IsTold (texts_of old) → reply ≡ reply_of_heads (finished_of old) heads name
-  pub settled : IsTold (texts_of old) → Settles reply (lookup (finished_of old) chain name)
+  pub lawful : WhereFinished (texts_of old) (λ tables. reply ≡ reply_of_heads tables heads name)
+  pub settled : WhereFinished (texts_of old) (λ tables. Settles reply (lookup tables chain name))
   pub alone : WhereKept (others_of old) (λ others. reply ≡ one_thread (tables_of old others) chain name)
 
 -- ** Fetch
@@ -103,11 +103,11 @@ pub record IsPast (old new : State) (p : Place) : Type 0 where
   pub complete : (new.seen p.scope).complete ≡ true
   pub short : (new.seen p.scope).count ≤ p.ordinal
   pub own : p.scope ≡ fills_of new → (new.frame.closed ≡ true) × (length new.frame.entered ≤ p.ordinal)
-  pub told : IsTold (texts_of old) → length (rows_at (finished_of old) p.scope) ≤ p.ordinal
+  pub told : WhereFinished (texts_of old) (λ tables. length (rows_at tables p.scope) ≤ p.ordinal)
 
 pub record IsFetched (old new : State) (p : Place) (r : Row) : Type 0 where
   pub shown : IsShown new p r
-  pub told : IsTold (texts_of old) → slice_get (rows_at (finished_of old) p.scope) p.ordinal ≡ Some r
+  pub told : WhereFinished (texts_of old) (λ tables. slice_get (rows_at tables p.scope) p.ordinal ≡ Some r)
 
 pub record IsNotYet (old new : State) (p : Place) (h : Head) : Type 0 where
   pub on : h.scope ≡ p.scope
@@ -126,14 +126,14 @@ pub record Fetched (old new : State) (p : Place) (answer : Ask (Option Row)) : T
 
 -- ** Enter and complete
 
--- The scope isn't complete and has room; the rows are well formed at their places, their names are new and differ, and where
--- told they are the next finished rows.
+-- The scope isn't complete and has room; the rows are well formed at their places, their names are new and differ, and they are
+-- the next finished rows, if the unit has such.
 pub record CanEnter (st : State) (rows : List Row) : Type 0 where
   pub open_yet : st.frame.closed ≡ false
   pub room : length st.frame.entered + length rows ≤ slice_index (areas_of st) (fills_of st)
   pub formed : (k : ℕ) (r : Row) → slice_get rows k ≡ Some r → IsWellFormed (length (texts_of st).names) (at_place (fills_of st) (length st.frame.entered + k)) r
   pub once : HasNoRepeats (λ r. r.name) (st.frame.entered ++ rows)
-  pub next : IsTold (texts_of st) → IsPrefixOf (st.frame.entered ++ rows) (rows_at (finished_of st) (fills_of st))
+  pub next : WhereFinished (texts_of st) (λ tables. IsPrefixOf (st.frame.entered ++ rows) (rows_at tables (fills_of st)))
 
 pub record Entered (old new : State) (rows : List Row) : Type 0 where
   pub frame : new.frame ≡ record { setting = old.frame.setting; entered = old.frame.entered ++ rows; closed = old.frame.closed }
@@ -142,10 +142,10 @@ pub record Entered (old new : State) (rows : List Row) : Type 0 where
   pub head : new.seen (fills_of old) ≡ record { count = length new.frame.entered; complete = false }
   pub elsewhere : (s : ℕ) → s ≢ fills_of old → new.seen s ≡ old.seen s
 
--- The scope isn't complete, and where told all its finished rows are entered.
+-- The scope isn't complete, and all its finished rows are entered, if the unit has such.
 pub record CanComplete (st : State) : Type 0 where
   pub open_yet : st.frame.closed ≡ false
-  pub all : IsTold (texts_of st) → st.frame.entered ≡ rows_at (finished_of st) (fills_of st)
+  pub all : WhereFinished (texts_of st) (λ tables. st.frame.entered ≡ rows_at tables (fills_of st))
 
 pub record Completed (old new : State) : Type 0 where
   pub frame : new.frame ≡ record { setting = old.frame.setting; entered = old.frame.entered; closed = true }

@@ -1,6 +1,5 @@
 -- What a value of Scopes holds, and how calls change it.
 use Rattle.std.specs.Prelude.{◌≡◌, ◌⊎◌, ℕ, ◌<◌, ◌≤◌, Bool, true, false, List, [], ◌∷◌, ◌++◌, Option, slice_set}
-use Rattle.m2_base.specs.Finished.{finished}
 use Rattle.m2_base.specs.Lists.{IsPrefixOf, Each, Grows}
 use Rattle.m2_base.specs.Rows.{Row}
 use Rattle.m2_base.specs.Tables.{Table}
@@ -59,10 +58,6 @@ areas_of st = st.frame.setting.areas
 
 abbrev pub others_of : State → Option (List Table)
 others_of st = st.frame.setting.others
-
--- the finished rows of the unit, used where told
-abbrev pub finished_of : State → List (List Row)
-finished_of st = finished (texts_of st)
 
 -- all tables, of a value that keeps the others
 abbrev pub tables_of : State → List Table → List Table

@@ -1,5 +1,8 @@
 //! Laws on the static rules, each the contract of a function that does nothing.
-ghost use Rattle.std.specs.Prelude.{◌≡◌, ◌<◌, ◌≤◌, ◌^◌, ℕ, List, Option, Some, true, length, flat_map, slice_get};
+ghost use Rattle.std.specs.Prelude.{◌≡◌, ◌<◌, ◌≤◌, ◌^◌, ℕ, List, [], Option, Some, None, true, length, flat_map, slice_get};
+ghost use Rattle.ll_grammar.specs.Texts.{Spells};
+ghost use Rattle.m2_base.specs.Finished.{AreRead, HasNoProcedure, IsFinished, lone_trees, main_tokens};
+ghost use Rattle.m2_base.specs.Grammar.{grammar, levels, stream};
 ghost use Rattle.m2_base.specs.Lists.{Each, HasNoRepeats, IsPrefixOf, WhereKept};
 ghost use Rattle.m2_base.specs.Names.{standard_names};
 ghost use Rattle.m2_base.specs.Rows.{Row, Place, at_place, IsWellFormed, IsValue};
@@ -16,12 +19,11 @@ ghost use Rattle.m2_base.specs.Statics.SoundTrees.{IsSoundItem};
 ghost use Rattle.m2_base.specs.Statics.Shapes.{item_shapes};
 ghost use Rattle.m2_base.specs.Statics.Types.{is_same, stands_for, range_of};
 ghost use Rattle.m2_base.specs.Statics.UnitRows.{unit_rows};
-ghost use Rattle.m2_base.specs.Grammar.{grammar, levels, stream};
 ghost use Rattle.m2_base.specs.Statics.ReadTrees.{IsReadItem, IsReadToken};
 ghost use Rattle.m2_base.specs.StreamsOf.{stream_of};
-ghost use Rattle.m2_base.specs.Trees.{Stream, StreamKind as KindOfStream};
+ghost use Rattle.m2_base.specs.Trees.{Stream as StreamTree, StreamKind as KindOfStream, Main};
+ghost use Rattle.m2_base.specs.Units.{UnitTexts};
 ghost use Rattle.m2_base.specs.declared.token.Token.{Token};
-ghost use Rattle.ll_grammar.specs.Texts.{Spells};
 
 /// That two types are the same is an equivalence.
 pub fn same_is_an_equivalence()
@@ -57,7 +59,7 @@ pub fn second_rows_are_nameless()
 
 /// The items of a stream are as read, where the tokens are that spell its tree; and then they are sound.
 pub fn items_are_read()
-    ensures read { (names : List (List ℕ)) (kind : KindOfStream) (tree : Stream) (tokens : List Token) → Spells grammar levels (stream kind) (stream_of kind) tree tokens → Each (IsReadToken names) tokens → Each (IsReadItem names) (items_of tree) }
+    ensures read { (names : List (List ℕ)) (kind : KindOfStream) (tree : StreamTree) (tokens : List Token) → Spells grammar levels (stream kind) (stream_of kind) tree tokens → Each (IsReadToken names) tokens → Each (IsReadItem names) (items_of tree) }
     ensures sound { (names : List (List ℕ)) (x : Item) → IsReadItem names x → IsSoundItem (length names) x }
 {}
 
@@ -66,4 +68,16 @@ pub fn items_are_read()
 pub fn rows_are_right()
     ensures blocks { (names : ℕ) (source : Source) (tables : List (List Row)) (b : BlockTree) → IsReady names source tables b → (k : ℕ) (r : Row) → slice_get (declare_block source tables b).rows k ≡ Some r → IsRight names (at_place b.block.scope k) r }
     ensures units { (names : List (List ℕ)) (u : UnitTrees) → IsPrefixOf standard_names names → 0 < length names → length names ≤ 2 ^ 32 → IsSoundText u.source → AreConsecutive 1 (blocks_of u) → Each (IsSoundBlock (length names) u.source) (blocks_of u) → AreRight (length names) (unit_rows u) }
+{}
+
+/// The texts of a unit have one list of trees at most, and so it has one list of finished rows at most.
+pub fn one_table()
+    ensures trees { (u : UnitTexts) (these those : UnitTrees) → AreRead u these → AreRead u those → these ≡ those }
+    ensures rows { (u : UnitTexts) (these those : List (List Row)) → IsFinished u these → IsFinished u those → these ≡ those }
+    ensures read { (u : UnitTexts) (trees : UnitTrees) (tables : List (List Row)) → AreRead u trees → IsFinished u tables → tables ≡ unit_rows trees }
+{}
+
+/// A unit of one text in which no procedure begins has the tree of its stream.
+pub fn lone_modules_are_read()
+    ensures { (u : UnitTexts) (tree : StreamTree) → u.order ≡ [] → u.own ≡ None → HasNoProcedure (main_tokens u) → Spells grammar levels (stream Main) (stream_of Main) tree (main_tokens u) → AreRead u (lone_trees u tree) }
 {}

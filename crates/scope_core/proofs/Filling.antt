@@ -6,7 +6,6 @@ use Rattle.std.proofs.lemmas.List.{length-set, set-get_or, length-replicate}
 use Rattle.std.proofs.lemmas.Bool.{cases_eq, false≢true}
 use Rattle.std.proofs.lemmas.Grind.{common_steps}
 use Rattle.m2_base.specs.declared.rows.Row.{Row}
-use Rattle.m2_base.specs.Finished.{finished}
 use Rattle.m2_base.specs.Rows.{at_place, IsWellFormed}
 use Rattle.m2_base.specs.Standard.{standard_rows}
 use Rattle.m2_base.specs.Units.{UnitTexts, IsUnit}
@@ -59,8 +58,8 @@ filled_sound p rows narrow sound can =
           (omega (arith, length-append (table_at p.tables p.fills).rows rows, can.room, narrow p.fills));
       once = set_each (λ k u. HasNoRepeats (λ r. r.name) u.rows) p.tables p.fills t sound.inside sound.once can.once;
       formed = set_each (λ s u. (k : ℕ) (r : Row) → slice_get u.rows k ≡ Some r → IsWellFormed (length p.texts.names) (at_place s k) r) p.tables p.fills t sound.inside sound.formed (formed_rows p rows sound can);
-      told = λ told. set_each (λ s u. IsBegun u (rows_at (finished p.texts) s)) p.tables p.fills t sound.inside (sound.told told)
-          (record { first = can.next told; whole = λ done. absurd (false≢true (sym can.open_yet ∙ done)) });
+      told = λ finished told. set_each (λ s u. IsBegun u (rows_at finished s)) p.tables p.fills t sound.inside (sound.told finished told)
+          (record { first = can.next finished told; whole = λ done. absurd (false≢true (sym can.open_yet ∙ done)) });
     }
 
 -- completing keeps it, too
@@ -75,8 +74,8 @@ closed_sound p sound can =
       small = set_each (λ k u. length u.rows < 2 ^ 32) p.tables p.fills t sound.inside sound.small (sound.small p.fills);
       once = set_each (λ k u. HasNoRepeats (λ r. r.name) u.rows) p.tables p.fills t sound.inside sound.once (sound.once p.fills);
       formed = set_each (λ s u. (k : ℕ) (r : Row) → slice_get u.rows k ≡ Some r → IsWellFormed (length p.texts.names) (at_place s k) r) p.tables p.fills t sound.inside sound.formed (sound.formed p.fills);
-      told = λ told. set_each (λ s u. IsBegun u (rows_at (finished p.texts) s)) p.tables p.fills t sound.inside (sound.told told)
-          (record { first = (sound.told told p.fills).first; whole = λ _. can.all told });
+      told = λ finished told. set_each (λ s u. IsBegun u (rows_at finished s)) p.tables p.fills t sound.inside (sound.told finished told)
+          (record { first = (sound.told finished told p.fills).first; whole = λ _. can.all finished told });
     }
 
 set-set : (tables : List Table) (s : ℕ) (t u : Table) → set (set tables s t) s u ≡ set tables s u
@@ -196,9 +195,9 @@ started_sound texts sizes unit several =
       once = first_each (λ s t. HasNoRepeats (λ r. r.name) t.rows) m HasNoRepeats-standard (λ s. HasNoRepeats-test (λ r. r.name) [] refl);
       formed = first_each (λ s t. (k : ℕ) (r : Row) → slice_get t.rows k ≡ Some r → IsWellFormed (length texts.names) (at_place s k) r) m
           (IsWellFormed-standard texts.names unit.standard) (λ s k r e. absurd (cc));
-      told = λ told. first_each (λ s t. IsBegun t (rows_at (finished texts) s)) m
-          (subst (λ rows. IsBegun standard_table rows) (sym (finished-standard texts)) (record { first = IsPrefixOf-refl standard_rows; whole = λ _. refl }))
-          (λ s. record { first = record { rest = rows_at (finished texts) s; joined = refl }; whole = λ done. absurd (false≢true done) });
+      told = λ finished told. first_each (λ s t. IsBegun t (rows_at finished s)) m
+          (subst (λ rows. IsBegun standard_table rows) (sym (finished-standard texts finished told)) (record { first = IsPrefixOf-refl standard_rows; whole = λ _. refl }))
+          (λ s. record { first = record { rest = rows_at finished s; joined = refl }; whole = λ done. absurd (false≢true done) });
     }
 
 -- the code's vectors, when scope 0 has its rows and is complete

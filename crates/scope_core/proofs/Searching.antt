@@ -10,7 +10,7 @@ use Rattle.m2_base.specs.declared.replies.Reply.{Reply}
 use Rattle.m2_base.specs.declared.replies.Reply.TheVariants.{Found, Absent, DontKnowYet}
 use Rattle.m2_base.specs.declared.replies.Ask.{Ask}
 use Rattle.m2_base.specs.declared.replies.Ask.TheVariants.{Known, DontKnowYet as Waiting}
-use Rattle.m2_base.specs.Finished.{IsTold, finished}
+use Rattle.m2_base.specs.Finished.{WhereFinished}
 use Rattle.m2_base.specs.Rows.{at_place}
 use Rattle.m2_base.specs.Lists.{Each}
 use Rattle.m2_base.specs.Tables.{table_at, rows_at, head_of, first_named, one_thread, reply_or, Lacks}
@@ -131,14 +131,14 @@ searched p at chain x reply sound is = subst (Searched (state_of p) (state_of p)
           keeps = record { frame = refl; seen = λ s. IsLater-refl _; grows = tt };
           elsewhere = λ s other. refl;
           says = replied p chain x sound;
-          lawful = λ told. lawful_heads p.tables (finished p.texts) chain x (sound.told told);
-          settled = λ told. one_thread_settles p.tables (finished p.texts) chain x (sound.told told);
+          lawful = λ finished told. lawful_heads p.tables finished chain x (sound.told finished told);
+          settled = λ finished told. one_thread_settles p.tables finished chain x (sound.told finished told);
           alone = ap (λ t. one_thread t chain x) (sym (put_back p.tables p.fills));
         }
 
-told_at : (p : Plain) (s k : ℕ) (r : Row) → IsSoundly p → slice_get (table_at p.tables s).rows k ≡ Some r → IsTold p.texts → slice_get (rows_at (finished p.texts) s) k ≡ Some r
-told_at p s k r sound e told =
-    let first = (sound.told told s).first in
+told_at : (p : Plain) (s k : ℕ) (r : Row) → IsSoundly p → slice_get (table_at p.tables s).rows k ≡ Some r → WhereFinished p.texts (λ finished. slice_get (rows_at finished s) k ≡ Some r)
+told_at p s k r sound e finished told =
+    let first = (sound.told finished told s).first in
     subst (λ rows. slice_get rows k ≡ Some r) first.joined (ahead (table_at p.tables s).rows first.rest k r e)
   where
     ahead : (xs ys : List Row) (k : ℕ) (r : Row) → slice_get xs k ≡ Some r → slice_get (xs ++ ys) k ≡ Some r
@@ -164,7 +164,7 @@ fetches p q None sound e = go (table_at p.tables q.scope).complete refl
           complete = done;
           short = past;
           own = λ same. (subst (λ j. (table_at p.tables j).complete ≡ true) same done, subst (λ j. length (table_at p.tables j).rows ≤ q.ordinal) same past);
-          told = λ told. subst (λ rows. length rows ≤ q.ordinal) ((sound.told told q.scope).whole done) past;
+          told = λ finished told. subst (λ rows. length rows ≤ q.ordinal) ((sound.told finished told q.scope).whole done) past;
         }
     go false still = record { on = refl; short = past; stops = stops_at p q.scope still }
 

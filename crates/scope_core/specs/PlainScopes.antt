@@ -1,6 +1,6 @@
 -- The Scopes of one thread: tables that nobody else changes.
 use Rattle.std.specs.Prelude.{◌≡◌, ℕ, ◌-◌, ◌<◌, ◌≤◌, ◌^◌, true, List, ◌∷◌, length, slice_set, slice_index, slice_get, replicate, Some, None}
-use Rattle.m2_base.specs.Finished.{IsTold, finished}
+use Rattle.m2_base.specs.Finished.{WhereFinished}
 use Rattle.m2_base.specs.Lists.{IsPrefixOf, HasNoRepeats}
 use Rattle.m2_base.specs.Rows.{at_place, IsWellFormed}
 use Rattle.m2_base.specs.declared.rows.Row.{Row}
@@ -42,7 +42,7 @@ pub record IsSoundly (p : Plain) : Type 0 where
   pub small : (s : ℕ) → length (table_at p.tables s).rows < 2 ^ 32
   pub once : (s : ℕ) → HasNoRepeats (λ r. r.name) (table_at p.tables s).rows
   pub formed : (s k : ℕ) (r : Row) → slice_get (table_at p.tables s).rows k ≡ Some r → IsWellFormed (length p.texts.names) (at_place s k) r
-  pub told : IsTold p.texts → (s : ℕ) → IsBegun (table_at p.tables s) (rows_at (finished p.texts) s)
+  pub told : WhereFinished p.texts (λ finished. (s : ℕ) → IsBegun (table_at p.tables s) (rows_at finished s))
 
 -- the same, with the room of the code's vectors
 pub record IsHoused (p : Plain) (rooms : List ℕ) : Type 0 where

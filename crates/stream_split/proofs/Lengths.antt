@@ -102,7 +102,7 @@ events_count s (t ∷ ts) =
     omega (arith, i, j, l)
 
 -- a stream has fewer tokens than `sizes` may count
-abbrev IsShort : StreamOf → Type 0
+abbrev pub IsShort : StreamOf → Type 0
 IsShort s = length s.tokens < 2 ^ 30
 
 procedures_short : (j : ℕ) (ps : List Enclosed) (es : List Event) → length es ≤ 4194304 → All IsShort (procedure_streams j ps es)
@@ -124,7 +124,7 @@ definitions_short : (names : List (List ℕ)) (texts : List TextOf) → Each (Is
 definitions_short names texts h j [] = All-nil IsShort
 definitions_short names texts h j (k ∷ order) = let i = text_short names texts h k in All-cons IsShort _ _ (omega (arith, i)) (definitions_short names texts h (suc j) order)
 
-unit_short : (u : UnitTexts) → IsUnit u → All IsShort (streams_of u)
+pub unit_short : (u : UnitTexts) → IsUnit u → All IsShort (streams_of u)
 unit_short u h =
     All-append IsShort (definition_streams 1 u.list u.order) (main_streams (main_number u) (main_tokens u)) (definitions_short u.names u.list h.texts 1 u.order) (main_short (main_number u) (main_tokens u) (text_short u.names u.list h.texts 0))
 

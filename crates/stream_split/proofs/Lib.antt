@@ -1,3 +1,4 @@
+pub mod ReadUnits
 pub mod Runs
 pub mod Picks
 pub mod Items

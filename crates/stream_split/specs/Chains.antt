@@ -1,12 +1,12 @@
 -- What surrounds a block: the scopes that its names are looked up in are its own, those of the procedures round it from the
 -- inside out, the module's, and that of the own definition of an implementation module. A definition module has its own alone.
-use Rattle.std.specs.Prelude.{ℕ, zero, suc, ◌+◌, ◌==◌, List, [], ◌∷◌, slice_get, Option, Some, None, option_map, position}
+use Rattle.std.specs.Prelude.{ℕ, zero, suc, List, [], ◌∷◌, slice_get, Option, Some, None}
 use Rattle.m2_base.specs.declared.sites.Around.{Around}
 use Rattle.m2_base.specs.declared.trees.declarations.StreamKind.{StreamKind}
 use Rattle.m2_base.specs.declared.trees.declarations.StreamKind.TheVariants.{Main, Definition, Procedure}
+pub use Rattle.m2_base.specs.Finished.{own_scope, scope_in}
 use Rattle.m2_base.specs.Statics.Blocks.{with_own}
 use Rattle.m2_base.specs.Statics.Contexts.{Block}
-use Rattle.m2_base.specs.Units.{UnitTexts}
 use Rattle.stream_split.specs.Streams.{StreamOf}
 
 -- the stream of this number
@@ -26,15 +26,6 @@ outer_of streams n = outer_in (stream_at streams n)
 abbrev pub chain_from : (count : ℕ) → List StreamOf → ℕ → List ℕ
 chain_from zero streams n = n ∷ []
 chain_from (suc count) streams n = n ∷ chain_from count streams (outer_of streams n)
-
--- the scope of a definition text
-abbrev pub scope_in : (order : List ℕ) → Option ℕ → Option ℕ
-scope_in order None = None
-scope_in order (Some k) = option_map (λ n. n + 1) (position (λ x. x == k) order)
-
--- the scope of the own definition of an implementation module
-abbrev pub own_scope : UnitTexts → Option ℕ
-own_scope u = scope_in u.order u.own
 
 -- the block of a stream, by its kind; the main module has the scope `home`
 abbrev pub block_by : StreamKind → (home : ℕ) → (own : Option ℕ) → List StreamOf → StreamOf → Block

@@ -1,9 +1,10 @@
 -- The streams of a unit: those of the definition modules in dependency order, which are whole texts, that of the main
 -- module, and those of the procedures in the order of their PROCEDURE tokens. Scope 0 has no stream.
-use Rattle.std.specs.Prelude.{ℕ, zero, suc, ◌+◌, List, [], ◌∷◌, ◌++◌, length, slice_get, Option, Some, None}
+use Rattle.std.specs.Prelude.{ℕ, zero, suc, List, [], ◌∷◌, ◌++◌, slice_get}
 use Rattle.m2_base.specs.declared.token.Token.{Token}
 use Rattle.m2_base.specs.declared.trees.declarations.StreamKind.{StreamKind}
 use Rattle.m2_base.specs.declared.trees.declarations.StreamKind.TheVariants.{Main, Definition, Procedure}
+pub use Rattle.m2_base.specs.Finished.{main_number, main_tokens, tokens_in}
 use Rattle.m2_base.specs.Units.{TextOf, UnitTexts}
 use Rattle.stream_split.specs.Cut.{Enclosed, Event, start, events, opened, pick}
 
@@ -34,11 +35,6 @@ abbrev pub main_streams : ℕ → List Token → List StreamOf
 main_streams m ts =
     let es : List Event = events (start m) ts in module_stream m (pick m es) ∷ procedure_streams (suc m) (opened (start m) ts) es
 
--- the tokens of a text, if there is one
-abbrev pub tokens_in : Option TextOf → List Token
-tokens_in None = []
-tokens_in (Some t) = t.tokens
-
 -- the stream of a definition text
 abbrev pub definition_stream : ℕ → ℕ → List Token → StreamOf
 definition_stream j k ts = record { stream = j; text = k; outer = 0; level = 0; kind = Definition; tokens = ts }
@@ -48,14 +44,6 @@ abbrev pub definition_streams : ℕ → List TextOf → List ℕ → List Stream
 definition_streams j texts [] = []
 definition_streams j texts (k ∷ order) =
     definition_stream j k (tokens_in (slice_get texts k)) ∷ definition_streams (suc j) texts order
-
--- the main text
-abbrev pub main_tokens : UnitTexts → List Token
-main_tokens u = tokens_in (slice_get u.list 0)
-
--- the number of the main module's stream
-abbrev pub main_number : UnitTexts → ℕ
-main_number u = length u.order + 1
 
 -- the streams of a unit, the first of which has the number 1
 abbrev pub streams_of : UnitTexts → List StreamOf

@@ -28,7 +28,7 @@ use Rattle.m2_base.proofs.Kept.{Works-trans, Works-kept, IsPrefixOf-refl, Each-m
 use Rattle.m2_base.proofs.RowLaws.{HasSmallNumbers-fits}
 use Rattle.m2_base.proofs.StandardLaws.{IsWellFormed-standard}
 use Rattle.type_rules.specs.Asks.{Reads}
-use Rattle.type_rules.specs.Scenes.{Suits, IsRowOf, WhereTold, rows_of, scene_of}
+use Rattle.type_rules.specs.Scenes.{Hand, IsRowOf, Suits, WhereTold, hand, rows_of, scene_of}
 use Rattle.type_rules.specs.Sites.{AreOfSite, Looked, CanLook, SuitsSite, context_of, source_of, definitions_of}
 use Rattle.type_rules.proofs.Counting.{counted_below}
 
@@ -149,8 +149,8 @@ can_whole f s xs same none suits =
 -- ** What is noted
 
 -- a found entry that isn't later, noted and followed
-pub outside_told : (answer : Result (Ask (Option Entry)) Memory) (f mid : Frame) (s : Site) (name at : ℕ) (e : Entry) (x y : Notes) (there : List Row → Option Entry) → mid ≡ f
-    → WhereTold f (λ made. there made ≡ Some e) → stands_later (context_of f [] s) at e ≡ false
+pub outside_told : (answer : Result (Ask (Option Entry)) Memory) (f mid : Frame) (s : Site) (name at : ℕ) (e : Entry) (x y : Notes) (there : Hand → Option Entry) → mid ≡ f
+    → WhereTold f (λ made. there made ≡ Some e) → stands_later (context_of f (hand [] []) s) at e ≡ false
     → IfOk answer (λ _. y.answers.items ≡ x.answers.items ++ answer_of name at e ∷ []) → y.diags.items ≡ x.diags.items
     → WhereTold mid (λ made. IfKnown answer (λ found. found ≡ Some (followed (scene_of mid made s.around.now) e)))
     → WhereTold f (λ made. IfKnown answer (λ entry. Adds x y (bound_outside (context_of f made s) name at (there made)) entry))
@@ -181,7 +181,7 @@ pub standard_told : (f : Frame) (s : Site) (name at : ℕ) (within : Option ℕ)
     → slice_get standard_rows (name + 10) ≡ Some e.1 → WhereTold f (λ made. AreOfSite s made → Adds n n (use_of (context_of f made s) within name at) (Some e))
 standard_told f s name at within e n suits none is place row made in_hand told of_site =
     let c = context_of f made s in
-    let agrees = suits.around.told told in
+    let agrees = suits.around.told made.finished told in
     let d : Row = row_of 0 0 Broken in
     let rows : rows_at (rows_of f made) 0 ≡ standard_rows = counted_below f made 0 agrees suits.around.inner ∙ agrees.standard in
     let here : row_at (rows_of f made) (standard_place name) ≡ e.1 = ap (λ xs. slice_index_or xs (name + 10) d) rows ∙ get_is standard_rows (name + 10) d e.1 row in

@@ -4,7 +4,7 @@ use Rattle.std.specs.Prelude.{slice_index_or, slice_get}
 use Rattle.std.proofs.Math.ListN.{get_or-append, get_or-eq_default}
 use Rattle.std.proofs.lemmas.List.{append-nil}
 use Rattle.std.proofs.lemmas.Option.{get_or_from_slice_get, slice_get_within}
-use Rattle.m2_base.specs.Finished.{IsTold, finished}
+use Rattle.m2_base.specs.Finished.{IsFinished}
 use Rattle.m2_base.specs.Rows.{row_of}
 use Rattle.m2_base.specs.Scopes.{Fetched}
 use Rattle.m2_base.specs.States.{State, Frame, texts_of}
@@ -16,16 +16,16 @@ use Rattle.m2_base.specs.declared.rows.Row.{Row}
 use Rattle.m2_base.specs.declared.rows.RowMeaning.TheVariants.{Broken}
 use Rattle.m2_base.specs.declared.sites.Around.{Around}
 use Rattle.type_rules.specs.Asks.{Reads}
-use Rattle.type_rules.specs.Scenes.{Suits, Agrees, AreInHand, IsThere, rows_of}
+use Rattle.type_rules.specs.Scenes.{Agrees, AreInHand, Hand, IsThere, Suits, hand, rows_of}
 
 -- ** Rows in hand
 
 -- none
-pub none_in_hand : (f : Frame) → AreInHand f []
-none_in_hand f = record { closed = λ closed. refl; types = tt }
+pub none_in_hand : (f : Frame) (finished : List (List Row)) → AreInHand f (hand finished [])
+none_in_hand f finished = record { closed = λ closed. refl; types = tt }
 
 -- after a question they are what they were
-pub still_in_hand : {a b : State} {made : List Row} → Reads a b → AreInHand a.frame made → AreInHand b.frame made
+pub still_in_hand : {a b : State} {made : Hand} → Reads a b → AreInHand a.frame made → AreInHand b.frame made
 still_in_hand {a} {b} {made} reads in_hand = subst (λ (f : Frame). AreInHand f made) (sym reads.keeps.frame) in_hand
 
 -- ** Rows that count
@@ -45,29 +45,29 @@ pub below_or_same : (a b : ℕ) → a ≤ b → (a < b) ⊎ (a ≡ b)
 below_or_same a b h = grind arith
 
 -- the rows of a scope before the own one are the finished ones
-pub counted_below : (f : Frame) (made : List Row) (s : ℕ) → Agrees f → s < f.setting.fills → rows_at (rows_of f made) s ≡ rows_at (finished f.setting.texts) s
-counted_below f made s agrees below = rows_below (finished f.setting.texts) (f.entered ++ made) f.setting.fills s below agrees.scopes
+pub counted_below : (f : Frame) (made : Hand) (s : ℕ) → Agrees f made.finished → s < f.setting.fills → rows_at (rows_of f made) s ≡ rows_at made.finished s
+counted_below f made s agrees below = rows_below made.finished (f.entered ++ made.rows) f.setting.fills s below agrees.scopes
 
 -- those of the own one are entered, or in hand
-pub counted_own : (f : Frame) (made : List Row) → Agrees f → rows_at (rows_of f made) f.setting.fills ≡ f.entered ++ made
-counted_own f made agrees = rows_here (finished f.setting.texts) (f.entered ++ made) f.setting.fills agrees.scopes
+pub counted_own : (f : Frame) (made : Hand) → Agrees f made.finished → rows_at (rows_of f made) f.setting.fills ≡ f.entered ++ made.rows
+counted_own f made agrees = rows_here made.finished (f.entered ++ made.rows) f.setting.fills agrees.scopes
 
 -- of a complete scope all are entered
-pub counted_closed : (f : Frame) (made : List Row) → Agrees f → AreInHand f made → f.closed ≡ true → rows_at (rows_of f made) f.setting.fills ≡ f.entered
+pub counted_closed : (f : Frame) (made : Hand) → Agrees f made.finished → AreInHand f made → f.closed ≡ true → rows_at (rows_of f made) f.setting.fills ≡ f.entered
 counted_closed f made agrees in_hand closed = counted_own f made agrees ∙ ap (λ rows. f.entered ++ rows) (in_hand.closed closed) ∙ append-nil f.entered
 
 -- ** The row at a place, which is entered or of a complete scope
 
-module _ (old new : State) (a : Around) (p : Place) (made : List Row) (suits : Suits old.frame a) (there : IsThere old.frame p) (in_hand : AreInHand old.frame made) where
-  pub row_read : (r : Row) → Fetched old new p (Known (Some r)) → IsTold (texts_of old) → r ≡ row_at (rows_of old.frame made) p
+module _ (old new : State) (a : Around) (p : Place) (made : Hand) (suits : Suits old.frame a) (there : IsThere old.frame p) (in_hand : AreInHand old.frame made) where
+  pub row_read : (r : Row) → Fetched old new p (Known (Some r)) → IsFinished (texts_of old) made.finished → r ≡ row_at (rows_of old.frame made) p
   row_read r fetched told =
       let f = old.frame in
-      let agrees = suits.told told in
+      let agrees = suits.told made.finished told in
       let d : Row = row_of 0 0 Broken in
       elim (below_or_same p.scope f.setting.fills there.scope) as (λ _. r ≡ row_at (rows_of f made) p) [
         | inl below ↦ sym (
             ap (λ rows. get_or rows p.ordinal d) (counted_below f made p.scope agrees below)
-            ∙ get_or_from_slice_get (rows_at (finished f.setting.texts) p.scope) p.ordinal r d (fetched.says.told told))
+            ∙ get_or_from_slice_get (rows_at made.finished p.scope) p.ordinal r d (fetched.says.told made.finished told))
         | inr same ↦ (
             let entered : slice_get f.entered p.ordinal ≡ Some r =
             subst (λ (g : Frame). slice_get g.entered p.ordinal ≡ Some r) fetched.keeps.frame
@@ -75,19 +75,19 @@ module _ (old new : State) (a : Around) (p : Place) (made : List Row) (suits : S
             sym (
             ap (λ s. get_or (rows_at (rows_of f made) s) p.ordinal d) same
             ∙ ap (λ rows. get_or rows p.ordinal d) (counted_own f made agrees)
-            ∙ get_or-append f.entered made d p.ordinal (slice_get_within f.entered p.ordinal r entered)
+            ∙ get_or-append f.entered made.rows d p.ordinal (slice_get_within f.entered p.ordinal r entered)
             ∙ get_or_from_slice_get f.entered p.ordinal r d entered))
       ]
 
-  pub row_past : Fetched old new p (Known None) → IsTold (texts_of old) → row_of 0 0 Broken ≡ row_at (rows_of old.frame made) p
+  pub row_past : Fetched old new p (Known None) → IsFinished (texts_of old) made.finished → row_of 0 0 Broken ≡ row_at (rows_of old.frame made) p
   row_past fetched told =
       let f = old.frame in
-      let agrees = suits.told told in
+      let agrees = suits.told made.finished told in
       let d : Row = row_of 0 0 Broken in
       elim (below_or_same p.scope f.setting.fills there.scope) as (λ _. d ≡ row_at (rows_of f made) p) [
         | inl below ↦ sym (
             ap (λ rows. get_or rows p.ordinal d) (counted_below f made p.scope agrees below)
-            ∙ get_or-eq_default (rows_at (finished f.setting.texts) p.scope) d (fetched.says.told told))
+            ∙ get_or-eq_default (rows_at made.finished p.scope) d (fetched.says.told made.finished told))
         | inr same ↦ (
             let past : (f.closed ≡ true) × (length f.entered ≤ p.ordinal) =
             subst (λ (g : Frame). (g.closed ≡ true) × (length g.entered ≤ p.ordinal)) fetched.keeps.frame

@@ -16,24 +16,23 @@ use Rattle.m2_base.specs.declared.memory.Memory.{Memory}
 use Rattle.m2_base.specs.declared.notes.Notes.{Notes}
 use Rattle.m2_base.specs.declared.replies.Ask.{Ask}
 use Rattle.m2_base.specs.declared.replies.Ask.TheVariants.{Known, DontKnowYet}
-use Rattle.m2_base.specs.declared.rows.Row.{Row}
 use Rattle.m2_base.specs.declared.sites.Named.{Named}
 use Rattle.m2_base.specs.declared.sites.Site.{Site}
-use Rattle.type_rules.specs.Scenes.{WhereTold, rows_of, scene_of}
+use Rattle.type_rules.specs.Scenes.{Hand, WhereTold, hand, rows_of, scene_of}
 use Rattle.type_rules.specs.Sites.{AreOfItem, AreOfSite, IsRefused, SuitsSite, context_of}
 use Rattle.type_rules.proofs.Binding.{below_not, rest_of}
 
 -- the scopes outside are others
-lacks_outside : (f : Frame) (s : Site) (made : List Row) (name : ℕ) → SuitsSite f s → IsIn f.setting.fills (drop 1 s.around.now.chain) → Lacks made name
+lacks_outside : (f : Frame) (s : Site) (made : Hand) (name : ℕ) → SuitsSite f s → IsIn f.setting.fills (drop 1 s.around.now.chain) → Lacks made.rows name
 lacks_outside f s made name suits on = absurd (below_not f.setting.fills (drop 1 s.around.now.chain) suits.down on)
 
 -- ** A name that is found in a chain
 
 pub found_told : (answer : Result (Ask (Option Entry)) Memory) (f mid : Frame) (s : Site) (chain : List ℕ) (code name at : ℕ) (e : Entry) (x y : Notes) → mid ≡ f
-    → WhereTold f (λ made. (IsIn f.setting.fills chain → Lacks made name) → Some e ≡ lookup (rows_of f made) chain name)
+    → WhereTold f (λ made. (IsIn f.setting.fills chain → Lacks made.rows name) → Some e ≡ lookup (rows_of f made) chain name)
     → IfOk answer (λ _. y.answers.items ≡ x.answers.items ++ answer_of name at e ∷ []) → y.diags.items ≡ x.diags.items
     → WhereTold mid (λ made. IfKnown answer (λ found. found ≡ Some (followed (scene_of mid made s.around.now) e)))
-    → WhereTold f (λ made. (IsIn f.setting.fills chain → Lacks made name) → IfKnown answer (λ entry. Adds x y (bound_or (context_of f made s) code name at (lookup (rows_of f made) chain name)) entry))
+    → WhereTold f (λ made. (IsIn f.setting.fills chain → Lacks made.rows name) → IfKnown answer (λ entry. Adds x y (bound_or (context_of f made s) code name at (lookup (rows_of f made) chain name)) entry))
 found_told (Ok (Known v)) f mid s chain code name at e x y same found noted kept asked made in_hand told lacks =
     let value : v ≡ Some (followed (scene_of f made s.around.now) e) =
     subst (λ (h : Frame). WhereTold h (λ rows. v ≡ Some (followed (scene_of h rows s.around.now) e))) same asked made in_hand told in
@@ -46,22 +45,22 @@ found_told (Err m) f mid s chain code name at e x y same found noted kept asked 
 
 -- what was found in the chain without its first scope
 pub outside_found : (f : Frame) (s : Site) (xs : List ℕ) (name : ℕ) (o : Option Entry) → xs ≡ s.around.now.chain → SuitsSite f s
-    → WhereTold f (λ made. (IsIn f.setting.fills (take (length xs - 1) (drop 1 xs)) → Lacks made name) → o ≡ lookup (rows_of f made) (take (length xs - 1) (drop 1 xs)) name)
+    → WhereTold f (λ made. (IsIn f.setting.fills (take (length xs - 1) (drop 1 xs)) → Lacks made.rows name) → o ≡ lookup (rows_of f made) (take (length xs - 1) (drop 1 xs)) name)
     → WhereTold f (λ made. lookup (rows_of f made) (drop 1 s.around.now.chain) name ≡ o)
 outside_found f s xs name o same suits found made in_hand told =
     let rest = rest_of s xs same in
     ap (λ chain. lookup (rows_of f made) chain name) (sym rest)
     ∙ sym (found made in_hand told (λ on. lacks_outside f s made name suits (subst (λ chain. IsIn f.setting.fills chain) rest on)))
 
-pub outside_none : (f : Frame) (s : Site) (name at : ℕ) (x y : Notes) (there : List Row → Option Entry) → WhereTold f (λ made. there made ≡ None)
+pub outside_none : (f : Frame) (s : Site) (name at : ℕ) (x y : Notes) (there : Hand → Option Entry) → WhereTold f (λ made. there made ≡ None)
     → IsRefused x y s.around.now.text at unknown_name → y.answers.items ≡ x.answers.items
     → WhereTold f (λ made. Adds x y (bound_outside (context_of f made s) name at (there made)) None)
 outside_none f s name at x y there none refused answers made in_hand told =
     subst (λ o. Adds x y (bound_outside (context_of f made s) name at o) None) (sym (none made in_hand told))
     (record { value_is = refl; diags = refused; answers = answers ∙ sym (append-nil x.answers.items) })
 
-pub outside_later : (f : Frame) (s : Site) (name at : ℕ) (e : Entry) (x y : Notes) (there : List Row → Option Entry) → WhereTold f (λ made. there made ≡ Some e)
-    → stands_later (context_of f [] s) at e ≡ true → y.answers.items ≡ x.answers.items ++ answer_of name at e ∷ [] → IsRefused x y s.around.now.text at used_before
+pub outside_later : (f : Frame) (s : Site) (name at : ℕ) (e : Entry) (x y : Notes) (there : Hand → Option Entry) → WhereTold f (λ made. there made ≡ Some e)
+    → stands_later (context_of f (hand [] []) s) at e ≡ true → y.answers.items ≡ x.answers.items ++ answer_of name at e ∷ [] → IsRefused x y s.around.now.text at used_before
     → WhereTold f (λ made. Adds x y (bound_outside (context_of f made s) name at (there made)) None)
 outside_later f s name at e x y there found later noted refused made in_hand told =
     let c = context_of f made s in
@@ -74,8 +73,8 @@ outside_later f s name at e x y there found later noted refused made in_hand tol
 
 module _ (answer : Result (Ask (Option Entry)) Memory) (f : Frame) (s : Site) (name at : ℕ) (x y : Notes) where
   pub earlier_told : (item : ℕ) (e : Named) (chain : List ℕ) → first_entry s.layout.now.names name ≡ Some e → e.item < item → chain ≡ s.around.now.scope ∷ [] → name ≢ 0
-      → WhereTold f (λ made. (IsIn f.setting.fills chain → Lacks made name) → IfKnown answer (λ entry. Adds x y (bound_or (context_of f made s) unknown_name name at (lookup (rows_of f made) chain name)) entry))
-      → WhereTold f (λ made. AreOfItem s.layout.now.names item made → IfKnown answer (λ entry. Adds x y (use_in_item (context_of f made s) item name at (first_entry s.layout.now.names name)) entry))
+      → WhereTold f (λ made. (IsIn f.setting.fills chain → Lacks made.rows name) → IfKnown answer (λ entry. Adds x y (bound_or (context_of f made s) unknown_name name at (lookup (rows_of f made) chain name)) entry))
+      → WhereTold f (λ made. AreOfItem s.layout.now.names item made.rows → IfKnown answer (λ entry. Adds x y (use_in_item (context_of f made s) item name at (first_entry s.layout.now.names name)) entry))
   earlier_told item e chain first earlier own named asked made in_hand told of_item =
       let c = context_of f made s in
       let there = bound_or c unknown_name name at (entry_in c.scene.tables c.scene.block.scope name) in
@@ -88,7 +87,7 @@ module _ (answer : Result (Ask (Option Entry)) Memory) (f : Frame) (s : Site) (n
   -- ** A name after a module's point
 
   pub within_told : (within : Option ℕ) (scope : ℕ) → within ≡ Some scope → scope < f.setting.fills
-      → WhereTold f (λ made. (IsIn f.setting.fills (scope ∷ []) → Lacks made name) → IfKnown answer (λ entry. Adds x y (bound_or (context_of f made s) not_declared_there name at (lookup (rows_of f made) (scope ∷ []) name)) entry))
+      → WhereTold f (λ made. (IsIn f.setting.fills (scope ∷ []) → Lacks made.rows name) → IfKnown answer (λ entry. Adds x y (bound_or (context_of f made s) not_declared_there name at (lookup (rows_of f made) (scope ∷ []) name)) entry))
       → WhereTold f (λ made. AreOfSite s made → IfKnown answer (λ entry. Adds x y (use_of (context_of f made s) within name at) entry))
   within_told within scope is below asked made in_hand told of_site =
       subst (λ w. IfKnown answer (λ entry. Adds x y (use_of (context_of f made s) w name at) entry)) (sym is)

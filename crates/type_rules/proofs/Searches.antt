@@ -2,11 +2,11 @@
 use Rattle.std.proofs.Common.{◌≡◌, ◌≢◌, inl, inr, ℕ, zero, suc, ◌+◌, ◌==◌, ◌<◌, ◌≤◌, ◌^◌, Bool, true, false, List, [], ◌∷◌, ◌++◌, Option, Some, None, length, refl, sym, ◌∙◌, ap, subst, arith, if◌then◌else◌}
 use Rattle.std.specs.Prelude.{slice_get, unwrap_or, option_map}
 use Rattle.std.proofs.lemmas.Bool.{true≢false}
-use Rattle.m2_base.specs.Finished.{IsTold, finished}
+use Rattle.m2_base.specs.Finished.{IsFinished}
 use Rattle.m2_base.specs.Lists.{IsIn, Each, Grows, WhereLast}
 use Rattle.m2_base.specs.Rows.{at_place, row_meaning, IsWellFormed}
 use Rattle.m2_base.specs.Scopes.{CanSearch, Searched, looks_of}
-use Rattle.m2_base.specs.States.{State, Frame, Look, IsAmong, Waits, texts_of, fills_of, finished_of}
+use Rattle.m2_base.specs.States.{State, Frame, Look, IsAmong, Waits, texts_of, fills_of}
 use Rattle.m2_base.specs.Statics.Contexts.{Scene}
 use Rattle.m2_base.specs.Statics.Lookup.{entry_in}
 use Rattle.m2_base.specs.Statics.Types.{named_or, type_named}
@@ -24,7 +24,7 @@ use Rattle.m2_base.specs.declared.sites.Around.{Around}
 use Rattle.m2_base.proofs.Kept.{Each-map}
 use Rattle.m2_base.proofs.RowLaws.{HasSmallNumbers-fits}
 use Rattle.type_rules.specs.Asks.{Reads}
-use Rattle.type_rules.specs.Scenes.{Suits, Agrees, AreInHand, IsRowOf, NamesNoType, rows_of}
+use Rattle.type_rules.specs.Scenes.{Agrees, AreInHand, Hand, IsRowOf, NamesNoType, Suits, rows_of}
 use Rattle.type_rules.specs.Sites.{CanLook, Looked, IsLookFor}
 use Rattle.type_rules.proofs.Counting.{below_or_same, counted_below, counted_closed, counted_own}
 
@@ -92,25 +92,25 @@ slice_within (x ∷ xs) zero r h = omega arith
 slice_within (x ∷ xs) (suc i) r h = let k = slice_within xs i r h in omega (arith, k)
 
 -- where nothing is entered of the name, and nothing in hand
-lacks_own : (f : Frame) (made : List Row) (name : ℕ) → Agrees f → Lacks f.entered name → Lacks made name → entry_in (rows_of f made) f.setting.fills name ≡ None
+lacks_own : (f : Frame) (made : Hand) (name : ℕ) → Agrees f made.finished → Lacks f.entered name → Lacks made.rows name → entry_in (rows_of f made) f.setting.fills name ≡ None
 lacks_own f made name agrees entered lacks =
     ap (λ rows. found_or f.setting.fills (first_named name rows 0) None) (counted_own f made agrees)
-    ∙ ap (λ o. found_or f.setting.fills o None) (first_behind name f.entered made 0 entered ∙ lacks_from name made 0 (0 + length f.entered) lacks)
+    ∙ ap (λ o. found_or f.setting.fills o None) (first_behind name f.entered made.rows 0 entered ∙ lacks_from name made.rows 0 (0 + length f.entered) lacks)
 
-settled_below : (f : Frame) (made : List Row) (s name : ℕ) → Agrees f → s < f.setting.fills → entry_in (rows_of f made) s name ≡ lookup (finished f.setting.texts) (s ∷ []) name
+settled_below : (f : Frame) (made : Hand) (s name : ℕ) → Agrees f made.finished → s < f.setting.fills → entry_in (rows_of f made) s name ≡ lookup made.finished (s ∷ []) name
 settled_below f made s name agrees below = ap (λ rows. found_or s (first_named name rows 0) None) (counted_below f made s agrees below)
 
-found_own : (f : Frame) (made : List Row) (name : ℕ) (p : Place) (r : Row) → Agrees f → lookup (finished f.setting.texts) (f.setting.fills ∷ []) name ≡ Some (p, r) → slice_get f.entered p.ordinal ≡ Some r
+found_own : (f : Frame) (made : Hand) (name : ℕ) (p : Place) (r : Row) → Agrees f made.finished → lookup made.finished (f.setting.fills ∷ []) name ≡ Some (p, r) → slice_get f.entered p.ordinal ≡ Some r
     → entry_in (rows_of f made) f.setting.fills name ≡ Some (p, r)
 found_own f made name p r agrees settled entered =
     let fills = f.setting.fills in
-    let full = rows_at (finished f.setting.texts) fills in
+    let full = rows_at made.finished fills in
     let first : first_named name full 0 ≡ Some (p.ordinal, r) = at_once fills (first_named name full 0) p r settled in
     let front : first_named name (f.entered ++ agrees.entered.rest) 0 ≡ Some (p.ordinal, r) = subst (λ rows. first_named name rows 0 ≡ Some (p.ordinal, r)) (sym agrees.entered.joined) first in
     let own : first_named name f.entered 0 ≡ Some (p.ordinal, r) = first_in_front name f.entered agrees.entered.rest 0 p.ordinal r front (let k = slice_within f.entered p.ordinal r entered in omega (arith, k)) in
     let place : at_place fills p.ordinal ≡ p = ap (λ s. at_place s p.ordinal) (sym (scope_once fills (first_named name full 0) p r settled)) in
     ap (λ rows. found_or fills (first_named name rows 0) None) (counted_own f made agrees)
-    ∙ ap (λ o. found_or fills o None) (first_front name f.entered made 0 p.ordinal r own)
+    ∙ ap (λ o. found_or fills o None) (first_front name f.entered made.rows 0 p.ordinal r own)
     ∙ ap (λ q. Some (q, r)) place
 
 -- ** What a search answers
@@ -118,15 +118,15 @@ found_own f made name p r agrees settled entered =
 pub can_search : (old : State) (a : Around) (s name : ℕ) → Suits old.frame a → s ≤ fills_of old → name ≢ 0 → CanSearch old (s ∷ []) name
 can_search old a s name suits inner named = record { short = omega arith; exist = (let e = suits.exist in omega (arith, e, inner), tt); named = named }
 
-module _ (old new : State) (a : Around) (at name : ℕ) (made : List Row) (suits : Suits old.frame a) (in_hand : AreInHand old.frame made) (told : IsTold (texts_of old)) where
+module _ (old new : State) (a : Around) (at name : ℕ) (made : Hand) (suits : Suits old.frame a) (in_hand : AreInHand old.frame made) (told : IsFinished (texts_of old) made.finished) where
   pub found_in : (s : ℕ) (p : Place) (r : Row) → s ≤ fills_of old → Searched old new at (s ∷ []) name (Found p r) → entry_in (rows_of old.frame made) s name ≡ Some (p, r)
   found_in s p r inner searched =
-      let agrees = suits.told told in
+      let agrees = suits.told made.finished told in
       elim (below_or_same s (fills_of old) inner) as (λ _. entry_in (rows_of old.frame made) s name ≡ Some (p, r)) [
-        | inl below ↦ settled_below old.frame made s name agrees below ∙ searched.settled told
+        | inl below ↦ settled_below old.frame made s name agrees below ∙ searched.settled made.finished told
         | inr same ↦ (
-            let settled : lookup (finished_of old) (fills_of old ∷ []) name ≡ Some (p, r) = subst (λ k. lookup (finished_of old) (k ∷ []) name ≡ Some (p, r)) same (searched.settled told) in
-            let scope : p.scope ≡ fills_of old = scope_once (fills_of old) (first_named name (rows_at (finished_of old) (fills_of old)) 0) p r settled in
+            let settled : lookup made.finished (fills_of old ∷ []) name ≡ Some (p, r) = subst (λ k. lookup made.finished (k ∷ []) name ≡ Some (p, r)) same (searched.settled made.finished told) in
+            let scope : p.scope ≡ fills_of old = scope_once (fills_of old) (first_named name (rows_at made.finished (fills_of old)) 0) p r settled in
             let entered : slice_get old.frame.entered p.ordinal ≡ Some r =
             subst (λ (f : Frame). slice_get f.entered p.ordinal ≡ Some r) searched.keeps.frame
             (searched.says.shown.own (scope ∙ ap (λ (f : Frame). f.setting.fills) (sym searched.keeps.frame))) in
@@ -135,9 +135,9 @@ module _ (old new : State) (a : Around) (at name : ℕ) (made : List Row) (suits
 
   pub absent_in : (s : ℕ) → s ≤ fills_of old → Searched old new at (s ∷ []) name Absent → entry_in (rows_of old.frame made) s name ≡ None
   absent_in s inner searched =
-      let agrees = suits.told told in
+      let agrees = suits.told made.finished told in
       elim (below_or_same s (fills_of old) inner) as (λ _. entry_in (rows_of old.frame made) s name ≡ None) [
-        | inl below ↦ settled_below old.frame made s name agrees below ∙ searched.settled told
+        | inl below ↦ settled_below old.frame made s name agrees below ∙ searched.settled made.finished told
         | inr same ↦ (
             let here : fills_of new ≡ s = ap (λ (f : Frame). f.setting.fills) searched.keeps.frame ∙ sym same in
             let own : (old.frame.closed ≡ true) × Lacks old.frame.entered name =
@@ -152,10 +152,10 @@ lacks_yet : (old new : State) (at name : ℕ) (chain : List ℕ) (h : Head) → 
 lacks_yet old new at name chain h searched same =
     subst (λ (f : Frame). Lacks f.entered name) searched.keeps.frame (searched.says.own (same ∙ ap (λ (f : Frame). f.setting.fills) (sym searched.keeps.frame)))
 
-unknown_in : (old new : State) (a : Around) (at name : ℕ) (made : List Row) (h : Head) → Suits old.frame a → Searched old new at (fills_of old ∷ []) name (DontKnowYet h) → h.scope ≡ fills_of old
-    → Lacks made name → IsTold (texts_of old) → entry_in (rows_of old.frame made) (fills_of old) name ≡ None
+unknown_in : (old new : State) (a : Around) (at name : ℕ) (made : Hand) (h : Head) → Suits old.frame a → Searched old new at (fills_of old ∷ []) name (DontKnowYet h) → h.scope ≡ fills_of old
+    → Lacks made.rows name → IsFinished (texts_of old) made.finished → entry_in (rows_of old.frame made) (fills_of old) name ≡ None
 unknown_in old new a at name made h suits searched same lacks told =
-    lacks_own old.frame made name (suits.told told) (lacks_yet old new at name (fills_of old ∷ []) h searched same) lacks
+    lacks_own old.frame made name (suits.told made.finished told) (lacks_yet old new at name (fills_of old ∷ []) h searched same) lacks
 
 -- ** A type that the module declares
 
@@ -173,8 +173,8 @@ no_type scene t s name (r ∷ made) n types = go (r.name == name) (no_type scene
     go false rest = rest
 
 -- so where the own scope lacks the name so far, it has no type of that name
-pub type_unknown : (old new : State) (a : Around) (at name s : ℕ) (made : List Row) (h : Head) → Suits old.frame a → AreInHand old.frame made → Searched old new at (s ∷ []) name (DontKnowYet h)
-    → h.scope ≡ fills_of old → IsTold (texts_of old) → (scene : Scene) (t : Place) → t ≡ named_or scene t (entry_in (rows_of old.frame made) s name)
+pub type_unknown : (old new : State) (a : Around) (at name s : ℕ) (made : Hand) (h : Head) → Suits old.frame a → AreInHand old.frame made → Searched old new at (s ∷ []) name (DontKnowYet h)
+    → h.scope ≡ fills_of old → IsFinished (texts_of old) made.finished → (scene : Scene) (t : Place) → t ≡ named_or scene t (entry_in (rows_of old.frame made) s name)
 type_unknown old new a at name s made h suits in_hand searched same told scene t =
     let f = old.frame in
     let fills = f.setting.fills in
@@ -182,9 +182,9 @@ type_unknown old new a at name s made h suits in_hand searched same told scene t
     let on : h.scope ≡ s = elim searched.says.on as (λ _. h.scope ≡ s) [ inl e ↦ e | inr e ↦ absurd e ] in
     sym (
     ap (λ k. named_or scene t (entry_in (rows_of f made) k name)) (sym on ∙ same)
-    ∙ ap (λ rows. named_or scene t (found_or fills (first_named name rows 0) None)) (counted_own f made (suits.told told))
-    ∙ ap (λ o. named_or scene t (found_or fills o None)) (first_behind name f.entered made 0 entered)
-    ∙ no_type scene t fills name made (0 + length f.entered) in_hand.types)
+    ∙ ap (λ rows. named_or scene t (found_or fills (first_named name rows 0) None)) (counted_own f made (suits.told made.finished told))
+    ∙ ap (λ o. named_or scene t (found_or fills o None)) (first_behind name f.entered made.rows 0 entered)
+    ∙ no_type scene t fills name made.rows (0 + length f.entered) in_hand.types)
 
 inside : (n s : ℕ) (chain : List ℕ) → Each (λ k. k ≤ n) chain → IsIn s chain → s ≤ n
 inside n s [] h on = absurd on
@@ -226,20 +226,20 @@ found_row old new a at name chain p r suits inner s o searched =
 -- ** A search in a chain
 
 -- the rows of the scopes of a chain are the finished ones, where the own scope is none of them or complete
-lookup_all : (f : Frame) (made : List Row) (name : ℕ) (chain : List ℕ) → Agrees f → AreInHand f made → Each (λ s. s ≤ f.setting.fills) chain → (IsIn f.setting.fills chain → f.closed ≡ true)
-    → lookup (rows_of f made) chain name ≡ lookup (finished f.setting.texts) chain name
+lookup_all : (f : Frame) (made : Hand) (name : ℕ) (chain : List ℕ) → Agrees f made.finished → AreInHand f made → Each (λ s. s ≤ f.setting.fills) chain → (IsIn f.setting.fills chain → f.closed ≡ true)
+    → lookup (rows_of f made) chain name ≡ lookup made.finished chain name
 lookup_all f made name [] agrees in_hand inner settled = refl
 lookup_all f made name (s ∷ chain) agrees in_hand inner settled =
-    let rest : lookup (rows_of f made) chain name ≡ lookup (finished f.setting.texts) chain name = lookup_all f made name chain agrees in_hand inner.1 (λ on. settled (inr on)) in
-    let here : rows_at (rows_of f made) s ≡ rows_at (finished f.setting.texts) s =
-    elim (below_or_same s f.setting.fills inner.0) as (λ _. rows_at (rows_of f made) s ≡ rows_at (finished f.setting.texts) s) [
+    let rest : lookup (rows_of f made) chain name ≡ lookup made.finished chain name = lookup_all f made name chain agrees in_hand inner.1 (λ on. settled (inr on)) in
+    let here : rows_at (rows_of f made) s ≡ rows_at made.finished s =
+    elim (below_or_same s f.setting.fills inner.0) as (λ _. rows_at (rows_of f made) s ≡ rows_at made.finished s) [
       | inl below ↦ counted_below f made s agrees below
       | inr same ↦ (
           let closed = settled (inl (sym same)) in
-          subst (λ k. rows_at (rows_of f made) k ≡ rows_at (finished f.setting.texts) k) (sym same) (counted_closed f made agrees in_hand closed ∙ agrees.whole closed))
+          subst (λ k. rows_at (rows_of f made) k ≡ rows_at made.finished k) (sym same) (counted_closed f made agrees in_hand closed ∙ agrees.whole closed))
     ] in
     ap (λ rows. found_or s (first_named name rows 0) (lookup (rows_of f made) chain name)) here
-    ∙ ap (λ o. found_or s (first_named name (rows_at (finished f.setting.texts) s) 0) o) rest
+    ∙ ap (λ o. found_or s (first_named name (rows_at made.finished s) 0) o) rest
 
 pub can_look : (st : State) (a : Around) (name : ℕ) (chain : List ℕ) → Suits st.frame a → CanLook st.frame chain → name ≢ 0 → CanSearch st chain name
 can_look st a name chain suits can named = record {
@@ -248,13 +248,13 @@ can_look st a name chain suits can named = record {
   named = named;
 }
 
-module _ (old new : State) (a : Around) (at name : ℕ) (chain : List ℕ) (made : List Row) (suits : Suits old.frame a) (can : CanLook old.frame chain) (in_hand : AreInHand old.frame made) (told : IsTold (texts_of old)) where
+module _ (old new : State) (a : Around) (at name : ℕ) (chain : List ℕ) (made : Hand) (suits : Suits old.frame a) (can : CanLook old.frame chain) (in_hand : AreInHand old.frame made) (told : IsFinished (texts_of old) made.finished) where
   pub found_on : (p : Place) (r : Row) → Searched old new at chain name (Found p r) → lookup (rows_of old.frame made) chain name ≡ Some (p, r)
   found_on p r searched =
       elim can.settled as (λ _. lookup (rows_of old.frame made) chain name ≡ Some (p, r)) [
         | inl own ↦ subst (λ c. lookup (rows_of old.frame made) c name ≡ Some (p, r)) (sym own) (
             found_in old new a at name made suits in_hand told (fills_of old) p r (omega arith) (subst (λ c. Searched old new at c name (Found p r)) own searched))
-        | inr closed ↦ lookup_all old.frame made name chain (suits.told told) in_hand can.inner closed ∙ searched.settled told
+        | inr closed ↦ lookup_all old.frame made name chain (suits.told made.finished told) in_hand can.inner closed ∙ searched.settled made.finished told
       ]
 
   pub absent_on : Searched old new at chain name Absent → lookup (rows_of old.frame made) chain name ≡ None
@@ -262,10 +262,10 @@ module _ (old new : State) (a : Around) (at name : ℕ) (chain : List ℕ) (made
       elim can.settled as (λ _. lookup (rows_of old.frame made) chain name ≡ None) [
         | inl own ↦ subst (λ c. lookup (rows_of old.frame made) c name ≡ None) (sym own) (
             absent_in old new a at name made suits in_hand told (fills_of old) (omega arith) (subst (λ c. Searched old new at c name Absent) own searched))
-        | inr closed ↦ lookup_all old.frame made name chain (suits.told told) in_hand can.inner closed ∙ searched.settled told
+        | inr closed ↦ lookup_all old.frame made name chain (suits.told made.finished told) in_hand can.inner closed ∙ searched.settled made.finished told
       ]
 
-  pub unknown_on : (h : Head) → Searched old new at chain name (DontKnowYet h) → h.scope ≡ fills_of old → (IsIn (fills_of old) chain → Lacks made name) → lookup (rows_of old.frame made) chain name ≡ None
+  pub unknown_on : (h : Head) → Searched old new at chain name (DontKnowYet h) → h.scope ≡ fills_of old → (IsIn (fills_of old) chain → Lacks made.rows name) → lookup (rows_of old.frame made) chain name ≡ None
   unknown_on h searched same lacks =
       let on : IsIn (fills_of old) chain = subst (λ s. IsIn s chain) same searched.says.on in
       elim can.settled as (λ _. lookup (rows_of old.frame made) chain name ≡ None) [

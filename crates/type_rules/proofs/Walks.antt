@@ -14,7 +14,7 @@ use Rattle.m2_base.specs.declared.rows.Row.{Row}
 use Rattle.m2_base.specs.declared.rows.RowMeaning.TheVariants.{Broken}
 use Rattle.m2_base.specs.declared.sites.Around.{Around}
 use Rattle.type_rules.specs.Forms.{parameters_from}
-use Rattle.type_rules.specs.Scenes.{WhereTold, rows_of, scene_of}
+use Rattle.type_rules.specs.Scenes.{Hand, WhereTold, rows_of, scene_of}
 use Rattle.std.proofs.Math.ListN.{get_or-eq_default}
 
 -- the items from an ordinal up to another
@@ -70,7 +70,7 @@ read_before f mid of i row same read = subst (λ (g : Frame). IsReadAt g of i ro
 
 module _ (f : Frame) (a : Around) (of : Place) (first name : ℕ) where
   -- the field of this name from an ordinal on
-  abbrev pub field_from : (made : List Row) (i : ℕ) → Option Row
+  abbrev pub field_from : (made : Hand) (i : ℕ) → Option Row
   field_from made i = find (is_field of.ordinal name) (rows_between (scene_of f made a) of.scope i of.ordinal)
 
   pub field_found : (i : ℕ) (row : Row) → IsReadAt f of i row → i < of.ordinal → is_field of.ordinal name row ≡ true → WhereTold f (λ made. field_from made i ≡ field_from made first)

@@ -1,6 +1,6 @@
 -- What a block sees of the scopes, and when the scopes suit its questions.
 use Rattle.std.specs.Prelude.{◌≡◌, ℕ, ◌<◌, ◌≤◌, ◌^◌, true, false, List, [], ◌∷◌, ◌++◌, length, take}
-use Rattle.m2_base.specs.Finished.{IsTold, finished}
+use Rattle.m2_base.specs.Finished.{IsFinished, WhereFinished}
 use Rattle.m2_base.specs.Lists.{Each, IsPrefixOf, WhereKept}
 use Rattle.m2_base.specs.Names.{standard_names}
 use Rattle.m2_base.specs.Standard.{standard_rows}
@@ -21,13 +21,21 @@ use Rattle.m2_base.specs.declared.sites.Around.{Around}
 abbrev pub block_of : Around → Block
 block_of a = record { scope = a.scope; text = a.text; level = a.level; home = a.module; own = a.own; chain = a.chain }
 
--- The rows that count: of the scopes before the own one all; of the own one those that are entered, and after them those in
--- hand, which are made but not entered yet.
-abbrev pub rows_of : Frame → (made : List Row) → List (List Row)
-rows_of f made = take f.setting.fills (finished f.setting.texts) ++ (f.entered ++ made) ∷ []
+-- What counts beside the rows that are entered: the finished rows, of the scopes before the own one, and rows in hand, which are
+-- made but not entered yet.
+pub record Hand : Type 0 where
+  pub finished : List (List Row)
+  pub rows : List Row
+
+abbrev pub hand : (finished : List (List Row)) → (rows : List Row) → Hand
+hand finished rows = record { finished = finished; rows = rows }
+
+-- The rows that count: of the scopes before the own one all; of the own one those that are entered, and after them those in hand.
+abbrev pub rows_of : Frame → (made : Hand) → List (List Row)
+rows_of f made = take f.setting.fills made.finished ++ (f.entered ++ made.rows) ∷ []
 
 -- a block and the rows that count there
-abbrev pub scene_of : Frame → (made : List Row) → Around → Scene
+abbrev pub scene_of : Frame → (made : Hand) → Around → Scene
 scene_of f made a = record { block = block_of a; tables = rows_of f made }
 
 -- not the row of a type's name
@@ -36,22 +44,22 @@ NamesNoType (TypeName t) = ⊥
 NamesNoType other = Unit {0}
 
 -- Rows can be in hand: a complete scope has none, and none of them is that of a type's name, which is the last of its item.
-pub record AreInHand (f : Frame) (made : List Row) : Type 0 where
-  pub closed : f.closed ≡ true → made ≡ []
-  pub types : Each (λ r. NamesNoType (row_meaning r)) made
+pub record AreInHand (f : Frame) (made : Hand) : Type 0 where
+  pub closed : f.closed ≡ true → made.rows ≡ []
+  pub types : Each (λ r. NamesNoType (row_meaning r)) made.rows
 
--- P of any rows in hand, where the unit is told
-abbrev pub WhereTold : Frame → (List Row → Type 0) → Type 0
-WhereTold f P = (made : List Row) → AreInHand f made → IsTold f.setting.texts → P made
+-- P of any rows in hand beside the finished rows, where no text has a syntax error
+abbrev pub WhereTold : Frame → (Hand → Type 0) → Type 0
+WhereTold f P = (made : Hand) → AreInHand f made → IsFinished f.setting.texts made.finished → P made
 
--- What holds of the scopes where the texts are told: the finished rows of the scopes before are there, scope 0 is the standard
--- one, each scope has fewer rows than numbers of 32 bits, and what is entered is the beginning of the own scope's rows, in the end the whole.
-pub record Agrees (f : Frame) : Type 0 where
-  pub scopes : f.setting.fills < length (finished f.setting.texts)
-  pub standard : rows_at (finished f.setting.texts) 0 ≡ standard_rows
-  pub few : (s : ℕ) → length (rows_at (finished f.setting.texts) s) < 2 ^ 32
-  pub entered : IsPrefixOf f.entered (rows_at (finished f.setting.texts) f.setting.fills)
-  pub whole : f.closed ≡ true → f.entered ≡ rows_at (finished f.setting.texts) f.setting.fills
+-- What holds of the scopes and the finished rows: those of the scopes before are there, scope 0 is the standard one, each scope
+-- has fewer rows than numbers of 32 bits, and what is entered is the beginning of the own scope's rows, in the end the whole.
+pub record Agrees (f : Frame) (finished : List (List Row)) : Type 0 where
+  pub scopes : f.setting.fills < length finished
+  pub standard : rows_at finished 0 ≡ standard_rows
+  pub few : (s : ℕ) → length (rows_at finished s) < 2 ^ 32
+  pub entered : IsPrefixOf f.entered (rows_at finished f.setting.fills)
+  pub whole : f.closed ≡ true → f.entered ≡ rows_at finished f.setting.fills
 
 -- The scopes suit a block: they fill its scope, and have all scopes before it; the module and the own definition are no later
 -- scopes.
@@ -63,7 +71,7 @@ pub record Suits (f : Frame) (a : Around) : Type 0 where
   pub standard : IsPrefixOf standard_names f.setting.texts.names
   pub home : a.module ≤ f.setting.fills
   pub own : WhereKept a.own (λ s. s < f.setting.fills)
-  pub told : IsTold f.setting.texts → Agrees f
+  pub told : WhereFinished f.setting.texts (Agrees f)
 
 -- The place of a type can be asked for: its scope isn't above the block's, and where it is of the own scope, which isn't
 -- complete, its row is entered.

@@ -1,15 +1,15 @@
 -- Where a name is used, and what a search for it leaves.
-use Rattle.std.specs.Prelude.{◌≡◌, ◌≢◌, ◌⊎◌, ℕ, ◌<◌, ◌≤◌, nat_lt, if◌then◌else◌, true, List, [], ◌∷◌, ◌++◌, Option, Some, None, length, drop, map, slice_index_or}
+use Rattle.std.specs.Prelude.{◌≡◌, ◌≢◌, ◌⊎◌, ℕ, ◌<◌, ◌≤◌, nat_lt, if◌then◌else◌, true, List, [], ◌∷◌, ◌++◌, Option, Some, None, length, drop}
 use Rattle.std.specs.Option.{IfSome}
+pub use Rattle.m2_base.specs.Finished.{definitions_of, source_of}
 use Rattle.m2_base.specs.Lists.{IsIn, Each, WhereLast}
 use Rattle.m2_base.specs.Rows.{row_meaning}
 use Rattle.m2_base.specs.Standard.{is_standard}
 use Rattle.m2_base.specs.States.{State, Frame, Look, Keeps, IsAmong}
-use Rattle.m2_base.specs.Statics.Contexts.{Context, DefinitionModule, Source}
+use Rattle.m2_base.specs.Statics.Contexts.{Context}
 use Rattle.m2_base.specs.Statics.Lookup.{Entry, first_entry}
 use Rattle.m2_base.specs.Statics.Uses.{answer_of}
 use Rattle.m2_base.specs.Tables.{Lacks}
-use Rattle.m2_base.specs.Units.{UnitTexts, TextOf}
 use Rattle.m2_base.specs.declared.notes.Answer.{Answer}
 use Rattle.m2_base.specs.declared.notes.Notes.{Notes}
 use Rattle.m2_base.specs.declared.replies.Ask.{Ask}
@@ -22,21 +22,10 @@ use Rattle.m2_base.specs.declared.rows.RowMeaning.TheVariants.{Alias}
 use Rattle.m2_base.specs.declared.sites.Named.{Named}
 use Rattle.m2_base.specs.declared.sites.Site.{Site}
 use Rattle.type_rules.specs.Asks.{WhereKnown}
-use Rattle.type_rules.specs.Scenes.{Suits, scene_of}
-
-abbrev pub no_text : TextOf
-no_text = record { name = 0; definition = true; tokens = [] }
-
--- the definition modules of a unit, in the order of their scopes
-abbrev pub definitions_of : UnitTexts → List DefinitionModule
-definitions_of u = map (λ k. record { name = (slice_index_or u.list k no_text).name; text = k }) u.order
-
--- what the definitions read of a unit's texts
-abbrev pub source_of : UnitTexts → Source
-source_of u = record { spellings = u.names; definitions = definitions_of u }
+use Rattle.type_rules.specs.Scenes.{Hand, Suits, scene_of}
 
 -- the place where a name stands, as the definitions see it
-abbrev pub context_of : Frame → (made : List Row) → Site → Context
+abbrev pub context_of : Frame → (made : Hand) → Site → Context
 context_of f made s = record { source = source_of s.texts.now; scene = scene_of f made s.around.now; layout = s.layout.now.names; item = s.item }
 
 -- rows of an item: none has a name that the layout first gives to an earlier item
@@ -44,8 +33,8 @@ pub record AreOfItem (layout : List Named) (item : ℕ) (made : List Row) : Type
   pub lack : (name : ℕ) (e : Named) → name ≢ 0 → first_entry layout name ≡ Some e → e.item < item → Lacks made name
 
 -- rows of the item in which a name stands
-abbrev pub AreOfSite : Site → List Row → Type 0
-AreOfSite s made = IfSome s.item (λ item. AreOfItem s.layout.now.names item made)
+abbrev pub AreOfSite : Site → Hand → Type 0
+AreOfSite s made = IfSome s.item (λ item. AreOfItem s.layout.now.names item made.rows)
 
 -- The scopes suit a site: its texts are theirs, its chain has the own scope and then scopes before it, and where it stands in no
 -- declaration the own scope is complete.

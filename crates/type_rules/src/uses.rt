@@ -140,7 +140,7 @@ fn bound_or<S: Scopes>(
     ensures waits { IfWaits result (λ head. Waits (S.state scopes.old) (S.state scopes.new) head) }
     ensures asked { IfWaits result (λ head. IsAskedIn (S.state scopes.new) notes.new at name chain.now head) }
     ensures told { WhereTold (S.state scopes.old).frame (λ made.
-        (IsIn (fills_of (S.state scopes.old)) chain.now → Lacks made name) →
+        (IsIn (fills_of (S.state scopes.old)) chain.now → Lacks made.rows name) →
         IfKnown result (λ entry. Adds notes.old notes.new (spec_bound_or (context_of (S.state scopes.old).frame made site.now) code name at (lookup (rows_of (S.state scopes.old).frame made) chain.now name)) entry)) }
     ensures none { IfKnown result (λ entry. MatchOption entry (length notes.new.diags.items ≡ length notes.old.diags.items + 1) (λ _. notes.new.diags.items ≡ notes.old.diags.items)) }
     ensures row { IfKnown result (λ entry. IfSome entry (λ entry. IsRowOf (S.state scopes.old).frame entry.0 entry.1)) }
@@ -230,7 +230,7 @@ fn use_in_item<S: Scopes>(
     ensures waits { IfWaits result (λ head. Waits (S.state scopes.old) (S.state scopes.new) head) }
     ensures asked { IfWaits result (λ head. IsAskedIn (S.state scopes.new) notes.new at name (chain_in_item site.now item (first_entry site.now.layout.now.names name)) head) }
     ensures told { WhereTold (S.state scopes.old).frame (λ made.
-        AreOfItem site.now.layout.now.names item made →
+        AreOfItem site.now.layout.now.names item made.rows →
         IfKnown result (λ entry. Adds notes.old notes.new (spec_use_in_item (context_of (S.state scopes.old).frame made site.now) item name at (first_entry site.now.layout.now.names name)) entry)) }
     ensures none { IfKnown result (λ entry. MatchOption entry (length notes.new.diags.items ≡ length notes.old.diags.items + 1) (λ _. notes.new.diags.items ≡ notes.old.diags.items)) }
     ensures row { IfKnown result (λ entry. IfSome entry (λ entry. IsRowOf (S.state scopes.old).frame entry.0 entry.1)) }

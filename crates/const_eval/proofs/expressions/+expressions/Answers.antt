@@ -18,7 +18,7 @@ use Rattle.m2_base.specs.declared.trees.expressions.Label.{out-Label, size-Label
 use Rattle.m2_base.specs.declared.trees.expressions.Next.{size-Next}
 use Rattle.m2_base.specs.declared.trees.expressions.Selector.{size-Selector}
 use Rattle.m2_base.proofs.Seen.{call_seen, char_seen, deref_seen, designator_seen, field_seen, index_seen, label_seen, many_seen, name_seen, next_seen, number_seen, one_seen, plain_set_seen, string_seen, typed_set_seen}
-use Rattle.type_rules.specs.Scenes.{IsThere}
+use Rattle.type_rules.specs.Scenes.{Hand, IsThere}
 use Rattle.type_rules.specs.Sites.{SuitsSite, context_of}
 use Rattle.const_eval.specs.Calls.{call_with}
 use Rattle.const_eval.specs.Parts.{arguments_in, called_in, index_in, member_in, summed, value_in, with_index, with_more}
@@ -440,7 +440,7 @@ operand_in-returns-in-Char g t c =
 
 pub operand_in-returns-in-Str : goal.operand_in-returns-in-Str
 operand_in-returns-in-Str g t c =
-    let context = λ (made : List Row). context_of (g.S.Scopes.state c.args.scopes.now).frame made c.args.site.now in
+    let context = λ (made : Hand). context_of (g.S.Scopes.state c.args.scopes.now).frame made c.args.site.now in
     value_alone (g.S.Scopes.state c.args.scopes.now) c.args.notes.now c.args.site.now c.string_constant.result IsOperand (λ k. operand_in k (expr_view c.args.e.now)) (c.string_constant.ensures.there (g.S.Scopes.state c.args.scopes.now).frame c.requires.suits.texts)
     (λ made. ap (λ o. gives o) (c.string_constant.ensures.told (context made).source refl) ∙ form_given (context made) c.args.e.now _ _ c.in-Str.is (string_seen c.in-Str.name))
 

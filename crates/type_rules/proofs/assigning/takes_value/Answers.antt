@@ -1,0 +1,16 @@
+use Rattle.std.proofs.Common.{◌∙◌, ◌||◌, ap, sym}
+use Rattle.m2_base.specs.Statics.Operands.{operand_type as spec_type}
+use Rattle.type_rules.specs.Assigning.{takes_other as spec_takes_other, takes_value as spec_takes_value}
+use Rattle.type_rules.specs.Scenes.{scene_of}
+use Rattle.type_rules.proofs.Compatibles.{told_as}
+use Rattle.type_rules.proofs.assigning.takes_value.Goals as goal
+
+pub returns-clause-told : goal.returns-clause-told
+returns-clause-told g c =
+    let f = (g.S.Scopes.state c.args.scopes.now).frame in
+    told_as c.takes_other.result f _ (λ h made. spec_takes_other (scene_of h made c.args.around.now) c.args.to c.operand_type.result)
+    (λ made. spec_takes_value (scene_of f made c.args.around.now) c.args.to c.args.operand.now)
+    c.in-Known.ensures.reads.keeps.frame c.takes_other.ensures.told
+    (λ made in_hand told. let scene = scene_of f made c.args.around.now in
+    ap (spec_takes_other scene c.args.to) c.operand_type.ensures
+    ∙ ap (λ b. b || spec_takes_other scene c.args.to (spec_type c.args.operand.now)) (sym c.if-value.false ∙ c.in-Known.ensures.told made in_hand told))
