@@ -6,9 +6,11 @@ use Rattle.m2_base.specs.Statics.CaseLabels.{CaseLabels}
 use Rattle.m2_base.specs.Statics.Cells.{most_cells}
 use Rattle.m2_base.specs.Statics.Ranges.{Range}
 use Rattle.m2_base.specs.Statics.Shapes.{Shape}
+use Rattle.m2_base.specs.declared.rows.Place.{Place}
 use Rattle.m2_base.specs.declared.sites.Site.{Site}
+use Rattle.type_rules.specs.Scenes.{IsThere}
 use Rattle.decl_sem.specs.Making.{next_ordinal}
-use Rattle.decl_sem.specs.Pieces.{item_end}
+use Rattle.decl_sem.specs.Pieces.{IsBehind, item_end}
 use Rattle.decl_sem.specs.declared.making.Made.{Made}
 
 -- The row of a record is still ahead, behind rows of these shapes that are the next, and is one of the item's.
@@ -24,6 +26,6 @@ IsOffset f next offset = offset ≤ most_cells + 1
 abbrev pub covered_of : Gives CaseLabels → Gives (List Range)
 covered_of g = record { value = g.value.covered; diags = g.diags; answers = g.answers }
 
--- any ranges may be covered
-abbrev pub AreAny : Frame → List Range → Type 0
-AreAny f ranges = Unit {0}
+-- the type of a tag: it is entered, or of a scope before
+abbrev pub IsTagType : Frame → (next : ℕ) → Place → Type 0
+IsTagType f next t = IsThere f t × IsBehind f next t

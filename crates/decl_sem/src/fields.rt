@@ -1,18 +1,16 @@
 //! The fields of a record, and the tag of a variant part.
-ghost use Rattle.std.specs.Prelude.{◌≤◌, map};
+ghost use Rattle.std.specs.Prelude.{◌≤◌, [], map};
 ghost use Rattle.m2_base.specs.Rows.{field_kind};
 ghost use Rattle.m2_base.specs.Statics.Fields.{plain_rows, tag_rows, tag_type};
+ghost use Rattle.m2_base.specs.Statics.Makes.{only_gives};
 ghost use Rattle.m2_base.specs.Statics.ReadTrees.{AreReadNames, IsReadOption, IsReadQual};
 ghost use Rattle.m2_base.specs.Statics.Shapes.{nameless, tag_shapes};
-ghost use Rattle.const_eval.specs.Analyses.{Analysed};
 ghost use Rattle.decl_sem.specs.Making.{next_ordinal};
 ghost use Rattle.decl_sem.specs.Pieces.{Declares, IsBehind, IsMaking, known_of};
-ghost use Rattle.decl_sem.specs.Records.{IsOffset, IsOwner};
-ghost use Rattle.type_rules.specs.Scenes.{IsThere};
-ghost use Rattle.type_rules.specs.Sites.{SuitsSite};
+ghost use Rattle.decl_sem.specs.Records.{IsOffset, IsOwner, IsTagType};
 
 use crate::making::Made;
-use m2_base::{Ask, Ident, Memory, Notes, Place, Qual, Scopes, Site};
+use m2_base::{Ask, Ident, Memory, Place, Qual, Scopes, Site};
 
 /// Fields of one type that is made, from this offset on, of the record whose row has this ordinal. The value is the offset
 /// behind them.
@@ -40,11 +38,11 @@ pub(crate) fn tag_in<S: Scopes>(
     _scopes: &mut S,
     _site: &Site,
     _of: Qual,
-    _notes: &mut Notes,
+    _made: &mut Made,
 ) -> Result<Ask<Place>, Memory>
-    requires suits { SuitsSite (S.state _scopes.old).frame _site.now }
+    requires making { IsMaking (S.state _scopes.old).frame _site.now _made.old [] }
     requires read { IsReadQual _site.now.texts.now.names _of }
-    ensures { Analysed (S.state _scopes.old) (S.state _scopes.new) _notes.old _notes.new _site.now result IsThere (λ c. tag_type c _of) }
+    ensures { Declares (S.state _scopes.old) (S.state _scopes.new) _made.old _made.new _site.now result [] IsTagType (λ c. only_gives (tag_type c _of)) }
 {
     Err(Memory)
 }

@@ -4,12 +4,13 @@ ghost use Rattle.m2_base.specs.Statics.CaseLabels.{labels_of};
 ghost use Rattle.m2_base.specs.Statics.ReadTrees.{AreReadLabels};
 ghost use Rattle.m2_base.specs.Trees.{labels as plain_labels};
 ghost use Rattle.m2_base.specs.Views.{label_view};
-ghost use Rattle.const_eval.specs.Analyses.{Analysed};
-ghost use Rattle.decl_sem.specs.Records.{AreAny, covered_of};
+ghost use Rattle.m2_base.specs.Statics.Makes.{only_gives};
+ghost use Rattle.decl_sem.specs.Pieces.{Declares, IsAny, IsMaking};
+ghost use Rattle.decl_sem.specs.Records.{covered_of};
 ghost use Rattle.type_rules.specs.Scenes.{IsThere};
-ghost use Rattle.type_rules.specs.Sites.{SuitsSite};
 
-use m2_base::{Ask, Label, Memory, Notes, Place, Scopes, Site};
+use crate::making::Made;
+use m2_base::{Ask, Label, Memory, Place, Scopes, Site};
 use std::alloc::Global;
 use std::marker::Model;
 
@@ -45,14 +46,14 @@ pub(crate) fn labels_in<S: Scopes>(
     _scopes: &mut S,
     _site: &Site,
     _of: Place,
-    _labels: &[Label],
     _covered: Covered,
-    _notes: &mut Notes,
+    _labels: &[Label],
+    _made: &mut Made,
 ) -> Result<Ask<Covered>, Memory>
-    requires suits { SuitsSite (S.state _scopes.old).frame _site.now }
+    requires making { IsMaking (S.state _scopes.old).frame _site.now _made.old [] }
     requires of { IsThere (S.state _scopes.old).frame _of }
     requires read { AreReadLabels _site.now.texts.now.names (plain_labels (map label_view _labels.now)) }
-    ensures { Analysed (S.state _scopes.old) (S.state _scopes.new) _notes.old _notes.new _site.now result AreAny (λ c. covered_of (labels_of c _of _covered (plain_labels (map label_view _labels.now)))) }
+    ensures { Declares (S.state _scopes.old) (S.state _scopes.new) _made.old _made.new _site.now result [] IsAny (λ c. only_gives (covered_of (labels_of c _of _covered (plain_labels (map label_view _labels.now))))) }
 {
     Err(Memory)
 }
