@@ -23,6 +23,8 @@ pub mod Parameters
 pub mod Pieces
 pub mod SizesInHand
 pub mod ProcTypes
+pub mod RecordSizes
+pub mod RecordRows
 pub mod Results
 pub mod TypeForms
 pub mod TypeShapes

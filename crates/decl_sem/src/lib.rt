@@ -74,6 +74,7 @@ mod own_headings;
 mod procedure_types;
 mod procedures;
 mod putting;
+mod records;
 mod sets;
 mod shapes;
 mod standing;

@@ -1,0 +1,246 @@
+-- The rows of records: field lists and variants, one after another.
+use Rattle.std.specs.Prelude.{◌≡◌, ℕ, zero, suc, ◌+◌, ◌<◌, ◌≤◌, ◌^◌, List, [], ◌∷◌, ◌++◌, length, map, drop, max, Option, Result, Ok, Err}
+use Rattle.std.proofs.Common.{refl, sym, ap, ◌∙◌, subst, arith, get_or}
+use Rattle.std.proofs.lemmas.List.{append-nil, length-append}
+use Rattle.m2_base.proofs.Seen.{case_fields_seen, plain_fields_seen, variant_arm_seen}
+use Rattle.m2_base.specs.Rows.{field_kind, record_kind}
+use Rattle.m2_base.specs.States.{Frame, State}
+use Rattle.m2_base.specs.Statics.CaseLabels.{labels_of}
+use Rattle.m2_base.specs.Statics.Contexts.{Context}
+use Rattle.m2_base.specs.Statics.Makes.{Makes, make_then, makes, only_gives}
+use Rattle.m2_base.specs.Statics.Ranges.{Range}
+use Rattle.m2_base.specs.Statics.ReadTrees.{AreReadArms, AreReadFields, AreReadLabels, IsReadArm, IsReadField}
+use Rattle.m2_base.specs.Statics.Shapes.{Shape, arms_shapes, field_shapes, fields_shapes, form_shapes, nameless}
+use Rattle.m2_base.specs.Statics.TypeRows.{arms_rows, field_list_rows, fields_rows, form_rows}
+use Rattle.m2_base.specs.Trees.{FieldList, FieldLists, Labels, VariantArm, VariantArms, labels, more_fields, more_variant_arms, record_type, variant_arm}
+use Rattle.m2_base.specs.Views.{field_list_view, label_view, variant_arm_view}
+use Rattle.m2_base.specs.declared.memory.Memory.{Memory}
+use Rattle.m2_base.specs.declared.replies.Ask.{Ask}
+use Rattle.m2_base.specs.declared.replies.Ask.TheVariants.{Known, DontKnowYet}
+use Rattle.m2_base.specs.declared.replies.Head.{Head}
+use Rattle.m2_base.specs.declared.rows.Place.{Place}
+use Rattle.m2_base.specs.declared.sites.Site.{Site}
+use Rattle.m2_base.specs.declared.trees.types as code
+use Rattle.type_rules.specs.Scenes.{IsThere}
+use Rattle.type_rules.specs.Sites.{context_of}
+use Rattle.decl_sem.specs.Making.{next_ordinal}
+use Rattle.decl_sem.specs.Pieces.{Declares, IsAny, IsBehind, IsMaking, item_end}
+use Rattle.decl_sem.specs.Records.{AreVariants, IsOffset, IsOwner, covered_of, record_row}
+use Rattle.decl_sem.specs.declared.making.Made.{Made}
+use Rattle.decl_sem.specs.declared.records.Variants.{Variants}
+use Rattle.decl_sem.proofs.Hands.{hand_is}
+use Rattle.decl_sem.proofs.OneRows.{behind_more}
+use Rattle.decl_sem.proofs.Pieces.{AreNoTypes, GoesOn, described, goes_as, goes_end, goes_failed, goes_start, goes_step, goes_waiting, making_front, making_on, next_on, reshaped, then_after, value_alone}
+use Rattle.decl_sem.proofs.RecordSizes.{arms_of, fields_of}
+use Rattle.decl_sem.proofs.TypeForms.{field_no_types, fields_no_types}
+use Rattle.decl_sem.proofs.VariableLists.{next_left, none_left}
+
+-- ** The row of the record, still ahead
+
+pub owner_front : {s : Site} {x : Made} {own : ℕ} (ss ts : List Shape) → IsOwner s x (ss ++ ts) own → IsOwner s x ss own
+owner_front ss ts h = record { behind = let l = length-append ss ts in let b = h.behind in omega arith; within = h.within }
+
+pub owner_on : {T : Type 0} {a b : State} {x y : Made} {s : Site} {ss : List Shape} {P : Frame → ℕ → T → Type 0} {g : Context → Makes T} {v : T} {own : ℕ} (ts : List Shape)
+    → IsOwner s x (ss ++ ts) own → Declares a b x y s (Ok (Known v)) ss P g → IsOwner s y ts own
+owner_on {ss = ss} ts h p = record { behind = let l = length-append ss ts in let b = h.behind in let n = next_on p.first p.grown in omega arith; within = h.within }
+
+-- ** A value of a value
+
+-- the same piece, with another value by this one
+pub valued : {T U : Type 0} {a b : State} {x y : Made} {s : Site} {ss : List Shape} {P : Frame → ℕ → T → Type 0} (Q : Frame → ℕ → U → Type 0) {g : Context → Makes T} {v : T} (f : T → U)
+    → AreNoTypes ss → IsMaking a.frame s x ss → Q b.frame (next_ordinal y) (f v) → Declares a b x y s (Ok (Known v)) ss P g → Declares a b x y s (Ok (Known (f v))) ss Q (λ c. make_then c (g c) (λ e u. makes (f u)))
+valued {a = a} {b = b} {x = x} {y = y} {s = s} {ss = ss} Q {g = g} {v = v} f none making h p =
+    reshaped (Ok (Known (f v))) ss (append-nil ss)
+    (then_after g (λ u c. makes (f u)) (Ok (Known (f v))) none (subst (λ (zs : List Shape). IsMaking a.frame s x zs) (sym (append-nil ss)) making) p (value_alone b y s (f v) Q h))
+
+-- ** Field lists
+
+left : {X : Type 0} (xs : List X) (k : ℕ) (x : X) → k < length xs → x ≡ get_or xs k x → drop k xs ≡ x ∷ drop (k + 1) xs
+left {X} xs k x h e = next_left xs k x h ∙ ap (λ (u : X). u ∷ drop (k + 1) xs) (sym e)
+
+-- the first k of the field lists are made, and this is the offset behind them
+pub record HasFields (a b : State) (s : Site) (before now : Made) (own first : ℕ) (xs : List code.FieldList.FieldList) (k end : ℕ) : Type 0 where
+  pub end_is : end ≤ 16777216
+  pub owner : IsOwner s now (fields_shapes (fields_of (drop k xs))) own
+  pub on : GoesOn a b before now s (fields_shapes (fields_of xs)) (fields_shapes (fields_of (drop k xs))) IsOffset (λ c. fields_rows c own first (fields_of xs)) (λ c. fields_rows c own end (fields_of (drop k xs)))
+
+pub no_lists : {a : State} {s : Site} {before : Made} {own first : ℕ} {xs : List code.FieldList.FieldList} → IsMaking a.frame s before (fields_shapes (fields_of xs)) → IsOwner s before (fields_shapes (fields_of xs)) own → first ≤ 16777216
+    → HasFields a a s before before own first xs 0 first
+no_lists making owner h = record { end_is = h; owner = owner; on = goes_start making }
+
+module _ {a b : State} {s : Site} {before now : Made} {own first : ℕ} {xs : List code.FieldList.FieldList} {end : ℕ} (k : ℕ) (x : code.FieldList.FieldList) (h : k < length xs) (e : x ≡ get_or xs k x) (so : HasFields a b s before now own first xs k end) where
+  abbrev more : FieldLists
+  more = fields_of (drop (k + 1) xs)
+
+  fields_left : fields_of (drop k xs) ≡ more_fields (field_list_view x) more
+  fields_left = ap fields_of (left xs k x h e)
+
+  fields_at : GoesOn a b before now s (fields_shapes (fields_of xs)) (field_shapes (field_list_view x) ++ fields_shapes more) IsOffset (λ c. fields_rows c own first (fields_of xs)) (λ c. fields_rows c own end (more_fields (field_list_view x) more))
+  fields_at =
+      goes_as (field_shapes (field_list_view x) ++ fields_shapes more) (λ c. fields_rows c own end (more_fields (field_list_view x) more)) (ap fields_shapes fields_left)
+      (λ hand in_hand told same. ap (λ (fs : FieldLists). fields_rows (context_of b.frame hand s) own end fs) (sym fields_left)) so.on
+
+  owner_at : IsOwner s now (field_shapes (field_list_view x) ++ fields_shapes more) own
+  owner_at = subst (λ (fs : FieldLists). IsOwner s now (fields_shapes fs) own) fields_left so.owner
+
+  -- what the next field list needs
+  pub list_making : IsMaking b.frame s now (field_shapes (field_list_view x))
+  list_making = making_front (field_shapes (field_list_view x)) (fields_shapes more) fields_at.making
+
+  pub list_owner : IsOwner s now (field_shapes (field_list_view x)) own
+  list_owner = owner_front (field_shapes (field_list_view x)) (fields_shapes more) owner_at
+
+  pub one_list : {d : State} {after : Made} {v : ℕ} → Declares b d now after s (Ok (Known v)) (field_shapes (field_list_view x)) IsOffset (λ c. field_list_rows c own end (field_list_view x))
+      → HasFields a d s before after own first xs (k + 1) v
+  one_list {d} {after} {v} piece =
+      record {
+        end_is = let n = piece.there in omega arith;
+        owner = owner_on (fields_shapes more) owner_at piece;
+        on = goes_step (λ c. field_list_rows c own end (field_list_view x)) (λ o c. fields_rows c own o more) (field_no_types (field_list_view x)) fields_at piece;
+      }
+
+  pub list_failed : {d : State} {after : Made} {m : Memory} (n : Memory) → Declares b d now after s (Err m) (field_shapes (field_list_view x)) IsOffset (λ c. field_list_rows c own end (field_list_view x))
+      → Declares a d before after s (Err n) (fields_shapes (fields_of xs)) IsOffset (λ c. fields_rows c own first (fields_of xs))
+  list_failed n piece = goes_failed fields_at piece n
+
+  pub list_waits : {d : State} {after : Made} {head : Head} → Declares b d now after s (Ok (DontKnowYet head)) (field_shapes (field_list_view x)) IsOffset (λ c. field_list_rows c own end (field_list_view x))
+      → Declares a d before after s (Ok (DontKnowYet head)) (fields_shapes (fields_of xs)) IsOffset (λ c. fields_rows c own first (fields_of xs))
+  list_waits piece = goes_waiting fields_at piece
+
+-- all are made
+pub all_lists : {a b : State} {s : Site} {before now : Made} {own first : ℕ} {xs : List code.FieldList.FieldList} {end : ℕ} (k : ℕ) → k ≡ length xs → HasFields a b s before now own first xs k end
+    → Declares a b before now s (Ok (Known end)) (fields_shapes (fields_of xs)) IsOffset (λ c. fields_rows c own first (fields_of xs))
+all_lists {b = b} {s = s} {own = own} {xs = xs} {end = end} k all so =
+    let e : drop k xs ≡ [] = ap (λ (n : ℕ). drop n xs) all ∙ none_left xs in
+    goes_end end
+    (goes_as [] (λ c. makes end) (ap (λ (l : List code.FieldList.FieldList). fields_shapes (fields_of l)) e)
+    (λ hand in_hand told same. ap (λ (l : List code.FieldList.FieldList). fields_rows (context_of b.frame hand s) own end (fields_of l)) (sym e)) so.on)
+    (let n = so.end_is in omega arith)
+
+field_read_at : (names : List (List ℕ)) (xs : List code.FieldList.FieldList) (k : ℕ) (d : code.FieldList.FieldList) → k < length xs → AreReadFields names (fields_of xs) → IsReadField names (field_list_view (get_or xs k d))
+field_read_at names [] k d h all = absurd (omega (arith, h))
+field_read_at names (y ∷ xs) zero d h all = all.0
+field_read_at names (y ∷ xs) (suc k) d h all = field_read_at names xs k d (omega (arith, h)) all.1
+
+pub field_read : (names : List (List ℕ)) (xs : List code.FieldList.FieldList) (k : ℕ) (x : code.FieldList.FieldList) → k < length xs → x ≡ get_or xs k x → AreReadFields names (fields_of xs) → IsReadField names (field_list_view x)
+field_read names xs k x h e all = subst (λ (u : code.FieldList.FieldList). IsReadField names (field_list_view u)) (sym e) (field_read_at names xs k x h all)
+
+-- ** Variants
+
+-- the labels of a variant, and its fields
+abbrev pub labels_seen : code.VariantArm.VariantArm → Labels
+labels_seen a = labels (map label_view a.labels.items)
+
+abbrev pub arm_seen : code.VariantArm.VariantArm → VariantArm
+arm_seen a = variant_arm (labels_seen a) (fields_of a.fields.items)
+
+-- the first k of the variants are made; they cover these values, and the greatest ends at this offset
+pub record HasArms (a b : State) (s : Site) (before now : Made) (v : Variants) (xs : List code.VariantArm.VariantArm) (k : ℕ) (covered : List Range) (end : ℕ) : Type 0 where
+  pub end_is : end ≤ 16777216
+  pub owner : IsOwner s now (arms_shapes (arms_of (drop k xs))) v.own
+  pub tag : IsThere b.frame v.tag
+  pub on : GoesOn a b before now s (arms_shapes (arms_of xs)) (arms_shapes (arms_of (drop k xs))) IsOffset (λ c. arms_rows c v.own v.offset v.tag [] v.offset (arms_of xs)) (λ c. arms_rows c v.own v.offset v.tag covered end (arms_of (drop k xs)))
+
+pub no_arms : {a : State} {s : Site} {before : Made} {v : Variants} {xs : List code.VariantArm.VariantArm} {next : ℕ} → IsMaking a.frame s before (arms_shapes (arms_of xs)) → IsOwner s before (arms_shapes (arms_of xs)) v.own → AreVariants a.frame next v
+    → HasArms a a s before before v xs 0 [] v.offset
+no_arms making owner h = record { end_is = let n = h.offset in omega arith; owner = owner; tag = h.tag.0; on = goes_start making }
+
+module _ {a b : State} {s : Site} {before now : Made} {v : Variants} {xs : List code.VariantArm.VariantArm} {covered : List Range} {end : ℕ} (k : ℕ) (x : code.VariantArm.VariantArm) (h : k < length xs) (e : x ≡ get_or xs k x) (so : HasArms a b s before now v xs k covered end) where
+  abbrev more_arms : VariantArms
+  more_arms = arms_of (drop (k + 1) xs)
+
+  abbrev inner : FieldLists
+  inner = fields_of x.fields.items
+
+  arms_left : arms_of (drop k xs) ≡ more_variant_arms (arm_seen x) more_arms
+  arms_left = ap arms_of (left xs k x h e) ∙ ap (λ (u : VariantArm). more_variant_arms u more_arms) (variant_arm_seen x)
+
+  -- what is given from the labels of this variant on
+  abbrev from_labels : Context → Makes ℕ
+  from_labels c = arms_rows c v.own v.offset v.tag covered end (more_variant_arms (arm_seen x) more_arms)
+
+  -- what is given from its fields on
+  abbrev from_fields : List Range → Context → Makes ℕ
+  from_fields now_covered c = make_then c (fields_rows c v.own v.offset inner) (λ d o. arms_rows d v.own v.offset v.tag now_covered (max end o) more_arms)
+
+  arms_at : GoesOn a b before now s (arms_shapes (arms_of xs)) (fields_shapes inner ++ arms_shapes more_arms) IsOffset (λ c. arms_rows c v.own v.offset v.tag [] v.offset (arms_of xs)) from_labels
+  arms_at =
+      goes_as (fields_shapes inner ++ arms_shapes more_arms) from_labels (ap arms_shapes arms_left)
+      (λ hand in_hand told same. ap (λ (as : VariantArms). arms_rows (context_of b.frame hand s) v.own v.offset v.tag covered end as) (sym arms_left)) so.on
+
+  owner_here : IsOwner s now (fields_shapes inner ++ arms_shapes more_arms) v.own
+  owner_here = subst (λ (as : VariantArms). IsOwner s now (arms_shapes as) v.own) arms_left so.owner
+
+  -- what its labels need
+  pub labels_making : IsMaking b.frame s now []
+  labels_making = making_front [] (fields_shapes inner ++ arms_shapes more_arms) arms_at.making
+
+  -- the labels are known
+  pub record HasLabels (d : State) (then : Made) (now_covered : List Range) : Type 0 where
+    pub there : IsThere d.frame v.tag
+    pub owned : IsOwner s then (fields_shapes inner ++ arms_shapes more_arms) v.own
+    pub goes : GoesOn a d before then s (arms_shapes (arms_of xs)) (fields_shapes inner ++ arms_shapes more_arms) IsOffset (λ c. arms_rows c v.own v.offset v.tag [] v.offset (arms_of xs)) (from_fields now_covered)
+
+  pub labels_known : {d : State} {then : Made} {now_covered : List Range} → Declares b d now then s (Ok (Known now_covered)) [] IsAny (λ c. only_gives (covered_of (labels_of c v.tag covered (labels_seen x)))) → HasLabels d then now_covered
+  labels_known {d} {then} {now_covered} p =
+      record {
+        there = subst (λ (f : Frame). IsThere f v.tag) (sym p.works.keeps.frame) so.tag;
+        owned = owner_on (fields_shapes inner ++ arms_shapes more_arms) owner_here p;
+        goes = goes_step (λ c. only_gives (covered_of (labels_of c v.tag covered (labels_seen x)))) from_fields tt arms_at p;
+      }
+
+  pub labels_failed : {d : State} {then : Made} {m : Memory} (n : Memory) → Declares b d now then s (Err m) [] IsAny (λ c. only_gives (covered_of (labels_of c v.tag covered (labels_seen x))))
+      → Declares a d before then s (Err n) (arms_shapes (arms_of xs)) IsOffset (λ c. arms_rows c v.own v.offset v.tag [] v.offset (arms_of xs))
+  labels_failed n p = goes_failed arms_at p n
+
+  pub labels_wait : {d : State} {then : Made} {head : Head} → Declares b d now then s (Ok (DontKnowYet head)) [] IsAny (λ c. only_gives (covered_of (labels_of c v.tag covered (labels_seen x))))
+      → Declares a d before then s (Ok (DontKnowYet head)) (arms_shapes (arms_of xs)) IsOffset (λ c. arms_rows c v.own v.offset v.tag [] v.offset (arms_of xs))
+  labels_wait p = goes_waiting arms_at p
+
+  module _ {d : State} {then : Made} {now_covered : List Range} (known : HasLabels d then now_covered) where
+    -- what its fields need
+    pub inner_making : IsMaking d.frame s then (fields_shapes inner)
+    inner_making = making_front (fields_shapes inner) (arms_shapes more_arms) known.goes.making
+
+    pub inner_owner : IsOwner s then (fields_shapes inner) v.own
+    inner_owner = owner_front (fields_shapes inner) (arms_shapes more_arms) known.owned
+
+    pub one_arm : {d2 : State} {after : Made} {o : ℕ} (top : ℕ) → top ≡ max end o → Declares d d2 then after s (Ok (Known o)) (fields_shapes inner) IsOffset (λ c. fields_rows c v.own v.offset inner)
+        → HasArms a d2 s before after v xs (k + 1) now_covered top
+    one_arm {d2} {after} {o} top is p =
+        subst (λ (n : ℕ). HasArms a d2 s before after v xs (k + 1) now_covered n) (sym is)
+        (record {
+          end_is = let n = p.there in let m = so.end_is in omega (arith, n, m);
+          owner = owner_on (arms_shapes more_arms) known.owned p;
+          tag = subst (λ (f : Frame). IsThere f v.tag) (sym p.works.keeps.frame) known.there;
+          on = goes_step (λ c. fields_rows c v.own v.offset inner) (λ o c. arms_rows c v.own v.offset v.tag now_covered (max end o) more_arms) (fields_no_types inner) known.goes p;
+        })
+
+    pub inner_failed : {d2 : State} {after : Made} {m : Memory} (n : Memory) → Declares d d2 then after s (Err m) (fields_shapes inner) IsOffset (λ c. fields_rows c v.own v.offset inner)
+        → Declares a d2 before after s (Err n) (arms_shapes (arms_of xs)) IsOffset (λ c. arms_rows c v.own v.offset v.tag [] v.offset (arms_of xs))
+    inner_failed n p = goes_failed known.goes p n
+
+    pub inner_waits : {d2 : State} {after : Made} {head : Head} → Declares d d2 then after s (Ok (DontKnowYet head)) (fields_shapes inner) IsOffset (λ c. fields_rows c v.own v.offset inner)
+        → Declares a d2 before after s (Ok (DontKnowYet head)) (arms_shapes (arms_of xs)) IsOffset (λ c. arms_rows c v.own v.offset v.tag [] v.offset (arms_of xs))
+    inner_waits p = goes_waiting known.goes p
+
+-- all are made
+pub all_arms : {a b : State} {s : Site} {before now : Made} {v : Variants} {xs : List code.VariantArm.VariantArm} {covered : List Range} {end : ℕ} (k : ℕ) → k ≡ length xs → HasArms a b s before now v xs k covered end
+    → Declares a b before now s (Ok (Known end)) (arms_shapes (arms_of xs)) IsOffset (λ c. arms_rows c v.own v.offset v.tag [] v.offset (arms_of xs))
+all_arms {b = b} {s = s} {v = v} {xs = xs} {covered = covered} {end = end} k all so =
+    let e : drop k xs ≡ [] = ap (λ (n : ℕ). drop n xs) all ∙ none_left xs in
+    goes_end end
+    (goes_as [] (λ c. makes end) (ap (λ (l : List code.VariantArm.VariantArm). arms_shapes (arms_of l)) e)
+    (λ hand in_hand told same. ap (λ (l : List code.VariantArm.VariantArm). arms_rows (context_of b.frame hand s) v.own v.offset v.tag covered end (arms_of l)) (sym e)) so.on)
+    (let n = so.end_is in omega arith)
+
+arm_read_at : (names : List (List ℕ)) (xs : List code.VariantArm.VariantArm) (k : ℕ) (d : code.VariantArm.VariantArm) → k < length xs → AreReadArms names (arms_of xs) → IsReadArm names (variant_arm_view (get_or xs k d))
+arm_read_at names [] k d h all = absurd (omega (arith, h))
+arm_read_at names (y ∷ xs) zero d h all = all.0
+arm_read_at names (y ∷ xs) (suc k) d h all = arm_read_at names xs k d (omega (arith, h)) all.1
+
+-- its labels and its fields were read
+pub arm_read : (names : List (List ℕ)) (xs : List code.VariantArm.VariantArm) (k : ℕ) (x : code.VariantArm.VariantArm) → k < length xs → x ≡ get_or xs k x → AreReadArms names (arms_of xs) → AreReadLabels names (labels_seen x) × AreReadFields names (fields_of x.fields.items)
+arm_read names xs k x h e all =
+    let this : IsReadArm names (variant_arm_view x) = subst (λ (u : code.VariantArm.VariantArm). IsReadArm names (variant_arm_view u)) (sym e) (arm_read_at names xs k x h all) in
+    subst (λ (u : VariantArm). IsReadArm names u) (variant_arm_seen x) this
