@@ -163,7 +163,7 @@ pub(crate) fn taken_pair<S: Scopes>(
 
 /// Two operands as they are taken beside each other, where they are compatible.
 #[tactic(auto, using(type_rules::proofs::Reading::reading, crate::proofs::TypesThere::there))]
-pub(crate) fn compatible_pair<S: Scopes>(
+pub fn compatible_pair<S: Scopes>(
     scopes: &mut S,
     site: &Site,
     x: Operand,
