@@ -8,6 +8,7 @@ pub mod LaidRows
 pub mod Making
 pub mod Pieces
 pub mod Progress
+pub mod Records
 pub mod Shapes
 pub mod Stood
 pub mod TypeUses

@@ -1,0 +1,5 @@
+use Rattle.decl_sem.proofs.TypeForms.{unmade}
+use Rattle.decl_sem.proofs.fields.put_tag.Goals as goal
+
+pub returns : goal.returns
+returns g c = unmade _ _ _ _ _ _ _
