@@ -3,6 +3,8 @@ pub mod Asking
 pub mod Checks
 pub mod ConstantRows
 pub mod Constants
+pub mod FieldNames
+pub mod FieldLists
 pub mod FirstNames
 pub mod FirstOrdinals
 pub mod Hands
@@ -24,6 +26,7 @@ pub mod Pieces
 pub mod SizesInHand
 pub mod ProcTypes
 pub mod Results
+pub mod Tags
 pub mod TypeForms
 pub mod TypeShapes
 pub mod TypeSizes
