@@ -1,16 +1,16 @@
 -- A field, and whether it is the second of its name.
 use Rattle.std.specs.List.{list_any}
-use Rattle.std.specs.Prelude.{◌≡◌, ℕ, ◌<◌, ◌≤◌, ◌==◌, ◌&&◌, ◌||◌, Bool, true, false, if◌then◌else◌, List, [], ◌∷◌, ◌++◌, length, Result, Ok, Err, Unit}
+use Rattle.std.specs.Prelude.{◌≡◌, ℕ, ◌+◌, ◌<◌, ◌≤◌, ◌==◌, ◌^◌, ◌&&◌, ◌||◌, Bool, true, false, if◌then◌else◌, List, [], ◌∷◌, ◌++◌, length, Result, Ok, Err}
 use Rattle.std.specs.Result.{IfOk}
 use Rattle.std.proofs.Common.{refl, sym, ap, ◌∙◌, subst, arith}
 use Rattle.std.proofs.lemmas.List.{append-nil}
 use Rattle.std.proofs.lemmas.List.Folds.{list_any-append}
 use Rattle.m2_base.specs.Finished.{IsFinished}
-use Rattle.m2_base.specs.Gives.{Gives, gives}
+use Rattle.m2_base.specs.Gives.{Gives}
 use Rattle.m2_base.specs.Lists.{Each, IsPrefixOf}
-use Rattle.m2_base.specs.Rows.{HasSmallNumbers, Place, at_place, field_kind, row_meaning, type_name_kind}
+use Rattle.m2_base.specs.Rows.{HasSmallNumbers, at_place, field_kind, row_meaning, type_name_kind}
 use Rattle.m2_base.specs.States.{Frame, State}
-use Rattle.m2_base.specs.Statics.Contexts.{Context, diag, refuse}
+use Rattle.m2_base.specs.Statics.Contexts.{Context, diag}
 use Rattle.m2_base.specs.Statics.Diagnostics.{declared_twice}
 use Rattle.m2_base.specs.Statics.Fields.{field_row, field_with}
 use Rattle.m2_base.specs.Statics.Makes.{Makes, make_then, makes_row, only_gives, own_rows, with_rows}
@@ -22,6 +22,7 @@ use Rattle.m2_base.specs.declared.memory.Memory.{Memory}
 use Rattle.m2_base.specs.declared.notes.Notes.{Notes}
 use Rattle.m2_base.specs.declared.replies.Ask.{Ask}
 use Rattle.m2_base.specs.declared.replies.Ask.TheVariants.{Known}
+use Rattle.m2_base.specs.declared.rows.Place.{Place}
 use Rattle.m2_base.specs.declared.rows.Row.{Row}
 use Rattle.m2_base.specs.declared.rows.RowMeaning.{RowMeaning}
 use Rattle.m2_base.specs.declared.rows.RowMeaning.TheVariants.{Field}
@@ -31,13 +32,14 @@ use Rattle.m2_base.proofs.Kept.{Works-notes}
 use Rattle.m2_base.proofs.RowLaws.{HasSmallNumbers-fits}
 use Rattle.type_rules.specs.Sites.{IsRefused, context_of}
 use Rattle.type_rules.specs.Scenes.{Hand}
-use Rattle.decl_sem.specs.FieldNotes.{second_refused}
+use Rattle.decl_sem.specs.FieldNotes.{refused_if, second_refused}
+use Rattle.decl_sem.specs.LaidRows.{none_laid}
 use Rattle.decl_sem.specs.Making.{MakesAll, diag_in, next_ordinal}
 use Rattle.decl_sem.specs.Pieces.{AreNewRows, Declares, IsAny, IsBehind, IsMaking, IsNewMeaning, IsOwned, WhereMaking, item_end}
 use Rattle.decl_sem.specs.declared.making.Made.{Made}
 use Rattle.decl_sem.proofs.Hands.{hand_none, own_are}
 use Rattle.decl_sem.proofs.OneRows.{before_next, small_scope}
-use Rattle.decl_sem.proofs.Pieces.{described, grown_none, then_after}
+use Rattle.decl_sem.proofs.Pieces.{described, then_after}
 
 -- ** Fields among rows
 
@@ -82,21 +84,17 @@ second_noted {y} a x s own i b le making is noted diags answers =
       works = Works-notes a x.notes y answers diags;
       waits = tt;
       first = refl;
-      grown = grown_none a.frame s x;
-      told = λ hand in_hand told same. go (context_of a.frame hand s) b refl noted (is ∙ sym (own_fields own i.name le making hand in_hand told same));
+      grown = record { rows = []; more = sym (append-nil x.rows.items); laid = none_laid; new = tt };
+      told = λ hand in_hand told same.
+          let c = context_of a.frame hand s in
+          subst (λ (k : Bool). MakesAll {T = Unit {0}} x (record x { notes = y }) (only_gives (refused_if c i.at k)) tt) (is ∙ sym (own_fields own i.name le making hand in_hand told same)) (both c b refl noted);
       there = tt;
     }
   where
-    go : (c : Context) (b : Bool) → c.scene.block.text ≡ s.around.now.text → y.diags.items ≡ x.notes.diags.items ++ (if b then diag_in s.around.now.text i.at declared_twice ∷ [] else []) → b ≡ list_any (is_field own i.name) (own_rows c)
-        → MakesAll x (record x { notes = y }) (only_gives (second_refused c own i)) tt
-    go c b text h e =
-        let given : Bool → Gives (Unit {0}) = λ k. if k then refuse c i.at declared_twice tt else gives tt in
-        subst (λ (k : Bool). MakesAll x (record x { notes = y }) (only_gives (given k)) tt) e (both b text h)
-      where
-        both : (b : Bool) → c.scene.block.text ≡ s.around.now.text → y.diags.items ≡ x.notes.diags.items ++ (if b then diag_in s.around.now.text i.at declared_twice ∷ [] else [])
-            → MakesAll x (record x { notes = y }) (only_gives (if b then refuse c i.at declared_twice tt else gives tt)) tt
-        both true t k = record { value_is = refl; rows = sym (append-nil x.rows.items); diags = k ∙ ap (λ (n : ℕ). x.notes.diags.items ++ diag_in n i.at declared_twice ∷ []) (sym t); answers = answers ∙ sym (append-nil x.notes.answers.items) }
-        both false t k = record { value_is = refl; rows = sym (append-nil x.rows.items); diags = k; answers = answers ∙ sym (append-nil x.notes.answers.items) }
+    both : (c : Context) (b : Bool) → c.scene.block.text ≡ s.around.now.text → y.diags.items ≡ x.notes.diags.items ++ (if b then diag_in s.around.now.text i.at declared_twice ∷ [] else [])
+        → MakesAll {T = Unit {0}} x (record x { notes = y }) (only_gives (refused_if c i.at b)) tt
+    both c true t k = record { value_is = refl; rows = sym (append-nil x.rows.items); diags = k ∙ ap (λ (n : ℕ). x.notes.diags.items ++ diag_in n i.at declared_twice ∷ []) (sym t); answers = answers ∙ sym (append-nil x.notes.answers.items) }
+    both c false t k = record { value_is = refl; rows = sym (append-nil x.rows.items); diags = k; answers = answers ∙ sym (append-nil x.notes.answers.items) }
 
 -- ** A field
 
@@ -110,7 +108,7 @@ field_after c own i t offset none =
     both : Gives (Unit {0}) → Makes Place → Makes Place
     both g m = record { value = m.value; rows = [] ++ m.rows; diags = g.diags ++ m.diags; answers = g.answers ++ m.answers }
 
-    go : (b : Bool) → both (if b then refuse c i.at declared_twice tt else gives tt) (makes_row c i.at (Field t offset own i.name)) ≡ field_with c own i t offset (if b then diag c i.at declared_twice ∷ [] else [])
+    go : (b : Bool) → both (refused_if c i.at b) (makes_row c i.at (Field t offset own i.name)) ≡ field_with c own i t offset (if b then diag c i.at declared_twice ∷ [] else [])
     go true = refl
     go false = refl
 
