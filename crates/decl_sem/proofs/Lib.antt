@@ -3,6 +3,8 @@ pub mod Asking
 pub mod Checks
 pub mod ConstantRows
 pub mod Constants
+pub mod FieldNames
+pub mod FieldLists
 pub mod FirstNames
 pub mod FirstOrdinals
 pub mod Hands
@@ -26,6 +28,7 @@ pub mod ProcTypes
 pub mod RecordSizes
 pub mod RecordRows
 pub mod Results
+pub mod Tags
 pub mod TypeForms
 pub mod TypeShapes
 pub mod TypeSizes

@@ -1,6 +1,7 @@
 pub mod Closing
 pub mod DeclaredItems
 pub mod Effects
+pub mod FieldNotes
 pub mod Hands
 pub mod ImportedModules
 pub mod Items

@@ -26,7 +26,7 @@ use type_rules::BROKEN;
 const WRONG_INDEX: u8 = 61;
 
 /// The least and the greatest value of an ordinal type, by what its row says.
-fn range_by(meaning: RowMeaning) -> Option<(i64, i64)>
+pub(crate) fn range_by(meaning: RowMeaning) -> Option<(i64, i64)>
     ensures { option_map (λ ends. range ends.0 ends.1) result ≡ spec_range meaning }
 {
     match meaning {
