@@ -6,11 +6,13 @@ use Rattle.m2_base.proofs.Seen.{case_fields_seen, plain_fields_seen, variant_arm
 use Rattle.m2_base.specs.Rows.{field_kind, record_kind}
 use Rattle.m2_base.specs.States.{Frame, State}
 use Rattle.m2_base.specs.Statics.CaseLabels.{labels_of}
+use Rattle.m2_base.specs.Statics.Cells.{fitting}
 use Rattle.m2_base.specs.Statics.Contexts.{Context}
-use Rattle.m2_base.specs.Statics.Makes.{Makes, make_then, makes, only_gives}
+use Rattle.m2_base.specs.Statics.Fields.{tag_rows, tag_type}
+use Rattle.m2_base.specs.Statics.Makes.{Makes, make_then, makes, makes_row, only_gives}
 use Rattle.m2_base.specs.Statics.Ranges.{Range}
 use Rattle.m2_base.specs.Statics.ReadTrees.{AreReadArms, AreReadFields, AreReadLabels, IsReadArm, IsReadField}
-use Rattle.m2_base.specs.Statics.Shapes.{Shape, arms_shapes, field_shapes, fields_shapes, form_shapes, nameless}
+use Rattle.m2_base.specs.Statics.Shapes.{Shape, arms_shapes, field_shapes, fields_shapes, form_shapes, nameless, tag_shapes}
 use Rattle.m2_base.specs.Statics.TypeRows.{arms_rows, field_list_rows, fields_rows, form_rows}
 use Rattle.m2_base.specs.Trees.{FieldList, FieldLists, Labels, VariantArm, VariantArms, labels, more_fields, more_variant_arms, record_type, variant_arm}
 use Rattle.m2_base.specs.Views.{field_list_view, label_view, variant_arm_view}
@@ -19,18 +21,21 @@ use Rattle.m2_base.specs.declared.replies.Ask.{Ask}
 use Rattle.m2_base.specs.declared.replies.Ask.TheVariants.{Known, DontKnowYet}
 use Rattle.m2_base.specs.declared.replies.Head.{Head}
 use Rattle.m2_base.specs.declared.rows.Place.{Place}
+use Rattle.m2_base.specs.declared.rows.RowMeaning.TheVariants.{Record}
 use Rattle.m2_base.specs.declared.sites.Site.{Site}
+use Rattle.m2_base.specs.declared.trees.Ident.{Ident}
+use Rattle.m2_base.specs.declared.trees.Qual.{Qual}
 use Rattle.m2_base.specs.declared.trees.types as code
 use Rattle.type_rules.specs.Scenes.{IsThere}
 use Rattle.type_rules.specs.Sites.{context_of}
 use Rattle.decl_sem.specs.Making.{next_ordinal}
-use Rattle.decl_sem.specs.Pieces.{Declares, IsAny, IsBehind, IsMaking, item_end}
-use Rattle.decl_sem.specs.Records.{AreVariants, IsOffset, IsOwner, covered_of, record_row}
+use Rattle.decl_sem.specs.Pieces.{Declares, IsAny, IsBehind, IsMaking, IsNewMeaning, item_end, known_of}
+use Rattle.decl_sem.specs.Records.{AreVariants, IsOffset, IsOwner, IsTagType, covered_of, record_row, tag_made}
 use Rattle.decl_sem.specs.declared.making.Made.{Made}
 use Rattle.decl_sem.specs.declared.records.Variants.{Variants}
 use Rattle.decl_sem.proofs.Hands.{hand_is}
 use Rattle.decl_sem.proofs.OneRows.{behind_more}
-use Rattle.decl_sem.proofs.Pieces.{AreNoTypes, GoesOn, described, goes_as, goes_end, goes_failed, goes_start, goes_step, goes_waiting, making_front, making_on, next_on, reshaped, then_after, value_alone}
+use Rattle.decl_sem.proofs.Pieces.{AreNoTypes, GoesOn, described, goes_as, goes_end, goes_failed, goes_start, goes_step, goes_waiting, making_front, making_on, next_on, not_a_type, reshaped, then_after, value_alone}
 use Rattle.decl_sem.proofs.RecordSizes.{arms_of, fields_of}
 use Rattle.decl_sem.proofs.TypeForms.{field_no_types, fields_no_types}
 use Rattle.decl_sem.proofs.VariableLists.{next_left, none_left}
@@ -52,6 +57,43 @@ pub valued : {T U : Type 0} {a b : State} {x y : Made} {s : Site} {ss : List Sha
 valued {a = a} {b = b} {x = x} {y = y} {s = s} {ss = ss} Q {g = g} {v = v} f none making h p =
     reshaped (Ok (Known (f v))) ss (append-nil ss)
     (then_after g (λ u c. makes (f u)) (Ok (Known (f v))) none (subst (λ (zs : List Shape). IsMaking a.frame s x zs) (sym (append-nil ss)) making) p (value_alone b y s (f v) Q h))
+
+-- ** The tag of a variant part
+
+-- the type of a tag, and what is made behind it
+pub tagged : {a b d : State} {x y z : Made} {s : Site} {t : Place} (own offset : ℕ) (tag : Option Ident) (of : Qual) (answer : Result (Ask Variants) Memory) → IsMaking a.frame s x (tag_shapes tag)
+    → Declares a b x y s (Ok (Known t)) [] IsTagType (λ c. only_gives (tag_type c of))
+    → Declares b d y z s answer (tag_shapes tag) AreVariants (λ c. make_then c (tag_rows c own offset t tag) (λ e o. makes (record { own = own; offset = o; tag = t })))
+    → Declares a d x z s answer (tag_shapes tag) AreVariants (λ c. tag_made c own offset tag of)
+tagged own offset tag of answer making p q =
+    then_after (λ c. only_gives (tag_type c of)) (λ t c. make_then c (tag_rows c own offset t tag) (λ e o. makes (record { own = own; offset = o; tag = t }))) answer tt making p q
+
+-- where its variants stand
+pub variants_there : {a b d : State} {x y z : Made} {s : Site} {t : Place} {own o : ℕ} {ts : List Shape} {g : Context → Makes Place} {h : Context → Makes ℕ} → Declares a b x y s (Ok (Known t)) [] IsTagType g → Declares b d y z s (Ok (Known o)) ts IsOffset h
+    → AreVariants d.frame (next_ordinal z) (record { own = own; offset = o; tag = t })
+variants_there {a} {b} {d} {x} {y} {z} {t = t} p q =
+    let n = next_on q.first q.grown in
+    let here : IsTagType a.frame (next_ordinal z) t = (p.there.0, behind_more (omega (arith, n)) p.there.1) in
+    record {
+      tag = subst (λ (f : Frame). IsTagType f (next_ordinal z) t) (sym (q.works.keeps.frame ∙ p.works.keeps.frame)) here;
+      offset = q.there;
+    }
+
+-- ** The row of a record
+
+pub record_meaning : {f : Frame} {s : Site} {o : ℕ} (first end size : ℕ) → size ≡ max end 1 → first ≤ o → end < 2 ^ 32 → IsNewMeaning f s o (Record first size)
+record_meaning first end size is before small = record { small = tt; scopes = tt; fits = (before, omega (arith, is, small)); filled = omega (arith, is); owned = tt }
+
+pub record_made : {a : State} {x y z : Made} {s : Site} {t : Place} (at first end size : ℕ) → size ≡ max end 1 → (answer : Result Place Memory) → IsMaking a.frame s x (nameless record_kind at ∷ [])
+    → Declares a a x y s (Ok (Known t)) (nameless record_kind at ∷ []) IsBehind (λ c. makes_row c at (Record first size))
+    → (IsMaking a.frame s y [] → IsBehind a.frame (next_ordinal y) t → Declares a a y z s (known_of answer) [] IsBehind (λ c. only_gives (fitting c at size t)))
+    → Declares a a x z s (known_of answer) (nameless record_kind at ∷ []) IsBehind (λ c. record_row c at first end)
+record_made {a} {x} {y} {z} {s} {t} at first end size is answer making p q =
+    let none = not_a_type (nameless record_kind at) refl in
+    let whole : Declares a a x z s (known_of answer) (nameless record_kind at ∷ []) IsBehind (λ c. make_then c (makes_row c at (Record first size)) (λ d t. only_gives (fitting d at size t))) =
+    then_after (λ c. makes_row c at (Record first size)) (λ t d. only_gives (fitting d at size t)) (known_of answer) none making p (q (making_on none making p) p.there) in
+    let e : size ≡ max 1 end = omega (arith, is) in
+    subst (λ (n : ℕ). Declares a a x z s (known_of answer) (nameless record_kind at ∷ []) IsBehind (λ c. make_then c (makes_row c at (Record first n)) (λ d t. only_gives (fitting d at n t)))) e whole
 
 -- ** Field lists
 
@@ -166,46 +208,46 @@ module _ {a b : State} {s : Site} {before now : Made} {v : Variants} {xs : List 
   arms_at : GoesOn a b before now s (arms_shapes (arms_of xs)) (fields_shapes inner ++ arms_shapes more_arms) IsOffset (λ c. arms_rows c v.own v.offset v.tag [] v.offset (arms_of xs)) from_labels
   arms_at =
       goes_as (fields_shapes inner ++ arms_shapes more_arms) from_labels (ap arms_shapes arms_left)
-      (λ hand in_hand told same. ap (λ (as : VariantArms). arms_rows (context_of b.frame hand s) v.own v.offset v.tag covered end as) (sym arms_left)) so.on
+      (λ hand in_hand told same. ap (λ (l : VariantArms). arms_rows (context_of b.frame hand s) v.own v.offset v.tag covered end l) (sym arms_left)) so.on
 
   owner_here : IsOwner s now (fields_shapes inner ++ arms_shapes more_arms) v.own
-  owner_here = subst (λ (as : VariantArms). IsOwner s now (arms_shapes as) v.own) arms_left so.owner
+  owner_here = subst (λ (l : VariantArms). IsOwner s now (arms_shapes l) v.own) arms_left so.owner
 
   -- what its labels need
   pub labels_making : IsMaking b.frame s now []
   labels_making = making_front [] (fields_shapes inner ++ arms_shapes more_arms) arms_at.making
 
   -- the labels are known
-  pub record HasLabels (d : State) (then : Made) (now_covered : List Range) : Type 0 where
+  pub record HasLabels (d : State) (mid : Made) (now_covered : List Range) : Type 0 where
     pub there : IsThere d.frame v.tag
-    pub owned : IsOwner s then (fields_shapes inner ++ arms_shapes more_arms) v.own
-    pub goes : GoesOn a d before then s (arms_shapes (arms_of xs)) (fields_shapes inner ++ arms_shapes more_arms) IsOffset (λ c. arms_rows c v.own v.offset v.tag [] v.offset (arms_of xs)) (from_fields now_covered)
+    pub owned : IsOwner s mid (fields_shapes inner ++ arms_shapes more_arms) v.own
+    pub goes : GoesOn a d before mid s (arms_shapes (arms_of xs)) (fields_shapes inner ++ arms_shapes more_arms) IsOffset (λ c. arms_rows c v.own v.offset v.tag [] v.offset (arms_of xs)) (from_fields now_covered)
 
-  pub labels_known : {d : State} {then : Made} {now_covered : List Range} → Declares b d now then s (Ok (Known now_covered)) [] IsAny (λ c. only_gives (covered_of (labels_of c v.tag covered (labels_seen x)))) → HasLabels d then now_covered
-  labels_known {d} {then} {now_covered} p =
+  pub labels_known : {d : State} {mid : Made} {now_covered : List Range} → Declares b d now mid s (Ok (Known now_covered)) [] IsAny (λ c. only_gives (covered_of (labels_of c v.tag covered (labels_seen x)))) → HasLabels d mid now_covered
+  labels_known {d} {mid} {now_covered} p =
       record {
         there = subst (λ (f : Frame). IsThere f v.tag) (sym p.works.keeps.frame) so.tag;
         owned = owner_on (fields_shapes inner ++ arms_shapes more_arms) owner_here p;
         goes = goes_step (λ c. only_gives (covered_of (labels_of c v.tag covered (labels_seen x)))) from_fields tt arms_at p;
       }
 
-  pub labels_failed : {d : State} {then : Made} {m : Memory} (n : Memory) → Declares b d now then s (Err m) [] IsAny (λ c. only_gives (covered_of (labels_of c v.tag covered (labels_seen x))))
-      → Declares a d before then s (Err n) (arms_shapes (arms_of xs)) IsOffset (λ c. arms_rows c v.own v.offset v.tag [] v.offset (arms_of xs))
+  pub labels_failed : {d : State} {mid : Made} {m : Memory} (n : Memory) → Declares b d now mid s (Err m) [] IsAny (λ c. only_gives (covered_of (labels_of c v.tag covered (labels_seen x))))
+      → Declares a d before mid s (Err n) (arms_shapes (arms_of xs)) IsOffset (λ c. arms_rows c v.own v.offset v.tag [] v.offset (arms_of xs))
   labels_failed n p = goes_failed arms_at p n
 
-  pub labels_wait : {d : State} {then : Made} {head : Head} → Declares b d now then s (Ok (DontKnowYet head)) [] IsAny (λ c. only_gives (covered_of (labels_of c v.tag covered (labels_seen x))))
-      → Declares a d before then s (Ok (DontKnowYet head)) (arms_shapes (arms_of xs)) IsOffset (λ c. arms_rows c v.own v.offset v.tag [] v.offset (arms_of xs))
+  pub labels_wait : {d : State} {mid : Made} {head : Head} → Declares b d now mid s (Ok (DontKnowYet head)) [] IsAny (λ c. only_gives (covered_of (labels_of c v.tag covered (labels_seen x))))
+      → Declares a d before mid s (Ok (DontKnowYet head)) (arms_shapes (arms_of xs)) IsOffset (λ c. arms_rows c v.own v.offset v.tag [] v.offset (arms_of xs))
   labels_wait p = goes_waiting arms_at p
 
-  module _ {d : State} {then : Made} {now_covered : List Range} (known : HasLabels d then now_covered) where
+  module _ {d : State} {mid : Made} {now_covered : List Range} (known : HasLabels d mid now_covered) where
     -- what its fields need
-    pub inner_making : IsMaking d.frame s then (fields_shapes inner)
+    pub inner_making : IsMaking d.frame s mid (fields_shapes inner)
     inner_making = making_front (fields_shapes inner) (arms_shapes more_arms) known.goes.making
 
-    pub inner_owner : IsOwner s then (fields_shapes inner) v.own
+    pub inner_owner : IsOwner s mid (fields_shapes inner) v.own
     inner_owner = owner_front (fields_shapes inner) (arms_shapes more_arms) known.owned
 
-    pub one_arm : {d2 : State} {after : Made} {o : ℕ} (top : ℕ) → top ≡ max end o → Declares d d2 then after s (Ok (Known o)) (fields_shapes inner) IsOffset (λ c. fields_rows c v.own v.offset inner)
+    pub one_arm : {d2 : State} {after : Made} {o : ℕ} (top : ℕ) → top ≡ max end o → Declares d d2 mid after s (Ok (Known o)) (fields_shapes inner) IsOffset (λ c. fields_rows c v.own v.offset inner)
         → HasArms a d2 s before after v xs (k + 1) now_covered top
     one_arm {d2} {after} {o} top is p =
         subst (λ (n : ℕ). HasArms a d2 s before after v xs (k + 1) now_covered n) (sym is)
@@ -216,11 +258,11 @@ module _ {a b : State} {s : Site} {before now : Made} {v : Variants} {xs : List 
           on = goes_step (λ c. fields_rows c v.own v.offset inner) (λ o c. arms_rows c v.own v.offset v.tag now_covered (max end o) more_arms) (fields_no_types inner) known.goes p;
         })
 
-    pub inner_failed : {d2 : State} {after : Made} {m : Memory} (n : Memory) → Declares d d2 then after s (Err m) (fields_shapes inner) IsOffset (λ c. fields_rows c v.own v.offset inner)
+    pub inner_failed : {d2 : State} {after : Made} {m : Memory} (n : Memory) → Declares d d2 mid after s (Err m) (fields_shapes inner) IsOffset (λ c. fields_rows c v.own v.offset inner)
         → Declares a d2 before after s (Err n) (arms_shapes (arms_of xs)) IsOffset (λ c. arms_rows c v.own v.offset v.tag [] v.offset (arms_of xs))
     inner_failed n p = goes_failed known.goes p n
 
-    pub inner_waits : {d2 : State} {after : Made} {head : Head} → Declares d d2 then after s (Ok (DontKnowYet head)) (fields_shapes inner) IsOffset (λ c. fields_rows c v.own v.offset inner)
+    pub inner_waits : {d2 : State} {after : Made} {head : Head} → Declares d d2 mid after s (Ok (DontKnowYet head)) (fields_shapes inner) IsOffset (λ c. fields_rows c v.own v.offset inner)
         → Declares a d2 before after s (Ok (DontKnowYet head)) (arms_shapes (arms_of xs)) IsOffset (λ c. arms_rows c v.own v.offset v.tag [] v.offset (arms_of xs))
     inner_waits p = goes_waiting known.goes p
 

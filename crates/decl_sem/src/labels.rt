@@ -43,17 +43,17 @@ impl Covered {
 
 /// The labels of one variant, whose tag is of this type. The value is what is covered with them.
 pub(crate) fn labels_in<S: Scopes>(
-    _scopes: &mut S,
-    _site: &Site,
-    _of: Place,
-    _covered: Covered,
-    _labels: &[Label],
-    _made: &mut Made,
+    scopes: &mut S,
+    site: &Site,
+    of: Place,
+    covered: Covered,
+    labels: &[Label],
+    made: &mut Made,
 ) -> Result<Ask<Covered>, Memory>
-    requires making { IsMaking (S.state _scopes.old).frame _site.now _made.old [] }
-    requires of { IsThere (S.state _scopes.old).frame _of }
-    requires read { AreReadLabels _site.now.texts.now.names (plain_labels (map label_view _labels.now)) }
-    ensures { Declares (S.state _scopes.old) (S.state _scopes.new) _made.old _made.new _site.now result [] IsAny (λ c. only_gives (covered_of (labels_of c _of _covered (plain_labels (map label_view _labels.now))))) }
+    requires making { IsMaking (S.state scopes.old).frame site.now made.old [] }
+    requires of { IsThere (S.state scopes.old).frame of }
+    requires read { AreReadLabels site.now.texts.now.names (plain_labels (map label_view labels.now)) }
+    ensures { Declares (S.state scopes.old) (S.state scopes.new) made.old made.new site.now result [] IsAny (λ c. only_gives (covered_of (labels_of c of covered (plain_labels (map label_view labels.now))))) }
 {
     Err(Memory)
 }
