@@ -1,4 +1,5 @@
 pub mod Alone
+pub mod ArrayCells
 pub mod Asking
 pub mod Checks
 pub mod ConstantRows

@@ -1,21 +1,24 @@
 -- The rows of records: field lists and variants, one after another.
 use Rattle.std.specs.Prelude.{◌≡◌, ℕ, zero, suc, ◌+◌, ◌<◌, ◌≤◌, ◌^◌, List, [], ◌∷◌, ◌++◌, length, map, drop, max, Option, Result, Ok, Err}
 use Rattle.std.proofs.Common.{refl, sym, ap, ◌∙◌, subst, arith, get_or}
-use Rattle.std.proofs.lemmas.List.{append-nil, length-append}
+use Rattle.std.proofs.lemmas.List.{append_assoc, append-nil, length-append}
+use Rattle.std.specs.declared.alloc.Global.{Global}
+use Rattle.std.specs.declared.vec.Vec.{Vec}
+use Rattle.m2_base.proofs.SceneLaws.{with-none}
 use Rattle.m2_base.proofs.Seen.{case_fields_seen, plain_fields_seen, variant_arm_seen}
 use Rattle.m2_base.specs.Rows.{field_kind, record_kind}
 use Rattle.m2_base.specs.States.{Frame, State}
 use Rattle.m2_base.specs.Statics.CaseLabels.{labels_of}
 use Rattle.m2_base.specs.Statics.Cells.{fitting}
-use Rattle.m2_base.specs.Statics.Contexts.{Context}
-use Rattle.m2_base.specs.Statics.Fields.{tag_rows, tag_type}
-use Rattle.m2_base.specs.Statics.Makes.{Makes, make_then, makes, makes_row, only_gives}
+use Rattle.m2_base.specs.Statics.Contexts.{Context, Scene}
+use Rattle.m2_base.specs.Statics.Fields.{plain_rows, tag_rows, tag_type}
+use Rattle.m2_base.specs.Statics.Makes.{Makes, make_then, makes, makes_row, only_gives, with_rows}
 use Rattle.m2_base.specs.Statics.Ranges.{Range}
 use Rattle.m2_base.specs.Statics.ReadTrees.{AreReadArms, AreReadFields, AreReadLabels, IsReadArm, IsReadField}
-use Rattle.m2_base.specs.Statics.Shapes.{Shape, arms_shapes, field_shapes, fields_shapes, form_shapes, nameless, tag_shapes}
-use Rattle.m2_base.specs.Statics.TypeRows.{arms_rows, field_list_rows, fields_rows, form_rows}
-use Rattle.m2_base.specs.Trees.{FieldList, FieldLists, Labels, VariantArm, VariantArms, labels, more_fields, more_variant_arms, record_type, variant_arm}
-use Rattle.m2_base.specs.Views.{field_list_view, label_view, variant_arm_view}
+use Rattle.m2_base.specs.Statics.Shapes.{Shape, arms_shapes, field_shapes, fields_shapes, form_shapes, nameless, tag_shapes, type_shapes}
+use Rattle.m2_base.specs.Statics.TypeRows.{arms_rows, field_list_rows, fields_rows, form_rows, type_rows}
+use Rattle.m2_base.specs.Trees.{FieldList, FieldLists, Labels, TypeExpr, VariantArm, VariantArms, case_fields, labels, more_fields, more_variant_arms, plain_fields, record_type, variant_arm}
+use Rattle.m2_base.specs.Views.{field_list_view, label_view, type_view, variant_arm_view}
 use Rattle.m2_base.specs.declared.memory.Memory.{Memory}
 use Rattle.m2_base.specs.declared.replies.Ask.{Ask}
 use Rattle.m2_base.specs.declared.replies.Ask.TheVariants.{Known, DontKnowYet}
@@ -26,19 +29,21 @@ use Rattle.m2_base.specs.declared.sites.Site.{Site}
 use Rattle.m2_base.specs.declared.trees.Ident.{Ident}
 use Rattle.m2_base.specs.declared.trees.Qual.{Qual}
 use Rattle.m2_base.specs.declared.trees.types as code
+use Rattle.m2_base.specs.declared.trees.types.FieldList.TheVariants.{Cases, Plain}
 use Rattle.type_rules.specs.Scenes.{IsThere}
 use Rattle.type_rules.specs.Sites.{context_of}
 use Rattle.decl_sem.specs.Making.{next_ordinal}
 use Rattle.decl_sem.specs.Pieces.{Declares, IsAny, IsBehind, IsMaking, IsNewMeaning, item_end, known_of}
-use Rattle.decl_sem.specs.Records.{AreVariants, IsOffset, IsOwner, IsTagType, covered_of, record_row, tag_made}
+use Rattle.decl_sem.specs.Records.{AreVariants, IsOffset, IsOwner, IsTagType, behind_tag_rows, behind_tag_shapes, covered_of, record_row, tag_made}
 use Rattle.decl_sem.specs.declared.making.Made.{Made}
 use Rattle.decl_sem.specs.declared.records.Variants.{Variants}
 use Rattle.decl_sem.proofs.Hands.{hand_is}
 use Rattle.decl_sem.proofs.OneRows.{behind_more}
+use Rattle.decl_sem.proofs.Parameters.{make_then_assoc}
 use Rattle.decl_sem.proofs.Pieces.{AreNoTypes, GoesOn, described, goes_as, goes_end, goes_failed, goes_start, goes_step, goes_waiting, making_front, making_on, next_on, not_a_type, reshaped, then_after, value_alone}
 use Rattle.decl_sem.proofs.RecordSizes.{arms_of, fields_of}
-use Rattle.decl_sem.proofs.TypeForms.{field_no_types, fields_no_types}
-use Rattle.decl_sem.proofs.VariableLists.{next_left, none_left}
+use Rattle.decl_sem.proofs.TypeForms.{arms_no_types, field_no_types, fields_no_types, tag_no_types, type_no_types}
+use Rattle.decl_sem.proofs.VariableLists.{next_left, none_left, then_same}
 
 -- ** The row of the record, still ahead
 
@@ -286,3 +291,118 @@ pub arm_read : (names : List (List ℕ)) (xs : List code.VariantArm.VariantArm) 
 arm_read names xs k x h e all =
     let this : IsReadArm names (variant_arm_view x) = subst (λ (u : code.VariantArm.VariantArm). IsReadArm names (variant_arm_view u)) (sym e) (arm_read_at names xs k x h all) in
     subst (λ (u : VariantArm). IsReadArm names u) (variant_arm_seen x) this
+
+-- ** A whole record
+
+-- its row is behind its fields
+pub own_ahead : {f : Frame} {s : Site} {x : Made} (at first rows : ℕ) (fs : FieldLists) → IsMaking f s x (form_shapes at (record_type fs)) → first ≡ next_ordinal x → rows ≡ length (fields_shapes fs) → IsOwner s x (fields_shapes fs) (first + rows)
+own_ahead at first rows fs making is count =
+    record {
+      behind = omega (arith, is, count);
+      within = let l = length-append (fields_shapes fs) (nameless record_kind at ∷ []) in let r = making.room in omega (arith, is, count, l, r);
+    }
+
+pub record_whole : {a b d : State} {x y z : Made} {s : Site} {end : ℕ} (at first rows : ℕ) (fs : FieldLists) (answer : Result (Ask Place) Memory) → IsMaking a.frame s x (form_shapes at (record_type fs)) → first ≡ next_ordinal x → rows ≡ length (fields_shapes fs)
+    → Declares a b x y s (Ok (Known end)) (fields_shapes fs) IsOffset (λ c. fields_rows c (first + rows) 0 fs)
+    → Declares b d y z s answer (nameless record_kind at ∷ []) IsBehind (λ c. record_row c at first end)
+    → Declares a d x z s answer (form_shapes at (record_type fs)) IsBehind (λ c. form_rows c at (record_type fs))
+record_whole {a} {b} {d} {x} {y} {z} {s} {end} at first rows fs answer making is count p q =
+    let counted : Declares a b x y s (Ok (Known end)) (fields_shapes fs) IsOffset (λ c. fields_rows c (first + length (fields_shapes fs)) 0 fs) =
+    subst (λ (n : ℕ). Declares a b x y s (Ok (Known end)) (fields_shapes fs) IsOffset (λ c. fields_rows c (first + n) 0 fs)) count p in
+    described answer (λ c. form_rows c at (record_type fs))
+    (then_after (λ c. fields_rows c (first + length (fields_shapes fs)) 0 fs) (λ end c. record_row c at first end) answer (fields_no_types fs) making counted q)
+    (λ hand in_hand told same. let c = context_of a.frame hand s in
+    ap (λ (n : ℕ). make_then c (fields_rows c (n + length (fields_shapes fs)) 0 fs) (λ d end. record_row d at n end))
+    (is ∙ sym (hand_is making hand same told).count))
+
+-- ** What stands behind a tag
+
+-- the variants, then the fields after ELSE
+pub arms_then : {a b d : State} {x y z : Made} {s : Site} {end : ℕ} (v : Variants) (arms : VariantArms) (other : FieldLists) (answer : Result (Ask ℕ) Memory) → IsMaking a.frame s x (behind_tag_shapes arms other)
+    → Declares a b x y s (Ok (Known end)) (arms_shapes arms) IsOffset (λ c. arms_rows c v.own v.offset v.tag [] v.offset arms)
+    → Declares b d y z s answer (fields_shapes other) IsOffset (λ c. make_then c (fields_rows c v.own v.offset other) (λ e last. makes (max end last)))
+    → Declares a d x z s answer (behind_tag_shapes arms other) IsOffset (λ c. behind_tag_rows c v arms other)
+arms_then v arms other answer making p q =
+    then_after (λ c. arms_rows c v.own v.offset v.tag [] v.offset arms) (λ end c. make_then c (fields_rows c v.own v.offset other) (λ e last. makes (max end last))) answer (arms_no_types arms) making p q
+
+-- the greater offset counts
+pub greater_last : {a b d : State} {x y z : Made} {s : Site} {end last : ℕ} (top : ℕ) (v : Variants) (arms : VariantArms) (other : FieldLists) → top ≡ max end last → IsMaking a.frame s x (behind_tag_shapes arms other)
+    → Declares a b x y s (Ok (Known end)) (arms_shapes arms) IsOffset (λ c. arms_rows c v.own v.offset v.tag [] v.offset arms)
+    → Declares b d y z s (Ok (Known last)) (fields_shapes other) IsOffset (λ c. fields_rows c v.own v.offset other)
+    → Declares a d x z s (Ok (Known top)) (behind_tag_shapes arms other) IsOffset (λ c. behind_tag_rows c v arms other)
+greater_last {a} {b} {d} {x} {y} {z} {s} {end} {last} top v arms other is making p q =
+    let making_other = making_on (arms_no_types arms) making p in
+    let whole : Declares a d x z s (Ok (Known (max end last))) (behind_tag_shapes arms other) IsOffset (λ c. behind_tag_rows c v arms other) =
+    arms_then v arms other (Ok (Known (max end last))) making p
+    (valued IsOffset (λ (n : ℕ). max end n) (fields_no_types other) making_other (let m = p.there in let n = q.there in omega (arith, m, n)) q) in
+    subst (λ (n : ℕ). Declares a d x z s (Ok (Known n)) (behind_tag_shapes arms other) IsOffset (λ c. behind_tag_rows c v arms other)) (sym is) whole
+
+-- ** The forms of field lists
+
+module _ (f : code.FieldList.FieldList) (form : FieldList) (e : field_list_view f ≡ form) where
+  pub list_form_making : {k : Frame} {s : Site} {x : Made} → IsMaking k s x (field_shapes (field_list_view f)) → IsMaking k s x (field_shapes form)
+  list_form_making {k} {s} {x} making = subst (λ (u : FieldList). IsMaking k s x (field_shapes u)) e making
+
+  pub list_form_owner : {s : Site} {x : Made} {own : ℕ} → IsOwner s x (field_shapes (field_list_view f)) own → IsOwner s x (field_shapes form) own
+  list_form_owner {s} {x} {own} owner = subst (λ (u : FieldList). IsOwner s x (field_shapes u) own) e owner
+
+  pub list_form_read : (names : List (List ℕ)) → IsReadField names (field_list_view f) → IsReadField names form
+  list_form_read names read = subst (λ (u : FieldList). IsReadField names u) e read
+
+  pub list_form_made : {a b : State} {x y : Made} {s : Site} (own offset : ℕ) {answer : Result (Ask ℕ) Memory}
+      → Declares a b x y s answer (field_shapes form) IsOffset (λ c. field_list_rows c own offset form) → Declares a b x y s answer (field_shapes (field_list_view f)) IsOffset (λ c. field_list_rows c own offset (field_list_view f))
+  list_form_made {a} {b} {x} {y} {s} own offset {answer} p = subst (λ (u : FieldList). Declares a b x y s answer (field_shapes u) IsOffset (λ c. field_list_rows c own offset u)) (sym e) p
+
+pub is_plain : (f : code.FieldList.FieldList) (names : Vec Ident Global) (typ u : code.TypeExpr.TypeExpr) (l : List Ident) → l ≡ names.items → u ≡ typ → f ≡ Plain names typ → field_list_view f ≡ plain_fields l (type_view u)
+is_plain f names typ u l same_names same e =
+    ap field_list_view e ∙ plain_fields_seen names typ ∙ ap (λ (n : List Ident). plain_fields n (type_view typ)) (sym same_names) ∙ ap (λ (v : code.TypeExpr.TypeExpr). plain_fields l (type_view v)) (sym same)
+
+pub is_cases : (f : code.FieldList.FieldList) (tag : Option Ident) (of : Qual) (arms : Vec code.VariantArm.VariantArm Global) (other : Vec code.FieldList.FieldList Global) (k : List code.VariantArm.VariantArm) (l : List code.FieldList.FieldList)
+    → k ≡ arms.items → l ≡ other.items → f ≡ Cases tag of arms other → field_list_view f ≡ case_fields tag of (arms_of k) (fields_of l)
+is_cases f tag of arms other k l same_arms same_other e =
+    ap field_list_view e ∙ case_fields_seen tag of arms other ∙ ap (λ (v : List code.VariantArm.VariantArm). case_fields tag of (arms_of v) (fields_of other.items)) (sym same_arms)
+    ∙ ap (λ (v : List code.FieldList.FieldList). case_fields tag of (arms_of k) (fields_of v)) (sym same_other)
+
+-- the shapes of a variant part, the tag's first
+pub cases_apart : (tag : Option Ident) (of : Qual) (arms : VariantArms) (other : FieldLists) → field_shapes (case_fields tag of arms other) ≡ tag_shapes tag ++ behind_tag_shapes arms other
+cases_apart tag of arms other = append_assoc (tag_shapes tag) (arms_shapes arms) (fields_shapes other)
+
+module _ (f : code.FieldList.FieldList) (tag : Option Ident) (of : Qual) (arms : VariantArms) (other : FieldLists) (e : field_list_view f ≡ case_fields tag of arms other) where
+  pub cases_making : {k : Frame} {s : Site} {x : Made} → IsMaking k s x (field_shapes (field_list_view f)) → IsMaking k s x (tag_shapes tag ++ behind_tag_shapes arms other)
+  cases_making {k} {s} {x} making = subst (λ (zs : List Shape). IsMaking k s x zs) (cases_apart tag of arms other) (list_form_making f (case_fields tag of arms other) e making)
+
+  pub cases_owner : {s : Site} {x : Made} {own : ℕ} → IsOwner s x (field_shapes (field_list_view f)) own → IsOwner s x (tag_shapes tag ++ behind_tag_shapes arms other) own
+  cases_owner {s} {x} {own} owner = subst (λ (zs : List Shape). IsOwner s x zs own) (cases_apart tag of arms other) (list_form_owner f (case_fields tag of arms other) e owner)
+
+pub plain_made : {a b d : State} {x y z : Made} {s : Site} {t : Place} (own offset : ℕ) (typ : TypeExpr) (names : List Ident) (answer : Result (Ask ℕ) Memory) → IsMaking a.frame s x (field_shapes (plain_fields names typ))
+    → Declares a b x y s (Ok (Known t)) (type_shapes typ) IsBehind (λ c. type_rows c typ) → Declares b d y z s answer (map (λ i. nameless field_kind i.at) names) IsOffset (λ c. plain_rows c own t offset names)
+    → Declares a d x z s answer (field_shapes (plain_fields names typ)) IsOffset (λ c. field_list_rows c own offset (plain_fields names typ))
+plain_made own offset typ names answer making p q = then_after (λ c. type_rows c typ) (λ t c. plain_rows c own t offset names) answer (type_no_types typ) making p q
+
+with_none : (c : Context) → with_rows c [] ≡ c
+with_none c = ap (λ (s : Scene). record { source = c.source; scene = s; layout = c.layout; item = c.item }) (with-none c.scene)
+
+-- what is given after a value alone
+then_none : {A B : Type 0} (c : Context) (v : A) (f : Context → A → Makes B) → make_then c (makes v) f ≡ f c v
+then_none c v f = ap (λ (d : Context). f d v) (with_none c)
+
+cases_given : (own offset : ℕ) (tag : Option Ident) (of : Qual) (arms : VariantArms) (other : FieldLists) (c : Context) → make_then c (tag_made c own offset tag of) (λ d v. behind_tag_rows d v arms other) ≡ field_list_rows c own offset (case_fields tag of arms other)
+cases_given own offset tag of arms other c =
+    let d = with_rows c [] in
+    let t = (tag_type c of).value in
+    let m = tag_rows d own offset t tag in
+    let rest : Context → Variants → Makes ℕ = λ e v. behind_tag_rows e v arms other in
+    let at : ℕ → Place → Variants = λ o u. record { own = own; offset = o; tag = u } in
+    make_then_assoc c (only_gives (tag_type c of)) (λ e u. make_then e (tag_rows e own offset u tag) (λ k o. makes (at o u))) rest
+    ∙ then_same c (only_gives (tag_type c of)) (λ e u. make_then e (make_then e (tag_rows e own offset u tag) (λ k o. makes (at o u))) rest) (λ e u. make_then e (tag_rows e own offset u tag) (λ k o. rest k (at o u)))
+    (make_then_assoc d m (λ k o. makes (at o t)) rest
+    ∙ then_same d m (λ k o. make_then k (makes (at o t)) rest) (λ k o. rest k (at o t)) (then_none (with_rows d m.rows) (at m.value t) rest))
+
+pub cases_made : {a b d : State} {x y z : Made} {s : Site} {v : Variants} (own offset : ℕ) (tag : Option Ident) (of : Qual) (arms : VariantArms) (other : FieldLists) (answer : Result (Ask ℕ) Memory) → IsMaking a.frame s x (tag_shapes tag ++ behind_tag_shapes arms other)
+    → Declares a b x y s (Ok (Known v)) (tag_shapes tag) AreVariants (λ c. tag_made c own offset tag of) → Declares b d y z s answer (behind_tag_shapes arms other) IsOffset (λ c. behind_tag_rows c v arms other)
+    → Declares a d x z s answer (field_shapes (case_fields tag of arms other)) IsOffset (λ c. field_list_rows c own offset (case_fields tag of arms other))
+cases_made {a} {s = s} own offset tag of arms other answer making p q =
+    described answer (λ c. field_list_rows c own offset (case_fields tag of arms other))
+    (reshaped answer (field_shapes (case_fields tag of arms other)) (sym (cases_apart tag of arms other))
+    (then_after (λ c. tag_made c own offset tag of) (λ v c. behind_tag_rows c v arms other) answer (tag_no_types tag) making p q))
+    (λ hand in_hand told same. cases_given own offset tag of arms other (context_of a.frame hand s))
