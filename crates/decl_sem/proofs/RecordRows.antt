@@ -34,7 +34,7 @@ use Rattle.type_rules.specs.Scenes.{IsThere}
 use Rattle.type_rules.specs.Sites.{context_of}
 use Rattle.decl_sem.specs.Making.{next_ordinal}
 use Rattle.decl_sem.specs.Pieces.{Declares, IsAny, IsBehind, IsMaking, IsNewMeaning, item_end, known_of}
-use Rattle.decl_sem.specs.Records.{AreVariants, IsOffset, IsOwner, IsTagType, behind_tag_rows, behind_tag_shapes, covered_of, record_row, tag_made}
+use Rattle.decl_sem.specs.Records.{AreVariants, AreVariantsOf, IsOffset, IsOwner, IsTagType, behind_tag_rows, behind_tag_shapes, covered_of, record_row, tag_made}
 use Rattle.decl_sem.specs.declared.making.Made.{Made}
 use Rattle.decl_sem.specs.declared.records.Variants.{Variants}
 use Rattle.decl_sem.proofs.Hands.{hand_is}
@@ -68,20 +68,23 @@ valued {a = a} {b = b} {x = x} {y = y} {s = s} {ss = ss} Q {g = g} {v = v} f non
 -- the type of a tag, and what is made behind it
 pub tagged : {a b d : State} {x y z : Made} {s : Site} {t : Place} (own offset : ℕ) (tag : Option Ident) (of : Qual) (answer : Result (Ask Variants) Memory) → IsMaking a.frame s x (tag_shapes tag)
     → Declares a b x y s (Ok (Known t)) [] IsTagType (λ c. only_gives (tag_type c of))
-    → Declares b d y z s answer (tag_shapes tag) AreVariants (λ c. make_then c (tag_rows c own offset t tag) (λ e o. makes (record { own = own; offset = o; tag = t })))
-    → Declares a d x z s answer (tag_shapes tag) AreVariants (λ c. tag_made c own offset tag of)
+    → Declares b d y z s answer (tag_shapes tag) (AreVariantsOf own) (λ c. make_then c (tag_rows c own offset t tag) (λ e o. makes (record { own = own; offset = o; tag = t })))
+    → Declares a d x z s answer (tag_shapes tag) (AreVariantsOf own) (λ c. tag_made c own offset tag of)
 tagged own offset tag of answer making p q =
     then_after (λ c. only_gives (tag_type c of)) (λ t c. make_then c (tag_rows c own offset t tag) (λ e o. makes (record { own = own; offset = o; tag = t }))) answer tt making p q
 
 -- where its variants stand
 pub variants_there : {a b d : State} {x y z : Made} {s : Site} {t : Place} {own o : ℕ} {ts : List Shape} {g : Context → Makes Place} {h : Context → Makes ℕ} → Declares a b x y s (Ok (Known t)) [] IsTagType g → Declares b d y z s (Ok (Known o)) ts IsOffset h
-    → AreVariants d.frame (next_ordinal z) (record { own = own; offset = o; tag = t })
+    → AreVariantsOf own d.frame (next_ordinal z) (record { own = own; offset = o; tag = t })
 variants_there {a} {b} {d} {x} {y} {z} {t = t} p q =
     let n = next_on q.first q.grown in
     let here : IsTagType a.frame (next_ordinal z) t = (p.there.0, behind_more (omega (arith, n)) p.there.1) in
     record {
-      tag = subst (λ (f : Frame). IsTagType f (next_ordinal z) t) (sym (q.works.keeps.frame ∙ p.works.keeps.frame)) here;
-      offset = q.there;
+      of_record = refl;
+      variants = record {
+        tag = subst (λ (f : Frame). IsTagType f (next_ordinal z) t) (sym (q.works.keeps.frame ∙ p.works.keeps.frame)) here;
+        offset = q.there;
+      };
     }
 
 -- ** The row of a record
@@ -399,7 +402,7 @@ cases_given own offset tag of arms other c =
     ∙ then_same d m (λ k o. make_then k (makes (at o t)) rest) (λ k o. rest k (at o t)) (then_none (with_rows d m.rows) (at m.value t) rest))
 
 pub cases_made : {a b d : State} {x y z : Made} {s : Site} {v : Variants} (own offset : ℕ) (tag : Option Ident) (of : Qual) (arms : VariantArms) (other : FieldLists) (answer : Result (Ask ℕ) Memory) → IsMaking a.frame s x (tag_shapes tag ++ behind_tag_shapes arms other)
-    → Declares a b x y s (Ok (Known v)) (tag_shapes tag) AreVariants (λ c. tag_made c own offset tag of) → Declares b d y z s answer (behind_tag_shapes arms other) IsOffset (λ c. behind_tag_rows c v arms other)
+    → Declares a b x y s (Ok (Known v)) (tag_shapes tag) (AreVariantsOf own) (λ c. tag_made c own offset tag of) → Declares b d y z s answer (behind_tag_shapes arms other) IsOffset (λ c. behind_tag_rows c v arms other)
     → Declares a d x z s answer (field_shapes (case_fields tag of arms other)) IsOffset (λ c. field_list_rows c own offset (case_fields tag of arms other))
 cases_made {a} {s = s} own offset tag of arms other answer making p q =
     described answer (λ c. field_list_rows c own offset (case_fields tag of arms other))

@@ -1,5 +1,5 @@
 -- The rows of a record's fields, and the values that its variants stand for.
-use Rattle.std.specs.Prelude.{ℕ, ◌+◌, ◌<◌, ◌≤◌, List, [], ◌++◌, Option, length, max}
+use Rattle.std.specs.Prelude.{◌≡◌, ℕ, ◌+◌, ◌<◌, ◌≤◌, List, [], ◌++◌, Option, length, max}
 use Rattle.m2_base.specs.Gives.{Gives}
 use Rattle.m2_base.specs.States.{Frame}
 use Rattle.m2_base.specs.Statics.CaseLabels.{CaseLabels}
@@ -45,6 +45,11 @@ IsTagType f next t = IsThere f t × IsBehind f next t
 pub record AreVariants (f : Frame) (next : ℕ) (v : Variants) : Type 0 where
   pub tag : IsTagType f next v.tag
   pub offset : v.offset ≤ most_cells + 1
+
+-- and they are variants of the record whose row has this ordinal
+pub record AreVariantsOf (own : ℕ) (f : Frame) (next : ℕ) (v : Variants) : Type 0 where
+  pub of_record : v.own ≡ own
+  pub variants : AreVariants f next v
 
 -- the tag's type is looked at, and the tag takes a cell, if it has a name
 abbrev pub tag_made : Context → (own offset : ℕ) → Option Ident → Qual → Makes Variants

@@ -6,7 +6,7 @@ ghost use Rattle.m2_base.specs.Statics.ReadTrees.{IsReadOption, IsReadQual};
 ghost use Rattle.m2_base.specs.Statics.Shapes.{nameless, tag_shapes};
 ghost use Rattle.decl_sem.specs.Making.{next_ordinal};
 ghost use Rattle.decl_sem.specs.Pieces.{Declares, IsBehind, IsMaking, known_of};
-ghost use Rattle.decl_sem.specs.Records.{AreVariants, IsOwner, record_row, tag_made};
+ghost use Rattle.decl_sem.specs.Records.{AreVariantsOf, IsOwner, record_row, tag_made};
 
 use crate::cells::fit;
 use crate::fields::{put_tag, tag_in};
@@ -37,7 +37,7 @@ pub(crate) fn begin_variants<S: Scopes>(
     requires offset { offset ≤ 16777216 }
     requires tag { IsReadOption site.now.texts.now.names tag }
     requires read { IsReadQual site.now.texts.now.names of }
-    ensures { Declares (S.state scopes.old) (S.state scopes.new) made.old made.new site.now result (tag_shapes tag) AreVariants (λ c. tag_made c own offset tag of) }
+    ensures { Declares (S.state scopes.old) (S.state scopes.new) made.old made.new site.now result (tag_shapes tag) (AreVariantsOf own) (λ c. tag_made c own offset tag of) }
 {
     let typ = made!(tag_in(scopes, site, of, made));
     let begin = put!(put_tag(scopes, site, made, own, typ, offset, tag));

@@ -6,7 +6,7 @@ use Rattle.m2_base.specs.Statics.Shapes.{tag_shapes}
 use Rattle.m2_base.specs.declared.replies.Ask.TheVariants.{Known}
 use Rattle.decl_sem.specs.Making.{next_ordinal}
 use Rattle.decl_sem.specs.Pieces.{IsBehind}
-use Rattle.decl_sem.specs.Records.{AreVariants, IsTagType}
+use Rattle.decl_sem.specs.Records.{AreVariantsOf}
 use Rattle.decl_sem.proofs.Asking.{first_made}
 use Rattle.decl_sem.proofs.Pieces.{failed, making_front, making_on, then_after}
 use Rattle.decl_sem.proofs.RecordRows.{owner_on, tagged, valued, variants_there}
@@ -37,4 +37,4 @@ returns g c =
     let p = first_made c.in-Ok.is c.in-Known.is c.tag_in.ensures in
     let making = making_on {ss = []} tt c.requires.making p in
     tagged c.args.own c.args.offset c.args.tag c.args.of (Ok (Known (record { own = c.args.own; offset = c.in-Ok-put_tag.value; tag = c.in-Known.value }))) c.requires.making p
-    (valued AreVariants (λ o. record { own = c.args.own; offset = o; tag = c.in-Known.value }) (tag_no_types c.args.tag) making (variants_there p c.in-Ok-put_tag.ensures) c.in-Ok-put_tag.ensures)
+    (valued (AreVariantsOf c.args.own) (λ o. record { own = c.args.own; offset = o; tag = c.in-Known.value }) (tag_no_types c.args.tag) making (variants_there p c.in-Ok-put_tag.ensures) c.in-Ok-put_tag.ensures)

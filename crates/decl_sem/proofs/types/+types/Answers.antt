@@ -1,5 +1,5 @@
 use Rattle.std.proofs.Common.{[], ◌∷◌, ◌∙◌, Err, Ok, ap, arith, map, refl, sym, subst, ℕ}
-use Rattle.m2_base.specs.Rows.{field_kind, set_kind}
+use Rattle.m2_base.specs.Rows.{field_kind, record_kind, set_kind}
 use Rattle.m2_base.specs.States.{Frame}
 use Rattle.m2_base.specs.Statics.Arrays.{checked_base}
 use Rattle.m2_base.specs.Statics.Makes.{make_then, makes_row, only_gives}
@@ -9,15 +9,16 @@ use Rattle.m2_base.specs.Trees.{case_fields, enum_type, named_type, plain_fields
 use Rattle.m2_base.specs.Views.{type_view}
 use Rattle.m2_base.specs.declared.rows.RowMeaning.TheVariants.{Set}
 use Rattle.m2_base.specs.declared.trees.types.TypeExpr.{TypeExpr}
-use Rattle.m2_base.specs.declared.replies.Ask.TheVariants.{DontKnowYet}
+use Rattle.m2_base.specs.declared.replies.Ask.TheVariants.{DontKnowYet, Known}
 use Rattle.decl_sem.specs.Making.{next_ordinal}
 use Rattle.decl_sem.specs.Pieces.{Declares, IsBehind}
-use Rattle.decl_sem.specs.Records.{AreVariants, behind_tag_shapes}
+use Rattle.decl_sem.specs.Records.{AreVariants, IsOwner, behind_tag_shapes}
 use Rattle.decl_sem.proofs.Asking.{first_made}
+use Rattle.decl_sem.proofs.OneRows.{room_for_row}
 use Rattle.decl_sem.proofs.Pieces.{failed, making_front, making_on, then_after, waiting}
-use Rattle.decl_sem.proofs.RecordRows.{all_arms, all_lists, arm_read, arms_then, cases_made, cases_making, cases_owner, field_read, greater_last, inner_failed, inner_making, inner_owner, inner_waits, is_cases, is_plain, labels_failed, labels_known, labels_making, labels_wait, list_form_made, list_form_making, list_form_owner, list_form_read, list_failed, list_making, list_owner, list_waits, one_arm, one_list, owner_front, owner_on, plain_made}
+use Rattle.decl_sem.proofs.RecordRows.{all_arms, all_lists, arm_read, arms_then, cases_made, cases_making, cases_owner, field_read, greater_last, inner_failed, inner_making, inner_owner, inner_waits, is_cases, is_plain, labels_failed, labels_known, labels_making, labels_wait, list_form_made, list_form_making, list_form_owner, list_form_read, list_failed, list_making, list_owner, list_waits, one_arm, one_list, own_ahead, owner_front, owner_on, plain_made, record_whole}
 use Rattle.decl_sem.proofs.RecordSizes.{arm_small, arms_of, cases_small, field_small, fields_of, plain_small, record_small}
-use Rattle.decl_sem.proofs.TypeForms.{at_seen, enum_room, form_made, form_making, form_read, is_enum, is_named, is_proc, is_record, is_set, read_here, set_parts, tag_no_types, arms_no_types, type_no_types, unmade}
+use Rattle.decl_sem.proofs.TypeForms.{at_seen, enum_room, form_made, form_making, form_read, is_enum, is_named, is_proc, is_record, is_set, read_here, set_parts, arms_no_types, fields_no_types, tag_no_types, type_no_types, unmade}
 use Rattle.decl_sem.proofs.TypeSizes.{smaller_base}
 use Rattle.decl_sem.proofs.types.+types.Goals as goal
 
@@ -117,6 +118,35 @@ type_in-returns-in-Rec g t c =
 
 pub record_in-returns-in-Err : goal.record_in-returns-in-Err
 record_in-returns-in-Err g t c = unmade _ _ _ _ _ _ _
+
+pub record_in-fields_in-requires : goal.record_in-fields_in-requires
+record_in-fields_in-requires g t c κs within =
+    let fields = fields_of c.args.fields.now in (
+      omega (arith, c.decreases),
+      (
+        within,
+        (
+          making_front (fields_shapes fields) (nameless record_kind c.args.at ∷ []) c.requires.making,
+          (own_ahead c.args.at c.next_row-first.result c.in-Ok.value fields c.requires.making c.next_row-first.ensures c.in-Ok.ensures, (omega arith, c.requires.read)),
+        ),
+      ),
+    )
+
+pub record_in-put_record-requires-clause-room : goal.record_in-put_record-requires-clause-room
+record_in-put_record-requires-clause-room g t c =
+    room_for_row (making_on (fields_no_types (fields_of c.args.fields.now)) c.requires.making (first_made c.in-Ok-fields_in.is c.in-Known.is c.fields_in.ensures))
+
+pub record_in-returns-in-Err-put_record : goal.record_in-returns-in-Err-put_record
+record_in-returns-in-Err-put_record g t c =
+    let p = first_made c.in-Ok-fields_in.is c.in-Known.is c.fields_in.ensures in
+    record_whole c.args.at c.next_row-first.result c.in-Ok.value (fields_of c.args.fields.now) (Err c.in-Err-put_record.memory) c.requires.making c.next_row-first.ensures c.in-Ok.ensures p
+    (c.in-Err-put_record.ensures (g.S.Scopes.state c.fields_in.new.scopes) (making_on (fields_no_types (fields_of c.args.fields.now)) c.requires.making p))
+
+pub record_in-returns : goal.record_in-returns
+record_in-returns g t c =
+    let p = first_made c.in-Ok-fields_in.is c.in-Known.is c.fields_in.ensures in
+    record_whole c.args.at c.next_row-first.result c.in-Ok.value (fields_of c.args.fields.now) (Ok (Known c.in-Ok-put_record.value)) c.requires.making c.next_row-first.ensures c.in-Ok.ensures p
+    (c.in-Ok-put_record.ensures (g.S.Scopes.state c.fields_in.new.scopes) (making_on (fields_no_types (fields_of c.args.fields.now)) c.requires.making p))
 
 pub fields_in-field_list_in-requires : goal.fields_in-field_list_in-requires
 fields_in-field_list_in-requires g t c κs within =
@@ -223,7 +253,7 @@ field_list_in-begin_variants-requires-clause-read g t c =
     let k = c.in-Cases.arms.items in
     let l = c.in-Cases.other.items in
     let is = is_cases f c.in-Cases.tag c.in-Cases.of c.in-Cases.arms c.in-Cases.other k l refl refl c.in-Cases.is in
-    (list_form_read f (case_fields c.in-Cases.tag c.in-Cases.of (arms_of k) (fields_of l)) is c.args.site.now.texts.now.names c.requires.read).1.0
+    (list_form_read f (case_fields c.in-Cases.tag c.in-Cases.of (arms_of k) (fields_of l)) is c.args.site.now.texts.now.names c.requires.read).1
 
 pub field_list_in-variants_in-requires : goal.field_list_in-variants_in-requires
 field_list_in-variants_in-requires g t c κs within =
@@ -239,8 +269,8 @@ field_list_in-variants_in-requires g t c κs within =
         (
           making_on (tag_no_types c.in-Cases.tag) (cases_making f c.in-Cases.tag c.in-Cases.of (arms_of k) (fields_of l) is c.requires.making) p,
           (
-            owner_on (behind_tag_shapes (arms_of k) (fields_of l)) (cases_owner f c.in-Cases.tag c.in-Cases.of (arms_of k) (fields_of l) is c.requires.owner) p,
-            (subst (λ (h : Frame). AreVariants h (next_ordinal c.begin_variants.new.made) c.in-Known-asked.value) (sym p.works.keeps.frame) p.there, (read.1.1.0, read.1.1.1)),
+            subst (λ (n : ℕ). IsOwner c.args.site.now c.begin_variants.new.made (behind_tag_shapes (arms_of k) (fields_of l)) n) (sym p.there.of_record) (owner_on (behind_tag_shapes (arms_of k) (fields_of l)) (cases_owner f c.in-Cases.tag c.in-Cases.of (arms_of k) (fields_of l) is c.requires.owner) p),
+            (subst (λ (h : Frame). AreVariants h (next_ordinal c.begin_variants.new.made) c.in-Known-asked.value) (sym p.works.keeps.frame) p.there.variants, (read.2, read.3)),
           ),
         ),
       ),
