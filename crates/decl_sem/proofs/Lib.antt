@@ -3,6 +3,7 @@ pub mod Asking
 pub mod Checks
 pub mod ConstantRows
 pub mod Constants
+pub mod Coverings
 pub mod FieldNames
 pub mod FieldLists
 pub mod FirstNames
@@ -15,6 +16,7 @@ pub mod ImportedScopes
 pub mod ItemBeginnings
 pub mod ItemEffects
 pub mod ItemShapes
+pub mod CoveringLabels
 pub mod MakingOn
 pub mod ManyItems
 pub mod Namings
