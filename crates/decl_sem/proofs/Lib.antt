@@ -4,6 +4,7 @@ pub mod Asking
 pub mod Checks
 pub mod ConstantRows
 pub mod Constants
+pub mod Coverings
 pub mod FieldNames
 pub mod FieldLists
 pub mod FirstNames
@@ -16,6 +17,7 @@ pub mod ImportedScopes
 pub mod ItemBeginnings
 pub mod ItemEffects
 pub mod ItemShapes
+pub mod CoveringLabels
 pub mod MakingOn
 pub mod ManyItems
 pub mod Namings

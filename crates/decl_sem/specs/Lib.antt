@@ -5,6 +5,7 @@ pub mod FieldNotes
 pub mod Hands
 pub mod ImportedModules
 pub mod Items
+pub mod Labels
 pub mod LaidRows
 pub mod Making
 pub mod Pieces

@@ -55,6 +55,7 @@ macro_rules! made {
 mod cells;
 mod closing;
 mod const_items;
+mod covered;
 mod declaring;
 mod effects;
 mod enumerations;
