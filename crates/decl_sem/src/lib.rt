@@ -52,6 +52,7 @@ macro_rules! made {
     };
 }
 
+mod arrays;
 mod cells;
 mod closing;
 mod const_items;
