@@ -71,11 +71,11 @@ elements_are : (c : Context) (index : Place) (stood : Place × RowMeaning) → I
 elements_are c index stood h =
     ap (λ (p : Place). elements_by (p, stood.1)) h.place ∙ ap (λ (m : RowMeaning). elements_by (stands_for c.scene index, m)) h.meaning
 
-pub cells_told : {a b : State} {x : Made} {s : Site} (index of : Place) (stood : Place × RowMeaning) (size cells count : ℕ) → Reads a b
+pub cells_told : {a b : State} (x : Made) (s : Site) (index of : Place) (stood : Place × RowMeaning) (size cells count : ℕ) → Reads a b
     → WhereMaking a.frame x (λ hand. IsStood (scene_of a.frame hand s.around.now) index stood)
     → IsSizeOf b.frame x s of size → count ≡ elements_by stood → cells ≡ capped (max 1 (count * size))
     → WhereMaking a.frame x (λ hand. cells ≡ array_size (context_of a.frame hand s) index of)
-cells_told {a} {b} {x} {s} index of stood size cells count reads stands is counted e hand in_hand told same =
+cells_told {a} {b} x s index of stood size cells count reads stands is counted e hand in_hand told same =
     let here : IsSizeOf a.frame x s of size = subst (λ (f : Frame). IsSizeOf f x s of size) reads.keeps.frame is in
     let c = context_of a.frame hand s in
     let one : size ≡ size_of c.scene of = here hand in_hand told same [] tt ∙ ap (λ (rows : List Row). size_of (context_of a.frame (record { finished = hand.finished; rows = rows }) s).scene of) (append-nil hand.rows) in
@@ -100,12 +100,12 @@ pub array_meaning : {f : Frame} {s : Site} {x : Made} {ss : List Shape} {index o
 array_meaning size some few making i t =
     record { small = (i.small, t.small); scopes = (small_scope making i, small_scope making t); fits = (before_next i, before_next t, few); filled = some; owned = tt }
 
-module _ {a b : State} {x y z : Made} {s : Site} (at : ℕ) (index of : Place) (size : ℕ) (making : IsMaking a.frame s x (nameless array_kind at ∷ []))
+module _ {a b : State} {x y : Made} {s : Site} (at : ℕ) (index of : Place) (size : ℕ) (making : IsMaking a.frame s x (nameless array_kind at ∷ []))
     (first : Declares a b x x s (Ok (Known size)) [] IsAny (λ c. makes (array_size c index of))) (here : IsMaking b.frame s x (nameless array_kind at ∷ [])) where
   -- the array, after the question
-  pub array_made : {t : Place} (answer : Result (Ask Place) Memory) → Declares b b x y s (Ok (Known t)) (nameless array_kind at ∷ []) IsBehind (λ c. makes_row c at (Array index of size))
+  pub array_made : {z : Made} {t : Place} (answer : Result (Ask Place) Memory) → Declares b b x y s (Ok (Known t)) (nameless array_kind at ∷ []) IsBehind (λ c. makes_row c at (Array index of size))
       → Declares b b y z s answer [] IsBehind (λ c. only_gives (fitting c at size t)) → Declares a b x z s answer (nameless array_kind at ∷ []) IsBehind (λ c. array_row c at index of)
-  array_made answer p q =
+  array_made {z} {t} answer p q =
       asked_then (λ c. array_size c index of) (λ size c. make_then c (makes_row c at (Array index of size)) (λ d t. only_gives (fitting d at size t))) answer making first
       (then_after (λ c. makes_row c at (Array index of size)) (λ t c. only_gives (fitting c at size t)) answer (not_a_type (nameless array_kind at) refl) here p q)
 

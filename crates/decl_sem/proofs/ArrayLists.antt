@@ -32,7 +32,7 @@ use Rattle.decl_sem.specs.Pieces.{Declares, IsBehind, IsMaking}
 use Rattle.decl_sem.specs.declared.making.Made.{Made}
 use Rattle.decl_sem.proofs.OneRows.{behind_more}
 use Rattle.decl_sem.proofs.Parameters.{make_then_assoc}
-use Rattle.decl_sem.proofs.Pieces.{AreNoTypes, GoesOn, described, goes_as, goes_end, goes_failed, goes_start, goes_step, goes_waiting, making_front, making_on, next_on, no_types-append, not_a_type, reshaped, then_after}
+use Rattle.decl_sem.proofs.Pieces.{AreNoTypes, GoesOn, described, failed, goes_as, goes_end, goes_failed, goes_start, goes_step, goes_waiting, making_front, making_on, next_on, no_types-append, not_a_type, reshaped, then_after, waiting}
 use Rattle.decl_sem.proofs.NoTypeNames.{all_names_none}
 use Rattle.decl_sem.proofs.TypeForms.{at_seen, type_no_types, unmade}
 
@@ -56,10 +56,6 @@ module _ {T : Type 0} {a b : State} {x y : Made} {s : Site} {ss : List Shape} {P
   pub all_behind : (ts : List Place) → Each (IsBehind a.frame (next_ordinal x)) ts → Each (IsBehind b.frame (next_ordinal y)) ts
   all_behind [] h = tt
   all_behind (t ∷ ts) h = (still_behind h.0, all_behind ts h.1)
-
-  -- what is answered stands there too
-  pub answer_behind : (Q : Frame → ℕ → T → Type 0) → P a.frame (next_ordinal y) v → P b.frame (next_ordinal y) v
-  answer_behind Q h = subst (λ (f : Frame). P f (next_ordinal y) v) (sym p.works.keeps.frame) h
 
 -- ** One array after another
 
@@ -173,10 +169,10 @@ no_indexes {a} {x} {s} types indexes e making =
       behind = tt;
     })
 
-pub read_index : {names : List (List ℕ)} (xs : List code.TypeExpr.TypeExpr) (k : ℕ) (d : code.TypeExpr.TypeExpr) → k < length xs → AreReadTypes names (trees xs) → IsReadType names (type_view (get_or xs k d))
-read_index [] k d h all = absurd (omega (arith, h))
-read_index (x ∷ xs) zero d h all = all.0
-read_index (x ∷ xs) (suc k) d h all = read_index xs k d (omega (arith, h)) all.1
+pub read_index : (names : List (List ℕ)) (xs : List code.TypeExpr.TypeExpr) (k : ℕ) (d : code.TypeExpr.TypeExpr) → k < length xs → AreReadTypes names (trees xs) → IsReadType names (type_view (get_or xs k d))
+read_index names [] k d h all = absurd (omega (arith, h))
+read_index names (x ∷ xs) zero d h all = all.0
+read_index names (x ∷ xs) (suc k) d h all = read_index names xs k d (omega (arith, h)) all.1
 
 types_from : (xs : List code.TypeExpr.TypeExpr) (k : ℕ) (d : code.TypeExpr.TypeExpr) → k < length xs → drop k xs ≡ get_or xs k d ∷ drop (k + 1) xs
 types_from xs k d h = drop-cons xs k d h ∙ (let e : suc k ≡ k + 1 = omega arith in ap (λ (n : ℕ). get_or xs k d ∷ drop n xs) e)
@@ -244,19 +240,23 @@ first_listed {a} {b} {x} {y} {s} {ss} {P} {g} {result} e f p =
 
 -- ** One index type
 
-module _ {a b : State} {x y : Made} {s : Site} (t : code.TypeExpr.TypeExpr) (making : IsMaking a.frame s x (type_shapes (type_view t))) where
-  and_nothing : IsMaking a.frame s x (type_shapes (type_view t) ++ [])
-  and_nothing = subst (λ (shapes : List Shape). IsMaking a.frame s x shapes) (sym (append-nil (type_shapes (type_view t)))) making
+and_nothing : {f : Frame} {s : Site} {x : Made} (ss : List Shape) → IsMaking f s x ss → IsMaking f s x (ss ++ [])
+and_nothing {f} {s} {x} ss making = subst (λ (shapes : List Shape). IsMaking f s x shapes) (sym (append-nil ss)) making
 
-  pub checked_making : {v : Place} → Declares a b x y s (Ok (Known v)) (type_shapes (type_view t)) IsBehind (λ c. type_rows c (type_view t)) → IsMaking b.frame s y []
-  checked_making p = making_on (type_no_types (type_view t)) and_nothing p
+module _ {a b : State} {x y : Made} {s : Site} {v : Place} (t : code.TypeExpr.TypeExpr) (making : IsMaking a.frame s x (type_shapes (type_view t)))
+    (p : Declares a b x y s (Ok (Known v)) (type_shapes (type_view t)) IsBehind (λ c. type_rows c (type_view t))) where
+  pub checked_making : IsMaking b.frame s y []
+  checked_making = making_on (type_no_types (type_view t)) (and_nothing (type_shapes (type_view t)) making) p
+
+  pub checked_behind : IsBehind b.frame (next_ordinal y) v
+  checked_behind = subst (λ (f : Frame). IsBehind f (next_ordinal y) v) (sym p.works.keeps.frame) p.there
 
   -- the type is checked after its rows are made
-  pub index_made : {d : State} {z : Made} {v : Place} (answer : Result (Ask Place) Memory) → Declares a b x y s (Ok (Known v)) (type_shapes (type_view t)) IsBehind (λ c. type_rows c (type_view t))
-      → Declares b d y z s answer [] IsBehind (λ c. only_gives (checked_index c t.at v)) → Declares a d x z s answer (type_shapes (type_view t)) IsBehind (λ c. index_row c (type_view t))
-  index_made {d} {z} {v} answer p q =
+  pub index_made : {d : State} {z : Made} (answer : Result (Ask Place) Memory) → Declares b d y z s answer [] IsBehind (λ c. only_gives (checked_index c t.at v))
+      → Declares a d x z s answer (type_shapes (type_view t)) IsBehind (λ c. index_row c (type_view t))
+  index_made {d} {z} answer q =
       reshaped answer (type_shapes (type_view t)) (append-nil (type_shapes (type_view t)))
-      (then_after (λ c. type_rows c (type_view t)) (λ u c. only_gives (checked_index c (type_at (type_view t)) u)) answer (type_no_types (type_view t)) and_nothing p
+      (then_after (λ c. type_rows c (type_view t)) (λ u c. only_gives (checked_index c (type_at (type_view t)) u)) answer (type_no_types (type_view t)) (and_nothing (type_shapes (type_view t)) making) p
       (subst (λ (at : ℕ). Declares b d y z s answer [] IsBehind (λ c. only_gives (checked_index c at v))) (sym (at_seen t)) q))
 
 -- ** The whole of an array
@@ -271,29 +271,31 @@ length-trees : (types : List code.TypeExpr.TypeExpr) → length (map type_view t
 length-trees [] = refl
 length-trees (t ∷ types) = ap suc (length-trees types)
 
-module _ {a : State} {x : Made} {s : Site} (at : ℕ) (types : List code.TypeExpr.TypeExpr) (of : code.TypeExpr.TypeExpr) (making : IsMaking a.frame s x (form_shapes at (array_type (trees types) (type_view of)))) where
+module _ (at : ℕ) (types : List code.TypeExpr.TypeExpr) (of : code.TypeExpr.TypeExpr) where
   parts : (types_shapes (trees types) ++ type_shapes (type_view of)) ++ array_shapes at (trees types) ≡ types_shapes (trees types) ++ (type_shapes (type_view of) ++ array_shapes at (trees types))
   parts = append_assoc (types_shapes (trees types)) (type_shapes (type_view of)) (array_shapes at (trees types))
 
-  in_parts : IsMaking a.frame s x (types_shapes (trees types) ++ (type_shapes (type_view of) ++ array_shapes at (trees types)))
-  in_parts = subst (λ (shapes : List Shape). IsMaking a.frame s x shapes) parts making
+  in_parts : {f : Frame} {s : Site} {x : Made} → IsMaking f s x (form_shapes at (array_type (trees types) (type_view of))) → IsMaking f s x (types_shapes (trees types) ++ (type_shapes (type_view of) ++ array_shapes at (trees types)))
+  in_parts {f} {s} {x} making = subst (λ (shapes : List Shape). IsMaking f s x shapes) parts making
 
-  pub indexes_making : IsMaking a.frame s x (types_shapes (trees types))
-  indexes_making = making_front (types_shapes (trees types)) (type_shapes (type_view of) ++ array_shapes at (trees types)) in_parts
+  pub indexes_making : {f : Frame} {s : Site} {x : Made} → IsMaking f s x (form_shapes at (array_type (trees types) (type_view of))) → IsMaking f s x (types_shapes (trees types))
+  indexes_making making = making_front (types_shapes (trees types)) (type_shapes (type_view of) ++ array_shapes at (trees types)) (in_parts making)
 
-  module _ {b : State} {y : Made} {indexes : List Place} (p : Declares a b x y s (Ok (Known indexes)) (types_shapes (trees types)) (AreIndexes (length types)) (λ c. index_rows c (trees types))) where
+  -- one for each index type
+  one_each : (indexes : List Place) → length indexes ≡ length types → array_shapes at (trees types) ≡ arrays_at at (reverse indexes)
+  one_each indexes all = arrays_are at (map type_view types) (reverse indexes) (length-reverse indexes ∙ all ∙ sym (length-trees types))
+
+  module _ {a b : State} {x y : Made} {s : Site} {indexes : List Place} (making : IsMaking a.frame s x (form_shapes at (array_type (trees types) (type_view of))))
+      (p : Declares a b x y s (Ok (Known indexes)) (types_shapes (trees types)) (AreIndexes (length types)) (λ c. index_rows c (trees types))) where
     behind_indexes : IsMaking b.frame s y (type_shapes (type_view of) ++ array_shapes at (trees types))
-    behind_indexes = making_on (all_names_none (trees types)) in_parts p
+    behind_indexes = making_on (all_names_none (trees types)) (in_parts making) p
 
     pub elem_making : IsMaking b.frame s y (type_shapes (type_view of))
     elem_making = making_front (type_shapes (type_view of)) (array_shapes at (trees types)) behind_indexes
 
-    one_each : array_shapes at (trees types) ≡ arrays_at at (reverse indexes)
-    one_each = arrays_are at (map type_view types) (reverse indexes) (length-reverse indexes ∙ p.there.all ∙ sym (length-trees types))
-
     module _ {d : State} {z : Made} {t : Place} (q : Declares b d y z s (Ok (Known t)) (type_shapes (type_view of)) IsBehind (λ c. type_rows c (type_view of))) where
       pub arrays_making : IsMaking d.frame s z (arrays_at at (reverse indexes))
-      arrays_making = subst (λ (shapes : List Shape). IsMaking d.frame s z shapes) one_each (making_on (type_no_types (type_view of)) behind_indexes q)
+      arrays_making = subst (λ (shapes : List Shape). IsMaking d.frame s z shapes) (one_each indexes p.there.all) (making_on (type_no_types (type_view of)) behind_indexes q)
 
       pub indexes_behind : Each (IsBehind d.frame (next_ordinal z)) indexes
       indexes_behind = all_behind q indexes (subst (λ (f : Frame). Each (IsBehind f (next_ordinal y)) indexes) (sym p.works.keeps.frame) p.there.behind)
@@ -305,6 +307,20 @@ module _ {a : State} {x : Made} {s : Site} (at : ℕ) (types : List code.TypeExp
           → Declares a e x w s answer (form_shapes at (array_type (trees types) (type_view of))) IsBehind (λ c. form_rows c at (array_type (trees types) (type_view of)))
       whole_array answer r =
           reshaped answer (form_shapes at (array_type (trees types) (type_view of))) (sym parts)
-          (then_after (λ c. index_rows c (trees types)) (λ is c. make_then c (type_rows c (type_view of)) (λ e t. array_rows e at (reverse is) t)) answer (all_names_none (trees types)) in_parts p
+          (then_after (λ c. index_rows c (trees types)) (λ is c. make_then c (type_rows c (type_view of)) (λ e t. array_rows e at (reverse is) t)) answer (all_names_none (trees types)) (in_parts making) p
           (then_after (λ c. type_rows c (type_view of)) (λ t c. array_rows c at (reverse indexes) t) answer (type_no_types (type_view of)) behind_indexes q
-          (reshaped answer (array_shapes at (trees types)) (sym one_each) r)))
+          (reshaped answer (array_shapes at (trees types)) (sym (one_each indexes p.there.all)) r)))
+
+    -- want of memory for the elements
+    pub elem_failed : {d : State} {z : Made} {m : Memory} (n : Memory) → Declares b d y z s (Err m) (type_shapes (type_view of)) IsBehind (λ c. type_rows c (type_view of))
+        → Declares a d x z s (Err n) (form_shapes at (array_type (trees types) (type_view of))) IsBehind (λ c. form_rows c at (array_type (trees types) (type_view of)))
+    elem_failed n q =
+        reshaped (Err n) (form_shapes at (array_type (trees types) (type_view of))) (sym parts)
+        (then_after (λ c. index_rows c (trees types)) (λ is c. make_then c (type_rows c (type_view of)) (λ e t. array_rows e at (reverse is) t)) (Err n) (all_names_none (trees types)) (in_parts making) p (failed q n))
+
+    -- and what isn't known yet of them
+    pub elem_waiting : {d : State} {z : Made} {head : Head} → Declares b d y z s (Ok (DontKnowYet head)) (type_shapes (type_view of)) IsBehind (λ c. type_rows c (type_view of))
+        → Declares a d x z s (Ok (DontKnowYet head)) (form_shapes at (array_type (trees types) (type_view of))) IsBehind (λ c. form_rows c at (array_type (trees types) (type_view of)))
+    elem_waiting {head = head} q =
+        reshaped (Ok (DontKnowYet head)) (form_shapes at (array_type (trees types) (type_view of))) (sym parts)
+        (then_after (λ c. index_rows c (trees types)) (λ is c. make_then c (type_rows c (type_view of)) (λ e t. array_rows e at (reverse is) t)) (Ok (DontKnowYet head)) (all_names_none (trees types)) (in_parts making) p (waiting q))
