@@ -4,7 +4,9 @@ use Rattle.std.proofs.Common.{refl, sym, ap, ◌∙◌, subst, arith, get_or, Ok
 use Rattle.std.proofs.Math.Seq.{drop-cons}
 use Rattle.std.proofs.lemmas.List.{append_assoc, append-nil, length-append, length-reverse, reverse-append}
 use Rattle.std.specs.declared.alloc.Global.{Global}
+use Rattle.std.specs.declared.boxed.Box.{Box}
 use Rattle.std.specs.declared.vec.Vec.{Vec}
+use Rattle.m2_base.proofs.Seen.{array_seen}
 use Rattle.m2_base.specs.Lists.{Each}
 use Rattle.m2_base.specs.Rows.{array_kind}
 use Rattle.m2_base.specs.States.{Frame, State}
@@ -16,7 +18,7 @@ use Rattle.m2_base.specs.Statics.ReadTrees.{AreReadTypes, IsReadType}
 use Rattle.m2_base.specs.Statics.Shapes.{Shape, array_shapes, form_shapes, nameless, type_shapes, types_shapes}
 use Rattle.m2_base.specs.Statics.TypeRows.{form_rows, index_rows, type_rows}
 use Rattle.m2_base.specs.Trees.{TypeExpr, TypeExprs, array_type, more_types, no_types, type_at, type_exprs}
-use Rattle.m2_base.specs.Views.{type_view}
+use Rattle.m2_base.specs.Views.{type_form_view, type_view}
 use Rattle.m2_base.specs.declared.memory.Memory.{Memory}
 use Rattle.m2_base.specs.declared.replies.Ask.{Ask}
 use Rattle.m2_base.specs.declared.replies.Ask.TheVariants.{Known, DontKnowYet}
@@ -25,6 +27,7 @@ use Rattle.m2_base.specs.declared.rows.Place.{Place}
 use Rattle.m2_base.specs.declared.rows.RowMeaning.TheVariants.{Array}
 use Rattle.m2_base.specs.declared.sites.Site.{Site}
 use Rattle.m2_base.specs.declared.trees.types as code
+use Rattle.m2_base.specs.declared.trees.types.TypeForm.TheVariants.{Array as ArrayOf}
 use Rattle.type_rules.specs.Sites.{context_of}
 use Rattle.decl_sem.specs.ArrayRows.{AreIndexes, array_row, arrays_at, index_row, listed}
 use Rattle.decl_sem.specs.Making.{next_ordinal}
@@ -34,7 +37,8 @@ use Rattle.decl_sem.proofs.OneRows.{behind_more}
 use Rattle.decl_sem.proofs.Parameters.{make_then_assoc}
 use Rattle.decl_sem.proofs.Pieces.{AreNoTypes, GoesOn, described, failed, goes_as, goes_end, goes_failed, goes_start, goes_step, goes_waiting, making_front, making_on, next_on, no_types-append, not_a_type, reshaped, then_after, waiting}
 use Rattle.decl_sem.proofs.NoTypeNames.{all_names_none}
-use Rattle.decl_sem.proofs.TypeForms.{at_seen, type_no_types, unmade}
+use Rattle.decl_sem.proofs.TypeForms.{at_seen, seen, type_no_types, unmade}
+use Rattle.decl_sem.proofs.TypeSizes.{size_type, size_types}
 
 -- ** Lists
 
@@ -169,26 +173,38 @@ no_indexes {a} {x} {s} types indexes e making =
       behind = tt;
     })
 
-pub read_index : (names : List (List ℕ)) (xs : List code.TypeExpr.TypeExpr) (k : ℕ) (d : code.TypeExpr.TypeExpr) → k < length xs → AreReadTypes names (trees xs) → IsReadType names (type_view (get_or xs k d))
-read_index names [] k d h all = absurd (omega (arith, h))
-read_index names (x ∷ xs) zero d h all = all.0
-read_index names (x ∷ xs) (suc k) d h all = read_index names xs k d (omega (arith, h)) all.1
+read_at : (names : List (List ℕ)) (xs : List code.TypeExpr.TypeExpr) (k : ℕ) (d : code.TypeExpr.TypeExpr) → k < length xs → AreReadTypes names (trees xs) → IsReadType names (type_view (get_or xs k d))
+read_at names [] k d h all = absurd (omega (arith, h))
+read_at names (x ∷ xs) zero d h all = all.0
+read_at names (x ∷ xs) (suc k) d h all = read_at names xs k d (omega (arith, h)) all.1
+
+pub read_index : (names : List (List ℕ)) (xs : List code.TypeExpr.TypeExpr) (k : ℕ) (t : code.TypeExpr.TypeExpr) → k < length xs → t ≡ get_or xs k t → AreReadTypes names (trees xs) → IsReadType names (type_view t)
+read_index names xs k t h e all = subst (λ (u : code.TypeExpr.TypeExpr). IsReadType names (type_view u)) (sym e) (read_at names xs k t h all)
+
+size_at : (xs : List code.TypeExpr.TypeExpr) (k : ℕ) (d : code.TypeExpr.TypeExpr) → k < length xs → size_type (type_view (get_or xs k d)) ≤ size_types (trees xs)
+size_at [] k d h = absurd (omega (arith, h))
+size_at (x ∷ xs) zero d h = omega arith
+size_at (x ∷ xs) (suc k) d h = let rest = size_at xs k d (omega (arith, h)) in omega (arith, rest)
+
+-- an index type is no larger than all of them
+pub index_small : (xs : List code.TypeExpr.TypeExpr) (k : ℕ) (t : code.TypeExpr.TypeExpr) → k < length xs → t ≡ get_or xs k t → size_type (type_view t) ≤ size_types (trees xs)
+index_small xs k t h e = subst (λ (u : code.TypeExpr.TypeExpr). size_type (type_view u) ≤ size_types (trees xs)) (sym e) (size_at xs k t h)
 
 types_from : (xs : List code.TypeExpr.TypeExpr) (k : ℕ) (d : code.TypeExpr.TypeExpr) → k < length xs → drop k xs ≡ get_or xs k d ∷ drop (k + 1) xs
 types_from xs k d h = drop-cons xs k d h ∙ (let e : suc k ≡ k + 1 = omega arith in ap (λ (n : ℕ). get_or xs k d ∷ drop n xs) e)
 
-module _ {a b : State} {x y : Made} {s : Site} (types : List code.TypeExpr.TypeExpr) (k : ℕ) (d : code.TypeExpr.TypeExpr) (indexes : List Place) (h : k < length types) (so : HasIndexes a b x y s types k indexes) where
+module _ {a b : State} {x y : Made} {s : Site} (types : List code.TypeExpr.TypeExpr) (k : ℕ) (t : code.TypeExpr.TypeExpr) (indexes : List Place) (h : k < length types) (same : t ≡ get_or types k t) (so : HasIndexes a b x y s types k indexes) where
   abbrev next : TypeExpr
-  next = type_view (get_or types k d)
+  next = type_view t
 
   -- taken apart at the next
   indexes_at : GoesOn a b x y s (types_shapes (trees types)) (type_shapes next ++ types_shapes (trees (drop (k + 1) types))) (AreIndexes (length types)) (λ c. index_rows c (trees types))
       (λ c. make_then c (index_row c next) (λ e i. rest_rows e (indexes ++ i ∷ []) (trees (drop (k + 1) types))))
   indexes_at =
-      let e = types_from types k d h in
+      let e = types_from types k t h ∙ ap (λ (u : code.TypeExpr.TypeExpr). u ∷ drop (k + 1) types) (sym same) in
       goes_as (type_shapes next ++ types_shapes (trees (drop (k + 1) types))) (λ c. make_then c (index_row c next) (λ e i. rest_rows e (indexes ++ i ∷ []) (trees (drop (k + 1) types))))
       (ap (λ (ts : List code.TypeExpr.TypeExpr). types_shapes (trees ts)) e)
-      (λ hand in_hand told same. let c = context_of b.frame hand s in
+      (λ hand in_hand told is. let c = context_of b.frame hand s in
       rest_next c indexes next (trees (drop (k + 1) types)) ∙ ap (λ (ts : List code.TypeExpr.TypeExpr). rest_rows c indexes (trees ts)) (sym e))
       so.on
 
@@ -324,3 +340,29 @@ module _ (at : ℕ) (types : List code.TypeExpr.TypeExpr) (of : code.TypeExpr.Ty
     elem_waiting {head = head} q =
         reshaped (Ok (DontKnowYet head)) (form_shapes at (array_type (trees types) (type_view of))) (sym parts)
         (then_after (λ c. index_rows c (trees types)) (λ is c. make_then c (type_rows c (type_view of)) (λ e t. array_rows e at (reverse is) t)) (Ok (DontKnowYet head)) (all_names_none (trees types)) (in_parts making) p (waiting q))
+
+-- ** Answers that aren't known yet
+
+pub first_waiting : {T : Type 0} {a b : State} {x y : Made} {s : Site} {ss : List Shape} {P : Frame → ℕ → T → Type 0} {g : Context → Makes T} {result : Result (Ask T) Memory} {asked : Ask T} {head : Head} → result ≡ Ok asked → asked ≡ DontKnowYet head
+    → Declares a b x y s result ss P g → Declares a b x y s (Ok (DontKnowYet head)) ss P g
+first_waiting {T} {a = a} {b = b} {x = x} {y = y} {s = s} {ss = ss} {P = P} {g = g} e f p =
+    subst (λ (r : Result (Ask T) Memory). Declares a b x y s r ss P g) (e ∙ ap (λ (k : Ask T). Ok k) f) p
+
+pub listed_waiting : {a b : State} {x y : Made} {s : Site} {ss : List Shape} {P : Frame → ℕ → List Place → Type 0} {g : Context → Makes (List Place)} {result : Result (Ask (Vec Place Global)) Memory} {asked : Ask (Vec Place Global)} {head : Head}
+    → result ≡ Ok asked → asked ≡ DontKnowYet head → Declares a b x y s (listed result) ss P g → Declares a b x y s (Ok (DontKnowYet head)) ss P g
+listed_waiting {a} {b} {x} {y} {s} {ss} {P} {g} e f p =
+    subst (λ (r : Result (Ask (Vec Place Global)) Memory). Declares a b x y s (listed r) ss P g) (e ∙ ap (λ (k : Ask (Vec Place Global)). Ok k) f) p
+
+-- ** The form
+
+pub is_array : (t : code.TypeExpr.TypeExpr) (index : Vec code.TypeExpr.TypeExpr Global) (of : Box code.TypeExpr.TypeExpr Global) (types : List code.TypeExpr.TypeExpr) (u : code.TypeExpr.TypeExpr) → types ≡ index.items → u ≡ of.value → t.form ≡ ArrayOf index of
+    → type_form_view t.form ≡ array_type (trees types) (type_view u)
+is_array t index of types u all same e =
+    ap type_form_view e ∙ array_seen index of
+    ∙ ap (λ (ts : List code.TypeExpr.TypeExpr). array_type (trees ts) (type_view of.value)) (sym all)
+    ∙ ap (λ (v : code.TypeExpr.TypeExpr). array_type (trees types) (type_view v)) (sym same)
+
+-- an array is larger than its parts
+pub size_of_array : (t : code.TypeExpr.TypeExpr) (types : List code.TypeExpr.TypeExpr) (u : code.TypeExpr.TypeExpr) → type_form_view t.form ≡ array_type (trees types) (type_view u)
+    → size_type (type_view t) ≡ suc (size_types (trees types) + size_type (type_view u))
+size_of_array t types u e = ap size_type (seen t (array_type (trees types) (type_view u)) e)
