@@ -1,8 +1,9 @@
 -- The rows of arrays: of their index types, and of one array after another.
-use Rattle.std.specs.Prelude.{◌≡◌, ℕ, zero, suc, ◌+◌, ◌<◌, ◌≤◌, List, [], ◌∷◌, ◌++◌, length, map, drop, reverse}
+use Rattle.std.specs.Prelude.{◌≡◌, ℕ, zero, suc, ◌+◌, ◌<◌, ◌≤◌, true, false, List, [], ◌∷◌, ◌++◌, length, map, drop, reverse}
 use Rattle.std.proofs.Common.{refl, sym, ap, ◌∙◌, subst, arith, get_or, Ok, Err, Result}
 use Rattle.std.proofs.Math.Seq.{drop-cons}
 use Rattle.std.proofs.lemmas.List.{append_assoc, append-nil, length-append, length-reverse, reverse-append}
+use Rattle.std.specs.Result.{IsErr}
 use Rattle.std.specs.declared.alloc.Global.{Global}
 use Rattle.std.specs.declared.boxed.Box.{Box}
 use Rattle.std.specs.declared.vec.Vec.{Vec}
@@ -229,9 +230,10 @@ module _ {a b : State} {x y : Made} {s : Site} (types : List code.TypeExpr.TypeE
   indexes_waiting p = goes_waiting indexes_at p
 
   -- no memory for one more in the list
-  pub indexes_full : {e : State} {z : Made} {i : Place} (n : Memory) → Declares b e y z s (Ok (Known i)) (type_shapes next) IsBehind (λ c. index_row c next)
-      → Declares a e x z s (Err n) (types_shapes (trees types)) (AreIndexes (length types)) (λ c. index_rows c (trees types))
-  indexes_full {e} {z} n p =
+  pub indexes_full : {e : State} {z : Made} {i : Place} (answer : Result (Ask (Vec Place Global)) Memory) → IsErr answer → Declares b e y z s (Ok (Known i)) (type_shapes next) IsBehind (λ c. index_row c next)
+      → Declares a e x z s (listed answer) (types_shapes (trees types)) (AreIndexes (length types)) (λ c. index_rows c (trees types))
+  indexes_full (Ok v) is p = absurd (let h : false ≡ true = is in cc)
+  indexes_full {e} {z} (Err n) is p =
       (goes_step (λ c. index_row c next) (λ i c. rest_rows c (indexes ++ i ∷ []) (trees (drop (k + 1) types))) (type_no_types next) indexes_at p).on e z (Err n) (unmade e z s n _ _ _)
 
 no_types_left : (xs : List code.TypeExpr.TypeExpr) → drop (length xs) xs ≡ []

@@ -1,4 +1,4 @@
-//! The rows of a set, and the types that an index and the base of a set may be.
+//! The rows of a set, and the types that its base may be.
 ghost use Rattle.std.specs.Prelude.{◌≡◌, ◌∷◌, [], ℕ, option_map, if◌then◌else◌};
 ghost use Rattle.std.specs.Option.{IfSome};
 ghost use Rattle.m2_base.specs.Gives.{gives};

@@ -54,9 +54,7 @@ pub(crate) fn type_in<S: Scopes>(
             let of = put!(make_enumeration(site, made, typ.at, names));
             Ok(Ask::Known(of))
         }
-        TypeForm::Array { index, of } => {
-            array_in(alloc, scopes, site, typ.at, index, of, made)
-        }
+        TypeForm::Array { index, of } => { array_in(alloc, scopes, site, typ.at, index, of, made) }
         TypeForm::Set(of) => {
             let base = made!(type_in(alloc, scopes, site, of, made));
             make_set(scopes, site, typ.at, of.at, base, made)

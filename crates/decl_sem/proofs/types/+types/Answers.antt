@@ -126,13 +126,19 @@ pub index_in-returns : goal.index_in-returns
 index_in-returns g t c = index_made c.args.typ.now c.requires.making (first_made c.in-Ok.is c.in-Known.is c.type_in.ensures) c.checked_index.result c.checked_index.ensures
 
 pub indexes_in-loop-typ-init : goal.indexes_in-loop-typ-init
-indexes_in-loop-typ-init g t c = no_indexes c.args.types.now c.new-indexes.result.items c.new-indexes.ensures.empty c.requires.making
+indexes_in-loop-typ-init g t c = no_indexes c.args.types.now c.new-indexes.result.items c.new-indexes.ensures.items c.requires.making
 
 pub indexes_in-index_in-requires : goal.indexes_in-index_in-requires
-indexes_in-index_in-requires g t c κs within =
-    (let small = index_small c.args.types.now c.loop-typ.typ-index c.typ-item.result c.loop-typ-test.true c.typ-item.is in omega (arith, small, c.decreases),
-    (within, (index_making c.args.types.now c.loop-typ.typ-index c.typ-item.result c.loop-typ.indexes.items c.loop-typ-test.true c.typ-item.is c.loop-typ.invariant,
-    read_index c.args.site.now.texts.now.names c.args.types.now c.loop-typ.typ-index c.typ-item.result c.loop-typ-test.true c.typ-item.is c.requires.read)))
+indexes_in-index_in-requires g t c κs within = (
+  let small = index_small c.args.types.now c.loop-typ.typ-index c.typ-item.result c.loop-typ-test.true c.typ-item.is in omega (arith, small, c.decreases),
+  (
+    within,
+    (
+      index_making c.args.types.now c.loop-typ.typ-index c.typ-item.result c.loop-typ.indexes.items c.loop-typ-test.true c.typ-item.is c.loop-typ.invariant,
+      read_index c.args.site.now.texts.now.names c.args.types.now c.loop-typ.typ-index c.typ-item.result c.loop-typ-test.true c.typ-item.is c.requires.read,
+    ),
+  ),
+)
 
 pub indexes_in-returns-in-DontKnowYet : goal.indexes_in-returns-in-DontKnowYet
 indexes_in-returns-in-DontKnowYet g t c =
@@ -144,7 +150,7 @@ indexes_in-returns-in-Err g t c =
 
 pub indexes_in-returns-in_err-push : goal.indexes_in-returns-in_err-push
 indexes_in-returns-in_err-push g t c =
-    indexes_full c.args.types.now c.loop-typ.typ-index c.typ-item.result c.loop-typ.indexes.items c.loop-typ-test.true c.typ-item.is c.loop-typ.invariant _ (first_made c.in-Ok.is c.in-Known.is c.index_in.ensures)
+    indexes_full c.args.types.now c.loop-typ.typ-index c.typ-item.result c.loop-typ.indexes.items c.loop-typ-test.true c.typ-item.is c.loop-typ.invariant c.from_residual.result c.from_residual.ensures.0 (first_made c.in-Ok.is c.in-Known.is c.index_in.ensures)
 
 pub indexes_in-loop-typ-preserved : goal.indexes_in-loop-typ-preserved
 indexes_in-loop-typ-preserved g t c =

@@ -13,10 +13,10 @@ abbrev pub decreases-index_in : goal.decreases-index_in
 decreases-index_in g l = 4 * size_type (type_view l.typ.now) + 1
 
 abbrev pub decreases-indexes_in : goal.decreases-indexes_in
-decreases-indexes_in g l = 4 * size_types (trees l.types) + 2
+decreases-indexes_in g l = 4 * size_types (trees l.types.now) + 2
 
 abbrev pub decreases-array_in : goal.decreases-array_in
-decreases-array_in g l = 4 * (size_types (trees l.index) + size_type (type_view l.of.now)) + 3
+decreases-array_in g l = 4 * (size_types (trees l.index.now) + size_type (type_view l.of.now)) + 3
 
 -- the index types so far
 abbrev pub invariant-indexes_in-loop-typ : goal.invariant-indexes_in-loop-typ
