@@ -1,5 +1,5 @@
 -- The cells of arrays, and types of too many cells.
-use Rattle.std.specs.Prelude.{◌≡◌, ℕ, ◌+◌, ◌*◌, ◌<◌, ◌≤◌, ◌^◌, Bool, true, false, if◌then◌else◌, List, [], ◌∷◌, length, max, min, nat_lt}
+use Rattle.std.specs.Prelude.{◌≡◌, ℕ, ◌*◌, ◌<◌, ◌≤◌, ◌^◌, Bool, true, false, if◌then◌else◌, List, [], ◌∷◌, length, max, min, nat_lt}
 use Rattle.std.proofs.Common.{refl, sym, ap, ◌∙◌, subst, arith, Ok, Err, Result}
 use Rattle.std.proofs.lemmas.List.{append-nil}
 use Rattle.m2_base.specs.Gives.{gives}
@@ -9,11 +9,11 @@ use Rattle.m2_base.specs.Standard.{broken}
 use Rattle.m2_base.specs.States.{Frame, State, Waits}
 use Rattle.m2_base.specs.Statics.Arrays.{array_size, elements}
 use Rattle.m2_base.specs.Statics.Cells.{capped, fitting, most_cells}
-use Rattle.m2_base.specs.Statics.Contexts.{Context, Scene, refuse}
+use Rattle.m2_base.specs.Statics.Contexts.{Context, refuse}
 use Rattle.m2_base.specs.Statics.Diagnostics.{too_many_cells}
 use Rattle.m2_base.specs.Statics.Makes.{make_then, makes, makes_row, only_gives}
 use Rattle.m2_base.specs.Statics.Shapes.{Shape, nameless}
-use Rattle.m2_base.specs.Statics.Types.{kind_of, size_of, stands_for}
+use Rattle.m2_base.specs.Statics.Types.{size_of, stands_for}
 use Rattle.m2_base.specs.declared.memory.Memory.{Memory}
 use Rattle.m2_base.specs.declared.notes.Notes.{Notes}
 use Rattle.m2_base.specs.declared.replies.Ask.{Ask}
@@ -24,7 +24,7 @@ use Rattle.m2_base.specs.declared.rows.RowMeaning.{RowMeaning}
 use Rattle.m2_base.specs.declared.rows.RowMeaning.TheVariants.{Array}
 use Rattle.m2_base.specs.declared.sites.Site.{Site}
 use Rattle.type_rules.specs.Asks.{Reads, WhereKnown, WhereWaiting}
-use Rattle.type_rules.specs.Scenes.{Hand, IsSaid, IsStood, scene_of}
+use Rattle.type_rules.specs.Scenes.{IsSaid, IsStood, scene_of}
 use Rattle.type_rules.specs.Sites.{IsRefused, context_of}
 use Rattle.decl_sem.specs.ArrayRows.{array_row}
 use Rattle.decl_sem.specs.Making.{next_ordinal}

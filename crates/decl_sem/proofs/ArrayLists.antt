@@ -1,12 +1,12 @@
 -- The rows of arrays: of their index types, and of one array after another.
 use Rattle.std.specs.Prelude.{◌≡◌, ℕ, zero, suc, ◌+◌, ◌<◌, ◌≤◌, true, false, List, [], ◌∷◌, ◌++◌, length, map, drop, reverse}
 use Rattle.std.proofs.Common.{refl, sym, ap, ◌∙◌, subst, arith, get_or, Ok, Err, Result}
-use Rattle.std.proofs.Math.Seq.{drop-cons}
 use Rattle.std.proofs.lemmas.List.{append_assoc, append-nil, length-append, length-reverse, reverse-append}
 use Rattle.std.specs.Result.{IsErr}
 use Rattle.std.specs.declared.alloc.Global.{Global}
 use Rattle.std.specs.declared.boxed.Box.{Box}
 use Rattle.std.specs.declared.vec.Vec.{Vec}
+use Rattle.m2_base.proofs.Kept.{Each-append}
 use Rattle.m2_base.proofs.Seen.{array_seen}
 use Rattle.m2_base.specs.Lists.{Each}
 use Rattle.m2_base.specs.Rows.{array_kind}
@@ -18,7 +18,7 @@ use Rattle.m2_base.specs.Statics.Makes.{Makes, make_then, makes, makes_row, only
 use Rattle.m2_base.specs.Statics.ReadTrees.{AreReadTypes, IsReadType}
 use Rattle.m2_base.specs.Statics.Shapes.{Shape, array_shapes, form_shapes, nameless, type_shapes, types_shapes}
 use Rattle.m2_base.specs.Statics.TypeRows.{form_rows, index_rows, type_rows}
-use Rattle.m2_base.specs.Trees.{TypeExpr, TypeExprs, array_type, more_types, no_types, type_at, type_exprs}
+use Rattle.m2_base.specs.Trees.{TypeExpr, TypeExprs, array_type, more_types, type_at, type_exprs}
 use Rattle.m2_base.specs.Views.{type_form_view, type_view}
 use Rattle.m2_base.specs.declared.memory.Memory.{Memory}
 use Rattle.m2_base.specs.declared.replies.Ask.{Ask}
@@ -36,20 +36,17 @@ use Rattle.decl_sem.specs.Pieces.{Declares, IsBehind, IsMaking}
 use Rattle.decl_sem.specs.declared.making.Made.{Made}
 use Rattle.decl_sem.proofs.OneRows.{behind_more}
 use Rattle.decl_sem.proofs.Parameters.{make_then_assoc}
-use Rattle.decl_sem.proofs.Pieces.{AreNoTypes, GoesOn, described, failed, goes_as, goes_end, goes_failed, goes_start, goes_step, goes_waiting, making_front, making_on, next_on, no_types-append, not_a_type, reshaped, then_after, waiting}
+use Rattle.decl_sem.proofs.Pieces.{GoesOn, failed, goes_as, goes_end, goes_failed, goes_start, goes_step, goes_waiting, making_front, making_on, next_on, not_a_type, reshaped, then_after, waiting}
 use Rattle.decl_sem.proofs.NoTypeNames.{all_names_none}
 use Rattle.decl_sem.proofs.TypeForms.{at_seen, seen, type_no_types, unmade}
 use Rattle.decl_sem.proofs.TypeSizes.{size_type, size_types}
+use Rattle.decl_sem.proofs.VariableLists.{next_left, none_left, then_same}
 
 -- ** Lists
 
 each-split : {A : Type 0} (P : A → Type 0) (xs : List A) (y : A) → Each P (xs ++ y ∷ []) → Each P xs × P y
 each-split P [] y h = (tt, h.0)
 each-split P (x ∷ xs) y h = let rest = each-split P xs y h.1 in ((h.0, rest.0), rest.1)
-
-each-more : {A : Type 0} (P : A → Type 0) (xs : List A) (y : A) → Each P xs → P y → Each P (xs ++ y ∷ [])
-each-more P [] y h k = (k, tt)
-each-more P (x ∷ xs) y h k = (h.0, each-more P xs y h.1 k)
 
 -- after a piece the types still stand before the next row
 module _ {T : Type 0} {a b : State} {x y : Made} {s : Site} {ss : List Shape} {P : Frame → ℕ → T → Type 0} {g : Context → Makes T} {v : T} (p : Declares a b x y s (Ok (Known v)) ss P g) where
@@ -129,10 +126,6 @@ trees ts = type_exprs (map type_view ts)
 abbrev pub rest_rows : Context → (before : List Place) → TypeExprs → Makes (List Place)
 rest_rows c before ts = make_then c (index_rows c ts) (λ d more. makes (before ++ more))
 
-then_same : {A B : Type 0} (c : Context) (m : Makes A) (f h : Context → A → Makes B) → f (with_rows c m.rows) m.value ≡ h (with_rows c m.rows) m.value → make_then c m f ≡ make_then c m h
-then_same {A} {B} c m f h e =
-    ap (λ (b : Makes B). record { value = b.value; rows = m.rows ++ b.rows; diags = m.diags ++ b.diags; answers = m.answers ++ b.answers }) e
-
 -- nothing more
 then_makes : {A : Type 0} (c : Context) (m : Makes A) → make_then c m (λ d v. makes v) ≡ m
 then_makes c m =
@@ -191,9 +184,6 @@ size_at (x ∷ xs) (suc k) d h = let rest = size_at xs k d (omega (arith, h)) in
 pub index_small : (xs : List code.TypeExpr.TypeExpr) (k : ℕ) (t : code.TypeExpr.TypeExpr) → k < length xs → t ≡ get_or xs k t → size_type (type_view t) ≤ size_types (trees xs)
 index_small xs k t h e = subst (λ (u : code.TypeExpr.TypeExpr). size_type (type_view u) ≤ size_types (trees xs)) (sym e) (size_at xs k t h)
 
-types_from : (xs : List code.TypeExpr.TypeExpr) (k : ℕ) (d : code.TypeExpr.TypeExpr) → k < length xs → drop k xs ≡ get_or xs k d ∷ drop (k + 1) xs
-types_from xs k d h = drop-cons xs k d h ∙ (let e : suc k ≡ k + 1 = omega arith in ap (λ (n : ℕ). get_or xs k d ∷ drop n xs) e)
-
 module _ {a b : State} {x y : Made} {s : Site} (types : List code.TypeExpr.TypeExpr) (k : ℕ) (t : code.TypeExpr.TypeExpr) (indexes : List Place) (h : k < length types) (same : t ≡ get_or types k t) (so : HasIndexes a b x y s types k indexes) where
   abbrev next : TypeExpr
   next = type_view t
@@ -202,7 +192,7 @@ module _ {a b : State} {x y : Made} {s : Site} (types : List code.TypeExpr.TypeE
   indexes_at : GoesOn a b x y s (types_shapes (trees types)) (type_shapes next ++ types_shapes (trees (drop (k + 1) types))) (AreIndexes (length types)) (λ c. index_rows c (trees types))
       (λ c. make_then c (index_row c next) (λ e i. rest_rows e (indexes ++ i ∷ []) (trees (drop (k + 1) types))))
   indexes_at =
-      let e = types_from types k t h ∙ ap (λ (u : code.TypeExpr.TypeExpr). u ∷ drop (k + 1) types) (sym same) in
+      let e = next_left types k t h ∙ ap (λ (u : code.TypeExpr.TypeExpr). u ∷ drop (k + 1) types) (sym same) in
       goes_as (type_shapes next ++ types_shapes (trees (drop (k + 1) types))) (λ c. make_then c (index_row c next) (λ e i. rest_rows e (indexes ++ i ∷ []) (trees (drop (k + 1) types))))
       (ap (λ (ts : List code.TypeExpr.TypeExpr). types_shapes (trees ts)) e)
       (λ hand in_hand told is. let c = context_of b.frame hand s in
@@ -218,7 +208,7 @@ module _ {a b : State} {x y : Made} {s : Site} (types : List code.TypeExpr.TypeE
       (record {
         on = goes_step (λ c. index_row c next) (λ i c. rest_rows c (indexes ++ i ∷ []) (trees (drop (k + 1) types))) (type_no_types next) indexes_at p;
         count = length-append indexes (i ∷ []) ∙ ap (λ (n : ℕ). n + 1) so.count;
-        behind = each-more (IsBehind e.frame (next_ordinal z)) indexes i (all_behind p indexes so.behind) (subst (λ (f : Frame). IsBehind f (next_ordinal z) i) (sym p.works.keeps.frame) p.there);
+        behind = Each-append (IsBehind e.frame (next_ordinal z)) indexes (i ∷ []) (all_behind p indexes so.behind) (subst (λ (f : Frame). IsBehind f (next_ordinal z) i) (sym p.works.keeps.frame) p.there, tt);
       })
 
   pub indexes_failed : {e : State} {z : Made} {m : Memory} (n : Memory) → Declares b e y z s (Err m) (type_shapes next) IsBehind (λ c. index_row c next)
@@ -236,15 +226,11 @@ module _ {a b : State} {x y : Made} {s : Site} (types : List code.TypeExpr.TypeE
   indexes_full {e} {z} (Err n) is p =
       (goes_step (λ c. index_row c next) (λ i c. rest_rows c (indexes ++ i ∷ []) (trees (drop (k + 1) types))) (type_no_types next) indexes_at p).on e z (Err n) (unmade e z s n _ _ _)
 
-no_types_left : (xs : List code.TypeExpr.TypeExpr) → drop (length xs) xs ≡ []
-no_types_left [] = refl
-no_types_left (x ∷ xs) = no_types_left xs
-
 -- all are made
 pub all_indexes : {a b : State} {x y : Made} {s : Site} (types : List code.TypeExpr.TypeExpr) (k : ℕ) (indexes : List Place) → k ≡ length types → HasIndexes a b x y s types k indexes
     → Declares a b x y s (Ok (Known indexes)) (types_shapes (trees types)) (AreIndexes (length types)) (λ c. index_rows c (trees types))
 all_indexes {b = b} {s = s} types k indexes all so =
-    let e : drop k types ≡ [] = ap (λ (n : ℕ). drop n types) all ∙ no_types_left types in
+    let e : drop k types ≡ [] = ap (λ (n : ℕ). drop n types) all ∙ none_left types in
     goes_end indexes
     (goes_as [] (λ c. makes indexes) (ap (λ (ts : List code.TypeExpr.TypeExpr). types_shapes (trees ts)) e)
     (λ hand in_hand told same. let c = context_of b.frame hand s in ap makes (sym (append-nil indexes)) ∙ ap (λ (ts : List code.TypeExpr.TypeExpr). rest_rows c indexes (trees ts)) (sym e)) so.on)

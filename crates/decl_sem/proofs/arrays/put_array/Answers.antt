@@ -4,8 +4,7 @@ use Rattle.m2_base.specs.Statics.Shapes.{nameless}
 use Rattle.m2_base.specs.declared.replies.Ask.TheVariants.{Known}
 use Rattle.decl_sem.proofs.ArrayCells.{array_failed, array_made, array_meaning, cells_asked}
 use Rattle.decl_sem.proofs.Asking.{behind_read, first_made, making_read}
-use Rattle.decl_sem.proofs.OneRows.{room_for_row, small_scope}
-use Rattle.decl_sem.proofs.Pieces.{making_front, making_on, not_a_type, waiting}
+use Rattle.decl_sem.proofs.Pieces.{making_front, making_on, not_a_type}
 use Rattle.decl_sem.proofs.arrays.put_array.Goals as goal
 
 pub array_cells-requires-clause-making : goal.array_cells-requires-clause-making
