@@ -1,11 +1,11 @@
-use Rattle.std.proofs.Common.{[], ◌∷◌, ◌∙◌, Err, Ok, ap, arith, map, refl, sym, subst, ℕ}
+use Rattle.std.proofs.Common.{Err, Ok, [], ap, arith, length, map, refl, subst, sym, ℕ, ◌∙◌, ◌∷◌, ◌≡◌}
 use Rattle.m2_base.specs.Rows.{field_kind, record_kind, set_kind}
 use Rattle.m2_base.specs.States.{Frame}
 use Rattle.m2_base.specs.Statics.Arrays.{checked_base}
 use Rattle.m2_base.specs.Statics.Makes.{make_then, makes_row, only_gives}
 use Rattle.m2_base.specs.Statics.Shapes.{arms_shapes, fields_shapes, nameless, tag_shapes, type_shapes}
 use Rattle.m2_base.specs.Statics.TypeRows.{type_rows}
-use Rattle.m2_base.specs.Trees.{case_fields, enum_type, named_type, plain_fields, proc_type, record_type, set_type, type_at}
+use Rattle.m2_base.specs.Trees.{array_type, case_fields, enum_type, named_type, plain_fields, proc_type, record_type, set_type, type_at}
 use Rattle.m2_base.specs.Views.{type_view}
 use Rattle.m2_base.specs.declared.rows.RowMeaning.TheVariants.{Set}
 use Rattle.m2_base.specs.declared.trees.types.TypeExpr.{TypeExpr}
@@ -16,10 +16,11 @@ use Rattle.decl_sem.specs.Records.{AreVariants, IsOwner, behind_tag_shapes}
 use Rattle.decl_sem.proofs.Asking.{first_made}
 use Rattle.decl_sem.proofs.OneRows.{room_for_row}
 use Rattle.decl_sem.proofs.Pieces.{failed, making_front, making_on, then_after, waiting}
-use Rattle.decl_sem.proofs.RecordRows.{all_arms, all_lists, arm_read, arms_then, cases_made, cases_making, cases_owner, field_read, greater_last, inner_failed, inner_making, inner_owner, inner_waits, is_cases, is_plain, labels_failed, labels_known, labels_making, labels_wait, list_form_made, list_form_making, list_form_owner, list_form_read, list_failed, list_making, list_owner, list_waits, one_arm, one_list, own_ahead, owner_front, owner_on, plain_made, record_whole}
+use Rattle.decl_sem.proofs.RecordRows.{all_arms, all_lists, arm_read, arms_then, cases_made, cases_making, cases_owner, field_read, greater_last, inner_failed, inner_making, inner_owner, inner_waits, is_cases, is_plain, labels_failed, labels_known, labels_making, labels_wait, list_failed, list_form_made, list_form_making, list_form_owner, list_form_read, list_making, list_owner, list_waits, one_arm, one_list, own_ahead, owner_front, owner_on, plain_made, record_whole}
 use Rattle.decl_sem.proofs.RecordSizes.{arm_small, arms_of, cases_small, field_small, fields_of, plain_small, record_small}
-use Rattle.decl_sem.proofs.TypeForms.{at_seen, enum_room, form_made, form_making, form_read, is_enum, is_named, is_proc, is_record, is_set, read_here, set_parts, arms_no_types, fields_no_types, tag_no_types, type_no_types, unmade}
+use Rattle.decl_sem.proofs.TypeForms.{arms_no_types, at_seen, enum_room, fields_no_types, form_made, form_making, form_read, is_enum, is_named, is_proc, is_record, is_set, read_here, set_parts, tag_no_types, type_no_types, unmade}
 use Rattle.decl_sem.proofs.TypeSizes.{smaller_base}
+use Rattle.decl_sem.proofs.ArrayLists.{all_indexes, arrays_making, checked_behind, checked_making, elem_behind, elem_failed, elem_making, elem_waiting, first_listed, first_waiting, index_made, index_making, index_small, indexes_behind, indexes_failed, indexes_full, indexes_making, indexes_waiting, is_array, listed_waiting, no_indexes, one_more_index, read_index, size_of_array, trees, whole_array}
 use Rattle.decl_sem.proofs.types.+types.Goals as goal
 
 pub type_in-name_in-requires-clause-making : goal.type_in-name_in-requires-clause-making
@@ -100,6 +101,107 @@ pub type_in-returns-in-Proc : goal.type_in-returns-in-Proc
 type_in-returns-in-Proc g t c =
     let l = c.deref-in-Proc.result.now in
     form_made c.args.typ.now (proc_type l c.in-Proc.outcome) (is_proc c.args.typ.now c.in-Proc.formals c.in-Proc.outcome l c.deref-in-Proc.ensures.value c.in-Proc.is) c.proc_in.ensures
+
+-- ** Arrays
+
+pub type_in-array_in-requires : goal.type_in-array_in-requires
+type_in-array_in-requires g t c κs within =
+    let l = c.deref-in-Array.result.now in
+    let u = c.deref-in-Array-2.result.now in
+    let is = is_array c.args.typ.now c.in-Array.index c.in-Array.of l u c.deref-in-Array.ensures.value c.deref-in-Array-2.ensures c.in-Array.is in
+    let read = form_read c.args.typ.now (array_type (trees l) (type_view u)) c.args.site.now.texts.now.names is c.requires.read in (
+      (let small = size_of_array c.args.typ.now l u is in omega (arith, small, c.decreases)),
+      (within, (form_making c.args.typ.now (array_type (trees l) (type_view u)) is c.requires.making, (read.0, read.1))),
+    )
+
+pub type_in-returns-in-Array : goal.type_in-returns-in-Array
+type_in-returns-in-Array g t c =
+    let l = c.deref-in-Array.result.now in
+    let u = c.deref-in-Array-2.result.now in
+    form_made c.args.typ.now (array_type (trees l) (type_view u)) (is_array c.args.typ.now c.in-Array.index c.in-Array.of l u c.deref-in-Array.ensures.value c.deref-in-Array-2.ensures c.in-Array.is) c.array_in.ensures
+
+pub index_in-type_in-requires : goal.index_in-type_in-requires
+index_in-type_in-requires g t c κs within = (omega (arith, c.decreases), (within, (c.requires.making, c.requires.read)))
+
+pub index_in-checked_index-requires-clause-making : goal.index_in-checked_index-requires-clause-making
+index_in-checked_index-requires-clause-making g t c = checked_making c.args.typ.now c.requires.making (first_made c.in-Ok.is c.in-Known.is c.type_in.ensures)
+
+pub index_in-checked_index-requires-clause-there : goal.index_in-checked_index-requires-clause-there
+index_in-checked_index-requires-clause-there g t c = checked_behind c.args.typ.now c.requires.making (first_made c.in-Ok.is c.in-Known.is c.type_in.ensures)
+
+pub index_in-returns : goal.index_in-returns
+index_in-returns g t c = index_made c.args.typ.now c.requires.making (first_made c.in-Ok.is c.in-Known.is c.type_in.ensures) c.checked_index.result c.checked_index.ensures
+
+pub indexes_in-loop-typ-init : goal.indexes_in-loop-typ-init
+indexes_in-loop-typ-init g t c = no_indexes c.args.types.now c.new-indexes.result.items c.new-indexes.ensures.items c.requires.making
+
+pub indexes_in-index_in-requires : goal.indexes_in-index_in-requires
+indexes_in-index_in-requires g t c κs within = (
+  let small = index_small c.args.types.now c.loop-typ.typ-index c.typ-item.result c.loop-typ-test.true c.typ-item.is in omega (arith, small, c.decreases),
+  (
+    within,
+    (
+      index_making c.args.types.now c.loop-typ.typ-index c.typ-item.result c.loop-typ.indexes.items c.loop-typ-test.true c.typ-item.is c.loop-typ.invariant,
+      read_index c.args.site.now.texts.now.names c.args.types.now c.loop-typ.typ-index c.typ-item.result c.loop-typ-test.true c.typ-item.is c.requires.read,
+    ),
+  ),
+)
+
+pub indexes_in-returns-in-DontKnowYet : goal.indexes_in-returns-in-DontKnowYet
+indexes_in-returns-in-DontKnowYet g t c =
+    indexes_waiting c.args.types.now c.loop-typ.typ-index c.typ-item.result c.loop-typ.indexes.items c.loop-typ-test.true c.typ-item.is c.loop-typ.invariant (first_waiting c.in-Ok.is c.in-DontKnowYet.is c.index_in.ensures)
+
+pub indexes_in-returns-in-Err : goal.indexes_in-returns-in-Err
+indexes_in-returns-in-Err g t c =
+    indexes_failed c.args.types.now c.loop-typ.typ-index c.typ-item.result c.loop-typ.indexes.items c.loop-typ-test.true c.typ-item.is c.loop-typ.invariant _ c.in-Err.ensures
+
+pub indexes_in-returns-in_err-push : goal.indexes_in-returns-in_err-push
+indexes_in-returns-in_err-push g t c =
+    indexes_full c.args.types.now c.loop-typ.typ-index c.typ-item.result c.loop-typ.indexes.items c.loop-typ-test.true c.typ-item.is c.loop-typ.invariant c.from_residual.result c.from_residual.ensures.0 (first_made c.in-Ok.is c.in-Known.is c.index_in.ensures)
+
+pub indexes_in-loop-typ-preserved : goal.indexes_in-loop-typ-preserved
+indexes_in-loop-typ-preserved g t c =
+    one_more_index c.args.types.now c.loop-typ.typ-index c.typ-item.result c.loop-typ.indexes.items c.loop-typ-test.true c.typ-item.is c.loop-typ.invariant c.push.new.self.items c.in_ok-push.ensures.items (first_made c.in-Ok.is c.in-Known.is c.index_in.ensures)
+
+pub indexes_in-returns : goal.indexes_in-returns
+indexes_in-returns g t c =
+    let all : c.loop-typ.typ-index ≡ length c.args.types.now = let h = c.loop-typ-test.false in let e = c.loop-typ.auto.typ-index-end in omega arith in
+    all_indexes c.args.types.now c.loop-typ.typ-index c.loop-typ.indexes.items all c.loop-typ.invariant
+
+pub array_in-indexes_in-requires : goal.array_in-indexes_in-requires
+array_in-indexes_in-requires g t c κs within = (omega (arith, c.decreases), (within, (indexes_making c.args.at c.args.index.now c.args.of.now c.requires.making, c.requires.indexes)))
+
+pub array_in-returns-in-DontKnowYet : goal.array_in-returns-in-DontKnowYet
+array_in-returns-in-DontKnowYet g t c = waiting (listed_waiting c.in-Ok.is c.in-DontKnowYet.is c.indexes_in.ensures)
+
+pub array_in-type_in-requires : goal.array_in-type_in-requires
+array_in-type_in-requires g t c κs within =
+    (omega (arith, c.decreases), (within, (elem_making c.args.at c.args.index.now c.args.of.now c.requires.making (first_listed c.in-Ok.is c.in-Known.is c.indexes_in.ensures), c.requires.of)))
+
+pub array_in-returns-in-DontKnowYet-asked : goal.array_in-returns-in-DontKnowYet-asked
+array_in-returns-in-DontKnowYet-asked g t c =
+    elem_waiting c.args.at c.args.index.now c.args.of.now c.requires.making (first_listed c.in-Ok.is c.in-Known.is c.indexes_in.ensures) (first_waiting c.in-Ok-type_in.is c.in-DontKnowYet-asked.is c.type_in.ensures)
+
+pub array_in-returns-in-Err-type_in : goal.array_in-returns-in-Err-type_in
+array_in-returns-in-Err-type_in g t c =
+    elem_failed c.args.at c.args.index.now c.args.of.now c.requires.making (first_listed c.in-Ok.is c.in-Known.is c.indexes_in.ensures) c.in-Err-type_in.memory c.in-Err-type_in.ensures
+
+pub array_in-put_arrays-requires-clause-making : goal.array_in-put_arrays-requires-clause-making
+array_in-put_arrays-requires-clause-making g t c =
+    rw c.deref.ensures.value (arrays_making c.args.at c.args.index.now c.args.of.now c.requires.making (first_listed c.in-Ok.is c.in-Known.is c.indexes_in.ensures) (first_made c.in-Ok-type_in.is c.in-Known-asked.is c.type_in.ensures))
+
+pub array_in-put_arrays-requires-clause-indexes : goal.array_in-put_arrays-requires-clause-indexes
+array_in-put_arrays-requires-clause-indexes g t c =
+    rw c.deref.ensures.value (indexes_behind c.args.at c.args.index.now c.args.of.now c.requires.making (first_listed c.in-Ok.is c.in-Known.is c.indexes_in.ensures) (first_made c.in-Ok-type_in.is c.in-Known-asked.is c.type_in.ensures))
+
+pub array_in-put_arrays-requires-clause-of : goal.array_in-put_arrays-requires-clause-of
+array_in-put_arrays-requires-clause-of g t c =
+    elem_behind c.args.at c.args.index.now c.args.of.now c.requires.making (first_listed c.in-Ok.is c.in-Known.is c.indexes_in.ensures) (first_made c.in-Ok-type_in.is c.in-Known-asked.is c.type_in.ensures)
+
+pub array_in-returns : goal.array_in-returns
+array_in-returns g t c =
+    whole_array c.args.at c.args.index.now c.args.of.now c.requires.making (first_listed c.in-Ok.is c.in-Known.is c.indexes_in.ensures) (first_made c.in-Ok-type_in.is c.in-Known-asked.is c.type_in.ensures) c.put_arrays.result
+    (rw c.deref.ensures.value at c.put_arrays.ensures)
 
 -- ** Records
 
