@@ -31,3 +31,84 @@ const WRONG_INDEX: u8 = 61;
 pub(crate) fn range_by(meaning: RowMeaning) -> Option<(i64, i64)>
     ensures ends { option_map (λ ends. range ends.0 ends.1) result ≡ spec_range meaning }
     ensures values { (names : ℕ) (p : Spot) → Fits names p meaning → IfSome result (λ ends. IsValue ends.0 × IsValue ends.1) }
+{
+    match meaning {
+        RowMeaning::Integer => Some((-2_147_483_648, 2_147_483_647)),
+        RowMeaning::Cardinal => Some((0, 4_294_967_295)),
+        RowMeaning::Character => Some((0, 255)),
+        RowMeaning::Enum(count) => Some((0, count.saturating_sub(1) as i64)),
+        RowMeaning::Subrange(_, low, high) => Some((low, high)),
+        _ => None,
+    }
+}
+
+/// Whether a range lies within that of a set's elements.
+fn is_set_range(ends: Option<(i64, i64)>) -> bool
+    ensures { result ≡ spec_is_set_range (option_map (λ ends. range ends.0 ends.1) ends) }
+{
+    match ends {
+        Some((low, high)) => 0 <= low && high <= 31,
+        None => false,
+    }
+}
+
+/// Whether the base of a set may be this, or is in error.
+fn may_be_base(stood: (Place, RowMeaning)) -> bool
+    ensures { result ≡ spec_may_be_base stood }
+{
+    let fits = is_set_range(range_by(stood.1));
+    stood.0 == BROKEN || fits
+}
+
+/// A type that is kept, or refused and then in error.
+pub(crate) fn keep_or_refuse(
+    site: &Site,
+    at: u32,
+    keep: bool,
+    of: Place,
+    made: &mut Made,
+) -> Result<Place, Memory>
+    ensures { (a : State) → IsMaking a.frame site.now made.old [] → IsBehind a.frame (next_ordinal made.old) of → Declares a a made.old made.new site.now (known_of result) [] IsBehind (λ c. only_gives (if keep then gives of else refuses c at wrong_index broken)) }
+{
+    if keep {
+        return Ok(of);
+    }
+    put!(refuse(site, at, WRONG_INDEX, &mut made.notes));
+    Ok(BROKEN)
+}
+
+/// A set's base is ordinal, within 0..31.
+fn checked_base<S: Scopes>(
+    scopes: &mut S,
+    site: &Site,
+    at: u32,
+    of: Place,
+    made: &mut Made,
+) -> Result<Ask<Place>, Memory>
+    requires making { IsMaking (S.state scopes.old).frame site.now made.old [] }
+    requires there { IsBehind (S.state scopes.old).frame (next_ordinal made.old) of }
+    ensures { Declares (S.state scopes.old) (S.state scopes.new) made.old made.new site.now result [] IsBehind (λ c. only_gives (spec_base c at of)) }
+{
+    let stood = ask!(stand_in(scopes, site, made, of));
+    let keep = may_be_base(stood);
+    let base = put!(keep_or_refuse(site, at, keep, of, made));
+    Ok(Ask::Known(base))
+}
+
+/// The row of a set of this base, whose first token is given.
+pub(crate) fn make_set<S: Scopes>(
+    scopes: &mut S,
+    site: &Site,
+    at: u32,
+    base_at: u32,
+    of: Place,
+    made: &mut Made,
+) -> Result<Ask<Place>, Memory>
+    requires making { IsMaking (S.state scopes.old).frame site.now made.old (nameless set_kind at ∷ []) }
+    requires there { IsBehind (S.state scopes.old).frame (next_ordinal made.old) of }
+    ensures { Declares (S.state scopes.old) (S.state scopes.new) made.old made.new site.now result (nameless set_kind at ∷ []) IsBehind (λ c. make_then c (only_gives (spec_base c base_at of)) (λ e base. makes_row e at (meanings.Set base))) }
+{
+    let base = made!(checked_base(scopes, site, base_at, of, made));
+    let set = put!(put_plain(site, made, at, RowMeaning::Set(base)));
+    Ok(Ask::Known(set))
+}
