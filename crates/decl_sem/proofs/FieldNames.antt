@@ -1,14 +1,12 @@
 -- A field, and whether it is the second of its name.
 use Rattle.std.specs.List.{list_any}
 use Rattle.std.specs.Prelude.{◌≡◌, ℕ, ◌+◌, ◌<◌, ◌≤◌, ◌==◌, ◌^◌, ◌&&◌, ◌||◌, Bool, true, false, if◌then◌else◌, List, [], ◌∷◌, ◌++◌, length, Result, Ok, Err}
-use Rattle.std.specs.Result.{IfOk}
 use Rattle.std.proofs.Common.{refl, sym, ap, ◌∙◌, subst, arith}
 use Rattle.std.proofs.lemmas.List.{append-nil}
 use Rattle.std.proofs.lemmas.List.Folds.{list_any-append}
-use Rattle.m2_base.specs.Finished.{IsFinished}
 use Rattle.m2_base.specs.Gives.{Gives}
 use Rattle.m2_base.specs.Lists.{Each, IsPrefixOf}
-use Rattle.m2_base.specs.Rows.{HasSmallNumbers, at_place, field_kind, row_meaning, type_name_kind}
+use Rattle.m2_base.specs.Rows.{HasSmallNumbers, at_place, field_kind, row_meaning}
 use Rattle.m2_base.specs.States.{Frame, State}
 use Rattle.m2_base.specs.Statics.Contexts.{Context, diag}
 use Rattle.m2_base.specs.Statics.Diagnostics.{declared_twice}
@@ -30,8 +28,7 @@ use Rattle.m2_base.specs.declared.sites.Site.{Site}
 use Rattle.m2_base.specs.declared.trees.Ident.{Ident}
 use Rattle.m2_base.proofs.Kept.{Works-notes}
 use Rattle.m2_base.proofs.RowLaws.{HasSmallNumbers-fits}
-use Rattle.type_rules.specs.Sites.{IsRefused, context_of}
-use Rattle.type_rules.specs.Scenes.{Hand}
+use Rattle.type_rules.specs.Sites.{context_of}
 use Rattle.decl_sem.specs.FieldNotes.{refused_if, second_refused}
 use Rattle.decl_sem.specs.LaidRows.{none_laid}
 use Rattle.decl_sem.specs.Making.{MakesAll, diag_in, next_ordinal}
@@ -65,9 +62,10 @@ own_fields {f} {s} {x} own name le making hand in_hand told same =
 -- the numbers of the rows in hand
 small_rows : (f : Frame) (limit o : ℕ) (rows : List Row) → length f.setting.texts.names ≤ 2 ^ 32 → f.setting.fills < 2 ^ 31 → o + length rows ≤ 2 ^ 32 → AreNewRows f limit o rows → Each (λ r. HasSmallNumbers (row_meaning r)) rows
 small_rows f limit o [] names scope few h = tt
-small_rows f limit o (r ∷ rows) names scope few h =
-    (HasSmallNumbers-fits (length f.setting.texts.names) (at_place f.setting.fills o) (row_meaning r) names (omega (arith, scope)) (omega (arith, few)) h.0.right.formed.fits,
-    small_rows f limit (o + 1) rows names scope (omega (arith, few)) h.1)
+small_rows f limit o (r ∷ rows) names scope few h = (
+  HasSmallNumbers-fits (length f.setting.texts.names) (at_place f.setting.fills o) (row_meaning r) names (omega (arith, scope)) (omega (arith, few)) h.0.right.formed.fits,
+  small_rows f limit (o + 1) rows names scope (omega (arith, few)) h.1,
+)
 
 pub small_in_hand : {f : Frame} {s : Site} {x : Made} {ss : List Shape} → IsMaking f s x ss → Each (λ r. HasSmallNumbers (row_meaning r)) x.rows.items
 small_in_hand {f} {s} {x} making =

@@ -33,7 +33,7 @@ use Rattle.m2_base.specs.declared.trees.types.FieldList.TheVariants.{Cases, Plai
 use Rattle.type_rules.specs.Scenes.{IsThere}
 use Rattle.type_rules.specs.Sites.{context_of}
 use Rattle.decl_sem.specs.Making.{next_ordinal}
-use Rattle.decl_sem.specs.Pieces.{Declares, IsAny, IsBehind, IsMaking, IsNewMeaning, item_end, known_of}
+use Rattle.decl_sem.specs.Pieces.{Declares, IsAny, IsBehind, IsMaking, IsNewMeaning, known_of}
 use Rattle.decl_sem.specs.Records.{AreVariants, AreVariantsOf, IsOffset, IsOwner, IsTagType, behind_tag_rows, behind_tag_shapes, covered_of, record_row, tag_made}
 use Rattle.decl_sem.specs.declared.making.Made.{Made}
 use Rattle.decl_sem.specs.declared.records.Variants.{Variants}

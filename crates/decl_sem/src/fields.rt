@@ -27,9 +27,7 @@ use crate::putting::plain_row;
 use crate::sets::range_by;
 use crate::standing::stand_in;
 use crate::variables::cells_of;
-use m2_base::{
-    Ask, Ident, Memory, Notes, Place, Qual, Row, RowMeaning, Scopes, Site, read_row,
-};
+use m2_base::{Ask, Ident, Memory, Notes, Place, Qual, Row, RowMeaning, Scopes, Site, read_row};
 use type_rules::BROKEN;
 
 /// The code of a field whose name the record has already.

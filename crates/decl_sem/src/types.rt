@@ -22,9 +22,7 @@ use crate::procedure_types::proc_in;
 use crate::records::{Variants, begin_variants, put_record};
 use crate::sets::make_set;
 use crate::shapes::count_fields;
-use m2_base::{
-    Ask, FieldList, Memory, Place, Qual, Scopes, Site, TypeExpr, TypeForm, VariantArm,
-};
+use m2_base::{Ask, FieldList, Memory, Place, Qual, Scopes, Site, TypeExpr, TypeForm, VariantArm};
 use std::alloc::Global;
 
 /// The type that a name leads to. It makes no row.
@@ -235,7 +233,15 @@ fn variants_in<S: Scopes>(
     ensures { Declares (S.state scopes.old) (S.state scopes.new) made.old made.new site.now result (behind_tag_shapes (variant_arms (map variant_arm_view arms.now)) (field_lists (map field_list_view other.now))) IsOffset (λ c. behind_tag_rows c variants (variant_arms (map variant_arm_view arms.now)) (field_lists (map field_list_view other.now))) }
 {
     let end = made!(arms_in(alloc, scopes, site, variants, arms, made));
-    let last = made!(fields_in(alloc, scopes, site, variants.own, variants.offset, other, made));
+    let last = made!(fields_in(
+        alloc,
+        scopes,
+        site,
+        variants.own,
+        variants.offset,
+        other,
+        made
+    ));
     Ok(Ask::Known(end.max(last)))
 }
 
@@ -259,7 +265,15 @@ fn arms_in<S: Scopes>(
     let mut end = variants.offset;
     for arm in arms {
         covered = made!(labels_in(scopes, site, variants.tag, covered, &arm.labels, made));
-        let after = made!(fields_in(alloc, scopes, site, variants.own, variants.offset, &arm.fields, made));
+        let after = made!(fields_in(
+            alloc,
+            scopes,
+            site,
+            variants.own,
+            variants.offset,
+            &arm.fields,
+            made
+        ));
         end = end.max(after);
     }
     Ok(Ask::Known(end))

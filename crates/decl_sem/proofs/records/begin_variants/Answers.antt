@@ -1,14 +1,12 @@
 use Rattle.std.proofs.Common.{[], Ok, Err, sym, subst}
 use Rattle.m2_base.specs.States.{Frame}
-use Rattle.m2_base.specs.Statics.Fields.{tag_rows, tag_type}
-use Rattle.m2_base.specs.Statics.Makes.{make_then, makes, only_gives}
 use Rattle.m2_base.specs.Statics.Shapes.{tag_shapes}
 use Rattle.m2_base.specs.declared.replies.Ask.TheVariants.{Known}
 use Rattle.decl_sem.specs.Making.{next_ordinal}
 use Rattle.decl_sem.specs.Pieces.{IsBehind}
 use Rattle.decl_sem.specs.Records.{AreVariantsOf}
 use Rattle.decl_sem.proofs.Asking.{first_made}
-use Rattle.decl_sem.proofs.Pieces.{failed, making_front, making_on, then_after}
+use Rattle.decl_sem.proofs.Pieces.{failed, making_front, making_on}
 use Rattle.decl_sem.proofs.RecordRows.{owner_on, tagged, valued, variants_there}
 use Rattle.decl_sem.proofs.TypeForms.{tag_no_types}
 use Rattle.decl_sem.proofs.records.begin_variants.Goals as goal
