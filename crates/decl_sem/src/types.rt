@@ -232,16 +232,9 @@ fn variants_in<S: Scopes>(
     requires other { AreReadFields site.now.texts.now.names (field_lists (map field_list_view other.now)) }
     ensures { Declares (S.state scopes.old) (S.state scopes.new) made.old made.new site.now result (behind_tag_shapes (variant_arms (map variant_arm_view arms.now)) (field_lists (map field_list_view other.now))) IsOffset (λ c. behind_tag_rows c variants (variant_arms (map variant_arm_view arms.now)) (field_lists (map field_list_view other.now))) }
 {
+    let Variants { own, offset, .. } = variants;
     let end = made!(arms_in(alloc, scopes, site, variants, arms, made));
-    let last = made!(fields_in(
-        alloc,
-        scopes,
-        site,
-        variants.own,
-        variants.offset,
-        other,
-        made
-    ));
+    let last = made!(fields_in(alloc, scopes, site, own, offset, other, made));
     Ok(Ask::Known(end.max(last)))
 }
 
@@ -261,19 +254,12 @@ fn arms_in<S: Scopes>(
     requires read { AreReadArms site.now.texts.now.names (variant_arms (map variant_arm_view arms.now)) }
     ensures { Declares (S.state scopes.old) (S.state scopes.new) made.old made.new site.now result (arms_shapes (variant_arms (map variant_arm_view arms.now))) IsOffset (λ c. arms_rows c variants.own variants.offset variants.tag [] variants.offset (variant_arms (map variant_arm_view arms.now))) }
 {
+    let Variants { own, offset, tag } = variants;
     let mut covered = Covered::new(alloc);
-    let mut end = variants.offset;
+    let mut end = offset;
     for arm in arms {
-        covered = made!(labels_in(scopes, site, variants.tag, covered, &arm.labels, made));
-        let after = made!(fields_in(
-            alloc,
-            scopes,
-            site,
-            variants.own,
-            variants.offset,
-            &arm.fields,
-            made
-        ));
+        covered = made!(labels_in(scopes, site, tag, covered, &arm.labels, made));
+        let after = made!(fields_in(alloc, scopes, site, own, offset, &arm.fields, made));
         end = end.max(after);
     }
     Ok(Ask::Known(end))

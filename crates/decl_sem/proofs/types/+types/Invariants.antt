@@ -45,4 +45,4 @@ abbrev pub invariant-fields_in-loop-list : goal.invariant-fields_in-loop-list
 invariant-fields_in-loop-list g l = HasFields (g.S.Scopes.state l.fn.scopes) (g.S.Scopes.state l.scopes) l.site l.fn.made l.made l.own l.offset l.fields l.list-index l.end
 
 abbrev pub invariant-arms_in-loop-arm : goal.invariant-arms_in-loop-arm
-invariant-arms_in-loop-arm g l = HasArms (g.S.Scopes.state l.fn.scopes) (g.S.Scopes.state l.scopes) l.site l.fn.made l.made l.variants l.arms l.arm-index l.covered l.end
+invariant-arms_in-loop-arm g l = HasArms (g.S.Scopes.state l.fn.scopes) (g.S.Scopes.state l.scopes) l.site l.fn.made l.made l.fn.variants l.arms l.arm-index l.covered l.end
