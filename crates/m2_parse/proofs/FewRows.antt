@@ -1,6 +1,6 @@
 -- A block that is read makes no more rows than it has tokens.
-use Rattle.std.specs.Prelude.{◌≡◌, ℕ, ◌+◌, ◌≤◌, List, [], ◌∷◌, ◌++◌, length, map, flat_map, Option, Some, None}
-use Rattle.std.proofs.Common.{refl, ap, arith}
+use Rattle.std.specs.Prelude.{◌≡◌, ℕ, suc, ◌+◌, ◌≤◌, Bool, true, false, List, [], ◌∷◌, ◌++◌, length, map, flat_map, Option, Some, None}
+use Rattle.std.proofs.Common.{refl, sym, ◌∙◌, ap, subst, arith}
 use Rattle.std.proofs.lemmas.List.{length-append, length-map}
 use Rattle.ll_grammar.specs.Derivations.{Tree, nothing, leaf, both, left, right, last, more, inner, part, tokens, Derives, of_empty, of_token, of_then, of_left, of_right, of_last, of_more, of_deep}
 use Rattle.ll_grammar.specs.Grammar.{many, optional, ◌⨾◌}
@@ -9,7 +9,7 @@ use Rattle.m2_base.specs.ExpressionsOf as of
 use Rattle.m2_base.specs.Grammar as rules
 use Rattle.m2_base.specs.Grammar.{grammar, levels}
 use Rattle.m2_base.specs.Rows.{const_kind, field_kind, param_kind, pointer_kind, proc_kind, proc_type_kind, record_kind, set_kind, type_name_kind, var_kind}
-use Rattle.m2_base.specs.Statics.Items.{decl_item, heading_item, heading_items, import_item, import_items, items_of}
+use Rattle.m2_base.specs.Statics.Items.{Item, decl_item, heading_item, heading_items, import_item, import_items, items_of}
 use Rattle.m2_base.specs.Statics.Shapes.{Shape, arm_shapes, array_shapes, arms_shapes, field_shapes, fields_shapes, form_shapes, formal_shapes, item_shapes, named, nameless, open_shapes, own_section_shapes, section_shapes, tag_shapes, type_item_shapes, type_shapes, types_shapes}
 use Rattle.m2_base.specs.StreamsOf as streams
 use Rattle.m2_base.specs.Trees.{Decl, proc_decl, FieldList, Heading, Import, Section, Stream, TypeExpr, VariantArm, field_lists, type_exprs, variant_arms}
