@@ -53,7 +53,7 @@ unit_is names list order n l o =
     subst (λ (u : UnitTexts). IsUnit u) (λ i. record { names = sym n i; list = sym l i; order = sym o i; own = None }) empty_is_unit
 
 -- the first token
-first_kind : List Token → TokenKind
+abbrev first_kind : List Token → TokenKind
 first_kind [] = EndOfText
 first_kind (t ∷ ts) = t.kind
 
