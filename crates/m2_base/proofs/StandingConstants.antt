@@ -84,13 +84,17 @@ module _ (n : ℕ) where
 
   -- ** Expressions
 
+  -- an expression where a value is wanted
+  value_at : (e : Expr) (c : Context) → IsStandingExpr n e → GivesAt n (value_wanted c (expr_at e) (operand_in c e).value)
+  value_at e c h = wanted_at c (expr_at e) (operand_in c e).value (first_token e h)
+
+  -- an end of a range, or an element, taken into a set
+  taken_at : (e : Expr) (c : Context) (base : Place) → IsStandingExpr n e → GivesAt n (element_of c base (expr_at e) (value_wanted c (expr_at e) (operand_in c e).value).value)
+  taken_at e c base h = element_at n c base (expr_at e) (value_wanted c (expr_at e) (operand_in c e).value).value (first_token e h)
+
   mutual
     operand_at : (e : Expr) (c : Context) → IsStandingExpr n e → GivesAt n (operand_in c e)
     operand_at (expr at form) c h = form_at form c at h.0 h.1
-
-    -- an expression where a value is wanted
-    value_at : (e : Expr) (c : Context) → IsStandingExpr n e → GivesAt n (value_wanted c (expr_at e) (operand_in c e).value)
-    value_at e c h = wanted_at c (expr_at e) (operand_in c e).value (first_token e h)
 
     form_at : (form : ExprForm) (c : Context) (at : ℕ) → at < n → IsStandingForm n form → GivesAt n (form_in c at form)
     form_at (number_form v) c at k h = none n
@@ -125,10 +129,6 @@ module _ (n : ℕ) where
     elements_at : (ls : Labels) (c : Context) (base : Place) (bits : Operand) → AreStandingLabels n ls → GivesAt n (elements_in c base bits ls)
     elements_at no_labels c base bits h = none n
     elements_at (more_labels l ls) c base bits h = join n (label_at l c base bits h.0) (elements_at ls c base (element_in c base bits l).value h.1)
-
-    -- an end of a range, or an element, taken into a set
-    taken_at : (e : Expr) (c : Context) (base : Place) → IsStandingExpr n e → GivesAt n (element_of c base (expr_at e) (value_wanted c (expr_at e) (operand_in c e).value).value)
-    taken_at e c base h = element_at n c base (expr_at e) (value_wanted c (expr_at e) (operand_in c e).value).value (first_token e h)
 
     label_at : (l : Label) (c : Context) (base : Place) (bits : Operand) → IsStandingLabel n l → GivesAt n (element_in c base bits l)
     label_at (one_label e) c base bits h = join n (operand_at e c h) (join n (value_at e c h) (join n (taken_at e c base h) (none n)))

@@ -4,6 +4,7 @@ use Rattle.m2_base.specs.Gives.{Gives, gives}
 use Rattle.m2_base.specs.Rows.{Place, RowMeaning, Set, is_same_place}
 use Rattle.m2_base.specs.Standard.{boolean, cardinal, character, integer, whole}
 use Rattle.m2_base.specs.Trees.{Operator}
+use Rattle.m2_base.specs.Statics.Assignable.{is_open_array}
 use Rattle.m2_base.specs.Statics.Compatible.{is_compatible, is_integer_or_cardinal, is_number_type, is_pointer, taken_beside}
 use Rattle.m2_base.specs.Statics.Contexts.{Context}
 use Rattle.m2_base.specs.Statics.Folding.{fold, is_arithmetic, is_equality, is_relation, number_kind, number_type, where_in}
@@ -12,7 +13,7 @@ use Rattle.m2_base.specs.Statics.Operands.{char_or_same, constant_of_operand, is
 use Rattle.m2_base.specs.Statics.Operations.{apply_one, apply_one_by, are_sets_alike, as_number, base_type, compares_sets, folded, gives_result, is_boolean, is_ordinal, logical, makes_set, membership, membership_in, number_operation, on_alike, on_compatible, on_numbers, on_scalars, operate, operate_by, result_of, set_operation, sign_of, signed, with_sign}
 use Rattle.m2_base.specs.Statics.Ranges.{Range, integer_range, is_within, whole_range}
 use Rattle.m2_base.specs.Statics.Sets.{checked_element, element_of, set_type_of}
-use Rattle.m2_base.specs.Statics.Types.{base_of, is_broken, is_open_array, kind_of, range_of}
+use Rattle.m2_base.specs.Statics.Types.{base_of, is_broken, kind_of, range_of}
 use Rattle.m2_base.specs.declared.operands.FoldKind.TheVariants as kinds
 use Rattle.m2_base.specs.declared.operands.FoldKind.{FoldKind}
 use Rattle.m2_base.specs.declared.operands.Operand.TheVariants.{Computed, Constant, InError, NamedType, NotConstant, Variable}
