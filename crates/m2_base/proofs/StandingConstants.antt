@@ -14,7 +14,7 @@ use Rattle.m2_base.specs.declared.builtins.Builtin.TheVariants.{Abs, Cap, Chr, D
 use Rattle.m2_base.specs.declared.operands.Operand.{Operand}
 use Rattle.m2_base.specs.declared.operands.Operand.TheVariants.{Constant, StringConstant, NamedType, Procedure, StandardProcedure, ModuleName, InError}
 use Rattle.m2_base.proofs.StandingExpressions.{first_stand}
-use Rattle.m2_base.proofs.StandingNotes.{AtTokens, GivesAt, join, none, one, use_at}
+use Rattle.m2_base.proofs.StandingNotes.{GivesAt, join, none, one, use_at}
 use Rattle.m2_base.proofs.StandingOperations.{operate_at, apply_at, abs_at, cap_at, chr_at, odd_at, ord_at, val_at, min_at, max_at, size_at, set_type_at, element_at}
 
 module _ (n : ℕ) where

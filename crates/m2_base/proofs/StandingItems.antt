@@ -1,32 +1,31 @@
 -- The diagnostics of items, of blocks and of units stand at their tokens, where no module has a definition of its own.
-use Rattle.std.specs.Prelude.{◌≡◌, ℕ, ◌+◌, ◌<◌, Bool, true, false, if◌then◌else◌, find, pos, ◌==◌, List, [], ◌∷◌, ◌++◌, Option, Some, None}
+use Rattle.std.specs.Prelude.{◌≡◌, ℕ, ◌+◌, ◌<◌, Bool, if◌then◌else◌, ◌==◌, List, [], ◌∷◌, ◌++◌, Option, Some, None}
 use Rattle.std.specs.List.{list_any}
-use Rattle.std.proofs.Common.{subst, sym, refl, ap, ◌∙◌}
+use Rattle.std.proofs.Common.{subst, sym, refl}
 use Rattle.m2_base.specs.Lists.{Each, WhereKept}
 use Rattle.m2_base.specs.Rows.{Place, Row, Alias, ByAddress, Module, Open, Param, Plain, Proc, ProcType, TypeName, Var}
 use Rattle.m2_base.specs.Standard.{standard_rows}
-use Rattle.m2_base.specs.Tables.{rows_at}
 use Rattle.m2_base.specs.Trees.{Heading, Ident, Section, Stream, StreamKind, TypeExpr}
 use Rattle.m2_base.specs.Statics.BlockRows.{at_item, context_of, declare_block, declare_items, first_cell, scene_of}
 use Rattle.m2_base.specs.Statics.Blocks.{BlockTree, UnitTrees, blocks_of, blocks_of_main, declares, definition_blocks, encloser, home_of, main_block, main_blocks, procedure_block}
 use Rattle.m2_base.specs.Statics.Cells.{capped}
-use Rattle.m2_base.specs.Statics.Closing.{block_name, closing_diags, name_diags, own_diags}
+use Rattle.m2_base.specs.Statics.Closing.{block_name, name_diags, own_diags}
 use Rattle.m2_base.specs.Statics.Constants.{constant_of}
-use Rattle.m2_base.specs.Statics.Contexts.{Context, DefinitionModule, Source, counting, scope_of_module}
+use Rattle.m2_base.specs.Statics.Contexts.{Context, DefinitionModule, Source, scope_of_module}
 use Rattle.m2_base.specs.Statics.Declarations.{declare}
 use Rattle.m2_base.specs.Statics.Effects.{own_copy}
 use Rattle.m2_base.specs.Statics.HeadingRows.{Placing, open_copies, own_section_rows, own_sections_rows, parameter_row, parameter_rows, placing}
-use Rattle.m2_base.specs.Statics.ImportRows.{import_rows, place_or_broken}
+use Rattle.m2_base.specs.Statics.ImportRows.{place_or_broken}
 use Rattle.m2_base.specs.Statics.Items.{Item, const_item, heading_item, import_item, items_of, proc_item, type_item, vars_item}
 use Rattle.m2_base.specs.Statics.Makes.{Makes, make_then, makes, makes_named, makes_row, next_place, with_rows}
-use Rattle.m2_base.specs.Statics.NameRows.{const_meaning, const_rows, declared_type, type_name_rows, var_rows, vars_rows}
+use Rattle.m2_base.specs.Statics.NameRows.{const_meaning, declared_type, var_rows}
 use Rattle.m2_base.specs.Statics.ProcedureRows.{param_rows, parameter_cells, parameter_count, proc_number, proc_rows, proc_scope, section_rows, sections_length}
 use Rattle.m2_base.specs.Statics.ProcedureTypes.{is_structured, open_array_row, parameter_type, result_type}
 use Rattle.m2_base.specs.Statics.StandingTrees.{AreStandingNames, IsStandingHeading, IsStandingName, IsStandingSection, IsStandingStream, IsStandingTypeOption, StandsIn}
 use Rattle.m2_base.specs.Statics.TypeNames.{type_of_qual}
 use Rattle.m2_base.specs.Statics.TypeRows.{type_rows}
 use Rattle.m2_base.specs.Statics.Types.{size_of}
-use Rattle.m2_base.specs.Statics.UnitNotes.{block_diags, complete_context, declaration_diags, diags_from}
+use Rattle.m2_base.specs.Statics.UnitNotes.{complete_context, declaration_diags, diags_from}
 use Rattle.m2_base.specs.Statics.UnitRows.{unit_rows}
 use Rattle.m2_base.specs.Statics.Uses.{use_of}
 use Rattle.m2_base.specs.declared.notes.Diag.{Diag}

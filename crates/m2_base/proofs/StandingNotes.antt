@@ -3,15 +3,15 @@
 use Rattle.std.specs.Prelude.{ℕ, ◌<◌, drop, nat_lt, List, [], ◌∷◌, ◌++◌, Option, Some, None}
 use Rattle.m2_base.specs.Gives.{Gives, gives}
 use Rattle.m2_base.specs.Lists.{Each}
-use Rattle.m2_base.specs.Rows.{Place, Row, RowMeaning, Broken, Module, TypeName, row_meaning, row_of}
+use Rattle.m2_base.specs.Rows.{Place, RowMeaning, Broken, Module, TypeName, row_meaning}
 use Rattle.m2_base.specs.Standard.{is_standard, standard_place}
 use Rattle.m2_base.specs.Tables.{lookup}
 use Rattle.m2_base.specs.Trees.{Ident, Qual}
 use Rattle.m2_base.specs.Statics.Contexts.{Context, Named, diag, refuse}
 use Rattle.m2_base.specs.Statics.Diagnostics.{declared_twice, not_declared_there, standard_declared, unknown_name}
 use Rattle.m2_base.specs.Statics.Lookup.{Entry, entry_at, entry_in, first_entry, has_name}
-use Rattle.m2_base.specs.Statics.Makes.{Makes, makes_named, one_row}
-use Rattle.m2_base.specs.Statics.StandingTrees.{IsStandingOption, IsStandingQual, IsStandingQualOption}
+use Rattle.m2_base.specs.Statics.Makes.{Makes, makes_named}
+use Rattle.m2_base.specs.Statics.StandingTrees.{IsStandingOption, IsStandingQual}
 use Rattle.m2_base.specs.Statics.TypeNames.{entry_of_qual, member_of, qualified, type_by, type_of_entry, type_of_qual}
 use Rattle.m2_base.specs.Statics.Uses.{bound, bound_or, bound_outside, stands_later, use_by_item, use_in_item, use_of}
 use Rattle.m2_base.specs.declared.notes.Diag.{Diag}

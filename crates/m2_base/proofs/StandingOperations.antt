@@ -1,6 +1,6 @@
 -- The diagnostics of operators, of standard functions and of sets stand at the operators and the operands.
-use Rattle.std.specs.Prelude.{ℕ, ◌<◌, Bool, true, false, if◌then◌else◌, not, is_none, ◌&&◌, ◌||◌, is_some, ℤ, pos, nat_abs, Option, Some, None}
-use Rattle.m2_base.specs.Gives.{Gives, gives}
+use Rattle.std.specs.Prelude.{ℕ, ◌<◌, Bool, if◌then◌else◌, not, is_none, ◌&&◌, ◌||◌, is_some, ℤ, pos, nat_abs, Option, Some, None}
+use Rattle.m2_base.specs.Gives.{Gives}
 use Rattle.m2_base.specs.Rows.{Place, RowMeaning, Set, is_same_place}
 use Rattle.m2_base.specs.Standard.{boolean, cardinal, character, integer, whole}
 use Rattle.m2_base.specs.Trees.{Operator}
@@ -8,7 +8,7 @@ use Rattle.m2_base.specs.Statics.Assignable.{is_open_array}
 use Rattle.m2_base.specs.Statics.Compatible.{is_compatible, is_integer_or_cardinal, is_number_type, is_pointer, taken_beside}
 use Rattle.m2_base.specs.Statics.Contexts.{Context}
 use Rattle.m2_base.specs.Statics.Folding.{fold, is_arithmetic, is_equality, is_relation, number_kind, number_type, where_in}
-use Rattle.m2_base.specs.Statics.Functions.{abs_of, absolute, cap_of, chr_of, converted, max_of, min_of, number_argument, odd_of, ord_of, ordinal_argument, ordinal_type, ordinal_type_argument, size_value, type_argument, val_as, val_of}
+use Rattle.m2_base.specs.Statics.Functions.{abs_of, absolute, cap_of, chr_of, converted, max_of, min_of, number_argument, odd_of, ord_of, ordinal_argument, ordinal_type_argument, size_value, type_argument, val_of}
 use Rattle.m2_base.specs.Statics.Operands.{char_or_same, constant_of_operand, is_bad, is_procedure, operand_type}
 use Rattle.m2_base.specs.Statics.Operations.{apply_one, apply_one_by, are_sets_alike, as_number, base_type, compares_sets, folded, gives_result, is_boolean, is_ordinal, logical, makes_set, membership, membership_in, number_operation, on_alike, on_compatible, on_numbers, on_scalars, operate, operate_by, result_of, set_operation, sign_of, signed, with_sign}
 use Rattle.m2_base.specs.Statics.Ranges.{Range, integer_range, is_within, whole_range}
@@ -20,7 +20,7 @@ use Rattle.m2_base.specs.declared.operands.Operand.TheVariants.{Computed, Consta
 use Rattle.m2_base.specs.declared.operands.Operand.{Operand}
 use Rattle.m2_base.specs.declared.trees.operators.Operator.TheVariants.{And, In, Not, Or}
 use Rattle.m2_base.proofs.SoundTypes.{either}
-use Rattle.m2_base.proofs.StandingNotes.{AtTokens, GivesAt, join, none, one}
+use Rattle.m2_base.proofs.StandingNotes.{GivesAt, join, none, one}
 
 module _ (n : ℕ) where
   -- either of two that stand there

@@ -27,7 +27,7 @@ module _ (n : ℕ) where
   each_back [] ys h = h
   each_back (x ∷ xs) ys h = each_back xs ys h.1
 
-  -- each token of a derivation is among the first n, where those that it spells are
+  -- each token of a derivation has a number below n, where those that it spells have
   leaves_stand : (d : Tree Token) → Each (λ (t : Token). t.at < n) (tokens d) → HasStanding n d
   leaves_stand nothing h = tt
   leaves_stand (leaf t) h = h.0
@@ -63,7 +63,7 @@ module _ (n : ℕ) where
       let behind = parameters_stand p r.1.1 in
       record { name = name_stand n i r.1.0; sections = behind.0; result = behind.1 }
 
-  -- a declaration is an item among the first n
+  -- a declaration as an item
   abbrev IsStandingDecl : Decl → Type 0
   IsStandingDecl d = StandsIn n (decl_item d)
 

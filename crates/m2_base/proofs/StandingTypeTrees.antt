@@ -19,7 +19,7 @@ module _ (n : ℕ) where
   abbrev pub IsStandingRange : types.Range → Type 0
   IsStandingRange r = (r.0 < n) × IsStandingExpr n r.1 × IsStandingExpr n r.2
 
-  -- a range that stands or doesn't
+  -- a range, if there is one
   abbrev pub IsStandingOptional : Option types.Range → Type 0
   IsStandingOptional None = Unit {0}
   IsStandingOptional (Some r) = IsStandingRange r

@@ -1,25 +1,23 @@
 -- The diagnostics of type expressions stand at their tokens.
 use Rattle.std.specs.List.{list_any}
-use Rattle.std.specs.Prelude.{ℕ, ◌<◌, ◌+◌, ◌*◌, Bool, true, false, if◌then◌else◌, not, is_none, nat_lt, max, ◌==◌, ◌&&◌, ◌||◌, ℤ, int_le, int_lt, pos, List, [], ◌∷◌, ◌++◌, length, reverse, Option, Some, None}
-use Rattle.m2_base.specs.Gives.{Gives, gives, and_then}
-use Rattle.m2_base.specs.Lists.{Each}
-use Rattle.m2_base.specs.Rows.{Place, Row, RowMeaning, Const, Param, Record, ProcType, Set, Enum, Array, TypeName, Broken, alias_kind, at_place, type_name_kind}
-use Rattle.m2_base.specs.Standard.{broken}
-use Rattle.m2_base.specs.Trees.{Expr, Formal, Ident, Qual, TypeExpr, type_expr, TypeForm, named_type, enum_type, sub_type, array_type, record_type, set_type, pointer_type, proc_type, TypeExprs, no_types, more_types, FieldList, plain_fields, case_fields, FieldLists, no_fields, more_fields, VariantArm, variant_arm, VariantArms, no_variant_arms, more_variant_arms, Label, one_label, range_label, Labels, no_labels, more_labels, expr_at, type_at}
+use Rattle.std.specs.Prelude.{ℕ, ◌<◌, ◌+◌, Bool, true, false, if◌then◌else◌, not, is_none, nat_lt, max, ◌==◌, ◌&&◌, ◌||◌, ℤ, int_le, int_lt, pos, List, [], ◌∷◌, length, reverse, Option, Some, None}
+use Rattle.m2_base.specs.Gives.{Gives}
+use Rattle.m2_base.specs.Rows.{Place, RowMeaning, Const, Param, Record, Enum, Array, TypeName, Broken, alias_kind, at_place, type_name_kind}
+use Rattle.m2_base.specs.Trees.{Expr, Formal, Ident, Qual, TypeExpr, type_expr, TypeForm, named_type, enum_type, sub_type, array_type, record_type, set_type, pointer_type, proc_type, TypeExprs, no_types, more_types, FieldList, plain_fields, case_fields, FieldLists, no_fields, more_fields, variant_arm, VariantArms, no_variant_arms, more_variant_arms, Label, one_label, range_label, Labels, no_labels, more_labels, expr_at, type_at}
 use Rattle.m2_base.specs.Statics.Arrays.{array_rows, array_size, checked_base, checked_index, is_index_range, is_set_range}
-use Rattle.m2_base.specs.Statics.CaseLabels.{CaseLabels, LabelTest, case_labels, cover, label_of, labels_of, one_taken, one_test, overlaps, range_taken, range_test, taken_label}
+use Rattle.m2_base.specs.Statics.CaseLabels.{LabelTest, cover, label_of, labels_of, one_taken, one_test, overlaps, range_taken, range_test, taken_label}
 use Rattle.m2_base.specs.Statics.Cells.{capped, fitting, most_cells}
 use Rattle.m2_base.specs.Statics.Compatible.{is_compatible}
 use Rattle.m2_base.specs.Statics.Constants.{constant_of}
 use Rattle.m2_base.specs.Statics.Contexts.{Context, Named, diag}
 use Rattle.m2_base.specs.Statics.Diagnostics.{declared_twice}
 use Rattle.m2_base.specs.Statics.Enumerations.{constant_rows}
-use Rattle.m2_base.specs.Statics.Fields.{checked_tag, field_row, plain_rows, tag_rows, tag_type}
+use Rattle.m2_base.specs.Statics.Fields.{field_row, plain_rows, tag_rows, tag_type}
 use Rattle.m2_base.specs.Statics.Lookup.{Entry, entry_at, first_entry}
-use Rattle.m2_base.specs.Statics.Makes.{Makes, makes_named, makes_row, next_place, only_gives, own_rows, with_rows}
+use Rattle.m2_base.specs.Statics.Makes.{Makes, makes_named, makes_row, next_place, own_rows, with_rows}
 use Rattle.m2_base.specs.Statics.Operands.{char_or_same, constant_of_operand, operand_type}
 use Rattle.m2_base.specs.Statics.Operations.{is_ordinal}
-use Rattle.m2_base.specs.Statics.ProcedureTypes.{checked_result, formal_rows, formals_length, is_structured, open_array_row, parameter_type, result_type}
+use Rattle.m2_base.specs.Statics.ProcedureTypes.{formal_rows, formals_length, is_structured, open_array_row, parameter_type, result_type}
 use Rattle.m2_base.specs.Statics.Ranges.{Range, is_within, range}
 use Rattle.m2_base.specs.Statics.Shapes.{fields_shapes}
 use Rattle.m2_base.specs.Statics.StandingTrees.{AreStandingArms, AreStandingFields, AreStandingFormals, AreStandingLabels, AreStandingNames, AreStandingTypes, IsStandingExpr, IsStandingField, IsStandingLabel, IsStandingOption, IsStandingQual, IsStandingQualOption, IsStandingType, IsStandingTypeForm}
@@ -32,7 +30,6 @@ use Rattle.m2_base.specs.Statics.Types.{base_of, is_broken, range_of, size_of}
 use Rattle.m2_base.specs.Statics.Uses.{followed}
 use Rattle.m2_base.specs.declared.operands.Operand.TheVariants.{Computed}
 use Rattle.m2_base.specs.declared.operands.Operand.{Operand}
-use Rattle.m2_base.proofs.SoundTypes.{either}
 use Rattle.m2_base.proofs.StandingConstants.{constant_at, first_token}
 use Rattle.m2_base.proofs.StandingNotes.{AtTokens, GivesAt, MakesAt, join, named_at, none, one, qual_at}
 use Rattle.m2_base.proofs.StandingOperations.{gives_either}

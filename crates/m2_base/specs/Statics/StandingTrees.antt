@@ -5,7 +5,7 @@ use Rattle.m2_base.specs.Statics.Items.{Item, const_item, heading_item, import_i
 use Rattle.m2_base.specs.Trees.{Designator, Expr, ExprForm, Exprs, FieldList, FieldLists, Heading, Ident, Label, Labels, Next, Nexts, Qual, Section, Selector, Selectors, Stream, TypeExpr, TypeExprs, TypeForm, VariantArm, VariantArms, array_type, call_form, case_fields, char_form, deref_selector, designator, enum_type, expr, field_selector, index_selector, many_form, more_exprs, more_fields, more_labels, more_nexts, more_selectors, more_types, more_variant_arms, name_form, named_type, next, no_exprs, no_fields, no_labels, no_nexts, no_selectors, no_types, no_variant_arms, number_form, one_form, one_label, plain_fields, pointer_type, proc_type, range_label, record_type, set_form, set_type, string_form, sub_type, type_expr, typed_set_form, variant_arm}
 use Rattle.m2_base.specs.declared.trees.types.Formal.{Formal}
 
--- a name's token
+-- a name whose token is among the first n; of all other trees each token is
 abbrev pub IsStandingName : (n : ℕ) → Ident → Type 0
 IsStandingName n i = i.at < n
 
@@ -65,7 +65,7 @@ abbrev mutual
   IsStandingSelector n (index_selector es bracket) = AreStandingExprs n es × (bracket < n)
   IsStandingSelector n (deref_selector caret) = caret < n
 
--- a name that stands there or doesn't
+-- a name, if there is one
 abbrev pub IsStandingOption : (n : ℕ) → Option Ident → Type 0
 IsStandingOption n None = Unit {0}
 IsStandingOption n (Some i) = IsStandingName n i
@@ -75,7 +75,7 @@ pub record IsStandingQual (n : ℕ) (q : Qual) : Type 0 where
   pub first : IsStandingName n q.first
   pub second : IsStandingOption n q.second
 
--- a type's name that stands there or doesn't
+-- a name of a type, if there is one
 abbrev pub IsStandingQualOption : (n : ℕ) → Option Qual → Type 0
 IsStandingQualOption n None = Unit {0}
 IsStandingQualOption n (Some q) = IsStandingQual n q
