@@ -1,3 +1,4 @@
+pub mod Bounds
 pub mod Closing
 pub mod DeclaredItems
 pub mod Effects
@@ -10,5 +11,6 @@ pub mod Pieces
 pub mod Progress
 pub mod Shapes
 pub mod Stood
+pub mod Targets
 pub mod TypeUses
 pub mod Variables

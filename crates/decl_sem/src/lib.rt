@@ -52,6 +52,7 @@ macro_rules! made {
     };
 }
 
+mod bounds;
 mod cells;
 mod closing;
 mod const_items;
@@ -75,6 +76,8 @@ mod putting;
 mod sets;
 mod shapes;
 mod standing;
+mod subranges;
+mod targets;
 mod type_items;
 mod types;
 mod variables;

@@ -29,7 +29,7 @@ pub(crate) struct Made {
 }
 
 /// Whether a name is a standard one.
-fn is_standard(name: u32) -> bool
+pub(crate) fn is_standard(name: u32) -> bool
     ensures { result ≡ spec_is_standard name }
 {
     1 <= name && name <= 26

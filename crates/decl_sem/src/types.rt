@@ -13,6 +13,8 @@ use crate::making::Made;
 use crate::names::{small_place, type_of_qual};
 use crate::procedure_types::proc_in;
 use crate::sets::make_set;
+use crate::subranges::subrange_in;
+use crate::targets::{pointer_row, target_in};
 use m2_base::{Ask, Memory, Place, Qual, Scopes, Site, TypeExpr, TypeForm};
 use std::alloc::Global;
 
@@ -50,10 +52,20 @@ pub(crate) fn type_in<S: Scopes>(
             let of = put!(make_enumeration(site, made, typ.at, names));
             Ok(Ask::Known(of))
         }
+        TypeForm::Sub { base, low, high } => {
+            subrange_in(scopes, site, typ.at, *base, low, high, made)
+        }
         TypeForm::Set(of) => {
             let base = made!(type_in(alloc, scopes, site, of, made));
             make_set(scopes, site, typ.at, of.at, base, made)
         }
+        TypeForm::Pointer(of) => match made!(target_in(scopes, site, of, made)) {
+            Some(target) => pointer_row(scopes, site, typ.at, target, made),
+            None => {
+                let target = made!(type_in(alloc, scopes, site, of, made));
+                pointer_row(scopes, site, typ.at, target, made)
+            }
+        },
         TypeForm::Proc {
             formals,
             result: outcome,
