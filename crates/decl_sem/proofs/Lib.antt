@@ -1,5 +1,6 @@
 pub mod Alone
 pub mod Asking
+pub mod BoundRanges
 pub mod Checks
 pub mod ConstantRows
 pub mod Constants

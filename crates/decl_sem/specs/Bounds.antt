@@ -1,24 +1,24 @@
 -- The bounds of subranges, as the code has them.
-use Rattle.std.specs.Prelude.{◌≡◌, ℕ, ℤ, Bool, Option, Some, None, option_map}
+use Rattle.std.specs.Prelude.{◌≡◌, ℕ, Option, Some, None, option_map}
 use Rattle.std.specs.Option.{IfSome}
-use Rattle.m2_base.specs.Gives.{Gives, gives}
+use Rattle.m2_base.specs.Gives.{Gives, and_then, gives}
 use Rattle.m2_base.specs.Rows.{IsValue}
 use Rattle.m2_base.specs.States.{Frame}
 use Rattle.m2_base.specs.Statics.Contexts.{Context, refuse}
-use Rattle.m2_base.specs.Statics.Diagnostics.{wrong_operands}
+use Rattle.m2_base.specs.Statics.Diagnostics.{out_of_range, wrong_operands}
 use Rattle.m2_base.specs.Statics.Operands.{constant_of_operand, operand_type}
 use Rattle.m2_base.specs.Statics.Operations.{is_ordinal}
-use Rattle.m2_base.specs.Statics.Ranges.{range}
 use Rattle.m2_base.specs.Statics.Subranges as plain
 use Rattle.m2_base.specs.Statics.Subranges.{within_base}
-use Rattle.m2_base.specs.Statics.Types.{base_of, range_of}
+use Rattle.m2_base.specs.Statics.Types.{base_of}
 use Rattle.m2_base.specs.declared.operands.Operand.{Operand}
-use Rattle.m2_base.specs.declared.rows.Place.{Place}
 use Rattle.type_rules.specs.Scenes.{IsThere}
 use Rattle.decl_sem.specs.declared.bounds.Bounds.{Bounds}
 use Rattle.decl_sem.specs.declared.bounds.Choice.{Choice}
-use Rattle.decl_sem.specs.declared.bounds.Choice.TheVariants.{Chosen, Nothing, Wrong}
+use Rattle.decl_sem.specs.declared.bounds.Choice.TheVariants.{Chosen, Nothing as NothingChosen, Wrong as WrongChoice}
 use Rattle.decl_sem.specs.declared.bounds.End.{End}
+use Rattle.decl_sem.specs.declared.bounds.Verdict.{Verdict}
+use Rattle.decl_sem.specs.declared.bounds.Verdict.TheVariants.{BothOutside, HighOutside, LowOutside, Nothing, Right, Wrong}
 
 -- bounds, as the definitions see them
 abbrev pub bounds_view : Bounds → plain.Bounds
@@ -41,13 +41,17 @@ pub record IsEndOf (c : Context) (o : Operand) (e : End) : Type 0 where
 -- what a choice gives: bounds are compared with the range of their base
 abbrev pub chosen : Context → (low_at high_at : ℕ) → Choice → Gives (Option plain.Bounds)
 chosen c low_at high_at (Chosen b) = within_base c low_at high_at b.low b.high (Some b.base)
-chosen c low_at high_at Wrong = refuse c high_at wrong_operands None
-chosen c low_at high_at Nothing = gives None
+chosen c low_at high_at WrongChoice = refuse c high_at wrong_operands None
+chosen c low_at high_at NothingChosen = gives None
 
--- these are the ends of the range of the chosen base
-abbrev pub AreEndsOf : Context → Choice → Option (ℤ × ℤ) → Type 0
-AreEndsOf c (Chosen b) ends = option_map (λ (e : ℤ × ℤ). range e.0 e.1) ends ≡ range_of c.scene b.base
-AreEndsOf c other ends = Unit {0}
+-- what a verdict gives
+abbrev pub given_by : Context → (low_at high_at : ℕ) → Verdict → Gives (Option Bounds)
+given_by c low_at high_at (Right b) = gives (Some b)
+given_by c low_at high_at LowOutside = refuse c low_at out_of_range None
+given_by c low_at high_at HighOutside = refuse c high_at out_of_range None
+given_by c low_at high_at BothOutside = and_then (refuse c low_at out_of_range None) (λ none. refuse c high_at out_of_range none)
+given_by c low_at high_at Wrong = refuse c high_at wrong_operands None
+given_by c low_at high_at Nothing = gives None
 
 -- ** What may stand
 
@@ -62,3 +66,7 @@ AreBounds f b = IsThere f b.base × IsValue b.low × IsValue b.high
 abbrev pub IsChoice : Frame → Choice → Type 0
 IsChoice f (Chosen b) = AreBounds f b
 IsChoice f other = Unit {0}
+
+abbrev pub IsVerdict : Frame → Verdict → Type 0
+IsVerdict f (Right b) = AreBounds f b
+IsVerdict f other = Unit {0}

@@ -1,5 +1,5 @@
 //! Bounds of subranges: which two operands may be bounds, and of which base.
-ghost use Rattle.std.specs.Prelude.{◌≡◌, ◌&&◌, ℕ, ℤ, None, Some, IfOk, if◌then◌else◌, option_map};
+ghost use Rattle.std.specs.Prelude.{◌≡◌, ◌++◌, ◌∷◌, [], ◌&&◌, ℕ, ℤ, Option, None, Some, IfOk, if◌then◌else◌, int_lt, not, option_map};
 ghost use Rattle.std.specs.Option.{IfSome};
 ghost use Rattle.m2_base.specs.Gives.{Adds, gives};
 ghost use Rattle.m2_base.specs.Lists.{IsPrefixOf};
@@ -9,13 +9,15 @@ ghost use Rattle.m2_base.specs.States.{Frame};
 ghost use Rattle.m2_base.specs.Statics.Compatible.{is_integer_or_cardinal as spec_number};
 ghost use Rattle.m2_base.specs.Statics.Contexts.{Context};
 ghost use Rattle.m2_base.specs.Statics.Operands.{constant_of_operand};
-ghost use Rattle.m2_base.specs.Statics.Ranges.{range};
-ghost use Rattle.m2_base.specs.Statics.Subranges.{checked_bound as spec_checked, common_type as spec_common, is_broken_base, of_ordinals, of_values, ordered_bounds as spec_ordered, subrange_base as spec_base, whole_base as spec_whole_base, within_base};
+ghost use Rattle.m2_base.specs.Statics.Ranges.{Range as Values, is_within as spec_within, range};
+ghost use Rattle.m2_base.specs.Statics.Diagnostics.{out_of_range};
+ghost use Rattle.m2_base.specs.Statics.Subranges.{common_type as spec_common, is_broken_base, of_ordinals, of_values, subrange_base as spec_base, whole_base as spec_whole_base, within_base};
 ghost use Rattle.m2_base.specs.Statics.Types.{range_of, stands_for};
 ghost use Rattle.m2_base.specs.declared.operands.Operand.{Operand as Value};
 ghost use Rattle.m2_base.specs.declared.rows.Place.{Place as Spot};
 ghost use Rattle.type_rules.specs.Scenes.{IsThere};
-ghost use Rattle.decl_sem.specs.Bounds.{AreBounds, AreEndsOf, IsChoice, IsEnd, IsEndOf, chosen, kept};
+ghost use Rattle.decl_sem.specs.Making.{diag_in};
+ghost use Rattle.decl_sem.specs.Bounds.{AreBounds, IsChoice, IsEnd, IsEndOf, IsVerdict, chosen, given_by, kept};
 
 use crate::names::refuse;
 use const_eval::is_within;
@@ -50,6 +52,18 @@ pub(crate) enum Choice {
     /// They don't fit each other or the base.
     Wrong,
     /// A part is in error.
+    Nothing,
+}
+
+/// What bounds are: right, out of the range of their base or not in order, not of one type, or in error.
+#[derive(Clone, Copy)]
+pub(crate) enum Verdict {
+    Right(Bounds),
+    LowOutside,
+    /// The high bound is out of range, or below the low one.
+    HighOutside,
+    BothOutside,
+    Wrong,
     Nothing,
 }
 
@@ -157,96 +171,71 @@ pub(crate) fn choose(named: Option<Place>, low: End, high: End) -> Choice
     }
 }
 
-/// Whether a bound lies in the range of the base; one outside is refused at its first token.
-fn checked_bound(
-    site: &Site,
-    ends: Option<(i64, i64)>,
-    at: u32,
-    value: i64,
-    notes: &mut Notes,
-) -> Result<bool, Memory>
-    ensures answers { notes.new.answers.items ≡ notes.old.answers.items }
-    ensures diags { IsPrefixOf notes.old.diags.items notes.new.diags.items }
-    ensures told { (c : Context) (base : Spot) → c.scene.block.text ≡ site.now.around.now.text → option_map (λ ends. range ends.0 ends.1) ends ≡ range_of c.scene base → IfOk result (λ holds. Adds notes.old notes.new (spec_checked c base at value) holds) }
+/// Whether the low bound and the high one lie in the range of their base, which has these ends.
+pub(crate) fn are_within(bounds: Bounds, ends: Option<(i64, i64)>) -> (bool, bool)
+    ensures low { (r : Option Values) → option_map (λ ends. range ends.0 ends.1) ends ≡ r → result.0 ≡ spec_within r bounds.low }
+    ensures high { (r : Option Values) → option_map (λ ends. range ends.0 ends.1) ends ≡ r → result.1 ≡ spec_within r bounds.high }
 {
-    if is_within(ends, value) {
-        return Ok(true);
-    }
-    put!(refuse(site, at, OUT_OF_RANGE, notes));
-    Ok(false)
+    (is_within(ends, bounds.low), is_within(ends, bounds.high))
 }
 
-/// Whether the low bound isn't above the high one, where both lie in the range of the base.
-fn ordered_bounds(
-    site: &Site,
-    at: u32,
-    bounds: Bounds,
-    low_within: bool,
-    high_within: bool,
-    notes: &mut Notes,
-) -> Result<bool, Memory>
-    ensures answers { notes.new.answers.items ≡ notes.old.answers.items }
-    ensures diags { IsPrefixOf notes.old.diags.items notes.new.diags.items }
-    ensures told { (c : Context) → c.scene.block.text ≡ site.now.around.now.text → IfOk result (λ good. Adds notes.old notes.new (spec_ordered c at bounds.low bounds.high low_within high_within) good) }
+/// Whether the low bound isn't above the high one.
+fn is_ordered(bounds: Bounds) -> bool
+    ensures { result ≡ not (int_lt bounds.high bounds.low) }
 {
-    let both = low_within && high_within;
-    if !both {
-        return Ok(false);
-    }
-    if bounds.low <= bounds.high {
-        return Ok(true);
-    }
-    put!(refuse(site, at, OUT_OF_RANGE, notes));
-    Ok(false)
+    bounds.low <= bounds.high
 }
 
-/// Bounds in the range of their base, in order; what is wrong is noted.
-fn checked_bounds(
-    site: &Site,
-    low_at: u32,
-    high_at: u32,
-    bounds: Bounds,
-    ends: Option<(i64, i64)>,
-    notes: &mut Notes,
-) -> Result<Option<Bounds>, Memory>
-    ensures answers { notes.new.answers.items ≡ notes.old.answers.items }
-    ensures diags { IsPrefixOf notes.old.diags.items notes.new.diags.items }
-    ensures told { (c : Context) → c.scene.block.text ≡ site.now.around.now.text → option_map (λ ends. range ends.0 ends.1) ends ≡ range_of c.scene bounds.base → IfOk result (λ given. Adds notes.old notes.new (kept (within_base c low_at high_at bounds.low bounds.high (Some bounds.base))) given) }
-    ensures same { IfOk result (λ given. IfSome given (λ kept. kept ≡ bounds)) }
+/// What bounds are, of which the low one and the high one may lie in the range of their base.
+pub(crate) fn judge(bounds: Bounds, within: (bool, bool)) -> Verdict
+    ensures told { (c : Context) (low_at high_at : ℕ) → within.0 ≡ spec_within (range_of c.scene bounds.base) bounds.low → within.1 ≡ spec_within (range_of c.scene bounds.base) bounds.high → given_by c low_at high_at result ≡ kept (within_base c low_at high_at bounds.low bounds.high (Some bounds.base)) }
+    ensures there { (f : Frame) → AreBounds f bounds → IsVerdict f result }
 {
-    let low_within = put!(checked_bound(site, ends, low_at, bounds.low, notes));
-    let high_within = put!(checked_bound(site, ends, high_at, bounds.high, notes));
-    let ordered = put!(ordered_bounds(
-        site,
-        high_at,
-        bounds,
-        low_within,
-        high_within,
-        notes
-    ));
-    Ok(if ordered { Some(bounds) } else { None })
-}
-
-/// The bounds that are chosen, where they are right; what is wrong is noted.
-pub(crate) fn note_choice(
-    site: &Site,
-    low_at: u32,
-    high_at: u32,
-    choice: Choice,
-    ends: Option<(i64, i64)>,
-    notes: &mut Notes,
-) -> Result<Option<Bounds>, Memory>
-    ensures answers { notes.new.answers.items ≡ notes.old.answers.items }
-    ensures diags { IsPrefixOf notes.old.diags.items notes.new.diags.items }
-    ensures told { (c : Context) → c.scene.block.text ≡ site.now.around.now.text → AreEndsOf c choice ends → IfOk result (λ given. Adds notes.old notes.new (kept (chosen c low_at high_at choice)) given) }
-    ensures there { (f : Frame) → IsChoice f choice → IfOk result (λ given. IfSome given (λ bounds. AreBounds f bounds)) }
-{
-    match choice {
-        Choice::Chosen(bounds) => checked_bounds(site, low_at, high_at, bounds, ends, notes),
-        Choice::Wrong => {
-            put!(refuse(site, high_at, WRONG_OPERANDS, notes));
-            Ok(None)
+    let ordered = is_ordered(bounds);
+    match within {
+        (true, true) => {
+            if ordered {
+                Verdict::Right(bounds)
+            } else {
+                Verdict::HighOutside
+            }
         }
-        Choice::Nothing => Ok(None),
+        (true, false) => Verdict::HighOutside,
+        (false, true) => Verdict::LowOutside,
+        (false, false) => Verdict::BothOutside,
     }
+}
+
+/// Two bounds that are out of range.
+fn note_both(site: &Site, low_at: u32, high_at: u32, notes: &mut Notes) -> Result<(), Memory>
+    ensures answers { notes.new.answers.items ≡ notes.old.answers.items }
+    ensures diags { IsPrefixOf notes.old.diags.items notes.new.diags.items }
+    ensures noted { IfOk result (λ _. notes.new.diags.items ≡ (notes.old.diags.items ++ diag_in site.now.around.now.text low_at out_of_range ∷ []) ++ diag_in site.now.around.now.text high_at out_of_range ∷ []) }
+{
+    put!(refuse(site, low_at, OUT_OF_RANGE, notes));
+    refuse(site, high_at, OUT_OF_RANGE, notes)
+}
+
+/// The bounds, where they are right; what is wrong is noted.
+pub(crate) fn note_verdict(
+    site: &Site,
+    low_at: u32,
+    high_at: u32,
+    verdict: Verdict,
+    notes: &mut Notes,
+) -> Result<Option<Bounds>, Memory>
+    ensures answers { notes.new.answers.items ≡ notes.old.answers.items }
+    ensures diags { IsPrefixOf notes.old.diags.items notes.new.diags.items }
+    ensures told { (c : Context) → c.scene.block.text ≡ site.now.around.now.text → IfOk result (λ given. Adds notes.old notes.new (given_by c low_at high_at verdict) given) }
+    ensures there { (f : Frame) → IsVerdict f verdict → IfOk result (λ given. IfSome given (λ bounds. AreBounds f bounds)) }
+{
+    match verdict {
+        Verdict::Right(bounds) => return Ok(Some(bounds)),
+        Verdict::LowOutside => put!(refuse(site, low_at, OUT_OF_RANGE, notes)),
+        Verdict::HighOutside => put!(refuse(site, high_at, OUT_OF_RANGE, notes)),
+        Verdict::BothOutside => put!(note_both(site, low_at, high_at, notes)),
+        Verdict::Wrong => put!(refuse(site, high_at, WRONG_OPERANDS, notes)),
+        Verdict::Nothing => (),
+    }
+    Ok(None)
 }

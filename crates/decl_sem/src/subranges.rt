@@ -18,10 +18,10 @@ ghost use Rattle.const_eval.specs.Sites.{IsOperand};
 ghost use Rattle.type_rules.specs.Asks.{Reads, WhereKnown, WhereWaiting};
 ghost use Rattle.type_rules.specs.Scenes.{IsThere, WhereTold};
 ghost use Rattle.type_rules.specs.Sites.{SuitsSite, context_of};
-ghost use Rattle.decl_sem.specs.Bounds.{AreBounds, AreEndsOf, IsChoice, IsEnd, IsEndOf, bounds_view, chosen, kept};
+ghost use Rattle.decl_sem.specs.Bounds.{AreBounds, IsChoice, IsEnd, IsEndOf, IsVerdict, bounds_view, chosen, given_by, kept};
 ghost use Rattle.decl_sem.specs.Pieces.{Declares, IsBehind, IsMaking, known_of};
 
-use crate::bounds::{Bounds, Choice, End, choose, note_choice};
+use crate::bounds::{Bounds, Choice, End, Verdict, are_within, choose, judge, note_verdict};
 use crate::making::Made;
 use crate::names::{small_place, type_of_qual};
 use crate::putting::plain_row;
@@ -113,31 +113,37 @@ fn choice_of<S: Scopes>(
     Ask::Known(choose(named, ends.0, ends.1))
 }
 
-/// The ends of the range of a chosen base.
+/// What chosen bounds are in the range of their base.
 #[tactic(auto, using(type_rules::proofs::Reading::reading))]
-fn range_in<S: Scopes>(scopes: &mut S, site: &Site, choice: Choice) -> Ask<Option<(i64, i64)>>
+fn verdict_on<S: Scopes>(scopes: &mut S, site: &Site, choice: Choice) -> Ask<Verdict>
     requires suits { SuitsSite (S.state scopes.old).frame site.now }
     requires choice { IsChoice (S.state scopes.old).frame choice }
     ensures reads { Reads (S.state scopes.old) (S.state scopes.new) }
     ensures waits { WhereWaiting result (λ head. Waits (S.state scopes.old) (S.state scopes.new) head) }
     ensures told { WhereTold (S.state scopes.old).frame (λ made.
-        WhereKnown result (λ ends. AreEndsOf (context_of (S.state scopes.old).frame made site.now) choice ends)) }
+        WhereKnown result (λ verdict. (low_at high_at : ℕ) → let c = context_of (S.state scopes.old).frame made site.now in given_by c low_at high_at verdict ≡ kept (chosen c low_at high_at choice))) }
+    ensures there { WhereKnown result (λ verdict. IsVerdict (S.state scopes.old).frame verdict) }
 {
     match choice {
-        Choice::Chosen(bounds) => range_of(scopes, site.around, bounds.base),
-        _ => Ask::Known(None),
+        Choice::Chosen(bounds) => {
+            let ends = known!(range_of(scopes, site.around, bounds.base));
+            let within = are_within(bounds, ends);
+            Ask::Known(judge(bounds, within))
+        }
+        Choice::Wrong => Ask::Known(Verdict::Wrong),
+        Choice::Nothing => Ask::Known(Verdict::Nothing),
     }
 }
 
-/// The bounds that two operands choose, with the ends of the range of their base.
+/// What two operands are as bounds of a subrange with this base.
 #[tactic(auto, using(type_rules::proofs::Reading::reading))]
-fn judged<S: Scopes>(
+fn verdict_of<S: Scopes>(
     scopes: &mut S,
     site: &Site,
     base: Option<Place>,
     low: Operand,
     high: Operand,
-) -> Ask<(Choice, Option<(i64, i64)>)>
+) -> Ask<Verdict>
     requires suits { SuitsSite (S.state scopes.old).frame site.now }
     requires base { IfSome base (λ of. IsThere (S.state scopes.old).frame of) }
     requires low { IsOperand (S.state scopes.old).frame low }
@@ -145,14 +151,11 @@ fn judged<S: Scopes>(
     ensures reads { Reads (S.state scopes.old) (S.state scopes.new) }
     ensures waits { WhereWaiting result (λ head. Waits (S.state scopes.old) (S.state scopes.new) head) }
     ensures told { WhereTold (S.state scopes.old).frame (λ made.
-        WhereKnown result (λ judged. (low_at high_at : ℕ) → let c = context_of (S.state scopes.old).frame made site.now in chosen c low_at high_at judged.0 ≡ (if is_broken_base c base then gives None else of_ordinals c base low_at high_at (char_or_same c.source low) (char_or_same c.source high)))) }
-    ensures ends { WhereTold (S.state scopes.old).frame (λ made.
-        WhereKnown result (λ judged. AreEndsOf (context_of (S.state scopes.old).frame made site.now) judged.0 judged.1)) }
-    ensures there { WhereKnown result (λ judged. IsChoice (S.state scopes.old).frame judged.0) }
+        WhereKnown result (λ verdict. (low_at high_at : ℕ) → let c = context_of (S.state scopes.old).frame made site.now in given_by c low_at high_at verdict ≡ kept (spec_of c base low_at high_at (Some low) (Some high)))) }
+    ensures there { WhereKnown result (λ verdict. IsVerdict (S.state scopes.old).frame verdict) }
 {
     let choice = known!(choice_of(scopes, site, base, low, high));
-    let ends = known!(range_in(scopes, site, choice));
-    Ask::Known((choice, ends))
+    verdict_on(scopes, site, choice)
 }
 
 /// The bounds of two constants, where they are right; what is wrong is noted.
@@ -172,9 +175,9 @@ fn of_constants<S: Scopes>(
     requires high { IsOperand (S.state scopes.old).frame high }
     ensures { Analysed (S.state scopes.old) (S.state scopes.new) notes.old notes.new site.now result (λ f given. IfSome given (λ bounds. AreBounds f bounds)) (λ c. kept (spec_of c base low_at high_at (Some low) (Some high))) }
 {
-    let judged = ask!(judged(scopes, site, base, low, high));
-    let given = put!(note_choice(site, low_at, high_at, judged.0, judged.1, notes));
-    Ok(Ask::Known(given))
+    let verdict = ask!(verdict_of(scopes, site, base, low, high));
+    let bounds = put!(note_verdict(site, low_at, high_at, verdict, notes));
+    Ok(Ask::Known(bounds))
 }
 
 /// The bounds of a subrange, by its base and the constants of its bounds.
