@@ -23,6 +23,7 @@ pub mod OneRows
 pub mod Parameters
 pub mod Pieces
 pub mod SizesInHand
+pub mod SubrangeRows
 pub mod ProcTypes
 pub mod Results
 pub mod TypeForms
