@@ -26,6 +26,7 @@ pub mod SizesInHand
 pub mod SubrangeRows
 pub mod ProcTypes
 pub mod Results
+pub mod TargetNames
 pub mod TypeForms
 pub mod TypeShapes
 pub mod TypeSizes

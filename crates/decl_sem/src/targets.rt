@@ -2,10 +2,11 @@
 ghost use Rattle.std.specs.Prelude.{◌≡◌, ◌∷◌, ◌<◌, ◌≤◌, ◌^◌, [], ℕ, Some, None, if◌then◌else◌, ◌&&◌, is_none, length, not, option_map};
 ghost use Rattle.std.specs.Option.{IfSome};
 ghost use Rattle.m2_base.specs.Asks.{IfKnown};
-ghost use Rattle.m2_base.specs.Rows.{pointer_kind};
+ghost use Rattle.m2_base.specs.Rows.{HasSmallNumbers, at_place, pointer_kind, row_meaning};
 ghost use Rattle.m2_base.specs.Standard.{broken, is_standard as spec_is_standard};
 ghost use Rattle.m2_base.specs.States.{Frame, State, Waits};
-ghost use Rattle.m2_base.specs.Statics.Contexts.{Context};
+ghost use Rattle.m2_base.specs.Statics.Contexts.{Context, refuse as refuses};
+ghost use Rattle.m2_base.specs.Statics.Diagnostics.{not_a_type};
 ghost use Rattle.m2_base.specs.Statics.Lookup.{entry_at};
 ghost use Rattle.m2_base.specs.Statics.Makes.{makes_row, only_gives};
 ghost use Rattle.m2_base.specs.Statics.Shapes.{nameless, type_shapes};
@@ -13,12 +14,13 @@ ghost use Rattle.m2_base.specs.Statics.Targets.{entry_target, imported_target as
 ghost use Rattle.m2_base.specs.Statics.Uses.{followed};
 ghost use Rattle.m2_base.specs.Views.{type_view};
 ghost use Rattle.m2_base.specs.declared.rows.RowMeaning.TheVariants as meanings;
+ghost use Rattle.m2_base.specs.declared.sites.Named.{Named as Entries};
 ghost use Rattle.const_eval.specs.Analyses.{Analysed};
 ghost use Rattle.type_rules.specs.Asks.{Reads, WhereKnown, WhereWaiting};
-ghost use Rattle.type_rules.specs.Scenes.{IsRowOf, IsThere, WhereTold, scene_of};
+ghost use Rattle.type_rules.specs.Scenes.{IsRowOf, IsThere, Suits, WhereTold, scene_of};
 ghost use Rattle.type_rules.specs.Sites.{SuitsSite};
 ghost use Rattle.decl_sem.specs.Pieces.{Declares, IsBehind, IsMaking, known_of};
-ghost use Rattle.decl_sem.specs.Targets.{IsOptionTarget, IsTarget, optional};
+ghost use Rattle.decl_sem.specs.Targets.{IsOptionTarget, IsTarget, laid_target_of, optional};
 ghost use Rattle.decl_sem.specs.TypeUses.{type_or};
 
 use crate::kinds::{ALIAS, TYPE_NAME};
@@ -54,7 +56,13 @@ fn target_name(typ: &TypeExpr) -> Option<Ident>
 {
     match &typ.form {
         TypeForm::Named(qual) => name_alone(*qual),
-        _ => None,
+        TypeForm::Enum(_)
+        | TypeForm::Sub { .. }
+        | TypeForm::Array { .. }
+        | TypeForm::Rec(_)
+        | TypeForm::Set(_)
+        | TypeForm::Pointer(_)
+        | TypeForm::Proc { .. } => None,
     }
 }
 
@@ -84,6 +92,25 @@ fn imported_target(place: Place, meaning: RowMeaning) -> Option<Place>
     }
 }
 
+/// What the layout has under the name of a target: a type's name, an alias, or anything else.
+#[derive(Clone, Copy)]
+enum Laid {
+    TypeName,
+    Alias,
+    Other,
+}
+
+/// What a row of this kind is as a target.
+fn laid_as(kind: u8) -> Laid
+    ensures { (c : Context) (at : ℕ) (n : Entries) → n.kind ≡ kind → spec_layout c at n ≡ laid_target_of c at (at_place c.scene.block.scope n.ordinal) result }
+{
+    match kind {
+        TYPE_NAME => Laid::TypeName,
+        ALIAS => Laid::Alias,
+        _ => Laid::Other,
+    }
+}
+
 /// What an alias in the own scope leads to.
 #[tactic(auto, using(type_rules::proofs::Reading::reading))]
 fn aliased<S: Scopes>(scopes: &mut S, site: &Site, place: Place) -> Ask<Entry>
@@ -106,6 +133,7 @@ fn target_of_entry(
     entry: Entry,
     notes: &mut Notes,
 ) -> Result<Place, Memory>
+    requires { HasSmallNumbers (row_meaning entry.1) }
     ensures { (a : State) → SuitsSite a.frame site.now → IsThere a.frame entry.0 → Analysed a a notes.old notes.new site.now (known_of result) IsTarget (λ c. entry_target c at entry) }
 {
     let place = small_place(entry.0);
@@ -135,8 +163,44 @@ fn alias_target<S: Scopes>(
     Ok(Ask::Known(of))
 }
 
-/// The target that the layout gives: a type's name, which may be declared later, or what an alias leads to. An alias stands in
-/// an import, and so before the item whose first row has this ordinal.
+/// A name that is no type's is refused.
+fn refused_target(site: &Site, at: u32, notes: &mut Notes) -> Result<Place, Memory>
+    ensures { (a : State) → SuitsSite a.frame site.now → Analysed a a notes.old notes.new site.now (known_of result) IsTarget (λ c. refuses c at not_a_type broken) }
+{
+    put!(refuse(site, at, NOT_A_TYPE, notes));
+    Ok(BROKEN)
+}
+
+/// The target that an alias leads to. It stands in an import, and so before the item whose first row has this ordinal.
+fn imported_in<S: Scopes>(
+    scopes: &mut S,
+    site: &Site,
+    first: u32,
+    at: u32,
+    place: Place,
+    notes: &mut Notes,
+) -> Result<Ask<Place>, Memory>
+    requires suits { SuitsSite (S.state scopes.old).frame site.now }
+    requires first { first ≤ length (S.state scopes.old).frame.entered }
+    requires own { place.scope ≡ site.now.around.now.scope }
+    ensures { Analysed (S.state scopes.old) (S.state scopes.new) notes.old notes.new site.now result IsTarget (λ c. entry_target c at (followed c.scene (entry_at c.scene place))) }
+{
+    if place.ordinal >= first {
+        return Err(Memory);
+    }
+    alias_target(scopes, site, at, place, notes)
+}
+
+/// The place of a row of the own scope.
+fn own_place(site: &Site, ordinal: u32) -> Place
+    ensures place { result ≡ at_place site.now.around.now.scope ordinal }
+    ensures target { (f : Frame) → Suits f site.now.around.now → IsTarget f result }
+{
+    let scope = site.around.scope;
+    Place { scope, ordinal }
+}
+
+/// The target that the layout gives: a type's name, which may be declared later, or what an alias leads to.
 fn layout_target<S: Scopes>(
     scopes: &mut S,
     site: &Site,
@@ -149,21 +213,15 @@ fn layout_target<S: Scopes>(
     requires first { first ≤ length (S.state scopes.old).frame.entered }
     ensures { Analysed (S.state scopes.old) (S.state scopes.new) notes.old notes.new site.now result IsTarget (λ c. spec_layout c at named) }
 {
-    let place = Place {
-        scope: site.around.scope,
-        ordinal: named.ordinal,
-    };
-    if named.kind == TYPE_NAME {
-        return Ok(Ask::Known(place));
+    let place = own_place(site, named.ordinal);
+    match laid_as(named.kind) {
+        Laid::TypeName => Ok(Ask::Known(place)),
+        Laid::Alias => imported_in(scopes, site, first, at, place, notes),
+        Laid::Other => {
+            let of = put!(refused_target(site, at, notes));
+            Ok(Ask::Known(of))
+        }
     }
-    if named.kind != ALIAS {
-        put!(refuse(site, at, NOT_A_TYPE, notes));
-        return Ok(Ask::Known(BROKEN));
-    }
-    if named.ordinal >= first {
-        return Err(Memory);
-    }
-    alias_target(scopes, site, at, place, notes)
 }
 
 /// What a pointer points to by the layout; none where the layout doesn't say it.
