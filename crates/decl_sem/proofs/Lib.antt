@@ -22,6 +22,7 @@ pub mod NoTypeNames
 pub mod OneRows
 pub mod Parameters
 pub mod Pieces
+pub mod PointerRows
 pub mod SizesInHand
 pub mod SubrangeRows
 pub mod ProcTypes

@@ -1,0 +1,96 @@
+-- The rows of pointers, after their targets.
+use Rattle.std.specs.Prelude.{◌≡◌, ℕ, List, [], ◌∷◌, ◌++◌, Option, None, Some, Result, Ok}
+use Rattle.std.proofs.Common.{refl, sym, ap, ◌∙◌, subst, arith}
+use Rattle.m2_base.specs.Gives.{Gives, gives}
+use Rattle.m2_base.specs.Rows.{pointer_kind}
+use Rattle.m2_base.specs.States.{Frame, State}
+use Rattle.m2_base.specs.Statics.Contexts.{Context}
+use Rattle.m2_base.specs.Statics.Makes.{Makes, make_then, makes_row, only_gives, with_rows}
+use Rattle.m2_base.specs.Statics.Shapes.{Shape, form_shapes, nameless, type_shapes}
+use Rattle.m2_base.specs.Statics.Targets.{layout_target, target_by_name, target_name, target_or}
+use Rattle.m2_base.specs.Statics.TypeRows.{form_rows, type_rows}
+use Rattle.m2_base.specs.Trees.{TypeExpr, pointer_type}
+use Rattle.m2_base.specs.declared.memory.Memory.{Memory}
+use Rattle.m2_base.specs.declared.notes.Notes.{Notes}
+use Rattle.m2_base.specs.declared.replies.Ask.{Ask}
+use Rattle.m2_base.specs.declared.replies.Ask.TheVariants.{Known}
+use Rattle.m2_base.specs.declared.rows.Place.{Place}
+use Rattle.m2_base.specs.declared.rows.RowMeaning.TheVariants.{Pointer}
+use Rattle.m2_base.specs.declared.sites.Named.{Named}
+use Rattle.m2_base.specs.declared.sites.Site.{Site}
+use Rattle.type_rules.specs.Sites.{context_of}
+use Rattle.const_eval.specs.Analyses.{Analysed}
+use Rattle.decl_sem.specs.Making.{MakesAll, next_ordinal}
+use Rattle.decl_sem.specs.Pieces.{Declares, IsBehind, IsMaking, IsNewMeaning}
+use Rattle.decl_sem.specs.Targets.{IsOptionTarget, IsTarget, optional}
+use Rattle.decl_sem.specs.declared.making.Made.{Made}
+use Rattle.decl_sem.proofs.Hands.{hand_none}
+use Rattle.decl_sem.proofs.Pieces.{AreNoTypes, analysed, described, reshaped, then_after}
+use Rattle.decl_sem.proofs.Uses.{first_known}
+
+-- ** Targets
+
+-- an analysis that gives a value gives it where one may be absent
+optionally : {a b : State} {x y : Notes} {s : Site} {v : Place} (g : Context → Gives Place) → Analysed a b x y s (Ok (Known v)) IsTarget g → Analysed a b x y s (Ok (Known (Some v))) (λ f t. IsOptionTarget f 0 t) (λ c. optional (Some (g c)))
+optionally g p =
+    record {
+      works = p.works;
+      waits = p.waits;
+      told = λ made in_hand told of_site. let n = p.told made in_hand told of_site in record { value_is = ap Some n.value_is; diags = n.diags; answers = n.answers };
+      there = p.there;
+    }
+
+-- the target that the layout gives
+pub by_layout : {a b : State} (t : TypeExpr) (x : Made) (y : Notes) (s : Site) (at : ℕ) (named : Named) (v : Place) {result : Result (Ask Place) Memory} {asked : Ask Place} → IsMaking a.frame s x []
+    → ((c : Context) → c.layout ≡ s.layout.now.names → target_by_name c (target_name c t) ≡ Some (layout_target c at named)) → result ≡ Ok asked → asked ≡ Known v
+    → Analysed a b x.notes y s result IsTarget (λ c. layout_target c at named)
+    → Declares a b x (record x { notes = y }) s (Ok (Known (Some v))) [] IsOptionTarget (λ c. only_gives (optional (target_by_name c (target_name c t))))
+by_layout {a} {b} t x y s at named v making laid e f p =
+    let known : Analysed a b x.notes y s (Ok (Known v)) IsTarget (λ c. layout_target c at named) = first_known a b x.notes y s IsTarget (λ c. layout_target c at named) e f p in
+    described (Ok (Known (Some v))) (λ c. only_gives (optional (target_by_name c (target_name c t))))
+    (analysed {y = record x { notes = y }} (Ok (Known (Some v))) {P = λ f t. IsOptionTarget f 0 t} {Q = IsOptionTarget} making refl refl (λ w h. same_target (next_ordinal (record x { notes = y })) w h) (optionally (λ c. layout_target c at named) known))
+    (λ hand in_hand told same. ap (λ (o : Option (Gives Place)). only_gives (optional o)) (sym (laid (context_of a.frame hand s) refl)))
+  where
+    same_target : (n : ℕ) (w : Option Place) → IsOptionTarget a.frame 0 w → IsOptionTarget a.frame n w
+    same_target n None h = tt
+    same_target n (Some p) h = h
+
+-- ** Rows
+
+-- a pointer's meaning
+pub pointer_meaning : {f : Frame} {s : Site} {x : Made} {ss : List Shape} (of : Place) → IsMaking f s x ss → IsTarget f of → IsNewMeaning f s (next_ordinal x) (Pointer of)
+pointer_meaning of making target =
+    record { small = target.small; scopes = let n = making.small in let m = target.scope in omega arith; fits = target.scope; filled = tt; owned = tt }
+
+-- what stands before can be a target
+pub behind_target : {f : Frame} {next : ℕ} {p : Place} → IsBehind f next p → IsTarget f p
+behind_target h = record { small = h.small; scope = h.scope }
+
+-- the row of a pointer, after its target or without it
+abbrev pub after_target : (at : ℕ) → TypeExpr → Option Place → Context → Makes Place
+after_target at of (Some t) c = makes_row c at (Pointer t)
+after_target at of None c = make_then c (type_rows c of) (λ d t. makes_row d at (Pointer t))
+
+after_one : (at : ℕ) (of : TypeExpr) (c : Context) (g : Option (Gives Place)) → with_rows c [] ≡ c
+    → make_then c (only_gives (optional g)) (λ e o. after_target at of o e) ≡ make_then c (target_or g (type_rows c of)) (λ d t. makes_row d at (Pointer t))
+after_one at of c (Some g) same = refl
+after_one at of c None same = ap (after_target at of None) same
+
+module _ {a b d : State} {x y z : Made} {s : Site} (at : ℕ) (of : TypeExpr) (answer : Result (Ask Place) Memory) (making : IsMaking a.frame s x (form_shapes at (pointer_type of))) where
+  pointer_then : (ts : List Shape) (target : Option Place) → form_shapes at (pointer_type of) ≡ ts → Declares a b x y s (Ok (Known target)) [] IsOptionTarget (λ c. only_gives (optional (target_by_name c (target_name c of))))
+      → Declares b d y z s answer ts IsBehind (after_target at of target) → Declares a d x z s answer (form_shapes at (pointer_type of)) IsBehind (λ c. form_rows c at (pointer_type of))
+  pointer_then ts target e p q =
+      reshaped answer (form_shapes at (pointer_type of)) (sym e)
+      (described answer (λ c. form_rows c at (pointer_type of))
+      (then_after (λ c. only_gives (optional (target_by_name c (target_name c of)))) (after_target at of) answer tt (subst (λ (shapes : List Shape). IsMaking a.frame s x shapes) e making) p q)
+      (λ hand in_hand told same. let c = context_of a.frame hand s in after_one at of c (target_by_name c (target_name c of)) (hand_none hand making.suits told)))
+
+  -- the row of a pointer, whose target the layout gives
+  pub pointer_by_layout : (t : Place) → type_shapes of ≡ [] → Declares a b x y s (Ok (Known (Some t))) [] IsOptionTarget (λ c. only_gives (optional (target_by_name c (target_name c of))))
+      → Declares b d y z s answer (nameless pointer_kind at ∷ []) IsBehind (λ c. makes_row c at (Pointer t)) → Declares a d x z s answer (form_shapes at (pointer_type of)) IsBehind (λ c. form_rows c at (pointer_type of))
+  pointer_by_layout t none p q = pointer_then (nameless pointer_kind at ∷ []) (Some t) (ap (λ (shapes : List Shape). shapes ++ nameless pointer_kind at ∷ []) none) p q
+
+  -- the row of a pointer, after the rows of its target
+  pub pointer_by_type : Declares a b x y s (Ok (Known None)) [] IsOptionTarget (λ c. only_gives (optional (target_by_name c (target_name c of))))
+      → Declares b d y z s answer (form_shapes at (pointer_type of)) IsBehind (after_target at of None) → Declares a d x z s answer (form_shapes at (pointer_type of)) IsBehind (λ c. form_rows c at (pointer_type of))
+  pointer_by_type p q = pointer_then (form_shapes at (pointer_type of)) None refl p q
