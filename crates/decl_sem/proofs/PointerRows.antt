@@ -1,5 +1,5 @@
 -- The rows of pointers, after their targets.
-use Rattle.std.specs.Prelude.{◌≡◌, ℕ, List, [], ◌∷◌, ◌++◌, Option, None, Some, Result, Ok}
+use Rattle.std.specs.Prelude.{◌≡◌, ℕ, List, [], ◌∷◌, ◌++◌, Option, None, Some, Result, Ok, Err}
 use Rattle.std.proofs.Common.{refl, sym, ap, ◌∙◌, subst, arith}
 use Rattle.m2_base.specs.Gives.{Gives, gives}
 use Rattle.m2_base.specs.Rows.{pointer_kind}
@@ -13,11 +13,16 @@ use Rattle.m2_base.specs.Trees.{TypeExpr, pointer_type}
 use Rattle.m2_base.specs.declared.memory.Memory.{Memory}
 use Rattle.m2_base.specs.declared.notes.Notes.{Notes}
 use Rattle.m2_base.specs.declared.replies.Ask.{Ask}
-use Rattle.m2_base.specs.declared.replies.Ask.TheVariants.{Known}
+use Rattle.m2_base.specs.declared.replies.Ask.TheVariants.{DontKnowYet, Known}
+use Rattle.m2_base.specs.declared.replies.Head.{Head}
 use Rattle.m2_base.specs.declared.rows.Place.{Place}
 use Rattle.m2_base.specs.declared.rows.RowMeaning.TheVariants.{Pointer}
 use Rattle.m2_base.specs.declared.sites.Named.{Named}
 use Rattle.m2_base.specs.declared.sites.Site.{Site}
+use Rattle.m2_base.specs.declared.trees.types as code
+use Rattle.m2_base.specs.Views.{type_view}
+use Rattle.m2_base.specs.Asks.{IfKnown}
+use Rattle.std.specs.Option.{IfSome}
 use Rattle.type_rules.specs.Sites.{context_of}
 use Rattle.const_eval.specs.Analyses.{Analysed}
 use Rattle.decl_sem.specs.Making.{MakesAll, next_ordinal}
@@ -25,7 +30,8 @@ use Rattle.decl_sem.specs.Pieces.{Declares, IsBehind, IsMaking, IsNewMeaning}
 use Rattle.decl_sem.specs.Targets.{IsOptionTarget, IsTarget, optional}
 use Rattle.decl_sem.specs.declared.making.Made.{Made}
 use Rattle.decl_sem.proofs.Hands.{hand_none}
-use Rattle.decl_sem.proofs.Pieces.{AreNoTypes, analysed, described, reshaped, then_after}
+use Rattle.decl_sem.proofs.Pieces.{analysed, described, failed, making_on, reshaped, then_after, waiting}
+use Rattle.decl_sem.proofs.TypeForms.{type_no_types}
 use Rattle.decl_sem.proofs.Uses.{first_known}
 
 -- ** Targets
@@ -94,3 +100,49 @@ module _ {a b d : State} {x y z : Made} {s : Site} (at : ℕ) (of : TypeExpr) (a
   pub pointer_by_type : Declares a b x y s (Ok (Known None)) [] IsOptionTarget (λ c. only_gives (optional (target_by_name c (target_name c of))))
       → Declares b d y z s answer (form_shapes at (pointer_type of)) IsBehind (after_target at of None) → Declares a d x z s answer (form_shapes at (pointer_type of)) IsBehind (λ c. form_rows c at (pointer_type of))
   pointer_by_type p q = pointer_then (form_shapes at (pointer_type of)) None refl p q
+
+-- ** After a target
+
+-- a target that is known
+pub target_known : {a b : State} {x y : Made} {s : Site} (t u : code.TypeExpr.TypeExpr) {result : Result (Ask (Option Place)) Memory} {asked : Ask (Option Place)} {v w : Option Place} → t ≡ u → result ≡ Ok asked → asked ≡ Known v → v ≡ w
+    → Declares a b x y s result [] IsOptionTarget (λ c. only_gives (optional (target_by_name c (target_name c (type_view t)))))
+    → Declares a b x y s (Ok (Known w)) [] IsOptionTarget (λ c. only_gives (optional (target_by_name c (target_name c (type_view u)))))
+target_known {a} {b} {x} {y} {s} t u {result} {asked} {v} {w} same e f h p =
+    let known : result ≡ Ok (Known w) = e ∙ ap (λ (k : Ask (Option Place)). Ok k) f ∙ ap (λ (o : Option Place). Ok (Known o)) h in
+    let here : Declares a b x y s (Ok (Known w)) [] IsOptionTarget (λ c. only_gives (optional (target_by_name c (target_name c (type_view t))))) =
+    subst (λ (r : Result (Ask (Option Place)) Memory). Declares a b x y s r [] IsOptionTarget (λ c. only_gives (optional (target_by_name c (target_name c (type_view t)))))) known p in
+    subst (λ (z : code.TypeExpr.TypeExpr). Declares a b x y s (Ok (Known w)) [] IsOptionTarget (λ c. only_gives (optional (target_by_name c (target_name c (type_view z)))))) same here
+
+-- what is known beside it
+pub plain_known : {P : Type 0} {result : Result (Ask (Option Place)) Memory} {asked : Ask (Option Place)} {v : Option Place} {t : Place} → result ≡ Ok asked → asked ≡ Known v → v ≡ Some t → IfKnown result (λ o. IfSome o (λ p. P)) → P
+plain_known {P} {result} {asked} {v} {t} e f h k =
+    let known : result ≡ Ok (Known (Some t)) = e ∙ ap (λ (q : Ask (Option Place)). Ok q) f ∙ ap (λ (o : Option Place). Ok (Known o)) h in
+    subst (λ (r : Result (Ask (Option Place)) Memory). IfKnown r (λ o. IfSome o (λ p. P))) known k
+
+-- without one the target's rows are made
+pub target_making : {a b : State} {x y : Made} {s : Site} (at : ℕ) (of : TypeExpr) → IsMaking a.frame s x (form_shapes at (pointer_type of))
+    → Declares a b x y s (Ok (Known None)) [] IsOptionTarget (λ c. only_gives (optional (target_by_name c (target_name c of)))) → IsMaking b.frame s y (form_shapes at (pointer_type of))
+target_making at of making p = making_on {ss = []} tt making p
+
+module _ {a b d : State} {x y z : Made} {s : Site} (at : ℕ) (of : TypeExpr) (making : IsMaking a.frame s x (form_shapes at (pointer_type of)))
+    (p : Declares a b x y s (Ok (Known None)) [] IsOptionTarget (λ c. only_gives (optional (target_by_name c (target_name c of))))) where
+  -- they aren't known yet
+  pub pointer_waits : {head : Head} {result : Result (Ask Place) Memory} {asked : Ask Place} → result ≡ Ok asked → asked ≡ DontKnowYet head → Declares b d y z s result (type_shapes of) IsBehind (λ c. type_rows c of)
+      → Declares a d x z s (Ok (DontKnowYet head)) (form_shapes at (pointer_type of)) IsBehind (λ c. form_rows c at (pointer_type of))
+  pointer_waits {head} {result} {asked} e f q =
+      let known : result ≡ Ok (DontKnowYet head) = e ∙ ap (λ (k : Ask Place). Ok k) f in
+      pointer_by_type at of (Ok (DontKnowYet head)) making p (waiting (subst (λ (r : Result (Ask Place) Memory). Declares b d y z s r (type_shapes of) IsBehind (λ c. type_rows c of)) known q))
+
+  -- want of memory for them
+  pub pointer_unmade : {m : Memory} {result : Result (Ask Place) Memory} → result ≡ Err m → Declares b d y z s result (type_shapes of) IsBehind (λ c. type_rows c of)
+      → Declares a d x z s (Err m) (form_shapes at (pointer_type of)) IsBehind (λ c. form_rows c at (pointer_type of))
+  pointer_unmade {m} {result} e q =
+      pointer_by_type at of (Err m) making p (failed (subst (λ (r : Result (Ask Place) Memory). Declares b d y z s r (type_shapes of) IsBehind (λ c. type_rows c of)) e q) m)
+
+-- the row after them
+pub pointer_made : {a b d e : State} {x y z w : Made} {s : Site} {t : Place} (at : ℕ) (of : TypeExpr) (answer : Result (Ask Place) Memory) → IsMaking a.frame s x (form_shapes at (pointer_type of))
+    → Declares a b x y s (Ok (Known None)) [] IsOptionTarget (λ c. only_gives (optional (target_by_name c (target_name c of))))
+    → Declares b d y z s (Ok (Known t)) (type_shapes of) IsBehind (λ c. type_rows c of) → Declares d e z w s answer (nameless pointer_kind at ∷ []) IsBehind (λ c. makes_row c at (Pointer t))
+    → Declares a e x w s answer (form_shapes at (pointer_type of)) IsBehind (λ c. form_rows c at (pointer_type of))
+pointer_made at of answer making p q r =
+    pointer_by_type at of answer making p (then_after (λ c. type_rows c of) (λ t c. makes_row c at (Pointer t)) answer (type_no_types of) (target_making at of making p) q r)
