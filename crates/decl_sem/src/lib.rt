@@ -53,6 +53,7 @@ macro_rules! made {
 }
 
 mod arrays;
+mod bounds;
 mod cells;
 mod closing;
 mod const_items;
@@ -80,6 +81,8 @@ mod records;
 mod sets;
 mod shapes;
 mod standing;
+mod subranges;
+mod targets;
 mod type_items;
 mod types;
 mod variables;
