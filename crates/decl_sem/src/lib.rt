@@ -4,8 +4,8 @@
 //! rows say comes from the rows of the items before and of the scopes round the block. The definitions are `m2_base`'s
 //! (`specs/Statics`). When a block's scope is complete, its closing name is checked (`close_check`).
 //!
-//! `declaring::declare` has the rows of an item, with the contract that it will keep. It isn't public yet: subranges, arrays,
-//! records and pointers in `types`, and the headings in `procedures` and `own_headings`, answer want of
+//! `declaring::declare` has the rows of an item, with the contract that it will keep. It isn't public yet: arrays and
+//! records in `types`, and the headings in `procedures` and `own_headings`, answer want of
 //! memory till they are built.
 #![tactic(auto)]
 
