@@ -1,24 +1,18 @@
 -- What two operands choose as the bounds of a subrange.
-use Rattle.std.specs.Prelude.{◌≡◌, ℕ, ℤ, Bool, true, false, if◌then◌else◌, [], ◌∷◌, ◌++◌, Option, None, Some, int_lt, not, option_map, unwrap_or}
-use Rattle.std.proofs.Common.{sym, ap, ◌∙◌, subst, refl}
+use Rattle.std.specs.Prelude.{◌≡◌, ℕ, ℤ, [], ◌∷◌, ◌++◌, Option, None, Some, option_map, unwrap_or}
+use Rattle.std.proofs.Common.{sym, ap, ◌∙◌, refl}
 use Rattle.std.proofs.lemmas.List.{append-nil}
-use Rattle.m2_base.specs.Gives.{Adds, Gives, and_then, gives}
+use Rattle.m2_base.specs.Gives.{Adds}
 use Rattle.m2_base.specs.Statics.Contexts.{Context, refuse}
-use Rattle.m2_base.specs.Statics.Diagnostics.{out_of_range}
 use Rattle.m2_base.specs.Statics.Operands.{constant_of_operand, operand_type}
-use Rattle.m2_base.specs.Statics.Ranges.{is_within}
-use Rattle.m2_base.specs.Statics.Subranges as plain
-use Rattle.m2_base.specs.Statics.Subranges.{checked_bound, common_type, of_common, of_values, ordered_bounds, subrange_base, subrange_if, within_base}
-use Rattle.m2_base.specs.Statics.Types.{base_of, range_of, stands_for}
-use Rattle.m2_base.specs.declared.notes.Diag.{Diag}
+use Rattle.m2_base.specs.Statics.Subranges.{common_type, of_common, of_values, subrange_base, within_base}
+use Rattle.m2_base.specs.Statics.Types.{base_of, stands_for}
 use Rattle.m2_base.specs.declared.notes.Notes.{Notes}
 use Rattle.m2_base.specs.declared.operands.Operand.{Operand}
 use Rattle.m2_base.specs.declared.rows.Place.{Place}
-use Rattle.m2_base.proofs.Kept.{Adds-refl}
 use Rattle.type_rules.specs.Sites.{IsRefused}
-use Rattle.decl_sem.specs.Bounds.{IsEndOf, chosen, kept}
+use Rattle.decl_sem.specs.Bounds.{IsEndOf, chosen}
 use Rattle.decl_sem.specs.Making.{diag_in}
-use Rattle.decl_sem.specs.declared.bounds.Bounds.{Bounds}
 use Rattle.decl_sem.specs.declared.bounds.End.{End}
 use Rattle.decl_sem.specs.declared.bounds.Choice.{Choice}
 

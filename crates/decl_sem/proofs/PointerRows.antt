@@ -1,7 +1,7 @@
 -- The rows of pointers, after their targets.
 use Rattle.std.specs.Prelude.{◌≡◌, ℕ, List, [], ◌∷◌, ◌++◌, Option, None, Some, Result, Ok, Err}
 use Rattle.std.proofs.Common.{refl, sym, ap, ◌∙◌, subst, arith}
-use Rattle.m2_base.specs.Gives.{Gives, gives}
+use Rattle.m2_base.specs.Gives.{Gives}
 use Rattle.m2_base.specs.Rows.{pointer_kind}
 use Rattle.m2_base.specs.States.{Frame, State}
 use Rattle.m2_base.specs.Statics.Contexts.{Context}
@@ -25,7 +25,7 @@ use Rattle.m2_base.specs.Asks.{IfKnown}
 use Rattle.std.specs.Option.{IfSome}
 use Rattle.type_rules.specs.Sites.{context_of}
 use Rattle.const_eval.specs.Analyses.{Analysed}
-use Rattle.decl_sem.specs.Making.{MakesAll, next_ordinal}
+use Rattle.decl_sem.specs.Making.{next_ordinal}
 use Rattle.decl_sem.specs.Pieces.{Declares, IsBehind, IsMaking, IsNewMeaning}
 use Rattle.decl_sem.specs.Targets.{IsOptionTarget, IsTarget, optional}
 use Rattle.decl_sem.specs.declared.making.Made.{Made}

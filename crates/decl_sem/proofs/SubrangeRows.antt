@@ -1,7 +1,7 @@
 -- The rows of subranges, after their bounds.
-use Rattle.std.specs.Prelude.{◌≡◌, ℕ, List, [], ◌∷◌, ◌++◌, Option, None, Some, option_map, Result, Ok}
+use Rattle.std.specs.Prelude.{◌≡◌, ℕ, [], ◌∷◌, ◌++◌, Option, None, Some, option_map, Result, Ok}
 use Rattle.std.specs.Option.{IfSome}
-use Rattle.std.proofs.Common.{refl, sym, ap, ◌∙◌, subst}
+use Rattle.std.proofs.Common.{refl, sym, ap, ◌∙◌}
 use Rattle.m2_base.specs.Gives.{Gives, and_then}
 use Rattle.m2_base.specs.Rows.{subrange_kind}
 use Rattle.m2_base.specs.States.{Frame, State}

@@ -1,16 +1,15 @@
 -- What pointers point to, by the names of their targets.
-use Rattle.std.specs.Prelude.{◌≡◌, ◌⊎◌, ℕ, ◌<◌, ◌^◌, List, [], length, Option, None, Some, Result, Err}
+use Rattle.std.specs.Prelude.{◌≡◌, ◌⊎◌, ◌<◌, ◌^◌, length, Option, None, Some, Result}
 use Rattle.std.specs.Option.{IfSome}
 use Rattle.std.specs.declared.alloc.Global.{Global}
 use Rattle.std.specs.declared.boxed.Box.{Box}
 use Rattle.std.specs.declared.vec.Vec.{Vec}
-use Rattle.std.proofs.Common.{refl, sym, ap, ◌∙◌, subst, arith, inl, inr}
+use Rattle.std.proofs.Common.{sym, ap, ◌∙◌, subst, arith, inl, inr}
 use Rattle.m2_base.specs.Asks.{IfKnown}
 use Rattle.m2_base.specs.Gives.{Adds, Gives}
 use Rattle.m2_base.specs.Standard.{broken}
 use Rattle.m2_base.specs.States.{Frame, State}
 use Rattle.m2_base.specs.Statics.Contexts.{Context}
-use Rattle.m2_base.specs.Statics.Shapes.{Shape, type_shapes}
 use Rattle.m2_base.specs.Statics.Targets.{target_name}
 use Rattle.m2_base.specs.Trees.{named_type, type_expr}
 use Rattle.m2_base.specs.Views.{type_form_view, type_view}

@@ -4,8 +4,7 @@
 //! rows say comes from the rows of the items before and of the scopes round the block. The definitions are `m2_base`'s
 //! (`specs/Statics`). When a block's scope is complete, its closing name is checked (`close_check`).
 //!
-//! `declaring::declare` has the rows of an item, with the contract that it will keep. It isn't public yet: the headings in
-//! `procedures` and `own_headings` answer want of memory till they are built.
+//! `declare` has the rows of an item. The headings of procedures, in `procedures` and `own_headings`, aren't built yet: they answer want of memory.
 #![tactic(auto)]
 
 /// The value of a piece that asks nothing, or the end of the function at want of memory.

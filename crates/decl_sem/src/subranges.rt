@@ -299,12 +299,7 @@ fn put_bounds<S: Scopes>(
 }
 
 /// The row of a wrong subrange, which is in error.
-fn put_wrong<S: Scopes>(
-    scopes: &S,
-    site: &Site,
-    at: u32,
-    made: &mut Made,
-) -> Result<Place, Memory>
+fn put_wrong<S: Scopes>(scopes: &S, site: &Site, at: u32, made: &mut Made) -> Result<Place, Memory>
     requires making { IsMaking (S.state scopes.now).frame site.now made.old (nameless subrange_kind at ∷ []) }
     ensures { Declares (S.state scopes.now) (S.state scopes.now) made.old made.new site.now (known_of result) (nameless subrange_kind at ∷ []) IsBehind (λ c. subrange_row c at None) }
 {

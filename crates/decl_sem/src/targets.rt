@@ -127,12 +127,7 @@ fn aliased<S: Scopes>(scopes: &mut S, site: &Site, place: Place) -> Ask<Entry>
 }
 
 /// The target of an entry; a name that is no type's is refused.
-fn target_of_entry(
-    site: &Site,
-    at: u32,
-    entry: Entry,
-    notes: &mut Notes,
-) -> Result<Place, Memory>
+fn target_of_entry(site: &Site, at: u32, entry: Entry, notes: &mut Notes) -> Result<Place, Memory>
     requires { HasSmallNumbers (row_meaning entry.1) }
     ensures { (a : State) → SuitsSite a.frame site.now → IsThere a.frame entry.0 → Analysed a a notes.old notes.new site.now (known_of result) IsTarget (λ c. entry_target c at entry) }
 {

@@ -1,5 +1,4 @@
 use Rattle.std.proofs.Common.{refl, subst}
-use Rattle.m2_base.specs.Statics.Operands.{char_or_same}
 use Rattle.m2_base.specs.declared.operands.Operand.{Operand}
 use Rattle.type_rules.specs.Sites.{context_of, source_of}
 use Rattle.type_rules.proofs.Compatibles.{told_later}

@@ -1,4 +1,4 @@
-use Rattle.std.proofs.Common.{◌∙◌, arith, refl}
+use Rattle.std.proofs.Common.{arith, refl}
 use Rattle.m2_base.specs.Statics.Lookup.{entry_at}
 use Rattle.m2_base.specs.Statics.Targets.{entry_target}
 use Rattle.m2_base.specs.Statics.Uses.{followed}

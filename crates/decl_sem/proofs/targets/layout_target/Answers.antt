@@ -1,5 +1,4 @@
 use Rattle.std.proofs.Common.{◌∙◌, Ok, Err, ap, refl, sym}
-use Rattle.m2_base.specs.Standard.{broken}
 use Rattle.m2_base.specs.Statics.Targets.{layout_target}
 use Rattle.m2_base.specs.declared.replies.Ask.TheVariants.{Known}
 use Rattle.m2_base.specs.declared.rows.Place.{Place}

@@ -1,4 +1,4 @@
-use Rattle.std.proofs.Common.{◌∙◌, [], Ok, Option, None, Some, ap, refl, sym, arith}
+use Rattle.std.proofs.Common.{Ok, None, ap, refl, sym, arith}
 use Rattle.m2_base.specs.Statics.Makes.{only_gives}
 use Rattle.m2_base.specs.Statics.Targets.{target_by_name, target_name}
 use Rattle.m2_base.specs.Views.{type_view}
@@ -7,7 +7,6 @@ use Rattle.type_rules.specs.Sites.{context_of}
 use Rattle.decl_sem.specs.Targets.{IsOptionTarget, optional}
 use Rattle.decl_sem.proofs.Pieces.{described, value_alone}
 use Rattle.decl_sem.proofs.PointerRows.{by_layout}
-use Rattle.decl_sem.proofs.Uses.{first_known}
 use Rattle.decl_sem.proofs.targets.target_in.Goals as goal
 
 pub layout_target-requires-clause-first : goal.layout_target-requires-clause-first

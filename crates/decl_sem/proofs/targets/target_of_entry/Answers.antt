@@ -1,5 +1,4 @@
-use Rattle.std.proofs.Common.{◌≡◌, ◌∙◌, Option, ap, sym, subst}
-use Rattle.m2_base.specs.Gives.{Gives}
+use Rattle.std.proofs.Common.{◌∙◌, ap, sym}
 use Rattle.m2_base.specs.Standard.{broken}
 use Rattle.m2_base.specs.Statics.Targets.{entry_target, imported_target}
 use Rattle.m2_base.specs.declared.rows.Place.{Place}
