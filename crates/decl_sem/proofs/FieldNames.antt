@@ -62,17 +62,6 @@ own_fields {f} {s} {x} own name le making hand in_hand told same =
     ∙ list_any-append (is_field own name) f.entered x.rows.items
     ∙ ap (λ (b : Bool). b || list_any (is_field own name) x.rows.items) (none_before x.first own name le f.entered making.entered)
 
--- the numbers of the rows in hand
-small_rows : (f : Frame) (limit o : ℕ) (rows : List Row) → length f.setting.texts.names ≤ 2 ^ 32 → f.setting.fills < 2 ^ 31 → o + length rows ≤ 2 ^ 32 → AreNewRows f limit o rows → Each (λ r. HasSmallNumbers (row_meaning r)) rows
-small_rows f limit o [] names scope few h = tt
-small_rows f limit o (r ∷ rows) names scope few h =
-    (HasSmallNumbers-fits (length f.setting.texts.names) (at_place f.setting.fills o) (row_meaning r) names (omega (arith, scope)) (omega (arith, few)) h.0.right.formed.fits,
-    small_rows f limit (o + 1) rows names scope (omega (arith, few)) h.1)
-
-pub small_in_hand : {f : Frame} {s : Site} {x : Made} {ss : List Shape} → IsMaking f s x ss → Each (λ r. HasSmallNumbers (row_meaning r)) x.rows.items
-small_in_hand {f} {s} {x} making =
-    small_rows f (item_end s) x.first x.rows.items making.suits.around.names making.small (let a = making.room in let b = making.few in omega arith) making.rows
-
 -- ** The second of a name
 
 -- what is noted where the name is that of a field already
