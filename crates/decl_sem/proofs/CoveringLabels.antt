@@ -1,13 +1,13 @@
 -- The labels of a variant.
 use Rattle.std.specs.List.{list_any}
-use Rattle.std.specs.Prelude.{◌≡◌, ℕ, ℤ, Bool, true, false, int_le, ◌&&◌, if◌then◌else◌, List, [], ◌∷◌, ◌++◌, map, Option, None, Some, Result, Ok, Err}
+use Rattle.std.specs.Prelude.{◌≡◌, ℕ, ℤ, Bool, true, false, int_le, ◌&&◌, if◌then◌else◌, List, [], ◌∷◌, ◌++◌, map, Option, None, Some, Ok}
 use Rattle.std.specs.Option.{IfSome}
 use Rattle.std.proofs.Common.{refl, sym, ap, ◌∙◌, subst}
 use Rattle.std.proofs.lemmas.List.{append-nil}
 use Rattle.m2_base.specs.Gives.{Adds, Gives, and_then, gives}
 use Rattle.m2_base.specs.Lists.{IsPrefixOf}
 use Rattle.m2_base.specs.States.{Frame, State}
-use Rattle.m2_base.specs.Statics.CaseLabels.{CaseLabels, LabelTest, cover, joined, label_of, labels_of, one_taken, one_test, overlaps, range_taken, range_test, taken_label}
+use Rattle.m2_base.specs.Statics.CaseLabels.{CaseLabels, LabelTest, cover, label_of, labels_of, one_taken, one_test, overlaps, range_taken, range_test, taken_label}
 use Rattle.m2_base.specs.Statics.Compatible.{is_compatible}
 use Rattle.m2_base.specs.Statics.Constants.{constant_of}
 use Rattle.m2_base.specs.Statics.Contexts.{Context, refuse}
@@ -16,7 +16,6 @@ use Rattle.m2_base.specs.Statics.Operands.{constant_of_operand}
 use Rattle.m2_base.specs.Statics.Ranges.{Range, range}
 use Rattle.m2_base.specs.Statics.Types.{is_broken}
 use Rattle.m2_base.specs.Trees.{Expr, Label, expr_at, label_with, labels, one_label, range_label}
-use Rattle.m2_base.specs.declared.memory.Memory.{Memory}
 use Rattle.m2_base.specs.declared.notes.Notes.{Notes}
 use Rattle.m2_base.specs.declared.operands.Operand.{Operand}
 use Rattle.m2_base.specs.declared.operands.Operand.TheVariants.{Computed}
@@ -32,13 +31,13 @@ use Rattle.const_eval.specs.Analyses.{Analysed}
 use Rattle.const_eval.specs.NamedTexts.{IsNamedText}
 use Rattle.const_eval.specs.Sites.{IsOperand}
 use Rattle.const_eval.proofs.Analysing.{and_then_assoc, quiet}
-use Rattle.const_eval.proofs.Elements.{element, pair}
+use Rattle.const_eval.proofs.Elements.{pair}
 use Rattle.const_eval.proofs.Folding.{and_then_gives, and_then_same, folded}
-use Rattle.decl_sem.specs.Labels.{AreAny, covered_by, ends_in, label_at, label_covers, more_covered, values_beside, values_by, values_in, values_of}
+use Rattle.decl_sem.specs.Labels.{AreAny, covered_by, label_at, label_covers, more_covered, values_beside, values_by, values_in, values_of}
 use Rattle.decl_sem.specs.Making.{diag_in}
 use Rattle.decl_sem.specs.Records.{covered_of}
 use Rattle.decl_sem.specs.declared.labels.LabelValues.{LabelValues}
-use Rattle.decl_sem.specs.declared.labels.LabelValues.TheVariants.{Nothing, Values, Wrong}
+use Rattle.decl_sem.specs.declared.labels.LabelValues.TheVariants.{Nothing, Wrong}
 
 -- ** The ends of a label
 

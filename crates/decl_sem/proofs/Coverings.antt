@@ -1,7 +1,7 @@
 -- Ranges that are covered, in the order in which they were.
 use Rattle.std.specs.List.{list_any}
 use Rattle.std.specs.Prelude.{◌≡◌, ◌||◌, ℤ, Bool, List, [], ◌∷◌, map, reverse}
-use Rattle.std.proofs.Common.{refl, sym, ap, ◌∙◌}
+use Rattle.std.proofs.Common.{refl, ap, ◌∙◌}
 use Rattle.m2_base.specs.Statics.CaseLabels.{overlaps}
 use Rattle.m2_base.specs.Statics.Ranges.{Range, range}
 use Rattle.std.proofs.lemmas.List.Sorted.{IsPermutation-reverse, list_any-IsPermutation}

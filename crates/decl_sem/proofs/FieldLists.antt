@@ -1,24 +1,22 @@
 -- Fields of one type, one after another.
-use Rattle.std.specs.Prelude.{◌≡◌, ℕ, zero, suc, ◌+◌, ◌<◌, ◌≤◌, Bool, true, false, if◌then◌else◌, List, [], ◌∷◌, ◌++◌, length, map, drop, Option, None, Some, Result, Ok, Err}
+use Rattle.std.specs.Prelude.{◌≡◌, ℕ, ◌+◌, ◌<◌, ◌≤◌, List, [], ◌∷◌, ◌++◌, length, map, drop, Option, None, Some, Result, Ok, Err}
 use Rattle.std.proofs.Common.{refl, sym, ap, ◌∙◌, subst, arith, get_or}
-use Rattle.std.proofs.lemmas.List.{append-nil, length-map}
+use Rattle.std.proofs.lemmas.List.{append-nil}
 use Rattle.m2_base.specs.Lists.{Each}
-use Rattle.m2_base.specs.Rows.{field_kind, row_meaning, row_of, type_name_kind}
-use Rattle.m2_base.specs.States.{Frame, State, Waits}
+use Rattle.m2_base.specs.Rows.{field_kind, row_meaning, type_name_kind}
+use Rattle.m2_base.specs.States.{Frame, State}
 use Rattle.m2_base.specs.Statics.Cells.{capped}
 use Rattle.m2_base.specs.Statics.Contexts.{Context, Scene}
 use Rattle.m2_base.specs.Statics.Fields.{field_row, plain_rows, tag_rows}
-use Rattle.m2_base.specs.Statics.Makes.{Makes, make_then, makes, with_rows}
-use Rattle.m2_base.specs.Statics.ReadTrees.{AreReadNames, IsReadName, IsReadOption}
+use Rattle.m2_base.specs.Statics.Makes.{Makes, makes, with_rows}
+use Rattle.m2_base.specs.Statics.ReadTrees.{AreReadNames, IsReadName}
 use Rattle.m2_base.specs.Statics.Shapes.{Shape, nameless, tag_shapes}
 use Rattle.m2_base.specs.Statics.Types.{size_of}
 use Rattle.m2_base.specs.declared.memory.Memory.{Memory}
 use Rattle.m2_base.specs.declared.replies.Ask.{Ask}
-use Rattle.m2_base.specs.declared.replies.Ask.TheVariants.{Known, DontKnowYet}
-use Rattle.m2_base.specs.declared.replies.Head.{Head}
+use Rattle.m2_base.specs.declared.replies.Ask.TheVariants.{Known}
 use Rattle.m2_base.specs.declared.rows.Place.{Place}
 use Rattle.m2_base.specs.declared.rows.Row.{Row}
-use Rattle.m2_base.specs.declared.rows.RowMeaning.TheVariants.{Field}
 use Rattle.m2_base.specs.declared.sites.Site.{Site}
 use Rattle.m2_base.specs.declared.trees.Ident.{Ident}
 use Rattle.m2_base.proofs.SceneLaws.{with-twice}
@@ -27,11 +25,11 @@ use Rattle.type_rules.specs.Scenes.{NamesNoType}
 use Rattle.type_rules.specs.Sites.{context_of}
 use Rattle.decl_sem.specs.FieldNotes.{sized_fields}
 use Rattle.decl_sem.specs.Making.{next_ordinal}
-use Rattle.decl_sem.specs.Pieces.{Declares, IsBehind, IsMaking, item_end}
+use Rattle.decl_sem.specs.Pieces.{Declares, IsBehind, IsMaking}
 use Rattle.decl_sem.specs.Records.{IsOffset, IsOwner}
 use Rattle.decl_sem.specs.declared.making.Made.{Made}
 use Rattle.decl_sem.proofs.OneRows.{behind_more}
-use Rattle.decl_sem.proofs.Pieces.{GoesOn, asked_then, described, failed, goes_as, goes_end, goes_failed, goes_start, goes_step, making_front, next_on, then_after, value_alone, waiting}
+use Rattle.decl_sem.proofs.Pieces.{GoesOn, asked_then, described, failed, goes_as, goes_end, goes_failed, goes_start, goes_step, making_front, next_on, then_after, value_alone}
 use Rattle.decl_sem.proofs.VariableLists.{HasSize, IsSizeOf, has_size, next_left, none_left, read_at, size_asked, then_same, types-append}
 
 -- the shapes of fields

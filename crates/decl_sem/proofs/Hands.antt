@@ -17,9 +17,9 @@ use Rattle.m2_base.specs.declared.sites.Named.{Named}
 use Rattle.m2_base.specs.declared.sites.Site.{Site}
 use Rattle.type_rules.specs.Scenes.{AreInHand, Hand, NamesNoType, rows_of}
 use Rattle.type_rules.specs.Sites.{AreOfItem, AreOfSite, SuitsSite, context_of}
-use Rattle.decl_sem.specs.LaidRows.{AreLaid, none_laid, more_laid, IsAhead, IsLaid, is_of, kept_name}
-use Rattle.decl_sem.specs.Making.{IsInHand, IsNext, next_ordinal}
-use Rattle.decl_sem.specs.Pieces.{BeginsAt, IsMaking, holding}
+use Rattle.decl_sem.specs.LaidRows.{AreLaid, none_laid, more_laid, IsAhead, is_of, kept_name}
+use Rattle.decl_sem.specs.Making.{IsInHand, IsNext}
+use Rattle.decl_sem.specs.Pieces.{IsMaking, holding}
 use Rattle.decl_sem.specs.declared.making.Made.{Made}
 use Rattle.decl_sem.proofs.FirstNames.{known_before}
 

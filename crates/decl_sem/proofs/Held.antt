@@ -1,7 +1,6 @@
 -- What rows in hand say.
 use Rattle.std.specs.Prelude.{◌≡◌, ℕ, zero, suc, ◌+◌, ◌-◌, ◌<◌, ◌≤◌, ◌==◌, ◌^◌, Bool, true, false, if◌then◌else◌, List, [], ◌∷◌, ◌++◌, length, slice_index_or, Option, None, Some}
 use Rattle.std.proofs.Common.{refl, sym, ap, ◌∙◌, subst, arith}
-use Rattle.std.proofs.lemmas.List.{length-append}
 use Rattle.m2_base.specs.Finished.{IsFinished}
 use Rattle.m2_base.specs.Lists.{WhereKept}
 use Rattle.m2_base.specs.Rows.{at_place, row_meaning, row_of}
@@ -15,11 +14,7 @@ use Rattle.m2_base.specs.declared.rows.RowMeaning.{RowMeaning}
 use Rattle.m2_base.specs.declared.rows.RowMeaning.TheVariants.{Broken, Opaque}
 use Rattle.m2_base.specs.declared.sites.Site.{Site}
 use Rattle.m2_base.proofs.RowLaws.{HasSmallNumbers-fits}
-use Rattle.m2_base.specs.declared.replies.Ask.{Ask}
-use Rattle.m2_base.specs.declared.replies.Ask.TheVariants.{Known, DontKnowYet}
-use Rattle.type_rules.specs.Asks.{WhereKnown}
 use Rattle.type_rules.specs.Scenes.{Hand, IsSaid, IsStood, IsThere, rows_of, scene_of}
-use Rattle.type_rules.specs.Sites.{context_of}
 use Rattle.decl_sem.specs.Hands.{held_meaning, is_held}
 use Rattle.decl_sem.specs.Making.{next_ordinal}
 use Rattle.decl_sem.specs.Pieces.{AreNewRows, IsBehind, IsMaking, IsNewRow, item_end}

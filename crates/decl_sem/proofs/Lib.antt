@@ -1,4 +1,6 @@
 pub mod Alone
+pub mod ArrayCells
+pub mod ArrayLists
 pub mod Asking
 pub mod Checks
 pub mod ConstantRows
@@ -28,6 +30,8 @@ pub mod Parameters
 pub mod Pieces
 pub mod SizesInHand
 pub mod ProcTypes
+pub mod RecordSizes
+pub mod RecordRows
 pub mod Results
 pub mod Tags
 pub mod TypeForms

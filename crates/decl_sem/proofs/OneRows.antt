@@ -27,7 +27,7 @@ use Rattle.m2_base.specs.declared.sites.Named.{Named}
 use Rattle.m2_base.specs.declared.trees.Ident.{Ident}
 use Rattle.type_rules.specs.Sites.{context_of}
 use Rattle.type_rules.specs.Scenes.{Hand}
-use Rattle.decl_sem.specs.LaidRows.{AreLaid, IsLaid, is_of, kept_name, more_laid, none_laid}
+use Rattle.decl_sem.specs.LaidRows.{IsLaid, is_of, kept_name, more_laid, none_laid}
 use Rattle.decl_sem.specs.Making.{IsInHand, IsNext, MakesAll, next_ordinal}
 use Rattle.decl_sem.specs.Pieces.{Declares, IsBehind, IsMaking, IsNewMeaning, IsNewRow, IsOwned, WhereMaking, item_end, kind_number, known_of}
 use Rattle.decl_sem.specs.declared.making.Made.{Made}

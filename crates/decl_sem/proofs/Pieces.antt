@@ -3,9 +3,8 @@ use Rattle.std.specs.Prelude.{◌≡◌, ◌≢◌, ℕ, suc, ◌+◌, ◌==◌,
 use Rattle.std.proofs.Common.{refl, sym, ap, ◌∙◌, subst, arith}
 use Rattle.std.proofs.lemmas.List.{append_assoc, append-nil, length-append}
 use Rattle.m2_base.specs.Asks.{IfKnown, IfWaits}
-use Rattle.m2_base.specs.Finished.{IsFinished}
-use Rattle.m2_base.specs.Gives.{Adds, Gives}
-use Rattle.m2_base.specs.Lists.{Each, IsPrefixOf}
+use Rattle.m2_base.specs.Gives.{Gives}
+use Rattle.m2_base.specs.Lists.{Each}
 use Rattle.m2_base.specs.Rows.{basic_of, natural, row_meaning, type_name_kind}
 use Rattle.m2_base.specs.States.{Frame, State, Waits, Works}
 use Rattle.m2_base.specs.Statics.Contexts.{Context}
@@ -22,13 +21,13 @@ use Rattle.m2_base.specs.declared.sites.Named.{Named}
 use Rattle.m2_base.specs.declared.sites.Site.{Site}
 use Rattle.m2_base.proofs.Kept.{IsPrefixOf-refl, Waits_after, Works-kept, Works-refl, Works-trans}
 use Rattle.type_rules.specs.Asks.{Reads, WhereKnown, WhereWaiting}
-use Rattle.type_rules.specs.Scenes.{AreInHand, Hand, NamesNoType, WhereTold}
-use Rattle.type_rules.specs.Sites.{AreOfSite, SuitsSite, context_of}
+use Rattle.type_rules.specs.Scenes.{AreInHand, Hand, NamesNoType}
+use Rattle.type_rules.specs.Sites.{context_of}
 use Rattle.const_eval.specs.Analyses.{Analysed}
 use Rattle.decl_sem.specs.LaidRows.{AreLaid, HasFirsts, IsAhead, none_laid, more_laid}
 use Rattle.decl_sem.specs.MadeRows.{RowsInHand}
 use Rattle.decl_sem.specs.Making.{MakesAll, next_ordinal}
-use Rattle.decl_sem.specs.Pieces.{AreNewRows, BeginsAt, Declares, Grown, IsMaking, holding, IsNewRow, IsOwned, WhereMaking, item_end}
+use Rattle.decl_sem.specs.Pieces.{AreNewRows, BeginsAt, Declares, Grown, IsMaking, holding, IsOwned, WhereMaking, item_end}
 use Rattle.decl_sem.specs.declared.making.Made.{Made}
 use Rattle.decl_sem.proofs.FirstNames.{AreLaid-append, gone_on}
 use Rattle.decl_sem.proofs.Hands.{hand_with, hand_none, in_hand, of_this_site}

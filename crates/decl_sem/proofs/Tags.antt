@@ -1,6 +1,6 @@
 -- The type of a tag.
-use Rattle.std.specs.Prelude.{◌≡◌, ℕ, ◌<◌, ◌^◌, Bool, true, false, if◌then◌else◌, List, [], Result, Ok, Err}
-use Rattle.std.proofs.Common.{refl, sym, ap, ◌∙◌, subst, arith}
+use Rattle.std.specs.Prelude.{◌≡◌, ℕ, ◌<◌, ◌^◌, Bool, true, false, if◌then◌else◌, [], Result, Ok}
+use Rattle.std.proofs.Common.{refl, sym, ap, subst}
 use Rattle.m2_base.specs.Gives.{Gives, and_then, gives}
 use Rattle.m2_base.specs.Lists.{IsPrefixOf}
 use Rattle.m2_base.specs.Standard.{broken}
@@ -8,8 +8,7 @@ use Rattle.m2_base.specs.States.{Frame, State}
 use Rattle.m2_base.specs.Statics.Contexts.{Context, refuse}
 use Rattle.m2_base.specs.Statics.Diagnostics.{wrong_operands}
 use Rattle.m2_base.specs.Statics.Fields.{checked_tag, tag_type}
-use Rattle.m2_base.specs.Statics.Makes.{Makes, only_gives}
-use Rattle.m2_base.specs.Statics.Shapes.{Shape}
+use Rattle.m2_base.specs.Statics.Makes.{only_gives}
 use Rattle.m2_base.specs.Statics.TypeNames.{type_of_qual}
 use Rattle.m2_base.specs.declared.memory.Memory.{Memory}
 use Rattle.m2_base.specs.declared.notes.Notes.{Notes}
@@ -21,7 +20,7 @@ use Rattle.m2_base.specs.declared.trees.Qual.{Qual}
 use Rattle.type_rules.specs.Scenes.{IsThere}
 use Rattle.type_rules.specs.Sites.{IsRefused, context_of}
 use Rattle.decl_sem.specs.Making.{next_ordinal}
-use Rattle.decl_sem.specs.Pieces.{Declares, IsBehind, IsMaking}
+use Rattle.decl_sem.specs.Pieces.{Declares, IsMaking}
 use Rattle.decl_sem.specs.Records.{IsTagType}
 use Rattle.decl_sem.specs.declared.making.Made.{Made}
 use Rattle.decl_sem.proofs.Checks.{broken_behind}

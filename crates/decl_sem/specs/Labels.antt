@@ -1,6 +1,6 @@
 -- The labels of a variant, as the code looks at them.
 use Rattle.std.specs.List.{list_any}
-use Rattle.std.specs.Prelude.{ℕ, Bool, List, ◌∷◌, Option, None, Some, int_le, if◌then◌else◌, ◌&&◌, ℤ}
+use Rattle.std.specs.Prelude.{ℕ, List, ◌∷◌, Option, Some, int_le, if◌then◌else◌, ◌&&◌, ℤ}
 use Rattle.m2_base.specs.Gives.{Gives, and_then, gives}
 use Rattle.m2_base.specs.States.{Frame}
 use Rattle.m2_base.specs.Statics.CaseLabels.{overlaps, taken_label}

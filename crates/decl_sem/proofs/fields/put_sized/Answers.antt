@@ -1,5 +1,5 @@
 use Rattle.std.proofs.Common.{arith}
-use Rattle.decl_sem.proofs.FieldLists.{all_fields, field_behind, field_making, field_owned, fields_failed, no_fields_yet, one_more_field, read_field}
+use Rattle.decl_sem.proofs.FieldLists.{all_fields, field_behind, field_making, field_owned, fields_failed, no_fields_yet, one_more_field}
 use Rattle.decl_sem.proofs.VariableLists.{no_ident}
 use Rattle.decl_sem.proofs.fields.put_sized.Goals as goal
 

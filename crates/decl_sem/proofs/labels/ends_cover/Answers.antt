@@ -1,6 +1,5 @@
 use Rattle.std.proofs.Common.{Ok, Err}
 use Rattle.m2_base.specs.Gives.{gives}
-use Rattle.m2_base.specs.States.{Frame}
 use Rattle.m2_base.specs.declared.replies.Ask.TheVariants.{Known}
 use Rattle.const_eval.proofs.Analysing.{and_after}
 use Rattle.decl_sem.specs.Labels.{covered_by, values_in}
