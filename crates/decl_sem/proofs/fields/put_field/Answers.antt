@@ -1,12 +1,4 @@
-<<<<<<< HEAD
 use Rattle.std.specs.Prelude.{[]}
-=======
-use Rattle.std.specs.Prelude.{[], List}
-use Rattle.std.proofs.Common.{subst, sym, ap, ◌∙◌}
-use Rattle.std.specs.List.{list_any}
-use Rattle.m2_base.specs.Lists.{Each}
-use Rattle.m2_base.specs.Rows.{HasSmallNumbers, row_meaning}
->>>>>>> e41592f5e25d63f12b0c931edf0be2f0818398e7
 use Rattle.m2_base.specs.Statics.Fields.{field_row}
 use Rattle.decl_sem.proofs.FieldNames.{field_unnoted, one_field, second_noted}
 use Rattle.decl_sem.proofs.Pieces.{making_front}
