@@ -1,12 +1,12 @@
 -- A field, and whether it is the second of its name.
 use Rattle.std.specs.List.{list_any}
-use Rattle.std.specs.Prelude.{◌≡◌, ℕ, ◌+◌, ◌<◌, ◌≤◌, ◌==◌, ◌^◌, ◌&&◌, ◌||◌, Bool, true, false, if◌then◌else◌, List, [], ◌∷◌, ◌++◌, length, Result, Ok, Err}
+use Rattle.std.specs.Prelude.{◌≡◌, ℕ, ◌<◌, ◌≤◌, ◌==◌, ◌&&◌, ◌||◌, Bool, true, false, if◌then◌else◌, List, [], ◌∷◌, ◌++◌, length, Result, Ok, Err}
 use Rattle.std.proofs.Common.{refl, sym, ap, ◌∙◌, subst, arith}
 use Rattle.std.proofs.lemmas.List.{append-nil}
 use Rattle.std.proofs.lemmas.List.Folds.{list_any-append}
 use Rattle.m2_base.specs.Gives.{Gives}
 use Rattle.m2_base.specs.Lists.{Each, IsPrefixOf}
-use Rattle.m2_base.specs.Rows.{HasSmallNumbers, at_place, field_kind, row_meaning}
+use Rattle.m2_base.specs.Rows.{field_kind, row_meaning}
 use Rattle.m2_base.specs.States.{Frame, State}
 use Rattle.m2_base.specs.Statics.Contexts.{Context, diag}
 use Rattle.m2_base.specs.Statics.Diagnostics.{declared_twice}
@@ -27,12 +27,11 @@ use Rattle.m2_base.specs.declared.rows.RowMeaning.TheVariants.{Field}
 use Rattle.m2_base.specs.declared.sites.Site.{Site}
 use Rattle.m2_base.specs.declared.trees.Ident.{Ident}
 use Rattle.m2_base.proofs.Kept.{Works-notes}
-use Rattle.m2_base.proofs.RowLaws.{HasSmallNumbers-fits}
 use Rattle.type_rules.specs.Sites.{context_of}
 use Rattle.decl_sem.specs.FieldNotes.{refused_if, second_refused}
 use Rattle.decl_sem.specs.LaidRows.{none_laid}
 use Rattle.decl_sem.specs.Making.{MakesAll, diag_in, next_ordinal}
-use Rattle.decl_sem.specs.Pieces.{AreNewRows, Declares, IsAny, IsBehind, IsMaking, IsNewMeaning, IsOwned, WhereMaking, item_end}
+use Rattle.decl_sem.specs.Pieces.{Declares, IsAny, IsBehind, IsMaking, IsNewMeaning, IsOwned, WhereMaking, item_end}
 use Rattle.decl_sem.specs.declared.making.Made.{Made}
 use Rattle.decl_sem.proofs.Hands.{hand_none, own_are}
 use Rattle.decl_sem.proofs.OneRows.{before_next, small_scope}
