@@ -2,6 +2,7 @@ pub mod Alone
 pub mod ArrayCells
 pub mod ArrayLists
 pub mod Asking
+pub mod BoundRanges
 pub mod Checks
 pub mod ConstantRows
 pub mod Constants
@@ -28,12 +29,15 @@ pub mod NoTypeNames
 pub mod OneRows
 pub mod Parameters
 pub mod Pieces
+pub mod PointerRows
 pub mod SizesInHand
+pub mod SubrangeRows
 pub mod ProcTypes
 pub mod RecordSizes
 pub mod RecordRows
 pub mod Results
 pub mod Tags
+pub mod TargetNames
 pub mod TypeForms
 pub mod TypeShapes
 pub mod TypeSizes

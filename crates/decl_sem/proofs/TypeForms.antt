@@ -6,7 +6,7 @@ use Rattle.std.specs.declared.boxed.Box.{Box}
 use Rattle.std.specs.declared.vec.Vec.{Vec}
 use Rattle.std.proofs.lemmas.List.{length-map}
 use Rattle.m2_base.proofs.Kept.{Works-refl}
-use Rattle.m2_base.proofs.Seen.{type_seen, named_seen, enum_seen, proc_type_seen, record_seen, set_of_seen}
+use Rattle.m2_base.proofs.Seen.{type_seen, named_seen, enum_seen, proc_type_seen, record_seen, set_of_seen, pointer_seen, sub_seen}
 use Rattle.m2_base.specs.Rows.{array_kind, const_kind, enum_kind, field_kind, open_array_kind, param_kind, pointer_kind, proc_type_kind, record_kind, set_kind, subrange_kind, type_name_kind}
 use Rattle.m2_base.specs.States.{Frame, State}
 use Rattle.m2_base.specs.Statics.Contexts.{Context}
@@ -14,16 +14,17 @@ use Rattle.m2_base.specs.Statics.Makes.{Makes}
 use Rattle.m2_base.specs.Statics.Shapes.{Shape, arm_shapes, arms_shapes, array_shapes, field_shapes, fields_shapes, form_shapes, formal_shapes, named, nameless, open_shapes, tag_shapes, type_shapes, types_shapes}
 use Rattle.m2_base.specs.Statics.TypeRows.{form_rows, type_rows}
 use Rattle.m2_base.specs.Trees.{TypeExpr, TypeForm, type_expr, named_type, enum_type, sub_type, array_type, record_type, set_type, pointer_type, proc_type, TypeExprs, no_types, more_types, FieldList, plain_fields, case_fields, FieldLists, no_fields, more_fields, VariantArm, variant_arm, VariantArms, no_variant_arms, more_variant_arms, type_at, field_lists}
-use Rattle.m2_base.specs.Views.{field_list_view, type_form_view, type_view}
+use Rattle.m2_base.specs.Views.{field_list_view, type_form_view, type_view, expr_view}
 use Rattle.m2_base.specs.declared.memory.Memory.{Memory}
 use Rattle.m2_base.specs.declared.replies.Ask.{Ask}
 use Rattle.m2_base.specs.declared.rows.Place.{Place}
 use Rattle.m2_base.specs.declared.sites.Site.{Site}
 use Rattle.m2_base.specs.declared.trees.Ident.{Ident}
 use Rattle.m2_base.specs.declared.trees.Qual.{Qual}
+use Rattle.m2_base.specs.declared.trees.expressions.Expr.{Expr}
 use Rattle.m2_base.specs.declared.trees.types as code
 use Rattle.m2_base.specs.declared.trees.types.Formal.{Formal}
-use Rattle.m2_base.specs.declared.trees.types.TypeForm.TheVariants.{Named, Enum, Proc, Rec, Set as SetOf}
+use Rattle.m2_base.specs.declared.trees.types.TypeForm.TheVariants.{Named, Enum, Proc, Rec, Set as SetOf, Pointer, Sub}
 use Rattle.m2_base.specs.Units.{UnitTexts}
 use Rattle.type_rules.specs.Sites.{SuitsSite}
 use Rattle.decl_sem.specs.Making.{next_ordinal}
@@ -61,6 +62,12 @@ is_proc t formals q l same e = ap type_form_view e ∙ proc_type_seen formals q 
 
 pub is_record : (t : code.TypeExpr.TypeExpr) (fields : Vec code.FieldList.FieldList Global) (l : List code.FieldList.FieldList) → l ≡ fields.items → t.form ≡ Rec fields → type_form_view t.form ≡ record_type (field_lists (map field_list_view l))
 is_record t fields l same e = ap type_form_view e ∙ record_seen fields ∙ ap (λ (v : List code.FieldList.FieldList). record_type (field_lists (map field_list_view v))) (sym same)
+
+pub is_sub : (t : code.TypeExpr.TypeExpr) (base : Option Qual) (low high : Expr) → t.form ≡ Sub base low high → type_form_view t.form ≡ sub_type base (expr_view low) (expr_view high)
+is_sub t base low high e = ap type_form_view e ∙ sub_seen base low high
+
+pub is_pointer : (t : code.TypeExpr.TypeExpr) (of : Box code.TypeExpr.TypeExpr Global) (u : code.TypeExpr.TypeExpr) → u ≡ of.value → t.form ≡ Pointer of → type_form_view t.form ≡ pointer_type (type_view u)
+is_pointer t of u same e = ap type_form_view e ∙ pointer_seen of ∙ ap (λ (v : code.TypeExpr.TypeExpr). pointer_type (type_view v)) (sym same)
 
 -- the base of a set
 pub set_parts : {f : Frame} {s : Site} {x : Made} (t : code.TypeExpr.TypeExpr) (of : Box code.TypeExpr.TypeExpr Global) (u : code.TypeExpr.TypeExpr) → u ≡ of.value → t.form ≡ SetOf of → (names : List (List ℕ))

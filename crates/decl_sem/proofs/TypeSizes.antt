@@ -44,3 +44,9 @@ pub smaller_base : (t u : code.TypeExpr.TypeExpr) → type_form_view t.form ≡ 
 smaller_base t u e =
     let whole : size_type (type_view t) ≡ suc (size_type (type_view u)) = ap size_type (seen t (set_type (type_view u)) e) in
     omega arith
+
+-- the target of a pointer is smaller
+pub smaller_target : (t u : code.TypeExpr.TypeExpr) → type_form_view t.form ≡ pointer_type (type_view u) → size_type (type_view u) < size_type (type_view t)
+smaller_target t u e =
+    let whole : size_type (type_view t) ≡ suc (size_type (type_view u)) = ap size_type (seen t (pointer_type (type_view u)) e) in
+    omega arith

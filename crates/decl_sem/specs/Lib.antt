@@ -1,4 +1,5 @@
 pub mod ArrayRows
+pub mod Bounds
 pub mod Closing
 pub mod DeclaredItems
 pub mod Effects
@@ -15,5 +16,6 @@ pub mod Progress
 pub mod Records
 pub mod Shapes
 pub mod Stood
+pub mod Targets
 pub mod TypeUses
 pub mod Variables

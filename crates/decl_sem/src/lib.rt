@@ -4,9 +4,8 @@
 //! rows say comes from the rows of the items before and of the scopes round the block. The definitions are `m2_base`'s
 //! (`specs/Statics`). When a block's scope is complete, its closing name is checked (`close_check`).
 //!
-//! `declaring::declare` has the rows of an item, with the contract that it will keep. It isn't public yet: subranges,
-//! records and pointers in `types`, and the headings in `procedures` and `own_headings`, answer want of
-//! memory till they are built.
+//! `declaring::declare` has the rows of an item, with the contract that it will keep. It isn't public yet: the headings in
+//! `procedures` and `own_headings` answer want of memory till they are built.
 #![tactic(auto)]
 
 /// The value of a piece that asks nothing, or the end of the function at want of memory.
@@ -53,6 +52,7 @@ macro_rules! made {
 }
 
 mod arrays;
+mod bounds;
 mod cells;
 mod closing;
 mod const_items;
@@ -81,9 +81,14 @@ mod records;
 mod sets;
 mod shapes;
 mod standing;
+mod subranges;
+mod targets;
 mod type_items;
 mod types;
 mod variables;
 
 pub use closing::close_check;
+pub use declaring::{Declared, declare};
+pub use effects::{Effect, ParamCopy};
+pub use items::{Before, Item};
 pub use layouts::layout;

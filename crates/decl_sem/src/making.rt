@@ -40,7 +40,7 @@ pub(crate) fn next_row(made: &Made) -> u32
 }
 
 /// Whether a name is a standard one.
-fn is_standard(name: u32) -> bool
+pub(crate) fn is_standard(name: u32) -> bool
     ensures { result ≡ spec_is_standard name }
 {
     1 <= name && name <= 26

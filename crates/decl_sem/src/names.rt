@@ -22,7 +22,7 @@ use m2_base::{
 use type_rules::{BROKEN, use_name};
 
 /// The code of a name that is no type's.
-const NOT_A_TYPE: u8 = 45;
+pub(crate) const NOT_A_TYPE: u8 = 45;
 
 /// A row with its place.
 type Entry = (Place, Row);

@@ -22,6 +22,8 @@ use crate::procedure_types::proc_in;
 use crate::records::{Variants, begin_variants, put_record};
 use crate::sets::make_set;
 use crate::shapes::count_fields;
+use crate::subranges::subrange_in;
+use crate::targets::{pointer_row, target_in};
 use m2_base::{Ask, FieldList, Memory, Place, Qual, Scopes, Site, TypeExpr, TypeForm, VariantArm};
 use std::alloc::Global;
 
@@ -60,17 +62,26 @@ pub(crate) fn type_in<S: Scopes>(
             let of = put!(make_enumeration(site, made, typ.at, names));
             Ok(Ask::Known(of))
         }
+        TypeForm::Sub { base, low, high } => {
+            subrange_in(scopes, site, typ.at, *base, low, high, made)
+        }
         TypeForm::Set(of) => {
             let base = made!(type_in(alloc, scopes, site, of, made));
             make_set(scopes, site, typ.at, of.at, base, made)
         }
+        TypeForm::Pointer(of) => match made!(target_in(scopes, site, of, made)) {
+            Some(target) => pointer_row(scopes, site, typ.at, target, made),
+            None => {
+                let target = made!(type_in(alloc, scopes, site, of, made));
+                pointer_row(scopes, site, typ.at, target, made)
+            }
+        },
         TypeForm::Proc {
             formals,
             result: outcome,
         } => proc_in(scopes, site, typ.at, formals, *outcome, made),
         TypeForm::Array { index, of } => array_in(alloc, scopes, site, typ.at, index, of, made),
         TypeForm::Rec(fields) => record_in(alloc, scopes, site, typ.at, fields, made),
-        _ => Err(Memory),
     }
 }
 

@@ -7,6 +7,7 @@ mod Declaring
 mod Delivering
 mod DiagTokens
 mod Ends
+mod FewCells
 mod Filling
 mod Fitting
 mod Fronts

@@ -41,7 +41,8 @@ pub use operands::{
     is_integer_or_cardinal, is_one_char, is_string, operand_type,
 };
 pub use ordinals::{base_of, range_of};
+pub use rows::row_at;
 pub use sameness::same;
 pub use sizes::size_of;
 pub use standing::stand;
-pub use uses::use_name;
+pub use uses::{follow, use_name};

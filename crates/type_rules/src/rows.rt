@@ -10,7 +10,7 @@ use m2_base::{Around, Ask, Place, Row, RowMeaning, Scopes, read_row, write_row};
 
 /// The row at a place; one that is missing is as Broken.
 #[tactic(auto, using(crate::proofs::Reading::reading))]
-pub(crate) fn row_at<S: Scopes>(scopes: &mut S, around: &Around, place: Place) -> Ask<Row>
+pub fn row_at<S: Scopes>(scopes: &mut S, around: &Around, place: Place) -> Ask<Row>
     requires suits { Suits (S.state scopes.old).frame around.now }
     requires there { IsThere (S.state scopes.old).frame place }
     ensures reads { Reads (S.state scopes.old) (S.state scopes.new) }

@@ -60,7 +60,7 @@ fn answer(notes: &mut Notes, name: u32, at: u32, entry: &Entry) -> Result<(), Me
 
 /// The entry that another leads to, where it is an alias; any other leads to itself.
 #[tactic(auto, using(crate::proofs::Reading::reading))]
-fn follow<S: Scopes>(scopes: &mut S, around: &Around, entry: Entry) -> Ask<Entry>
+pub fn follow<S: Scopes>(scopes: &mut S, around: &Around, entry: Entry) -> Ask<Entry>
     requires suits { Suits (S.state scopes.old).frame around.now }
     requires row { IsRowOf (S.state scopes.old).frame entry.0 entry.1 }
     ensures reads { Reads (S.state scopes.old) (S.state scopes.new) }

@@ -1,26 +1,27 @@
-use Rattle.std.proofs.Common.{Err, Ok, [], ap, arith, length, map, refl, subst, sym, ℕ, ◌∙◌, ◌∷◌, ◌≡◌}
-use Rattle.m2_base.specs.Rows.{field_kind, record_kind, set_kind}
+use Rattle.std.proofs.Common.{Err, Ok, [], ap, arith, length, map, refl, subst, sym, ℕ, ◌∙◌, ◌∷◌, ◌≡◌, ◌++◌, List, ◌<◌}
+use Rattle.m2_base.specs.Rows.{field_kind, record_kind, set_kind, pointer_kind}
 use Rattle.m2_base.specs.States.{Frame}
 use Rattle.m2_base.specs.Statics.Arrays.{checked_base}
 use Rattle.m2_base.specs.Statics.Makes.{make_then, makes_row, only_gives}
-use Rattle.m2_base.specs.Statics.Shapes.{arms_shapes, fields_shapes, nameless, tag_shapes, type_shapes}
+use Rattle.m2_base.specs.Statics.Shapes.{arms_shapes, fields_shapes, nameless, tag_shapes, type_shapes, Shape, form_shapes}
 use Rattle.m2_base.specs.Statics.TypeRows.{type_rows}
-use Rattle.m2_base.specs.Trees.{array_type, case_fields, enum_type, named_type, plain_fields, proc_type, record_type, set_type, type_at}
-use Rattle.m2_base.specs.Views.{type_view}
+use Rattle.m2_base.specs.Trees.{array_type, case_fields, enum_type, named_type, plain_fields, proc_type, record_type, set_type, type_at, pointer_type, sub_type}
+use Rattle.m2_base.specs.Views.{type_view, expr_view}
 use Rattle.m2_base.specs.declared.rows.RowMeaning.TheVariants.{Set}
 use Rattle.m2_base.specs.declared.trees.types.TypeExpr.{TypeExpr}
 use Rattle.m2_base.specs.declared.replies.Ask.TheVariants.{DontKnowYet, Known}
 use Rattle.decl_sem.specs.Making.{next_ordinal}
-use Rattle.decl_sem.specs.Pieces.{Declares, IsBehind}
+use Rattle.decl_sem.specs.Pieces.{Declares, IsBehind, IsMaking}
 use Rattle.decl_sem.specs.Records.{AreVariants, IsOwner, behind_tag_shapes}
 use Rattle.decl_sem.proofs.Asking.{first_made}
 use Rattle.decl_sem.proofs.OneRows.{room_for_row}
 use Rattle.decl_sem.proofs.Pieces.{failed, making_front, making_on, then_after, waiting}
 use Rattle.decl_sem.proofs.RecordRows.{all_arms, all_lists, arm_read, arms_then, cases_made, cases_making, cases_owner, field_read, greater_last, inner_failed, inner_making, inner_owner, inner_waits, is_cases, is_plain, labels_failed, labels_known, labels_making, labels_wait, list_failed, list_form_made, list_form_making, list_form_owner, list_form_read, list_making, list_owner, list_waits, one_arm, one_list, own_ahead, owner_front, owner_on, plain_made, record_whole}
 use Rattle.decl_sem.proofs.RecordSizes.{arm_small, arms_of, cases_small, field_small, fields_of, plain_small, record_small}
-use Rattle.decl_sem.proofs.TypeForms.{arms_no_types, at_seen, enum_room, fields_no_types, form_made, form_making, form_read, is_enum, is_named, is_proc, is_record, is_set, read_here, set_parts, tag_no_types, type_no_types, unmade}
-use Rattle.decl_sem.proofs.TypeSizes.{smaller_base}
+use Rattle.decl_sem.proofs.TypeForms.{arms_no_types, at_seen, enum_room, fields_no_types, form_made, form_making, form_read, is_enum, is_named, is_proc, is_record, is_set, read_here, set_parts, tag_no_types, type_no_types, unmade, is_pointer, is_sub}
+use Rattle.decl_sem.proofs.TypeSizes.{smaller_base, smaller_target}
 use Rattle.decl_sem.proofs.ArrayLists.{all_indexes, arrays_making, checked_behind, checked_making, elem_behind, elem_failed, elem_making, elem_waiting, first_listed, first_waiting, index_made, index_making, index_small, indexes_behind, indexes_failed, indexes_full, indexes_making, indexes_waiting, is_array, listed_waiting, no_indexes, one_more_index, read_index, size_of_array, trees, whole_array}
+use Rattle.decl_sem.proofs.PointerRows.{plain_known, pointer_by_layout, pointer_made, pointer_unmade, pointer_waits, target_known, target_making}
 use Rattle.decl_sem.proofs.types.+types.Goals as goal
 
 pub type_in-name_in-requires-clause-making : goal.type_in-name_in-requires-clause-making
@@ -79,9 +80,6 @@ type_in-returns-in-Known g t c =
     (subst (λ (n : ℕ). Declares (g.S.Scopes.state c.type_in.new.scopes) (g.S.Scopes.state c.make_set.new.scopes) c.type_in.new.made c.make_set.new.made c.args.site.now c.make_set.result (nameless set_kind at ∷ []) IsBehind
     (λ d. make_then d (only_gives (checked_base d n c.in-Known.value)) (λ e b. makes_row e at (Set b)))) same c.make_set.ensures))
 
-pub type_in-returns-in_default : goal.type_in-returns-in_default
-type_in-returns-in_default g t c = unmade _ _ _ _ _ _ _
-
 pub type_in-proc_in-requires-clause-making : goal.type_in-proc_in-requires-clause-making
 type_in-proc_in-requires-clause-making g t c =
     let l = c.deref-in-Proc.result.now in
@@ -101,6 +99,97 @@ pub type_in-returns-in-Proc : goal.type_in-returns-in-Proc
 type_in-returns-in-Proc g t c =
     let l = c.deref-in-Proc.result.now in
     form_made c.args.typ.now (proc_type l c.in-Proc.outcome) (is_proc c.args.typ.now c.in-Proc.formals c.in-Proc.outcome l c.deref-in-Proc.ensures.value c.in-Proc.is) c.proc_in.ensures
+
+-- ** Subranges and pointers
+
+pub type_in-subrange_in-requires-clause-making : goal.type_in-subrange_in-requires-clause-making
+type_in-subrange_in-requires-clause-making g t c =
+    form_making c.args.typ.now (sub_type c.in-Sub.base (expr_view c.in-Sub.low) (expr_view c.in-Sub.high)) (is_sub c.args.typ.now c.in-Sub.base c.in-Sub.low c.in-Sub.high c.in-Sub.is) c.requires.making
+
+pub type_in-subrange_in-requires-clause-base : goal.type_in-subrange_in-requires-clause-base
+type_in-subrange_in-requires-clause-base g t c =
+    (form_read c.args.typ.now (sub_type c.in-Sub.base (expr_view c.in-Sub.low) (expr_view c.in-Sub.high)) c.args.site.now.texts.now.names (is_sub c.args.typ.now c.in-Sub.base c.in-Sub.low c.in-Sub.high c.in-Sub.is) c.requires.read).0
+
+pub type_in-subrange_in-requires-clause-low : goal.type_in-subrange_in-requires-clause-low
+type_in-subrange_in-requires-clause-low g t c =
+    (form_read c.args.typ.now (sub_type c.in-Sub.base (expr_view c.in-Sub.low) (expr_view c.in-Sub.high)) c.args.site.now.texts.now.names (is_sub c.args.typ.now c.in-Sub.base c.in-Sub.low c.in-Sub.high c.in-Sub.is) c.requires.read).1
+
+pub type_in-subrange_in-requires-clause-high : goal.type_in-subrange_in-requires-clause-high
+type_in-subrange_in-requires-clause-high g t c =
+    (form_read c.args.typ.now (sub_type c.in-Sub.base (expr_view c.in-Sub.low) (expr_view c.in-Sub.high)) c.args.site.now.texts.now.names (is_sub c.args.typ.now c.in-Sub.base c.in-Sub.low c.in-Sub.high c.in-Sub.is) c.requires.read).2
+
+pub type_in-returns-in-Sub : goal.type_in-returns-in-Sub
+type_in-returns-in-Sub g t c =
+    form_made c.args.typ.now (sub_type c.in-Sub.base (expr_view c.in-Sub.low) (expr_view c.in-Sub.high)) (is_sub c.args.typ.now c.in-Sub.base c.in-Sub.low c.in-Sub.high c.in-Sub.is) c.subrange_in.ensures
+
+pub type_in-target_in-requires : goal.type_in-target_in-requires
+type_in-target_in-requires g t c =
+    let u = c.deref-in-Pointer.result.now in
+    let is = is_pointer c.args.typ.now c.in-Pointer.of u c.deref-in-Pointer.ensures c.in-Pointer.is in
+    record { making = making_front [] (form_shapes c.args.typ.now.at (pointer_type (type_view u))) (form_making c.args.typ.now (pointer_type (type_view u)) is c.requires.making) }
+
+pub type_in-pointer_row-requires-clause-making : goal.type_in-pointer_row-requires-clause-making
+type_in-pointer_row-requires-clause-making g t c =
+    let u = c.deref-in-Pointer.result.now in
+    let at = c.args.typ.now.at in
+    let is = is_pointer c.args.typ.now c.in-Pointer.of u c.deref-in-Pointer.ensures c.in-Pointer.is in
+    let plain : type_shapes (type_view u) ≡ [] = plain_known c.in-Ok-target_in.is c.in-Known-asked.is c.in-Some.is c.target_in.ensures.plain in
+    let making = subst (λ (shapes : List Shape). IsMaking (g.S.Scopes.state c.args.scopes.now).frame c.args.site.now c.args.made.now (shapes ++ nameless pointer_kind at ∷ [])) plain (form_making c.args.typ.now (pointer_type (type_view u)) is c.requires.making) in
+    making_on {ss = []} tt making (target_known u u refl c.in-Ok-target_in.is c.in-Known-asked.is c.in-Some.is c.target_in.ensures.target)
+
+pub type_in-returns-in-Some : goal.type_in-returns-in-Some
+type_in-returns-in-Some g t c =
+    let u = c.deref-in-Pointer.result.now in
+    let is = is_pointer c.args.typ.now c.in-Pointer.of u c.deref-in-Pointer.ensures c.in-Pointer.is in
+    let plain : type_shapes (type_view u) ≡ [] = plain_known c.in-Ok-target_in.is c.in-Known-asked.is c.in-Some.is c.target_in.ensures.plain in
+    form_made c.args.typ.now (pointer_type (type_view u)) is
+    (pointer_by_layout c.args.typ.now.at (type_view u) c.pointer_row.result (form_making c.args.typ.now (pointer_type (type_view u)) is c.requires.making) c.in-Some.target plain
+    (target_known u u refl c.in-Ok-target_in.is c.in-Known-asked.is c.in-Some.is c.target_in.ensures.target) c.pointer_row.ensures)
+
+pub type_in-type_in-requires-in-None : goal.type_in-type_in-requires-in-None
+type_in-type_in-requires-in-None g t c κs within =
+    let v = c.deref-in-None.result.now in
+    let at = c.args.typ.now.at in
+    let is = is_pointer c.args.typ.now c.in-Pointer.of v c.deref-in-None.ensures c.in-Pointer.is in
+    let making = form_making c.args.typ.now (pointer_type (type_view v)) is c.requires.making in
+    let p = target_known c.deref-in-Pointer.result.now v (c.deref-in-Pointer.ensures ∙ sym c.deref-in-None.ensures) c.in-Ok-target_in.is c.in-Known-asked.is c.in-None.is c.target_in.ensures.target in (
+      (let small = smaller_target c.args.typ.now v is in omega (arith, small, c.decreases)),
+      (within, (making_front (type_shapes (type_view v)) (nameless pointer_kind at ∷ []) (target_making at (type_view v) making p),
+      form_read c.args.typ.now (pointer_type (type_view v)) c.args.site.now.texts.now.names is c.requires.read)),
+    )
+
+pub type_in-returns-in-DontKnowYet-asked-2 : goal.type_in-returns-in-DontKnowYet-asked-2
+type_in-returns-in-DontKnowYet-asked-2 g t c =
+    let v = c.deref-in-None.result.now in
+    let is = is_pointer c.args.typ.now c.in-Pointer.of v c.deref-in-None.ensures c.in-Pointer.is in
+    let p = target_known c.deref-in-Pointer.result.now v (c.deref-in-Pointer.ensures ∙ sym c.deref-in-None.ensures) c.in-Ok-target_in.is c.in-Known-asked.is c.in-None.is c.target_in.ensures.target in
+    form_made c.args.typ.now (pointer_type (type_view v)) is
+    (pointer_waits c.args.typ.now.at (type_view v) (form_making c.args.typ.now (pointer_type (type_view v)) is c.requires.making) p c.in-Ok-type_in-2.is c.in-DontKnowYet-asked-2.is c.type_in-in-None.ensures)
+
+pub type_in-returns-in-Err-type_in-2 : goal.type_in-returns-in-Err-type_in-2
+type_in-returns-in-Err-type_in-2 g t c =
+    let v = c.deref-in-None.result.now in
+    let is = is_pointer c.args.typ.now c.in-Pointer.of v c.deref-in-None.ensures c.in-Pointer.is in
+    let p = target_known c.deref-in-Pointer.result.now v (c.deref-in-Pointer.ensures ∙ sym c.deref-in-None.ensures) c.in-Ok-target_in.is c.in-Known-asked.is c.in-None.is c.target_in.ensures.target in
+    form_made c.args.typ.now (pointer_type (type_view v)) is
+    (pointer_unmade c.args.typ.now.at (type_view v) (form_making c.args.typ.now (pointer_type (type_view v)) is c.requires.making) p c.in-Err-type_in-2.is c.type_in-in-None.ensures)
+
+pub type_in-pointer_row-requires-in-None-clause-making : goal.type_in-pointer_row-requires-in-None-clause-making
+type_in-pointer_row-requires-in-None-clause-making g t c =
+    let v = c.deref-in-None.result.now in
+    let is = is_pointer c.args.typ.now c.in-Pointer.of v c.deref-in-None.ensures c.in-Pointer.is in
+    let p = target_known c.deref-in-Pointer.result.now v (c.deref-in-Pointer.ensures ∙ sym c.deref-in-None.ensures) c.in-Ok-target_in.is c.in-Known-asked.is c.in-None.is c.target_in.ensures.target in
+    let making = target_making c.args.typ.now.at (type_view v) (form_making c.args.typ.now (pointer_type (type_view v)) is c.requires.making) p in
+    making_on (type_no_types (type_view v)) making (first_made c.in-Ok-type_in-2.is c.in-Known-asked-2.is c.type_in-in-None.ensures)
+
+pub type_in-returns-in-Known-asked-2 : goal.type_in-returns-in-Known-asked-2
+type_in-returns-in-Known-asked-2 g t c =
+    let v = c.deref-in-None.result.now in
+    let is = is_pointer c.args.typ.now c.in-Pointer.of v c.deref-in-None.ensures c.in-Pointer.is in
+    let p = target_known c.deref-in-Pointer.result.now v (c.deref-in-Pointer.ensures ∙ sym c.deref-in-None.ensures) c.in-Ok-target_in.is c.in-Known-asked.is c.in-None.is c.target_in.ensures.target in
+    form_made c.args.typ.now (pointer_type (type_view v)) is
+    (pointer_made c.args.typ.now.at (type_view v) c.pointer_row-in-None.result (form_making c.args.typ.now (pointer_type (type_view v)) is c.requires.making) p
+    (first_made c.in-Ok-type_in-2.is c.in-Known-asked-2.is c.type_in-in-None.ensures) c.pointer_row-in-None.ensures)
 
 -- ** Arrays
 
