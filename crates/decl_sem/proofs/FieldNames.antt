@@ -1,12 +1,12 @@
 -- A field, and whether it is the second of its name.
 use Rattle.std.specs.List.{list_any}
-use Rattle.std.specs.Prelude.{◌≡◌, ℕ, ◌+◌, ◌<◌, ◌≤◌, ◌==◌, ◌^◌, ◌&&◌, ◌||◌, Bool, true, false, if◌then◌else◌, List, [], ◌∷◌, ◌++◌, length, Result, Ok, Err}
+use Rattle.std.specs.Prelude.{◌≡◌, ℕ, ◌<◌, ◌≤◌, ◌==◌, ◌&&◌, ◌||◌, Bool, true, false, if◌then◌else◌, List, [], ◌∷◌, ◌++◌, length, Result, Ok, Err}
 use Rattle.std.proofs.Common.{refl, sym, ap, ◌∙◌, subst, arith}
 use Rattle.std.proofs.lemmas.List.{append-nil}
 use Rattle.std.proofs.lemmas.List.Folds.{list_any-append}
 use Rattle.m2_base.specs.Gives.{Gives}
 use Rattle.m2_base.specs.Lists.{Each, IsPrefixOf}
-use Rattle.m2_base.specs.Rows.{HasSmallNumbers, at_place, field_kind, row_meaning}
+use Rattle.m2_base.specs.Rows.{field_kind, row_meaning}
 use Rattle.m2_base.specs.States.{Frame, State}
 use Rattle.m2_base.specs.Statics.Contexts.{Context, diag}
 use Rattle.m2_base.specs.Statics.Diagnostics.{declared_twice}
@@ -27,12 +27,11 @@ use Rattle.m2_base.specs.declared.rows.RowMeaning.TheVariants.{Field}
 use Rattle.m2_base.specs.declared.sites.Site.{Site}
 use Rattle.m2_base.specs.declared.trees.Ident.{Ident}
 use Rattle.m2_base.proofs.Kept.{Works-notes}
-use Rattle.m2_base.proofs.RowLaws.{HasSmallNumbers-fits}
 use Rattle.type_rules.specs.Sites.{context_of}
 use Rattle.decl_sem.specs.FieldNotes.{refused_if, second_refused}
 use Rattle.decl_sem.specs.LaidRows.{none_laid}
 use Rattle.decl_sem.specs.Making.{MakesAll, diag_in, next_ordinal}
-use Rattle.decl_sem.specs.Pieces.{AreNewRows, Declares, IsAny, IsBehind, IsMaking, IsNewMeaning, IsOwned, WhereMaking, item_end}
+use Rattle.decl_sem.specs.Pieces.{Declares, IsAny, IsBehind, IsMaking, IsNewMeaning, IsOwned, WhereMaking, item_end}
 use Rattle.decl_sem.specs.declared.making.Made.{Made}
 use Rattle.decl_sem.proofs.Hands.{hand_none, own_are}
 use Rattle.decl_sem.proofs.OneRows.{before_next, small_scope}
@@ -58,18 +57,6 @@ own_fields {f} {s} {x} own name le making hand in_hand told same =
     ap (λ (rows : List Row). list_any (is_field own name) rows) (own_are {f = f} {s = s} hand making.suits told ∙ ap (λ (rows : List Row). f.entered ++ rows) same)
     ∙ list_any-append (is_field own name) f.entered x.rows.items
     ∙ ap (λ (b : Bool). b || list_any (is_field own name) x.rows.items) (none_before x.first own name le f.entered making.entered)
-
--- the numbers of the rows in hand
-small_rows : (f : Frame) (limit o : ℕ) (rows : List Row) → length f.setting.texts.names ≤ 2 ^ 32 → f.setting.fills < 2 ^ 31 → o + length rows ≤ 2 ^ 32 → AreNewRows f limit o rows → Each (λ r. HasSmallNumbers (row_meaning r)) rows
-small_rows f limit o [] names scope few h = tt
-small_rows f limit o (r ∷ rows) names scope few h = (
-  HasSmallNumbers-fits (length f.setting.texts.names) (at_place f.setting.fills o) (row_meaning r) names (omega (arith, scope)) (omega (arith, few)) h.0.right.formed.fits,
-  small_rows f limit (o + 1) rows names scope (omega (arith, few)) h.1,
-)
-
-pub small_in_hand : {f : Frame} {s : Site} {x : Made} {ss : List Shape} → IsMaking f s x ss → Each (λ r. HasSmallNumbers (row_meaning r)) x.rows.items
-small_in_hand {f} {s} {x} making =
-    small_rows f (item_end s) x.first x.rows.items making.suits.around.names making.small (let a = making.room in let b = making.few in omega arith) making.rows
 
 -- ** The second of a name
 

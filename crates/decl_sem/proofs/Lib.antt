@@ -20,6 +20,7 @@ pub mod ItemBeginnings
 pub mod ItemEffects
 pub mod ItemShapes
 pub mod CoveringLabels
+pub mod MadeFields
 pub mod MakingOn
 pub mod ManyItems
 pub mod Namings

@@ -2,8 +2,6 @@
 use Rattle.std.specs.Prelude.{◌≡◌, ◌≢◌, ℕ, suc, ◌+◌, ◌==◌, Bool, true, false, if◌then◌else◌, List, [], ◌∷◌, ◌++◌, length, Result, Ok, Err}
 use Rattle.std.proofs.Common.{refl, sym, ap, ◌∙◌, subst, arith}
 use Rattle.std.proofs.lemmas.List.{append_assoc, append-nil, length-append}
-use Rattle.std.specs.declared.alloc.Global.{Global}
-use Rattle.std.specs.declared.vec.Vec.{Vec}
 use Rattle.m2_base.specs.Asks.{IfKnown, IfWaits}
 use Rattle.m2_base.specs.Gives.{Gives}
 use Rattle.m2_base.specs.Lists.{Each}
@@ -27,6 +25,7 @@ use Rattle.type_rules.specs.Scenes.{AreInHand, Hand, NamesNoType}
 use Rattle.type_rules.specs.Sites.{context_of}
 use Rattle.const_eval.specs.Analyses.{Analysed}
 use Rattle.decl_sem.specs.LaidRows.{AreLaid, HasFirsts, IsAhead, none_laid, more_laid}
+use Rattle.decl_sem.specs.MadeRows.{RowsInHand}
 use Rattle.decl_sem.specs.Making.{MakesAll, next_ordinal}
 use Rattle.decl_sem.specs.Pieces.{AreNewRows, BeginsAt, Declares, Grown, IsMaking, holding, IsOwned, WhereMaking, item_end}
 use Rattle.decl_sem.specs.declared.making.Made.{Made}
@@ -293,8 +292,8 @@ analysed {T} {a} {b} {x} {y} {s} answer {P} {Q} {g} making rows first stands p =
       works = p.works;
       waits = p.waits;
       first = first;
-      grown = if_any answer (record { rows = []; more = ap (λ (v : Vec Row Global). v.items) rows ∙ sym (append-nil x.rows.items); laid = none_laid; new = tt });
-      told = λ hand in_hand t same. if_known _ _ answer (λ v m. record { value_is = m.value_is; rows = ap (λ (v : Vec Row Global). v.items) rows ∙ sym (append-nil x.rows.items); diags = m.diags; answers = m.answers })
+      grown = if_any answer (record { rows = []; more = ap (λ (v : RowsInHand). v.items) rows ∙ sym (append-nil x.rows.items); laid = none_laid; new = tt });
+      told = λ hand in_hand t same. if_known _ _ answer (λ v m. record { value_is = m.value_is; rows = ap (λ (v : RowsInHand). v.items) rows ∙ sym (append-nil x.rows.items); diags = m.diags; answers = m.answers })
           (p.told hand in_hand t (of_this_site making hand same));
       there = if_known _ _ answer stands p.there;
     }

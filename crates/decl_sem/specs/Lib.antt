@@ -9,6 +9,7 @@ pub mod ImportedModules
 pub mod Items
 pub mod Labels
 pub mod LaidRows
+pub mod MadeRows
 pub mod Making
 pub mod Pieces
 pub mod Progress

@@ -9,6 +9,7 @@ ghost use Rattle.decl_sem.specs.Items.{IsAtItem, item_view};
 
 use crate::effects::Effect;
 use crate::items::{Before, Item, item_rows};
+use crate::made_rows::MadeRows;
 use crate::making::Made;
 use m2_base::{Ask, Memory, Notes, Row, Scopes, Site, Stream};
 use std::alloc::Global;
@@ -44,14 +45,14 @@ pub fn declare<S: Scopes>(
     let Some(first) = first_ordinal(site) else {
         return Err(Memory);
     };
-    let rows = Vec::new(alloc);
+    let rows = MadeRows::new(alloc);
     let notes = Notes::new(alloc);
     let mut made = Made { first, rows, notes };
     match item_rows(alloc, scopes, site, stream.kind, item, before, &mut made) {
         Ok(Ask::Known(effect)) => {
             let Made { rows, notes, .. } = made;
             let declared = Declared {
-                rows,
+                rows: rows.into_list(),
                 notes,
                 effect,
             };

@@ -1,9 +1,8 @@
 //! The fields of a record, and the tag of a variant part.
-ghost use Rattle.std.specs.List.{list_any};
 ghost use Rattle.std.specs.Prelude.{◌≡◌, ◌∷◌, ◌++◌, [], ◌+◌, ◌<◌, ◌≤◌, ◌^◌, if◌then◌else◌, map, IfOk};
 ghost use Rattle.m2_base.specs.Gives.{gives};
-ghost use Rattle.m2_base.specs.Lists.{Each, IsPrefixOf};
-ghost use Rattle.m2_base.specs.Rows.{HasSmallNumbers, field_kind, row_meaning};
+ghost use Rattle.m2_base.specs.Lists.{IsPrefixOf};
+ghost use Rattle.m2_base.specs.Rows.{field_kind};
 ghost use Rattle.m2_base.specs.Standard.{broken};
 ghost use Rattle.m2_base.specs.States.{State};
 ghost use Rattle.m2_base.specs.Statics.Contexts.{refuse as refuses};
@@ -13,7 +12,6 @@ ghost use Rattle.m2_base.specs.Statics.Makes.{only_gives};
 ghost use Rattle.m2_base.specs.Statics.ReadTrees.{AreReadNames, IsReadName, IsReadOption, IsReadQual};
 ghost use Rattle.m2_base.specs.Statics.Shapes.{nameless, tag_shapes};
 ghost use Rattle.m2_base.specs.Statics.TypeNames.{type_of_qual as spec_type_of};
-ghost use Rattle.m2_base.specs.Statics.TypeParts.{is_field as spec_is_field};
 ghost use Rattle.decl_sem.specs.FieldNotes.{sized_fields};
 ghost use Rattle.decl_sem.specs.Making.{diag_in, next_ordinal};
 ghost use Rattle.decl_sem.specs.Pieces.{Declares, IsBehind, IsMaking, item_end, known_of};
@@ -27,7 +25,7 @@ use crate::putting::plain_row;
 use crate::sets::range_by;
 use crate::standing::stand_in;
 use crate::variables::cells_of;
-use m2_base::{Ask, Ident, Memory, Notes, Place, Qual, Row, RowMeaning, Scopes, Site, read_row};
+use m2_base::{Ask, Ident, Memory, Notes, Place, Qual, RowMeaning, Scopes, Site};
 use type_rules::BROKEN;
 
 /// The code of a field whose name the record has already.
@@ -35,30 +33,6 @@ const DECLARED_TWICE: u8 = 42;
 
 /// The code of a tag whose type isn't ordinal.
 const WRONG_OPERANDS: u8 = 49;
-
-/// Whether a row is a field of this name, of the record whose row has this ordinal.
-fn is_field(row: &Row, own: u32, name: u32) -> bool
-    requires { HasSmallNumbers (row_meaning row.now) }
-    ensures { result ≡ spec_is_field own name row.now }
-{
-    match read_row(row) {
-        RowMeaning::Field(_, _, record, field) => record == own && field == name,
-        _ => false,
-    }
-}
-
-/// Whether one of the rows is such a field.
-fn has_field(rows: &[Row], own: u32, name: u32) -> bool
-    requires { Each (λ r. HasSmallNumbers (row_meaning r)) rows.now }
-    ensures { result ≡ list_any (spec_is_field own name) rows.now }
-{
-    for row in rows {
-        if is_field(row, own, name) {
-            return true;
-        }
-    }
-    false
-}
 
 /// Notes a second field of a name.
 fn note_second(site: &Site, at: u32, second: bool, notes: &mut Notes) -> Result<(), Memory>
@@ -90,7 +64,7 @@ fn put_field<S: Scopes>(
     requires offset { offset ≤ 16777216 }
     ensures { Declares (S.state scopes.now) (S.state scopes.now) made.old made.new site.now (known_of result) (nameless field_kind name.at ∷ []) IsBehind (λ c. field_row c own name of offset) }
 {
-    let second = has_field(&made.rows, own, name.name);
+    let second = made.rows.has_field(own, name.name);
     put!(note_second(site, name.at, second, &mut made.notes));
     let meaning = RowMeaning::Field(of, offset, own, name.name);
     plain_row(scopes, site, made, name.at, meaning)

@@ -67,6 +67,7 @@ mod items;
 mod kinds;
 mod labels;
 mod layouts;
+mod made_rows;
 mod making;
 mod meanings;
 mod names;

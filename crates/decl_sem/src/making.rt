@@ -1,5 +1,5 @@
 //! The rows of the item in hand, one after another.
-ghost use Rattle.std.specs.Prelude.{◌≡◌, ◌≢◌, ◌∷◌, ◌++◌, [], ◌+◌, ◌<◌, ◌^◌, length, IfOk, OnErr};
+ghost use Rattle.std.specs.Prelude.{◌≡◌, ◌≢◌, ℕ, ◌∷◌, ◌++◌, [], ◌+◌, ◌<◌, ◌^◌, length, IfOk, OnErr};
 ghost use Rattle.m2_base.specs.Lists.{IsPrefixOf};
 ghost use Rattle.m2_base.specs.Rows.{at_place, row_of, HasSmallScopes};
 ghost use Rattle.m2_base.specs.Standard.{is_standard as spec_is_standard};
@@ -7,11 +7,14 @@ ghost use Rattle.m2_base.specs.Statics.Contexts.{Context};
 ghost use Rattle.m2_base.specs.Statics.Lookup.{first_entry};
 ghost use Rattle.m2_base.specs.Statics.Makes.{makes_named as spec_named, makes_row as spec_row};
 ghost use Rattle.m2_base.specs.Statics.Shapes.{nameless, named};
+ghost use Rattle.m2_base.specs.Statics.TypeParts.{is_field};
 ghost use Rattle.m2_base.specs.States.{State};
+ghost use Rattle.decl_sem.specs.MadeRows.{is_key};
 ghost use Rattle.decl_sem.specs.Pieces.{Declares, IsBehind, IsMaking, IsNewMeaning, kind_number, known_of};
 ghost use Rattle.decl_sem.specs.LaidRows.{is_of, kept_name as spec_kept_name};
 ghost use Rattle.decl_sem.specs.Making.{IsInHand, IsNext, MakesAll, name_refusals, next_ordinal};
 
+use crate::made_rows::{FieldKey, MadeRows, field_key};
 use m2_base::{Diag, Ident, Layout, Memory, Notes, Place, Row, RowMeaning, Site, write_row};
 
 /// The codes of a name that the block declares twice, and of a standard name that is declared.
@@ -24,7 +27,7 @@ const STANDARD_DECLARED: u8 = 43;
 pub(crate) struct Made {
     /// The ordinal of its first row.
     pub(crate) first: u32,
-    pub(crate) rows: Vec<Row>,
+    pub(crate) rows: MadeRows,
     pub(crate) notes: Notes,
 }
 
@@ -79,9 +82,15 @@ fn kept_name(
     Ok(0)
 }
 
-/// One more row, whose place is the value.
-fn put_row(site: &Site, made: &mut Made, row: Row) -> Result<Place, Memory>
-    requires { next_ordinal made.old < 2 ^ 32 }
+/// One more row, with its key if it is a field. Its place is the value.
+fn put_row(
+    site: &Site,
+    made: &mut Made,
+    row: Row,
+    field: Option<FieldKey>,
+) -> Result<Place, Memory>
+    requires room { next_ordinal made.old < 2 ^ 32 }
+    requires field { (own name : ℕ) → is_field own name row ≡ is_key own name field }
     ensures place { IfOk result (λ place. place ≡ at_place site.now.around.now.scope (next_ordinal made.old)) }
     ensures rows { IfOk result (λ place. made.new.rows.items ≡ made.old.rows.items ++ row ∷ []) }
     ensures notes { made.new.notes ≡ made.old.notes }
@@ -89,7 +98,7 @@ fn put_row(site: &Site, made: &mut Made, row: Row) -> Result<Place, Memory>
     ensures unchanged { OnErr result (made.new.rows.items ≡ made.old.rows.items) }
 {
     let ordinal = made.first + made.rows.len() as u32;
-    made.rows.push(row)?;
+    made.rows.push(row, field)?;
     let scope = site.around.scope;
     Ok(Place { scope, ordinal })
 }
@@ -109,7 +118,8 @@ pub(crate) fn make_row(
     ensures notes { made.new.notes ≡ made.old.notes }
     ensures first { made.new.first ≡ made.old.first }
 {
-    put_row(site, made, write_row(0, at, meaning))
+    let field = field_key(meaning);
+    put_row(site, made, write_row(0, at, meaning), field)
 }
 
 /// A row with a name. One that declares a standard name, and the second of a name in its scope, is nameless and refused.
@@ -132,7 +142,8 @@ pub(crate) fn make_named(
 {
     let ordinal = made.first + made.rows.len() as u32;
     let kept = kept_name(site, ordinal, name, at, &mut made.notes)?;
-    put_row(site, made, write_row(kept, at, meaning))
+    let field = field_key(meaning);
+    put_row(site, made, write_row(kept, at, meaning), field)
 }
 
 /// A row without a name, as a piece of the item.

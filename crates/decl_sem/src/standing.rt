@@ -27,7 +27,8 @@ fn held_meaning(made: &Made, of: Place) -> RowMeaning
     requires small { HasSmallNumbers (spec_meaning made.now of) }
     ensures { result ≡ spec_meaning made.now of }
 {
-    read_row(&made.rows[(of.ordinal - made.first) as usize])
+    let rows = made.rows.list();
+    read_row(&rows[(of.ordinal - made.first) as usize])
 }
 
 /// What a type stands for, and what its row says.

@@ -33,7 +33,8 @@ fn row_in_hand(site: &Site, made: &Made, of: Place) -> Option<Row>
     if of.scope != site.around.scope || of.ordinal < made.first {
         return None;
     }
-    made.rows.get((of.ordinal - made.first) as usize).copied()
+    let rows = made.rows.list();
+    rows.get((of.ordinal - made.first) as usize).copied()
 }
 
 /// The cells of a type by its row.

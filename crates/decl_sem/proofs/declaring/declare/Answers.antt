@@ -10,7 +10,7 @@ use Rattle.decl_sem.proofs.declaring.declare.Goals as goal
 pub item_rows-requires-clause-making : goal.item_rows-requires-clause-making
 item_rows-requires-clause-making g c =
     let made : Made = record { first = c.in-Some.first; rows = c.new-rows.result; notes = c.new-notes.result } in
-    making_begins c.requires made c.in-Some.ensures c.new-rows.ensures.items
+    making_begins c.requires made c.in-Some.ensures c.new-rows.ensures
 
 pub returns-in_default : goal.returns-in_default
 returns-in_default g c =
@@ -20,9 +20,9 @@ returns-in_default g c =
 pub returns-in-Ok-Known : goal.returns-in-Ok-Known
 returns-in-Ok-Known g c =
     let made : Made = record { first = c.in-Some.first; rows = c.new-rows.result; notes = c.new-notes.result } in
-    let making = making_begins c.requires made c.in-Some.ensures c.new-rows.ensures.items in
-    let declared : Declared = record { rows = c.item_rows.new.made.rows; notes = c.item_rows.new.made.notes; effect = c.in-Ok-Known.effect } in
-    declares_all declared c.in-Ok-Known.effect c.new-rows.ensures.items c.new-notes.ensures.diags c.new-notes.ensures.answers making.count refl refl refl refl
+    let making = making_begins c.requires made c.in-Some.ensures c.new-rows.ensures in
+    let declared : Declared = record { rows = c.into_list.result; notes = c.item_rows.new.made.notes; effect = c.in-Ok-Known.effect } in
+    declares_all declared c.in-Ok-Known.effect c.new-rows.ensures c.new-notes.ensures.diags c.new-notes.ensures.answers making.count c.into_list.ensures refl refl refl
     (rw c.in-Ok-Known.field-0-is at c.in-Ok-Known.ensures)
 
 pub returns-in-Ok-DontKnowYet : goal.returns-in-Ok-DontKnowYet
