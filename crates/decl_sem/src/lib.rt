@@ -80,4 +80,7 @@ mod types;
 mod variables;
 
 pub use closing::close_check;
+pub use declaring::{Declared, declare};
+pub use effects::{Effect, ParamCopy};
+pub use items::{Before, Item};
 pub use layouts::layout;
