@@ -22,9 +22,9 @@ abbrev pub bound_to : Ident → Option (Place × Row) → Gives (Option Row)
 bound_to ident None = record { value = None; diags = diag_at ident.at unknown_name ∷ []; answers = [] }
 bound_to ident (Some hit) = record { value = Some hit.1; diags = []; answers = answer_of ident hit.0 hit.1 ∷ [] }
 
--- the scopes in which a name of the module's statements is looked up: its own, and the standard one
+-- the scopes in which a name of the module's statements is looked up: its own
 abbrev pub own_chain : List ℕ
-own_chain = 1 ∷ 0 ∷ []
+own_chain = 1 ∷ []
 
 abbrev pub use_of : List (List Row) → (chain : List ℕ) → Ident → Gives (Option Row)
 use_of finished chain ident = bound_to ident (lookup finished chain ident.name)
