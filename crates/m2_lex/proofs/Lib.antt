@@ -5,4 +5,5 @@ mod LongestNumerals
 mod LongestRuns
 mod LongestStrings
 mod LongestSymbols
+pub mod ReadTokens
 pub mod TextUnit

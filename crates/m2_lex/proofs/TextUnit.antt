@@ -1,5 +1,5 @@
 -- The tokens of a text make up a unit.
-use Rattle.std.proofs.Common.{◌≡◌, ℕ, ◌+◌, ◌<◌, ◌≤◌, ◌^◌, Bool, true, false, nat_le, cond, min, List, [], ◌∷◌, Option, Some, None, map, length, get_or, refl, sym, ◌∙◌, ap, subst, arith, if◌then◌else◌, length-append, suc, lit≤}
+use Rattle.std.proofs.Common.{◌≡◌, ℕ, ◌+◌, ◌<◌, ◌≤◌, ◌^◌, Bool, true, false, nat_le, cond, min, List, [], ◌∷◌, Option, Some, None, length, get_or, refl, sym, ◌∙◌, ap, subst, arith, if◌then◌else◌, length-append, suc, lit≤}
 use Rattle.std.specs.Prelude.{option_map, find, IsTrue, codes, is_some}
 use Rattle.std.specs.List.{AllZip, list_all, take_while, prefix_len}
 use Rattle.std.specs.Str.{bytes_eq}

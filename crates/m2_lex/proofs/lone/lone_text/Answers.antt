@@ -1,7 +1,7 @@
-use Rattle.std.proofs.Common.{◌≡◌, ◌<◌, ◌≤◌, ◌^◌, [], ◌∷◌, List, Some, None, false, ap, subst, sym, ◌∙◌, arith, length, vec_len}
+use Rattle.std.proofs.Common.{◌≡◌, ◌<◌, ◌≤◌, ◌^◌, [], ◌∷◌, List, Some, None, false, ap, subst, sym, ◌∙◌, arith, length}
 use Rattle.m2_base.specs.Names.{number_in, standard_names, with_name}
 use Rattle.m2_base.specs.Tokens.{AreTokens}
-use Rattle.m2_base.specs.Units.{IsUnit, TextOf, UnitTexts, unit_of}
+use Rattle.m2_base.specs.Units.{IsUnit, TextOf, unit_of}
 use Rattle.m2_lex.specs.LoneTexts.{IsLoneText}
 use Rattle.m2_lex.proofs.TextUnit.{few_with, is_lone, lone_unit, standard_few}
 use Rattle.m2_lex.proofs.lone.lone_text.Goals as goal
