@@ -1,9 +1,9 @@
 -- The bodies that are compiled so far: of empty statements alone; or, in a plain text whose declarations are INTEGER variables,
 -- of assignments of numbers, variables, and what one operator makes of two of them.
-use Rattle.std.specs.Prelude.{ℕ, Bool, true, false, nat_le, is_none, not, ◌==◌, ◌&&◌, ◌||◌, if◌then◌else◌, List, [], ◌∷◌, Option, Some, None, option_map}
+use Rattle.std.specs.Prelude.{ℕ, Bool, true, false, nat_le, is_none, not, ◌==◌, ◌&&◌, if◌then◌else◌, List, [], ◌∷◌, Option, Some, None, option_map}
 use Rattle.std.specs.List.{list_all}
 use Rattle.m2_base.specs.Standard.{is_standard}
-use Rattle.m2_base.specs.Trees.{Decl, Expr, ExprForm, Import, Qual, Statements, StmtForm, Stream, TypeExpr, assign_form, designator, empty_form, expr, many_form, more_nexts, more_statements, named_type, name_form, next, no_nexts, no_selectors, no_statements, number_form, proc_decl, statement, type_expr, vars_decl}
+use Rattle.m2_base.specs.Trees.{Decl, Designator, Expr, ExprForm, Import, Nexts, Qual, Statement as TreeStatement, Statements, StmtForm, Stream, TypeExpr, TypeForm, assign_form, designator, empty_form, expr, many_form, more_nexts, more_selectors, more_statements, named_type, name_form, next, no_nexts, no_selectors, no_statements, number_form, proc_decl, statement, type_expr, vars_decl}
 use Rattle.m2_base.specs.declared.trees.Ident.{Ident}
 use Rattle.m2_base.specs.declared.trees.operators.Operator.{Operator as TreeOperator}
 use Rattle.m2_base.specs.declared.trees.operators.Operator.TheVariants as operators
@@ -23,19 +23,28 @@ use Rattle.m2c_top.specs.declared.plain.tree.Value.TheVariants.{Single, Pair}
 abbrev pub is_own_name : Ident → Bool
 is_own_name i = not (i.name == 0) && not (is_standard i.name)
 
+-- the name of a designator that has no selector
+abbrev pub lone_name : Designator → Option Ident
+lone_name (designator i no_selectors) = Some i
+lone_name (designator i (more_selectors s ss)) = None
+
 -- a variable, by its name
-abbrev pub variable_of : Ident → Option Operand
-variable_of i = if is_own_name i then Some (Variable i) else None
+abbrev pub variable_of : Option Ident → Option Operand
+variable_of None = None
+variable_of (Some i) = if is_own_name i then Some (Variable i) else None
 
 -- a number that an INTEGER can have
 abbrev pub literal_of : ℕ → Option Operand
 literal_of n = if nat_le n 2147483647 then Some (Literal n) else None
 
 -- a number or a variable
-abbrev pub operand_of : ExprForm → Option Operand
-operand_of (number_form n) = literal_of n
-operand_of (name_form (designator i no_selectors)) = variable_of i
-operand_of other = None
+abbrev pub form_operand : ExprForm → Option Operand
+form_operand (number_form n) = literal_of n
+form_operand (name_form d) = variable_of (lone_name d)
+form_operand other = None
+
+abbrev pub operand_of : Expr → Option Operand
+operand_of (expr at form) = form_operand form
 
 -- the operators of INTEGER that are compiled
 abbrev pub operator_of : TreeOperator → Option Operator
@@ -50,22 +59,32 @@ pair_of (Some (Literal n)) op (Some (Literal k)) = None
 pair_of (Some x) (Some op) (Some y) = Some (Pair x op y)
 pair_of x op y = None
 
+-- an operand with one operator behind it
+abbrev pub pair_with : Expr → Nexts → Option Value
+pair_with left (more_nexts (next op op_at right) no_nexts) = pair_of (operand_of left) (operator_of op) (operand_of right)
+pair_with left other = None
+
 -- an operand, or two with an operator between them
+abbrev pub form_value : ExprForm → Option Value
+form_value (many_form left rest) = pair_with left rest
+form_value form = option_map Single (form_operand form)
+
 abbrev pub value_of : Expr → Option Value
-value_of (expr at (many_form (expr left_at left) (more_nexts (next op op_at (expr right_at right)) no_nexts))) =
-    pair_of (operand_of left) (operator_of op) (operand_of right)
-value_of (expr at form) = option_map Single (operand_of form)
+value_of (expr at form) = form_value form
 
 -- an assignment to a variable
-abbrev pub assigned : Ident → Option Value → Option Statement
-assigned to None = None
-assigned to (Some value) = if is_own_name to then Some (Assign to value) else None
+abbrev pub assigned : Option Ident → Option Value → Option Statement
+assigned (Some to) (Some value) = if is_own_name to then Some (Assign to value) else None
+assigned to value = None
 
 -- a statement that is compiled
-abbrev pub statement_of : StmtForm → Option Statement
-statement_of empty_form = Some Empty
-statement_of (assign_form (designator to no_selectors) value) = assigned to (value_of value)
-statement_of other = None
+abbrev pub form_statement : StmtForm → Option Statement
+form_statement empty_form = Some Empty
+form_statement (assign_form to value) = assigned (lone_name to) (value_of value)
+form_statement other = None
+
+abbrev pub statement_of : TreeStatement → Option Statement
+statement_of (statement at form) = form_statement form
 
 -- a statement and those after it
 abbrev pub joined : Option Statement → Option (List Statement) → Option (List Statement)
@@ -75,18 +94,21 @@ joined s ss = None
 -- statements that are all compiled
 abbrev pub statements_of : Statements → Option (List Statement)
 statements_of no_statements = Some []
-statements_of (more_statements (statement at form) rest) = joined (statement_of form) (statements_of rest)
+statements_of (more_statements s ss) = joined (statement_of s) (statements_of ss)
 
 -- ** Bodies
 
-abbrev pub is_empty : StmtForm → Bool
-is_empty empty_form = true
-is_empty other = false
+abbrev pub is_empty_form : StmtForm → Bool
+is_empty_form empty_form = true
+is_empty_form other = false
+
+abbrev pub is_empty : TreeStatement → Bool
+is_empty (statement at form) = is_empty_form form
 
 -- all statements are empty
 abbrev pub are_empty : Statements → Bool
 are_empty no_statements = true
-are_empty (more_statements (statement at form) rest) = is_empty form && are_empty rest
+are_empty (more_statements s ss) = is_empty s && are_empty ss
 
 -- the number of the name INTEGER
 abbrev pub integer_name : ℕ
@@ -96,9 +118,16 @@ integer_name = 1
 abbrev pub names_integer : Qual → Bool
 names_integer q = q.first.name == integer_name && is_none q.second
 
+abbrev pub is_integer_form : TypeForm → Bool
+is_integer_form (named_type q) = names_integer q
+is_integer_form other = false
+
+abbrev pub is_integer : TypeExpr → Bool
+is_integer (type_expr at form) = is_integer_form form
+
 -- variables of type INTEGER
 abbrev pub are_integers : Decl → Bool
-are_integers (vars_decl names (type_expr at (named_type q))) = names_integer q
+are_integers (vars_decl names type) = is_integer type
 are_integers other = false
 
 -- a procedure, whose block is another stream

@@ -1,5 +1,5 @@
 -- The module that the program holds: a unit of one text, the tree that its tokens spell, and what its statements do.
-use Rattle.std.specs.Prelude.{◌≡◌, ℕ, true, false, List, []}
+use Rattle.std.specs.Prelude.{◌≡◌, ◌≤◌, ℕ, true, false, List, [], ◌∷◌, length}
 use Rattle.m2_base.specs.Grammar.{grammar, levels, stream}
 use Rattle.ll_grammar.specs.Texts.{Spells}
 use Rattle.m2_base.specs.Lists.{Each}
@@ -33,4 +33,5 @@ pub record IsHeld (m : HeldModule) : Type 0 where
   pub built : has_unbuilt (main_tokens m.texts.list) ≡ false
   pub spelled : Spells grammar levels (stream Main) (stream_of Main) (stream_view m.tree) (main_tokens m.texts.list)
   pub lone : stands_alone (stream_view m.tree) ≡ true
+  pub few : length m.body.items ≤ 1048577
   pub uses : Each IsName (body_uses m.body.items)
