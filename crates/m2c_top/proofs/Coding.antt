@@ -37,7 +37,7 @@ writes_then us f code a b old mid new p e tables rest is =
 
 -- ** The statements so far
 
-abbrev pub code_of : List ℕ → List Statement → List ℕ
+abbrev pub code_of : List (List Row) → List Statement → List ℕ
 code_of tables body = flat_map (λ statement. statement_code tables statement) body
 
 -- the code of the first statements is written, and the cells of the others are left

@@ -3,8 +3,9 @@
 use Rattle.std.specs.Prelude.{ℕ, Bool, true, false, nat_le, is_none, not, ◌==◌, ◌&&◌, if◌then◌else◌, List, [], ◌∷◌, Option, Some, None, option_map}
 use Rattle.std.specs.List.{list_all}
 use Rattle.m2_base.specs.Standard.{is_standard}
-use Rattle.m2_base.specs.Trees.{Decl, Designator, Expr, ExprForm, Import, Nexts, Qual, Statement as TreeStatement, Statements, StmtForm, Stream, TypeExpr, TypeForm, assign_form, designator, empty_form, expr, many_form, more_nexts, more_selectors, more_statements, named_type, name_form, next, no_nexts, no_selectors, no_statements, number_form, proc_decl, statement, type_expr, vars_decl}
+use Rattle.m2_base.specs.Trees.{Decl, Designator, Expr, ExprForm, Import, Nexts, Statement as TreeStatement, Statements, StmtForm, Stream, TypeExpr, TypeForm, assign_form, designator, empty_form, expr, many_form, more_nexts, more_selectors, more_statements, named_type, name_form, next, no_nexts, no_selectors, no_statements, number_form, proc_decl, statement, type_expr, vars_decl}
 use Rattle.m2_base.specs.declared.trees.Ident.{Ident}
+use Rattle.m2_base.specs.declared.trees.Qual.{Qual}
 use Rattle.m2_base.specs.declared.trees.operators.Operator.{Operator as TreeOperator}
 use Rattle.m2_base.specs.declared.trees.operators.Operator.TheVariants as operators
 use Rattle.m2c_top.specs.Bytes.{are_plain_bytes}

@@ -1,7 +1,7 @@
 -- A module that is compiled: its text, its tree, and what its statements do; and what its declarations make. It is a unit
 -- of one text.
 use Rattle.std.specs.Prelude.{ℕ, List, [], ◌∷◌, None}
-use Rattle.m2_base.specs.Rows.{Row}
+use Rattle.m2_base.specs.declared.rows.Row.{Row}
 use Rattle.m2_base.specs.Standard.{standard_rows}
 use Rattle.m2_base.specs.Statics.BlockRows.{declare_block}
 use Rattle.m2_base.specs.Statics.Blocks.{UnitTrees, main_block}
