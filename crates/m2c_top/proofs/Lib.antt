@@ -9,6 +9,8 @@ mod Fitting
 mod Obeying
 mod OneDecision
 mod OneOutcome
+mod OneOrder
+mod Orders
 mod Outcomes
 mod RefusalTokens
 mod Table

@@ -10,7 +10,7 @@ comes_before d e =
 
 -- of one text, at one token, with one code
 abbrev pub is_same : Diag → Diag → Bool
-is_same d e = d.text == e.text && d.at == e.at && d.code == e.code
+is_same d e = d.text == e.text && (d.at == e.at && d.code == e.code)
 
 -- a diagnostic among those in order, each once
 abbrev pub with_diag : Diag → List Diag → List Diag
