@@ -1,5 +1,6 @@
 pub mod EachKind
 pub mod ExpressionLinks
+pub mod FewRows
 pub mod FrontLaws
 pub mod FrontLemmas
 pub mod LeadingLaws

@@ -1,9 +1,10 @@
 //! The Scopes of one thread.
 ghost use Rattle.std.specs.Prelude.{◌≡◌, ◌<◌, ◌≤◌, ◌^◌, length, slice_get, Some, IfOk};
-ghost use Rattle.m2_base.specs.Lists.{Each};
+ghost use Rattle.m2_base.specs.Lists.{Each, HasNoRepeats};
 ghost use Rattle.m2_base.specs.Scopes.{CanEnter, CanComplete};
-ghost use Rattle.m2_base.specs.States.{IsSound};
+ghost use Rattle.m2_base.specs.States.{IsSound, areas_of, fills_of};
 ghost use Rattle.m2_base.specs.Tables.{one_thread};
+ghost use Rattle.scope_core.specs.Fronts.{ShowsFront};
 ghost use Rattle.scope_core.specs.Heads.{row_at};
 ghost use Rattle.scope_core.specs.PlainScopes.{state_of, filled, closed, moved, started, IsSoundly};
 
@@ -59,6 +60,18 @@ impl<'u> PlainScopes<'u> {
         ensures { self.new ≡ moved self.old scope }
     {
         self.fills = scope;
+    }
+
+    /// The scope that is filled now, and what always holds: what is entered there is the front of its finished rows.
+    pub fn filled(&self) -> u32
+        ensures filled { result ≡ fills_of (state_of self.now) }
+        ensures sound { IsSound (state_of self.now) }
+        ensures front { ShowsFront (state_of self.now) }
+        ensures inside { fills_of (state_of self.now) < length (areas_of (state_of self.now)) }
+        ensures countable { length (state_of self.now).frame.entered < 2 ^ 32 }
+        ensures once { HasNoRepeats (λ r. r.name) (state_of self.now).frame.entered }
+    {
+        self.fills
     }
 
     fn reply(&self, chain: &[u32], name: u32) -> Reply
