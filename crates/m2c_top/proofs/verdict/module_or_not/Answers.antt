@@ -1,0 +1,25 @@
+use Rattle.std.proofs.Common.{◌≡◌, ◌∙◌, ◌<◌, ◌^◌, Some, None, ap, subst, sym, arith, length}
+use Rattle.std.specs.Prelude.{option_map}
+use Rattle.m2_base.specs.Views.{stream_view}
+use Rattle.m2_base.specs.Units.{IsUnit}
+use Rattle.m2_lex.specs.LoneTexts.{one_text}
+use Rattle.m2c_top.specs.Bodies.{body_of}
+use Rattle.m2c_top.specs.Decisions.{Lexed}
+use Rattle.m2c_top.proofs.TextUnit.{number_of, text_held, unit_is}
+use Rattle.m2c_top.proofs.verdict.module_or_not.Goals as goal
+
+pub returns-in_default-clause-decision : goal.returns-in_default-clause-decision
+returns-in_default-clause-decision c = sym c.in_ok-body.ensures.body ∙ ap (option_map (λ b. b.items)) c.in_default.is
+
+pub unit_of-requires : goal.unit_of-requires
+unit_of-requires c =
+    let u : Lexed = record { names = c.args.names; tokens = c.args.tokens.items } in
+    let tree = stream_view c.args.tree in
+    let countable : length u.names < 2 ^ 32 = omega (arith, c.count-countable.ensures) in
+    subst (λ n. IsUnit (one_text u.names n u.tokens)) (sym c.number_of.ensures) (unit_is c.args.text.now u tree c.requires.built.has_tokens c.requires.spelled countable)
+
+pub returns-clause-decision : goal.returns-clause-decision
+returns-clause-decision c = ?
+
+pub returns-clause-held : goal.returns-clause-held
+returns-clause-held c = ?
