@@ -1,6 +1,6 @@
 -- A body has no more statements than its text has tokens, and one.
 use Rattle.std.proofs.Common.{◌≡◌, ℕ, ◌+◌, ◌≤◌, Bool, true, false, List, [], ◌∷◌, ◌++◌, Option, Some, None, length, arith, sym, ap, subst, refl, length-append, if◌then◌else◌, not}
-use Rattle.ll_grammar.specs.Derivations.{Tree, tokens, Derives, of_empty, of_token, of_then, of_left, of_right, of_last, of_more}
+use Rattle.ll_grammar.specs.Derivations.{Tree, both, tokens, Derives, of_empty, of_token, of_then, of_left, of_right, of_last, of_more}
 use Rattle.ll_grammar.specs.Grammar.{many, ◌⨾◌}
 use Rattle.ll_grammar.specs.Texts.{Spells}
 use Rattle.m2_base.specs.Grammar as rules
@@ -22,7 +22,7 @@ count_of (more_statements s ss) = 1 + count_of ss
 
 count_is : (xs : List TreeStatement) → count_of (statements xs) ≡ length xs
 count_is [] = refl
-count_is (x ∷ xs) = ap (λ n. 1 + n) (count_is xs)
+count_is (x ∷ xs) = let r = count_is xs in omega (arith, r)
 
 -- ** Those of a tree
 
@@ -39,7 +39,9 @@ body_few w (of_right of_empty) = omega arith
 
 -- the statements of a main text
 tree_few : {d : Tree Token} → Derives grammar (stream Main) d → count_of (stream_of Main d []).body ≤ length (tokens d) + 1
-tree_few (of_then {d = i} p (of_then {d = m} q (of_then {d = n} r (of_then {d = c} s (of_then {d = is} t (of_then {e = z} (of_then {d = ds} u (of_then {d = b} {e = x} v y)) o)))))) =
+tree_few (of_then {d = i} p (of_then {d = m} q (of_then {d = n} r (of_then {d = c} s (of_then {d = is} t (of_then (of_then {d = ds} u (of_then {d = b} v (of_then {d = e} {e = k} x y))) (of_then {d = o} {e = f} z g))))))) =
+    let x = both e k in
+    let z = both o f in
     let w = tokens x ++ (tokens z ++ []) in
     let few = body_few w v in
     let count = count_is (streams.body_of b w) in

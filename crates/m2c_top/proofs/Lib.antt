@@ -1,4 +1,5 @@
 mod Asking
+mod Bodies
 mod CodeSizes
 mod Coding
 mod Decided

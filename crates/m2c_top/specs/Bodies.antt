@@ -54,10 +54,16 @@ operator_of operators.Minus = Some Minus
 operator_of operators.Times = Some Times
 operator_of other = None
 
+abbrev pub is_literal : Operand → Bool
+is_literal (Literal n) = true
+is_literal (Variable i) = false
+
 -- an operator between two operands, of which not both are numbers
+abbrev pub pair : Operand → Operator → Operand → Option Value
+pair x op y = if is_literal x && is_literal y then None else Some (Pair x op y)
+
 abbrev pub pair_of : Option Operand → Option Operator → Option Operand → Option Value
-pair_of (Some (Literal n)) op (Some (Literal k)) = None
-pair_of (Some x) (Some op) (Some y) = Some (Pair x op y)
+pair_of (Some x) (Some op) (Some y) = pair x op y
 pair_of x op y = None
 
 -- an operand with one operator behind it

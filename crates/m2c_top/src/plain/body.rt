@@ -6,13 +6,13 @@ ghost use Rattle.m2_base.specs.Standard.{is_standard as spec_standard};
 ghost use Rattle.m2_base.specs.Trees.{nexts, statements};
 ghost use Rattle.m2_base.specs.Views.{decl_view, designator_view, expr_view, next_view, statement_view, stream_view, type_view};
 ghost use Rattle.m2c_top.specs.Bindings.{IsName};
-ghost use Rattle.m2c_top.specs.Bodies.{is_integer as spec_is_integer, are_empty as spec_are_empty, are_integers as spec_are_integers, body_of as spec_body, is_empty as spec_is_empty, is_own_name as spec_own_name, is_plain as spec_is_plain, is_procedure as spec_is_procedure, literal_of as spec_literal, lone_name as spec_lone_name, operand_of as spec_operand, operator_of as spec_operator, pair_of as spec_pair, pair_with as spec_pair_with, assigned as spec_assigned, stands_alone as spec_stands_alone, statement_of as spec_statement, statements_of as spec_statements, value_of as spec_value, variable_of as spec_variable};
+ghost use Rattle.m2c_top.specs.Bodies.{is_integer as spec_is_integer, are_empty as spec_are_empty, are_integers as spec_are_integers, body_of as spec_body, is_empty as spec_is_empty, is_own_name as spec_own_name, is_plain as spec_is_plain, is_procedure as spec_is_procedure, literal_of as spec_literal, lone_name as spec_lone_name, names_integer as spec_names_integer, operand_of as spec_operand, operator_of as spec_operator, is_literal as spec_is_literal, pair as spec_pair, pair_of as spec_pair_of, pair_with as spec_pair_with, assigned as spec_assigned, stands_alone as spec_stands_alone, statement_of as spec_statement, statements_of as spec_statements, value_of as spec_value, variable_of as spec_variable};
 ghost use Rattle.m2c_top.specs.Uses.{body_uses, operand_uses, statement_uses, value_uses};
 
 use crate::plain::bytes::has_plain_bytes;
 use crate::plain::tree::{Operand, Operator, Statement, Value};
 use m2_base::{
-    Decl, Designator, Expr, ExprForm, Ident, Memory, Next, Operator as TreeOperator,
+    Decl, Designator, Expr, ExprForm, Ident, Memory, Next, Operator as TreeOperator, Qual,
     Statement as TreeStatement, StmtForm, Stream, TypeExpr, TypeForm,
 };
 use std::alloc::Global;
@@ -52,11 +52,12 @@ pub fn body_of(
 fn stands_alone(tree: &Stream) -> bool
     ensures { result ≡ spec_stands_alone (stream_view tree.now) }
 {
-    tree.imports.is_empty() && has_no_procedure(&tree.decls)
+    let imports = tree.imports.as_slice();
+    imports.is_empty() && has_no_procedure(&tree.decls)
 }
 
 fn has_no_procedure(decls: &[Decl]) -> bool
-    ensures { result ≡ list_all (λ d. not (spec_is_procedure d)) (map decl_view decls.now) }
+    ensures { result ≡ list_all (λ d. not (spec_is_procedure (decl_view d))) decls.now }
 {
     decls.iter().all(|decl| !is_procedure(decl))
 }
@@ -75,7 +76,7 @@ fn is_plain(text: &[u8], tree: &Stream) -> bool
 }
 
 fn all_integers(decls: &[Decl]) -> bool
-    ensures { result ≡ list_all spec_are_integers (map decl_view decls.now) }
+    ensures { result ≡ list_all (λ d. spec_are_integers (decl_view d)) decls.now }
 {
     decls.iter().all(|decl| are_integers(decl))
 }
@@ -86,7 +87,7 @@ fn are_integers(decl: &Decl) -> bool
 {
     match decl {
         Decl::Vars { typ, .. } => is_integer(typ),
-        Decl::Const { .. } | Decl::Types { .. } | Decl::Proc { .. } => false,
+        _ => false,
     }
 }
 
@@ -94,20 +95,21 @@ fn is_integer(typ: &TypeExpr) -> bool
     ensures { result ≡ spec_is_integer (type_view typ.now) }
 {
     match &typ.form {
-        TypeForm::Named(qual) => qual.first.name == INTEGER && qual.second.is_none(),
-        TypeForm::Enum(_)
-        | TypeForm::Sub { .. }
-        | TypeForm::Array { .. }
-        | TypeForm::Rec(_)
-        | TypeForm::Set(_)
-        | TypeForm::Pointer(_)
-        | TypeForm::Proc { .. } => false,
+        TypeForm::Named(qual) => names_integer(*qual),
+        _ => false,
     }
+}
+
+/// Whether this is INTEGER by its name alone.
+fn names_integer(qual: Qual) -> bool
+    ensures { result ≡ spec_names_integer qual }
+{
+    qual.first.name == INTEGER && qual.second.is_none()
 }
 
 /// Whether all statements are empty.
 fn are_empty(body: &[TreeStatement]) -> bool
-    ensures { result ≡ spec_are_empty (statements (map statement_view body.now)) }
+    ensures { result ≡ list_all (λ s. spec_is_empty (statement_view s)) body.now }
 {
     body.iter().all(|statement| is_empty(statement))
 }
@@ -143,16 +145,7 @@ fn statement_of(statement: &TreeStatement) -> Option<Statement>
     match &statement.form {
         StmtForm::Empty => Some(Statement::Empty),
         StmtForm::Assign { to, value } => assigned(lone_name(to), value_of(value)),
-        StmtForm::Call { .. }
-        | StmtForm::If { .. }
-        | StmtForm::Loop(_)
-        | StmtForm::Exit
-        | StmtForm::Case { .. }
-        | StmtForm::While { .. }
-        | StmtForm::Repeat { .. }
-        | StmtForm::For { .. }
-        | StmtForm::With { .. }
-        | StmtForm::Return(_) => None,
+        _ => None,
     }
 }
 
@@ -205,7 +198,6 @@ fn pair_with(left: &Expr, rest: &[Next]) -> Option<Value>
     }
 }
 
-/// An operator between two operands, of which not both are numbers.
 fn pair_of(
     left: Option<Operand>,
     operator: Option<Operator>,
@@ -213,13 +205,35 @@ fn pair_of(
 ) -> Option<Value>
     requires left { IfSome left (λ operand. Each IsName (operand_uses operand)) }
     requires right { IfSome right (λ operand. Each IsName (operand_uses operand)) }
-    ensures value { result ≡ spec_pair left operator right }
+    ensures value { result ≡ spec_pair_of left operator right }
     ensures names { IfSome result (λ value. Each IsName (value_uses value)) }
 {
     match (left, operator, right) {
-        (Some(Operand::Literal(_)), _, Some(Operand::Literal(_))) => None,
-        (Some(left), Some(operator), Some(right)) => Some(Value::Pair(left, operator, right)),
+        (Some(left), Some(operator), Some(right)) => pair(left, operator, right),
         _ => None,
+    }
+}
+
+/// An operator between two operands, of which not both are numbers.
+fn pair(left: Operand, operator: Operator, right: Operand) -> Option<Value>
+    requires left { Each IsName (operand_uses left) }
+    requires right { Each IsName (operand_uses right) }
+    ensures value { result ≡ spec_pair left operator right }
+    ensures names { IfSome result (λ value. Each IsName (value_uses value)) }
+{
+    if is_literal(left) && is_literal(right) {
+        None
+    } else {
+        Some(Value::Pair(left, operator, right))
+    }
+}
+
+fn is_literal(operand: Operand) -> bool
+    ensures { result ≡ spec_is_literal operand }
+{
+    match operand {
+        Operand::Literal(_) => true,
+        Operand::Variable(_) => false,
     }
 }
 
@@ -242,12 +256,7 @@ fn operand_of(expr: &Expr) -> Option<Operand>
     match &expr.form {
         ExprForm::Number(value) => literal_of(*value),
         ExprForm::Name(designator) => variable_of(lone_name(designator)),
-        ExprForm::Char(_)
-        | ExprForm::Str(_)
-        | ExprForm::Set { .. }
-        | ExprForm::Call { .. }
-        | ExprForm::One { .. }
-        | ExprForm::Many { .. } => None,
+        _ => None,
     }
 }
 
@@ -278,7 +287,8 @@ fn variable_of(name: Option<Ident>) -> Option<Operand>
 fn lone_name(designator: &Designator) -> Option<Ident>
     ensures { result ≡ spec_lone_name (designator_view designator.now) }
 {
-    if designator.rest.is_empty() {
+    let selectors = designator.rest.as_slice();
+    if selectors.is_empty() {
         Some(designator.first)
     } else {
         None
