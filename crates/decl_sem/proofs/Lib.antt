@@ -1,4 +1,6 @@
 pub mod Alone
+pub mod ArrayCells
+pub mod ArrayLists
 pub mod Asking
 pub mod Checks
 pub mod ConstantRows

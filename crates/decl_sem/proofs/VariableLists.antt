@@ -145,7 +145,7 @@ types-append : (xs ys : List Row) → Each (λ r. NamesNoType (row_meaning r)) x
 types-append [] ys h k = k
 types-append (x ∷ xs) ys h k = (h.0, types-append xs ys h.1 k)
 
-then_same : {A B : Type 0} (c : Context) (m : Makes A) (f h : Context → A → Makes B) → f (with_rows c m.rows) m.value ≡ h (with_rows c m.rows) m.value → make_then c m f ≡ make_then c m h
+pub then_same : {A B : Type 0} (c : Context) (m : Makes A) (f h : Context → A → Makes B) → f (with_rows c m.rows) m.value ≡ h (with_rows c m.rows) m.value → make_then c m f ≡ make_then c m h
 then_same {A} {B} c m f h e =
     ap (λ (b : Makes B). record { value = b.value; rows = m.rows ++ b.rows; diags = m.diags ++ b.diags; answers = m.answers ++ b.answers }) e
 

@@ -1,3 +1,4 @@
+pub mod ArrayRows
 pub mod Closing
 pub mod DeclaredItems
 pub mod Effects
