@@ -27,11 +27,7 @@ const LAST_STANDARD_NAME: u32 = 26;
 const MAX_INTEGER: u64 = 2_147_483_647;
 
 /// What the statements of a text with this tree do, where they are compiled so far.
-pub fn body_of(
-    alloc: Global,
-    text: &[u8],
-    tree: &Stream,
-) -> Result<Option<Vec<Statement>>, Memory>
+pub fn body_of(alloc: Global, text: &[u8], tree: &Stream) -> Result<Option<Vec<Statement>>, Memory>
     ensures body { IfOk result (λ found. option_map (λ body. body.items) found ≡ spec_body text.now (stream_view tree.now)) }
     ensures names { IfOk result (λ found. IfSome found (λ body. Each IsName (body_uses body.items))) }
 {
@@ -121,10 +117,7 @@ fn is_empty(statement: &TreeStatement) -> bool
 }
 
 /// What statements do, where all of them are compiled.
-fn statements_of(
-    alloc: Global,
-    body: &[TreeStatement],
-) -> Result<Option<Vec<Statement>>, Memory>
+fn statements_of(alloc: Global, body: &[TreeStatement]) -> Result<Option<Vec<Statement>>, Memory>
     ensures body { IfOk result (λ found. option_map (λ body. body.items) found ≡ spec_statements (statements (map statement_view body.now))) }
     ensures names { IfOk result (λ found. IfSome found (λ body. Each IsName (body_uses body.items))) }
 {
