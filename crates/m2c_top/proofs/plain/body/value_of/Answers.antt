@@ -9,7 +9,7 @@ use Rattle.m2c_top.proofs.Trees.{operand_seen, other_value, value_seen}
 use Rattle.m2c_top.proofs.plain.body.value_of.Goals as goal
 
 pub returns-in-Many-clause-value : goal.returns-in-Many-clause-value
-returns-in-Many-clause-value c = 
+returns-in-Many-clause-value c =
     c.pair_with.ensures.value
     ∙ ap (λ x. pair_with (expr_view x) (nexts (map next_view c.deref-in-Many.result.now))) c.deref.ensures
     ∙ ap (λ ns. pair_with (expr_view c.in-Many.first.value) (nexts (map next_view ns))) c.deref-in-Many.ensures.value
