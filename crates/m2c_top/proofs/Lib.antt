@@ -6,6 +6,7 @@ mod Decided
 mod Delivering
 mod DiagTokens
 mod Ends
+mod FewCells
 mod FewStatements
 mod Fitting
 mod Obeying
