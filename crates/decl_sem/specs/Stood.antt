@@ -1,5 +1,5 @@
 -- What the types of parts may be, by what they stand for and what its row says.
-use Rattle.std.specs.Prelude.{Bool, ℕ, if◌then◌else◌, ◌||◌}
+use Rattle.std.specs.Prelude.{Bool, ℕ, if◌then◌else◌, is_none, not, ◌||◌, ◌&&◌}
 use Rattle.m2_base.specs.Rows.{Fits, is_same_place}
 use Rattle.m2_base.specs.Standard.{broken}
 use Rattle.m2_base.specs.Statics.Arrays.{count_by, is_index_range, is_set_range}
@@ -24,6 +24,10 @@ may_be_index stood = is_same_place stood.0 broken || is_index_range (range_by st
 -- an array or a record
 abbrev pub is_structured_row : Place × RowMeaning → Bool
 is_structured_row stood = is_structured_kind stood.1
+
+-- neither ordinal nor in error
+abbrev pub is_no_tag : Place × RowMeaning → Bool
+is_no_tag stood = not (is_same_place stood.0 broken) && is_none (range_by stood.1)
 
 -- the elements of an array whose index type this is, one in error counting as one value
 abbrev pub elements_by : Place × RowMeaning → ℕ

@@ -6,6 +6,7 @@ use Rattle.m2_base.specs.Lists.{Each}
 use Rattle.std.specs.List.{list_all}
 use Rattle.m2_base.specs.Trees as plain
 use Rattle.m2_base.specs.Views.{statement_view, stream_view}
+use Rattle.m2_base.specs.declared.token.Token.{Token}
 use Rattle.m2_base.specs.declared.trees.declarations.Stream.{Stream}
 use Rattle.m2_base.specs.declared.trees.statements as statements
 use Rattle.m2_base.proofs.Kept.{Each-append}
@@ -64,22 +65,22 @@ done_all done count body past all = ap Some (sym (append-nil done)) ∙ ap (λ b
 abbrev pub all_empty : List statements.Statement.Statement → Bool
 all_empty body = list_all (λ s. is_empty (statement_view s)) body
 
-compiled_as : (text : List ℕ) (t : Stream) (a b c : Bool) → stands_alone (stream_view t) ≡ a → all_empty t.body.items ≡ b → is_plain text (stream_view t) ≡ c
-    → body_of text (stream_view t) ≡ (if not a then None else if b then Some [] else if c then does t.body.items else None)
-compiled_as text t a b c e f g =
-    ap (λ x. if not x then None else if are_empty (stream_view t).body then Some [] else if is_plain text (stream_view t) then does t.body.items else None) e
-    ∙ ap (λ x. if not a then None else if x then Some [] else if is_plain text (stream_view t) then does t.body.items else None) (are_empty_all t.body.items ∙ f)
+compiled_as : (text : List ℕ) (ts : List Token) (t : Stream) (a b c : Bool) → stands_alone (stream_view t) ≡ a → all_empty t.body.items ≡ b → is_plain text ts (stream_view t) ≡ c
+    → body_of text ts (stream_view t) ≡ (if not a then None else if b then Some [] else if c then does t.body.items else None)
+compiled_as text ts t a b c e f g =
+    ap (λ x. if not x then None else if are_empty (stream_view t).body then Some [] else if is_plain text ts (stream_view t) then does t.body.items else None) e
+    ∙ ap (λ x. if not a then None else if x then Some [] else if is_plain text ts (stream_view t) then does t.body.items else None) (are_empty_all t.body.items ∙ f)
     ∙ ap (λ x. if not a then None else if b then Some [] else if x then does t.body.items else None) g
 
-module _ (text : List ℕ) (t : Stream) (alone : stands_alone (stream_view t) ≡ true) where
-  pub compiled_empty : all_empty t.body.items ≡ true → body_of text (stream_view t) ≡ Some []
-  compiled_empty e = compiled_as text t true true _ alone e refl
+module _ (text : List ℕ) (ts : List Token) (t : Stream) (alone : stands_alone (stream_view t) ≡ true) where
+  pub compiled_empty : all_empty t.body.items ≡ true → body_of text ts (stream_view t) ≡ Some []
+  compiled_empty e = compiled_as text ts t true true _ alone e refl
 
-  pub compiled_all : all_empty t.body.items ≡ false → is_plain text (stream_view t) ≡ true → body_of text (stream_view t) ≡ does t.body.items
-  compiled_all e p = compiled_as text t true false true alone e p
+  pub compiled_all : all_empty t.body.items ≡ false → is_plain text ts (stream_view t) ≡ true → body_of text ts (stream_view t) ≡ does t.body.items
+  compiled_all e p = compiled_as text ts t true false true alone e p
 
-  pub compiled_other : all_empty t.body.items ≡ false → is_plain text (stream_view t) ≡ false → body_of text (stream_view t) ≡ None
-  compiled_other e p = compiled_as text t true false false alone e p
+  pub compiled_other : all_empty t.body.items ≡ false → is_plain text ts (stream_view t) ≡ false → body_of text ts (stream_view t) ≡ None
+  compiled_other e p = compiled_as text ts t true false false alone e p
 
 -- the same result by another name
 pub told_as : {V E : Type 0} (view : V → Option (List Statement)) {a b : Option (List Statement)} (r : Result V E) → a ≡ b → IfOk r (λ v. view v ≡ a) → IfOk r (λ v. view v ≡ b)

@@ -75,8 +75,8 @@ statements_few : (ss : Statements) → HasFew (count_of ss) (statements_of ss)
 statements_few no_statements = omega arith
 statements_few (more_statements s ss) = joined_few (count_of ss) (statement_of s) (statements_of ss) (statements_few ss)
 
-body_has_few : (text : List ℕ) (tree : Stream) → HasFew (count_of tree.body) (body_of text tree)
-body_has_few text tree = go (not (stands_alone tree)) (are_empty tree.body) (is_plain text tree)
+body_has_few : (text : List ℕ) (ts : List Token) (tree : Stream) → HasFew (count_of tree.body) (body_of text ts tree)
+body_has_few text ts tree = go (not (stands_alone tree)) (are_empty tree.body) (is_plain text ts tree)
   where
     go : (a b c : Bool) → HasFew (count_of tree.body) (if a then None else if b then Some [] else if c then statements_of tree.body else None)
     go true b c = tt
@@ -84,16 +84,16 @@ body_has_few text tree = go (not (stands_alone tree)) (are_empty tree.body) (is_
     go false false true = statements_few tree.body
     go false false false = tt
 
-pub compiled_few : (text : List ℕ) (tree : Stream) (body : List Statement) → body_of text tree ≡ Some body → length body ≤ count_of tree.body
-compiled_few text tree body e = subst (HasFew (count_of tree.body)) e (body_has_few text tree)
+pub compiled_few : (text : List ℕ) (ts : List Token) (tree : Stream) (body : List Statement) → body_of text ts tree ≡ Some body → length body ≤ count_of tree.body
+compiled_few text ts tree body e = subst (HasFew (count_of tree.body)) e (body_has_few text ts tree)
 
 none_some : (body : List Statement) → None ≡ Some body → ⊥
 none_some body e = cc
 
 -- a body that is compiled stands alone
-pub alone_of : (text : List ℕ) (tree : Stream) (body : List Statement) → body_of text tree ≡ Some body → stands_alone tree ≡ true
-alone_of text tree body e = go (stands_alone tree) e
+pub alone_of : (text : List ℕ) (ts : List Token) (tree : Stream) (body : List Statement) → body_of text ts tree ≡ Some body → stands_alone tree ≡ true
+alone_of text ts tree body e = go (stands_alone tree) e
   where
-    go : (a : Bool) → (if not a then None else if are_empty tree.body then Some [] else if is_plain text tree then statements_of tree.body else None) ≡ Some body → a ≡ true
+    go : (a : Bool) → (if not a then None else if are_empty tree.body then Some [] else if is_plain text ts tree then statements_of tree.body else None) ≡ Some body → a ≡ true
     go true p = refl
     go false p = absurd (none_some body p)

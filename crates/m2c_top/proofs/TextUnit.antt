@@ -80,10 +80,10 @@ unit_is text u tree has s countable =
 
 -- what holds of a module that is held
 pub text_held : (m : Module) (text : List ℕ) (u : Lexed) (number : ℕ) → m.texts ≡ one_text u.names number u.tokens → IsUnit (one_text u.names number u.tokens) → IsBuilt text u
-    → Spells grammar levels (stream Main) (stream_of Main) (stream_view m.tree) u.tokens → body_of text (stream_view m.tree) ≡ Some m.body.items → Each IsName (body_uses m.body.items) → IsHeld m
+    → Spells grammar levels (stream Main) (stream_of Main) (stream_view m.tree) u.tokens → body_of text u.tokens (stream_view m.tree) ≡ Some m.body.items → Each IsName (body_uses m.body.items) → IsHeld m
 text_held m text u number is unit built spelled body uses =
     let few = spelled_few (stream_view m.tree) u.tokens spelled in
-    let compiled = compiled_few text (stream_view m.tree) m.body.items body in
+    let compiled = compiled_few text u.tokens (stream_view m.tree) m.body.items body in
     let tokens = built.has_tokens.few in
     record {
       unit = subst IsUnit (sym is) unit;
@@ -93,7 +93,7 @@ text_held m text u number is unit built spelled body uses =
           (tokens_read standard_names u.names text u.tokens (IsPrefixOf-refl standard_names) built.has_tokens.short built.has_tokens.are_tokens);
       built = subst (λ (x : UnitTexts). has_unbuilt (main_tokens x.list) ≡ false) (sym is) built.built;
       spelled = subst (λ (x : UnitTexts). Spells grammar levels (stream Main) (stream_of Main) (stream_view m.tree) (main_tokens x.list)) (sym is) spelled;
-      lone = alone_of text (stream_view m.tree) m.body.items body;
+      lone = alone_of text u.tokens (stream_view m.tree) m.body.items body;
       few = omega (arith, few, compiled, tokens);
       uses = uses;
     }

@@ -14,6 +14,7 @@ use Rattle.m2_base.specs.declared.trees.expressions as expressions
 use Rattle.m2_base.specs.declared.trees.statements as statements
 use Rattle.m2_base.specs.declared.trees.types as types
 use Rattle.m2_base.specs.declared.trees.declarations as declarations
+use Rattle.m2_base.specs.declared.token.Token.{Token}
 use Rattle.m2_base.specs.declared.trees.Ident.{Ident}
 use Rattle.m2_base.specs.declared.trees.Qual.{Qual}
 use Rattle.m2_base.specs.declared.trees.expressions.ExprForm.{out-ExprForm, roll-ExprForm, roll-out-ExprForm}
@@ -31,8 +32,7 @@ use Rattle.m2_base.proofs.Seen.{enum_seen, sub_seen, array_seen, record_seen, se
 use Rattle.m2_base.proofs.Seen.{assign_seen, invoke_seen, if_seen, loop_seen, exit_seen, case_seen, while_seen, repeat_seen, for_seen, with_seen, return_seen}
 use Rattle.m2c_top.specs.declared.plain.tree.Value.{Value}
 use Rattle.m2c_top.specs.declared.plain.tree.Value.TheVariants.{Single}
-use Rattle.m2c_top.specs.Bytes.{are_plain_bytes}
-use Rattle.m2c_top.specs.Bodies.{are_empty, are_integers, has_no_import, is_procedure, is_plain, stands_alone, form_operand, form_statement, form_value, is_empty, is_empty_form, is_integer, is_integer_form, lone_name, operand_of, operator_of, pair_of, pair_with, statement_of, value_of}
+use Rattle.m2c_top.specs.Bodies.{are_empty, are_integers, has_no_import, has_plain_tokens, is_procedure, is_plain, stands_alone, form_operand, form_statement, form_value, is_empty, is_empty_form, is_integer, is_integer_form, lone_name, operand_of, operator_of, pair_of, pair_with, statement_of, value_of}
 
 -- ** Forms
 
@@ -243,5 +243,5 @@ alone_seen t =
 abbrev pub all_integers : List declarations.Decl.Decl → Bool
 all_integers decls = list_all (λ d. are_integers (decl_view d)) decls
 
-pub plain_seen : (text : List ℕ) (t : declarations.Stream.Stream) → is_plain text (stream_view t) ≡ (are_plain_bytes text && all_integers t.decls.items)
-plain_seen text t = ap (λ b. are_plain_bytes text && b) (all_seen decl_view are_integers t.decls.items)
+pub plain_seen : (text : List ℕ) (ts : List Token) (t : declarations.Stream.Stream) → is_plain text ts (stream_view t) ≡ (has_plain_tokens text ts && all_integers t.decls.items)
+plain_seen text ts t = ap (λ b. has_plain_tokens text ts && b) (all_seen decl_view are_integers t.decls.items)

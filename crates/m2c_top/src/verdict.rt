@@ -195,7 +195,7 @@ fn module_or_not(
     ensures decision { IfOk result (λ verdict. IsModuleOrNot text.now (record { names = names; tokens = tokens.items }) (stream_view tree) (decision_of verdict)) }
     ensures held { IfOk result HoldsModule }
 {
-    let Some(body) = body_of(alloc, text, &tree)? else {
+    let Some(body) = body_of(alloc, text, tokens.as_slice(), &tree)? else {
         return Ok(Verdict::NotBuilt);
     };
     let _countable = names.count();

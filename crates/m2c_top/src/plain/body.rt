@@ -6,14 +6,14 @@ ghost use Rattle.m2_base.specs.Standard.{is_standard as spec_standard};
 ghost use Rattle.m2_base.specs.Trees.{nexts, statements};
 ghost use Rattle.m2_base.specs.Views.{decl_view, designator_view, expr_view, next_view, statement_view, stream_view, type_view};
 ghost use Rattle.m2c_top.specs.Bindings.{IsName};
-ghost use Rattle.m2c_top.specs.Bodies.{is_integer as spec_is_integer, are_empty as spec_are_empty, are_integers as spec_are_integers, body_of as spec_body, is_empty as spec_is_empty, is_own_name as spec_own_name, is_plain as spec_is_plain, is_procedure as spec_is_procedure, literal_of as spec_literal, lone_name as spec_lone_name, names_integer as spec_names_integer, operand_of as spec_operand, operator_of as spec_operator, is_literal as spec_is_literal, pair as spec_pair, pair_of as spec_pair_of, pair_with as spec_pair_with, assigned as spec_assigned, stands_alone as spec_stands_alone, statement_of as spec_statement, statements_of as spec_statements, value_of as spec_value, variable_of as spec_variable};
+ghost use Rattle.m2c_top.specs.Bodies.{is_integer as spec_is_integer, are_empty as spec_are_empty, are_integers as spec_are_integers, body_of as spec_body, is_empty as spec_is_empty, is_own_name as spec_own_name, is_plain as spec_is_plain, is_procedure as spec_is_procedure, literal_of as spec_literal, lone_name as spec_lone_name, names_integer as spec_names_integer, operand_of as spec_operand, operator_of as spec_operator, is_literal as spec_is_literal, pair as spec_pair, pair_of as spec_pair_of, pair_with as spec_pair_with, assigned as spec_assigned, begins_others as spec_begins_others, has_plain_tokens as spec_has_plain_tokens, stands_alone as spec_stands_alone, statement_of as spec_statement, statements_of as spec_statements, value_of as spec_value, variable_of as spec_variable};
 ghost use Rattle.m2c_top.specs.Uses.{body_uses, operand_uses, statement_uses, value_uses};
 
 use crate::plain::bytes::has_plain_bytes;
 use crate::plain::tree::{Operand, Operator, Statement, Value};
 use m2_base::{
     Decl, Designator, Expr, ExprForm, Ident, Memory, Next, Operator as TreeOperator, Qual,
-    Statement as TreeStatement, StmtForm, Stream, TypeExpr, TypeForm,
+    Statement as TreeStatement, StmtForm, Stream, Token, TokenKind, TypeExpr, TypeForm,
 };
 use std::alloc::Global;
 
@@ -26,9 +26,14 @@ const LAST_STANDARD_NAME: u32 = 26;
 /// The greatest INTEGER.
 const MAX_INTEGER: u64 = 2_147_483_647;
 
-/// What the statements of a text with this tree do, where they are compiled so far.
-pub fn body_of(alloc: Global, text: &[u8], tree: &Stream) -> Result<Option<Vec<Statement>>, Memory>
-    ensures body { IfOk result (λ found. option_map (λ body. body.items) found ≡ spec_body text.now (stream_view tree.now)) }
+/// What the statements of a text with these tokens and this tree do, where they are compiled so far.
+pub fn body_of(
+    alloc: Global,
+    text: &[u8],
+    tokens: &[Token],
+    tree: &Stream,
+) -> Result<Option<Vec<Statement>>, Memory>
+    ensures body { IfOk result (λ found. option_map (λ body. body.items) found ≡ spec_body text.now tokens.now (stream_view tree.now)) }
     ensures names { IfOk result (λ found. IfSome found (λ body. Each IsName (body_uses body.items))) }
 {
     if !stands_alone(tree) {
@@ -37,7 +42,7 @@ pub fn body_of(alloc: Global, text: &[u8], tree: &Stream) -> Result<Option<Vec<S
     if are_empty(&tree.body) {
         return Ok(Some(Vec::new(alloc)));
     }
-    if is_plain(text, tree) {
+    if is_plain(text, tokens, tree) {
         statements_of(alloc, &tree.body)
     } else {
         Ok(None)
@@ -65,10 +70,30 @@ fn is_procedure(decl: &Decl) -> bool
 }
 
 /// Whether a text is plain, and its declarations are INTEGER variables.
-fn is_plain(text: &[u8], tree: &Stream) -> bool
-    ensures { result ≡ spec_is_plain text.now (stream_view tree.now) }
+fn is_plain(text: &[u8], tokens: &[Token], tree: &Stream) -> bool
+    ensures { result ≡ spec_is_plain text.now tokens.now (stream_view tree.now) }
 {
-    has_plain_bytes(text) && all_integers(&tree.decls)
+    has_plain_tokens(text, tokens) && all_integers(&tree.decls)
+}
+
+/// Whether a text has only the bytes and the words of plain texts.
+fn has_plain_tokens(text: &[u8], tokens: &[Token]) -> bool
+    ensures { result ≡ spec_has_plain_tokens text.now tokens.now }
+{
+    has_plain_bytes(text) && has_plain_words(tokens)
+}
+
+fn has_plain_words(tokens: &[Token]) -> bool
+    ensures { result ≡ list_all (λ t. not (spec_begins_others t)) tokens.now }
+{
+    tokens.iter().all(|token| !begins_others(*token))
+}
+
+/// Whether a token begins declarations of constants or of types.
+fn begins_others(token: Token) -> bool
+    ensures { result ≡ spec_begins_others token }
+{
+    matches!(token.kind, TokenKind::Const | TokenKind::Type)
 }
 
 fn all_integers(decls: &[Decl]) -> bool
