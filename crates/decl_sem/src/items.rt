@@ -23,6 +23,7 @@ use m2_base::{Ask, Decl, Expr, Heading, Ident, Memory, Scopes, Site, StreamKind,
 use std::alloc::Global;
 
 /// What declares in a block.
+#[derive(Drop)]
 pub enum Item<'a> {
     /// The heading of the block itself.
     Heading(&'a Heading),

@@ -4,7 +4,7 @@ use Rattle.std.specs.FinMap.{insert}
 use Rattle.std.proofs.lemmas.Bool.{false≢true}
 use Rattle.m2_base.specs.declared.notes.Diag.{Diag}
 use Rattle.m2_io.specs.Files.{Files, with_file}
-use Rattle.m2c_top.specs.Decisions.{Decision, limited, unbuilt, refused, plain}
+use Rattle.m2c_top.specs.Decisions.{Decision, limited, unbuilt, refused, to_compile}
 use Rattle.m2c_top.specs.Delivery.{Says, Answered, PrintsFront, PutsFront}
 use Rattle.m2c_top.specs.Diagnostics.{diags_of}
 use Rattle.m2c_top.specs.Listing.{listing}
@@ -26,15 +26,15 @@ module _ (name : List ℕ) (holds after : Option Files) (old new : Option (List 
   status_answers (limited limit) status a = inr (inr (inr (inl a.status_is)))
   status_answers unbuilt status a = inr (inr (inr (inr a.status_is)))
   status_answers (refused tokens diag) status a = inr (inl a.status_is)
-  status_answers (plain p) status (inl a) = inl a.status_is
-  status_answers (plain p) status (inr a) = inr (inl a.status_is)
+  status_answers (to_compile m) status (inl a) = inl a.status_is
+  status_answers (to_compile m) status (inr a) = inr (inl a.status_is)
 
   status_keeps : (d : Decision) (status : Status) → Answered name d status holds after old new → (status ≡ Done → ⊥) → after ≡ holds
   status_keeps (limited limit) status a other = a.files
   status_keeps unbuilt status a other = a.files
   status_keeps (refused tokens diag) status a other = a.files
-  status_keeps (plain p) status (inl a) other = absurd (other a.status_is)
-  status_keeps (plain p) status (inr a) other = a.files
+  status_keeps (to_compile m) status (inl a) other = absurd (other a.status_is)
+  status_keeps (to_compile m) status (inr a) other = a.files
 
   pub answered_answers : (d : Decision) (r : Result Status Stop) → IfOk r (λ status. Answered name d status holds after old new) → IfOk r IsAnswer
   answered_answers d (Ok status) h = status_answers d status h
@@ -64,16 +64,16 @@ module _ (name : List ℕ) (holds after : Option Files) (old new : Option (List 
   status_leaves (limited limit) decided status a = said _ _ status a (λ files has. over_limit limit (decided files has))
   status_leaves unbuilt decided status a = said _ _ status a (λ files has. not_built (decided files has))
   status_leaves (refused tokens diag) decided status a = said _ _ status a (λ files has. wrong tokens diag (decided files has))
-  status_leaves (plain p) decided status (inl a) = told holds (λ files has. record {
-    outcome = record { status = Done; printed = []; files = insert files (object_name name) (object_bytes name p.tree) };
-    is_given = compiled p (decided files has, a.sound);
+  status_leaves (to_compile m) decided status (inl a) = told holds (λ files has. record {
+    outcome = record { status = Done; printed = []; files = insert files (object_name name) (object_bytes name m) };
+    is_given = compiled m (decided files has, a.sound);
     status_is = ap status_number a.status_is;
-    files_are = a.files ∙ ap (λ f. with_file f (object_name name) (object_bytes name p.tree)) has;
+    files_are = a.files ∙ ap (λ f. with_file f (object_name name) (object_bytes name m)) has;
     printed_is = a.printed ∙ with_nothing old;
   })
-  status_leaves (plain p) decided status (inr a) = told holds (λ files has. record {
-    outcome = record { status = Diagnosed; printed = listing (text_name name) p.tokens (diags_of p.tree); files = files };
-    is_given = diagnosed p (decided files has, a.faulty);
+  status_leaves (to_compile m) decided status (inr a) = told holds (λ files has. record {
+    outcome = record { status = Diagnosed; printed = listing (text_name name) m.tokens (diags_of m); files = files };
+    is_given = diagnosed m (decided files has, a.faulty);
     status_is = ap status_number a.status_is;
     files_are = a.files ∙ has;
     printed_is = a.printed;
@@ -88,8 +88,8 @@ module _ (name : List ℕ) (holds after : Option Files) (old new : Option (List 
   front_prints (limited limit) decided part = told holds (λ files has. prints_part name files _ old new (over_limit limit (decided files has)) part)
   front_prints unbuilt decided part = told holds (λ files has. prints_part name files _ old new (not_built (decided files has)) part)
   front_prints (refused tokens diag) decided part = told holds (λ files has. prints_part name files _ old new (wrong tokens diag (decided files has)) part)
-  front_prints (plain p) decided (inl same) = told holds (λ files has outcome given. (0, same ∙ with_nothing old))
-  front_prints (plain p) decided (inr part) = told holds (λ files has. prints_part name files _ old new (diagnosed p (decided files has, part.0)) part.1)
+  front_prints (to_compile m) decided (inl same) = told holds (λ files has outcome given. (0, same ∙ with_nothing old))
+  front_prints (to_compile m) decided (inr part) = told holds (λ files has. prints_part name files _ old new (diagnosed m (decided files has, part.0)) part.1)
 
   pub answered_prints : (d : Decision) → Decided d → (r : Result Status Stop) → OnErr r (PrintsFront name d old new) → OnErr r (IfSome holds (λ files. PrintsPart (Compiles name files) old new))
   answered_prints d decided (Ok status) h = tt
@@ -99,6 +99,6 @@ module _ (name : List ℕ) (holds after : Option Files) (old new : Option (List 
   answered_part (limited limit) decided same = inl same
   answered_part unbuilt decided same = inl same
   answered_part (refused tokens diag) decided same = inl same
-  answered_part (plain p) decided (inl same) = inl same
-  answered_part (plain p) decided (inr (sound, inl same)) = inl same
-  answered_part (plain p) decided (inr (sound, inr put)) = inr (object_bytes name p.tree, told holds (λ files has. (p, (decided files has, sound), refl)), put)
+  answered_part (to_compile m) decided (inl same) = inl same
+  answered_part (to_compile m) decided (inr (sound, inl same)) = inl same
+  answered_part (to_compile m) decided (inr (sound, inr put)) = inr (object_bytes name m, told holds (λ files has. (m, (decided files has, sound), refl)), put)

@@ -6,13 +6,13 @@ use Rattle.m2_base.specs.declared.notes.Diag.{Diag}
 use Rattle.m2_io.specs.Files.{Files}
 use Rattle.m2_io.specs.Written.{WritesPart}
 use Rattle.m2c_top.specs.Command.{compile, Asks, IsNoCommand}
-use Rattle.m2c_top.specs.Decisions.{Decision, limited, unbuilt, refused, plain, Decides}
+use Rattle.m2c_top.specs.Decisions.{Decision, limited, unbuilt, refused, to_compile, Decides}
 use Rattle.m2c_top.specs.Diagnostics.{diags_of}
 use Rattle.m2c_top.specs.Limits.{limit_text}
 use Rattle.m2c_top.specs.Listing.{listing}
 use Rattle.m2c_top.specs.Object.{object_bytes}
+use Rattle.m2c_top.specs.Modules.{Module}
 use Rattle.m2c_top.specs.Outcome.{Outcome, Gives, no_command, compiles, Compiles, compiled, diagnosed, wrong, no_text, over_limit, not_built, LacksText, IsDecided, text_name, object_name, line, PrintsPart}
-use Rattle.m2c_top.specs.Trees.{Parsed}
 use Rattle.m2c_top.specs.declared.status.Status.TheVariants.{Done, Diagnosed, NoText, OverLimit, NotBuilt}
 use Rattle.m2c_top.proofs.Asking.{asks_none, same_name}
 use Rattle.m2c_top.proofs.OneDecision.{one_decision}
@@ -27,28 +27,28 @@ module _ (name : List ℕ) (files : Files) where
   abbrev lacking : Outcome
   lacking = record { status = NoText; printed = line (codes "no text " ++ text_name name); files = files }
 
-  abbrev plain_outcome : Parsed → List Diag → Outcome
-  plain_outcome p [] = record { status = Done; printed = []; files = insert files (object_name name) (object_bytes name p.tree) }
-  plain_outcome p (diag ∷ diags) = record { status = Diagnosed; printed = listing (text_name name) p.tokens (diags_of p.tree); files = files }
+  abbrev module_outcome : Module → List Diag → Outcome
+  module_outcome m [] = record { status = Done; printed = []; files = insert files (object_name name) (object_bytes name m) }
+  module_outcome m (diag ∷ diags) = record { status = Diagnosed; printed = listing (text_name name) m.tokens (diags_of m); files = files }
 
   abbrev outcome_for : Decision → Outcome
   outcome_for (limited limit) = record { status = OverLimit; printed = line (limit_text limit); files = files }
   outcome_for unbuilt = record { status = NotBuilt; printed = line (codes "not built yet"); files = files }
   outcome_for (refused tokens diag) = record { status = Diagnosed; printed = listing (text_name name) tokens (diag ∷ []); files = files }
-  outcome_for (plain p) = plain_outcome p (diags_of p.tree)
+  outcome_for (to_compile m) = module_outcome m (diags_of m)
 
-  faulty_outcome : (p : Parsed) (diags : List Diag) → diags ≢ []
-      → record { status = Diagnosed; printed = listing (text_name name) p.tokens (diags_of p.tree); files = files } ≡ plain_outcome p diags
-  faulty_outcome p [] some = absurd (some refl)
-  faulty_outcome p (diag ∷ diags) some = refl
+  faulty_outcome : (m : Module) (diags : List Diag) → diags ≢ []
+      → record { status = Diagnosed; printed = listing (text_name name) m.tokens (diags_of m); files = files } ≡ module_outcome m diags
+  faulty_outcome m [] some = absurd (some refl)
+  faulty_outcome m (diag ∷ diags) some = refl
 
   -- the text is lacking, or something is decided of it
   abbrev Row : Outcome → Type 0
   Row o = (LacksText name files × (o ≡ lacking)) ⊎ ((d : Decision) × IsDecided name files d × (o ≡ outcome_for d))
 
   row_of : (o : Outcome) → Compiles name files o → Row o
-  row_of o (compiled p h) = inr (plain p, h.0, ap (plain_outcome p) (sym h.1))
-  row_of o (diagnosed p h) = inr (plain p, h.0, faulty_outcome p (diags_of p.tree) h.1)
+  row_of o (compiled m h) = inr (to_compile m, h.0, ap (module_outcome m) (sym h.1))
+  row_of o (diagnosed m h) = inr (to_compile m, h.0, faulty_outcome m (diags_of m) h.1)
   row_of o (wrong tokens diag h) = inr (refused tokens diag, h, refl)
   row_of o (no_text l) = inl (l, refl)
   row_of o (over_limit limit h) = inr (limited limit, h, refl)

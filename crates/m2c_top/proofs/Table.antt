@@ -5,7 +5,7 @@ use Rattle.std.proofs.lemmas.Bool.{false≢true}
 use Rattle.m2_io.specs.Files.{Files}
 use Rattle.m2_io.specs.Written.{WritesPart, with_bytes}
 use Rattle.m2c_top.specs.Command.{compile, Asks, IsNoCommand}
-use Rattle.m2c_top.specs.Trees.{Parsed}
+use Rattle.m2c_top.specs.Modules.{Module}
 use Rattle.m2c_top.specs.Outcome.{Outcome, Gives, no_command, compiles, Compiles, no_text, compiled, diagnosed, wrong, over_limit, not_built, AsksToCompile, LacksText, HasSoundText, HasDiagnostics, HasTooMuchText, HasOtherText, line, Leaves, PrintsPart}
 use Rattle.m2c_top.specs.Statuses.{status_number, IsFault, Exactly}
 use Rattle.m2c_top.specs.declared.status.Status.TheVariants.{NoCommand}
@@ -47,10 +47,10 @@ lacks_row = record { other = unlike 3 refl; only = only; always = λ name files 
     only name files o (over_limit limit h) e = absurd (omega (arith, e))
     only name files o (not_built h) e = absurd (omega (arith, e))
 
-pub sound_row : RowOf 0 (λ name files. (p : Parsed) × HasSoundText name files p)
+pub sound_row : RowOf 0 (λ name files. (m : Module) × HasSoundText name files m)
 sound_row = record { other = unlike 0 refl; only = only; always = λ name files o h k. of_status name files _ o (compiled h.0 h.1) k }
   where
-    only : (name : List ℕ) (files : Files) (o : Outcome) → Compiles name files o → status_number o.status ≡ 0 → (p : Parsed) × HasSoundText name files p
+    only : (name : List ℕ) (files : Files) (o : Outcome) → Compiles name files o → status_number o.status ≡ 0 → (m : Module) × HasSoundText name files m
     only name files o (compiled p h) e = (p, h)
     only name files o (no_text l) e = absurd (omega (arith, e))
     only name files o (diagnosed p h) e = absurd (omega (arith, e))

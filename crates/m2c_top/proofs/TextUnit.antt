@@ -1,57 +1,99 @@
--- What the tokens of a plain text say of its names.
-use Rattle.std.proofs.Common.{◌≡◌, ◌≢◌, ℕ, ◌≤◌, true, List, [], ◌∷◌, ◌++◌, map, length, get_or, refl, sym, subst}
-use Rattle.std.specs.Prelude.{IsTrue}
-use Rattle.std.proofs.lemmas.Bool.{false≢true, and_parts}
-use Rattle.m2_base.specs.Lexemes.{is_lexeme}
-use Rattle.m2_base.specs.Lists.{Each, IsPrefixOf}
+-- What the tokens of a text say of the unit that it makes up, and of its module's name.
+use Rattle.std.proofs.Common.{◌≡◌, ℕ, ◌<◌, ◌≤◌, ◌^◌, true, false, List, [], ◌∷◌, ◌++◌, Some, length, refl, sym, ap, subst, arith}
+use Rattle.std.specs.List.{slice_get}
+use Rattle.ll_grammar.specs.Derivations.{Tree, both, tokens, Derives, of_token, of_then}
+use Rattle.ll_grammar.specs.Texts.{Spells}
+use Rattle.m2_base.specs.ExpressionsOf.{ident_of}
+use Rattle.m2_base.specs.Grammar.{grammar, ident, levels, number_of_token, stream}
+use Rattle.m2_base.specs.KindNumbers.{kind_number}
+use Rattle.m2_base.specs.Lists.{Each}
 use Rattle.m2_base.specs.Names.{standard_names}
-use Rattle.m2_base.specs.Tokens.{AreTokens}
-use Rattle.m2_base.specs.Units.{UnitTexts, IsUnit, IsNamed, HasValue}
+use Rattle.m2_base.specs.Statics.ReadTrees.{IsReadToken}
+use Rattle.m2_base.specs.StreamsOf.{stream_of}
+use Rattle.m2_base.specs.Trees.{Stream}
+use Rattle.m2_base.specs.Units.{HasValue, IsNamed, IsUnit, TextOf, UnitTexts}
+use Rattle.m2_base.specs.Views.{stream_view}
 use Rattle.m2_base.specs.declared.kind.TokenKind.{TokenKind}
 use Rattle.m2_base.specs.declared.kind.TokenKind.TheVariants as kind
 use Rattle.m2_base.specs.declared.token.Token.{Token}
+use Rattle.m2_base.specs.declared.trees.declarations.StreamKind.TheVariants.{Main}
+use Rattle.m2_base.proofs.Kept.{IsPrefixOf-refl}
+use Rattle.m2_base.proofs.ReadExpressions.{kind_is}
 use Rattle.m2_lex.specs.LoneTexts.{one_text}
-use Rattle.m2_lex.proofs.TextUnit.{text_listed}
-use Rattle.m2c_top.specs.Symbols.{symbol_for, symbol_of}
-use Rattle.m2c_top.specs.declared.plain.tree.Ident.{Ident}
-use Rattle.m2c_top.specs.Grammar.{Spells}
+use Rattle.m2_lex.proofs.ReadTokens.{tokens_read}
+use Rattle.m2_lex.proofs.TextUnit.{text_listed, text_unit}
+use Rattle.m2c_top.specs.Bindings.{IsName}
+use Rattle.m2c_top.specs.Bodies.{body_of}
+use Rattle.m2c_top.specs.Decisions.{HasTokens, IsBuilt, Lexed, has_unbuilt}
 use Rattle.m2c_top.specs.Held.{IsHeld, main_tokens}
-use Rattle.m2c_top.specs.Plain.{is_meant, is_named}
-use Rattle.m2c_top.specs.Sound.{is_sound}
-use Rattle.m2c_top.specs.Trees.{PlainModule, module_view}
-use Rattle.m2c_top.specs.declared.plain.text.Plain.{Plain}
-use Rattle.m2c_top.proofs.NamedSymbols.{NamedBy, name_named}
+use Rattle.m2c_top.specs.Names.{number_of}
+use Rattle.m2c_top.specs.Uses.{body_uses}
+use Rattle.m2c_top.specs.declared.module.Module.{Module}
+use Rattle.m2c_top.proofs.FewStatements.{alone_of, compiled_few, spelled_few}
 
--- ** The names of symbols
+some_is : (x y : TextOf) → Some x ≡ Some y → x ≡ y
+some_is x y e = cc
 
-name_of : (names : List (List ℕ)) (k : TokenKind) (value at : ℕ) → HasValue names k value → NamedBy (λ (i : Ident). IsNamed names i.name) (symbol_for k value at)
-name_of names kind.Identifier value at h = h
-name_of names _ value at h = tt
+pub main_is : (texts : List TextOf) (main : TextOf) → slice_get texts 0 ≡ Some main → main_tokens texts ≡ main.tokens
+main_is [] main e = absurd (none e)
+  where
+    none : slice_get [] 0 ≡ Some main → ⊥
+    none p = cc
+main_is (t ∷ texts) main e = ap (λ (x : TextOf). x.tokens) (some_is t main e)
 
-pub named_symbols : (names : List (List ℕ)) (tokens : List Token) → Each (λ (t : Token). HasValue names t.kind t.value) tokens → Each (NamedBy (λ (i : Ident). IsNamed names i.name)) (map symbol_of tokens)
-named_symbols names [] h = tt
-named_symbols names (t ∷ tokens) h = (name_of names t.kind t.value t.at h.0, named_symbols names tokens h.1)
+-- ** The module's name
 
--- number 0 is no identifier's
-none_named : (names rest : List (List ℕ)) → standard_names ++ rest ≡ names → IsNamed names 0 → ⊥
-unfolding standard_names
-none_named names rest joined h = false≢true (subst (λ (ns : List (List ℕ)). IsTrue (is_lexeme (get_or ns 0 []))) (sym joined) h.spelled.one)
+module _ (names : List (List ℕ)) where
+  abbrev HasItsValue : Token → Type 0
+  HasItsValue t = HasValue names t.kind t.value
 
-pub not_zero : (names : List (List ℕ)) (n : ℕ) → IsPrefixOf standard_names names → IsNamed names n → n ≢ 0
-not_zero names n p h e = none_named names p.rest p.joined (subst (IsNamed names) e h)
+  each_front : (xs ys : List Token) → Each HasItsValue (xs ++ ys) → Each HasItsValue xs
+  each_front [] ys h = tt
+  each_front (x ∷ xs) ys h = (h.0, each_front xs ys h.1)
 
--- the module's name is an identifier's
-pub module_named : (names : List (List ℕ)) (text : List ℕ) (tokens : List Token) → AreTokens standard_names names text tokens → length text ≤ 1048576 → (m : PlainModule) → Spells m (map symbol_of tokens) → IsNamed names m.name.name
-module_named names text tokens are short m spells =
-    name_named (λ (i : Ident). IsNamed names i.name) m (map symbol_of tokens) spells (named_symbols names tokens (text_listed standard_names names text tokens are short).1)
+  each_behind : (xs ys : List Token) → Each HasItsValue (xs ++ ys) → Each HasItsValue ys
+  each_behind [] ys h = h
+  each_behind (x ∷ xs) ys h = each_behind xs ys h.1
 
--- what holds of a plain text that is held
-pub text_held : (p : Plain) (names : List (List ℕ)) (module_name : List ℕ) (tokens : List Token) → p.texts ≡ one_text names p.module.name.name tokens → IsUnit (one_text names p.module.name.name tokens)
-    → Spells (module_view p.module) (map symbol_of tokens) → is_meant names module_name (module_view p.module) ≡ true → IsHeld p
-text_held p names module_name tokens is unit spells meant =
+  value_named : (k : TokenKind) (value : ℕ) → kind_number k ≡ kind_number kind.Identifier → HasValue names k value → IsNamed names value
+  value_named kind.Identifier value e h = h
+  value_named _ value e h = absurd (omega (arith, e))
+
+  name_named : {d : Tree Token} (rest : List Token) → Derives grammar ident d → Each HasItsValue (tokens d ++ rest) → IsNamed names (ident_of d).name
+  name_named rest (of_token {t = t} m) h = value_named t.kind t.value (kind_is (number_of_token t) 1 m) h.0
+
+  tree_named : {d : Tree Token} → Derives grammar (stream Main) d → Each HasItsValue (tokens d) → IsNamed names (number_of (stream_of Main d []).name)
+  tree_named (of_then {d = i} p (of_then {d = m} q (of_then {d = n} r (of_then {d = c} s (of_then {d = is} t (of_then {d = b} u (of_then {d = o} {e = f} v w))))))) h =
+      let rest = both c (both is (both b (both o f))) in
+      name_named (tokens rest) r (each_behind (tokens m) (tokens n ++ tokens rest) (each_behind (tokens i) (tokens m ++ (tokens n ++ tokens rest)) h))
+
+  spelled_named : (tree : Stream) (ts : List Token) → Spells grammar levels (stream Main) (stream_of Main) tree ts → Each HasItsValue ts → IsNamed names (number_of tree.name)
+  spelled_named tree ts s h =
+      subst (λ (t : Stream). IsNamed names (number_of t.name)) s.gives (tree_named s.sentence.derives (subst (Each HasItsValue) (sym s.sentence.spells) h))
+
+-- the unit of a text whose tree is this
+pub unit_is : (text : List ℕ) (u : Lexed) (tree : Stream) → HasTokens text u → Spells grammar levels (stream Main) (stream_of Main) tree u.tokens → length u.names < 2 ^ 32
+    → IsUnit (one_text u.names (number_of tree.name) u.tokens)
+unit_is text u tree has s countable =
+    let named = spelled_named u.names tree u.tokens s (text_listed standard_names u.names text u.tokens has.are_tokens has.short).1 in
+    text_unit standard_names u.names text u.tokens has.are_tokens has.short (number_of tree.name) (IsPrefixOf-refl standard_names) named has.few countable
+
+-- what holds of a module that is held
+pub text_held : (m : Module) (text : List ℕ) (u : Lexed) (number : ℕ) → m.texts ≡ one_text u.names number u.tokens → IsUnit (one_text u.names number u.tokens) → IsBuilt text u
+    → Spells grammar levels (stream Main) (stream_of Main) (stream_view m.tree) u.tokens → body_of text u.tokens (stream_view m.tree) ≡ Some m.body.items → Each IsName (body_uses m.body.items) → IsHeld m
+text_held m text u number is unit built spelled body uses =
+    let few = spelled_few (stream_view m.tree) u.tokens spelled in
+    let compiled = compiled_few text u.tokens (stream_view m.tree) m.body.items body in
+    let tokens = built.has_tokens.few in
     record {
       unit = subst IsUnit (sym is) unit;
-      alone = subst (λ (u : UnitTexts). u ≡ one_text u.names p.module.name.name (main_tokens u.list)) (sym is) refl;
-      spelled = subst (λ (u : UnitTexts). Spells (module_view p.module) (map symbol_of (main_tokens u.list))) (sym is) spells;
-      sound = (and_parts (is_named names module_name p.module.name.name) (is_sound (module_view p.module)) meant).1;
+      name = number;
+      alone = subst (λ (x : UnitTexts). x ≡ one_text x.names number (main_tokens x.list)) (sym is) refl;
+      read = subst (λ (x : UnitTexts). Each (IsReadToken x.names) (main_tokens x.list)) (sym is)
+          (tokens_read standard_names u.names text u.tokens (IsPrefixOf-refl standard_names) built.has_tokens.short built.has_tokens.are_tokens);
+      built = subst (λ (x : UnitTexts). has_unbuilt (main_tokens x.list) ≡ false) (sym is) built.built;
+      spelled = subst (λ (x : UnitTexts). Spells grammar levels (stream Main) (stream_of Main) (stream_view m.tree) (main_tokens x.list)) (sym is) spelled;
+      lone = alone_of text u.tokens (stream_view m.tree) m.body.items body;
+      few = omega (arith, few, compiled, tokens);
+      uses = uses;
     }

@@ -12,7 +12,7 @@ use Rattle.m2_base.specs.Tables.{lookup}
 use Rattle.m2_base.specs.declared.notes.Answer.{Answer}
 use Rattle.m2_base.specs.declared.replies.Reply.{Reply}
 use Rattle.m2c_top.specs.Codes.{diag_at, unknown_name}
-use Rattle.m2c_top.specs.declared.plain.tree.Ident.{Ident}
+use Rattle.m2_base.specs.declared.trees.Ident.{Ident}
 
 abbrev pub answer_of : Ident → Place → Row → Answer
 answer_of ident place row = record { at = ident.at; name = ident.name; place = place; row = row }
@@ -21,6 +21,10 @@ answer_of ident place row = record { at = ident.at; name = ident.name; place = p
 abbrev pub bound_to : Ident → Option (Place × Row) → Gives (Option Row)
 bound_to ident None = record { value = None; diags = diag_at ident.at unknown_name ∷ []; answers = [] }
 bound_to ident (Some hit) = record { value = Some hit.1; diags = []; answers = answer_of ident hit.0 hit.1 ∷ [] }
+
+-- the scopes in which a name of the module's statements is looked up: its own
+abbrev pub own_chain : List ℕ
+own_chain = 1 ∷ []
 
 abbrev pub use_of : List (List Row) → (chain : List ℕ) → Ident → Gives (Option Row)
 use_of finished chain ident = bound_to ident (lookup finished chain ident.name)

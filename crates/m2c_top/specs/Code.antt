@@ -1,8 +1,10 @@
--- The code of a plain module. Each variable has the cell of its place among the variables.
-use Rattle.std.specs.Prelude.{◌≡◌, ℕ, ◌+◌, ◌==◌, if◌then◌else◌, max, List, [], ◌∷◌, ◌++◌, map}
+-- The code of a body. Each variable has the cell that its row tells.
+use Rattle.std.specs.Prelude.{◌≡◌, ℕ, max, List, [], ◌∷◌, ◌++◌, map}
 use Rattle.std.specs.List.{flat_map}
 use Rattle.std.specs.Int.{to_le_bytes, w32, w64}
-use Rattle.m2c_top.specs.declared.plain.tree.Ident.{Ident}
+use Rattle.m2_base.specs.declared.rows.Row.{Row}
+use Rattle.m2_base.specs.declared.trees.Ident.{Ident}
+use Rattle.m2c_top.specs.Bindings.{own_chain, row_cell, use_of}
 use Rattle.m2c_top.specs.declared.plain.tree.Operator.{Operator}
 use Rattle.m2c_top.specs.declared.plain.tree.Operator.TheVariants.{Plus, Minus, Times}
 use Rattle.m2c_top.specs.declared.plain.tree.Operand.{Operand}
@@ -42,38 +44,33 @@ arithmetic Times = 16 ∷ 0 ∷ []
 abbrev pub return : List ℕ
 return = 46 ∷ []
 
--- variables have one cell after another, from this one on
-abbrev pub cell_after : (cell : ℕ) → List ℕ → ℕ → ℕ
-cell_after cell [] name = 0
-cell_after cell (variable ∷ variables) name = if name == variable then cell else cell_after (cell + 1) variables name
+-- the cell of the variable that a name stands for; 0 where it stands for none
+abbrev pub cell_of : List (List Row) → Ident → ℕ
+cell_of tables name = row_cell (use_of tables own_chain name).value
 
--- the cell of the first variable of that name; 0 where there is none
-abbrev pub cell_of : List ℕ → ℕ → ℕ
-cell_of variables name = cell_after 0 variables name
+abbrev pub operand_code : List (List Row) → Operand → List ℕ
+operand_code tables (Literal value) = push value
+operand_code tables (Variable name) = global (cell_of tables name) ++ load
 
-abbrev pub operand_code : List ℕ → Operand → List ℕ
-operand_code variables (Literal value) = push value
-operand_code variables (Variable name) = global (cell_of variables name.name) ++ load
+abbrev pub value_code : List (List Row) → Value → List ℕ
+value_code tables (Single operand) = operand_code tables operand
+value_code tables (Pair left operator right) = operand_code tables left ++ operand_code tables right ++ arithmetic operator
 
-abbrev pub value_code : List ℕ → Value → List ℕ
-value_code variables (Single operand) = operand_code variables operand
-value_code variables (Pair left operator right) = operand_code variables left ++ operand_code variables right ++ arithmetic operator
-
-abbrev pub statement_code : List ℕ → Statement → List ℕ
-statement_code variables Empty = []
-statement_code variables (Assign to value) = global (cell_of variables to.name) ++ value_code variables value ++ store
+abbrev pub statement_code : List (List Row) → Statement → List ℕ
+statement_code tables Empty = []
+statement_code tables (Assign to value) = global (cell_of tables to) ++ value_code tables value ++ store
 
 -- the cells of these names
-abbrev pub cells_of : (variables : List ℕ) → List Ident → List ℕ
-cells_of variables uses = map (λ ident. cell_of variables ident.name) uses
+abbrev pub cells_of : (tables : List (List Row)) → List Ident → List ℕ
+cells_of tables uses = map (cell_of tables) uses
 
 -- With the cells of these names before it, this code comes after the old one, and the cells behind them are left.
-abbrev pub Writes : (uses : List Ident) → (code : List ℕ → List ℕ) → (cells left : List ℕ) → (old new : List ℕ) → Type 0
-Writes uses code cells left old new = (variables rest : List ℕ) → cells ≡ cells_of variables uses ++ rest → (new ≡ old ++ code variables) × (left ≡ rest)
+abbrev pub Writes : (uses : List Ident) → (code : List (List Row) → List ℕ) → (cells left : List ℕ) → (old new : List ℕ) → Type 0
+Writes uses code cells left old new = (tables : List (List Row)) (rest : List ℕ) → cells ≡ cells_of tables uses ++ rest → (new ≡ old ++ code tables) × (left ≡ rest)
 
 -- the statements' code one after another, and Return
-unfoldable pub body_code : List ℕ → List Statement → List ℕ
-body_code variables body = flat_map (λ statement. statement_code variables statement) body ++ return
+unfoldable pub body_code : List (List Row) → List Statement → List ℕ
+body_code tables body = flat_map (λ statement. statement_code tables statement) body ++ return
 
 -- how many values are on the stack at most: the address, and the value's operands
 abbrev pub statement_high : Statement → ℕ

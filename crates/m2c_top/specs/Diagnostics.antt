@@ -1,25 +1,28 @@
--- The diagnostics of a plain module, in the order of their tokens: the variables stand before the statements, and these
--- before the closing name.
-use Rattle.std.specs.Prelude.{ℕ, ◌==◌, if◌then◌else◌, List, [], ◌∷◌, ◌++◌}
-use Rattle.std.specs.List.{flat_map}
+-- The diagnostics of a module: those of its declarations, that its variables have too many cells, and those of the names that
+-- its statements use.
+use Rattle.std.specs.Prelude.{ℕ, nat_lt, if◌then◌else◌, List, [], ◌∷◌, ◌++◌, Option, Some, None}
+use Rattle.m2_base.specs.Statics.Cells.{most_cells}
+use Rattle.m2_base.specs.Statics.UnitNotes.{declaration_diags}
 use Rattle.m2_base.specs.declared.notes.Diag.{Diag}
-use Rattle.m2c_top.specs.Codes.{diag_at, closing_differs, unknown_name}
-use Rattle.m2c_top.specs.Declarations.{diags_after}
-use Rattle.m2c_top.specs.Sound.{names_of, is_variable}
-use Rattle.m2c_top.specs.Trees.{PlainModule}
+use Rattle.m2_base.specs.declared.trees.Ident.{Ident}
+use Rattle.m2c_top.specs.Bindings.{own_chain, uses_of}
+use Rattle.m2c_top.specs.Codes.{diag_at, too_many_cells}
+use Rattle.m2c_top.specs.Modules.{Module, cells_in, tables_of, trees_of}
+use Rattle.m2c_top.specs.Ordering.{in_order}
 use Rattle.m2c_top.specs.Uses.{body_uses}
-use Rattle.m2c_top.specs.declared.plain.tree.Ident.{Ident}
 
--- a name that no variable has is unknown
-abbrev pub use_diags : (variables : List ℕ) → Ident → List Diag
-use_diags variables use_ = if is_variable variables use_.name then [] else diag_at use_.at unknown_name ∷ []
+-- too many cells are told at the module's name
+abbrev pub room_diags : (name : Option Ident) → (cells : ℕ) → List Diag
+room_diags None cells = []
+room_diags (Some name) cells = if nat_lt most_cells cells then diag_at name.at too_many_cells ∷ [] else []
 
-abbrev pub uses_diags : (variables : List ℕ) → List Ident → List Diag
-uses_diags variables uses = flat_map (λ ident. use_diags variables ident) uses
+-- the diagnostics of the names that its statements use
+abbrev pub use_diags : Module → List Diag
+use_diags m = (uses_of (tables_of m) own_chain [] (body_uses m.body)).diags
 
--- the closing name is to be the module's
-abbrev pub closing_diags : (name : ℕ) → (close : Ident) → List Diag
-closing_diags name close = if close.name == name then [] else diag_at close.at closing_differs ∷ []
+-- all of them, as they are noted
+abbrev pub noted_in : Module → List Diag
+noted_in m = declaration_diags (trees_of m) ++ (room_diags m.tree.name (cells_in m) ++ use_diags m)
 
-abbrev pub diags_of : PlainModule → List Diag
-diags_of m = (diags_after [] m.variables ++ uses_diags (names_of m.variables) (body_uses m.body)) ++ closing_diags m.name.name m.close
+abbrev pub diags_of : Module → List Diag
+diags_of m = in_order (noted_in m)

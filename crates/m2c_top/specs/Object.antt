@@ -1,8 +1,7 @@
 -- The bytes of an object.
 use Rattle.std.specs.Prelude.{ℕ, List, [], ◌++◌, length, codes}
 use Rattle.m2c_top.specs.Code.{number, body_code, body_high}
-use Rattle.m2c_top.specs.Sound.{names_of}
-use Rattle.m2c_top.specs.Trees.{PlainModule}
+use Rattle.m2c_top.specs.Modules.{Module, cells_in, tables_of}
 
 -- the length, and the bytes
 abbrev pub counted : List ℕ → List ℕ
@@ -16,6 +15,6 @@ body_entry high code = number 0 ++ number 0 ++ number 0 ++ number 0 ++ number hi
 unfoldable pub object_of : List ℕ → ℕ → ℕ → List ℕ → List ℕ
 object_of name cells high code = codes "M2OB" ++ number 1 ++ counted name ++ number cells ++ number 0 ++ number 0 ++ number 0 ++ number 1 ++ body_entry high code
 
--- the object of a plain module
-abbrev pub object_bytes : List ℕ → PlainModule → List ℕ
-object_bytes name m = object_of name (length m.variables) (body_high m.body) (body_code (names_of m.variables) m.body)
+-- the object of a module
+abbrev pub object_bytes : List ℕ → Module → List ℕ
+object_bytes name m = object_of name (cells_in m) (body_high m.body) (body_code (tables_of m) m.body)

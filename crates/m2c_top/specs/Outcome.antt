@@ -6,13 +6,13 @@ use Rattle.m2_base.specs.declared.token.Token.{Token}
 use Rattle.m2_io.specs.Files.{Files, with_file}
 use Rattle.m2_io.specs.Written.{with_bytes, WritesPart}
 use Rattle.m2c_top.specs.Command.{Command, compile, Asks, IsNoCommand}
-use Rattle.m2c_top.specs.Decisions.{Decision, limited, unbuilt, refused, plain, Decides}
+use Rattle.m2c_top.specs.Decisions.{Decision, limited, unbuilt, refused, to_compile, Decides}
 use Rattle.m2c_top.specs.Diagnostics.{diags_of}
 use Rattle.m2c_top.specs.Limits.{limit_text}
 use Rattle.m2c_top.specs.Listing.{listing}
 use Rattle.m2c_top.specs.Object.{object_bytes}
 use Rattle.m2c_top.specs.Statuses.{status_number}
-use Rattle.m2c_top.specs.Trees.{Parsed}
+use Rattle.m2c_top.specs.Modules.{Module}
 use Rattle.m2c_top.specs.declared.status.Status.{Status}
 use Rattle.m2c_top.specs.declared.status.Status.TheVariants.{Done, Diagnosed, NoCommand, NoText, OverLimit, NotBuilt}
 use Rattle.m2c_top.specs.declared.verdict.Limit.{Limit}
@@ -53,22 +53,22 @@ HasOtherText name files = IsDecided name files unbuilt
 abbrev pub HasWrongText : List ℕ → Files → List Token → Diag → Type 0
 HasWrongText name files tokens diag = IsDecided name files (refused tokens diag)
 
--- its text is that of this plain module, which has no diagnostic
-abbrev pub HasSoundText : List ℕ → Files → Parsed → Type 0
-HasSoundText name files p = IsDecided name files (plain p) × (diags_of p.tree ≡ [])
+-- its text is that of this module, which has no diagnostic
+abbrev pub HasSoundText : List ℕ → Files → Module → Type 0
+HasSoundText name files m = IsDecided name files (to_compile m) × (diags_of m ≡ [])
 
--- its text is that of this plain module, which has diagnostics
-abbrev pub HasFaultyText : List ℕ → Files → Parsed → Type 0
-HasFaultyText name files p = IsDecided name files (plain p) × (diags_of p.tree ≢ [])
+-- its text is that of this module, which has diagnostics
+abbrev pub HasFaultyText : List ℕ → Files → Module → Type 0
+HasFaultyText name files m = IsDecided name files (to_compile m) × (diags_of m ≢ [])
 
--- its text has diagnostics: what it is refused for, or those of its plain module
+-- its text has diagnostics: what it is refused for, or those of its module
 abbrev pub HasDiagnostics : List ℕ → Files → Type 0
-HasDiagnostics name files = ((tokens : List Token) × (diag : Diag) × HasWrongText name files tokens diag) ⊎ ((p : Parsed) × HasFaultyText name files p)
+HasDiagnostics name files = ((tokens : List Token) × (diag : Diag) × HasWrongText name files tokens diag) ⊎ ((m : Module) × HasFaultyText name files m)
 
 -- The outcome of compiling a module of these files: one row of the table of statuses each.
 pub data Compiles (name : List ℕ) (files : Files) : Outcome → Type 0 where
-  compiled : (p : Parsed) → HasSoundText name files p → Compiles name files (record { status = Done; printed = []; files = insert files (object_name name) (object_bytes name p.tree) })
-  diagnosed : (p : Parsed) → HasFaultyText name files p → Compiles name files (record { status = Diagnosed; printed = listing (text_name name) p.tokens (diags_of p.tree); files = files })
+  compiled : (m : Module) → HasSoundText name files m → Compiles name files (record { status = Done; printed = []; files = insert files (object_name name) (object_bytes name m) })
+  diagnosed : (m : Module) → HasFaultyText name files m → Compiles name files (record { status = Diagnosed; printed = listing (text_name name) m.tokens (diags_of m); files = files })
   wrong : (tokens : List Token) (diag : Diag) → HasWrongText name files tokens diag → Compiles name files (record { status = Diagnosed; printed = listing (text_name name) tokens (diag ∷ []); files = files })
   no_text : LacksText name files → Compiles name files (record { status = NoText; printed = line (codes "no text " ++ text_name name); files = files })
   over_limit : (limit : Limit) → HasTooMuchText name files limit → Compiles name files (record { status = OverLimit; printed = line (limit_text limit); files = files })
@@ -101,7 +101,7 @@ PrintsPart given old new = (outcome : Outcome) → given outcome → WritesPart 
 
 -- the bytes are the object of the module's text
 abbrev pub IsObjectOf : List ℕ → Files → List ℕ → Type 0
-IsObjectOf name files bytes = (p : Parsed) × HasSoundText name files p × (bytes ≡ object_bytes name p.tree)
+IsObjectOf name files bytes = (m : Module) × HasSoundText name files m × (bytes ≡ object_bytes name m)
 
 -- a front of the module's object is put under its name, and all else stays
 abbrev pub PutsPart : List ℕ → Option Files → Option Files → Type 0

@@ -1,7 +1,7 @@
 -- The names that statements use, in text order.
 use Rattle.std.specs.Prelude.{List, [], ◌∷◌, ◌++◌}
 use Rattle.std.specs.List.{flat_map}
-use Rattle.m2c_top.specs.declared.plain.tree.Ident.{Ident}
+use Rattle.m2_base.specs.declared.trees.Ident.{Ident}
 use Rattle.m2c_top.specs.declared.plain.tree.Operand.{Operand}
 use Rattle.m2c_top.specs.declared.plain.tree.Operand.TheVariants.{Literal, Variable}
 use Rattle.m2c_top.specs.declared.plain.tree.Value.{Value}

@@ -1,13 +1,14 @@
-//! The code of a plain module's body.
-ghost use Rattle.std.specs.Prelude.{◌≡◌, ◌++◌, ◌∷◌, [], ◌≤◌, List, ℕ, drop, slice_index, OnOk, IfOk};
+//! The code of a body.
+ghost use Rattle.std.specs.Prelude.{◌≡◌, ◌++◌, ◌∷◌, [], ◌≤◌, List, drop, slice_index, OnOk, IfOk};
 ghost use Rattle.m2c_top.specs.Code.{number as spec_number, push as spec_push, global as spec_global, load, store, arithmetic as spec_arithmetic, operand_code, value_code, statement_code, body_code as spec_body, statement_high as spec_high, body_high as spec_body_high, cells_of, Writes};
+ghost use Rattle.m2_base.specs.declared.rows.Row.{Row};
 ghost use Rattle.m2c_top.specs.Uses.{operand_uses, value_uses, statement_uses, body_uses};
 
 use crate::plain::{Operand, Operator, Statement, Value};
 use m2_base::Memory;
 use std::alloc::Global;
 
-/// The instructions of a plain module, by their opcodes.
+/// The instructions of a body, by their opcodes.
 const PUSH: u8 = 0x01;
 
 const GLOBAL: u8 = 0x03;
@@ -38,7 +39,7 @@ pub fn push_number(bytes: &mut Vec<u8>, number: u32) -> Result<(), Memory>
 /// The code of the statements, and Return. The names that they use have these cells, in text order.
 #[tactic(auto, unfolding(crate::specs::Code::body_code))]
 pub fn body_code(alloc: Global, cells: &[u32], body: &[Statement]) -> Result<Vec<u8>, Memory>
-    ensures { IfOk result (λ code. (variables : List ℕ) → cells.now ≡ cells_of variables (body_uses body.now) → code.items ≡ spec_body variables body.now) }
+    ensures { IfOk result (λ code. (tables : List (List Row)) → cells.now ≡ cells_of tables (body_uses body.now) → code.items ≡ spec_body tables body.now) }
 {
     let mut code = Vec::new(alloc);
     let mut left = cells;
@@ -55,7 +56,7 @@ fn push_statement<'c>(
     cells: &'c [u32],
     statement: Statement,
 ) -> Result<&'c [u32], Memory>
-    ensures { IfOk result (λ left. Writes (statement_uses statement) (λ variables. statement_code variables statement) cells.now left.now code.old.items code.new.items) }
+    ensures { IfOk result (λ left. Writes (statement_uses statement) (λ tables. statement_code tables statement) cells.now left.now code.old.items code.new.items) }
 {
     match statement {
         Statement::Empty => Ok(cells),
@@ -69,7 +70,7 @@ fn push_statement<'c>(
 }
 
 fn push_value<'c>(code: &mut Vec<u8>, cells: &'c [u32], value: Value) -> Result<&'c [u32], Memory>
-    ensures { IfOk result (λ left. Writes (value_uses value) (λ variables. value_code variables value) cells.now left.now code.old.items code.new.items) }
+    ensures { IfOk result (λ left. Writes (value_uses value) (λ tables. value_code tables value) cells.now left.now code.old.items code.new.items) }
 {
     match value {
         Value::Single(operand) => push_operand(code, cells, operand),
@@ -87,7 +88,7 @@ fn push_operand<'c>(
     cells: &'c [u32],
     operand: Operand,
 ) -> Result<&'c [u32], Memory>
-    ensures { IfOk result (λ left. Writes (operand_uses operand) (λ variables. operand_code variables operand) cells.now left.now code.old.items code.new.items) }
+    ensures { IfOk result (λ left. Writes (operand_uses operand) (λ tables. operand_code tables operand) cells.now left.now code.old.items code.new.items) }
 {
     match operand {
         Operand::Literal(value) => {

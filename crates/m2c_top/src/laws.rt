@@ -4,20 +4,19 @@ ghost use Rattle.m2_base.specs.Lists.{Each};
 ghost use Rattle.m2_io.specs.Files.{Files};
 ghost use Rattle.m2_base.specs.declared.notes.Diag.{Diag};
 ghost use Rattle.m2_base.specs.declared.token.Token.{Token};
-ghost use Rattle.m2c_top.specs.Decisions.{Decides, refused};
+ghost use Rattle.m2c_top.specs.Decisions.{Decides, refused, to_compile};
 ghost use Rattle.m2c_top.specs.Diagnostics.{diags_of};
 ghost use Rattle.m2c_top.specs.Outcome.{Outcome, Gives};
-ghost use Rattle.m2c_top.specs.Plain.{IsPlain};
-ghost use Rattle.m2c_top.specs.Trees.{Parsed};
+ghost use Rattle.m2c_top.specs.Modules.{Module};
 
 /// The words have one outcome over these files.
 pub fn one_outcome()
     ensures { (words : List (List ℕ)) (files : Files) (these those : Outcome) → Gives words files these → Gives words files those → these ≡ those }
 {}
 
-/// Each diagnostic of a plain text stands at one of its tokens, and so has a line in the listing.
+/// Each diagnostic of a module's text stands at one of its tokens, and so has a line in the listing.
 pub fn diagnostics_have_lines()
-    ensures { (name text : List ℕ) (p : Parsed) → IsPlain name text p → Each (λ diag. diag.at < length p.tokens) (diags_of p.tree) }
+    ensures { (name text : List ℕ) (m : Module) → Decides name text (to_compile m) → Each (λ diag. diag.at < length m.tokens) (diags_of m) }
 {}
 
 /// What a text is refused for stands at one of its tokens, and so has a line in the listing.

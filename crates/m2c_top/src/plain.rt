@@ -1,14 +1,11 @@
-//! The plain modules: INTEGER variables, and assignments of numbers, variables, and what one operator makes of two of them.
+//! The bodies that are compiled so far: of empty statements, and of assignments of numbers, variables, and what one operator
+//! makes of two of them.
 
+mod body;
 mod bytes;
-mod check;
-mod reader;
-mod symbol;
-mod text;
 mod tree;
 mod uses;
 
-pub use check::is_standard;
-pub use text::{Plain, is_named, plain_module};
-pub use tree::{Ident, Module, Operand, Operator, Statement, Value};
+pub use body::body_of;
+pub use tree::{Operand, Operator, Statement, Value};
 pub use uses::uses_of;

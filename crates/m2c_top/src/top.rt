@@ -13,18 +13,17 @@ ghost use Rattle.m2c_top.specs.Listing.{listing as spec_listing};
 ghost use Rattle.m2c_top.specs.Object.{object_bytes};
 ghost use Rattle.m2c_top.specs.Outcome.{AsksToCompile, Commands, line, text_name, object_name, Compiles, Gives, LacksText, HasTooMuchText, HasDiagnostics, HasSoundText, HasOtherText, Leaves, PrintsPart, PutsPart, KeepsButObject};
 ghost use Rattle.m2c_top.specs.Statuses.{status_number, IsFault, IsStatus, IsAnswer, Exactly};
-ghost use Rattle.m2c_top.specs.Sound.{names_of};
-ghost use Rattle.m2c_top.specs.Trees.{module_view, Parsed};
+ghost use Rattle.m2c_top.specs.Modules.{Module as SpecModule, cells_in, tables_of};
 ghost use Rattle.m2c_top.specs.Uses.{body_uses};
-ghost use Rattle.m2c_top.specs.Verdicts.{decision_of, HoldsPlain};
+ghost use Rattle.m2c_top.specs.Verdicts.{decision_of, HoldsModule};
 ghost use Rattle.m2c_top.specs.declared.verdict.Limit.{Limit as SpecLimit};
 
-use crate::analysis::analyse;
+use crate::analysis::{Analysis, analyse};
 use crate::code::{body_code, body_high};
 use crate::command::module_to_compile;
 use crate::listing::listing;
+use crate::module::Module;
 use crate::object::object_of;
-use crate::plain::{Module, Plain};
 use crate::status::Status;
 use crate::verdict::{Limit, MOST_BYTES, Verdict, decide};
 use m2_base::{Diag, Memory, Token};
@@ -89,20 +88,26 @@ fn read_text<H: Shelf>(alloc: Global, name: &str, shelf: &mut H) -> Result<Optio
     }
 }
 
-/// The object of a plain module. The names of its statements have these cells, in text order.
-fn object_for(alloc: Global, name: &str, tree: &Module, cells: &[u32]) -> Result<Vec<u8>, Memory>
+/// The object of a module with these cells, whose statements use variables with those, in text order.
+fn object_for(
+    alloc: Global,
+    name: &str,
+    source: &Module,
+    cells: u32,
+    uses: &[u32],
+) -> Result<Vec<u8>, Memory>
     requires name { length name.now ≤ 64 }
-    requires body { length tree.now.body.items ≤ 1048576 }
-    requires variables { length tree.now.variables.items ≤ 1048576 }
-    requires cells { cells.now ≡ cells_of (names_of tree.now.variables.items) (body_uses tree.now.body.items) }
-    ensures { IfOk result (λ bytes. bytes.items ≡ object_bytes name.now (module_view tree.now)) }
+    requires held { IsHeld source.now }
+    requires cells { cells ≡ cells_in (held source.now) }
+    requires uses { uses.now ≡ cells_of (tables_of (held source.now)) (body_uses source.now.body.items) }
+    ensures { IfOk result (λ bytes. bytes.items ≡ object_bytes name.now (held source.now)) }
 {
-    let body = tree.body.as_slice();
-    let code = body_code(alloc, cells, body)?;
+    let body = source.body.as_slice();
+    let code = body_code(alloc, uses, body)?;
     object_of(
         alloc,
         name.as_bytes(),
-        tree.variables.len() as u32,
+        cells,
         body_high(body),
         code.as_slice(),
     )
@@ -112,21 +117,21 @@ fn object_for(alloc: Global, name: &str, tree: &Module, cells: &[u32]) -> Result
 fn write_object<H: Shelf>(
     alloc: Global,
     name: &str,
-    tree: &Module,
-    cells: &[u32],
+    source: &Module,
+    found: &Analysis,
     shelf: &mut H,
 ) -> Result<(), Stop>
     requires name { IsTrue (is_name name.now) }
-    requires body { length tree.now.body.items ≤ 1048576 }
-    requires variables { length tree.now.variables.items ≤ 1048576 }
-    requires cells { cells.now ≡ cells_of (names_of tree.now.variables.items) (body_uses tree.now.body.items) }
-    ensures ok { OnOk result (H.holds shelf.new ≡ with_file (H.holds shelf.old) (object_name name.now) (object_bytes name.now (module_view tree.now))) }
-    ensures part { IsErrOf result Stop.Write → HasPart (H.holds shelf.old) (object_name name.now) (object_bytes name.now (module_view tree.now)) (H.holds shelf.new) }
+    requires held { IsHeld source.now }
+    requires cells { found.now.cells ≡ cells_in (held source.now) }
+    requires uses { found.now.uses.items ≡ cells_of (tables_of (held source.now)) (body_uses source.now.body.items) }
+    ensures ok { OnOk result (H.holds shelf.new ≡ with_file (H.holds shelf.old) (object_name name.now) (object_bytes name.now (held source.now))) }
+    ensures part { IsErrOf result Stop.Write → HasPart (H.holds shelf.old) (object_name name.now) (object_bytes name.now (held source.now)) (H.holds shelf.new) }
     ensures memory { IsErrOf result Stop.Memory → H.holds shelf.new ≡ H.holds shelf.old }
     ensures write { IsErrOf result Stop.Write → Rose (H.put_faults shelf.old) (H.put_faults shelf.new) }
     ensures no_read { IsErrOf result Stop.Read → ⊥ }
 {
-    let object = object_for(alloc, name, tree, cells)?;
+    let object = object_for(alloc, name, source, found.cells, found.uses.as_slice())?;
     let target = format!(in alloc; "{name}.m2o")?;
     match shelf.put(alloc, target.as_str(), object.as_slice()) {
         Ok(()) => Ok(()),
@@ -154,30 +159,30 @@ fn print_listing<P: Sink>(
     Ok(())
 }
 
-/// Puts the object of a plain module on the shelf, or prints the listing where the module has diagnostics.
+/// Puts the object of a module on the shelf, or prints the listing where the module has diagnostics.
 fn deliver<H: Shelf, P: Sink>(
     alloc: Global,
     name: &str,
-    plain: &Plain,
+    source: &Module,
     shelf: &mut H,
     print: &mut P,
 ) -> Result<Status, Stop>
     requires name { IsTrue (is_name name.now) }
-    requires held { IsHeld plain.now }
-    ensures delivered { IfOk result (λ status. Delivered name.now (held plain.now) status (H.holds shelf.old) (H.holds shelf.new) (P.written print.old) (P.written print.new)) }
-    ensures prints { OnErr result (PrintsListing name.now (held plain.now) (P.written print.old) (P.written print.new)) }
-    ensures part { IsErrOf result Stop.Write → PutsObject name.now (held plain.now) (H.holds shelf.old) (H.holds shelf.new) }
+    requires held { IsHeld source.now }
+    ensures delivered { IfOk result (λ status. Delivered name.now (held source.now) status (H.holds shelf.old) (H.holds shelf.new) (P.written print.old) (P.written print.new)) }
+    ensures prints { OnErr result (PrintsListing name.now (held source.now) (P.written print.old) (P.written print.new)) }
+    ensures part { IsErrOf result Stop.Write → PutsObject name.now (held source.now) (H.holds shelf.old) (H.holds shelf.new) }
     ensures memory { IsErrOf result Stop.Memory → H.holds shelf.new ≡ H.holds shelf.old }
     ensures no_read { IsErrOf result Stop.Read → ⊥ }
     ensures write { IsErrOf result Stop.Write → Rose (H.put_faults shelf.old) (H.put_faults shelf.new) ⊎ Rose (P.faults print.old) (P.faults print.new) }
 {
-    let found = analyse(alloc, plain)?;
+    let found = analyse(alloc, source)?;
     let diags = found.diags.as_slice();
     if diags.is_empty() {
-        write_object(alloc, name, &plain.module, found.cells.as_slice(), shelf)?;
+        write_object(alloc, name, source, &found, shelf)?;
         return Ok(Status::Done);
     }
-    let tokens = plain.texts.main().tokens.as_slice();
+    let tokens = source.texts.main().tokens.as_slice();
     print_listing(alloc, name, tokens, diags, print)?;
     Ok(Status::Diagnosed)
 }
@@ -216,7 +221,7 @@ fn answer<H: Shelf, P: Sink>(
     print: &mut P,
 ) -> Result<Status, Stop>
     requires name { IsTrue (is_name name.now) }
-    requires held { HoldsPlain verdict.now }
+    requires held { HoldsModule verdict.now }
     ensures answered { IfOk result (λ status. Answered name.now (decision_of verdict.now) status (H.holds shelf.old) (H.holds shelf.new) (P.written print.old) (P.written print.new)) }
     ensures prints { OnErr result (PrintsFront name.now (decision_of verdict.now) (P.written print.old) (P.written print.new)) }
     ensures part { IsErrOf result Stop.Write → PutsFront name.now (decision_of verdict.now) (H.holds shelf.old) (H.holds shelf.new) }
@@ -231,7 +236,7 @@ fn answer<H: Shelf, P: Sink>(
             print_listing(alloc, name, tokens.as_slice(), &[*diag], print)?;
             Ok(Status::Diagnosed)
         }
-        Verdict::Plain(plain) => deliver(alloc, name, plain, shelf, print),
+        Verdict::ToCompile(source) => deliver(alloc, name, source, shelf, print),
     }
 }
 
@@ -334,7 +339,7 @@ pub fn m2c<R, H: Shelf, P: Sink, K: Source, G: Gate>(
     // When each status comes.
     ensures no_command { Exactly result 2 (IsNoCommand (map string_bytes words.now)) }
     ensures no_text { IfSome (H.holds shelf.old) (λ files. Exactly result 3 (AsksToCompile (map string_bytes words.now) (λ name. LacksText name files))) }
-    ensures done { IfSome (H.holds shelf.old) (λ files. Exactly result 0 (AsksToCompile (map string_bytes words.now) (λ name. (p : Parsed) × HasSoundText name files p))) }
+    ensures done { IfSome (H.holds shelf.old) (λ files. Exactly result 0 (AsksToCompile (map string_bytes words.now) (λ name. (m : SpecModule) × HasSoundText name files m))) }
     ensures refused { IfSome (H.holds shelf.old) (λ files. Exactly result 1 (AsksToCompile (map string_bytes words.now) (λ name. HasDiagnostics name files))) }
     ensures limits { IfSome (H.holds shelf.old) (λ files. Exactly result 7 (AsksToCompile (map string_bytes words.now) (λ name. (limit : SpecLimit) × HasTooMuchText name files limit))) }
     ensures not_built { IfSome (H.holds shelf.old) (λ files. Exactly result 11 (AsksToCompile (map string_bytes words.now) (λ name. HasOtherText name files))) }

@@ -1,15 +1,22 @@
-//! What is decided of a main text: a limit that it passes, a form that isn't built yet, what it is refused for, or its plain module.
-ghost use Rattle.std.specs.Prelude.{◌≡◌, ◌≤◌, ◌<◌, ◌^◌, false, length, map, vec_len, IfOk, IfSome, MatchOption, IsTrue};
-ghost use Rattle.m2_base.specs.Names.{standard_names};
+//! What is decided of a main text: a limit that it passes, a form that isn't built yet, what it is refused for, or the module
+//! that is compiled.
+ghost use Rattle.std.specs.Prelude.{◌≡◌, ◌≤◌, length, vec_len, IfOk, IfSome, MatchOption, IsTrue, Ok};
 ghost use Rattle.m2_base.specs.Tokens.{AreTokens};
+ghost use Rattle.m2_base.specs.Units.{IsUnit};
+ghost use Rattle.m2_base.specs.Views.{stream_view};
 ghost use Rattle.m2_lex.specs.Faults.{HasTooMany};
-ghost use Rattle.m2_parse.specs.Fitting.{all_fit, names_fit};
-ghost use Rattle.m2c_top.specs.Decisions.{Decides, HasTokens, IsBuilt, NamesOther, decision_for, begins_with as spec_begins_with, has_unbuilt as spec_has_unbuilt, is_of as spec_is_of, is_unbuilt as spec_is_unbuilt, other_name_at};
-ghost use Rattle.m2c_top.specs.Verdicts.{decision_of, HoldsPlain, IsPlainOrNot};
+ghost use Rattle.m2_lex.specs.LoneTexts.{one_text};
+ghost use Rattle.m2_parse.specs.Fitting.{names_fit};
+ghost use Rattle.m2c_top.specs.Decisions.{Answers, Decides, IsBuilt, NamesOther, decision_for, begins_with as spec_begins_with, has_unbuilt as spec_has_unbuilt, is_of as spec_is_of, is_unbuilt as spec_is_unbuilt, other_name_at};
+ghost use Rattle.m2c_top.specs.Names.{is_named as spec_named, number_of as spec_number};
+ghost use Rattle.m2c_top.specs.Verdicts.{decision_of, HoldsModule, IsModuleOrNot};
 
 use crate::diagnostic::{OTHER_MODULE, diag_at};
-use crate::plain::{Plain, is_named, plain_module};
-use m2_base::{Diag, Ident, Memory, Names, StreamFault, StreamKind, Token, TokenKind};
+use crate::module::Module;
+use crate::plain::body_of;
+use m2_base::{
+    Diag, Ident, Memory, Names, Stream, StreamFault, StreamKind, Text, Texts, Token, TokenKind,
+};
 use m2_lex::{LexFault, lex};
 use m2_parse::{ParseFault, front, parse_stream};
 use std::alloc::Global;
@@ -31,13 +38,14 @@ pub enum Verdict {
     NotBuilt,
     /// The text is refused for what stands at one of its tokens.
     Refused(Vec<Token>, Diag),
-    Plain(Plain),
+    /// The text is that of a module that is compiled.
+    ToCompile(Module),
 }
 
 /// What is decided of the text of the module of that name.
 pub fn decide(alloc: Global, name: &[u8], text: &[u8]) -> Result<Verdict, Memory>
     ensures decides { IfOk result (λ verdict. Decides name.now text.now (decision_of verdict)) }
-    ensures held { IfOk result HoldsPlain }
+    ensures held { IfOk result HoldsModule }
 {
     if text.len() > MOST_BYTES {
         return Ok(Verdict::Limited(Limit::TextBytes));
@@ -114,14 +122,14 @@ fn decide_built(
 ) -> Result<Verdict, Memory>
     requires built { IsBuilt text.now (record { names = names; tokens = tokens.items }) }
     ensures decides { IfOk result (λ verdict. Decides name.now text.now (decision_of verdict)) }
-    ensures held { IfOk result HoldsPlain }
+    ensures held { IfOk result HoldsModule }
 {
     let _countable = names.count();
     if let Some(at) = other_name(alloc, name, &names, tokens.as_slice())? {
         return Ok(Verdict::Refused(tokens, diag_at(at, OTHER_MODULE)));
     }
     match parse_stream(alloc, tokens.as_slice(), 0, StreamKind::Main) {
-        Ok(_tree) => plain_or_not(alloc, name, text, names, tokens),
+        Ok(tree) => module_or_not(alloc, text, names, tokens, tree),
         Err(ParseFault::Fault(fault)) => Ok(verdict_for(tokens, fault)),
         Err(ParseFault::Memory) => Err(Memory),
     }
@@ -147,7 +155,7 @@ fn place_of_other(name: &[u8], names: &Names, found: Option<Ident>) -> Option<u3
     match found {
         None => None,
         Some(ident) => {
-            if is_named(names, name, u64::from(ident.name)) {
+            if is_named(names, name, ident.name) {
                 None
             } else {
                 Some(ident.at)
@@ -156,10 +164,17 @@ fn place_of_other(name: &[u8], names: &Names, found: Option<Ident>) -> Option<u3
     }
 }
 
+/// Whether the name of that number is this one.
+fn is_named(names: &Names, name: &[u8], number: u32) -> bool
+    ensures { result ≡ spec_named names.now name.now number }
+{
+    number < names.count() && name == names.bytes(number)
+}
+
 /// What is decided of a text with that fault.
 fn verdict_for(tokens: Vec<Token>, fault: StreamFault) -> Verdict
     ensures decision { decision_of result ≡ decision_for tokens.items fault }
-    ensures held { HoldsPlain result }
+    ensures held { HoldsModule result }
 {
     match fault {
         StreamFault::Syntax(diag) => Verdict::Refused(tokens, diag),
@@ -167,20 +182,47 @@ fn verdict_for(tokens: Vec<Token>, fault: StreamFault) -> Verdict
     }
 }
 
-/// The plain module of the text, or a form that isn't built yet.
-fn plain_or_not(
+/// The module of a text with this tree, or a body that isn't compiled yet.
+fn module_or_not(
     alloc: Global,
-    name: &[u8],
     text: &[u8],
     names: Names,
     tokens: Vec<Token>,
+    tree: Stream,
 ) -> Result<Verdict, Memory>
-    requires tokens { HasTokens text.now (record { names = names; tokens = tokens.items }) }
-    ensures decision { IfOk result (λ verdict. IsPlainOrNot name.now text.now (decision_of verdict)) }
-    ensures held { IfOk result HoldsPlain }
+    requires built { IsBuilt text.now (record { names = names; tokens = tokens.items }) }
+    requires spelled { Answers tokens.items (Ok (stream_view tree)) }
+    ensures decision { IfOk result (λ verdict. IsModuleOrNot text.now (record { names = names; tokens = tokens.items }) (stream_view tree) (decision_of verdict)) }
+    ensures held { IfOk result HoldsModule }
 {
-    match plain_module(alloc, name, text, names, tokens)? {
-        Some(plain) => Ok(Verdict::Plain(plain)),
-        None => Ok(Verdict::NotBuilt),
+    let Some(body) = body_of(alloc, text, tokens.as_slice(), &tree)? else {
+        return Ok(Verdict::NotBuilt);
+    };
+    let _countable = names.count();
+    let texts = unit_of(alloc, names, number_of(tree.name), tokens)?;
+    Ok(Verdict::ToCompile(Module { texts, tree, body }))
+}
+
+/// The number of a module's name.
+fn number_of(name: Option<Ident>) -> u32
+    ensures { result ≡ spec_number name }
+{
+    match name {
+        Some(ident) => ident.name,
+        None => 0,
     }
+}
+
+/// The unit of one text.
+fn unit_of(alloc: Global, names: Names, name: u32, tokens: Vec<Token>) -> Result<Texts, Memory>
+    requires { IsUnit (one_text names name tokens.items) }
+    ensures { IfOk result (λ texts. texts ≡ one_text names name tokens.items) }
+{
+    let text = Text {
+        name,
+        definition: false,
+        tokens,
+    };
+    let list = vec![in alloc; text]?;
+    Ok(Texts::new(names, list, Vec::new(alloc), None))
 }

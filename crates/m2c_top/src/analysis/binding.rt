@@ -1,17 +1,16 @@
 //! How the names of statements are bound to rows.
 ghost use Rattle.std.specs.Prelude.{◌≡◌, ◌≢◌, ◌<◌, ◌^◌, ◌∷◌, ◌++◌, [], IfSome};
 ghost use Rattle.m2_base.specs.Asks.{IfKnown, IfWaits};
-ghost use Rattle.m2_base.specs.Finished.{IsTold};
+ghost use Rattle.m2_base.specs.Finished.{WhereFinished};
 ghost use Rattle.m2_base.specs.Gives.{Adds};
 ghost use Rattle.m2_base.specs.Lists.{Each, WhereLast};
 ghost use Rattle.m2_base.specs.Rows.{row_meaning, HasSmallNumbers};
-ghost use Rattle.m2_base.specs.States.{Works, Waits, texts_of, finished_of};
+ghost use Rattle.m2_base.specs.States.{Works, Waits, texts_of};
 ghost use Rattle.m2_base.specs.declared.replies.Reply.TheVariants.{DontKnowYet};
 ghost use Rattle.m2c_top.specs.Bindings.{Suits, IsLookFor, IsName, use_of, uses_of, row_cell as spec_cell};
 
 use crate::diagnostic::{UNKNOWN_NAME, diag_at};
-use crate::plain::Ident;
-use m2_base::{Answer, Ask, Memory, Notes, Reply, Row, RowMeaning, Scopes, read_row};
+use m2_base::{Answer, Ask, Ident, Memory, Notes, Reply, Row, RowMeaning, Scopes, read_row};
 use std::alloc::Global;
 
 /// The row that a name stands for. Where it has none, that is noted.
@@ -26,12 +25,12 @@ fn use_name<S: Scopes>(
     requires name { IsName ident }
     ensures works { Works (S.state scopes.old) (S.state scopes.new) notes.old notes.new }
     ensures waits { IfWaits result (λ head. Waits (S.state scopes.old) (S.state scopes.new) head) }
-    ensures told { IsTold (texts_of (S.state scopes.old)) →
-        IfKnown result (λ row. Adds notes.old notes.new (use_of (finished_of (S.state scopes.old)) chain.now ident) row) }
+    ensures told { WhereFinished (texts_of (S.state scopes.old)) (λ tables.
+        IfKnown result (λ row. Adds notes.old notes.new (use_of tables chain.now ident) row)) }
     ensures asked { IfWaits result (λ head. WhereLast (S.state scopes.new).looks (IsLookFor chain.now ident (DontKnowYet head))) }
     ensures small { IfKnown result (λ row. IfSome row (λ row. HasSmallNumbers (row_meaning row))) }
 {
-    let name = ident.name as u32;
+    let name = ident.name;
     match scopes.search(ident.at, chain, name) {
         Reply::Found(place, row) => {
             notes.answers.push(Answer {
@@ -77,8 +76,8 @@ pub fn use_all<S: Scopes>(
     requires names { Each IsName uses.now }
     ensures works { Works (S.state scopes.old) (S.state scopes.new) notes.old notes.new }
     ensures waits { IfWaits result (λ head. Waits (S.state scopes.old) (S.state scopes.new) head) }
-    ensures told { IsTold (texts_of (S.state scopes.old)) →
-        IfKnown result (λ cells. Adds notes.old notes.new (uses_of (finished_of (S.state scopes.old)) chain.now [] uses.now) cells.items) }
+    ensures told { WhereFinished (texts_of (S.state scopes.old)) (λ tables.
+        IfKnown result (λ cells. Adds notes.old notes.new (uses_of tables chain.now [] uses.now) cells.items)) }
 {
     let mut cells = Vec::new(alloc);
     for ident in uses {

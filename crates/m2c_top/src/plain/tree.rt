@@ -1,11 +1,5 @@
-//! The tree of a plain module.
-
-/// A name where it is used or declared: the name's number, and the number of its token.
-#[derive(Clone, Copy, Debug, PartialEq, Eq)]
-pub struct Ident {
-    pub name: u64,
-    pub at: u32,
-}
+//! The statements that are compiled so far.
+use m2_base::Ident;
 
 #[derive(Clone, Copy, Debug, PartialEq, Eq)]
 pub enum Operator {
@@ -31,13 +25,4 @@ pub enum Value {
 pub enum Statement {
     Empty,
     Assign(Ident, Value),
-}
-
-/// A module without BEGIN has no statement. With it there is at least one, which may be empty.
-#[derive(Debug, Drop)]
-pub struct Module {
-    pub name: Ident,
-    pub variables: Vec<Ident>,
-    pub body: Vec<Statement>,
-    pub close: Ident,
 }

@@ -2,8 +2,8 @@
 ghost use Rattle.std.specs.Prelude.{◌≡◌, ◌++◌, IfOk, OnOk};
 ghost use Rattle.m2c_top.specs.Uses.{operand_uses, value_uses, statement_uses, body_uses};
 
-use crate::plain::tree::{Ident, Operand, Statement, Value};
-use m2_base::Memory;
+use crate::plain::tree::{Operand, Statement, Value};
+use m2_base::{Ident, Memory};
 use std::alloc::Global;
 
 /// The names that the statements use, in text order.

@@ -30,14 +30,17 @@ returns-in-Some-clause-decides c =
     subst (λ (ts : List Token). NamesOther name (record { names = c.args.names; tokens = ts }) (Some c.in-Some.at)) c.as_slice.ensures.value (rw c.in-Some.is at c.in_ok-at.ensures) in
     subst (λ (d : Diag). Decides name c.args.text.now (refused c.args.tokens.items d)) (sym c.diag_at.ensures) (other_name u c.in-Some.at c.requires.built named)
 
+pub module_or_not-requires-clause-spelled : goal.module_or_not-requires-clause-spelled
+module_or_not-requires-clause-spelled c = subst (λ (ts : List Token). Answers ts (Ok (stream_view c.in-Ok.tree))) c.as_slice-2.ensures.value c.in-Ok.ensures.tree
+
 pub returns-in-Ok-clause-decides : goal.returns-in-Ok-clause-decides
 returns-in-Ok-clause-decides c =
     let name = c.args.name.now in
     let u : Lexed = record { names = c.args.names; tokens = c.args.tokens.items } in
     let named : NamesOther name u None =
     subst (λ (ts : List Token). NamesOther name (record { names = c.args.names; tokens = ts }) None) c.as_slice.ensures.value (rw c.in_default.is at c.in_ok-at.ensures) in
-    let answer : Answers u.tokens (Ok (stream_view c.in-Ok._tree)) = subst (λ (ts : List Token). Answers ts (Ok (stream_view c.in-Ok._tree))) c.as_slice-2.ensures.value c.in-Ok.ensures.tree in
-    decides_trees name c.args.text.now u c.requires.built named decision_of (stream_view c.in-Ok._tree) answer c.plain_or_not.result c.plain_or_not.ensures.decision
+    let answer : Answers u.tokens (Ok (stream_view c.in-Ok.tree)) = subst (λ (ts : List Token). Answers ts (Ok (stream_view c.in-Ok.tree))) c.as_slice-2.ensures.value c.in-Ok.ensures.tree in
+    decides_trees name c.args.text.now u c.requires.built named decision_of (stream_view c.in-Ok.tree) answer c.module_or_not.result c.module_or_not.ensures.decision
 
 pub returns-in-Err-Fault-clause-decides : goal.returns-in-Err-Fault-clause-decides
 returns-in-Err-Fault-clause-decides c =

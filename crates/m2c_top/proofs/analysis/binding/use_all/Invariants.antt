@@ -1,7 +1,7 @@
 use Rattle.std.proofs.Common.{ℕ, List, [], drop}
-use Rattle.m2_base.specs.Finished.{IsTold}
+use Rattle.m2_base.specs.Finished.{WhereFinished}
 use Rattle.m2_base.specs.Gives.{Adds}
-use Rattle.m2_base.specs.States.{Works, texts_of, finished_of}
+use Rattle.m2_base.specs.States.{Works, texts_of}
 use Rattle.m2_base.specs.declared.notes.Notes.{Notes}
 use Rattle.m2c_top.specs.Bindings.{uses_of}
 use Rattle.m2c_top.proofs.analysis.binding.use_all.Given as goal
@@ -10,8 +10,7 @@ use Rattle.m2c_top.proofs.analysis.binding.use_all.Given as goal
 abbrev pub invariant-loop-ident : goal.invariant-loop-ident
 invariant-loop-ident g l =
     let state = g.S.Scopes.state in
-    let finished = finished_of (state l.fn.scopes) in
     record {
       works : Works (state l.fn.scopes) (state l.scopes) l.fn.notes l.notes;
-      told : IsTold (texts_of (state l.fn.scopes)) → (n : Notes) (v : List ℕ) → Adds l.notes n (uses_of finished l.chain l.cells.items (drop l.ident-index l.uses)) v → Adds l.fn.notes n (uses_of finished l.chain [] l.uses) v;
+      told : WhereFinished (texts_of (state l.fn.scopes)) (λ tables. (n : Notes) (v : List ℕ) → Adds l.notes n (uses_of tables l.chain l.cells.items (drop l.ident-index l.uses)) v → Adds l.fn.notes n (uses_of tables l.chain [] l.uses) v);
     }
