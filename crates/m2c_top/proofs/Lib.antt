@@ -16,6 +16,7 @@ mod OneOutcome
 mod Orders
 mod Outcomes
 mod RefusalTokens
+mod StandingBodies
 mod Table
 mod TextUnit
 mod TokenCounts
