@@ -12,8 +12,8 @@ mod FewStatements
 mod FirstDeclared
 mod Fitting
 mod HeldTables
-mod ItemSteps
 mod ItemsSoFar
+mod ItemSteps
 mod LoneTables
 mod Obeying
 mod OneDecision
@@ -24,6 +24,7 @@ mod Outcomes
 mod ProcedureRows
 mod RefusalTokens
 mod RowCounts
+mod StandingBodies
 mod Table
 mod TextUnit
 mod TokenCounts
