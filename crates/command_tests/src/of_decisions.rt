@@ -1,4 +1,4 @@
-//! Texts by what is decided of them before their meaning is asked, in the order of the table of statuses.
+//! Texts by what is decided of them, in the order of the table of statuses.
 use m2_io::{MemShelf, MemSink, MemSource, NoGate};
 use m2c_top::m2c;
 use std::alloc::{AllocError, Global};
@@ -80,11 +80,26 @@ fn decides_in_order(rt: HostRuntime) -> Result<(), Fail> {
             1,
             "A.mod:1:21: 13 number too large\n",
         ),
-        // A text with a tree that isn't plain.
-        ("MODULE A; CONST c = 4294967295; END A.", 11, NOT_BUILT),
-        ("MODULE A; VAR f: PROCEDURE (CHAR); END A.", 11, NOT_BUILT),
+        // A body with another statement than an empty one is compiled where the text is plain.
+        ("MODULE A; BEGIN RETURN END A.", 11, NOT_BUILT),
+        ("MODULE A; BEGIN ; RETURN ; END A.", 11, NOT_BUILT),
         (
-            "MODULE A; TYPE P = POINTER TO R; R = RECORD next: P END; END A.",
+            "MODULE A; VAR x: INTEGER; BEGIN x := (1) END A.",
+            11,
+            NOT_BUILT,
+        ),
+        (
+            "MODULE A; VAR x: CARDINAL; BEGIN x := 1 END A.",
+            11,
+            NOT_BUILT,
+        ),
+        (
+            "MODULE A; CONST c = 1; VAR x: INTEGER; BEGIN x := c END A.",
+            11,
+            NOT_BUILT,
+        ),
+        (
+            "MODULE A; TYPE VAR x: INTEGER; BEGIN x := 1 END A.",
             11,
             NOT_BUILT,
         ),
@@ -93,6 +108,74 @@ fn decides_in_order(rt: HostRuntime) -> Result<(), Fail> {
         let found = compiled(alloc, text.as_bytes())?;
         assert_eq!(rt; found.0, status, "{text}");
         assert!(rt; found.1.as_slice() == printed.as_bytes(), "{text}");
+    }
+    Ok(())
+}
+
+#[test]
+fn compiles_declarations(rt: HostRuntime) -> Result<(), Fail> {
+    let alloc = rt.alloc();
+    let table = [
+        ("MODULE A; CONST c = 4294967295; END A.", 0, ""),
+        ("MODULE A; VAR c: CHAR; END A.", 0, ""),
+        ("MODULE A; (* nothing *) BEGIN ;; END A.", 0, ""),
+        ("MODULE A; VAR f: PROCEDURE (CHAR); END A.", 0, ""),
+        (
+            "MODULE A; TYPE P = POINTER TO R; R = RECORD next: P END; END A.",
+            0,
+            "",
+        ),
+        (
+            "MODULE A; TYPE S = SET OF [0..32]; END A.",
+            1,
+            "A.mod:1:27: 61 wrong index or set base\n",
+        ),
+        (
+            "MODULE A; VAR x: y; END A.",
+            1,
+            "A.mod:1:18: 40 unknown name\n",
+        ),
+        (
+            "MODULE A; CONST c = k; k = 1; END A.",
+            1,
+            "A.mod:1:21: 41 used before its declaration\n",
+        ),
+        (
+            "MODULE A;\nCONST k = 1; k = 2;\nVAR x: k; END B.",
+            1,
+            "A.mod:2:14: 42 declared twice\nA.mod:3:8: 45 not a type\nA.mod:3:15: 21 closing name differs\n",
+        ),
+    ];
+    for (text, status, printed) in table {
+        let found = compiled(alloc, text.as_bytes())?;
+        assert_eq!(rt; found.0, status, "{text}");
+        assert!(rt; found.1.as_slice() == printed.as_bytes(), "{text}");
+    }
+    Ok(())
+}
+
+/// A constant of so many digits 9.
+fn nines(alloc: Global, digits: usize) -> Result<Vec<u8>, AllocError> {
+    let mut text = b"MODULE A; CONST c = ".to_vec(alloc)?;
+    for _ in 0..digits {
+        text.push(b'9')?;
+    }
+    text.extend_from_slice(b"; END A.")?;
+    Ok(text)
+}
+
+#[test]
+fn refuses_large_numbers(rt: HostRuntime) -> Result<(), Fail> {
+    let alloc = rt.alloc();
+    for (digits, status) in [(9, 0), (10, 1), (60, 1)] {
+        let found = compiled(alloc, nines(alloc, digits)?.as_slice())?;
+        assert_eq!(rt; found.0, status, "{digits}");
+        let printed = if status == 0 {
+            "".as_bytes()
+        } else {
+            "A.mod:1:21: 13 number too large\n".as_bytes()
+        };
+        assert!(rt; found.1.as_slice() == printed, "{digits}");
     }
     Ok(())
 }

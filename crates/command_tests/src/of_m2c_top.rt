@@ -24,6 +24,11 @@ const PRODUCT_OBJECT: &[u8] =
     \x03\0\0\0\0\x01\0\0\0\x01\x02\0\0\0\0\0\0\0\x06\
     \x03\0\0\0\0\0\0\0\0\x03\0\0\0\0\x01\0\0\0\x05\x01\x03\0\0\0\0\0\0\0\x10\0\x06\x2e";
 
+/// Of a module without statements whose variables have three cells.
+const RECORD_OBJECT: &[u8] =
+    b"M2OB\x01\0\0\0\x01\0\0\0A\x03\0\0\0\0\0\0\0\0\0\0\0\0\0\0\0\x01\0\0\0\
+    \0\0\0\0\0\0\0\0\0\0\0\0\0\0\0\0\0\0\0\0\0\0\0\0\x01\0\0\0\x2e";
+
 const USAGE: &str = "usage: m2c compile NAME\n";
 
 /// A shelf with this text as A.mod.
@@ -68,15 +73,23 @@ fn run(
 }
 
 #[test]
-fn compiles_plain_modules(rt: HostRuntime) -> Result<(), Fail> {
+fn compiles_modules(rt: HostRuntime) -> Result<(), Fail> {
     let alloc = rt.alloc();
-    let table: [(&str, &[u8]); 4] = [
+    let table: [(&str, &[u8]); 6] = [
         (EMPTY_MODULE, EMPTY_OBJECT),
         (SUM_MODULE, SUM_OBJECT),
         (PRODUCT_MODULE, PRODUCT_OBJECT),
         (
             "MODULE A;VAR VAR x,y:INTEGER;VAR BEGIN;y:=2;;x:=y*3;END A.",
             PRODUCT_OBJECT,
+        ),
+        (
+            "MODULE A; TYPE R = RECORD a, b: CHAR; c: INTEGER END; VAR r: R; END A.",
+            RECORD_OBJECT,
+        ),
+        (
+            "MODULE A; CONST n = 2; VAR a: ARRAY [0..n] OF CHAR; END A.",
+            RECORD_OBJECT,
         ),
     ];
     for (text, object) in table {
@@ -165,7 +178,7 @@ fn lists_diagnostics(rt: HostRuntime) -> Result<(), Fail> {
 fn builds_only_plain_texts(rt: HostRuntime) -> Result<(), Fail> {
     let alloc = rt.alloc();
     let table = [
-        "MODULE A; VAR c: CHAR; END A.",
+        "MODULE A; VAR c: CHAR; x: INTEGER; BEGIN x := 1 END A.",
         "MODULE A; VAR x: INTEGER; BEGIN x := 1 + 2 END A.",
         "MODULE A; VAR x: INTEGER; BEGIN x := 2147483648 END A.",
         "MODULE A; VAR x: INTEGER; BEGIN x := 1END A.",
@@ -173,7 +186,7 @@ fn builds_only_plain_texts(rt: HostRuntime) -> Result<(), Fail> {
         "MODULE A; VAR CHAR: INTEGER; BEGIN CHAR := 1 END A.",
         "MODULE A; VAR x: INTEGER; BEGIN x := 17B END A.",
         "MODULE A; VAR x: INTEGER; BEGIN x := (1) END A.",
-        "MODULE A; (* nothing *) END A.",
+        "MODULE A; VAR x: INTEGER; (* nothing *) BEGIN x := 1 END A.",
     ];
     for text in table {
         let mut shelf = shelf_of(alloc, text.as_bytes(), &[], 0)?;
@@ -218,7 +231,7 @@ fn answers_faults(rt: HostRuntime) -> Result<(), Fail> {
 #[test]
 fn prints_a_front_before_a_fault(rt: HostRuntime) -> Result<(), Fail> {
     let alloc = rt.alloc();
-    let mut shelf = shelf_of(alloc, b"MODULE A; VAR c: CHAR; END A.", &[], 0)?;
+    let mut shelf = shelf_of(alloc, b"MODULE A; BEGIN RETURN END A.", &[], 0)?;
     let mut print = MemSink::new(alloc, [2u32].to_vec(alloc)?, 7, 1000)?;
     assert_eq!(rt; run(alloc, &["compile", "A"], &mut shelf, &mut print)?, 5);
     assert!(rt; print.bytes() == b"not bui".as_slice());

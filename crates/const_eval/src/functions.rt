@@ -63,7 +63,7 @@ fn number_argument<S: Scopes>(
 }
 
 /// A string of one character as a CHAR, anything else as it is, by the names of the site.
-fn char_of_string(site: &Site, x: Operand) -> Operand
+pub fn char_of_string(site: &Site, x: Operand) -> Operand
     requires { IsNamed site.now.texts.now.names x }
     ensures told { (source : Source) → source.spellings ≡ site.now.texts.now.names → result ≡ spec_char_or_same source x }
     ensures there { (f : Frame) → IsThere f character → IsOperand f x → IsOperand f result }

@@ -64,11 +64,15 @@ pub use calls::call_of;
 pub use constants::constant;
 pub use extremes::{Extreme, extreme_of, size_value};
 pub use faults::{Fault, FaultKind};
-pub use functions::{abs_of, cap_of, chr_of, odd_of, ord_of, ordinal_type_argument, val_of};
+pub use functions::{
+    abs_of, cap_of, char_of_string, chr_of, odd_of, ord_of, ordinal_type_argument, val_of,
+};
 pub use names::{name_operand, operand_of};
 pub use noting::{note, note_type};
-pub use operands::Argument;
+pub use operands::{Argument, constant_value};
 pub use operators::{apply_one, operate};
+pub use pairs::{compatible_pair, is_ordinal, is_within};
 pub use set_bits::with_elements;
 pub use sets::{element_of, no_elements, set_base, set_type_of};
+pub use structures::is_broken;
 pub use values::{in_constant, selected, spoilt_by, value_wanted};

@@ -33,7 +33,7 @@ pub(crate) fn is_procedure(operand: Operand) -> bool
 }
 
 /// The value of a constant that isn't a string.
-pub(crate) fn constant_value(operand: Operand) -> Option<i64>
+pub fn constant_value(operand: Operand) -> Option<i64>
     ensures { result ≡ constant_of_operand operand }
 {
     match operand {

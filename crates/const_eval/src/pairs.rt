@@ -27,7 +27,7 @@ use type_rules::{
 };
 
 /// Whether a value is in a range, where there is one.
-pub(crate) fn is_within(ends: Option<(i64, i64)>, value: i64) -> bool
+pub fn is_within(ends: Option<(i64, i64)>, value: i64) -> bool
     ensures { result ≡ spec_within (option_map (λ ends. range ends.0 ends.1) ends) value }
 {
     match ends {
@@ -66,7 +66,7 @@ fn is_whole(of: Place) -> bool
 
 /// Whether an operand is of an ordinal type; a whole constant counts as one.
 #[tactic(auto, using(type_rules::proofs::Reading::reading, crate::proofs::TypesThere::there))]
-pub(crate) fn is_ordinal<S: Scopes>(scopes: &mut S, site: &Site, x: Operand) -> Ask<bool>
+pub fn is_ordinal<S: Scopes>(scopes: &mut S, site: &Site, x: Operand) -> Ask<bool>
     requires suits { SuitsSite (S.state scopes.old).frame site.now }
     requires x { IsOperand (S.state scopes.old).frame x }
     ensures reads { Reads (S.state scopes.old) (S.state scopes.new) }
@@ -163,7 +163,7 @@ pub(crate) fn taken_pair<S: Scopes>(
 
 /// Two operands as they are taken beside each other, where they are compatible.
 #[tactic(auto, using(type_rules::proofs::Reading::reading, crate::proofs::TypesThere::there))]
-pub(crate) fn compatible_pair<S: Scopes>(
+pub fn compatible_pair<S: Scopes>(
     scopes: &mut S,
     site: &Site,
     x: Operand,

@@ -12,7 +12,7 @@ use type_rules::{BROKEN, same, stand};
 
 /// Whether a type is that of parts in error.
 #[tactic(auto, using(type_rules::proofs::Reading::reading, crate::proofs::TypesThere::there))]
-pub(crate) fn is_broken<S: Scopes>(scopes: &mut S, around: &Around, of: Place) -> Ask<bool>
+pub fn is_broken<S: Scopes>(scopes: &mut S, around: &Around, of: Place) -> Ask<bool>
     requires suits { Suits (S.state scopes.old).frame around.now }
     requires there { IsThere (S.state scopes.old).frame of }
     ensures reads { Reads (S.state scopes.old) (S.state scopes.new) }

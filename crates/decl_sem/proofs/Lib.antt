@@ -1,8 +1,13 @@
 pub mod Alone
+pub mod ArrayCells
+pub mod ArrayLists
 pub mod Asking
 pub mod Checks
 pub mod ConstantRows
 pub mod Constants
+pub mod Coverings
+pub mod FieldNames
+pub mod FieldLists
 pub mod FirstNames
 pub mod FirstOrdinals
 pub mod Hands
@@ -13,6 +18,7 @@ pub mod ImportedScopes
 pub mod ItemBeginnings
 pub mod ItemEffects
 pub mod ItemShapes
+pub mod CoveringLabels
 pub mod MakingOn
 pub mod ManyItems
 pub mod Namings
@@ -23,7 +29,10 @@ pub mod Parameters
 pub mod Pieces
 pub mod SizesInHand
 pub mod ProcTypes
+pub mod RecordSizes
+pub mod RecordRows
 pub mod Results
+pub mod Tags
 pub mod TypeForms
 pub mod TypeShapes
 pub mod TypeSizes

@@ -54,7 +54,7 @@ mutual
   form_names_none at (pointer_type of) = both (type_shapes of) (nameless pointer_kind at ∷ []) (types_name_none of) (one pointer_kind at (λ e. absurd (let h : pointer_kind ≡ type_name_kind = e in omega arith)))
   form_names_none at (proc_type fs result) = both (flat_map formal_shapes fs) (nameless proc_type_kind at ∷ []) (formals fs) (one proc_type_kind at (λ e. absurd (let h : proc_type_kind ≡ type_name_kind = e in omega arith)))
 
-  all_names_none : (ts : TypeExprs) → AreNoTypes (types_shapes ts)
+  pub all_names_none : (ts : TypeExprs) → AreNoTypes (types_shapes ts)
   all_names_none no_types = tt
   all_names_none (more_types t ts) = both (type_shapes t) (types_shapes ts) (types_name_none t) (all_names_none ts)
 

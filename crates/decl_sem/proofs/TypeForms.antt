@@ -6,15 +6,15 @@ use Rattle.std.specs.declared.boxed.Box.{Box}
 use Rattle.std.specs.declared.vec.Vec.{Vec}
 use Rattle.std.proofs.lemmas.List.{length-map}
 use Rattle.m2_base.proofs.Kept.{Works-refl}
-use Rattle.m2_base.proofs.Seen.{type_seen, named_seen, enum_seen, proc_type_seen, set_of_seen}
+use Rattle.m2_base.proofs.Seen.{type_seen, named_seen, enum_seen, proc_type_seen, record_seen, set_of_seen}
 use Rattle.m2_base.specs.Rows.{array_kind, const_kind, enum_kind, field_kind, open_array_kind, param_kind, pointer_kind, proc_type_kind, record_kind, set_kind, subrange_kind, type_name_kind}
 use Rattle.m2_base.specs.States.{Frame, State}
 use Rattle.m2_base.specs.Statics.Contexts.{Context}
 use Rattle.m2_base.specs.Statics.Makes.{Makes}
 use Rattle.m2_base.specs.Statics.Shapes.{Shape, arm_shapes, arms_shapes, array_shapes, field_shapes, fields_shapes, form_shapes, formal_shapes, named, nameless, open_shapes, tag_shapes, type_shapes, types_shapes}
 use Rattle.m2_base.specs.Statics.TypeRows.{form_rows, type_rows}
-use Rattle.m2_base.specs.Trees.{TypeExpr, TypeForm, type_expr, named_type, enum_type, sub_type, array_type, record_type, set_type, pointer_type, proc_type, TypeExprs, no_types, more_types, FieldList, plain_fields, case_fields, FieldLists, no_fields, more_fields, VariantArm, variant_arm, VariantArms, no_variant_arms, more_variant_arms, type_at}
-use Rattle.m2_base.specs.Views.{type_form_view, type_view}
+use Rattle.m2_base.specs.Trees.{TypeExpr, TypeForm, type_expr, named_type, enum_type, sub_type, array_type, record_type, set_type, pointer_type, proc_type, TypeExprs, no_types, more_types, FieldList, plain_fields, case_fields, FieldLists, no_fields, more_fields, VariantArm, variant_arm, VariantArms, no_variant_arms, more_variant_arms, type_at, field_lists}
+use Rattle.m2_base.specs.Views.{field_list_view, type_form_view, type_view}
 use Rattle.m2_base.specs.declared.memory.Memory.{Memory}
 use Rattle.m2_base.specs.declared.replies.Ask.{Ask}
 use Rattle.m2_base.specs.declared.rows.Place.{Place}
@@ -23,7 +23,7 @@ use Rattle.m2_base.specs.declared.trees.Ident.{Ident}
 use Rattle.m2_base.specs.declared.trees.Qual.{Qual}
 use Rattle.m2_base.specs.declared.trees.types as code
 use Rattle.m2_base.specs.declared.trees.types.Formal.{Formal}
-use Rattle.m2_base.specs.declared.trees.types.TypeForm.TheVariants.{Named, Enum, Proc, Set as SetOf}
+use Rattle.m2_base.specs.declared.trees.types.TypeForm.TheVariants.{Named, Enum, Proc, Rec, Set as SetOf}
 use Rattle.m2_base.specs.Units.{UnitTexts}
 use Rattle.type_rules.specs.Sites.{SuitsSite}
 use Rattle.decl_sem.specs.Making.{next_ordinal}
@@ -59,6 +59,9 @@ is_set t of u same e = ap type_form_view e ∙ set_of_seen of ∙ ap (λ (v : co
 pub is_proc : (t : code.TypeExpr.TypeExpr) (formals : Vec Formal Global) (q : Option Qual) (l : List Formal) → l ≡ formals.items → t.form ≡ Proc formals q → type_form_view t.form ≡ proc_type l q
 is_proc t formals q l same e = ap type_form_view e ∙ proc_type_seen formals q ∙ ap (λ (v : List Formal). proc_type v q) (sym same)
 
+pub is_record : (t : code.TypeExpr.TypeExpr) (fields : Vec code.FieldList.FieldList Global) (l : List code.FieldList.FieldList) → l ≡ fields.items → t.form ≡ Rec fields → type_form_view t.form ≡ record_type (field_lists (map field_list_view l))
+is_record t fields l same e = ap type_form_view e ∙ record_seen fields ∙ ap (λ (v : List code.FieldList.FieldList). record_type (field_lists (map field_list_view v))) (sym same)
+
 -- the base of a set
 pub set_parts : {f : Frame} {s : Site} {x : Made} (t : code.TypeExpr.TypeExpr) (of : Box code.TypeExpr.TypeExpr Global) (u : code.TypeExpr.TypeExpr) → u ≡ of.value → t.form ≡ SetOf of → (names : List (List ℕ))
     → IsMaking f s x (type_shapes (type_view t)) → IsReadType names (type_view t) → IsMaking f s x (type_shapes (type_view u)) × IsReadType names (type_view u)
@@ -84,7 +87,7 @@ enum_room at names making = let a = making.room in let b = making.few in let l =
 
 -- ** No type names among them
 
-nameless_all : {X : Type 0} (k : ℕ) (at : X → ℕ) → (k == type_name_kind) ≡ false → (xs : List X) → AreNoTypes (map (λ x. nameless k (at x)) xs)
+pub nameless_all : {X : Type 0} (k : ℕ) (at : X → ℕ) → (k == type_name_kind) ≡ false → (xs : List X) → AreNoTypes (map (λ x. nameless k (at x)) xs)
 nameless_all k at other [] = tt
 nameless_all k at other (x ∷ xs) = ((not_a_type (nameless k (at x)) other).0, nameless_all k at other xs)
 
@@ -103,7 +106,7 @@ formals_no_types (f ∷ formals) =
     (no_types-append (open_shapes f.is_open f.of) (nameless param_kind f.of.first.at ∷ []) (open_no_types f.is_open f.of) (not_a_type (nameless param_kind f.of.first.at) refl))
     (formals_no_types formals)
 
-tag_no_types : (tag : Option Ident) → AreNoTypes (tag_shapes tag)
+pub tag_no_types : (tag : Option Ident) → AreNoTypes (tag_shapes tag)
 tag_no_types None = tt
 tag_no_types (Some i) = not_a_type (nameless field_kind i.at) refl
 
@@ -132,20 +135,20 @@ mutual
   types_no_types no_types = tt
   types_no_types (more_types t ts) = no_types-append (type_shapes t) (types_shapes ts) (type_no_types t) (types_no_types ts)
 
-  fields_no_types : (fs : FieldLists) → AreNoTypes (fields_shapes fs)
+  pub fields_no_types : (fs : FieldLists) → AreNoTypes (fields_shapes fs)
   fields_no_types no_fields = tt
   fields_no_types (more_fields f fs) = no_types-append (field_shapes f) (fields_shapes fs) (field_no_types f) (fields_no_types fs)
 
-  field_no_types : (f : FieldList) → AreNoTypes (field_shapes f)
+  pub field_no_types : (f : FieldList) → AreNoTypes (field_shapes f)
   field_no_types (plain_fields names t) =
       no_types-append (type_shapes t) (map (λ i. nameless field_kind i.at) names) (type_no_types t) (nameless_all field_kind (λ (i : Ident). i.at) refl names)
   field_no_types (case_fields tag of arms other) =
       no_types-append (tag_shapes tag ++ arms_shapes arms) (fields_shapes other)
       (no_types-append (tag_shapes tag) (arms_shapes arms) (tag_no_types tag) (arms_no_types arms)) (fields_no_types other)
 
-  arms_no_types : (arms : VariantArms) → AreNoTypes (arms_shapes arms)
+  pub arms_no_types : (arms : VariantArms) → AreNoTypes (arms_shapes arms)
   arms_no_types no_variant_arms = tt
   arms_no_types (more_variant_arms a arms) = no_types-append (arm_shapes a) (arms_shapes arms) (arm_no_types a) (arms_no_types arms)
 
-  arm_no_types : (a : VariantArm) → AreNoTypes (arm_shapes a)
+  pub arm_no_types : (a : VariantArm) → AreNoTypes (arm_shapes a)
   arm_no_types (variant_arm ls fields) = fields_no_types fields

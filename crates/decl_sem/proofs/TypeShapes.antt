@@ -106,3 +106,10 @@ pub of_arm : (a : code.VariantArm.VariantArm) → arm_shapes (variant_arm_view a
 of_arm a = ap arm_shapes (variant_arm_seen a) ∙ fields_map field_list_view a.fields.items
 
 pub ruleset of_fields = (of_plain, of_cases, of_arm)
+
+-- ** All fields of a record
+
+pub of_list : (fields : List code.FieldList.FieldList) → fields_shapes (field_lists (map field_list_view fields)) ≡ flat_map (λ f. field_shapes (field_list_view f)) fields
+of_list fields = fields_map field_list_view fields
+
+pub ruleset of_lists = (of_list)

@@ -141,11 +141,11 @@ no_type_named c name at t cell = go (is_standard name) (has_name c.scene.tables 
     go false true = (tt, tt)
     go false false = (tt, tt)
 
-types-append : (xs ys : List Row) → Each (λ r. NamesNoType (row_meaning r)) xs → Each (λ r. NamesNoType (row_meaning r)) ys → Each (λ r. NamesNoType (row_meaning r)) (xs ++ ys)
+pub types-append : (xs ys : List Row) → Each (λ r. NamesNoType (row_meaning r)) xs → Each (λ r. NamesNoType (row_meaning r)) ys → Each (λ r. NamesNoType (row_meaning r)) (xs ++ ys)
 types-append [] ys h k = k
 types-append (x ∷ xs) ys h k = (h.0, types-append xs ys h.1 k)
 
-then_same : {A B : Type 0} (c : Context) (m : Makes A) (f h : Context → A → Makes B) → f (with_rows c m.rows) m.value ≡ h (with_rows c m.rows) m.value → make_then c m f ≡ make_then c m h
+pub then_same : {A B : Type 0} (c : Context) (m : Makes A) (f h : Context → A → Makes B) → f (with_rows c m.rows) m.value ≡ h (with_rows c m.rows) m.value → make_then c m f ≡ make_then c m h
 then_same {A} {B} c m f h e =
     ap (λ (b : Makes B). record { value = b.value; rows = m.rows ++ b.rows; diags = m.diags ++ b.diags; answers = m.answers ++ b.answers }) e
 
@@ -165,12 +165,12 @@ sized (i ∷ names) c t size cell has =
 abbrev pub IsSizeOf : Frame → Made → Site → Place → (size : ℕ) → Type 0
 IsSizeOf f x s t size = WhereMaking f x (λ hand. (more : List Row) → Each (λ r. NamesNoType (row_meaning r)) more → size ≡ size_of (context_of f (holding hand more) s).scene t)
 
-has_size : {f : Frame} {s : Site} {x : Made} {ss : List Shape} (t : Place) (size : ℕ) → IsMaking f s x ss → IsSizeOf f x s t size → WhereMaking f x (λ hand. HasSize (context_of f hand s) t size)
+pub has_size : {f : Frame} {s : Site} {x : Made} {ss : List Shape} (t : Place) (size : ℕ) → IsMaking f s x ss → IsSizeOf f x s t size → WhereMaking f x (λ hand. HasSize (context_of f hand s) t size)
 has_size t size making is hand in_hand told same rows none =
     is hand in_hand told same rows none ∙ ap (λ (c : Context). size_of c.scene t) (sym (hand_with hand rows making.suits told))
 
 -- the question for the size
-size_asked : {a b : State} {x : Made} {s : Site} (t : Place) (size : ℕ) → Reads a b → IsSizeOf a.frame x s t size
+pub size_asked : {a b : State} {x : Made} {s : Site} (t : Place) (size : ℕ) → Reads a b → IsSizeOf a.frame x s t size
     → Declares a b x x s (Ok (Known size)) [] IsAny (λ c. makes (size_of c.scene t))
 size_asked {a} {b} {x} {s} t size reads is =
     asked x s (Known size) IsAny (λ c. size_of c.scene t) reads tt

@@ -1,13 +1,17 @@
+pub mod ArrayRows
 pub mod Closing
 pub mod DeclaredItems
 pub mod Effects
+pub mod FieldNotes
 pub mod Hands
 pub mod ImportedModules
 pub mod Items
+pub mod Labels
 pub mod LaidRows
 pub mod Making
 pub mod Pieces
 pub mod Progress
+pub mod Records
 pub mod Shapes
 pub mod Stood
 pub mod TypeUses

@@ -1,9 +1,21 @@
 //! Numbers of cells.
-ghost use Rattle.std.specs.Prelude.{◌≡◌};
-ghost use Rattle.m2_base.specs.Statics.Cells.{capped as spec_capped};
+ghost use Rattle.std.specs.Prelude.{◌≡◌, []};
+ghost use Rattle.m2_base.specs.States.{State};
+ghost use Rattle.m2_base.specs.Statics.Cells.{capped as spec_capped, fitting};
+ghost use Rattle.m2_base.specs.Statics.Makes.{only_gives};
+ghost use Rattle.decl_sem.specs.Making.{next_ordinal};
+ghost use Rattle.decl_sem.specs.Pieces.{Declares, IsBehind, IsMaking, known_of};
+
+use crate::making::Made;
+use crate::names::refuse;
+use m2_base::{Memory, Place, Site};
+use type_rules::BROKEN;
 
 /// One more than a type or a block may have.
 pub(crate) const TOO_MANY: u32 = 16_777_216;
+
+/// The code of a type of too many cells.
+const TOO_MANY_CELLS: u8 = 62;
 
 /// What would be more than too many is counted as too many.
 pub(crate) fn capped(cells: u64) -> u32
@@ -14,4 +26,21 @@ pub(crate) fn capped(cells: u64) -> u32
     } else {
         TOO_MANY
     }
+}
+
+/// A type of too many cells is refused at its first token, and in error.
+pub(crate) fn fit(
+    site: &Site,
+    at: u32,
+    size: u32,
+    of: Place,
+    made: &mut Made,
+) -> Result<Place, Memory>
+    ensures { (a : State) → IsMaking a.frame site.now made.old [] → IsBehind a.frame (next_ordinal made.old) of → Declares a a made.old made.new site.now (known_of result) [] IsBehind (λ c. only_gives (fitting c at size of)) }
+{
+    if size < TOO_MANY {
+        return Ok(of);
+    }
+    put!(refuse(site, at, TOO_MANY_CELLS, &mut made.notes));
+    Ok(BROKEN)
 }

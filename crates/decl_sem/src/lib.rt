@@ -4,7 +4,7 @@
 //! rows say comes from the rows of the items before and of the scopes round the block. The definitions are `m2_base`'s
 //! (`specs/Statics`). When a block's scope is complete, its closing name is checked (`close_check`).
 //!
-//! `declaring::declare` has the rows of an item, with the contract that it will keep. It isn't public yet: subranges, arrays,
+//! `declaring::declare` has the rows of an item, with the contract that it will keep. It isn't public yet: subranges,
 //! records and pointers in `types`, and the headings in `procedures` and `own_headings`, answer want of
 //! memory till they are built.
 #![tactic(auto)]
@@ -52,17 +52,21 @@ macro_rules! made {
     };
 }
 
+mod arrays;
 mod cells;
 mod closing;
 mod const_items;
+mod covered;
 mod declaring;
 mod effects;
 mod enumerations;
+mod fields;
 mod formals;
 mod heading_sizes;
 mod imports;
 mod items;
 mod kinds;
+mod labels;
 mod layouts;
 mod making;
 mod meanings;
@@ -72,6 +76,7 @@ mod own_headings;
 mod procedure_types;
 mod procedures;
 mod putting;
+mod records;
 mod sets;
 mod shapes;
 mod standing;

@@ -28,6 +28,14 @@ pub(crate) struct Made {
     pub(crate) notes: Notes,
 }
 
+/// The ordinal of the next row.
+pub(crate) fn next_row(made: &Made) -> u32
+    requires { next_ordinal made.now < 2 ^ 32 }
+    ensures { result ≡ next_ordinal made.now }
+{
+    made.first + made.rows.len() as u32
+}
+
 /// Whether a name is a standard one.
 fn is_standard(name: u32) -> bool
     ensures { result ≡ spec_is_standard name }

@@ -1,5 +1,5 @@
 //! The rows of a procedure type.
-ghost use Rattle.std.specs.Prelude.{◌≡◌, ◌≤◌, ◌<◌, ◌^◌, ◌+◌, ◌∷◌, [], length, IfSome};
+ghost use Rattle.std.specs.Prelude.{◌≡◌, ◌≤◌, ◌+◌, ◌∷◌, [], length, IfSome};
 ghost use Rattle.m2_base.specs.Rows.{proc_type_kind};
 ghost use Rattle.m2_base.specs.Statics.Makes.{make_then, makes_row, only_gives};
 ghost use Rattle.m2_base.specs.Statics.ProcedureTypes.{formals_length, result_type};
@@ -12,7 +12,7 @@ ghost use Rattle.decl_sem.specs.Pieces.{Declares, IsBehind, IsMaking};
 ghost use Rattle.m2_base.specs.Statics.ReadTrees.{AreReadFormals, IsReadQualOption};
 
 use crate::formals::formals_in;
-use crate::making::{Made, put_plain};
+use crate::making::{Made, next_row, put_plain};
 use crate::outcomes::result_in;
 use m2_base::{Ask, Formal, Memory, Place, Qual, RowMeaning, Scopes, Site};
 
@@ -36,14 +36,6 @@ fn own_after(first: u32, formals: &[Formal]) -> Option<u32>
         own = next;
     }
     Some(own)
-}
-
-/// The ordinal of the next row.
-fn next_row(made: &Made) -> u32
-    requires { next_ordinal made.now < 2 ^ 32 }
-    ensures { result ≡ next_ordinal made.now }
-{
-    made.first + made.rows.len() as u32
 }
 
 /// The row of a procedure type with this result, behind its parameters.

@@ -1,8 +1,9 @@
 //! The rows that each part of a declaration makes, by the syntax alone.
-ghost use Rattle.std.specs.Prelude.{◌≡◌, [], ◌∷◌, ◌++◌, ◌+◌, ◌<◌, ◌^◌, flat_map, length, map, option_map, OnOk};
+ghost use Rattle.std.specs.Prelude.{◌≡◌, [], ◌∷◌, ◌++◌, ◌+◌, ◌<◌, ◌^◌, flat_map, length, map, option_map, IfOk, OnOk};
 ghost use Rattle.m2_base.specs.Statics.Items.{decl_item, heading_item, import_item, type_item, proc_item};
 ghost use Rattle.m2_base.specs.Statics.Layouts.{names_of_item};
-ghost use Rattle.m2_base.specs.Statics.Shapes.{Shape as PlainShape, named, nameless, open_shapes, formal_shapes, tag_shapes, type_shapes, field_shapes, arm_shapes, own_section_shapes, section_shapes, item_shapes};
+ghost use Rattle.m2_base.specs.Statics.Shapes.{Shape as PlainShape, named, nameless, open_shapes, formal_shapes, tag_shapes, type_shapes, field_shapes, fields_shapes, arm_shapes, own_section_shapes, section_shapes, item_shapes};
+ghost use Rattle.m2_base.specs.Trees.{field_lists};
 ghost use Rattle.decl_sem.specs.Shapes.{arrays_of, shape_view};
 ghost use Rattle.m2_base.specs.Views.{type_view, field_list_view, variant_arm_view, section_view, heading_view, decl_view};
 
@@ -260,6 +261,16 @@ fn put_arms(shapes: &mut Shapes, arms: &[VariantArm]) -> Result<(), Memory>
         put_fields(shapes, &arm.fields)?;
     }
     Ok(())
+}
+
+/// How many rows a record's fields have.
+#[tactic(auto, using(crate::proofs::TypeShapes::of_lists))]
+pub(crate) fn count_fields(alloc: Global, fields: &[FieldList]) -> Result<usize, Memory>
+    ensures { IfOk result (λ count. count ≡ length (fields_shapes (field_lists (map field_list_view fields.now)))) }
+{
+    let mut shapes = Shapes::new(alloc);
+    put_fields(&mut shapes, fields)?;
+    Ok(shapes.count())
 }
 
 /// The variables of a heading's parameters, in the procedure's own scope.

@@ -1,19 +1,30 @@
 //! The rows of a type expression.
-ghost use Rattle.std.specs.Prelude.{[]};
+ghost use Rattle.std.specs.Prelude.{[], length, map, ◌≤◌};
 ghost use Rattle.m2_base.specs.Statics.Makes.{only_gives};
-ghost use Rattle.m2_base.specs.Statics.Shapes.{type_shapes};
+ghost use Rattle.m2_base.specs.Statics.Shapes.{arms_shapes, field_shapes, fields_shapes, form_shapes, type_shapes, types_shapes};
 ghost use Rattle.m2_base.specs.Statics.TypeNames.{type_of_qual as spec_type_of};
-ghost use Rattle.m2_base.specs.Statics.TypeRows.{type_rows};
-ghost use Rattle.m2_base.specs.Views.{type_view};
+ghost use Rattle.m2_base.specs.Statics.TypeRows.{arms_rows, field_list_rows, fields_rows, form_rows, index_rows, type_rows};
+ghost use Rattle.m2_base.specs.Trees.{array_type, field_lists, record_type, type_exprs, variant_arms};
+ghost use Rattle.m2_base.specs.Views.{field_list_view, type_view, variant_arm_view};
+ghost use Rattle.decl_sem.specs.ArrayRows.{AreIndexes, index_row, listed};
 ghost use Rattle.decl_sem.specs.Pieces.{Declares, IsBehind, IsMaking};
-ghost use Rattle.m2_base.specs.Statics.ReadTrees.{IsReadQual, IsReadType};
+ghost use Rattle.decl_sem.specs.Making.{next_ordinal};
+ghost use Rattle.decl_sem.specs.Records.{AreVariants, IsOffset, IsOwner, behind_tag_rows, behind_tag_shapes};
+ghost use Rattle.m2_base.specs.Statics.ReadTrees.{AreReadArms, AreReadFields, AreReadTypes, IsReadField, IsReadQual, IsReadType};
 
+use crate::arrays::{checked_index, put_arrays};
 use crate::enumerations::make_enumeration;
-use crate::making::Made;
+use crate::fields::put_fields;
+use crate::labels::{Covered, labels_in};
+use crate::making::{Made, next_row};
 use crate::names::{small_place, type_of_qual};
 use crate::procedure_types::proc_in;
+use crate::records::{Variants, begin_variants, put_record};
 use crate::sets::make_set;
-use m2_base::{Ask, Memory, Place, Qual, Scopes, Site, TypeExpr, TypeForm};
+use crate::shapes::count_fields;
+use m2_base::{
+    Ask, FieldList, Memory, Place, Qual, Scopes, Site, TypeExpr, TypeForm, VariantArm,
+};
 use std::alloc::Global;
 
 /// The type that a name leads to. It makes no row.
@@ -33,6 +44,7 @@ pub(crate) fn name_in<S: Scopes>(
 }
 
 /// Makes the rows of a type expression. The value is the type that it is; a part in error is of the type of those.
+#[cycle(types)]
 pub(crate) fn type_in<S: Scopes>(
     alloc: Global,
     scopes: &mut S,
@@ -58,6 +70,197 @@ pub(crate) fn type_in<S: Scopes>(
             formals,
             result: outcome,
         } => proc_in(scopes, site, typ.at, formals, *outcome, made),
+        TypeForm::Array { index, of } => array_in(alloc, scopes, site, typ.at, index, of, made),
+        TypeForm::Rec(fields) => record_in(alloc, scopes, site, typ.at, fields, made),
         _ => Err(Memory),
     }
+}
+
+/// The rows of an index type. The value is the type, or that of parts in error.
+#[cycle(types)]
+fn index_in<S: Scopes>(
+    alloc: Global,
+    scopes: &mut S,
+    site: &Site,
+    typ: &TypeExpr,
+    made: &mut Made,
+) -> Result<Ask<Place>, Memory>
+    requires making { IsMaking (S.state scopes.old).frame site.now made.old (type_shapes (type_view typ.now)) }
+    requires read { IsReadType site.now.texts.now.names (type_view typ.now) }
+    ensures { Declares (S.state scopes.old) (S.state scopes.new) made.old made.new site.now result (type_shapes (type_view typ.now)) IsBehind (λ c. index_row c (type_view typ.now)) }
+{
+    let of = made!(type_in(alloc, scopes, site, typ, made));
+    checked_index(scopes, site, typ.at, of, made)
+}
+
+/// The rows of index types, in order.
+#[cycle(types)]
+fn indexes_in<S: Scopes>(
+    alloc: Global,
+    scopes: &mut S,
+    site: &Site,
+    types: &[TypeExpr],
+    made: &mut Made,
+) -> Result<Ask<Vec<Place>>, Memory>
+    requires making { IsMaking (S.state scopes.old).frame site.now made.old (types_shapes (type_exprs (map type_view types.now))) }
+    requires read { AreReadTypes site.now.texts.now.names (type_exprs (map type_view types.now)) }
+    ensures { Declares (S.state scopes.old) (S.state scopes.new) made.old made.new site.now (listed result) (types_shapes (type_exprs (map type_view types.now))) (AreIndexes (length types.now)) (λ c. index_rows c (type_exprs (map type_view types.now))) }
+{
+    let mut indexes = Vec::new(alloc);
+    for typ in types {
+        let index = made!(index_in(alloc, scopes, site, typ, made));
+        indexes.push(index)?;
+    }
+    Ok(Ask::Known(indexes))
+}
+
+/// The rows of an array: those of its index types, of its elements, and then one for each index type.
+#[cycle(types)]
+fn array_in<S: Scopes>(
+    alloc: Global,
+    scopes: &mut S,
+    site: &Site,
+    at: u32,
+    index: &[TypeExpr],
+    of: &TypeExpr,
+    made: &mut Made,
+) -> Result<Ask<Place>, Memory>
+    requires making { IsMaking (S.state scopes.old).frame site.now made.old (form_shapes at (array_type (type_exprs (map type_view index.now)) (type_view of.now))) }
+    requires indexes { AreReadTypes site.now.texts.now.names (type_exprs (map type_view index.now)) }
+    requires of { IsReadType site.now.texts.now.names (type_view of.now) }
+    ensures { Declares (S.state scopes.old) (S.state scopes.new) made.old made.new site.now result (form_shapes at (array_type (type_exprs (map type_view index.now)) (type_view of.now))) IsBehind (λ c. form_rows c at (array_type (type_exprs (map type_view index.now)) (type_view of.now))) }
+{
+    let indexes = made!(indexes_in(alloc, scopes, site, index, made));
+    let elem = made!(type_in(alloc, scopes, site, of, made));
+    put_arrays(scopes, site, at, &indexes, elem, made)
+}
+
+/// Makes the rows of a record: its fields, then its own.
+#[cycle(types)]
+fn record_in<S: Scopes>(
+    alloc: Global,
+    scopes: &mut S,
+    site: &Site,
+    at: u32,
+    fields: &[FieldList],
+    made: &mut Made,
+) -> Result<Ask<Place>, Memory>
+    requires making { IsMaking (S.state scopes.old).frame site.now made.old (form_shapes at (record_type (field_lists (map field_list_view fields.now)))) }
+    requires read { AreReadFields site.now.texts.now.names (field_lists (map field_list_view fields.now)) }
+    ensures { Declares (S.state scopes.old) (S.state scopes.new) made.old made.new site.now result (form_shapes at (record_type (field_lists (map field_list_view fields.now)))) IsBehind (λ c. form_rows c at (record_type (field_lists (map field_list_view fields.now)))) }
+{
+    let first = next_row(made);
+    let rows = put!(count_fields(alloc, fields));
+    let own = first + rows as u32;
+    let end = made!(fields_in(alloc, scopes, site, own, 0, fields, made));
+    let row = put!(put_record(site, at, first, end, made));
+    Ok(Ask::Known(row))
+}
+
+/// Makes the rows of fields from this offset on, of the record whose row has this ordinal. The value is the offset behind
+/// them.
+#[cycle(types)]
+fn fields_in<S: Scopes>(
+    alloc: Global,
+    scopes: &mut S,
+    site: &Site,
+    own: u32,
+    offset: u32,
+    fields: &[FieldList],
+    made: &mut Made,
+) -> Result<Ask<u32>, Memory>
+    requires making { IsMaking (S.state scopes.old).frame site.now made.old (fields_shapes (field_lists (map field_list_view fields.now))) }
+    requires owner { IsOwner site.now made.old (fields_shapes (field_lists (map field_list_view fields.now))) own }
+    requires offset { offset ≤ 16777216 }
+    requires read { AreReadFields site.now.texts.now.names (field_lists (map field_list_view fields.now)) }
+    ensures { Declares (S.state scopes.old) (S.state scopes.new) made.old made.new site.now result (fields_shapes (field_lists (map field_list_view fields.now))) IsOffset (λ c. fields_rows c own offset (field_lists (map field_list_view fields.now))) }
+{
+    let mut end = offset;
+    for list in fields {
+        end = made!(field_list_in(alloc, scopes, site, own, end, list, made));
+    }
+    Ok(Ask::Known(end))
+}
+
+/// Makes the rows of fields of one type, or of a variant part.
+#[cycle(types)]
+fn field_list_in<S: Scopes>(
+    alloc: Global,
+    scopes: &mut S,
+    site: &Site,
+    own: u32,
+    offset: u32,
+    list: &FieldList,
+    made: &mut Made,
+) -> Result<Ask<u32>, Memory>
+    requires making { IsMaking (S.state scopes.old).frame site.now made.old (field_shapes (field_list_view list.now)) }
+    requires owner { IsOwner site.now made.old (field_shapes (field_list_view list.now)) own }
+    requires offset { offset ≤ 16777216 }
+    requires read { IsReadField site.now.texts.now.names (field_list_view list.now) }
+    ensures { Declares (S.state scopes.old) (S.state scopes.new) made.old made.new site.now result (field_shapes (field_list_view list.now)) IsOffset (λ c. field_list_rows c own offset (field_list_view list.now)) }
+{
+    match list {
+        FieldList::Plain { names, typ } => {
+            let of = made!(type_in(alloc, scopes, site, typ, made));
+            put_fields(scopes, site, made, own, of, offset, names)
+        }
+        FieldList::Cases {
+            tag,
+            of,
+            arms,
+            other,
+        } => {
+            let variants = made!(begin_variants(scopes, site, own, offset, *tag, *of, made));
+            variants_in(alloc, scopes, site, variants, arms, other, made)
+        }
+    }
+}
+
+/// Makes the rows of the variants behind a tag, and of what stands after ELSE. The value is the greatest offset behind one.
+#[cycle(types)]
+fn variants_in<S: Scopes>(
+    alloc: Global,
+    scopes: &mut S,
+    site: &Site,
+    variants: Variants,
+    arms: &[VariantArm],
+    other: &[FieldList],
+    made: &mut Made,
+) -> Result<Ask<u32>, Memory>
+    requires making { IsMaking (S.state scopes.old).frame site.now made.old (behind_tag_shapes (variant_arms (map variant_arm_view arms.now)) (field_lists (map field_list_view other.now))) }
+    requires owner { IsOwner site.now made.old (behind_tag_shapes (variant_arms (map variant_arm_view arms.now)) (field_lists (map field_list_view other.now))) variants.own }
+    requires variants { AreVariants (S.state scopes.old).frame (next_ordinal made.old) variants }
+    requires arms { AreReadArms site.now.texts.now.names (variant_arms (map variant_arm_view arms.now)) }
+    requires other { AreReadFields site.now.texts.now.names (field_lists (map field_list_view other.now)) }
+    ensures { Declares (S.state scopes.old) (S.state scopes.new) made.old made.new site.now result (behind_tag_shapes (variant_arms (map variant_arm_view arms.now)) (field_lists (map field_list_view other.now))) IsOffset (λ c. behind_tag_rows c variants (variant_arms (map variant_arm_view arms.now)) (field_lists (map field_list_view other.now))) }
+{
+    let end = made!(arms_in(alloc, scopes, site, variants, arms, made));
+    let last = made!(fields_in(alloc, scopes, site, variants.own, variants.offset, other, made));
+    Ok(Ask::Known(end.max(last)))
+}
+
+/// Makes the rows of variants, each of which begins at the same offset. The value is the greatest offset behind one.
+#[cycle(types)]
+fn arms_in<S: Scopes>(
+    alloc: Global,
+    scopes: &mut S,
+    site: &Site,
+    variants: Variants,
+    arms: &[VariantArm],
+    made: &mut Made,
+) -> Result<Ask<u32>, Memory>
+    requires making { IsMaking (S.state scopes.old).frame site.now made.old (arms_shapes (variant_arms (map variant_arm_view arms.now))) }
+    requires owner { IsOwner site.now made.old (arms_shapes (variant_arms (map variant_arm_view arms.now))) variants.own }
+    requires variants { AreVariants (S.state scopes.old).frame (next_ordinal made.old) variants }
+    requires read { AreReadArms site.now.texts.now.names (variant_arms (map variant_arm_view arms.now)) }
+    ensures { Declares (S.state scopes.old) (S.state scopes.new) made.old made.new site.now result (arms_shapes (variant_arms (map variant_arm_view arms.now))) IsOffset (λ c. arms_rows c variants.own variants.offset variants.tag [] variants.offset (variant_arms (map variant_arm_view arms.now))) }
+{
+    let mut covered = Covered::new(alloc);
+    let mut end = variants.offset;
+    for arm in arms {
+        covered = made!(labels_in(scopes, site, variants.tag, covered, &arm.labels, made));
+        let after = made!(fields_in(alloc, scopes, site, variants.own, variants.offset, &arm.fields, made));
+        end = end.max(after);
+    }
+    Ok(Ask::Known(end))
 }

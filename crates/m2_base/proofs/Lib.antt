@@ -36,6 +36,14 @@ pub mod SoundRows
 pub mod SoundTypes
 pub mod SoundUnits
 pub mod StandardLaws
+pub mod StandingConstants
+pub mod StandingExpressions
+pub mod StandingItems
+pub mod StandingNotes
+pub mod StandingOperations
+pub mod StandingStreams
+pub mod StandingTypes
+pub mod StandingTypeTrees
 pub mod WholeTextChecks
 pub mod TypeLaws
 pub mod UnitTerms

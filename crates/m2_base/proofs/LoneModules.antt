@@ -3,14 +3,14 @@ use Rattle.std.proofs.Common.{◌≡◌, ◌∙◌, ℕ, suc, Bool, true, false,
 use Rattle.std.specs.List.{AllZip}
 use Rattle.std.proofs.lemmas.Bool.{false≢true}
 use Rattle.m2_base.specs.declared.kind.TokenKind.{TokenKind}
-use Rattle.m2_base.specs.declared.kind.TokenKind.TheVariants.{Procedure}
+use Rattle.m2_base.specs.declared.kind.TokenKind.TheVariants.{Identifier, Procedure}
 use Rattle.m2_base.specs.declared.token.Token.{Token}
 use Rattle.m2_base.specs.declared.trees.declarations.StreamKind.TheVariants.{Main}
 use Rattle.m2_base.specs.Finished.{AreRead, HasNoProcedure, lone_trees, main_number, main_tokens, scope_in, tokens_of}
 use Rattle.m2_base.specs.ExpressionsOf.{ident_of}
 use Rattle.m2_base.specs.Grammar.{grammar, levels, main, stream, declaration, procedure_cut}
 use Rattle.m2_base.specs.KindNumbers.{kind_number}
-use Rattle.m2_base.specs.Statics.BlockLimits.{Begun, is_procedure_word, limit_from, names_next, procedures_of}
+use Rattle.m2_base.specs.Statics.BlockLimits.{Begun, begins_procedure, is_identifier, is_procedure_word, limit_from, procedures_of}
 use Rattle.m2_base.specs.StreamsOf.{body_of, declaration_of, declarations_of, imports_of, main_of, main_tree, stream_of}
 use Rattle.m2_base.specs.Trees.{Stream}
 use Rattle.m2_base.specs.TypesOf.{is_there}
@@ -57,13 +57,35 @@ procedure_word : (k : TokenKind) → member (kind_number k) (kind_number Procedu
 procedure_word Procedure e = refl
 procedure_word _ e = absurd (false≢true e)
 
+identifier : (k : TokenKind) → member (kind_number k) (kind_number Identifier ∷ []) ≡ true → is_identifier k ≡ true
+identifier Identifier e = refl
+identifier _ e = absurd (false≢true e)
+
+both_not : (a b : Bool) → (a && b) ≡ false → a ≡ true → b ≡ false
+both_not true b h e = h
+both_not false b h e = absurd (false≢true e)
+
+-- tokens that begin no procedure with others behind them begin none alone
+begins_none : (k : TokenKind) (xs ys : List Token) → begins_procedure k (xs ++ ys) ≡ false → begins_procedure k xs ≡ false
+begins_none k [] ys h = never (is_procedure_word k)
+  where
+    never : (b : Bool) → (b && false) ≡ false
+    never true = refl
+    never false = refl
+begins_none k (x ∷ xs) ys h = h
+
 each_left : (xs ys : List Token) → HasNoProcedure (xs ++ ys) → HasNoProcedure xs
 each_left [] ys h = tt
-each_left (x ∷ xs) ys h = (h.0, each_left xs ys h.1)
+each_left (x ∷ xs) ys h = (begins_none x.kind xs ys h.0, each_left xs ys h.1)
 
 each_right : (xs ys : List Token) → HasNoProcedure (xs ++ ys) → HasNoProcedure ys
 each_right [] ys h = h
 each_right (x ∷ xs) ys h = each_right xs ys h.1
+
+-- PROCEDURE before an identifier begins one
+heading_begins : (k i : TokenKind) → member (kind_number k) (kind_number Procedure ∷ []) ≡ true → member (kind_number i) (kind_number Identifier ∷ []) ≡ true
+    → (is_procedure_word k && is_identifier i) ≡ true
+heading_begins k i p q = ap (λ b. b && is_identifier i) (procedure_word k p) ∙ identifier i q
 
 -- a declaration reads the same in a text, and has no procedure
 record Same (d : Tree Token) : Type 0 where
@@ -75,7 +97,7 @@ same_declaration : {d : Tree Token} → Derives grammar (declaration procedure_c
 same_declaration (of_left p) h = record { derives = of_left p; reads = λ c. refl; none = λ c. no_procedures p refl c }
 same_declaration (of_right (of_left p)) h = record { derives = of_right (of_left p); reads = λ c. refl; none = λ c. no_procedures p refl c }
 same_declaration (of_right (of_right (of_left p))) h = record { derives = of_right (of_right (of_left p)); reads = λ c. refl; none = λ c. no_procedures p refl c }
-same_declaration (of_right (of_right (of_right (of_then (of_then (of_token {t} g) q) r)))) h = absurd (false≢true (sym h.0 ∙ procedure_word t.kind g))
+same_declaration (of_right (of_right (of_right (of_then (of_then (of_token {t} g) (of_then (of_token {t = i} gi) q)) r)))) h = absurd (false≢true (sym h.0 ∙ heading_begins t.kind i.kind g gi))
 
 record SameAll (ds : Tree Token) : Type 0 where
   pub derives : Derives grammar (many (declaration sub)) ds
@@ -120,9 +142,9 @@ same_main (of_then {d = a} p (of_then {d = b} q (of_then {d = i} r (of_then {d =
 
 none_begin : (ts : List Token) → HasNoProcedure ts → procedures_of ts ≡ []
 none_begin [] h = refl
-none_begin (t ∷ ts) h = at_word _ _ (is_procedure_word t.kind) h.0 ∙ none_begin ts h.1
+none_begin (t ∷ ts) h = at_word _ _ (begins_procedure t.kind ts) h.0 ∙ none_begin ts h.1
   where
-    at_word : (begun rest : List Begun) (b : Bool) → b ≡ false → (if b && names_next ts then begun else rest) ≡ rest
+    at_word : (begun rest : List Begun) (b : Bool) → b ≡ false → (if b then begun else rest) ≡ rest
     at_word begun rest false e = refl
     at_word begun rest true e = absurd (false≢true (sym e))
 

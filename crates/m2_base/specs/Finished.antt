@@ -1,9 +1,8 @@
 -- What the texts of a unit mean for the tables: the rows that each scope has in the end, where all texts can be read.
 use Rattle.std.specs.Prelude.{◌≡◌, ℕ, ◌+◌, ◌==◌, true, false, List, [], ◌∷◌, Option, Some, None, length, map, option_map, position, slice_get, slice_index_or}
 use Rattle.std.specs.List.{AllZip}
-use Rattle.m2_base.specs.Lists.{Each}
 use Rattle.m2_base.specs.Rows.{Row}
-use Rattle.m2_base.specs.Statics.BlockLimits.{is_procedure_word, limit_of}
+use Rattle.m2_base.specs.Statics.BlockLimits.{begins_procedure, limit_of}
 use Rattle.m2_base.specs.Statics.Blocks.{UnitTrees}
 use Rattle.m2_base.specs.Statics.Contexts.{DefinitionModule, Source}
 use Rattle.m2_base.specs.Statics.UnitRows.{unit_rows}
@@ -68,9 +67,10 @@ pub record IsFinished (u : UnitTexts) (tables : List (List Row)) : Type 0 where
   pub read : AreRead u trees
   pub rows : tables ≡ unit_rows trees
 
--- none of the tokens is the word PROCEDURE
+-- none of the tokens begins a procedure
 abbrev pub HasNoProcedure : List Token → Type 0
-HasNoProcedure tokens = Each (λ t. is_procedure_word t.kind ≡ false) tokens
+HasNoProcedure [] = Unit {0}
+HasNoProcedure (t ∷ tokens) = (begins_procedure t.kind tokens ≡ false) × HasNoProcedure tokens
 
 -- the trees of a unit of one text without procedures: that of the main module
 abbrev pub lone_trees : UnitTexts → Stream → UnitTrees

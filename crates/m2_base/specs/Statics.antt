@@ -39,6 +39,7 @@ pub mod ShapedRows
 pub mod Shapes
 pub mod ReadTrees
 pub mod SoundTrees
+pub mod StandingTrees
 pub mod Subranges
 pub mod Targets
 pub mod TypeNames

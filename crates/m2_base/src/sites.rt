@@ -106,6 +106,7 @@ fn index_of(alloc: Global, names: &[Named]) -> Result<IndexMap<u32, Named>, Memo
 }
 
 /// Where a name is used.
+#[derive(Drop)]
 pub struct Site<'a> {
     pub texts: &'a Texts,
     pub around: &'a Around,

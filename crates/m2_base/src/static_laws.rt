@@ -1,5 +1,5 @@
 //! Laws on the static rules, each the contract of a function that does nothing.
-ghost use Rattle.std.specs.Prelude.{◌≡◌, ◌<◌, ◌≤◌, ◌^◌, ℕ, List, [], Option, Some, None, true, length, flat_map, slice_get};
+ghost use Rattle.std.specs.Prelude.{◌≡◌, ◌<◌, ◌≤◌, ◌^◌, ℕ, List, [], ◌∷◌, Option, Some, None, true, length, flat_map, slice_get};
 ghost use Rattle.ll_grammar.specs.Texts.{Spells};
 ghost use Rattle.m2_base.specs.Finished.{AreRead, HasNoProcedure, IsFinished, lone_trees, main_tokens};
 ghost use Rattle.m2_base.specs.Grammar.{grammar, levels, stream};
@@ -17,12 +17,15 @@ ghost use Rattle.m2_base.specs.Statics.Ranges.{Range};
 ghost use Rattle.m2_base.specs.Statics.ShapedRows.{AreShaped};
 ghost use Rattle.m2_base.specs.Statics.SoundTrees.{IsSoundItem};
 ghost use Rattle.m2_base.specs.Statics.Shapes.{item_shapes};
+ghost use Rattle.m2_base.specs.Statics.StandingTrees.{IsStandingStream, StandsIn};
 ghost use Rattle.m2_base.specs.Statics.Types.{is_same, stands_for, range_of};
+ghost use Rattle.m2_base.specs.Statics.UnitNotes.{declaration_diags};
 ghost use Rattle.m2_base.specs.Statics.UnitRows.{unit_rows};
 ghost use Rattle.m2_base.specs.Statics.ReadTrees.{IsReadItem, IsReadToken};
 ghost use Rattle.m2_base.specs.StreamsOf.{stream_of};
 ghost use Rattle.m2_base.specs.Trees.{Stream as StreamTree, StreamKind as KindOfStream, Main};
 ghost use Rattle.m2_base.specs.Units.{UnitTexts};
+ghost use Rattle.m2_base.specs.declared.notes.Diag.{Diag};
 ghost use Rattle.m2_base.specs.declared.token.Token.{Token};
 
 /// That two types are the same is an equivalence.
@@ -80,4 +83,13 @@ pub fn one_table()
 /// A unit of one text in which no procedure begins has the tree of its stream.
 pub fn lone_modules_are_read()
     ensures { (u : UnitTexts) (tree : StreamTree) → u.order ≡ [] → u.own ≡ None → HasNoProcedure (main_tokens u) → Spells grammar levels (stream Main) (stream_of Main) tree (main_tokens u) → AreRead u (lone_trees u tree) }
+{}
+
+/// Each diagnostic of the declarations stands at a token of the text, where the blocks' trees name no others: so it is
+/// with the trees that the tokens spell. A unit is meant here that has no definition of its own.
+pub fn diagnostics_stand_at_tokens()
+    ensures read { (n : ℕ) (kind : KindOfStream) (tree : StreamTree) (tokens : List Token) → Spells grammar levels (stream kind) (stream_of kind) tree tokens → Each (λ (t : Token). t.at < n) tokens → IsStandingStream n tree }
+    ensures noted { (n : ℕ) (c : Context) (kind : KindOfStream) (x : Item) (cell : ℕ) → StandsIn n x → Each (λ (d : Diag). d.at < n) (declare c kind x cell).diags }
+    ensures units { (n : ℕ) (u : UnitTrees) → u.own ≡ None → Each (λ (b : BlockTree). IsStandingStream n b.tree) (blocks_of u) → Each (λ (d : Diag). d.at < n) (declaration_diags u) }
+    ensures lone { (n : ℕ) (u : UnitTrees) (tree : StreamTree) → u.own ≡ None → u.definitions ≡ [] → u.main ≡ tree ∷ [] → IsStandingStream n tree → Each (λ (d : Diag). d.at < n) (declaration_diags u) }
 {}

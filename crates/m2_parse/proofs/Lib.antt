@@ -1,6 +1,5 @@
 pub mod EachKind
 pub mod ExpressionLinks
-pub mod FewRows
 pub mod FrontLaws
 pub mod FrontLemmas
 pub mod LeadingLaws

@@ -1,17 +1,12 @@
 //! What the grammar says of whole texts.
-ghost use Rattle.std.specs.Prelude.{◌≡◌, ◌≤◌, ℕ, Bool, List, flat_map, length};
+ghost use Rattle.std.specs.Prelude.{◌≡◌, ℕ, Bool, List};
 ghost use Rattle.ll_grammar.specs.Grammar.{sub};
 ghost use Rattle.ll_grammar.specs.Laws.{HasAnswer, HasOneAnswer};
 ghost use Rattle.m2_base.specs.declared.token.Token.{Token};
 ghost use Rattle.m2_base.specs.FaultsOf.{fault_in};
 ghost use Rattle.m2_base.specs.Fronts.{Front, IsFront};
 ghost use Rattle.m2_base.specs.Grammar.{grammar, main};
-ghost use Rattle.m2_base.specs.Statics.Items.{items_of};
-ghost use Rattle.m2_base.specs.Statics.Shapes.{item_shapes};
-ghost use Rattle.m2_base.specs.Trees.{Stream as StreamTree};
-ghost use Rattle.m2_base.specs.declared.trees.declarations.StreamKind.{StreamKind as KindOfStream};
 ghost use Rattle.m2_base.specs.WholeTexts.{main_blocks};
-ghost use Rattle.m2_parse.specs.Streams.{SpellsStream};
 
 /// A text has one front at most.
 pub fn text_has_one_front()
@@ -22,9 +17,4 @@ pub fn text_has_one_front()
 pub fn text_has_one_meaning()
     ensures exists { (m text : ℕ) → HasAnswer grammar (main sub) (main_blocks m) (fault_in text) }
     ensures one { (m text : ℕ) → HasOneAnswer grammar (main sub) (main_blocks m) (fault_in text) }
-{}
-
-/// A block that is read makes no more rows than it has tokens.
-pub fn rows_are_few()
-    ensures { (kind : KindOfStream) (tree : StreamTree) (ts : List Token) → SpellsStream kind tree ts → length (flat_map item_shapes (items_of tree)) ≤ length ts }
 {}

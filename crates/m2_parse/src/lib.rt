@@ -27,5 +27,5 @@ pub use faults::ParseFault;
 pub use fitting::{names_fit, values_fit};
 pub use fronts::front;
 pub use heads::Front;
-pub use laws::{rows_are_few, text_has_one_front, text_has_one_meaning};
+pub use laws::{text_has_one_front, text_has_one_meaning};
 pub use streams::parse_stream;

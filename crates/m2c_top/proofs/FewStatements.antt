@@ -1,6 +1,6 @@
 -- A body has no more statements than its text has tokens, and one.
 use Rattle.std.proofs.Common.{◌≡◌, ℕ, ◌+◌, ◌≤◌, Bool, true, false, List, [], ◌∷◌, ◌++◌, Option, Some, None, length, arith, sym, ap, subst, refl, length-append, if◌then◌else◌, not}
-use Rattle.ll_grammar.specs.Derivations.{Tree, tokens, Derives, of_empty, of_token, of_then, of_left, of_right, of_last, of_more}
+use Rattle.ll_grammar.specs.Derivations.{Tree, both, tokens, Derives, of_empty, of_token, of_then, of_left, of_right, of_last, of_more}
 use Rattle.ll_grammar.specs.Grammar.{many, ◌⨾◌}
 use Rattle.ll_grammar.specs.Texts.{Spells}
 use Rattle.m2_base.specs.Grammar as rules
@@ -22,7 +22,7 @@ count_of (more_statements s ss) = 1 + count_of ss
 
 count_is : (xs : List TreeStatement) → count_of (statements xs) ≡ length xs
 count_is [] = refl
-count_is (x ∷ xs) = ap (λ n. 1 + n) (count_is xs)
+count_is (x ∷ xs) = let r = count_is xs in omega (arith, r)
 
 -- ** Those of a tree
 
@@ -39,7 +39,9 @@ body_few w (of_right of_empty) = omega arith
 
 -- the statements of a main text
 tree_few : {d : Tree Token} → Derives grammar (stream Main) d → count_of (stream_of Main d []).body ≤ length (tokens d) + 1
-tree_few (of_then {d = i} p (of_then {d = m} q (of_then {d = n} r (of_then {d = c} s (of_then {d = is} t (of_then {e = z} (of_then {d = ds} u (of_then {d = b} {e = x} v y)) o)))))) =
+tree_few (of_then {d = i} p (of_then {d = m} q (of_then {d = n} r (of_then {d = c} s (of_then {d = is} t (of_then (of_then {d = ds} u (of_then {d = b} v (of_then {d = e} {e = k} x y))) (of_then {d = o} {e = f} z g))))))) =
+    let x = both e k in
+    let z = both o f in
     let w = tokens x ++ (tokens z ++ []) in
     let few = body_few w v in
     let count = count_is (streams.body_of b w) in
@@ -73,8 +75,8 @@ statements_few : (ss : Statements) → HasFew (count_of ss) (statements_of ss)
 statements_few no_statements = omega arith
 statements_few (more_statements s ss) = joined_few (count_of ss) (statement_of s) (statements_of ss) (statements_few ss)
 
-body_has_few : (text : List ℕ) (tree : Stream) → HasFew (count_of tree.body) (body_of text tree)
-body_has_few text tree = go (not (stands_alone tree)) (are_empty tree.body) (is_plain text tree)
+body_has_few : (text : List ℕ) (ts : List Token) (tree : Stream) → HasFew (count_of tree.body) (body_of text ts tree)
+body_has_few text ts tree = go (not (stands_alone tree)) (are_empty tree.body) (is_plain text ts tree)
   where
     go : (a b c : Bool) → HasFew (count_of tree.body) (if a then None else if b then Some [] else if c then statements_of tree.body else None)
     go true b c = tt
@@ -82,16 +84,16 @@ body_has_few text tree = go (not (stands_alone tree)) (are_empty tree.body) (is_
     go false false true = statements_few tree.body
     go false false false = tt
 
-pub compiled_few : (text : List ℕ) (tree : Stream) (body : List Statement) → body_of text tree ≡ Some body → length body ≤ count_of tree.body
-compiled_few text tree body e = subst (HasFew (count_of tree.body)) e (body_has_few text tree)
+pub compiled_few : (text : List ℕ) (ts : List Token) (tree : Stream) (body : List Statement) → body_of text ts tree ≡ Some body → length body ≤ count_of tree.body
+compiled_few text ts tree body e = subst (HasFew (count_of tree.body)) e (body_has_few text ts tree)
 
 none_some : (body : List Statement) → None ≡ Some body → ⊥
 none_some body e = cc
 
 -- a body that is compiled stands alone
-pub alone_of : (text : List ℕ) (tree : Stream) (body : List Statement) → body_of text tree ≡ Some body → stands_alone tree ≡ true
-alone_of text tree body e = go (stands_alone tree) e
+pub alone_of : (text : List ℕ) (ts : List Token) (tree : Stream) (body : List Statement) → body_of text ts tree ≡ Some body → stands_alone tree ≡ true
+alone_of text ts tree body e = go (stands_alone tree) e
   where
-    go : (a : Bool) → (if not a then None else if are_empty tree.body then Some [] else if is_plain text tree then statements_of tree.body else None) ≡ Some body → a ≡ true
+    go : (a : Bool) → (if not a then None else if are_empty tree.body then Some [] else if is_plain text ts tree then statements_of tree.body else None) ≡ Some body → a ≡ true
     go true p = refl
     go false p = absurd (none_some body p)

@@ -1,10 +1,12 @@
 mod Asking
+mod Bodies
 mod CodeSizes
 mod Coding
 mod Decided
 mod Delivering
 mod DiagTokens
 mod Ends
+mod FewCells
 mod FewStatements
 mod Fitting
 mod Obeying

@@ -61,8 +61,8 @@ one_place name u a b p q =
 -- the rows of a text, one question after another
 module _ (name text : List ℕ) where
   data OfTree (u : Lexed) (t : Stream) : Decision → Type 0 where
-    is : (body : List Statement) → body_of text t ≡ Some body → OfTree u t (to_compile (module_of u t body))
-    is_none : body_of text t ≡ None → OfTree u t unbuilt
+    is : (body : List Statement) → body_of text u.tokens t ≡ Some body → OfTree u t (to_compile (module_of u t body))
+    is_none : body_of text u.tokens t ≡ None → OfTree u t unbuilt
 
   one_of_tree : (u : Lexed) (t : Stream) (d e : Decision) → OfTree u t d → OfTree u t e → d ≡ e
   one_of_tree u t d e (is p a) (is q b) = ap (λ body. to_compile (module_of u t body)) (some_same p q (sym a ∙ b))

@@ -48,10 +48,10 @@ lower_total a b P Q R f = elim (which a b) as (λ _. Lower a b P ⊎ (Lower b a 
   | inl x ↦ inl (inl x)
   | inr (inl x) ↦ inr (inl (inl x))
   | inr (inr x) ↦ elim (f x) as (λ _. Lower a b P ⊎ (Lower b a Q ⊎ ((a ≡ b) × R))) [
-      | inl p ↦ inl (inr (x, p))
-      | inr (inl q) ↦ inr (inl (inr (sym x, q)))
-      | inr (inr r) ↦ inr (inr (x, r))
-    ]
+    | inl p ↦ inl (inr (x, p))
+    | inr (inl q) ↦ inr (inl (inr (sym x, q)))
+    | inr (inr r) ↦ inr (inr (x, r))
+  ]
 ]
   where
     which : (m n : ℕ) → (m < n) ⊎ ((n < m) ⊎ (m ≡ n))

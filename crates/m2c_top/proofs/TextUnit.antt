@@ -1,8 +1,7 @@
 -- What the tokens of a text say of the unit that it makes up, and of its module's name.
 use Rattle.std.proofs.Common.{◌≡◌, ℕ, ◌<◌, ◌≤◌, ◌^◌, true, false, List, [], ◌∷◌, ◌++◌, Some, length, refl, sym, ap, subst, arith}
 use Rattle.std.specs.List.{slice_get}
-use Rattle.std.specs.Option.{option_map_or}
-use Rattle.ll_grammar.specs.Derivations.{Tree, tokens, Derives, of_token, of_then}
+use Rattle.ll_grammar.specs.Derivations.{Tree, both, tokens, Derives, of_token, of_then}
 use Rattle.ll_grammar.specs.Texts.{Spells}
 use Rattle.m2_base.specs.ExpressionsOf.{ident_of}
 use Rattle.m2_base.specs.Grammar.{grammar, ident, levels, number_of_token, stream}
@@ -17,7 +16,6 @@ use Rattle.m2_base.specs.Views.{stream_view}
 use Rattle.m2_base.specs.declared.kind.TokenKind.{TokenKind}
 use Rattle.m2_base.specs.declared.kind.TokenKind.TheVariants as kind
 use Rattle.m2_base.specs.declared.token.Token.{Token}
-use Rattle.m2_base.specs.declared.trees.Ident.{Ident}
 use Rattle.m2_base.specs.declared.trees.declarations.StreamKind.TheVariants.{Main}
 use Rattle.m2_base.proofs.Kept.{IsPrefixOf-refl}
 use Rattle.m2_base.proofs.ReadExpressions.{kind_is}
@@ -28,6 +26,7 @@ use Rattle.m2c_top.specs.Bindings.{IsName}
 use Rattle.m2c_top.specs.Bodies.{body_of}
 use Rattle.m2c_top.specs.Decisions.{HasTokens, IsBuilt, Lexed, has_unbuilt}
 use Rattle.m2c_top.specs.Held.{IsHeld, main_tokens}
+use Rattle.m2c_top.specs.Names.{number_of}
 use Rattle.m2c_top.specs.Uses.{body_uses}
 use Rattle.m2c_top.specs.declared.module.Module.{Module}
 use Rattle.m2c_top.proofs.FewStatements.{alone_of, compiled_few, spelled_few}
@@ -43,10 +42,6 @@ main_is [] main e = absurd (none e)
 main_is (t ∷ texts) main e = ap (λ (x : TextOf). x.tokens) (some_is t main e)
 
 -- ** The module's name
-
--- its number
-abbrev pub number_of : Stream → ℕ
-number_of tree = option_map_or (λ (i : Ident). i.name) tree.name 0
 
 module _ (names : List (List ℕ)) where
   abbrev HasItsValue : Token → Type 0
@@ -67,27 +62,28 @@ module _ (names : List (List ℕ)) where
   name_named : {d : Tree Token} (rest : List Token) → Derives grammar ident d → Each HasItsValue (tokens d ++ rest) → IsNamed names (ident_of d).name
   name_named rest (of_token {t = t} m) h = value_named t.kind t.value (kind_is (number_of_token t) 1 m) h.0
 
-  tree_named : {d : Tree Token} → Derives grammar (stream Main) d → Each HasItsValue (tokens d) → IsNamed names (number_of (stream_of Main d []))
-  tree_named (of_then {d = i} p (of_then {d = m} q (of_then {d = n} {e = rest} r behind))) h =
+  tree_named : {d : Tree Token} → Derives grammar (stream Main) d → Each HasItsValue (tokens d) → IsNamed names (number_of (stream_of Main d []).name)
+  tree_named (of_then {d = i} p (of_then {d = m} q (of_then {d = n} r (of_then {d = c} s (of_then {d = is} t (of_then {d = b} u (of_then {d = o} {e = f} v w))))))) h =
+      let rest = both c (both is (both b (both o f))) in
       name_named (tokens rest) r (each_behind (tokens m) (tokens n ++ tokens rest) (each_behind (tokens i) (tokens m ++ (tokens n ++ tokens rest)) h))
 
-  spelled_named : (tree : Stream) (ts : List Token) → Spells grammar levels (stream Main) (stream_of Main) tree ts → Each HasItsValue ts → IsNamed names (number_of tree)
+  spelled_named : (tree : Stream) (ts : List Token) → Spells grammar levels (stream Main) (stream_of Main) tree ts → Each HasItsValue ts → IsNamed names (number_of tree.name)
   spelled_named tree ts s h =
-      subst (λ (t : Stream). IsNamed names (number_of t)) s.gives (tree_named s.sentence.derives (subst (Each HasItsValue) (sym s.sentence.spells) h))
+      subst (λ (t : Stream). IsNamed names (number_of t.name)) s.gives (tree_named s.sentence.derives (subst (Each HasItsValue) (sym s.sentence.spells) h))
 
 -- the unit of a text whose tree is this
 pub unit_is : (text : List ℕ) (u : Lexed) (tree : Stream) → HasTokens text u → Spells grammar levels (stream Main) (stream_of Main) tree u.tokens → length u.names < 2 ^ 32
-    → IsUnit (one_text u.names (number_of tree) u.tokens)
+    → IsUnit (one_text u.names (number_of tree.name) u.tokens)
 unit_is text u tree has s countable =
     let named = spelled_named u.names tree u.tokens s (text_listed standard_names u.names text u.tokens has.are_tokens has.short).1 in
-    text_unit standard_names u.names text u.tokens has.are_tokens has.short (number_of tree) (IsPrefixOf-refl standard_names) named has.few countable
+    text_unit standard_names u.names text u.tokens has.are_tokens has.short (number_of tree.name) (IsPrefixOf-refl standard_names) named has.few countable
 
 -- what holds of a module that is held
 pub text_held : (m : Module) (text : List ℕ) (u : Lexed) (number : ℕ) → m.texts ≡ one_text u.names number u.tokens → IsUnit (one_text u.names number u.tokens) → IsBuilt text u
-    → Spells grammar levels (stream Main) (stream_of Main) (stream_view m.tree) u.tokens → body_of text (stream_view m.tree) ≡ Some m.body.items → Each IsName (body_uses m.body.items) → IsHeld m
+    → Spells grammar levels (stream Main) (stream_of Main) (stream_view m.tree) u.tokens → body_of text u.tokens (stream_view m.tree) ≡ Some m.body.items → Each IsName (body_uses m.body.items) → IsHeld m
 text_held m text u number is unit built spelled body uses =
     let few = spelled_few (stream_view m.tree) u.tokens spelled in
-    let compiled = compiled_few text (stream_view m.tree) m.body.items body in
+    let compiled = compiled_few text u.tokens (stream_view m.tree) m.body.items body in
     let tokens = built.has_tokens.few in
     record {
       unit = subst IsUnit (sym is) unit;
@@ -97,7 +93,7 @@ text_held m text u number is unit built spelled body uses =
           (tokens_read standard_names u.names text u.tokens (IsPrefixOf-refl standard_names) built.has_tokens.short built.has_tokens.are_tokens);
       built = subst (λ (x : UnitTexts). has_unbuilt (main_tokens x.list) ≡ false) (sym is) built.built;
       spelled = subst (λ (x : UnitTexts). Spells grammar levels (stream Main) (stream_of Main) (stream_view m.tree) (main_tokens x.list)) (sym is) spelled;
-      lone = alone_of text (stream_view m.tree) m.body.items body;
+      lone = alone_of text u.tokens (stream_view m.tree) m.body.items body;
       few = omega (arith, few, compiled, tokens);
       uses = uses;
     }

@@ -1,9 +1,12 @@
 -- The bodies that are compiled so far: of empty statements alone; or, in a plain text whose declarations are INTEGER variables,
 -- of assignments of numbers, variables, and what one operator makes of two of them.
-use Rattle.std.specs.Prelude.{ℕ, Bool, true, false, nat_le, is_none, not, ◌==◌, ◌&&◌, if◌then◌else◌, List, [], ◌∷◌, Option, Some, None, option_map}
+use Rattle.std.specs.Prelude.{ℕ, Bool, true, false, nat_le, is_none, not, ◌==◌, ◌&&◌, ◌||◌, if◌then◌else◌, List, [], ◌∷◌, Option, Some, None, option_map}
 use Rattle.std.specs.List.{list_all}
+use Rattle.m2_base.specs.KindNumbers.{kind_number}
 use Rattle.m2_base.specs.Standard.{is_standard}
 use Rattle.m2_base.specs.Trees.{Decl, Designator, Expr, ExprForm, Import, Nexts, Statement as TreeStatement, Statements, StmtForm, Stream, TypeExpr, TypeForm, assign_form, designator, empty_form, expr, many_form, more_nexts, more_selectors, more_statements, named_type, name_form, next, no_nexts, no_selectors, no_statements, number_form, proc_decl, statement, type_expr, vars_decl}
+use Rattle.m2_base.specs.declared.kind.TokenKind.TheVariants.{Const, «Type»}
+use Rattle.m2_base.specs.declared.token.Token.{Token}
 use Rattle.m2_base.specs.declared.trees.Ident.{Ident}
 use Rattle.m2_base.specs.declared.trees.Qual.{Qual}
 use Rattle.m2_base.specs.declared.trees.operators.Operator.{Operator as TreeOperator}
@@ -54,10 +57,16 @@ operator_of operators.Minus = Some Minus
 operator_of operators.Times = Some Times
 operator_of other = None
 
+abbrev pub is_literal : Operand → Bool
+is_literal (Literal n) = true
+is_literal (Variable i) = false
+
 -- an operator between two operands, of which not both are numbers
+abbrev pub pair : Operand → Operator → Operand → Option Value
+pair x op y = if is_literal x && is_literal y then None else Some (Pair x op y)
+
 abbrev pub pair_of : Option Operand → Option Operator → Option Operand → Option Value
-pair_of (Some (Literal n)) op (Some (Literal k)) = None
-pair_of (Some x) (Some op) (Some y) = Some (Pair x op y)
+pair_of (Some x) (Some op) (Some y) = pair x op y
 pair_of x op y = None
 
 -- an operand with one operator behind it
@@ -144,13 +153,21 @@ has_no_import (i ∷ imports) = false
 abbrev pub stands_alone : Stream → Bool
 stands_alone tree = has_no_import tree.imports && list_all (λ d. not (is_procedure d)) tree.decls
 
--- a plain text, whose declarations are INTEGER variables
-abbrev pub is_plain : List ℕ → Stream → Bool
-is_plain text tree = are_plain_bytes text && list_all are_integers tree.decls
+-- a word that begins declarations of constants or of types
+abbrev pub begins_others : Token → Bool
+begins_others t = kind_number t.kind == kind_number Const || kind_number t.kind == kind_number «Type»
 
--- what the statements of a text with this tree do, where they are compiled
-abbrev pub body_of : (text : List ℕ) → Stream → Option (List Statement)
-body_of text tree =
+-- only the bytes and the words of plain texts
+abbrev pub has_plain_tokens : (text : List ℕ) → List Token → Bool
+has_plain_tokens text tokens = are_plain_bytes text && list_all (λ t. not (begins_others t)) tokens
+
+-- a plain text, whose declarations are INTEGER variables
+abbrev pub is_plain : (text : List ℕ) → List Token → Stream → Bool
+is_plain text tokens tree = has_plain_tokens text tokens && list_all are_integers tree.decls
+
+-- what the statements of a text with these tokens and this tree do, where they are compiled
+abbrev pub body_of : (text : List ℕ) → List Token → Stream → Option (List Statement)
+body_of text tokens tree =
     if not (stands_alone tree) then None else
     if are_empty tree.body then Some [] else
-    if is_plain text tree then statements_of tree.body else None
+    if is_plain text tokens tree then statements_of tree.body else None

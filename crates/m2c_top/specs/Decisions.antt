@@ -108,7 +108,7 @@ pub data Decides (name text : List ℕ) : Decision → Type 0 where
   faulty : (u : Lexed) (fault : StreamFault) → IsBuilt text u → NamesOther name u None → Answers u.tokens (Err fault)
       → Decides name text (decision_for u.tokens fault)
   module_text : (u : Lexed) (tree : Stream) (body : List Statement) → IsBuilt text u → NamesOther name u None → Answers u.tokens (Ok tree)
-      → body_of text tree ≡ Some body → Decides name text (to_compile (module_of u tree body))
+      → body_of text u.tokens tree ≡ Some body → Decides name text (to_compile (module_of u tree body))
   -- a text that has a tree, and a body that isn't compiled yet
   other_tree : (u : Lexed) (tree : Stream) → IsBuilt text u → NamesOther name u None → Answers u.tokens (Ok tree)
-      → body_of text tree ≡ None → Decides name text unbuilt
+      → body_of text u.tokens tree ≡ None → Decides name text unbuilt

@@ -21,6 +21,6 @@ HoldsModule _ = Unit {0}
 
 -- the module of a text with this tree, or none where its body isn't compiled yet
 abbrev pub IsModuleOrNot : (text : List ℕ) → Lexed → Stream → Decision → Type 0
-IsModuleOrNot text u tree (to_compile m) = (body : List Statement) × (body_of text tree ≡ Some body) × (m ≡ module_of u tree body)
-IsModuleOrNot text u tree unbuilt = body_of text tree ≡ None
+IsModuleOrNot text u tree (to_compile m) = (body : List Statement) × (body_of text u.tokens tree ≡ Some body) × (m ≡ module_of u tree body)
+IsModuleOrNot text u tree unbuilt = body_of text u.tokens tree ≡ None
 IsModuleOrNot text u tree _ = ⊥

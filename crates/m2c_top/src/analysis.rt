@@ -23,11 +23,11 @@ pub struct Analysis {
 }
 
 /// Analyses a module.
-pub fn analyse(_alloc: Global, _module: &Module) -> Result<Analysis, Memory>
-    requires { IsHeld _module.now }
-    ensures diags { IfOk result (λ found. found.diags.items ≡ diags_of (held _module.now)) }
-    ensures cells { IfOk result (λ found. found.cells ≡ cells_in (held _module.now)) }
-    ensures uses { IfOk result (λ found. found.uses.items ≡ cells_of (tables_of (held _module.now)) (body_uses _module.now.body.items)) }
+pub fn analyse(_alloc: Global, _source: &Module) -> Result<Analysis, Memory>
+    requires { IsHeld _source.now }
+    ensures diags { IfOk result (λ found. found.diags.items ≡ diags_of (held _source.now)) }
+    ensures cells { IfOk result (λ found. found.cells ≡ cells_in (held _source.now)) }
+    ensures uses { IfOk result (λ found. found.uses.items ≡ cells_of (tables_of (held _source.now)) (body_uses _source.now.body.items)) }
 {
     Err(Memory)
 }

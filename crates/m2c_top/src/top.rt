@@ -92,17 +92,17 @@ fn read_text<H: Shelf>(alloc: Global, name: &str, shelf: &mut H) -> Result<Optio
 fn object_for(
     alloc: Global,
     name: &str,
-    module: &Module,
+    source: &Module,
     cells: u32,
     uses: &[u32],
 ) -> Result<Vec<u8>, Memory>
     requires name { length name.now ≤ 64 }
-    requires held { IsHeld module.now }
-    requires cells { cells ≡ cells_in (held module.now) }
-    requires uses { uses.now ≡ cells_of (tables_of (held module.now)) (body_uses module.now.body.items) }
-    ensures { IfOk result (λ bytes. bytes.items ≡ object_bytes name.now (held module.now)) }
+    requires held { IsHeld source.now }
+    requires cells { cells ≡ cells_in (held source.now) }
+    requires uses { uses.now ≡ cells_of (tables_of (held source.now)) (body_uses source.now.body.items) }
+    ensures { IfOk result (λ bytes. bytes.items ≡ object_bytes name.now (held source.now)) }
 {
-    let body = module.body.as_slice();
+    let body = source.body.as_slice();
     let code = body_code(alloc, uses, body)?;
     object_of(
         alloc,
@@ -117,21 +117,21 @@ fn object_for(
 fn write_object<H: Shelf>(
     alloc: Global,
     name: &str,
-    module: &Module,
+    source: &Module,
     found: &Analysis,
     shelf: &mut H,
 ) -> Result<(), Stop>
     requires name { IsTrue (is_name name.now) }
-    requires held { IsHeld module.now }
-    requires cells { found.now.cells ≡ cells_in (held module.now) }
-    requires uses { found.now.uses.items ≡ cells_of (tables_of (held module.now)) (body_uses module.now.body.items) }
-    ensures ok { OnOk result (H.holds shelf.new ≡ with_file (H.holds shelf.old) (object_name name.now) (object_bytes name.now (held module.now))) }
-    ensures part { IsErrOf result Stop.Write → HasPart (H.holds shelf.old) (object_name name.now) (object_bytes name.now (held module.now)) (H.holds shelf.new) }
+    requires held { IsHeld source.now }
+    requires cells { found.now.cells ≡ cells_in (held source.now) }
+    requires uses { found.now.uses.items ≡ cells_of (tables_of (held source.now)) (body_uses source.now.body.items) }
+    ensures ok { OnOk result (H.holds shelf.new ≡ with_file (H.holds shelf.old) (object_name name.now) (object_bytes name.now (held source.now))) }
+    ensures part { IsErrOf result Stop.Write → HasPart (H.holds shelf.old) (object_name name.now) (object_bytes name.now (held source.now)) (H.holds shelf.new) }
     ensures memory { IsErrOf result Stop.Memory → H.holds shelf.new ≡ H.holds shelf.old }
     ensures write { IsErrOf result Stop.Write → Rose (H.put_faults shelf.old) (H.put_faults shelf.new) }
     ensures no_read { IsErrOf result Stop.Read → ⊥ }
 {
-    let object = object_for(alloc, name, module, found.cells, found.uses.as_slice())?;
+    let object = object_for(alloc, name, source, found.cells, found.uses.as_slice())?;
     let target = format!(in alloc; "{name}.m2o")?;
     match shelf.put(alloc, target.as_str(), object.as_slice()) {
         Ok(()) => Ok(()),
@@ -163,26 +163,26 @@ fn print_listing<P: Sink>(
 fn deliver<H: Shelf, P: Sink>(
     alloc: Global,
     name: &str,
-    module: &Module,
+    source: &Module,
     shelf: &mut H,
     print: &mut P,
 ) -> Result<Status, Stop>
     requires name { IsTrue (is_name name.now) }
-    requires held { IsHeld module.now }
-    ensures delivered { IfOk result (λ status. Delivered name.now (held module.now) status (H.holds shelf.old) (H.holds shelf.new) (P.written print.old) (P.written print.new)) }
-    ensures prints { OnErr result (PrintsListing name.now (held module.now) (P.written print.old) (P.written print.new)) }
-    ensures part { IsErrOf result Stop.Write → PutsObject name.now (held module.now) (H.holds shelf.old) (H.holds shelf.new) }
+    requires held { IsHeld source.now }
+    ensures delivered { IfOk result (λ status. Delivered name.now (held source.now) status (H.holds shelf.old) (H.holds shelf.new) (P.written print.old) (P.written print.new)) }
+    ensures prints { OnErr result (PrintsListing name.now (held source.now) (P.written print.old) (P.written print.new)) }
+    ensures part { IsErrOf result Stop.Write → PutsObject name.now (held source.now) (H.holds shelf.old) (H.holds shelf.new) }
     ensures memory { IsErrOf result Stop.Memory → H.holds shelf.new ≡ H.holds shelf.old }
     ensures no_read { IsErrOf result Stop.Read → ⊥ }
     ensures write { IsErrOf result Stop.Write → Rose (H.put_faults shelf.old) (H.put_faults shelf.new) ⊎ Rose (P.faults print.old) (P.faults print.new) }
 {
-    let found = analyse(alloc, module)?;
+    let found = analyse(alloc, source)?;
     let diags = found.diags.as_slice();
     if diags.is_empty() {
-        write_object(alloc, name, module, &found, shelf)?;
+        write_object(alloc, name, source, &found, shelf)?;
         return Ok(Status::Done);
     }
-    let tokens = module.texts.main().tokens.as_slice();
+    let tokens = source.texts.main().tokens.as_slice();
     print_listing(alloc, name, tokens, diags, print)?;
     Ok(Status::Diagnosed)
 }
@@ -236,7 +236,7 @@ fn answer<H: Shelf, P: Sink>(
             print_listing(alloc, name, tokens.as_slice(), &[*diag], print)?;
             Ok(Status::Diagnosed)
         }
-        Verdict::ToCompile(module) => deliver(alloc, name, module, shelf, print),
+        Verdict::ToCompile(source) => deliver(alloc, name, source, shelf, print),
     }
 }
 

@@ -1,7 +1,6 @@
 //! What is decided of a main text: a limit that it passes, a form that isn't built yet, what it is refused for, or the module
 //! that is compiled.
 ghost use Rattle.std.specs.Prelude.{◌≡◌, ◌≤◌, length, vec_len, IfOk, IfSome, MatchOption, IsTrue, Ok};
-ghost use Rattle.std.specs.Option.{option_map_or};
 ghost use Rattle.m2_base.specs.Tokens.{AreTokens};
 ghost use Rattle.m2_base.specs.Units.{IsUnit};
 ghost use Rattle.m2_base.specs.Views.{stream_view};
@@ -9,7 +8,7 @@ ghost use Rattle.m2_lex.specs.Faults.{HasTooMany};
 ghost use Rattle.m2_lex.specs.LoneTexts.{one_text};
 ghost use Rattle.m2_parse.specs.Fitting.{names_fit};
 ghost use Rattle.m2c_top.specs.Decisions.{Answers, Decides, IsBuilt, NamesOther, decision_for, begins_with as spec_begins_with, has_unbuilt as spec_has_unbuilt, is_of as spec_is_of, is_unbuilt as spec_is_unbuilt, other_name_at};
-ghost use Rattle.m2c_top.specs.Names.{is_named as spec_named};
+ghost use Rattle.m2c_top.specs.Names.{is_named as spec_named, number_of as spec_number};
 ghost use Rattle.m2c_top.specs.Verdicts.{decision_of, HoldsModule, IsModuleOrNot};
 
 use crate::diagnostic::{OTHER_MODULE, diag_at};
@@ -196,7 +195,7 @@ fn module_or_not(
     ensures decision { IfOk result (λ verdict. IsModuleOrNot text.now (record { names = names; tokens = tokens.items }) (stream_view tree) (decision_of verdict)) }
     ensures held { IfOk result HoldsModule }
 {
-    let Some(body) = body_of(alloc, text, &tree)? else {
+    let Some(body) = body_of(alloc, text, tokens.as_slice(), &tree)? else {
         return Ok(Verdict::NotBuilt);
     };
     let _countable = names.count();
@@ -206,7 +205,7 @@ fn module_or_not(
 
 /// The number of a module's name.
 fn number_of(name: Option<Ident>) -> u32
-    ensures { result ≡ option_map_or (λ ident. ident.name) name 0 }
+    ensures { result ≡ spec_number name }
 {
     match name {
         Some(ident) => ident.name,

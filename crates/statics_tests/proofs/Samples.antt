@@ -1,17 +1,26 @@
 -- The unit of the tests, and its scopes.
-use Rattle.std.proofs.Common.{List, ◌≡◌, ◌∙◌, ℕ, ◌<◌, ◌≤◌, [], ◌∷◌, length, drop, Some, None, refl, sym, subst, arith}
+use Rattle.std.proofs.Common.{List, ◌≡◌, ◌∙◌, ℕ, ◌<◌, ◌≤◌, true, [], ◌∷◌, length, drop, Some, None, refl, sym, ap, subst, arith}
 use Rattle.std.proofs.lemmas.Bool.{true≢false}
 use Rattle.std.proofs.lemmas.List.{append-nil}
-use Rattle.m2_base.specs.Finished.{IsTold, told}
+use Rattle.ll_grammar.specs.Derivations.{Derives, Tree, of_empty, of_left, of_right, of_then, of_token, tokens}
+use Rattle.ll_grammar.specs.Grammar.{sub}
+use Rattle.ll_grammar.specs.LookAhead.{member}
+use Rattle.m2_base.specs.Finished.{IsFinished}
+use Rattle.m2_base.specs.Grammar.{grammar, main}
+use Rattle.m2_base.specs.KindNumbers.{kind_number}
 use Rattle.m2_base.specs.Lists.{Each}
 use Rattle.m2_base.specs.Names.{standard_names}
 use Rattle.m2_base.specs.States.{Frame}
 use Rattle.m2_base.specs.Units.{IsUnit, TextOf, UnitTexts}
+use Rattle.m2_base.specs.declared.kind.TokenKind.{TokenKind}
+use Rattle.m2_base.specs.declared.kind.TokenKind.TheVariants.{EndOfText, Implementation, Module}
 use Rattle.m2_base.specs.declared.operands.Operand.{Operand}
 use Rattle.m2_base.specs.declared.rows.Place.{Place}
+use Rattle.m2_base.specs.declared.rows.Row.{Row}
 use Rattle.m2_base.specs.declared.sites.Around.{Around}
 use Rattle.m2_base.specs.declared.sites.Site.{Site}
-use Rattle.statics_tests.specs.Samples.{empty_text, empty_unit, first_frame, main_block}
+use Rattle.m2_base.specs.declared.token.Token.{Token}
+use Rattle.statics_tests.specs.Samples.{empty_text, empty_unit, first_frame, main_block, the_end}
 use Rattle.type_rules.specs.Scenes.{IsOperandThere, IsThere, Suits}
 use Rattle.type_rules.specs.Sites.{SuitsSite}
 
@@ -43,10 +52,25 @@ pub unit_is : (names : List (List ℕ)) (list : List TextOf) (order : List ℕ) 
 unit_is names list order n l o =
     subst (λ (u : UnitTexts). IsUnit u) (λ i. record { names = sym n i; list = sym l i; order = sym o i; own = None }) empty_is_unit
 
--- a text of no token isn't told
-not_told : IsTold empty_unit → ⊥
-unfolding told
-not_told h = true≢false (sym h)
+-- the first token
+abbrev first_kind : List Token → TokenKind
+first_kind [] = EndOfText
+first_kind (t ∷ ts) = t.kind
+
+isnt_module : (k : TokenKind) → k ≡ EndOfText → member (kind_number k) (kind_number Module ∷ []) ≡ true → ⊥
+isnt_module k e h = true≢false (sym h ∙ ap (λ j. member (kind_number j) (kind_number Module ∷ [])) e)
+
+isnt_implementation : (k : TokenKind) → k ≡ EndOfText → member (kind_number k) (kind_number Implementation ∷ []) ≡ true → ⊥
+isnt_implementation k e h = true≢false (sym h ∙ ap (λ j. member (kind_number j) (kind_number Implementation ∷ [])) e)
+
+-- a main text begins with MODULE or IMPLEMENTATION
+begins : {d : Tree Token} → Derives grammar (main sub) d → tokens d ≡ the_end ∷ [] → ⊥
+begins (of_then (of_left (of_token {t} g)) q) e = isnt_implementation t.kind (ap first_kind e) g
+begins (of_then (of_right of_empty) (of_then (of_token {t} g) q)) e = isnt_module t.kind (ap first_kind e) g
+
+-- a text of no token has no finished rows
+not_finished : {tables : List (List Row)} → IsFinished empty_unit tables → ⊥
+not_finished h = begins h.read.main.sentence.derives h.read.main.sentence.spells
 
 first_suits : Suits first_frame main_block
 unfolding standard_names
@@ -59,7 +83,7 @@ first_suits =
       standard = record { rest = []; joined = append-nil standard_names };
       home = omega arith;
       own = tt;
-      told = λ h. absurd (not_told h);
+      told = λ tables h. absurd (not_finished h);
     }
 
 pub suits_first : {f : Frame} {a : Around} → f ≡ first_frame → a ≡ main_block → Suits f a

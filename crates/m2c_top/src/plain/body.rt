@@ -6,14 +6,14 @@ ghost use Rattle.m2_base.specs.Standard.{is_standard as spec_standard};
 ghost use Rattle.m2_base.specs.Trees.{nexts, statements};
 ghost use Rattle.m2_base.specs.Views.{decl_view, designator_view, expr_view, next_view, statement_view, stream_view, type_view};
 ghost use Rattle.m2c_top.specs.Bindings.{IsName};
-ghost use Rattle.m2c_top.specs.Bodies.{is_integer as spec_is_integer, are_empty as spec_are_empty, are_integers as spec_are_integers, body_of as spec_body, is_empty as spec_is_empty, is_own_name as spec_own_name, is_plain as spec_is_plain, is_procedure as spec_is_procedure, literal_of as spec_literal, lone_name as spec_lone_name, operand_of as spec_operand, operator_of as spec_operator, pair_of as spec_pair, pair_with as spec_pair_with, assigned as spec_assigned, stands_alone as spec_stands_alone, statement_of as spec_statement, statements_of as spec_statements, value_of as spec_value, variable_of as spec_variable};
+ghost use Rattle.m2c_top.specs.Bodies.{is_integer as spec_is_integer, are_empty as spec_are_empty, are_integers as spec_are_integers, body_of as spec_body, is_empty as spec_is_empty, is_own_name as spec_own_name, is_plain as spec_is_plain, is_procedure as spec_is_procedure, literal_of as spec_literal, lone_name as spec_lone_name, names_integer as spec_names_integer, operand_of as spec_operand, operator_of as spec_operator, is_literal as spec_is_literal, pair as spec_pair, pair_of as spec_pair_of, pair_with as spec_pair_with, assigned as spec_assigned, begins_others as spec_begins_others, has_plain_tokens as spec_has_plain_tokens, stands_alone as spec_stands_alone, statement_of as spec_statement, statements_of as spec_statements, value_of as spec_value, variable_of as spec_variable};
 ghost use Rattle.m2c_top.specs.Uses.{body_uses, operand_uses, statement_uses, value_uses};
 
 use crate::plain::bytes::has_plain_bytes;
 use crate::plain::tree::{Operand, Operator, Statement, Value};
 use m2_base::{
-    Decl, Designator, Expr, ExprForm, Ident, Memory, Next, Operator as TreeOperator,
-    Statement as TreeStatement, StmtForm, Stream, TypeExpr, TypeForm,
+    Decl, Designator, Expr, ExprForm, Ident, Memory, Next, Operator as TreeOperator, Qual,
+    Statement as TreeStatement, StmtForm, Stream, Token, TokenKind, TypeExpr, TypeForm,
 };
 use std::alloc::Global;
 
@@ -26,13 +26,14 @@ const LAST_STANDARD_NAME: u32 = 26;
 /// The greatest INTEGER.
 const MAX_INTEGER: u64 = 2_147_483_647;
 
-/// What the statements of a text with this tree do, where they are compiled so far.
+/// What the statements of a text with these tokens and this tree do, where they are compiled so far.
 pub fn body_of(
     alloc: Global,
     text: &[u8],
+    tokens: &[Token],
     tree: &Stream,
 ) -> Result<Option<Vec<Statement>>, Memory>
-    ensures body { IfOk result (λ found. option_map (λ body. body.items) found ≡ spec_body text.now (stream_view tree.now)) }
+    ensures body { IfOk result (λ found. option_map (λ body. body.items) found ≡ spec_body text.now tokens.now (stream_view tree.now)) }
     ensures names { IfOk result (λ found. IfSome found (λ body. Each IsName (body_uses body.items))) }
 {
     if !stands_alone(tree) {
@@ -41,7 +42,7 @@ pub fn body_of(
     if are_empty(&tree.body) {
         return Ok(Some(Vec::new(alloc)));
     }
-    if is_plain(text, tree) {
+    if is_plain(text, tokens, tree) {
         statements_of(alloc, &tree.body)
     } else {
         Ok(None)
@@ -52,11 +53,12 @@ pub fn body_of(
 fn stands_alone(tree: &Stream) -> bool
     ensures { result ≡ spec_stands_alone (stream_view tree.now) }
 {
-    tree.imports.is_empty() && has_no_procedure(&tree.decls)
+    let imports = tree.imports.as_slice();
+    imports.is_empty() && has_no_procedure(&tree.decls)
 }
 
 fn has_no_procedure(decls: &[Decl]) -> bool
-    ensures { result ≡ list_all (λ d. not (spec_is_procedure d)) (map decl_view decls.now) }
+    ensures { result ≡ list_all (λ d. not (spec_is_procedure (decl_view d))) decls.now }
 {
     decls.iter().all(|decl| !is_procedure(decl))
 }
@@ -68,14 +70,34 @@ fn is_procedure(decl: &Decl) -> bool
 }
 
 /// Whether a text is plain, and its declarations are INTEGER variables.
-fn is_plain(text: &[u8], tree: &Stream) -> bool
-    ensures { result ≡ spec_is_plain text.now (stream_view tree.now) }
+fn is_plain(text: &[u8], tokens: &[Token], tree: &Stream) -> bool
+    ensures { result ≡ spec_is_plain text.now tokens.now (stream_view tree.now) }
 {
-    has_plain_bytes(text) && all_integers(&tree.decls)
+    has_plain_tokens(text, tokens) && all_integers(&tree.decls)
+}
+
+/// Whether a text has only the bytes and the words of plain texts.
+fn has_plain_tokens(text: &[u8], tokens: &[Token]) -> bool
+    ensures { result ≡ spec_has_plain_tokens text.now tokens.now }
+{
+    has_plain_bytes(text) && has_plain_words(tokens)
+}
+
+fn has_plain_words(tokens: &[Token]) -> bool
+    ensures { result ≡ list_all (λ t. not (spec_begins_others t)) tokens.now }
+{
+    tokens.iter().all(|token| !begins_others(*token))
+}
+
+/// Whether a token begins declarations of constants or of types.
+fn begins_others(token: Token) -> bool
+    ensures { result ≡ spec_begins_others token }
+{
+    matches!(token.kind, TokenKind::Const | TokenKind::Type)
 }
 
 fn all_integers(decls: &[Decl]) -> bool
-    ensures { result ≡ list_all spec_are_integers (map decl_view decls.now) }
+    ensures { result ≡ list_all (λ d. spec_are_integers (decl_view d)) decls.now }
 {
     decls.iter().all(|decl| are_integers(decl))
 }
@@ -86,7 +108,7 @@ fn are_integers(decl: &Decl) -> bool
 {
     match decl {
         Decl::Vars { typ, .. } => is_integer(typ),
-        Decl::Const { .. } | Decl::Types { .. } | Decl::Proc { .. } => false,
+        _ => false,
     }
 }
 
@@ -94,20 +116,21 @@ fn is_integer(typ: &TypeExpr) -> bool
     ensures { result ≡ spec_is_integer (type_view typ.now) }
 {
     match &typ.form {
-        TypeForm::Named(qual) => qual.first.name == INTEGER && qual.second.is_none(),
-        TypeForm::Enum(_)
-        | TypeForm::Sub { .. }
-        | TypeForm::Array { .. }
-        | TypeForm::Rec(_)
-        | TypeForm::Set(_)
-        | TypeForm::Pointer(_)
-        | TypeForm::Proc { .. } => false,
+        TypeForm::Named(qual) => names_integer(*qual),
+        _ => false,
     }
+}
+
+/// Whether this is INTEGER by its name alone.
+fn names_integer(qual: Qual) -> bool
+    ensures { result ≡ spec_names_integer qual }
+{
+    qual.first.name == INTEGER && qual.second.is_none()
 }
 
 /// Whether all statements are empty.
 fn are_empty(body: &[TreeStatement]) -> bool
-    ensures { result ≡ spec_are_empty (statements (map statement_view body.now)) }
+    ensures { result ≡ list_all (λ s. spec_is_empty (statement_view s)) body.now }
 {
     body.iter().all(|statement| is_empty(statement))
 }
@@ -119,10 +142,7 @@ fn is_empty(statement: &TreeStatement) -> bool
 }
 
 /// What statements do, where all of them are compiled.
-fn statements_of(
-    alloc: Global,
-    body: &[TreeStatement],
-) -> Result<Option<Vec<Statement>>, Memory>
+fn statements_of(alloc: Global, body: &[TreeStatement]) -> Result<Option<Vec<Statement>>, Memory>
     ensures body { IfOk result (λ found. option_map (λ body. body.items) found ≡ spec_statements (statements (map statement_view body.now))) }
     ensures names { IfOk result (λ found. IfSome found (λ body. Each IsName (body_uses body.items))) }
 {
@@ -143,16 +163,7 @@ fn statement_of(statement: &TreeStatement) -> Option<Statement>
     match &statement.form {
         StmtForm::Empty => Some(Statement::Empty),
         StmtForm::Assign { to, value } => assigned(lone_name(to), value_of(value)),
-        StmtForm::Call { .. }
-        | StmtForm::If { .. }
-        | StmtForm::Loop(_)
-        | StmtForm::Exit
-        | StmtForm::Case { .. }
-        | StmtForm::While { .. }
-        | StmtForm::Repeat { .. }
-        | StmtForm::For { .. }
-        | StmtForm::With { .. }
-        | StmtForm::Return(_) => None,
+        _ => None,
     }
 }
 
@@ -205,7 +216,6 @@ fn pair_with(left: &Expr, rest: &[Next]) -> Option<Value>
     }
 }
 
-/// An operator between two operands, of which not both are numbers.
 fn pair_of(
     left: Option<Operand>,
     operator: Option<Operator>,
@@ -213,13 +223,35 @@ fn pair_of(
 ) -> Option<Value>
     requires left { IfSome left (λ operand. Each IsName (operand_uses operand)) }
     requires right { IfSome right (λ operand. Each IsName (operand_uses operand)) }
-    ensures value { result ≡ spec_pair left operator right }
+    ensures value { result ≡ spec_pair_of left operator right }
     ensures names { IfSome result (λ value. Each IsName (value_uses value)) }
 {
     match (left, operator, right) {
-        (Some(Operand::Literal(_)), _, Some(Operand::Literal(_))) => None,
-        (Some(left), Some(operator), Some(right)) => Some(Value::Pair(left, operator, right)),
+        (Some(left), Some(operator), Some(right)) => pair(left, operator, right),
         _ => None,
+    }
+}
+
+/// An operator between two operands, of which not both are numbers.
+fn pair(left: Operand, operator: Operator, right: Operand) -> Option<Value>
+    requires left { Each IsName (operand_uses left) }
+    requires right { Each IsName (operand_uses right) }
+    ensures value { result ≡ spec_pair left operator right }
+    ensures names { IfSome result (λ value. Each IsName (value_uses value)) }
+{
+    if is_literal(left) && is_literal(right) {
+        None
+    } else {
+        Some(Value::Pair(left, operator, right))
+    }
+}
+
+fn is_literal(operand: Operand) -> bool
+    ensures { result ≡ spec_is_literal operand }
+{
+    match operand {
+        Operand::Literal(_) => true,
+        Operand::Variable(_) => false,
     }
 }
 
@@ -242,12 +274,7 @@ fn operand_of(expr: &Expr) -> Option<Operand>
     match &expr.form {
         ExprForm::Number(value) => literal_of(*value),
         ExprForm::Name(designator) => variable_of(lone_name(designator)),
-        ExprForm::Char(_)
-        | ExprForm::Str(_)
-        | ExprForm::Set { .. }
-        | ExprForm::Call { .. }
-        | ExprForm::One { .. }
-        | ExprForm::Many { .. } => None,
+        _ => None,
     }
 }
 
@@ -278,7 +305,8 @@ fn variable_of(name: Option<Ident>) -> Option<Operand>
 fn lone_name(designator: &Designator) -> Option<Ident>
     ensures { result ≡ spec_lone_name (designator_view designator.now) }
 {
-    if designator.rest.is_empty() {
+    let selectors = designator.rest.as_slice();
+    if selectors.is_empty() {
         Some(designator.first)
     } else {
         None

@@ -4,7 +4,7 @@ use Rattle.m2_io.specs.Files.{Files}
 use Rattle.m2c_top.specs.Command.{IsNoCommand}
 use Rattle.m2c_top.specs.Outcome.{Gives, AsksToCompile, LacksText, HasSoundText, HasDiagnostics, HasTooMuchText, HasOtherText, Leaves, PrintsPart, PutsPart}
 use Rattle.m2c_top.specs.Statuses.{status_number, IsFault, IsStatus, Exactly}
-use Rattle.m2c_top.specs.Trees.{Parsed}
+use Rattle.m2c_top.specs.Modules.{Module}
 use Rattle.m2c_top.specs.declared.verdict.Limit.{Limit}
 use Rattle.m2c_top.proofs.Table.{RowOf, lacks_row, sound_row, diagnostics_row, limit_row, other_row}
 use Rattle.m2c_top.proofs.Ends.{number_of, ends_leaving, ends_exactly, ends_as_no_command, ends_with_status, ends_stopped, ends_by_reading, ends_by_writing, ends_keeping}
@@ -42,7 +42,7 @@ pub returns-clause-no_text : goal.returns-clause-no_text
 returns-clause-no_text g c = exactly g c 3 (λ name files. LacksText name files) lacks_row
 
 pub returns-clause-done : goal.returns-clause-done
-returns-clause-done g c = exactly g c 0 (λ name files. (p : Parsed) × HasSoundText name files p) sound_row
+returns-clause-done g c = exactly g c 0 (λ name files. (m : Module) × HasSoundText name files m) sound_row
 
 pub returns-clause-refused : goal.returns-clause-refused
 returns-clause-refused g c = exactly g c 1 (λ name files. HasDiagnostics name files) diagnostics_row

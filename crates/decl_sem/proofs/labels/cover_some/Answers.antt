@@ -1,0 +1,20 @@
+use Rattle.m2_base.proofs.Kept.{IsPrefixOf-refl}
+use Rattle.std.proofs.Common.{refl, w64}
+use Rattle.std.proofs.lemmas.Int.{to_z-of_z}
+use Rattle.decl_sem.specs.Labels.{AreAny, more_covered}
+use Rattle.decl_sem.proofs.CoveringLabels.{some_covered}
+use Rattle.decl_sem.proofs.Uses.{unnoted}
+use Rattle.decl_sem.proofs.labels.cover_some.Goals as goal
+
+pub returns-in-Err : goal.returns-in-Err
+returns-in-Err c a =
+    unnoted a c.args.notes.now c.args.notes.now c.args.site.now c.in-Err.memory AreAny (λ k. more_covered k c.args.at c.args.covered c.args.low c.args.high) refl (IsPrefixOf-refl c.args.notes.now.diags.items)
+
+pub returns-in-Err-refuse_if : goal.returns-in-Err-refuse_if
+returns-in-Err-refuse_if c a =
+    unnoted a c.args.notes.now c.refuse_if.new.notes c.args.site.now c.in-Err-refuse_if.memory AreAny (λ k. more_covered k c.args.at c.args.covered c.args.low c.args.high) c.refuse_if.ensures.answers c.refuse_if.ensures.diags
+
+pub returns : goal.returns
+returns c a =
+    some_covered a c.args.notes.now c.args.site.now c.args.at c.args.covered c.in-Ok.value c.args.low c.args.high c.overlaps-twice.result (to_z-of_z w64 c.args.low c.ranges.low) (to_z-of_z w64 c.args.high c.ranges.high) c.requires c.overlaps-twice.ensures c.in-Ok.ensures
+    c.in-Ok-refuse_if.ensures.noted c.refuse_if.ensures.diags c.refuse_if.ensures.answers

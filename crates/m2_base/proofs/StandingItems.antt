@@ -1,0 +1,220 @@
+-- The diagnostics of items, of blocks and of units stand at their tokens, where no module has a definition of its own.
+use Rattle.std.specs.Prelude.{◌≡◌, ℕ, ◌+◌, ◌<◌, Bool, if◌then◌else◌, ◌==◌, List, [], ◌∷◌, ◌++◌, Option, Some, None}
+use Rattle.std.specs.List.{list_any}
+use Rattle.std.proofs.Common.{subst, sym, refl}
+use Rattle.m2_base.specs.Lists.{Each, WhereKept}
+use Rattle.m2_base.specs.Rows.{Place, Row, Alias, ByAddress, Module, Open, Param, Plain, Proc, ProcType, TypeName, Var}
+use Rattle.m2_base.specs.Standard.{standard_rows}
+use Rattle.m2_base.specs.Trees.{Heading, Ident, Section, Stream, StreamKind, TypeExpr}
+use Rattle.m2_base.specs.Statics.BlockRows.{at_item, context_of, declare_block, declare_items, first_cell, scene_of}
+use Rattle.m2_base.specs.Statics.Blocks.{BlockTree, UnitTrees, blocks_of, blocks_of_main, declares, definition_blocks, encloser, home_of, main_block, main_blocks, procedure_block}
+use Rattle.m2_base.specs.Statics.Cells.{capped}
+use Rattle.m2_base.specs.Statics.Closing.{block_name, name_diags, own_diags}
+use Rattle.m2_base.specs.Statics.Constants.{constant_of}
+use Rattle.m2_base.specs.Statics.Contexts.{Context, DefinitionModule, Source, scope_of_module}
+use Rattle.m2_base.specs.Statics.Declarations.{declare}
+use Rattle.m2_base.specs.Statics.Effects.{own_copy}
+use Rattle.m2_base.specs.Statics.HeadingRows.{Placing, open_copies, own_section_rows, own_sections_rows, parameter_row, parameter_rows, placing}
+use Rattle.m2_base.specs.Statics.ImportRows.{place_or_broken}
+use Rattle.m2_base.specs.Statics.Items.{Item, const_item, heading_item, import_item, items_of, proc_item, type_item, vars_item}
+use Rattle.m2_base.specs.Statics.Makes.{Makes, make_then, makes, makes_named, makes_row, next_place, with_rows}
+use Rattle.m2_base.specs.Statics.NameRows.{const_meaning, declared_type, var_rows}
+use Rattle.m2_base.specs.Statics.ProcedureRows.{param_rows, parameter_cells, parameter_count, proc_number, proc_rows, proc_scope, section_rows, sections_length}
+use Rattle.m2_base.specs.Statics.ProcedureTypes.{is_structured, open_array_row, parameter_type, result_type}
+use Rattle.m2_base.specs.Statics.StandingTrees.{AreStandingNames, IsStandingHeading, IsStandingName, IsStandingSection, IsStandingStream, IsStandingTypeOption, StandsIn}
+use Rattle.m2_base.specs.Statics.TypeNames.{type_of_qual}
+use Rattle.m2_base.specs.Statics.TypeRows.{type_rows}
+use Rattle.m2_base.specs.Statics.Types.{size_of}
+use Rattle.m2_base.specs.Statics.UnitNotes.{complete_context, declaration_diags, diags_from}
+use Rattle.m2_base.specs.Statics.UnitRows.{unit_rows}
+use Rattle.m2_base.specs.Statics.Uses.{use_of}
+use Rattle.m2_base.specs.declared.notes.Diag.{Diag}
+use Rattle.m2_base.proofs.ChainLaws.{each_append, each_found}
+use Rattle.m2_base.proofs.SoundTypes.{either}
+use Rattle.m2_base.proofs.StandingConstants.{constant_at}
+use Rattle.m2_base.proofs.StandingNotes.{AtTokens, MakesAt, join, named_at, none, one, qual_at, use_at}
+use Rattle.m2_base.proofs.StandingTypes.{open_array_at, parameter_at, result_at, type_rows_at}
+
+module _ (n : ℕ) where
+  -- ** Types and variables
+
+  declared_at : (i : Ident) (typ : Option TypeExpr) (c : Context) → IsStandingTypeOption n typ → MakesAt n (declared_type c i typ)
+  declared_at i None c h = none n
+  declared_at i (Some t) c h = type_rows_at n t c h
+
+  vars_at : (idents : List Ident) (c : Context) (t : Place) (cell : ℕ) → AreStandingNames n idents → MakesAt n (var_rows c t cell idents)
+  vars_at [] c t cell h = none n
+  vars_at (i ∷ idents) c t cell h =
+      let d = with_rows c (makes_named c i.name i.at (Var t Plain cell)).rows in
+      join n (named_at n c i.name i.at (Var t Plain cell) h.0) (vars_at idents d t (capped (cell + size_of d.scene t)) h.1)
+
+  -- ** Procedures
+
+  params_at : (idents : List Ident) (c : Context) (own : ℕ) (by_ref : Bool) (t : Place) → MakesAt n (param_rows c own by_ref t idents)
+  params_at [] c own by_ref t = none n
+  params_at (i ∷ idents) c own by_ref t =
+      join n (none n) (params_at idents (with_rows c (makes_row c i.at (Param t by_ref own)).rows) own by_ref t)
+
+  sections_at : (sections : List Section) (c : Context) (own : ℕ) → Each (IsStandingSection n) sections → MakesAt n (section_rows c own sections)
+  sections_at [] c own h = none n
+  sections_at (s ∷ sections) c own h =
+      let typ = parameter_type c s.is_open s.of in
+      let d = with_rows c typ.rows in
+      let params = param_rows d own s.by_ref typ.value s.names in
+      join n (parameter_at n c s.is_open s.of h.0.of)
+      (join n (params_at s.names d own s.by_ref typ.value) (sections_at sections (with_rows d params.rows) own h.1))
+
+  proc_at : (h : Heading) (stream : ℕ) (c : Context) (kind : StreamKind) → IsStandingHeading n h → MakesAt n (proc_rows c kind h stream)
+  proc_at h stream c kind s =
+      let first = (next_place c).ordinal in
+      let own = first + sections_length h.sections in
+      let d = with_rows c (section_rows c own h.sections).rows in
+      let e = with_rows d [] in
+      let t = makes_row e h.name.at (ProcType (result_type d h.result).value (parameter_count h.sections) first) in
+      join n (sections_at h.sections c own s.sections)
+      (join n (result_at n d h.result s.result)
+      (join n (none n)
+      (join n (named_at n (with_rows e t.rows) h.name.name h.name.at (Proc t.value (proc_number c kind stream) (proc_scope kind stream)) s.name) (none n))))
+
+  -- ** A heading in its own scope
+
+  parameter_row_at : (c : Context) (s : Section) (elem t : Place) (f : Placing) (i : Ident) → i.at < n → MakesAt n (parameter_row c s elem t f i)
+  parameter_row_at c s elem t f i h =
+      let size = size_of c.scene t in
+      let opened = make_then c (makes_named c i.name i.at (Var t Open f.cell)) (λ d p.
+      makes (placing (capped (f.cell + 2)) f.own (f.copies ++ open_copies s.by_ref f.cell (size_of c.scene elem)))) in
+      let addressed = make_then c (makes_named c i.name i.at (Var t ByAddress f.cell)) (λ d p. makes (placing (capped (f.cell + 1)) f.own f.copies)) in
+      let copied = make_then c (makes_named c i.name i.at (Var t Plain f.own)) (λ d p.
+      makes (placing (capped (f.cell + 1)) (capped (f.own + size)) (f.copies ++ own_copy f.own f.cell size ∷ []))) in
+      let valued = make_then c (makes_named c i.name i.at (Var t Plain f.cell)) (λ d p. makes (placing (capped (f.cell + 1)) f.own f.copies)) in
+      either (λ (m : Makes Placing). MakesAt n m) s.is_open opened (if s.by_ref then addressed else if is_structured c t then copied else valued)
+      (join n (named_at n c i.name i.at (Var t Open f.cell) h) (none n))
+      (either (λ (m : Makes Placing). MakesAt n m) s.by_ref addressed (if is_structured c t then copied else valued)
+      (join n (named_at n c i.name i.at (Var t ByAddress f.cell) h) (none n))
+      (either (λ (m : Makes Placing). MakesAt n m) (is_structured c t) copied valued
+      (join n (named_at n c i.name i.at (Var t Plain f.own) h) (none n))
+      (join n (named_at n c i.name i.at (Var t Plain f.cell) h) (none n))))
+
+  parameter_rows_at : (idents : List Ident) (c : Context) (s : Section) (elem t : Place) (f : Placing) → AreStandingNames n idents → MakesAt n (parameter_rows c s elem t f idents)
+  parameter_rows_at [] c s elem t f h = none n
+  parameter_rows_at (i ∷ idents) c s elem t f h =
+      let m = parameter_row c s elem t f i in
+      join n (parameter_row_at c s elem t f i h.0) (parameter_rows_at idents (with_rows c m.rows) s elem t m.value h.1)
+
+  own_section_at : (s : Section) (c : Context) (f : Placing) → IsStandingSection n s → MakesAt n (own_section_rows c f s)
+  own_section_at s c f h =
+      let d = with_rows c [] in
+      let elem = (type_of_qual c s.of).value in
+      let typ = open_array_row d s.of.first.at s.is_open elem in
+      join n (qual_at n c s.of h.of)
+      (join n (open_array_at n d s.of.first.at s.is_open elem) (parameter_rows_at s.names (with_rows d typ.rows) s elem typ.value f h.idents))
+
+  own_sections_at : (sections : List Section) (c : Context) (f : Placing) → Each (IsStandingSection n) sections → MakesAt n (own_sections_rows c f sections)
+  own_sections_at [] c f h = none n
+  own_sections_at (s ∷ sections) c f h =
+      let m = own_section_rows c f s in
+      join n (own_section_at s c f h.0) (own_sections_at sections (with_rows c m.rows) m.value h.1)
+
+  -- ** Items
+
+  item_at : (x : Item) (c : Context) (kind : StreamKind) (cell : ℕ) → StandsIn n x → MakesAt n (declare c kind x cell)
+  item_at (heading_item h) c kind cell s =
+      let f = placing 0 (capped (parameter_cells h.sections)) [] in
+      let d = with_rows c (own_sections_rows c f h.sections).rows in
+      join n (own_sections_at h.sections c f s.sections) (join n (result_at n d h.result s.result) (none n))
+  item_at (import_item None i) c kind cell s = join n (named_at n c i.name i.at (Module (scope_of_module c.source i.name)) s.1) (none n)
+  item_at (import_item (Some m) i) c kind cell s =
+      let scope = scope_of_module c.source m.name in
+      let e = (use_of c (Some scope) i.name i.at).value in
+      join n (join n (use_at n c (Some scope) i.name i.at s.1) (named_at n (with_rows c []) i.name i.at (Alias (place_or_broken e)) s.1)) (none n)
+  item_at (const_item i e) c kind cell s =
+      join n (join n (constant_at n e c s.1) (named_at n (with_rows c []) i.name i.at (const_meaning (constant_of c e).value) s.0)) (none n)
+  item_at (type_item i typ) c kind cell s =
+      let m = declared_type c i typ in
+      join n (join n (declared_at i typ c s.1) (named_at n (with_rows c m.rows) i.name i.at (TypeName m.value) s.0)) (none n)
+  item_at (vars_item idents typ) c kind cell s =
+      let m = type_rows c typ in
+      join n (join n (type_rows_at n typ c s.1) (vars_at idents (with_rows c m.rows) m.value cell s.0)) (none n)
+  item_at (proc_item h stream) c kind cell s = join n (proc_at h stream c kind s) (none n)
+
+  items_at : (items : List Item) (c : Context) (kind : StreamKind) (i cell : ℕ) → Each (StandsIn n) items → MakesAt n (declare_items c kind i cell items)
+  items_at [] c kind i cell h = none n
+  items_at (x ∷ items) c kind i cell h =
+      let m = declare (at_item c i) kind x cell in
+      join n (item_at x (at_item c i) kind cell h.0) (join n (items_at items (with_rows c m.rows) kind (i + 1) m.value.cell h.1) (none n))
+
+  -- ** Blocks
+
+  block_at : (source : Source) (tables : List (List Row)) (b : BlockTree) → IsStandingStream n b.tree → MakesAt n (declare_block source tables b)
+  unfolding declare_block
+  block_at source tables b h =
+      items_at (items_of b.tree) (context_of source tables b) b.tree.kind 0 (first_cell (scene_of tables b.block) b.tree.kind b.block.own) h.items
+
+  name_diags_at : (c : Context) (close : Ident) (o : Option Ident) → IsStandingName n close → AtTokens n (name_diags c close o)
+  name_diags_at c close None h = none n
+  name_diags_at c close (Some i) h = either (AtTokens n) (i.name == close.name) [] _ (none n) (one n _ h)
+
+  own_diags_at : (c : Context) (s : Stream) (own : Option ℕ) → own ≡ None → AtTokens n (own_diags c s own)
+  own_diags_at c s own h = subst (λ o. AtTokens n (own_diags c s o)) (sym h) (none n)
+
+  blocks_at : (source : Source) (blocks : List BlockTree) (before all : List (List Row)) → Each (λ (b : BlockTree). b.block.own ≡ None) blocks
+      → Each (λ (b : BlockTree). IsStandingStream n b.tree) blocks → AtTokens n (diags_from source before all blocks)
+  blocks_at source [] before all own h = none n
+  blocks_at source (b ∷ blocks) before all own h =
+      let c = complete_context source all b.block in
+      join n (join n (block_at source before b h.0) (join n (name_diags_at c b.tree.close (block_name b.tree) h.0.close) (own_diags_at c b.tree b.block.own own.0)))
+      (blocks_at source blocks (before ++ (declare_block source before b).rows ∷ []) all own.1 h.1)
+
+-- ** Units without a definition of their own
+
+-- the block is of a module without a definition of its own
+abbrev HasNoOwn : BlockTree → Type 0
+HasNoOwn b = b.block.own ≡ None
+
+definitions_alone : (s : ℕ) (ds : List DefinitionModule) (trees : List Stream) → Each HasNoOwn (definition_blocks s ds trees)
+definitions_alone s [] trees = tt
+definitions_alone s (d ∷ ds) [] = tt
+definitions_alone s (d ∷ ds) (tree ∷ trees) = (refl, definitions_alone (s + 1) ds trees)
+
+procedure_alone : (s : ℕ) (tree : Stream) (o : Option BlockTree) → WhereKept o HasNoOwn → Each HasNoOwn (procedure_block s tree o)
+procedure_alone s tree None h = tt
+procedure_alone s tree (Some outer) h = (h, tt)
+
+mains_alone : (trees : List Stream) (before : List BlockTree) (s : ℕ) → Each HasNoOwn before → Each HasNoOwn (main_blocks before s trees)
+mains_alone [] before s h = h
+mains_alone (tree ∷ trees) before s h =
+    mains_alone trees (before ++ procedure_block s tree (encloser before s)) (s + 1)
+    (each_append HasNoOwn before (procedure_block s tree (encloser before s)) h
+    (procedure_alone s tree (encloser before s) (each_found HasNoOwn (λ b. list_any (declares s) b.tree.decls) before h)))
+
+main_alone : (u : UnitTrees) (trees : List Stream) → u.own ≡ None → Each HasNoOwn (blocks_of_main u trees)
+main_alone u [] h = tt
+main_alone u (tree ∷ trees) h = mains_alone trees (main_block u tree ∷ []) (home_of u + 1) (h, tt)
+
+all_alone : (u : UnitTrees) → u.own ≡ None → Each HasNoOwn (blocks_of u)
+unfolding blocks_of
+all_alone u h =
+    each_append HasNoOwn (definition_blocks 1 u.source.definitions u.definitions) (blocks_of_main u u.main)
+    (definitions_alone 1 u.source.definitions u.definitions) (main_alone u u.main h)
+
+pub item_noted : (n : ℕ) (c : Context) (kind : StreamKind) (x : Item) (cell : ℕ) → StandsIn n x → Each (λ (d : Diag). d.at < n) (declare c kind x cell).diags
+item_noted n c kind x cell h = (item_at n x c kind cell h).each
+
+pub unit_noted : (n : ℕ) (u : UnitTrees) → u.own ≡ None → Each (λ (b : BlockTree). IsStandingStream n b.tree) (blocks_of u) → Each (λ (d : Diag). d.at < n) (declaration_diags u)
+unfolding declaration_diags
+unit_noted n u own h = (blocks_at n u.source (blocks_of u) (standard_rows ∷ []) (unit_rows u) (all_alone u own) h).each
+
+-- the blocks of a unit of one stream
+lone_blocks : (n : ℕ) (u : UnitTrees) (tree : Stream) → u.definitions ≡ [] → u.main ≡ tree ∷ [] → IsStandingStream n tree → Each (λ (b : BlockTree). IsStandingStream n b.tree) (blocks_of u)
+unfolding blocks_of
+lone_blocks n u tree no_definitions one_tree h =
+    each_append (λ (b : BlockTree). IsStandingStream n b.tree) (definition_blocks 1 u.source.definitions u.definitions) (blocks_of_main u u.main)
+    (subst (λ (trees : List Stream). Each (λ (b : BlockTree). IsStandingStream n b.tree) (definition_blocks 1 u.source.definitions trees)) (sym no_definitions) (no_blocks u.source.definitions))
+    (subst (λ (trees : List Stream). Each (λ (b : BlockTree). IsStandingStream n b.tree) (blocks_of_main u trees)) (sym one_tree) (h, tt))
+  where
+    no_blocks : (ds : List DefinitionModule) → Each (λ (b : BlockTree). IsStandingStream n b.tree) (definition_blocks 1 ds [])
+    no_blocks [] = tt
+    no_blocks (d ∷ ds) = tt
+
+pub lone_noted : (n : ℕ) (u : UnitTrees) (tree : Stream) → u.own ≡ None → u.definitions ≡ [] → u.main ≡ tree ∷ [] → IsStandingStream n tree → Each (λ (d : Diag). d.at < n) (declaration_diags u)
+lone_noted n u tree own no_definitions one_tree h = unit_noted n u own (lone_blocks n u tree no_definitions one_tree h)
