@@ -4,6 +4,8 @@
 #[cfg(test)]
 mod of_decisions;
 #[cfg(test)]
+mod of_declarations;
+#[cfg(test)]
 mod of_m2_io;
 #[cfg(test)]
 mod of_m2c_top;

@@ -1,13 +1,15 @@
 //! What the words ask for.
 use crate::kind::Kind;
 use crate::loop_shape::LoopShape;
+use crate::module_shape::ModuleShape;
 use crate::object_shape::ObjectShape;
 use crate::shape::Shape;
 
 pub const USAGE: &str =
-    "usage: m2_bench [lex KIND BYTES | cut PROCEDURES | parse SHAPE TOKENS | compile BYTES | read OBJECT BYTES | run LOOP TIMES], \
+    "usage: m2_bench [lex KIND BYTES | cut PROCEDURES | parse SHAPE TOKENS | compile MODULE SIZE | read OBJECT BYTES | run LOOP TIMES], \
     where KIND is ordinary, names, digits, blanks or symbols, \
     SHAPE is statements, semicolons, operators, names, brackets or loops, \
+    MODULE is assignments, with SIZE in bytes, or declarations, with SIZE at most 80000 of them, \
     OBJECT is flat, deep, long or short, \
     LOOP is add, index or call, \
     BYTES and TOKENS are at most 1048576, and of an object 67108864, PROCEDURES at most 16384, and TIMES at most 100000000";
@@ -32,7 +34,8 @@ pub enum Command {
     /// How many procedures the text has.
     Cut(u32),
     Parse(Shape, u32),
-    Compile(u32),
+    /// How large the module is, as its shape measures it.
+    Compile(ModuleShape, u32),
     Read(ObjectShape, u32),
     /// How often the loop is made.
     Run(LoopShape, u32),
@@ -51,9 +54,10 @@ impl Command {
             [part, shape, tokens] if part.as_str() == "parse" => {
                 Some(Command::Parse(shape.parse().ok()?, number_in(tokens, MOST)?))
             }
-            [part, bytes] if part.as_str() == "compile" => Some(Command::Compile(number_in(
-                bytes, MOST,
-            )?)),
+            [part, shape, size] if part.as_str() == "compile" => {
+                let shape: ModuleShape = shape.parse().ok()?;
+                Some(Command::Compile(shape, number_in(size, shape.most())?))
+            }
             [part, shape, bytes] if part.as_str() == "read" => Some(Command::Read(
                 shape.parse().ok()?,
                 number_in(bytes, MOST_OBJECT_BYTES)?,

@@ -1,4 +1,5 @@
-//! The part that compiles a plain module.
+//! The part that compiles a module.
+use crate::module_shape::ModuleShape;
 use crate::stopwatch::Stopwatch;
 use anyhow::{Context, Result};
 use m2_io::{MemShelf, MemSink, MemSource, NoGate};
@@ -6,14 +7,7 @@ use m2c_top::m2c;
 use std::alloc::{AllocError, Global};
 use std::collections::BTreeMap;
 use std::fmt;
-use std::fmt::Write;
 use std::time::CpuClock;
-
-/// The bytes of a module without variables.
-const FRAME_BYTES: u32 = 27;
-
-/// How many bytes a module gets with each variable.
-const VARIABLE_BYTES: u32 = 43;
 
 /// How many bytes can be printed.
 const ROOM: usize = 1000;
@@ -21,6 +15,7 @@ const ROOM: usize = 1000;
 /// What a module was compiled to.
 #[derive(Clone, Copy)]
 struct Counts {
+    shape: ModuleShape,
     bytes: usize,
     status: u8,
     object_bytes: usize,
@@ -29,20 +24,22 @@ struct Counts {
 impl fmt::Display for Counts {
     fn fmt<W: fmt::Write>(&self, f: &mut fmt::Formatter<W>) -> fmt::Result {
         let Counts {
+            shape,
             bytes,
             status,
             object_bytes,
         } = *self;
         write!(
             f,
-            "compile: {bytes} bytes, status {status}, object of {object_bytes} bytes"
+            "compile {shape}: {bytes} bytes, status {status}, object of {object_bytes} bytes"
         )
     }
 }
 
-/// What a module of about so many bytes is compiled from.
+/// What a module is compiled from.
 #[derive(Drop)]
 struct Desk {
+    shape: ModuleShape,
     words: Vec<String>,
     bytes: usize,
     shelf: MemShelf,
@@ -51,9 +48,10 @@ struct Desk {
 }
 
 impl Desk {
-    fn new(alloc: Global, bytes: u32) -> Result<Desk> {
-        let text = module_text(alloc, bytes)?;
+    fn new(alloc: Global, shape: ModuleShape, size: u32) -> Result<Desk> {
+        let text = shape.text(alloc, size)?;
         Ok(Desk {
+            shape,
             words: words(alloc)?,
             bytes: text.len(),
             shelf: shelf_of(alloc, text)?,
@@ -79,6 +77,7 @@ impl Desk {
 
     fn counts(&self, status: u8) -> Counts {
         Counts {
+            shape: self.shape,
             bytes: self.bytes,
             status,
             object_bytes: self.shelf.file("A.m2o").map_or(0, |object| object.len()),
@@ -87,8 +86,8 @@ impl Desk {
 }
 
 /// Prints what a module is compiled to.
-pub fn print_counts<R: AllocGlobal + Print>(rt: &R, bytes: u32) -> Result<()> {
-    let mut desk = Desk::new(rt.alloc(), bytes)?;
+pub fn print_counts<R: AllocGlobal + Print>(rt: &R, shape: ModuleShape, size: u32) -> Result<()> {
+    let mut desk = Desk::new(rt.alloc(), shape, size)?;
     let status = desk.compile(rt.alloc());
     let counts = desk.counts(status);
     println!(rt; "{counts}")?;
@@ -96,8 +95,12 @@ pub fn print_counts<R: AllocGlobal + Print>(rt: &R, bytes: u32) -> Result<()> {
 }
 
 /// Prints what a module is compiled to, and in what time.
-pub fn print_time<R: AllocGlobal + Print + CpuClock>(rt: &R, bytes: u32) -> Result<()> {
-    let mut desk = Desk::new(rt.alloc(), bytes)?;
+pub fn print_time<R: AllocGlobal + Print + CpuClock>(
+    rt: &R,
+    shape: ModuleShape,
+    size: u32,
+) -> Result<()> {
+    let mut desk = Desk::new(rt.alloc(), shape, size)?;
     let stopwatch = Stopwatch::start(rt)?;
     let status = desk.compile(rt.alloc());
     let milliseconds = stopwatch.seconds(rt)? * 1e3;
@@ -119,31 +122,4 @@ fn shelf_of(alloc: Global, text: String) -> Result<MemShelf, AllocError> {
     let mut files = BTreeMap::new(alloc);
     files.insert(String::from_str(alloc, "A.mod")?, text.into_bytes())?;
     Ok(MemShelf::new(files, Vec::new(alloc), 0))
-}
-
-/// A module with as many variables as find room in so many bytes, and an assignment to each.
-fn module_text(alloc: Global, bytes: u32) -> Result<String, AllocError> {
-    let variables = bytes.saturating_sub(FRAME_BYTES) / VARIABLE_BYTES;
-    let mut text = String::from_str(alloc, "MODULE A;\nVAR\n")?;
-    push_declarations(&mut text, variables)?;
-    text.push_str("BEGIN\n")?;
-    push_assignments(&mut text, variables)?;
-    text.push_str("END A.\n")?;
-    Ok(text)
-}
-
-fn push_declarations(text: &mut String, variables: u32) -> Result<(), AllocError> {
-    for number in 0..variables {
-        writeln!(text, "  v{number:05}: INTEGER;")?;
-    }
-    Ok(())
-}
-
-/// The first variable gets its value from the last, and so on.
-fn push_assignments(text: &mut String, variables: u32) -> Result<(), AllocError> {
-    for number in 0..variables {
-        let other = variables - 1 - number;
-        writeln!(text, "  v{number:05} := v{other:05} + 1;")?;
-    }
-    Ok(())
 }

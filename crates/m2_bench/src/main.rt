@@ -2,11 +2,11 @@
 //!
 //! `m2_bench lex KIND BYTES` times `lex` over a text of one kind, `m2_bench cut PROCEDURES` times `cut` over a text of so
 //! many procedures, `m2_bench parse SHAPE TOKENS` times `parse_stream` over a module of one shape, `m2_bench compile
-//! BYTES` times `m2c compile A` over a plain module, `m2_bench read OBJECT BYTES` times `read_object` over an object of one
-//! shape, and `m2_bench run LOOP TIMES` times a machine that makes a loop so many times, all in memory. The inputs are made
-//! from the words, and the times are those of the processor. With no words a small run of each part prints its counts
-//! alone, which are the same at every run. Each part stands in a module of its own; a part to come adds a variant to
-//! `Command`.
+//! MODULE SIZE` times `m2c compile A` over a module of one shape, `m2_bench read OBJECT BYTES` times `read_object` over an
+//! object of one shape, and `m2_bench run LOOP TIMES` times a machine that makes a loop so many times, all in memory. The
+//! inputs are made from the words, and the times are those of the processor. With no words a small run of each part prints
+//! its counts alone, which are the same at every run. Each part stands in a module of its own; a part to come adds a variant
+//! to `Command`.
 #![tactic(auto)]
 
 mod command;
@@ -15,6 +15,7 @@ mod cutting;
 mod kind;
 mod lexing;
 mod loop_shape;
+mod module_shape;
 mod object_shape;
 mod parsing;
 mod reading;
@@ -26,6 +27,7 @@ use anyhow::Result;
 use command::{Command, USAGE};
 use kind::Kind;
 use loop_shape::LoopShape;
+use module_shape::ModuleShape;
 use object_shape::ObjectShape;
 use shape::Shape;
 use std::env;
@@ -36,6 +38,9 @@ const NO_COMMAND: u8 = 2;
 
 /// How many bytes each text of the small run has.
 const FEW_BYTES: u32 = 1000;
+
+/// How many bytes or declarations each module of the small run has.
+const FEW_SIZE: u32 = 1000;
 
 /// How many procedures the text of the small run has.
 const FEW_PROCEDURES: u32 = 10;
@@ -72,7 +77,7 @@ fn obey(rt: &HostRuntime, command: Command) -> Result<ExitCode> {
         Command::Lex(kind, bytes) => lexing::print_time(rt, kind, bytes)?,
         Command::Cut(procedures) => cutting::print_time(rt, procedures)?,
         Command::Parse(shape, tokens) => parsing::print_time(rt, shape, tokens)?,
-        Command::Compile(bytes) => compiling::print_time(rt, bytes)?,
+        Command::Compile(shape, size) => compiling::print_time(rt, shape, size)?,
         Command::Read(shape, bytes) => reading::print_time(rt, shape, bytes)?,
         Command::Run(shape, times) => running::print_time(rt, shape, times)?,
     }
@@ -88,7 +93,9 @@ fn print_counts(rt: &HostRuntime) -> Result<()> {
     for shape in Shape::ALL {
         parsing::print_counts(rt, shape, FEW_TOKENS)?;
     }
-    compiling::print_counts(rt, FEW_BYTES)?;
+    for shape in ModuleShape::ALL {
+        compiling::print_counts(rt, shape, FEW_SIZE)?;
+    }
     for shape in ObjectShape::ALL {
         reading::print_counts(rt, shape, FEW_BYTES)?;
     }
