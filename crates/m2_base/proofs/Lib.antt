@@ -41,6 +41,7 @@ pub mod StandingExpressions
 pub mod StandingItems
 pub mod StandingNotes
 pub mod StandingOperations
+pub mod StandingStatements
 pub mod StandingStreams
 pub mod StandingTypes
 pub mod StandingTypeTrees

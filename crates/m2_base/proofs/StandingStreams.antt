@@ -7,15 +7,17 @@ use Rattle.m2_base.specs.Grammar as rules
 use Rattle.m2_base.specs.Grammar.{grammar, levels}
 use Rattle.m2_base.specs.Lists.{Each}
 use Rattle.m2_base.specs.Statics.Items.{decl_item, heading_items, import_item, import_items, items_of}
-use Rattle.m2_base.specs.Statics.StandingTrees.{AreStandingNames, IsStandingHeading, IsStandingName, IsStandingOption, IsStandingStream, StandsIn, IsStandingQualOption, IsStandingTypeOption, IsStandingSection}
+use Rattle.m2_base.specs.Statics.StandingTrees.{AreStandingNames, AreStandingStatements, IsStandingHeading, IsStandingName, IsStandingOption, IsStandingStream, StandsIn, IsStandingQualOption, IsStandingTypeOption, IsStandingSection}
 use Rattle.m2_base.specs.StreamsOf as streams
-use Rattle.m2_base.specs.Trees.{Decl, Heading, Ident, Import, Qual, Section, Stream, StreamKind}
+use Rattle.m2_base.specs.StatementsOf.{place}
+use Rattle.m2_base.specs.Trees.{Decl, Heading, Ident, Import, Qual, Section, Stream, StreamKind, statements}
 use Rattle.m2_base.specs.declared.kind.TokenKind.TheVariants.{Equal, Semicolon}
 use Rattle.m2_base.specs.declared.token.Token.{Token}
 use Rattle.m2_base.specs.declared.trees.declarations.StreamKind.TheVariants.{Definition, Main, Procedure}
 use Rattle.ll_grammar.specs.Texts as texts
 use Rattle.m2_base.proofs.ChainLaws.{each_append}
 use Rattle.m2_base.proofs.StandingExpressions.{HasStanding, expr_stand, name_stand, names_stand, qual_stand}
+use Rattle.m2_base.proofs.StandingStatements.{statements_stand}
 use Rattle.m2_base.proofs.StandingTypeTrees.{result_stand, type_stand}
 
 module _ (n : ℕ) where
@@ -161,23 +163,34 @@ module _ (n : ℕ) where
   close_stand : {d : Tree Token} (w : List Token) → Derives grammar (rules.block rules.procedure_cut) d → HasStanding n d → IsStandingName n (streams.block_of d w).close
   close_stand w (of_then p (of_then b (of_then end i))) r = name_stand n i r.1.1.1
 
+  -- the statements of a block, which END follows
+  begun_stand : {d : Tree Token} (w : List Token) → Derives grammar rules.body d → HasStanding n d → place w < n → AreStandingStatements n (statements (streams.body_of d w))
+  begun_stand w (of_left (of_then begin p)) r h = statements_stand n w p r.1 h
+  begun_stand w (of_right of_empty) r h = tt
+
+  body_stand : {d : Tree Token} (w : List Token) → Derives grammar (rules.block rules.procedure_cut) d → HasStanding n d → AreStandingStatements n (statements (streams.block_of d w).body)
+  body_stand w (of_then p (of_then b (of_then {d = d} {e = e} (of_token m) i))) r = begun_stand (tokens (both d e) ++ w) b r.1.0 r.1.1.0
+
   stream_stand : (kind : StreamKind) {d : Tree Token} (w : List Token) → Derives grammar (rules.stream kind) d → HasStanding n d → IsStandingStream n (streams.stream_of kind d w)
   stream_stand Main w (of_then {d = d0} implementation (of_then {d = d1} module_word (of_then {d = d2} i (of_then {d = d3} semicolon (of_then {d = d4} is (of_then {d = d5} b (of_then {d = d6} {e = d7} p q))))))) r =
       record {
         items = items_stand (streams.main_of (both d0 (both d1 (both d2 (both d3 (both d4 (both d5 (both d6 d7))))))) w) tt (imports_stand is r.1.1.1.1.0) (block_stand (tokens (both d6 d7) ++ w) b r.1.1.1.1.1.0);
         name = name_stand n i r.1.1.0;
+        body = body_stand (tokens (both d6 d7) ++ w) b r.1.1.1.1.1.0;
         close = close_stand (tokens (both d6 d7) ++ w) b r.1.1.1.1.1.0;
       }
   stream_stand Definition w (of_then {d = d0} word (of_then {d = d1} module_word (of_then {d = d2} i (of_then {d = d3} semicolon (of_then {d = d4} is (of_then {d = d5} export (of_then {d = d6} ds (of_then {d = d7} end (of_then {d = d8} close (of_then {d = d9} {e = d10} period stop)))))))))) r =
       record {
         items = items_stand (streams.definition_of (both d0 (both d1 (both d2 (both d3 (both d4 (both d5 (both d6 (both d7 (both d8 (both d9 d10)))))))))) w) tt (imports_stand is r.1.1.1.1.0) (definition_declarations_stand ds r.1.1.1.1.1.1.0);
         name = name_stand n i r.1.1.0;
+        body = tt;
         close = name_stand n close r.1.1.1.1.1.1.1.1.0;
       }
   stream_stand Procedure w (of_then {d = d0} h (of_then {d = d1} semicolon (of_then {d = d2} b (of_then {d = d3} {e = d4} p q)))) r =
       record {
         items = items_stand (streams.procedure_stream_of (both d0 (both d1 (both d2 (both d3 d4)))) w) (heading_stand h r.0) tt (block_stand (tokens (both d3 d4) ++ w) b r.1.1.0);
         name = tt;
+        body = body_stand (tokens (both d3 d4) ++ w) b r.1.1.0;
         close = close_stand (tokens (both d3 d4) ++ w) b r.1.1.0;
       }
 

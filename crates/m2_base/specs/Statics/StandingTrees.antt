@@ -2,7 +2,7 @@
 use Rattle.std.specs.Prelude.{ℕ, ◌<◌, List, Option, Some, None}
 use Rattle.m2_base.specs.Lists.{Each}
 use Rattle.m2_base.specs.Statics.Items.{Item, const_item, heading_item, import_item, items_of, proc_item, type_item, vars_item}
-use Rattle.m2_base.specs.Trees.{Designator, Expr, ExprForm, Exprs, FieldList, FieldLists, Heading, Ident, Label, Labels, Next, Nexts, Qual, Section, Selector, Selectors, Stream, TypeExpr, TypeExprs, TypeForm, VariantArm, VariantArms, array_type, call_form, case_fields, char_form, deref_selector, designator, enum_type, expr, field_selector, index_selector, many_form, more_exprs, more_fields, more_labels, more_nexts, more_selectors, more_types, more_variant_arms, name_form, named_type, next, no_exprs, no_fields, no_labels, no_nexts, no_selectors, no_types, no_variant_arms, number_form, one_form, one_label, plain_fields, pointer_type, proc_type, range_label, record_type, set_form, set_type, string_form, sub_type, type_expr, typed_set_form, variant_arm}
+use Rattle.m2_base.specs.Trees.{CaseArm, CaseArms, CaseElse, Designator, Expr, ExprForm, Exprs, FieldList, FieldLists, Heading, Ident, IfArm, IfArms, Label, Labels, Next, Nexts, Qual, Section, Selector, Selectors, Statement, Statements, StmtForm, Stream, TypeExpr, TypeExprs, TypeForm, VariantArm, VariantArms, array_type, assign_form, call_form, call_statement, case_arm, case_else, case_fields, case_form, char_form, deref_selector, designator, empty_form, enum_type, exit_form, expr, field_selector, for_form, if_arm, if_form, index_selector, loop_form, many_form, more_case_arms, more_exprs, more_fields, more_if_arms, more_labels, more_nexts, more_selectors, more_statements, more_types, more_variant_arms, name_form, named_type, next, no_case_arms, no_case_else, no_exprs, no_fields, no_if_arms, no_labels, no_nexts, no_selectors, no_statements, no_types, no_variant_arms, number_form, one_form, one_label, plain_fields, pointer_type, proc_type, range_label, record_type, repeat_form, return_form, set_form, set_type, statement, string_form, sub_type, type_expr, typed_set_form, variant_arm, while_form, with_form}
 use Rattle.m2_base.specs.declared.trees.types.Formal.{Formal}
 
 -- a name whose token is among the first n; of all other trees each token is
@@ -153,8 +153,63 @@ StandsIn n (type_item i t) = IsStandingName n i × IsStandingTypeOption n t
 StandsIn n (vars_item idents t) = AreStandingNames n idents × IsStandingType n t
 StandsIn n (proc_item h stream) = IsStandingHeading n h
 
--- the tree of a block: its items, its name where it has one, and its closing name
+-- an expression, if there is one
+abbrev pub IsStandingExprOption : (n : ℕ) → Option Expr → Type 0
+IsStandingExprOption n None = Unit {0}
+IsStandingExprOption n (Some e) = IsStandingExpr n e
+
+abbrev mutual
+  -- a statement
+  pub IsStandingStatement : (n : ℕ) → Statement → Type 0
+  IsStandingStatement n (statement at form) = (at < n) × IsStandingStatementForm n form
+
+  -- by its form
+  pub IsStandingStatementForm : (n : ℕ) → StmtForm → Type 0
+  IsStandingStatementForm n (assign_form d value) = IsStandingDesignator n d × IsStandingExpr n value
+  IsStandingStatementForm n (call_statement d args) = IsStandingDesignator n d × AreStandingExprs n args
+  IsStandingStatementForm n (if_form arms other) = AreStandingIfArms n arms × AreStandingStatements n other
+  IsStandingStatementForm n (loop_form body) = AreStandingStatements n body
+  IsStandingStatementForm n exit_form = Unit {0}
+  IsStandingStatementForm n (case_form value arms other) = IsStandingExpr n value × AreStandingCaseArms n arms × IsStandingCaseElse n other
+  IsStandingStatementForm n (while_form test body) = IsStandingExpr n test × AreStandingStatements n body
+  IsStandingStatementForm n (repeat_form body test) = AreStandingStatements n body × IsStandingExpr n test
+  IsStandingStatementForm n (for_form i low high by body) =
+      IsStandingName n i × IsStandingExpr n low × IsStandingExpr n high × IsStandingExprOption n by × AreStandingStatements n body
+  IsStandingStatementForm n (with_form d body) = IsStandingDesignator n d × AreStandingStatements n body
+  IsStandingStatementForm n (return_form value) = IsStandingExprOption n value
+  IsStandingStatementForm n empty_form = Unit {0}
+
+  -- statements
+  pub AreStandingStatements : (n : ℕ) → Statements → Type 0
+  AreStandingStatements n no_statements = Unit {0}
+  AreStandingStatements n (more_statements s ss) = IsStandingStatement n s × AreStandingStatements n ss
+
+  -- the arms of an IF
+  pub AreStandingIfArms : (n : ℕ) → IfArms → Type 0
+  AreStandingIfArms n no_if_arms = Unit {0}
+  AreStandingIfArms n (more_if_arms a arms) = IsStandingIfArm n a × AreStandingIfArms n arms
+
+  -- an arm of an IF: its test and its statements
+  pub IsStandingIfArm : (n : ℕ) → IfArm → Type 0
+  IsStandingIfArm n (if_arm test body) = IsStandingExpr n test × AreStandingStatements n body
+
+  -- the arms of a CASE
+  pub AreStandingCaseArms : (n : ℕ) → CaseArms → Type 0
+  AreStandingCaseArms n no_case_arms = Unit {0}
+  AreStandingCaseArms n (more_case_arms a arms) = IsStandingCaseArm n a × AreStandingCaseArms n arms
+
+  -- an arm of a CASE: its labels and its statements
+  pub IsStandingCaseArm : (n : ℕ) → CaseArm → Type 0
+  IsStandingCaseArm n (case_arm labels body) = AreStandingLabels n labels × AreStandingStatements n body
+
+  -- the statements after ELSE of a CASE, if it has one
+  pub IsStandingCaseElse : (n : ℕ) → CaseElse → Type 0
+  IsStandingCaseElse n no_case_else = Unit {0}
+  IsStandingCaseElse n (case_else body) = AreStandingStatements n body
+
+-- the tree of a block: its items, its name where it has one, its statements, and its closing name
 pub record IsStandingStream (n : ℕ) (s : Stream) : Type 0 where
   pub items : Each (StandsIn n) (items_of s)
   pub name : IsStandingOption n s.name
+  pub body : AreStandingStatements n s.body
   pub close : IsStandingName n s.close
