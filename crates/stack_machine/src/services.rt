@@ -16,6 +16,7 @@ use crate::stack::{operand, take};
 use crate::trap::Trap;
 
 /// The variable at the address on top gets a value, and Done gets another.
+#[inline(always)]
 fn assign(core: &mut Core, n: usize, kept: Option<u8>, value: i64, done: i64) -> Next
     requires able { CanDo core.old n }
     requires some { 1 ≤ n }
@@ -35,6 +36,7 @@ fn assign(core: &mut Core, n: usize, kept: Option<u8>, value: i64, done: i64) ->
 }
 
 /// A number that was read is assigned; where none was, Done is false.
+#[inline(always)]
 fn assign_number(core: &mut Core, n: usize, reading: Reading) -> Next
     requires able { CanDo core.old n }
     requires some { 1 ≤ n }
@@ -53,6 +55,7 @@ fn assign_number(core: &mut Core, n: usize, reading: Reading) -> Next
 }
 
 /// What a procedure leaves of n operands.
+#[inline(always)]
 pub(crate) fn serve(
     core: &mut Core,
     service: Service,
