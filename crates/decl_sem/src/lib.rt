@@ -4,7 +4,8 @@
 //! rows say comes from the rows of the items before and of the scopes round the block. The definitions are `m2_base`'s
 //! (`specs/Statics`). When a block's scope is complete, its closing name is checked (`close_check`).
 //!
-//! `declare` has the rows of an item. The headings of procedures, in `procedures` and `own_headings`, aren't built yet: they answer want of memory.
+//! `declare` has the rows of an item. The headings of procedures aren't built yet: for them it finds no memory
+//! (`procedures`, `own_headings`).
 #![tactic(auto)]
 
 /// The value of a piece that asks nothing, or the end of the function at want of memory.

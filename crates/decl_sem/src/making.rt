@@ -83,12 +83,7 @@ fn kept_name(
 }
 
 /// One more row, with its key if it is a field. Its place is the value.
-fn put_row(
-    site: &Site,
-    made: &mut Made,
-    row: Row,
-    field: Option<FieldKey>,
-) -> Result<Place, Memory>
+fn put_row(site: &Site, made: &mut Made, row: Row, field: Option<FieldKey>) -> Result<Place, Memory>
     requires room { next_ordinal made.old < 2 ^ 32 }
     requires field { (own name : ℕ) → is_field own name row ≡ is_key own name field }
     ensures place { IfOk result (λ place. place ≡ at_place site.now.around.now.scope (next_ordinal made.old)) }

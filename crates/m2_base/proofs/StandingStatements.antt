@@ -88,11 +88,16 @@ module _ (n : ℕ) where
 
     if_stand : {d : Tree Token} (w : List Token) → Derives grammar rules.if_rule d → HasStanding n d → place w < n → IsStandingStatement n (of.if_of d w)
     if_stand w (of_then (of_token m) (of_then p (of_then {d = arms} q (of_then {d = other} {e = end} o e)))) r h =
-        let behind = next_stands end w r.1.1.1.1 h in
-        (r.0,
-        ((if_arm_stand (tokens (both arms (both other end)) ++ w) p r.1.0 (next_stands (both arms (both other end)) w r.1.1 h),
-          elsifs_stand (tokens (both other end) ++ w) q r.1.1.0 (next_stands (both other end) w r.1.1.1 h)),
-         otherwise_stand (tokens end ++ w) o r.1.1.1.0 behind))
+        let behind = next_stands end w r.1.1.1.1 h in (
+          r.0,
+          (
+            (
+              if_arm_stand (tokens (both arms (both other end)) ++ w) p r.1.0 (next_stands (both arms (both other end)) w r.1.1 h),
+              elsifs_stand (tokens (both other end) ++ w) q r.1.1.0 (next_stands (both other end) w r.1.1.1 h),
+            ),
+            otherwise_stand (tokens end ++ w) o r.1.1.1.0 behind,
+          ),
+        )
 
     if_arm_stand : {d : Tree Token} (w : List Token) → Derives grammar rules.if_arm d → HasStanding n d → place w < n → IsStandingIfArm n (of.if_arm_of d w)
     if_arm_stand w (of_then p (of_then then_word q)) r h = (expr_stand n p r.0, statements_stand w q r.1.1 h)
@@ -106,10 +111,14 @@ module _ (n : ℕ) where
     otherwise_stand w (of_right of_empty) r h = tt
 
     case_stand : {d : Tree Token} (w : List Token) → Derives grammar rules.case_rule d → HasStanding n d → place w < n → IsStandingStatement n (of.case_of d w)
-    case_stand w (of_then (of_token m) (of_then p (of_then of_word (of_then q (of_then {d = other} {e = end} o e))))) r h =
-        (r.0, (expr_stand n p r.1.0,
-         case_arms_stand (tokens (both other end) ++ w) q r.1.1.1.0 (next_stands (both other end) w r.1.1.1.1 h),
-         case_else_stand (tokens end ++ w) o r.1.1.1.1.0 (next_stands end w r.1.1.1.1.1 h)))
+    case_stand w (of_then (of_token m) (of_then p (of_then of_word (of_then q (of_then {d = other} {e = end} o e))))) r h = (
+      r.0,
+      (
+        expr_stand n p r.1.0,
+        case_arms_stand (tokens (both other end) ++ w) q r.1.1.1.0 (next_stands (both other end) w r.1.1.1.1 h),
+        case_else_stand (tokens end ++ w) o r.1.1.1.1.0 (next_stands end w r.1.1.1.1.1 h),
+      ),
+    )
 
     case_else_stand : {d : Tree Token} (w : List Token) → Derives grammar rules.otherwise d → HasStanding n d → place w < n → IsStandingCaseElse n (of.case_else_with (of.otherwise_of d w))
     case_else_stand w (of_left (of_then else_word p)) r h = statements_stand w p r.1 h
@@ -140,10 +149,16 @@ module _ (n : ℕ) where
     loop_stand w (of_then (of_token m) (of_then {e = end} q e)) r h = (r.0, statements_stand (tokens end ++ w) q r.1.0 (next_stands end w r.1.1 h))
 
     for_stand : {d : Tree Token} (w : List Token) → Derives grammar rules.for_rule d → HasStanding n d → place w < n → IsStandingStatement n (of.for_of d w)
-    for_stand w (of_then (of_token m) (of_then i (of_then becomes (of_then low (of_then to (of_then high (of_then by (of_then do_word (of_then {e = end} q e))))))))) r h =
-        (r.0,
-        (name_stand n i r.1.0, expr_stand n low r.1.1.1.0, expr_stand n high r.1.1.1.1.1.0, step_stand by r.1.1.1.1.1.1.0,
-         statements_stand (tokens end ++ w) q r.1.1.1.1.1.1.1.1.0 (next_stands end w r.1.1.1.1.1.1.1.1.1 h)))
+    for_stand w (of_then (of_token m) (of_then i (of_then becomes (of_then low (of_then to (of_then high (of_then by (of_then do_word (of_then {e = end} q e))))))))) r h = (
+      r.0,
+      (
+        name_stand n i r.1.0,
+        expr_stand n low r.1.1.1.0,
+        expr_stand n high r.1.1.1.1.1.0,
+        step_stand by r.1.1.1.1.1.1.0,
+        statements_stand (tokens end ++ w) q r.1.1.1.1.1.1.1.1.0 (next_stands end w r.1.1.1.1.1.1.1.1.1 h),
+      ),
+    )
 
     with_stand : {d : Tree Token} (w : List Token) → Derives grammar rules.with_rule d → HasStanding n d → place w < n → IsStandingStatement n (of.with_of d w)
     with_stand w (of_then (of_token m) (of_then p (of_then do_word (of_then {e = end} q e)))) r h =

@@ -154,8 +154,13 @@ type_in-type_in-requires-in-None g t c κs within =
     let making = form_making c.args.typ.now (pointer_type (type_view v)) is c.requires.making in
     let p = target_known c.deref-in-Pointer.result.now v (c.deref-in-Pointer.ensures ∙ sym c.deref-in-None.ensures) c.in-Ok-target_in.is c.in-Known-asked.is c.in-None.is c.target_in.ensures.target in (
       (let small = smaller_target c.args.typ.now v is in omega (arith, small, c.decreases)),
-      (within, (making_front (type_shapes (type_view v)) (nameless pointer_kind at ∷ []) (target_making at (type_view v) making p),
-      form_read c.args.typ.now (pointer_type (type_view v)) c.args.site.now.texts.now.names is c.requires.read)),
+      (
+        within,
+        (
+          making_front (type_shapes (type_view v)) (nameless pointer_kind at ∷ []) (target_making at (type_view v) making p),
+          form_read c.args.typ.now (pointer_type (type_view v)) c.args.site.now.texts.now.names is c.requires.read,
+        ),
+      ),
     )
 
 pub type_in-returns-in-DontKnowYet-asked-2 : goal.type_in-returns-in-DontKnowYet-asked-2
