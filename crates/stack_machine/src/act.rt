@@ -104,7 +104,6 @@ pub(crate) fn callee(code: &Code, v: i64, n: u32, r: u32) -> Option<Callee>
 }
 
 /// The number of the frame of the procedure that encloses one.
-#[inline(always)]
 fn link_to(core: &Core, outer: Option<usize>, h: u32) -> usize
     requires short { length core.now.frames.items < 2 ^ 32 }
     requires linked { IfSome outer (λ e. (n : ℕ) × (number_out core.now.frames.items h (length core.now.frames.items) core.now.link ≡ Some n)) }
@@ -117,7 +116,6 @@ fn link_to(core: &Core, outer: Option<usize>, h: u32) -> usize
 }
 
 /// Calls a procedure.
-#[inline(always)]
 #[tactic(auto, unfolding(crate::specs::Step::does))]
 fn call_routine(code: &Code, core: &mut Core, k: usize, h: u32) -> Next
     requires able { CanDo core.old 0 }
@@ -132,7 +130,6 @@ fn call_routine(code: &Code, core: &mut Core, k: usize, h: u32) -> Next
 }
 
 /// Calls the procedure of the program that a variable is.
-#[inline(always)]
 #[tactic(auto, unfolding(crate::specs::Step::does))]
 fn call_value(code: &Code, core: &mut Core, n: u32, r: u32) -> Next
     requires able { CanDo core.old (n + 1) }

@@ -149,7 +149,6 @@ fn lay(cells: &mut [i64], at: usize, size: usize, params: &[i64])
 }
 
 /// Calls a procedure, and takes n operands, the topmost of which are its parameters.
-#[inline(always)]
 #[tactic(auto, using(crate::proofs::OperandLaws::call_is), unfolding(crate::specs::Step::called))]
 pub(crate) fn call(core: &mut Core, p: &Routine, n: usize, link: usize) -> Next
     requires able { CanDo core.old n }
@@ -171,7 +170,9 @@ pub(crate) fn call(core: &mut Core, p: &Routine, n: usize, link: usize) -> Next
         top: core.top,
         link: core.link,
     };
-    core.frames.push_reserved(frame);
+    let Ok(()) = core.frames.push(frame) else {
+        unreachable!()
+    };
     core.sp -= n;
     core.at = p.entry;
     core.base = core.top;
@@ -181,7 +182,6 @@ pub(crate) fn call(core: &mut Core, p: &Routine, n: usize, link: usize) -> Next
 }
 
 /// Begins the body of a module.
-#[inline(always)]
 #[tactic(auto, unfolding(crate::specs::Step::entered))]
 pub(crate) fn enter(core: &mut Core, p: &Routine) -> Next
     requires room { HasRoom core.old }
@@ -201,7 +201,6 @@ pub(crate) fn enter(core: &mut Core, p: &Routine) -> Next
 }
 
 /// The body behind the one whose code has a place.
-#[inline(always)]
 fn body_after(code: &Code, at: usize) -> Option<usize>
     requires { at < length code.now.origins.items }
     ensures { result ≡ body_behind (program_of code.now) at }
@@ -215,7 +214,6 @@ fn body_after(code: &Code, at: usize) -> Option<usize>
 }
 
 /// Begins the next body, if there is one.
-#[inline(always)]
 fn next_body(code: &Code, core: &mut Core) -> Next
     requires room { HasRoom core.old }
     requires origin { core.old.at < length code.now.origins.items }

@@ -80,7 +80,6 @@ fn copy(cells: &mut [i64], from: usize, n: usize, to: usize)
     cells.copy_within(from..from + n, to);
 }
 
-#[inline(always)]
 #[tactic(auto, unfolding(crate::specs::Step::does))]
 pub(crate) fn copy_cells(core: &mut Core, n: u32) -> Next
     requires able { CanDo core.old 2 }
@@ -192,7 +191,6 @@ fn element(i: i64, high: i64) -> Option<u64>
 }
 
 /// The address of the element with a number in an open array.
-#[inline(always)]
 fn open_index_at(core: &mut Core, address: i64, size: u32, k: Option<u64>) -> Next
     requires able { CanDo core.old 3 }
     requires small { IfSome k (λ k. k < 2 ^ 63) }
@@ -220,7 +218,6 @@ fn wide_reach(address: i64, far: i128, cells: usize) -> Option<usize>
     }
 }
 
-#[inline(always)]
 #[tactic(auto, unfolding(crate::specs::Step::does))]
 pub(crate) fn open_index(core: &mut Core, size: u32) -> Next
     requires able { CanDo core.old 3 }
@@ -254,7 +251,6 @@ pub(crate) fn clear(cells: &mut [i64], at: usize, n: usize)
     cells[at..at + n].fill(0);
 }
 
-#[inline(always)]
 #[tactic(auto, using(crate::proofs::OperandLaws::below_is), unfolding(crate::specs::Step::allocated))]
 pub(crate) fn allocate(core: &mut Core, n: u32) -> Next
     requires able { CanDo core.old 1 }
@@ -318,7 +314,6 @@ fn copy_noted(cells: &mut [i64], from: usize, n: usize, to: usize, o: usize)
 }
 
 /// The copy of an open array's n cells, behind the frame.
-#[inline(always)]
 fn copy_open(core: &mut Core, n: usize, o: u32, from: usize) -> Next
     requires able { CanDo core.old 0 }
     requires local { core.old.base + o < length core.old.cells.items }
@@ -337,7 +332,6 @@ fn copy_open(core: &mut Core, n: usize, o: u32, from: usize) -> Next
     Next::Goes
 }
 
-#[inline(always)]
 #[tactic(auto, unfolding(crate::specs::Step::does, crate::specs::Step::open_copied))]
 pub(crate) fn open_copy(core: &mut Core, o: u32, size: u32) -> Next
     requires able { CanDo core.old 0 }

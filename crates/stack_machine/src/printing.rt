@@ -182,7 +182,6 @@ fn write_padded<P: Sink>(print: &mut P, v: i64, n: i64) -> Result<(), SinkError>
 }
 
 /// Writes a number, unless its width is too large, and says whether it isn't.
-#[inline(always)]
 fn write_number<P: Sink>(print: &mut P, core: &Core) -> Result<bool, SinkError>
     requires there { 2 ≤ core.now.sp }
     requires room { HasRoom core.now }
@@ -201,7 +200,6 @@ fn write_number<P: Sink>(print: &mut P, core: &Core) -> Result<bool, SinkError>
 }
 
 /// Writes the text of an open array.
-#[inline(always)]
 fn write_string<P: Sink>(print: &mut P, core: &Core) -> Result<bool, SinkError>
     requires there { 2 ≤ core.now.sp }
     requires room { HasRoom core.now }
@@ -216,7 +214,6 @@ fn write_string<P: Sink>(print: &mut P, core: &Core) -> Result<bool, SinkError>
 }
 
 /// Writes what a procedure prints, and says whether it can go on.
-#[inline(always)]
 pub(crate) fn print<P: Sink>(
     service: Service,
     print: &mut P,

@@ -22,7 +22,6 @@ use crate::stack::operand;
 use crate::trap::Trap;
 use crate::{printing, reading};
 use m2_io::{Sink, Source};
-use std::mem;
 
 /// How a run ended.
 #[derive(Clone, Copy, Debug, PartialEq, Eq)]
@@ -59,7 +58,6 @@ pub(crate) struct Asked {
 }
 
 /// The procedure of InOut that a variable is, if it is one of these parameters and this result.
-#[inline(always)]
 fn service_called(code: &Code, core: &Core, n: u32, r: u32) -> Option<Service>
     requires there { n < core.now.sp }
     requires room { HasRoom core.now }
@@ -98,7 +96,6 @@ fn asked_for(code: &Code, core: &Core, op: Op) -> Option<Asked>
 }
 
 /// Reads what a procedure of InOut reads, and leaves what it leaves.
-#[inline(always)]
 fn read_and_serve<K: Source>(
     core: &mut Core,
     service: Service,
@@ -126,7 +123,6 @@ fn read_and_serve<K: Source>(
 }
 
 /// Calls a procedure of InOut.
-#[inline(always)]
 fn call_service<P: Sink, K: Source>(
     core: &mut Core,
     service: Service,
@@ -227,9 +223,8 @@ fn ended(code: &Code, at: usize, next: Next) -> End
     }
 }
 
-/// At most so many steps of a state.
-#[inline(always)]
-fn steps_of<P: Sink, K: Source>(
+/// At most so many steps.
+pub(crate) fn steps<P: Sink, K: Source>(
     code: &Code,
     core: &mut Core,
     most: u64,
@@ -257,41 +252,4 @@ fn steps_of<P: Sink, K: Source>(
         }
     }
     End::StepsSpent
-}
-
-/// At most so many steps. The state is a local variable meanwhile, so that its numbers can be held in registers.
-pub(crate) fn steps<P: Sink, K: Source>(
-    code: &Code,
-    core: &mut Core,
-    most: u64,
-    print: &mut P,
-    keys: &mut K,
-) -> End
-    requires ready { Ready code.now core.old }
-    ensures ready { Ready code.now core.new }
-    ensures ends { IfSome (K.left keys.old) (λ input. Ends result (program_of code.now) most (state_of core.old) (state_of core.new) input (P.written print.old) (P.written print.new) (K.left keys.new)) }
-    ensures placed { IsPlaced result (program_of code.now) }
-    // It fails only where a count of faults rose.
-    ensures write_failed { result ≡ End.WriteFailed → Rose (P.faults print.old) (P.faults print.new) }
-    ensures read_failed { result ≡ End.ReadFailed → Rose (K.faults keys.old) (K.faults keys.new) }
-    ensures prints_later { P.faults print.old ≤ P.faults print.new }
-    ensures reads_later { K.faults keys.old ≤ K.faults keys.new }
-{
-    let alloc = *core.cells.allocator();
-    let nothing = Core {
-        at: 0,
-        sp: 0,
-        base: 0,
-        top: 0,
-        link: 0,
-        heap: 0,
-        kept: None,
-        cells: Vec::new(alloc),
-        stack: Vec::new(alloc),
-        frames: Vec::new(alloc),
-    };
-    let mut own = mem::replace(core, nothing);
-    let end = steps_of(code, &mut own, most, print, keys);
-    *core = own;
-    end
 }

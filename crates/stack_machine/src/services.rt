@@ -16,7 +16,6 @@ use crate::stack::{operand, take};
 use crate::trap::Trap;
 
 /// The variable at the address on top gets a value, and Done gets another.
-#[inline(always)]
 fn assign(core: &mut Core, n: usize, kept: Option<u8>, value: i64, done: i64) -> Next
     requires able { CanDo core.old n }
     requires some { 1 ≤ n }
@@ -36,7 +35,6 @@ fn assign(core: &mut Core, n: usize, kept: Option<u8>, value: i64, done: i64) ->
 }
 
 /// A number that was read is assigned; where none was, Done is false.
-#[inline(always)]
 fn assign_number(core: &mut Core, n: usize, reading: Reading) -> Next
     requires able { CanDo core.old n }
     requires some { 1 ≤ n }
@@ -55,7 +53,6 @@ fn assign_number(core: &mut Core, n: usize, reading: Reading) -> Next
 }
 
 /// What a procedure leaves of n operands.
-#[inline(always)]
 pub(crate) fn serve(
     core: &mut Core,
     service: Service,

@@ -13,5 +13,5 @@ returns-clause-comes c =
     let e1 : c.lay.new.cells ≡ with_frame_at core.cells.items core.top (size_of p) (take (core.sp - (core.sp - p.params)) (drop (core.sp - p.params) core.stack.items)) = search (rules, c.lay.ensures) in
     let kept : length c.lay.new.cells ≡ core.cells.len = search rules in
     let e2 : (with_items core.cells c.lay.new.cells).items ≡ with_frame_at core.cells.items core.top (size_of p) (take (core.sp - (core.sp - p.params)) (drop (core.sp - p.params) core.stack.items)) = take_at c.lay.new.cells (drop (length c.lay.new.cells) core.cells.items) core.cells.len kept ∙ e1 in
-    let e3 : c.push_reserved.new.self.items ≡ core.frames.items ++ (record { at = core.at + 1; base = core.base; top = core.top; link = core.link }) ∷ [] = search rules in
-    call_is p c.args.n c.args.link (state_of core) core.sp core.stack.items (with_items core.cells c.lay.new.cells).items c.push_reserved.new.self.items refl c.requires.able.room.within c.requires.able.there c.requires.params (omega arith) e2 e3
+    let e3 : c.push.new.self.items ≡ core.frames.items ++ (record { at = core.at + 1; base = core.base; top = core.top; link = core.link }) ∷ [] = search rules in
+    call_is p c.args.n c.args.link (state_of core) core.sp core.stack.items (with_items core.cells c.lay.new.cells).items c.push.new.self.items refl c.requires.able.room.within c.requires.able.there c.requires.params (omega arith) e2 e3

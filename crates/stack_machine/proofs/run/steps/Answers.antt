@@ -7,7 +7,7 @@ use Rattle.stack_machine.specs.Stepping.{Stepped, is_going}
 use Rattle.stack_machine.proofs.Readiness.{origin_within}
 use Rattle.stack_machine.proofs.Running.{run_starts, run_goes, run_spent, run_stops, ended_ends, failed_ends, write_failed, read_failed, no_failure, goes_is}
 use Rattle.stack_machine.proofs.Starting.{failed_placed, ended_placed}
-use Rattle.stack_machine.proofs.run.steps_of.Goals as goal
+use Rattle.stack_machine.proofs.run.steps.Goals as goal
 
 pub loop-init : goal.loop-init
 loop-init g c = record {

@@ -3,7 +3,7 @@ use Rattle.std.specs.Prelude.{IfSome}
 use Rattle.stack_machine.specs.State.{state_of, program_of}
 use Rattle.stack_machine.specs.Ready.{Ready}
 use Rattle.stack_machine.proofs.Running.{Come}
-use Rattle.stack_machine.proofs.run.steps_of.Given as goal
+use Rattle.stack_machine.proofs.run.steps.Given as goal
 
 abbrev pub invariant-loop : goal.invariant-loop
 invariant-loop g l = record {
