@@ -1,0 +1,4 @@
+pub mod Flowing
+pub mod StatementHeights
+pub mod Law
+pub mod StatementChecks

@@ -1,0 +1,10 @@
+pub mod Flows
+pub mod Assignments
+pub mod Returns
+pub mod Tests
+pub mod Cases
+pub mod Counting
+pub mod Withs
+pub mod Statements
+pub mod BlockCode
+pub mod Heights
