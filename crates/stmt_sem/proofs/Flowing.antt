@@ -121,7 +121,6 @@ has-start h b s ss = has-behind (size s.instr) h (after_step h s) (passed b h s)
 
 -- ---- the statements' code, wherever it is put
 
-
 leads-end : (b : Behind) (o h l : ℕ) (a : List Step) → Stands b o h a l → Leads o (steps_size a) h a l
 leads-end b o h l [] f = inl (refl, f)
 leads-end b o h l (s ∷ ss) f =

@@ -188,4 +188,3 @@ run-stands b e body g =
     then-flows (straight (prologue e.prologue)) (body ⨾ straight (ending b.tree.heading)) (straight-flows (prologue e.prologue) (prologue-moves e.prologue))
     (then-flows body (straight (ending b.tree.heading)) g (straight-flows (ending b.tree.heading) (ending-moves b.tree.heading)))
     (first_spot b.tree.kind e) [] 0
-
