@@ -25,7 +25,7 @@ use type_rules::BROKEN;
 const RESULT_NOT_SCALAR: u8 = 68;
 
 /// Whether a row is an array's or a record's.
-fn is_structured(meaning: RowMeaning) -> bool
+pub(crate) fn is_structured(meaning: RowMeaning) -> bool
     ensures { result ≡ is_structured_kind meaning }
 {
     matches!(meaning, RowMeaning::Array(..) | RowMeaning::Record(..))
