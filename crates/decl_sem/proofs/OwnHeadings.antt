@@ -1,14 +1,13 @@
 -- The sections of a heading in the procedure's own scope, one after another.
 use Rattle.std.specs.Prelude.{◌≡◌, ℕ, ◌+◌, ◌<◌, ◌≤◌, List, [], ◌∷◌, ◌++◌, flat_map, length, map, drop, Option, None, Result, Ok, Err}
-use Rattle.std.proofs.Common.{refl, sym, ap, ◌∙◌, subst, arith, get_or}
+use Rattle.std.proofs.Common.{sym, ap, ◌∙◌, subst, arith, get_or}
 use Rattle.std.proofs.lemmas.List.{append-nil}
 use Rattle.m2_base.specs.Lists.{Each}
 use Rattle.m2_base.specs.States.{Frame, State}
 use Rattle.m2_base.specs.Statics.Cells.{capped, most_cells}
-use Rattle.m2_base.specs.Statics.Contexts.{Context}
 use Rattle.m2_base.specs.Statics.Effects.{Effect}
 use Rattle.m2_base.specs.Statics.HeadingRows.{Placing, heading_rows, own_section_rows, own_sections_rows, parameter_rows, placing}
-use Rattle.m2_base.specs.Statics.Makes.{Makes, make_then, makes, only_gives}
+use Rattle.m2_base.specs.Statics.Makes.{makes, only_gives}
 use Rattle.m2_base.specs.Statics.ProcedureRows.{parameter_cells}
 use Rattle.m2_base.specs.Statics.ProcedureTypes.{open_array_row, result_type}
 use Rattle.m2_base.specs.Statics.ReadTrees.{IsReadSection}

@@ -1,15 +1,14 @@
 -- The parameters of a section in the procedure's own scope, one after another.
-use Rattle.std.specs.Prelude.{◌≡◌, ℕ, ◌+◌, ◌<◌, List, [], ◌∷◌, length, drop, Result, Ok, Err}
+use Rattle.std.specs.Prelude.{◌≡◌, ℕ, ◌+◌, ◌<◌, List, [], ◌∷◌, length, drop, Ok, Err}
 use Rattle.std.proofs.Common.{sym, ap, ◌∙◌, subst, arith, get_or}
 use Rattle.m2_base.specs.Rows.{type_name_kind, var_kind}
 use Rattle.m2_base.specs.States.{Frame, State}
 use Rattle.m2_base.specs.Statics.Contexts.{Context}
 use Rattle.m2_base.specs.Statics.HeadingRows.{Placing, parameter_row, parameter_rows}
-use Rattle.m2_base.specs.Statics.Makes.{Makes, make_then, makes}
+use Rattle.m2_base.specs.Statics.Makes.{Makes, makes}
 use Rattle.m2_base.specs.Statics.Shapes.{Shape, named}
 use Rattle.m2_base.specs.Views.{section_view}
 use Rattle.m2_base.specs.declared.memory.Memory.{Memory}
-use Rattle.m2_base.specs.declared.replies.Ask.{Ask}
 use Rattle.m2_base.specs.declared.replies.Ask.TheVariants.{DontKnowYet, Known}
 use Rattle.m2_base.specs.declared.replies.Head.{Head}
 use Rattle.m2_base.specs.declared.rows.Place.{Place}

@@ -1,5 +1,5 @@
 -- The variable of a parameter in the procedure's own scope.
-use Rattle.std.specs.Prelude.{◌≡◌, ℕ, ◌+◌, ◌<◌, ◌^◌, Bool, true, false, List, [], ◌∷◌, ◌++◌, Result, Ok, Err}
+use Rattle.std.specs.Prelude.{◌≡◌, ℕ, ◌<◌, ◌^◌, Bool, true, false, List, [], ◌∷◌, Result, Ok}
 use Rattle.std.proofs.Common.{refl, sym, ap, ◌∙◌, subst, arith}
 use Rattle.std.proofs.lemmas.List.{append-nil}
 use Rattle.m2_base.specs.Rows.{var_kind}
@@ -14,7 +14,7 @@ use Rattle.m2_base.specs.Statics.Types.{size_by, size_of}
 use Rattle.m2_base.specs.Views.{section_view}
 use Rattle.m2_base.specs.declared.memory.Memory.{Memory}
 use Rattle.m2_base.specs.declared.replies.Ask.{Ask}
-use Rattle.m2_base.specs.declared.replies.Ask.TheVariants.{DontKnowYet, Known}
+use Rattle.m2_base.specs.declared.replies.Ask.TheVariants.{Known}
 use Rattle.m2_base.specs.declared.rows.Mode.{Mode}
 use Rattle.m2_base.specs.declared.rows.Mode.TheVariants.{Open}
 use Rattle.m2_base.specs.declared.rows.Place.{Place}

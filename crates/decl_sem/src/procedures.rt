@@ -91,7 +91,16 @@ pub(crate) fn proc_rows<S: Scopes>(
         return Err(Memory);
     };
     made!(sections_rows(scopes, site, made, own, &heading.sections));
-    match typed_proc(scopes, site, made, heading, first, sizes.count, number, scope) {
+    match typed_proc(
+        scopes,
+        site,
+        made,
+        heading,
+        first,
+        sizes.count,
+        number,
+        scope,
+    ) {
         Ok(Ask::Known(_)) => Ok(Ask::Known(heading_note(kind, heading, number, sizes.cells))),
         Ok(Ask::DontKnowYet(head)) => Ok(Ask::DontKnowYet(head)),
         Err(memory) => Err(memory),

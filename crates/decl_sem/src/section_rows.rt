@@ -1,5 +1,5 @@
 //! The parameters of a procedure, in the scope round it.
-ghost use Rattle.std.specs.Prelude.{◌≡◌, ◌++◌, flat_map, map};
+ghost use Rattle.std.specs.Prelude.{flat_map, map};
 ghost use Rattle.m2_base.specs.Lists.{Each};
 ghost use Rattle.m2_base.specs.Rows.{param_kind};
 ghost use Rattle.m2_base.specs.Statics.Makes.{make_then};

@@ -1,6 +1,3 @@
-use Rattle.std.specs.Prelude.{None, Option}
-use Rattle.m2_base.specs.Statics.Effects.{Effect}
-use Rattle.decl_sem.specs.Items.{IsEffect}
 use Rattle.decl_sem.proofs.OwnHeadings.{effect_given}
 use Rattle.decl_sem.proofs.own_headings.effect_in.Goals as goal
 

@@ -1,8 +1,5 @@
-use Rattle.std.specs.Prelude.{◌≡◌, ℕ, map}
-use Rattle.std.proofs.Common.{rules, ap, ◌∙◌}
-use Rattle.m2_base.specs.Statics.ProcedureRows.{parameter_cells}
-use Rattle.m2_base.specs.Views.{section_view}
-use Rattle.m2_base.specs.declared.trees.declarations.Section.{Section}
+use Rattle.std.specs.Prelude.{◌≡◌}
+use Rattle.std.proofs.Common.{rules}
 use Rattle.decl_sem.proofs.Asking.{first_made}
 use Rattle.decl_sem.proofs.OwnHeadings.{all_making, first_at, first_cells, first_of, heading_whole, result_making, sections_read}
 use Rattle.decl_sem.proofs.TypeForms.{unmade}

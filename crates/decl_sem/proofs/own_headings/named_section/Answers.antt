@@ -1,9 +1,9 @@
-use Rattle.std.specs.Prelude.{◌≡◌, Ok, Err}
+use Rattle.std.specs.Prelude.{◌≡◌}
 use Rattle.std.proofs.Common.{rules}
 use Rattle.m2_base.specs.Statics.Shapes.{open_shapes}
 use Rattle.decl_sem.proofs.OwnHeadings.{names_making, section_piece}
 use Rattle.decl_sem.proofs.OwnParameterLists.{behind_on}
-use Rattle.decl_sem.proofs.Pieces.{failed, making_front}
+use Rattle.decl_sem.proofs.Pieces.{making_front}
 use Rattle.decl_sem.proofs.SectionLists.{type_stands}
 use Rattle.decl_sem.proofs.VariableLists as variables
 use Rattle.decl_sem.proofs.own_headings.named_section.Goals as goal

@@ -1,7 +1,7 @@
 use Rattle.std.proofs.Common.{arith}
 use Rattle.decl_sem.proofs.Asking.{first_made}
 use Rattle.decl_sem.proofs.OwnParameterLists.{all_parameters, no_parameters, one_parameter, parameter_making, parameters_failed, parameters_waiting}
-use Rattle.decl_sem.proofs.VariableLists.{no_ident, read_at}
+use Rattle.decl_sem.proofs.VariableLists.{read_at}
 use Rattle.decl_sem.proofs.own_parameters.parameters_in.Goals as goal
 
 pub loop-name-init : goal.loop-name-init
