@@ -60,19 +60,20 @@ mod structures;
 mod values;
 
 pub use arguments::{Arguments, Shape};
-pub use calls::call_of;
+pub use calls::{TypeFunction, ValueFunction, call_of, of_type_noted, of_value_noted, val_of_operand};
 pub use constants::constant;
 pub use extremes::{Extreme, extreme_of, size_value};
 pub use faults::{Fault, FaultKind};
 pub use functions::{
     abs_of, cap_of, char_of_string, chr_of, odd_of, ord_of, ordinal_type_argument, val_of,
 };
-pub use names::{name_operand, operand_of};
+pub use names::{is_in_error, name_operand, operand_of};
 pub use noting::{note, note_type};
-pub use operands::{Argument, constant_value};
+pub use operands::{Argument, char_or_same, constant_value, is_bad};
 pub use operators::{apply_one, operate};
 pub use pairs::{compatible_pair, is_ordinal, is_within};
 pub use set_bits::with_elements;
 pub use sets::{element_of, no_elements, set_base, set_type_of};
+pub use steps::{applied_one, operated, taken};
 pub use structures::is_broken;
 pub use values::{in_constant, selected, spoilt_by, value_wanted};

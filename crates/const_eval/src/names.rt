@@ -39,7 +39,7 @@ fn is_open_of_broken<S: Scopes>(scopes: &mut S, around: &Around, of: Place) -> A
 
 /// Whether a type is in error, or an open array of such.
 #[tactic(auto, using(type_rules::proofs::Reading::reading))]
-fn is_in_error<S: Scopes>(scopes: &mut S, around: &Around, of: Place) -> Ask<bool>
+pub fn is_in_error<S: Scopes>(scopes: &mut S, around: &Around, of: Place) -> Ask<bool>
     requires suits { Suits (S.state scopes.old).frame around.now }
     requires there { IsThere (S.state scopes.old).frame of }
     ensures reads { Reads (S.state scopes.old) (S.state scopes.new) }

@@ -1,9 +1,12 @@
 -- Ranges that are covered, in the order in which they were.
+use Rattle.std.specs.Bool.{Decides, one_answer}
 use Rattle.std.specs.List.{list_any}
 use Rattle.std.specs.Prelude.{◌≡◌, ◌||◌, ℤ, Bool, List, [], ◌∷◌, map, reverse}
 use Rattle.std.proofs.Common.{refl, ap, ◌∙◌}
 use Rattle.m2_base.specs.Statics.CaseLabels.{overlaps}
 use Rattle.m2_base.specs.Statics.Ranges.{Range, range}
+use Rattle.decl_sem.specs.Steps.{AreSteps, Reaches, Steps}
+use Rattle.decl_sem.proofs.Steps.{overlap_told}
 use Rattle.std.proofs.lemmas.List.Sorted.{IsPermutation-reverse, list_any-IsPermutation}
 
 any-map : {A B : Type 0} (p : B → Bool) (f : A → B) (xs : List A) → list_any (λ x. p (f x)) xs ≡ list_any p (map f xs)
@@ -19,10 +22,10 @@ abbrev pub ends_range : ℤ × ℤ → Range
 ends_range ends = range ends.0 ends.1
 
 -- whether one of these values is covered
-pub overlapped : {l h : ℤ} {xs ys : List (ℤ × ℤ)} {answer : Bool} {covered : List Range} (low high : ℤ) → l ≡ low → h ≡ high → answer ≡ list_any (λ (ends : ℤ × ℤ). overlaps (range l h) (range ends.0 ends.1)) ys → ys ≡ xs → reverse (map ends_range xs) ≡ covered
+pub overlapped : {l h : ℤ} {steps : Steps} {xs : List (ℤ × ℤ)} {answer : Bool} {covered : List Range} (low high : ℤ) → l ≡ low → h ≡ high → AreSteps steps xs → Decides answer (Reaches steps h l) → reverse (map ends_range xs) ≡ covered
     → answer ≡ list_any (overlaps (range low high)) covered
-overlapped {l} {h} {xs} {ys} low high e f is same view =
-    is ∙ ap (λ (zs : List (ℤ × ℤ)). list_any (λ (ends : ℤ × ℤ). overlaps (range l h) (range ends.0 ends.1)) zs) same
+overlapped {l} {h} {steps} {xs} {answer} low high e f are decides view =
+    one_answer answer (list_any (λ (ends : ℤ × ℤ). overlaps (range l h) (range ends.0 ends.1)) xs) decides (overlap_told l h are)
     ∙ any_covered (overlaps (range l h)) ends_range xs
     ∙ ap (λ (v : ℤ). list_any (overlaps (range v h)) (reverse (map ends_range xs))) e
     ∙ ap (λ (w : ℤ). list_any (overlaps (range low w)) (reverse (map ends_range xs))) f

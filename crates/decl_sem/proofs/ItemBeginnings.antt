@@ -11,7 +11,6 @@ use Rattle.m2_base.specs.States.{Frame, IsAmong, State}
 use Rattle.m2_base.specs.Statics.Contexts.{Context}
 use Rattle.m2_base.specs.Statics.Effects.{Effect}
 use Rattle.m2_base.specs.Statics.Items as items
-use Rattle.m2_base.specs.Statics.Items.{items_of}
 use Rattle.m2_base.specs.Statics.Layouts.{Layout, firsts_from, names_from}
 use Rattle.m2_base.specs.Statics.Makes.{Makes}
 use Rattle.m2_base.specs.Statics.Shapes.{Shape, item_shapes}

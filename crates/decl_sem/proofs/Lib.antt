@@ -12,6 +12,7 @@ pub mod FieldLists
 pub mod FirstNames
 pub mod FirstOrdinals
 pub mod Hands
+pub mod HeadingRows
 pub mod HeadingSums
 pub mod Held
 pub mod ImportedNames
@@ -27,10 +28,16 @@ pub mod Namings
 pub mod NextRows
 pub mod NoTypeNames
 pub mod OneRows
+pub mod OwnHeadings
+pub mod OwnParameterLists
+pub mod OwnParameters
+pub mod ParameterLists
 pub mod Parameters
 pub mod Pieces
+pub mod SectionLists
 pub mod PointerRows
 pub mod SizesInHand
+pub mod Steps
 pub mod SubrangeRows
 pub mod ProcTypes
 pub mod RecordSizes

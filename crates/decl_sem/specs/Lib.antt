@@ -11,10 +11,12 @@ pub mod Labels
 pub mod LaidRows
 pub mod MadeRows
 pub mod Making
+pub mod OwnParameters
 pub mod Pieces
 pub mod Progress
 pub mod Records
 pub mod Shapes
+pub mod Steps
 pub mod Stood
 pub mod Targets
 pub mod TypeUses

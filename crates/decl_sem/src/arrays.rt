@@ -1,5 +1,5 @@
 //! The rows of arrays, and the types that an index may be.
-ghost use Rattle.std.specs.Prelude.{◌≡◌, ◌<◌, ◌≤◌, ◌*◌, ◌^◌, ◌∷◌, [], map, max, option_map, reverse};
+ghost use Rattle.std.specs.Prelude.{◌≡◌, ◌<◌, ◌≤◌, ◌*◌, ◌^◌, ◌∷◌, [], max, option_map, reverse};
 ghost use Rattle.std.specs.Option.{IfSome};
 ghost use Rattle.m2_base.specs.Lists.{Each};
 ghost use Rattle.m2_base.specs.Rows.{IsValue, array_kind};

@@ -1,5 +1,5 @@
 //! The rows of an enumeration.
-ghost use Rattle.std.specs.Prelude.{◌≡◌, ◌+◌, ◌<◌, ◌≤◌, ◌^◌, length, map};
+ghost use Rattle.std.specs.Prelude.{◌+◌, ◌<◌, ◌≤◌, ◌^◌, length, map};
 ghost use Rattle.m2_base.specs.Rows.{IsSmallScope, const_kind};
 ghost use Rattle.m2_base.specs.States.{State};
 ghost use Rattle.m2_base.specs.Statics.Enumerations.{constant_rows};

@@ -1,6 +1,6 @@
 //! The rows of a procedure type.
-ghost use Rattle.std.specs.Prelude.{◌≡◌, ◌<◌, ◌^◌, ◌∷◌, ◌++◌, [], flat_map};
-ghost use Rattle.m2_base.specs.Rows.{IsSmallScope, param_kind};
+ghost use Rattle.std.specs.Prelude.{◌<◌, ◌^◌, flat_map};
+ghost use Rattle.m2_base.specs.Rows.{IsSmallScope};
 ghost use Rattle.m2_base.specs.States.{State};
 ghost use Rattle.m2_base.specs.Statics.Makes.{make_then, makes_row};
 ghost use Rattle.m2_base.specs.Statics.ProcedureTypes.{formal_rows, open_array_row, parameter_type as spec_type};

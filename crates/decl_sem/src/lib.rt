@@ -4,8 +4,8 @@
 //! rows say comes from the rows of the items before and of the scopes round the block. The definitions are `m2_base`'s
 //! (`specs/Statics`). When a block's scope is complete, its closing name is checked (`close_check`).
 //!
-//! `declare` has the rows of an item. The headings of procedures aren't built yet: for them it finds no memory
-//! (`procedures`, `own_headings`).
+//! `declare` has the rows of an item. The heading of a procedure has rows in the scope round it (`procedures`) and in its own
+//! (`own_headings`).
 #![tactic(auto)]
 
 /// The value of a piece that asks nothing, or the end of the function at want of memory.
@@ -74,10 +74,13 @@ mod meanings;
 mod names;
 mod outcomes;
 mod own_headings;
+mod own_parameters;
+mod placings;
 mod procedure_types;
 mod procedures;
 mod putting;
 mod records;
+mod section_rows;
 mod sets;
 mod shapes;
 mod standing;

@@ -1,5 +1,5 @@
 //! The type that a name leads to.
-ghost use Rattle.std.specs.Prelude.{◌≡◌, ◌≢◌, ◌<◌, ◌++◌, ◌^◌, ℕ, Some, IfOk};
+ghost use Rattle.std.specs.Prelude.{◌≡◌, ◌≢◌, ◌<◌, ◌^◌, ℕ, Some, IfOk};
 ghost use Rattle.std.specs.Option.{IfSome};
 ghost use Rattle.m2_base.specs.Lists.{IsPrefixOf};
 ghost use Rattle.m2_base.specs.Rows.{Fits, HasSmallNumbers, row_meaning};
@@ -13,7 +13,7 @@ ghost use Rattle.const_eval.specs.Analyses.{Analysed};
 ghost use Rattle.decl_sem.specs.Pieces.{known_of};
 ghost use Rattle.m2_base.specs.Statics.ReadTrees.{IsReadQual};
 ghost use Rattle.decl_sem.specs.TypeUses.{IsScopeBefore, member_by, type_or};
-ghost use Rattle.type_rules.specs.Scenes.{IsRowOf, IsSaid, IsThere, Suits};
+ghost use Rattle.type_rules.specs.Scenes.{IsRowOf, IsThere, Suits};
 ghost use Rattle.type_rules.specs.Sites.{IsRefused, SuitsSite};
 
 use m2_base::{

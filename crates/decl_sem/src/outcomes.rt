@@ -1,14 +1,12 @@
 //! The result of a procedure type.
-ghost use Rattle.std.specs.Prelude.{◌≡◌, ◌≤◌, ◌<◌, ◌^◌, ◌∷◌, [], Some, if◌then◌else◌};
+ghost use Rattle.std.specs.Prelude.{◌≡◌, ◌<◌, [], Some, if◌then◌else◌};
 ghost use Rattle.m2_base.specs.Gives.{gives};
-ghost use Rattle.m2_base.specs.Rows.{proc_type_kind};
 ghost use Rattle.m2_base.specs.Standard.{broken};
 ghost use Rattle.m2_base.specs.States.{State};
 ghost use Rattle.m2_base.specs.Statics.Contexts.{refuse as refuses};
 ghost use Rattle.m2_base.specs.Statics.Diagnostics.{result_not_scalar};
-ghost use Rattle.m2_base.specs.Statics.Makes.{make_then, makes_row, only_gives};
+ghost use Rattle.m2_base.specs.Statics.Makes.{only_gives};
 ghost use Rattle.m2_base.specs.Statics.ProcedureTypes.{checked_result as spec_checked, is_structured_kind, result_type};
-ghost use Rattle.m2_base.specs.Statics.Shapes.{nameless};
 ghost use Rattle.m2_base.specs.declared.rows.RowMeaning.TheVariants as meanings;
 ghost use Rattle.decl_sem.specs.Making.{next_ordinal};
 ghost use Rattle.decl_sem.specs.Pieces.{Declares, IsBehind, IsMaking, IsOptionBehind, known_of};
@@ -25,7 +23,7 @@ use type_rules::BROKEN;
 const RESULT_NOT_SCALAR: u8 = 68;
 
 /// Whether a row is an array's or a record's.
-fn is_structured(meaning: RowMeaning) -> bool
+pub(crate) fn is_structured(meaning: RowMeaning) -> bool
     ensures { result ≡ is_structured_kind meaning }
 {
     matches!(meaning, RowMeaning::Array(..) | RowMeaning::Record(..))

@@ -39,7 +39,7 @@ fn own_after(first: u32, formals: &[Formal]) -> Option<u32>
 }
 
 /// The row of a procedure type with this result, behind its parameters.
-fn proc_row<S: Scopes>(
+pub(crate) fn proc_row<S: Scopes>(
     scopes: &mut S,
     site: &Site,
     at: u32,

@@ -1,30 +1,108 @@
 //! The rows of a procedure's heading in the scope round it.
-ghost use Rattle.std.specs.Prelude.{◌≡◌, ◌∷◌, ◌++◌, [], filter, flat_map, length};
+ghost use Rattle.std.specs.Prelude.{◌≡◌, ◌≤◌, ◌∷◌, ◌++◌, [], filter, flat_map, length};
 ghost use Rattle.m2_base.specs.Rows.{proc_kind, proc_type_kind};
+ghost use Rattle.m2_base.specs.Statics.Makes.{make_then, makes_named, makes_row, only_gives};
 ghost use Rattle.m2_base.specs.Statics.ProcedureRows.{is_proc, proc_rows as spec_rows};
+ghost use Rattle.m2_base.specs.Statics.ProcedureTypes.{result_type};
 ghost use Rattle.m2_base.specs.Statics.Shapes.{named, nameless, section_shapes};
 ghost use Rattle.m2_base.specs.Views.{heading_view};
-ghost use Rattle.decl_sem.specs.Pieces.{Declares, IsAny, IsMaking};
-ghost use Rattle.m2_base.specs.Statics.ReadTrees.{IsReadHeading};
+ghost use Rattle.m2_base.specs.declared.rows.RowMeaning.TheVariants as meanings;
+ghost use Rattle.decl_sem.specs.Making.{next_ordinal};
+ghost use Rattle.decl_sem.specs.Pieces.{Declares, IsAny, IsBehind, IsMaking, known_of};
+ghost use Rattle.m2_base.specs.Statics.ReadTrees.{IsReadHeading, IsReadName};
 
-use crate::making::Made;
-use m2_base::{Ask, Heading, HeadingNote, Memory, Scopes, Site, StreamKind};
+use crate::heading_sizes::{heading_note, heading_sizes};
+use crate::making::{Made, next_row};
+use crate::meanings::{proc_number, proc_scope};
+use crate::procedure_types::proc_row;
+use crate::putting::name_row;
+use crate::section_rows::sections_rows;
+use m2_base::{
+    Ask, Heading, HeadingNote, Ident, Memory, Place, RowMeaning, Scopes, Site, StreamKind,
+};
+
+/// The named row of a procedure of this type.
+fn named_proc<S: Scopes>(
+    scopes: &S,
+    site: &Site,
+    made: &mut Made,
+    name: Ident,
+    of: Place,
+    number: u32,
+    scope: u32,
+) -> Result<Place, Memory>
+    requires making { IsMaking (S.state scopes.now).frame site.now made.old (named proc_kind name ∷ []) }
+    requires read { IsReadName site.now.texts.now.names name }
+    requires of { IsBehind (S.state scopes.now).frame (next_ordinal made.old) of }
+    ensures { Declares (S.state scopes.now) (S.state scopes.now) made.old made.new site.now (known_of result) (named proc_kind name ∷ []) IsBehind (λ c. makes_named c name.name name.at (meanings.Proc of number scope)) }
+{
+    let meaning = RowMeaning::Proc(of, number, scope);
+    name_row(scopes, site, made, name, meaning)
+}
+
+/// The procedure's type, whose parameters' rows begin with the first, and the procedure.
+fn typed_proc<S: Scopes>(
+    scopes: &mut S,
+    site: &Site,
+    made: &mut Made,
+    heading: &Heading,
+    first: u32,
+    count: u32,
+    number: u32,
+    scope: u32,
+) -> Result<Ask<Place>, Memory>
+    requires making { IsMaking (S.state scopes.old).frame site.now made.old (nameless proc_type_kind heading.now.name.at ∷ named proc_kind heading.now.name ∷ []) }
+    requires read { IsReadHeading site.now.texts.now.names (heading_view heading.now) }
+    requires first { first ≤ next_ordinal made.old }
+    ensures { Declares (S.state scopes.old) (S.state scopes.new) made.old made.new site.now result (nameless proc_type_kind heading.now.name.at ∷ named proc_kind heading.now.name ∷ []) IsBehind (λ c. make_then c (make_then c (only_gives (result_type c heading.now.result)) (λ e r. makes_row e heading.now.name.at (meanings.ProcType r count first))) (λ f t. makes_named f heading.now.name.name heading.now.name.at (meanings.Proc t number scope))) }
+{
+    let name = heading.name;
+    match proc_row(scopes, site, name.at, first, count, heading.result, made) {
+        Ok(Ask::Known(of)) => match named_proc(scopes, site, made, name, of, number, scope) {
+            Ok(place) => Ok(Ask::Known(place)),
+            Err(memory) => Err(memory),
+        },
+        Ok(Ask::DontKnowYet(head)) => Ok(Ask::DontKnowYet(head)),
+        Err(memory) => Err(memory),
+    }
+}
 
 /// Open arrays and parameters, the procedure's type, and the procedure. `procedures` is the number of those before it.
 pub(crate) fn proc_rows<S: Scopes>(
-    _scopes: &mut S,
+    scopes: &mut S,
     site: &Site,
-    _kind: StreamKind,
+    kind: StreamKind,
     heading: &Heading,
-    _stream: u32,
+    stream: u32,
     procedures: u32,
     made: &mut Made,
 ) -> Result<Ask<Option<HeadingNote>>, Memory>
-    requires making { IsMaking (S.state _scopes.old).frame site.now made.old (flat_map section_shapes (heading_view heading.now).sections ++ nameless proc_type_kind heading.now.name.at ∷ named proc_kind heading.now.name ∷ []) }
+    requires making { IsMaking (S.state scopes.old).frame site.now made.old (flat_map section_shapes (heading_view heading.now).sections ++ nameless proc_type_kind heading.now.name.at ∷ named proc_kind heading.now.name ∷ []) }
     requires begun { made.old.rows.items ≡ [] }
     requires read { IsReadHeading site.now.texts.now.names (heading_view heading.now) }
-    requires number { procedures ≡ length (filter is_proc (S.state _scopes.old).frame.entered) }
-    ensures { Declares (S.state _scopes.old) (S.state _scopes.new) made.old made.new site.now result (flat_map section_shapes (heading_view heading.now).sections ++ nameless proc_type_kind heading.now.name.at ∷ named proc_kind heading.now.name ∷ []) IsAny (λ c. spec_rows c _kind (heading_view heading.now) _stream) }
+    requires number { procedures ≡ length (filter is_proc (S.state scopes.old).frame.entered) }
+    ensures { Declares (S.state scopes.old) (S.state scopes.new) made.old made.new site.now result (flat_map section_shapes (heading_view heading.now).sections ++ nameless proc_type_kind heading.now.name.at ∷ named proc_kind heading.now.name ∷ []) IsAny (λ c. spec_rows c kind (heading_view heading.now) stream) }
 {
-    Err(Memory)
+    let first = next_row(made);
+    let number = proc_number(kind, stream, site.around.module, procedures);
+    let scope = proc_scope(kind, stream);
+    let sizes = put!(heading_sizes(&heading.sections));
+    let Some(own) = first.checked_add(sizes.rows) else {
+        return Err(Memory);
+    };
+    made!(sections_rows(scopes, site, made, own, &heading.sections));
+    match typed_proc(
+        scopes,
+        site,
+        made,
+        heading,
+        first,
+        sizes.count,
+        number,
+        scope,
+    ) {
+        Ok(Ask::Known(_)) => Ok(Ask::Known(heading_note(kind, heading, number, sizes.cells))),
+        Ok(Ask::DontKnowYet(head)) => Ok(Ask::DontKnowYet(head)),
+        Err(memory) => Err(memory),
+    }
 }

@@ -1,6 +1,6 @@
 //! What a type is, whose row may be in hand.
-ghost use Rattle.std.specs.Prelude.{◌≡◌, ◌<◌, ◌≤◌, ◌+◌, ◌-◌, ◌==◌, ◌&&◌, [], not, nat_lt, get_or};
-ghost use Rattle.m2_base.specs.Rows.{HasSmallNumbers, row_meaning, is_same_place};
+ghost use Rattle.std.specs.Prelude.{◌≡◌, ◌<◌, ◌≤◌, ◌-◌, ◌==◌, ◌&&◌, []};
+ghost use Rattle.m2_base.specs.Rows.{HasSmallNumbers};
 ghost use Rattle.m2_base.specs.States.{Waits};
 ghost use Rattle.decl_sem.specs.Making.{next_ordinal};
 ghost use Rattle.decl_sem.specs.Hands.{held_meaning as spec_meaning, is_held as spec_held};

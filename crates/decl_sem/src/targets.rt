@@ -1,5 +1,5 @@
 //! What a pointer points to. A name alone that the block declares may be declared later: the layout says where.
-ghost use Rattle.std.specs.Prelude.{◌≡◌, ◌∷◌, ◌<◌, ◌≤◌, ◌^◌, [], ℕ, Some, None, if◌then◌else◌, ◌&&◌, is_none, length, not, option_map};
+ghost use Rattle.std.specs.Prelude.{◌≡◌, ◌∷◌, ◌<◌, ◌≤◌, [], ℕ, Some, None, if◌then◌else◌, ◌&&◌, is_none, length, not, option_map};
 ghost use Rattle.std.specs.Option.{IfSome};
 ghost use Rattle.m2_base.specs.Asks.{IfKnown};
 ghost use Rattle.m2_base.specs.Rows.{HasSmallNumbers, at_place, pointer_kind, row_meaning};

@@ -1,5 +1,5 @@
 //! Variables of one type, each with the cells of that type.
-ghost use Rattle.std.specs.Prelude.{◌≡◌, ◌∷◌, ◌++◌, [], ◌-◌, ◌<◌, ◌≤◌, ◌^◌, List, None, map, slice_get, Some, IfSome};
+ghost use Rattle.std.specs.Prelude.{◌≡◌, ◌++◌, [], ◌-◌, ◌<◌, ◌≤◌, ◌^◌, List, None, map, slice_get, Some, IfSome};
 ghost use Rattle.m2_base.specs.Lists.{Each};
 ghost use Rattle.m2_base.specs.Rows.{HasSmallNumbers, row_meaning, var_kind};
 ghost use Rattle.m2_base.specs.States.{Waits};

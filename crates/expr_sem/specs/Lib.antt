@@ -14,3 +14,7 @@ pub mod Arguments
 pub mod Calls
 pub mod Expressions
 pub mod Heights
+pub mod Fragments
+pub mod Codings
+pub mod Pieces
+pub mod Refusals

@@ -6,6 +6,39 @@
 //! own below it.
 #![tactic(auto)]
 
-mod laws;
+/// The value of an answer, or the end of the function where it isn't known yet.
+macro_rules! known {
+    ($asked:expr) => {
+        match $asked {
+            Ask::Known(value) => value,
+            Ask::DontKnowYet(head) => return Ask::DontKnowYet(head),
+        }
+    };
+}
 
+/// The value of an analysis, or the end of the function where it isn't known yet or memory is wanted.
+macro_rules! analysed {
+    ($asked:expr) => {
+        match $asked {
+            Ok(asked) => match asked {
+                Ask::Known(value) => value,
+                Ask::DontKnowYet(head) => return Ok(Ask::DontKnowYet(head)),
+            },
+            Err(memory) => return Err(memory),
+        }
+    };
+}
+
+mod coded;
+mod fragments;
+mod laws;
+mod pieces;
+mod refusals;
+mod steps;
+
+pub use coded::{Coded, Placed};
+pub use fragments::{Connective, Form, Fragment, Fragments, Node};
 pub use laws::{errors_have_no_code, heights_are_right, operands_are_known};
+pub use pieces::{Piece, With, append};
+pub use refusals::Refusal;
+pub use steps::Step;

@@ -18,7 +18,7 @@ use m2_base::{Around, Ask, Place, Row, RowMeaning, Scopes, read_row};
 
 /// A procedure type: the place of its row, the ordinal of its first row, and its result.
 #[derive(Clone, Copy)]
-pub(crate) struct Form {
+pub struct Form {
     pub of: Place,
     pub first: u32,
     pub result: Option<Place>,
@@ -26,7 +26,7 @@ pub(crate) struct Form {
 
 /// A parameter of a procedure type, and the ordinal after its row.
 #[derive(Clone, Copy)]
-struct Formal {
+pub struct Formal {
     pub typ: Place,
     pub by_ref: bool,
     pub next: u32,
@@ -41,7 +41,7 @@ enum Compared {
 
 /// The form of a procedure type; none where a type is none.
 #[tactic(auto, using(crate::proofs::Reading::reading))]
-pub(crate) fn form_of<S: Scopes>(scopes: &mut S, around: &Around, of: Place) -> Ask<Option<Form>>
+pub fn form_of<S: Scopes>(scopes: &mut S, around: &Around, of: Place) -> Ask<Option<Form>>
     requires suits { Suits (S.state scopes.old).frame around.now }
     requires there { IsThere (S.state scopes.old).frame of }
     ensures reads { Reads (S.state scopes.old) (S.state scopes.new) }
@@ -90,7 +90,7 @@ fn parameter_of(row: &Row, owner: u32) -> Option<(Place, bool)>
 
 /// The first parameter of a procedure type from an ordinal on.
 #[tactic(auto, using(crate::proofs::Reading::reading))]
-fn next_parameter<S: Scopes>(
+pub fn next_parameter<S: Scopes>(
     scopes: &mut S,
     around: &Around,
     of: Place,

@@ -35,6 +35,7 @@ mod uses;
 pub use assigning::{assignable, is_open_array};
 pub use compatibility::{bases_of, compatible, is_pointer};
 pub use folding::fold;
+pub use forms::{Form, Formal, form_of, next_parameter};
 pub use members::{field_of, index_of};
 pub use operands::{
     BITSET, BOOLEAN, BROKEN, CARDINAL, CHARACTER, INTEGER, NIL, TEXT, WHOLE,

@@ -1,14 +1,80 @@
-use Rattle.std.proofs.Common.{refl}
-use Rattle.m2_base.proofs.Kept.{Works-refl}
+use Rattle.std.specs.Prelude.{◌≡◌, ℕ, ◌+◌, List, [], ◌∷◌, flat_map, map}
+use Rattle.std.proofs.Common.{rules, sym, ap, ◌∙◌}
+use Rattle.m2_base.specs.Rows.{proc_kind, proc_type_kind}
+use Rattle.m2_base.specs.Statics.ProcedureRows.{parameter_count, sections_length}
+use Rattle.m2_base.specs.Statics.Shapes.{named, nameless, section_shapes}
+use Rattle.m2_base.specs.Views.{heading_view, section_view}
+use Rattle.m2_base.specs.declared.trees.declarations.Section.{Section}
+use Rattle.decl_sem.proofs.Asking.{first_made}
+use Rattle.decl_sem.proofs.HeadingRows.{HasNumbers, heading_failed, heading_known, heading_room, heading_waits, sections_making, sections_piece, typed_making}
+use Rattle.decl_sem.proofs.TypeForms.{unmade}
 use Rattle.decl_sem.proofs.procedures.proc_rows.Goals as goal
 
-pub returns : goal.returns
-returns g c =
+pub next_row-first-requires : goal.next_row-first-requires
+next_row-first-requires g c =
+    heading_room (flat_map section_shapes (heading_view c.args.heading.now).sections) (nameless proc_type_kind c.args.heading.now.name.at ∷ named proc_kind c.args.heading.now.name ∷ []) c.requires.making
+
+pub returns-in-Err : goal.returns-in-Err
+returns-in-Err g c = unmade _ _ _ _ _ _ _
+
+pub returns-in_default : goal.returns-in_default
+returns-in_default g c = unmade _ _ _ _ _ _ _
+
+pub sections_rows-requires-clause-making : goal.sections_rows-requires-clause-making
+sections_rows-requires-clause-making g c =
+    let same : c.deref-2.result.now ≡ c.args.heading.now.sections.items = search rules in
+    sections_making c.args.heading.now c.deref-2.result.now same c.requires.making
+
+pub typed_proc-requires-clause-making : goal.typed_proc-requires-clause-making
+typed_proc-requires-clause-making g c =
+    let same : c.deref-2.result.now ≡ c.args.heading.now.sections.items = search rules in
+    let p = sections_piece c.in-Some.own c.args.heading.now c.deref-2.result.now same (first_made c.in-Ok-sections_rows.is c.in-Known.is c.sections_rows.ensures) in
+    typed_making c.in-Some.own c.args.heading.now c.requires.making p
+
+pub returns-in-Ok-Known : goal.returns-in-Ok-Known
+returns-in-Ok-Known g c =
+    let same : c.deref-2.result.now ≡ c.args.heading.now.sections.items = search rules in
+    let p = sections_piece c.in-Some.own c.args.heading.now c.deref-2.result.now same (first_made c.in-Ok-sections_rows.is c.in-Known.is c.sections_rows.ensures) in
+    let items : c.deref.result.now ≡ c.args.heading.now.sections.items = search rules in
+    let sum : c.in-Some.own ≡ c.next_row-first.result + c.in-Ok.value.rows = search rules in
+    let numbers : HasNumbers (g.S.Scopes.state c.args.scopes.now).frame c.args.site.now c.args.made.now c.args.kind c.args.stream c.args.heading.now c.in-Some.own c.next_row-first.result c.in-Ok.value.count c.proc_number-number.result c.proc_scope-scope.result =
     record {
-      works = Works-refl (g.S.Scopes.state c.args._scopes.now) c.args.made.now.notes;
-      waits = tt;
-      first = refl;
-      grown = tt;
-      told = λ hand in_hand told same. tt;
-      there = tt;
-    }
+      first_is = c.next_row-first.ensures;
+      own_is = sum ∙ ap (λ (n : ℕ). c.next_row-first.result + n) (c.in-Ok.ensures.rows ∙ ap (λ (xs : List Section). sections_length (map section_view xs)) items);
+      count_is = c.in-Ok.ensures.count ∙ ap (λ (xs : List Section). parameter_count (map section_view xs)) items;
+      number_is = λ k e l. c.proc_number-number.ensures k e (l ∙ sym c.requires.number);
+      scope_is = c.proc_scope-scope.ensures;
+    } in
+    heading_known c.in-Some.own c.args.heading.now c.requires.making p c.args.kind c.args.stream c.requires.begun numbers c.heading_note.result c.heading_note.ensures (rw c.in-Ok-Known.field-0-is at c.in-Ok-Known.ensures)
+
+pub returns-in-Ok-DontKnowYet : goal.returns-in-Ok-DontKnowYet
+returns-in-Ok-DontKnowYet g c =
+    let same : c.deref-2.result.now ≡ c.args.heading.now.sections.items = search rules in
+    let p = sections_piece c.in-Some.own c.args.heading.now c.deref-2.result.now same (first_made c.in-Ok-sections_rows.is c.in-Known.is c.sections_rows.ensures) in
+    let items : c.deref.result.now ≡ c.args.heading.now.sections.items = search rules in
+    let sum : c.in-Some.own ≡ c.next_row-first.result + c.in-Ok.value.rows = search rules in
+    let numbers : HasNumbers (g.S.Scopes.state c.args.scopes.now).frame c.args.site.now c.args.made.now c.args.kind c.args.stream c.args.heading.now c.in-Some.own c.next_row-first.result c.in-Ok.value.count c.proc_number-number.result c.proc_scope-scope.result =
+    record {
+      first_is = c.next_row-first.ensures;
+      own_is = sum ∙ ap (λ (n : ℕ). c.next_row-first.result + n) (c.in-Ok.ensures.rows ∙ ap (λ (xs : List Section). sections_length (map section_view xs)) items);
+      count_is = c.in-Ok.ensures.count ∙ ap (λ (xs : List Section). parameter_count (map section_view xs)) items;
+      number_is = λ k e l. c.proc_number-number.ensures k e (l ∙ sym c.requires.number);
+      scope_is = c.proc_scope-scope.ensures;
+    } in
+    heading_waits c.in-Some.own c.args.heading.now c.requires.making p c.args.kind c.args.stream c.requires.begun numbers (rw c.in-Ok-DontKnowYet.field-0-is at c.in-Ok-DontKnowYet.ensures)
+
+pub returns-in-Err-typed_proc : goal.returns-in-Err-typed_proc
+returns-in-Err-typed_proc g c =
+    let same : c.deref-2.result.now ≡ c.args.heading.now.sections.items = search rules in
+    let p = sections_piece c.in-Some.own c.args.heading.now c.deref-2.result.now same (first_made c.in-Ok-sections_rows.is c.in-Known.is c.sections_rows.ensures) in
+    let items : c.deref.result.now ≡ c.args.heading.now.sections.items = search rules in
+    let sum : c.in-Some.own ≡ c.next_row-first.result + c.in-Ok.value.rows = search rules in
+    let numbers : HasNumbers (g.S.Scopes.state c.args.scopes.now).frame c.args.site.now c.args.made.now c.args.kind c.args.stream c.args.heading.now c.in-Some.own c.next_row-first.result c.in-Ok.value.count c.proc_number-number.result c.proc_scope-scope.result =
+    record {
+      first_is = c.next_row-first.ensures;
+      own_is = sum ∙ ap (λ (n : ℕ). c.next_row-first.result + n) (c.in-Ok.ensures.rows ∙ ap (λ (xs : List Section). sections_length (map section_view xs)) items);
+      count_is = c.in-Ok.ensures.count ∙ ap (λ (xs : List Section). parameter_count (map section_view xs)) items;
+      number_is = λ k e l. c.proc_number-number.ensures k e (l ∙ sym c.requires.number);
+      scope_is = c.proc_scope-scope.ensures;
+    } in
+    heading_failed c.in-Some.own c.args.heading.now c.requires.making p c.args.kind c.args.stream c.requires.begun numbers c.in-Err-typed_proc.memory c.in-Err-typed_proc.ensures

@@ -1,4 +1,4 @@
-use Rattle.std.proofs.Common.{Err, Ok, [], ap, arith, length, map, refl, subst, sym, ℕ, ◌∙◌, ◌∷◌, ◌≡◌, ◌++◌, List, ◌<◌}
+use Rattle.std.proofs.Common.{Err, Ok, [], ap, arith, length, map, refl, subst, sym, ℕ, ◌∙◌, ◌∷◌, ◌≡◌, ◌++◌, List}
 use Rattle.m2_base.specs.Rows.{field_kind, record_kind, set_kind, pointer_kind}
 use Rattle.m2_base.specs.States.{Frame}
 use Rattle.m2_base.specs.Statics.Arrays.{checked_base}
