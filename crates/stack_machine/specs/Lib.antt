@@ -5,7 +5,6 @@ pub mod InOut
 pub mod Step
 pub mod Runs
 pub mod Able
-pub mod Computing
 pub mod Ready
 pub mod Readings
 pub mod Stepping

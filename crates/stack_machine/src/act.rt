@@ -1,7 +1,6 @@
 //! One operation that calls no procedure of InOut.
-ghost use Rattle.std.specs.Prelude.{◌≡◌, ◌≤◌, ◌<◌, ◌+◌, ◌*◌, ◌^◌, None, Some, true, ℕ, length, slice_get, IfSome};
+ghost use Rattle.std.specs.Prelude.{◌≡◌, ◌≤◌, ◌<◌, ◌+◌, ◌*◌, ◌^◌, None, Some, ℕ, length, slice_get, IfSome};
 ghost use Rattle.stack_machine.specs.Able.{HasRoom, CanDo, Comes};
-ghost use Rattle.stack_machine.specs.Computing.{computes};
 ghost use Rattle.stack_machine.specs.InOut.{Got, params_of, services};
 ghost use Rattle.stack_machine.specs.Ready.{Able, AsksCall, IsSmall};
 ghost use Rattle.stack_machine.specs.Runs.{asked_by};
@@ -146,78 +145,43 @@ fn call_value(code: &Code, core: &mut Core, n: u32, r: u32) -> Next
     }
 }
 
-/// One operation on values alone.
-#[inline(always)]
-#[tactic(auto, unfolding(crate::specs::Step::does))]
-fn compute(core: &mut Core, op: Op) -> Next
-    requires able { CanDo core.old (takes op) }
-    requires computes { computes op ≡ true }
-    ensures comes { (p : Program) (got : Got) → Comes result (does p got op (state_of core.old)) (state_of core.old) (state_of core.new) }
-    ensures room { HasRoom core.new }
-{
-    match op {
-        Op::Add(kind) => add(core, kind),
-        Op::Sub(kind) => subtract(core, kind),
-        Op::Mul(kind) => multiply(core, kind),
-        Op::Div(kind) => divide(core, kind),
-        Op::Mod(kind) => remainder(core, kind),
-        Op::Neg => negate(core),
-        Op::Abs => absolute(core),
-        Op::Not => negation(core),
-        Op::Eq => equal(core),
-        Op::Ne => differ(core),
-        Op::Lt => less(core),
-        Op::Le => at_most(core),
-        Op::Gt => greater(core),
-        Op::Ge => at_least(core),
-        Op::Union => unite(core),
-        Op::Diff => subtract_set(core),
-        Op::Inter => intersect(core),
-        Op::SymDiff => exclusive(core),
-        Op::Subset => subset(core),
-        Op::Superset => superset(core),
-        Op::In => contains(core),
-        Op::Bit => single(core),
-        Op::Span => range(core),
-        Op::More(c) => more(core, c),
-        Op::Cap => capitalize(core),
-        _ => unreachable!(),
-    }
+macro_rules! action {
+    (($op:ident, $core:ident) alone { $($name:ident $(($($x:ident),*))? $act:ident;)* } other { $($pattern:pat => $next:expr;)* }) => {
+        match *$op {
+            $(Op::$name $(($($x),*))? => $act($core $($(, $x)*)?),)*
+            $($pattern => $next,)*
+        }
+    };
 }
 
 /// One operation that calls no procedure of InOut.
 #[inline(always)]
 #[tactic(auto, unfolding(crate::specs::Step::does))]
-pub(crate) fn act(code: &Code, core: &mut Core, op: Op) -> Next
-    requires able { Able (program_of code.now) core.old op }
-    requires asked { asked_by (program_of code.now) (Some op) (state_of core.old) ≡ None }
-    ensures comes { (got : Got) → Comes result (does (program_of code.now) got op (state_of core.old)) (state_of core.old) (state_of core.new) }
+pub(crate) fn act(code: &Code, core: &mut Core, op: &Op) -> Next
+    requires able { Able (program_of code.now) core.old op.now }
+    requires asked { asked_by (program_of code.now) (Some op.now) (state_of core.old) ≡ None }
+    ensures comes { (got : Got) → Comes result (does (program_of code.now) got op.now (state_of core.old)) (state_of core.old) (state_of core.new) }
     ensures room { HasRoom core.new }
 {
-    match op {
-        Op::Push(v) => push(core, v),
-        Op::Local(h, o) => local(core, h, o),
-        Op::Load => load(core),
-        Op::Store => store(core),
-        Op::Move(n) => copy_cells(core, n),
-        Op::Dup => duplicate(core),
-        Op::Offset(n) => offset(core, n),
-        Op::Index(low, n, size) => index(core, low, n, size),
-        Op::IndexOpen(size) => open_index(core, size),
-        Op::Check(low, high) => check(core, low, high),
-        Op::Nil => not_nil(core),
-        Op::Jump(to) => jump(core, to),
-        Op::JumpFalse(to) => jump_false(core, to),
-        Op::AndJump(to) => and_jump(core, to),
-        Op::OrJump(to) => or_jump(core, to),
-        Op::Call(k, h) => call_routine(code, core, k, h),
-        Op::CallService(_) => unreachable!(),
-        Op::CallVar(n, r) => call_value(code, core, n, r),
-        Op::Return => leave(code, core),
-        Op::Trap(trap) => Next::Traps(trap),
-        Op::New(n) => allocate(core, n),
-        Op::OpenCopy(o, size) => open_copy(core, o, size),
-        Op::Halt => Next::Halts,
-        _ => compute(core, op),
-    }
+    action!((op, core)
+        alone {
+            Push(v) push; Local(h, o) local; Load load; Store store; Move(n) copy_cells; Dup duplicate;
+            Offset(n) offset; Index(low, n, size) index; IndexOpen(size) open_index; Check(low, high) check; Nil not_nil;
+            Add(kind) add; Sub(kind) subtract; Mul(kind) multiply; Div(kind) divide; Mod(kind) remainder;
+            Neg negate; Abs absolute; Not negation;
+            Eq equal; Ne differ; Lt less; Le at_most; Gt greater; Ge at_least;
+            Union unite; Diff subtract_set; Inter intersect; SymDiff exclusive; Subset subset; Superset superset;
+            In contains; Bit single; Span range; More(c) more; Cap capitalize;
+            Jump(to) jump; JumpFalse(to) jump_false; AndJump(to) and_jump; OrJump(to) or_jump;
+            New(n) allocate; OpenCopy(o, size) open_copy;
+        }
+        other {
+            Op::Call(k, h) => call_routine(code, core, k, h);
+            Op::CallService(_) => unreachable!();
+            Op::CallVar(n, r) => call_value(code, core, n, r);
+            Op::Return => leave(code, core);
+            Op::Trap(trap) => Next::Traps(trap);
+            Op::Halt => Next::Halts;
+        }
+    )
 }

@@ -149,6 +149,7 @@ fn lay(cells: &mut [i64], at: usize, size: usize, params: &[i64])
 }
 
 /// Calls a procedure, and takes n operands, the topmost of which are its parameters.
+#[inline(always)]
 #[tactic(auto, using(crate::proofs::OperandLaws::call_is), unfolding(crate::specs::Step::called))]
 pub(crate) fn call(core: &mut Core, p: &Routine, n: usize, link: usize) -> Next
     requires able { CanDo core.old n }

@@ -73,13 +73,13 @@ fn service_called(code: &Code, core: &Core, n: u32, r: u32) -> Option<Service>
 /// The procedure of InOut that an operation calls.
 #[inline(always)]
 #[tactic(auto, using(crate::proofs::Serving::serves_service, crate::proofs::Serving::serves_variable))]
-fn asked_for(code: &Code, core: &Core, op: Op) -> Option<Asked>
-    requires there { takes op ≤ core.now.sp }
+fn asked_for(code: &Code, core: &Core, op: &Op) -> Option<Asked>
+    requires there { takes op.now ≤ core.now.sp }
     requires room { HasRoom core.now }
-    ensures service { option_map (λ x. x.service) result ≡ asked_by (program_of code.now) (Some op) (state_of core.now) }
-    ensures serves { IfSome result (λ x. Serves (program_of code.now) op (state_of core.now) x.service x.operands) }
+    ensures service { option_map (λ x. x.service) result ≡ asked_by (program_of code.now) (Some op.now) (state_of core.now) }
+    ensures serves { IfSome result (λ x. Serves (program_of code.now) op.now (state_of core.now) x.service x.operands) }
 {
-    match op {
+    match *op {
         Op::CallService(service) => Some(Asked {
             service,
             operands: service.params() as usize,
@@ -167,7 +167,7 @@ fn one_step<P: Sink, K: Source>(
     ensures prints_later { P.faults print.old ≤ P.faults print.new }
     ensures reads_later { K.faults keys.old ≤ K.faults keys.new }
 {
-    let op = code.ops[core.at];
+    let op = &code.ops[core.at];
     match asked_for(code, core, op) {
         None => Ok(act(code, core, op)),
         Some(asked) => call_service(core, asked.service, asked.operands, print, keys),
