@@ -69,7 +69,7 @@ begins (of_then (of_left (of_token {t} g)) q) e = isnt_implementation t.kind (ap
 begins (of_then (of_right of_empty) (of_then (of_token {t} g) q)) e = isnt_module t.kind (ap first_kind e) g
 
 -- a text of no token has no finished rows
-not_finished : {tables : List (List Row)} → IsFinished empty_unit tables → ⊥
+pub not_finished : {tables : List (List Row)} → IsFinished empty_unit tables → ⊥
 not_finished h = begins h.read.main.sentence.derives h.read.main.sentence.spells
 
 first_suits : Suits first_frame main_block

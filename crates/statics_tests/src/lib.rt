@@ -8,4 +8,6 @@ mod of_m2_base;
 #[cfg(test)]
 mod of_scope_core;
 #[cfg(test)]
+mod of_type_parts;
+#[cfg(test)]
 mod of_type_rules;

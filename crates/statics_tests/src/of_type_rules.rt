@@ -25,7 +25,7 @@ const BITS: Place = Place {
 };
 
 /// The unit of a module's text with no token but the end.
-fn unit(alloc: Global) -> Result<Texts, Memory>
+pub(crate) fn unit(alloc: Global) -> Result<Texts, Memory>
     ensures { IfOk result (λ texts. texts ≡ empty_unit) }
 {
     let names = Names::new(alloc)?;
@@ -47,7 +47,7 @@ fn unit(alloc: Global) -> Result<Texts, Memory>
 }
 
 /// What surrounds its block.
-fn around(alloc: Global) -> Result<Around, Memory>
+pub(crate) fn around(alloc: Global) -> Result<Around, Memory>
     ensures { IfOk result (λ around. around ≡ main_block) }
 {
     let scopes = vec![in alloc; 1]?;
