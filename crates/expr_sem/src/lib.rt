@@ -30,11 +30,15 @@ macro_rules! analysed {
 }
 
 mod coded;
+mod fitting;
 mod fragments;
 mod laws;
+mod levels;
 mod pieces;
+mod procedure_names;
 mod refusals;
 mod steps;
+mod values;
 
 pub use coded::{Coded, Placed};
 pub use fragments::{Connective, Form, Fragment, Fragments, Node};
