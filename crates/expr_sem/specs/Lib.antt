@@ -19,3 +19,4 @@ pub mod Codings
 pub mod Pieces
 pub mod Refusals
 pub mod SetCodings
+pub mod Targets

@@ -30,13 +30,17 @@ macro_rules! analysed {
 }
 
 mod coded;
+mod fitting;
 mod fragments;
 mod laws;
+mod levels;
 mod operators;
 mod pieces;
+mod procedure_names;
 mod refusals;
 mod set_elements;
 mod steps;
+mod values;
 
 pub use coded::{Coded, Placed};
 pub use fragments::{Connective, Form, Fragment, Fragments, Node};
