@@ -16,5 +16,6 @@ pub mod Expressions
 pub mod Heights
 pub mod Fragments
 pub mod Codings
+pub mod Kinds
 pub mod Pieces
 pub mod Refusals

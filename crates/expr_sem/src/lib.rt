@@ -34,6 +34,8 @@ mod fragments;
 mod laws;
 mod pieces;
 mod refusals;
+mod standard_functions;
+mod standard_procedures;
 mod steps;
 
 pub use coded::{Coded, Placed};
