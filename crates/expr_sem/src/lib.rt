@@ -30,11 +30,14 @@ macro_rules! analysed {
 }
 
 mod coded;
+mod elements;
 mod fragments;
 mod laws;
 mod pieces;
+mod record_fields;
 mod refusals;
 mod steps;
+mod variables;
 
 pub use coded::{Coded, Placed};
 pub use fragments::{Connective, Form, Fragment, Fragments, Node};
