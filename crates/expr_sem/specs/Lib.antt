@@ -18,3 +18,4 @@ pub mod Fragments
 pub mod Codings
 pub mod Pieces
 pub mod Refusals
+pub mod Targets

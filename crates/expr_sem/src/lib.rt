@@ -31,12 +31,16 @@ macro_rules! analysed {
 
 mod coded;
 mod elements;
+mod fitting;
 mod fragments;
 mod laws;
+mod levels;
 mod pieces;
+mod procedure_names;
 mod record_fields;
 mod refusals;
 mod steps;
+mod values;
 mod variables;
 
 pub use coded::{Coded, Placed};
