@@ -19,3 +19,4 @@ pub mod Codings
 pub mod Kinds
 pub mod Pieces
 pub mod Refusals
+pub mod Targets

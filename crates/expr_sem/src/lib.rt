@@ -30,13 +30,20 @@ macro_rules! analysed {
 }
 
 mod coded;
+mod elements;
+mod fitting;
 mod fragments;
 mod laws;
+mod levels;
 mod pieces;
+mod procedure_names;
+mod record_fields;
 mod refusals;
 mod standard_functions;
 mod standard_procedures;
 mod steps;
+mod values;
+mod variables;
 
 pub use coded::{Coded, Placed};
 pub use fragments::{Connective, Form, Fragment, Fragments, Node};
