@@ -20,3 +20,4 @@ pub mod Kinds
 pub mod Pieces
 pub mod Refusals
 pub mod Targets
+pub mod SetCodings
