@@ -69,10 +69,11 @@ pub use functions::{
 };
 pub use names::{name_operand, operand_of};
 pub use noting::{note, note_type};
-pub use operands::{Argument, constant_value};
+pub use operands::{Argument, char_or_same, constant_value, is_bad};
 pub use operators::{apply_one, operate};
 pub use pairs::{compatible_pair, is_ordinal, is_within};
 pub use set_bits::with_elements;
 pub use sets::{element_of, no_elements, set_base, set_type_of};
+pub use steps::{applied_one, operated, taken};
 pub use structures::is_broken;
 pub use values::{in_constant, selected, spoilt_by, value_wanted};

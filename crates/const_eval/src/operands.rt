@@ -19,7 +19,7 @@ pub struct Argument {
 }
 
 /// Whether an operand takes part in no further check.
-pub(crate) fn is_bad(operand: Operand) -> bool
+pub fn is_bad(operand: Operand) -> bool
     ensures { result ≡ spec_bad operand }
 {
     matches!(operand, Operand::InError | Operand::NotConstant)
@@ -78,7 +78,7 @@ fn first_byte(bytes: &[u8]) -> i64
 }
 
 /// A string of one character as a CHAR, anything else as it is.
-pub(crate) fn char_or_same(names: &Names, operand: Operand) -> Operand
+pub fn char_or_same(names: &Names, operand: Operand) -> Operand
     requires { IsNamed names.now operand }
     ensures told { (source : Source) → source.spellings ≡ names.now → result ≡ spec_char_or_same source operand }
     ensures there { (f : Frame) → IsThere f character → IsOperand f operand → IsOperand f result }
