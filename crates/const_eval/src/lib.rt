@@ -60,7 +60,7 @@ mod structures;
 mod values;
 
 pub use arguments::{Arguments, Shape};
-pub use calls::call_of;
+pub use calls::{TypeFunction, ValueFunction, call_of, of_type_noted, of_value_noted, val_of_operand};
 pub use constants::constant;
 pub use extremes::{Extreme, extreme_of, size_value};
 pub use faults::{Fault, FaultKind};
@@ -69,7 +69,7 @@ pub use functions::{
 };
 pub use names::{name_operand, operand_of};
 pub use noting::{note, note_type};
-pub use operands::{Argument, char_or_same, constant_value};
+pub use operands::{Argument, char_or_same, constant_value, is_bad};
 pub use operators::{apply_one, operate};
 pub use pairs::{compatible_pair, is_ordinal, is_within};
 pub use set_bits::with_elements;

@@ -19,7 +19,7 @@ pub struct Argument {
 }
 
 /// Whether an operand takes part in no further check.
-pub(crate) fn is_bad(operand: Operand) -> bool
+pub fn is_bad(operand: Operand) -> bool
     ensures { result ≡ spec_bad operand }
 {
     matches!(operand, Operand::InError | Operand::NotConstant)

@@ -16,7 +16,8 @@ pub mod Expressions
 pub mod Heights
 pub mod Fragments
 pub mod Codings
+pub mod Kinds
 pub mod Pieces
 pub mod Refusals
-pub mod SetCodings
 pub mod Targets
+pub mod SetCodings

@@ -30,6 +30,7 @@ macro_rules! analysed {
 }
 
 mod coded;
+mod elements;
 mod fitting;
 mod fragments;
 mod laws;
@@ -37,10 +38,14 @@ mod levels;
 mod operators;
 mod pieces;
 mod procedure_names;
+mod record_fields;
 mod refusals;
 mod set_elements;
+mod standard_functions;
+mod standard_procedures;
 mod steps;
 mod values;
+mod variables;
 
 pub use coded::{Coded, Placed};
 pub use fragments::{Connective, Form, Fragment, Fragments, Node};
