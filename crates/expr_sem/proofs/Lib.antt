@@ -6,7 +6,10 @@ pub mod Functions
 pub mod Designators
 pub mod Passing
 pub mod Proper
+pub mod Quiet
 pub mod Law
+pub mod Onwards
 pub mod Operating
 pub mod Sequencing
 pub mod Pushing
+pub mod Without

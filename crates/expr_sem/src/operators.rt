@@ -243,6 +243,7 @@ pub fn one_coded<S: Scopes>(
 }
 
 /// The code of a value, where a string of one character is a CHAR.
+#[tactic(auto, using(const_eval::proofs::TypesThere::there))]
 fn char_value<S: Scopes>(
     scopes: &mut S,
     site: &Site,
@@ -303,10 +304,36 @@ fn operation_code<S: Scopes>(
     ensures { (notes : NotesOf) → Coding (S.state scopes.old) (S.state scopes.new) notes notes fragments.old.nodes.items fragments.new.nodes.items site.now result IsFragment part (λ c. gives (spec_operation c.scene op of right (part fragments.old.nodes.items x) (part fragments.old.nodes.items y))) }
 {
     match op {
-        Operator::And => Ok(Ask::Known(decided(fragments, Connective::And, x, y)?)),
-        Operator::Or => Ok(Ask::Known(decided(fragments, Connective::Or, x, y)?)),
+        Operator::And => {
+            let code = decided(fragments, Connective::And, x, y)?;
+            Ok(Ask::Known(code))
+        }
+        Operator::Or => {
+            let code = decided(fragments, Connective::Or, x, y)?;
+            Ok(Ask::Known(code))
+        }
         _ => instructed(scopes, site, op, of, right, x, y, fragments),
     }
+}
+
+/// The code of an operator between a value that is made and an operand, by its result's type.
+fn right_code<S: Scopes>(
+    scopes: &mut S,
+    site: &Site,
+    op: Operator,
+    of: Place,
+    left: Fragment,
+    y: Coded,
+    fragments: &mut Fragments,
+) -> Result<Ask<Fragment>, Memory>
+    requires suits { SuitsSite (S.state scopes.old).frame site.now }
+    requires of { IsThere (S.state scopes.old).frame of }
+    requires left { IsIn fragments.old.nodes.items left }
+    requires y { IsCoded (S.state scopes.old).frame fragments.old.nodes.items y }
+    ensures { (notes : NotesOf) → Coding (S.state scopes.old) (S.state scopes.new) notes notes fragments.old.nodes.items fragments.new.nodes.items site.now result IsFragment part (λ c. gives (spec_operation c.scene op of (spec_type y.operand) (part fragments.old.nodes.items left) (spec_value c (spec_char c (coded_in fragments.old.nodes.items y))))) }
+{
+    let right = analysed!(char_value(scopes, site, y, fragments));
+    operation_code(scopes, site, op, of, operand_type(&y.operand), left, right, fragments)
 }
 
 /// The code of an operator between two operands, by its result's type.
@@ -326,8 +353,7 @@ fn two_code<S: Scopes>(
     ensures { (notes : NotesOf) → Coding (S.state scopes.old) (S.state scopes.new) notes notes fragments.old.nodes.items fragments.new.nodes.items site.now result IsFragment part (λ c. gives (spec_operation c.scene op of (spec_type y.operand) (spec_value c (spec_char c (coded_in fragments.old.nodes.items x))) (spec_value c (spec_char c (coded_in fragments.old.nodes.items y))))) }
 {
     let left = analysed!(char_value(scopes, site, x, fragments));
-    let right = analysed!(char_value(scopes, site, y, fragments));
-    operation_code(scopes, site, op, of, operand_type(&y.operand), left, right, fragments)
+    right_code(scopes, site, op, of, left, y, fragments)
 }
 
 /// What an operator between two operands makes, by its result.
@@ -355,17 +381,6 @@ fn two_made<S: Scopes>(
     }
 }
 
-/// The operand alone, with its first token.
-fn argument(x: Placed) -> Argument
-    ensures at { result.at ≡ x.at }
-    ensures operand { result.operand ≡ x.coded.operand }
-{
-    Argument {
-        at: x.at,
-        operand: x.coded.operand,
-    }
-}
-
 /// An operator between two operands, with their first tokens.
 pub fn two_coded<S: Scopes>(
     scopes: &mut S,
@@ -382,6 +397,14 @@ pub fn two_coded<S: Scopes>(
     requires y { IsCoded (S.state scopes.old).frame fragments.old.nodes.items y.coded }
     ensures { Coding (S.state scopes.old) (S.state scopes.new) notes.old notes.new fragments.old.nodes.items fragments.new.nodes.items site.now result IsCoded coded_in (λ c. spec_two c op op_at x.at (coded_in fragments.old.nodes.items x.coded) y.at (coded_in fragments.old.nodes.items y.coded)) }
 {
-    let given = analysed!(operated(scopes, site, op, op_at, argument(x), argument(y), notes));
+    let left = Argument {
+        at: x.at,
+        operand: x.coded.operand,
+    };
+    let right = Argument {
+        at: y.at,
+        operand: y.coded.operand,
+    };
+    let given = analysed!(operated(scopes, site, op, op_at, left, right, notes));
     two_made(scopes, site, op, given, x.coded, y.coded, fragments)
 }

@@ -1,0 +1,35 @@
+use Rattle.std.proofs.Common.{◌≡◌, ◌∙◌, ap, subst, sym, refl}
+use Rattle.m2_base.specs.declared.operands.Operand.{Operand}
+use Rattle.m2_base.specs.declared.operands.Operand.TheVariants.{Computed}
+use Rattle.const_eval.specs.Sites.{IsOperand}
+use Rattle.expr_sem.specs.Codings.{IsCoded, coded_in}
+use Rattle.expr_sem.specs.Coded.{coded}
+use Rattle.expr_sem.specs.Fragments.{part}
+use Rattle.expr_sem.specs.Parts.{Part}
+use Rattle.expr_sem.specs.SetElements.{set_by}
+use Rattle.expr_sem.proofs.Operating.{made_wanted, value_alone, value_grown}
+use Rattle.expr_sem.proofs.Without.{computed_set}
+use Rattle.expr_sem.proofs.set_elements.set_coded.Goals as goal
+
+pub returns-in-Constant : goal.returns-in-Constant
+returns-in-Constant c state notes site h k =
+    let ns = c.args.fragments.now.nodes.items in
+    let value : IsOperand state.frame _ = subst (λ (o : Operand). IsOperand state.frame o) c.in-Constant.is k.set in
+    value_alone state notes ns site c.bare.result IsCoded coded_in (λ u. set_by c.args.of (part ns c.args.es.code) c.args.es.set)
+    (c.bare.ensures.there _ ns (h, value.1)) (λ u. c.bare.ensures.told ns ∙ ap (λ o. set_by c.args.of (part ns c.args.es.code) o) (sym c.in-Constant.is))
+
+pub returns-in-InError : goal.returns-in-InError
+returns-in-InError c state notes site h k =
+    let ns = c.args.fragments.now.nodes.items in
+    value_alone state notes ns site c.in_error.result IsCoded coded_in (λ u. set_by c.args.of (part ns c.args.es.code) c.args.es.set)
+    (c.in_error.ensures.there _ ns) (λ u. c.in_error.ensures.told ns ∙ ap (λ o. set_by c.args.of (part ns c.args.es.code) o) (sym c.in-InError.is))
+
+pub returns-in_err-code : goal.returns-in_err-code
+returns-in_err-code c state notes site h k = made_wanted state notes site c.in_err-code.ensures _
+
+pub returns-in_ok-code : goal.returns-in_ok-code
+returns-in_ok-code c state notes site h k =
+    let ns = c.args.fragments.now.nodes.items in
+    let made = c.in_ok-code.ensures in
+    value_grown state notes site c.new.result IsCoded coded_in (λ u. set_by c.args.of (part ns c.args.es.code) c.args.es.set) made.grows (c.new.ensures.there _ _ h made.made.there)
+    (λ u. c.new.ensures.told _ ∙ ap (λ (p : Part). coded (Computed c.args.of) p) made.made.part_is ∙ computed_set c.args.of (part ns c.args.es.code) c.args.es.set c.in_default.not-Constant c.in_default.not-InError)
