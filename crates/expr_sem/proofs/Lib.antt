@@ -13,3 +13,4 @@ pub mod Operating
 pub mod Sequencing
 pub mod Pushing
 pub mod Without
+pub mod Refusing
