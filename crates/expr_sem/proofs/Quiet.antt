@@ -1,7 +1,7 @@
 -- Notes that have nothing: what holds whatever the notes, holds of these.
 use Rattle.std.proofs.Common.{[], refl, arith}
 use denote.RawPtr.{null_ptr}
-use Rattle.std_alloc.specs.declared.vec.Vec.{Vec}
+use Rattle.std.specs.declared.vec.Vec.{Vec}
 use Rattle.m2_base.specs.declared.notes.Notes.{Notes}
 use Rattle.expr_sem.specs.declared.fragments.Fragments.{Fragments}
 

@@ -71,19 +71,19 @@ pub joined_same : {p q r s : Part} → p ≡ r → q ≡ s → (p ⨟ q) ≡ (r 
 joined_same {p} {q} {r} {s} e f = ap (λ (t : Part). t ⨟ q) e ∙ ap (λ (t : Part). r ⨟ t) f
 
 -- a fragment, and another behind it that was just made
-pub behind : {a b c : List Node} {first last : Fragment} {q : Part} (r : Result Fragment Memory) → IsIn a first → IsMade a b (Ok last) q → IsMade b c r (part b first ⨟ part b last) → IsMade a c r (part a first ⨟ q)
-behind {a} {b} {c} {first} {last} r h m t = made_after r m.grows t (joined_same (part_later m.grows first h) m.made.part_is)
+pub behind : {a b c : List Node} {last : Fragment} {q : Part} (r : Result Fragment Memory) (first : Fragment) → IsIn a first → IsMade a b (Ok last) q → IsMade b c r (part b first ⨟ part b last) → IsMade a c r (part a first ⨟ q)
+behind r first h m t = made_after r m.grows t (joined_same (part_later m.grows first h) m.made.part_is)
 
 -- two fragments, and another behind them that was just made
-pub behind_both : {a b c : List Node} {x y last : Fragment} {q : Part} (r : Result Fragment Memory) → IsIn a x → IsIn a y → IsMade a b (Ok last) q
+pub behind_both : {a b c : List Node} {last : Fragment} {q : Part} (r : Result Fragment Memory) (x y : Fragment) → IsIn a x → IsIn a y → IsMade a b (Ok last) q
     → IsMade b c r (part b x ⨟ part b y ⨟ part b last) → IsMade a c r (part a x ⨟ part a y ⨟ q)
-behind_both {a} {b} {c} {x} {y} r h k m t =
+behind_both r x y h k m t =
     made_after r m.grows t (joined_same (part_later m.grows x h) (joined_same (part_later m.grows y k) m.made.part_is))
 
--- one after another, both just made
-pub both_made : {a b c d : List Node} {first last : Fragment} {p q : Part} (r : Result Fragment Memory) → IsMade a b (Ok first) p → IsMade b c (Ok last) q → IsMade c d r (part c first ⨟ part c last) → IsMade a d r (p ⨟ q)
-both_made {q = q} r m n t = made_after r m.grows (behind r m.made.there n t) (joined_same m.made.part_is refl)
+-- one that was just made, and what is known of the rest
+pub then_rest : {a b c : List Node} {first : Fragment} {p q : Part} (r : Result Fragment Memory) → IsMade a b (Ok first) p → IsMade b c r (part b first ⨟ q) → IsMade a c r (p ⨟ q)
+then_rest {q = q} r m t = made_after r m.grows t (ap (λ (u : Part). u ⨟ q) m.made.part_is)
 
 -- a fragment behind one that was just made
-pub made_before : {a b c : List Node} {first last : Fragment} {p : Part} (r : Result Fragment Memory) → IsIn a last → IsMade a b (Ok first) p → IsMade b c r (part b first ⨟ part b last) → IsMade a c r (p ⨟ part a last)
-made_before {a} {b} {c} {first} {last} r h m t = made_after r m.grows t (joined_same m.made.part_is (part_later m.grows last h))
+pub made_before : {a b c : List Node} {first : Fragment} {p : Part} (r : Result Fragment Memory) (last : Fragment) → IsIn a last → IsMade a b (Ok first) p → IsMade b c r (part b first ⨟ part b last) → IsMade a c r (p ⨟ part a last)
+made_before r last h m t = made_after r m.grows t (joined_same m.made.part_is (part_later m.grows last h))

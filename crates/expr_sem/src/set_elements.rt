@@ -84,13 +84,25 @@ pub fn element_coded<S: Scopes>(
     Ok(Ask::Known(element_as(x, operand)))
 }
 
+/// A code, and then an instruction.
+fn followed(
+    fragments: &mut Fragments,
+    first: Fragment,
+    instr: Instr,
+) -> Result<Fragment, Memory>
+    requires { IsIn fragments.old.nodes.items first }
+    ensures { IsMade fragments.old.nodes.items fragments.new.nodes.items result (part fragments.old.nodes.items first ⨟ plain (instr ∷ [])) }
+{
+    let last = fragments.one(instr)?;
+    fragments.then(first, last)
+}
+
 /// Two instructions.
 fn pair(fragments: &mut Fragments, first: Instr, second: Instr) -> Result<Fragment, Memory>
     ensures { IsMade fragments.old.nodes.items fragments.new.nodes.items result (plain (first ∷ second ∷ [])) }
 {
     let first = fragments.one(first)?;
-    let second = fragments.one(second)?;
-    fragments.then(first, second)
+    followed(fragments, first, second)
 }
 
 /// Two codes, and then an instruction that makes a set of what they leave, which is added.

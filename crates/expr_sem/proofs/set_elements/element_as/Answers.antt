@@ -9,3 +9,6 @@ returns-in_default c =
       told = λ nodes. c.taken.ensures.told nodes ∙ taken_as (coded_in nodes c.args.x) c.args.operand c.in_default.not-InError;
       there = λ f nodes h k. c.taken.ensures.there f nodes h k;
     }
+
+pub returns-in-InError-clause-there : goal.returns-in-InError-clause-there
+returns-in-InError-clause-there c f nodes h k = c.in_error.ensures.there f nodes

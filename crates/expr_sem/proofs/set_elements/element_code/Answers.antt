@@ -21,7 +21,7 @@ pub joined-requires-clause-y : goal.joined-requires-clause-y
 joined-requires-clause-y g c = (rw c.in-Known.is at c.in-Ok.ensures (no_notes c.args.fragments.now)).there
 
 pub returns-in_err-code : goal.returns-in_err-code
-returns-in_err-code g c notes = with_wanted (rw c.in-Known.is at c.in-Ok.ensures notes) c.in_err-code.ensures _
+returns-in_err-code g c notes = with_wanted c.from_residual.result c.from_residual.ensures.0 (rw c.in-Known.is at c.in-Ok.ensures notes) c.in_err-code.ensures
 
 pub returns : goal.returns
 returns g c notes =

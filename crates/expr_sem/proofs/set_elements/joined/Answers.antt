@@ -11,4 +11,4 @@ pub after_both-requires-clause-last : goal.after_both-requires-clause-last
 after_both-requires-clause-last c = c.in_ok-last.ensures.made.there
 
 pub returns : goal.returns
-returns c = behind_both c.after_both.result c.requires.x c.requires.y c.in_ok-last.ensures c.after_both.ensures
+returns c = behind_both c.after_both.result c.args.x c.args.y c.requires.x c.requires.y c.in_ok-last.ensures c.after_both.ensures

@@ -1,5 +1,8 @@
-use Rattle.expr_sem.proofs.Sequencing.{both_made}
+use Rattle.expr_sem.proofs.Sequencing.{then_rest}
 use Rattle.expr_sem.proofs.set_elements.pair.Goals as goal
 
+pub followed-requires : goal.followed-requires
+followed-requires c = c.in_ok-first.ensures.made.made.there
+
 pub returns : goal.returns
-returns c = both_made c.then.result c.in_ok-first.ensures.made c.in_ok-second.ensures.made c.then.ensures.made
+returns c = then_rest c.followed.result c.in_ok-first.ensures.made c.followed.ensures

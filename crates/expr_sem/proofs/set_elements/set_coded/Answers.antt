@@ -7,7 +7,8 @@ use Rattle.expr_sem.specs.Coded.{coded}
 use Rattle.expr_sem.specs.Fragments.{part}
 use Rattle.expr_sem.specs.Parts.{Part}
 use Rattle.expr_sem.specs.SetElements.{set_by}
-use Rattle.expr_sem.proofs.Operating.{made_wanted, value_alone, value_grown}
+use Rattle.expr_sem.proofs.Operating.{value_alone, value_grown}
+use Rattle.expr_sem.proofs.Onwards.{just_wanted}
 use Rattle.expr_sem.proofs.Without.{computed_set}
 use Rattle.expr_sem.proofs.set_elements.set_coded.Goals as goal
 
@@ -24,11 +25,11 @@ returns-in-InError c state notes site h k =
     value_alone state notes ns site c.in_error.result IsCoded coded_in (λ u. set_by c.args.of (part ns c.args.es.code) c.args.es.set)
     (c.in_error.ensures.there _ ns) (λ u. c.in_error.ensures.told ns ∙ ap (λ o. set_by c.args.of (part ns c.args.es.code) o) (sym c.in-InError.is))
 
-pub returns-in_err-code : goal.returns-in_err-code
-returns-in_err-code c state notes site h k = made_wanted state notes site c.in_err-code.ensures _
+pub returns-in_err-code-in_default : goal.returns-in_err-code-in_default
+returns-in_err-code-in_default c state notes site h k = just_wanted state notes site c.from_residual.result c.from_residual.ensures.0 c.in_err-code.ensures
 
-pub returns-in_ok-code : goal.returns-in_ok-code
-returns-in_ok-code c state notes site h k =
+pub returns-in_ok-code-in_default : goal.returns-in_ok-code-in_default
+returns-in_ok-code-in_default c state notes site h k =
     let ns = c.args.fragments.now.nodes.items in
     let made = c.in_ok-code.ensures in
     value_grown state notes site c.new.result IsCoded coded_in (λ u. set_by c.args.of (part ns c.args.es.code) c.args.es.set) made.grows (c.new.ensures.there _ _ h made.made.there)
