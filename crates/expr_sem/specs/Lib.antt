@@ -19,3 +19,5 @@ pub mod Codings
 pub mod Pieces
 pub mod Refusals
 pub mod Targets
+pub mod Takings
+pub mod RangeChecks

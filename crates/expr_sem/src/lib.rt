@@ -38,6 +38,7 @@ mod pieces;
 mod procedure_names;
 mod refusals;
 mod steps;
+mod takings;
 mod values;
 
 pub use coded::{Coded, Placed};
