@@ -170,7 +170,7 @@ pub(crate) fn value_noted(
 }
 
 /// What a function gives of a value; what is refused is noted.
-fn of_value_noted<S: Scopes>(
+pub fn of_value_noted<S: Scopes>(
     scopes: &mut S,
     site: &Site,
     function: ValueFunction,
@@ -187,7 +187,7 @@ fn of_value_noted<S: Scopes>(
 }
 
 /// What a function gives of a type; what is refused is noted.
-fn of_type_noted<S: Scopes>(
+pub fn of_type_noted<S: Scopes>(
     scopes: &mut S,
     site: &Site,
     function: TypeFunction,
@@ -253,7 +253,7 @@ fn val_noted<S: Scopes>(
 }
 
 /// VAL, of a type and an operand that stands for a value.
-fn val_of_operand<S: Scopes>(
+pub fn val_of_operand<S: Scopes>(
     scopes: &mut S,
     site: &Site,
     of: Argument,

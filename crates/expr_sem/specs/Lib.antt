@@ -16,8 +16,10 @@ pub mod Expressions
 pub mod Heights
 pub mod Fragments
 pub mod Codings
+pub mod Kinds
 pub mod Pieces
 pub mod Refusals
 pub mod Targets
 pub mod Takings
 pub mod RangeChecks
+pub mod SetCodings

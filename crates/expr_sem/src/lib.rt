@@ -30,20 +30,31 @@ macro_rules! analysed {
 }
 
 mod coded;
+mod elements;
 mod fitting;
 mod fragments;
 mod laws;
 mod levels;
+mod operators;
 mod pieces;
 mod procedure_names;
+mod record_fields;
 mod refusals;
+mod set_elements;
+mod standard_functions;
+mod standard_procedures;
 mod steps;
 mod takings;
 mod values;
+mod variables;
 
 pub use coded::{Coded, Placed};
 pub use fragments::{Connective, Form, Fragment, Fragments, Node};
 pub use laws::{errors_have_no_code, heights_are_right, operands_are_known};
+pub use operators::{one_coded, two_coded};
 pub use pieces::{Piece, With, append};
 pub use refusals::Refusal;
+pub use set_elements::{
+    Elements, add_element, add_range, element_coded, set_coded, set_start,
+};
 pub use steps::Step;
