@@ -9,3 +9,5 @@ pub mod Proper
 pub mod Law
 pub mod Operating
 pub mod Sequencing
+pub mod Making
+pub mod OwnSearch

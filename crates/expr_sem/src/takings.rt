@@ -14,7 +14,7 @@ ghost use Rattle.type_rules.specs.Asks.{Reads, WhereKnown, WhereWaiting};
 ghost use Rattle.type_rules.specs.Scenes.{IsThere, Suits, WhereTold, scene_of};
 ghost use Rattle.type_rules.specs.Sites.{SuitsSite, context_of};
 
-use const_eval::{char_or_same, is_bad, is_broken};
+use const_eval::{char_of_string, is_broken};
 use m2_base::{Around, Ask, Operand, Place, RowMeaning, Scopes, Site};
 use type_rules::{CHARACTER, assignable, base_of, is_one_char, is_string, stand};
 
@@ -103,7 +103,7 @@ fn is_passed_over<S: Scopes>(
     ensures told { WhereTold (S.state scopes.old).frame (λ made.
         WhereKnown result (λ holds. holds ≡ spec_passed_over (scene_of (S.state scopes.old).frame made around.now) to operand)) }
 {
-    if is_bad(operand) {
+    if matches!(operand, Operand::InError | Operand::NotConstant) {
         return Ask::Known(true);
     }
     is_type_passed_over(scopes, around, to, operand)
@@ -116,8 +116,7 @@ fn taken_by_base(site: &Site, base: Place, operand: Operand) -> Operand
     ensures there { (f : Frame) → IsThere f character → IsOperand f operand → IsOperand f result }
 {
     if base == CHARACTER {
-        let texts = site.texts;
-        char_or_same(&texts.names, operand)
+        char_of_string(site, operand)
     } else {
         operand
     }
@@ -173,7 +172,7 @@ fn taken_or_refused<S: Scopes>(
 
 /// What becomes of a value for a variable of a type.
 #[tactic(auto, using(type_rules::proofs::Reading::reading, const_eval::proofs::TypesThere::there))]
-pub fn taking<S: Scopes>(
+pub fn taking_of<S: Scopes>(
     scopes: &mut S,
     site: &Site,
     to: Place,

@@ -24,7 +24,7 @@ use crate::fragments::{Fragment, Fragments};
 use crate::levels::level_of;
 use crate::procedure_names::procedure_code;
 use crate::refusals::{Refusal, refused};
-use crate::takings::{Taking, taking};
+use crate::takings::{Taking, taking_of};
 use code_form::Instr;
 use const_eval::is_within;
 use m2_base::{Around, Ask, Memory, Notes, Operand, Place, RowMeaning, Scopes, Site};
@@ -203,7 +203,7 @@ pub fn assigned_to<S: Scopes>(
     requires x { IsOperand (S.state scopes.old).frame x.operand }
     ensures { (nodes : List Node) → IsCoded (S.state scopes.old).frame nodes x → Coding (S.state scopes.old) (S.state scopes.new) notes.old notes.new nodes nodes site.now result IsCoded coded_in (λ c. spec_assigned_to c to at (code_of refusal) (coded_in nodes x)) }
 {
-    match taking(scopes, site, to, x.operand) {
+    match taking_of(scopes, site, to, x.operand) {
         Ask::Known(Taking::PassedOver) => Ok(Ask::Known(Coded::in_error())),
         Ask::Known(Taking::Refused) => refused(site, at, refusal, notes),
         Ask::Known(Taking::Taken(operand)) => {
