@@ -11,3 +11,5 @@ pub mod Operating
 pub mod Sequencing
 pub mod Making
 pub mod OwnSearch
+pub mod Quiet
+pub mod ValueCases

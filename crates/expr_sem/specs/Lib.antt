@@ -23,3 +23,4 @@ pub mod Targets
 pub mod Takings
 pub mod RangeChecks
 pub mod SetCodings
+pub mod MadeAnswers

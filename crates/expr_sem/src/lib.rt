@@ -29,6 +29,7 @@ macro_rules! analysed {
     };
 }
 
+mod answers;
 mod coded;
 mod elements;
 mod fitting;
