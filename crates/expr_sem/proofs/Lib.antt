@@ -14,3 +14,6 @@ pub mod Sequencing
 pub mod Pushing
 pub mod Without
 pub mod Refusing
+pub mod Making
+pub mod OwnSearch
+pub mod ValueCases

@@ -1,5 +1,6 @@
 -- What comes after code whose value is known: a value or a fragment made of it, or further code.
 use Rattle.std.proofs.Common.{◌≡◌, ◌∙◌, List, Option, Result, Ok, Err, true, false, ap, sym, subst, refl}
+use Rattle.std.specs.Prelude.{IsErr}
 use Rattle.m2_base.specs.Gives.{Gives, gives}
 use Rattle.m2_base.specs.States.{Frame, State}
 use Rattle.m2_base.specs.Statics.Contexts.{Context}

@@ -29,6 +29,7 @@ macro_rules! analysed {
     };
 }
 
+mod answers;
 mod coded;
 mod elements;
 mod fitting;
@@ -44,6 +45,7 @@ mod set_elements;
 mod standard_functions;
 mod standard_procedures;
 mod steps;
+mod takings;
 mod values;
 mod variables;
 
