@@ -81,8 +81,8 @@ behind_both r x y h k m t =
     made_after r m.grows t (joined_same (part_later m.grows x h) (joined_same (part_later m.grows y k) m.made.part_is))
 
 -- one that was just made, and what is known of the rest
-pub then_rest : {a b c : List Node} {first : Fragment} {p q : Part} (r : Result Fragment Memory) → IsMade a b (Ok first) p → IsMade b c r (part b first ⨟ q) → IsMade a c r (p ⨟ q)
-then_rest {q = q} r m t = made_after r m.grows t (ap (λ (u : Part). u ⨟ q) m.made.part_is)
+pub then_rest : {a b c : List Node} {first : Fragment} {p : Part} (r : Result Fragment Memory) (q : Part) → IsMade a b (Ok first) p → IsMade b c r (part b first ⨟ q) → IsMade a c r (p ⨟ q)
+then_rest r q m t = made_after r m.grows t (ap (λ (u : Part). u ⨟ q) m.made.part_is)
 
 -- a fragment behind one that was just made
 pub made_before : {a b c : List Node} {first : Fragment} {p : Part} (r : Result Fragment Memory) (last : Fragment) → IsIn a last → IsMade a b (Ok first) p → IsMade b c r (part b first ⨟ part b last) → IsMade a c r (p ⨟ part a last)

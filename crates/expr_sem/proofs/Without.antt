@@ -1,5 +1,8 @@
 -- Cases of operators and sets by exclusion.
-use Rattle.std.proofs.Common.{◌≡◌, ◌∷◌, [], ℤ, pos, refl}
+use Rattle.std.proofs.Common.{◌≡◌, ◌∷◌, [], ℤ, pos, w64, arith, refl}
+use Rattle.std.specs.Prelude.{FitsSigned}
+use Rattle.std.proofs.lemmas.Int.{ints}
+use Rattle.m2_base.specs.Rows.{IsValue}
 use Rattle.m2_base.specs.Statics.Contexts.{Scene}
 use Rattle.m2_base.specs.declared.operands.Operand.{Operand}
 use Rattle.m2_base.specs.declared.operands.Operand.TheVariants.{Computed, Constant, InError}
@@ -37,3 +40,7 @@ pub computed_set : (t : Place) (code : Part) (o : Operand) → ((u : Place) (v :
 computed_set t code (Constant u v) constant error = absurd (constant u v refl)
 computed_set t code InError constant error = absurd (error refl)
 computed_set t code o constant error = refl
+
+-- a value of a row has room in 64 bits
+pub value_fits : (v : ℤ) → IsValue v → FitsSigned w64 v
+value_fits v h = omega (arith, ints, h.0, h.1)

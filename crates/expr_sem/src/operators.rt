@@ -2,10 +2,12 @@
 ghost use Rattle.std.specs.Prelude.{◌≡◌, ◌∷◌, [], List};
 ghost use Rattle.m2_base.specs.Gives.{gives};
 ghost use Rattle.m2_base.specs.States.{Frame, Waits};
-ghost use Rattle.m2_base.specs.Statics.Operands.{operand_type as spec_type};
+ghost use Rattle.m2_base.specs.Standard.{character};
+ghost use Rattle.m2_base.specs.Statics.Contexts.{Source};
+ghost use Rattle.m2_base.specs.Statics.Operands.{char_or_same as spec_same, operand_type as spec_type};
 ghost use Rattle.m2_base.specs.Statics.Operations.{is_set_kind};
 ghost use Rattle.m2_base.specs.declared.notes.Notes.{Notes as NotesOf};
-ghost use Rattle.const_eval.specs.Sites.{IsOperand};
+ghost use Rattle.const_eval.specs.Sites.{IsNamed, IsOperand};
 ghost use Rattle.expr_sem.specs.Coded.{value_code as spec_value, with_char as spec_char};
 ghost use Rattle.expr_sem.specs.Codings.{Coding, IsCoded, IsFragment, coded_in};
 ghost use Rattle.expr_sem.specs.Fragments.{IsIn, IsMade, jump_of, part};
@@ -131,7 +133,7 @@ fn sign(fragments: &mut Fragments, op: Operator) -> Result<Fragment, Memory>
 
 /// A value, and then the operator that stands before it.
 fn signed(fragments: &mut Fragments, op: Operator, value: Fragment) -> Result<Fragment, Memory>
-    requires value { IsIn fragments.old.nodes.items value }
+    requires { IsIn fragments.old.nodes.items value }
     ensures { IsMade fragments.old.nodes.items fragments.new.nodes.items result (part fragments.old.nodes.items value ⨟ plain (one_instr op)) }
 {
     let last = sign(fragments, op)?;
@@ -242,6 +244,16 @@ pub fn one_coded<S: Scopes>(
     one_made(scopes, site, op, given, x, fragments)
 }
 
+/// A string of one character as a CHAR, anything else as it is.
+fn char_operand(site: &Site, operand: Operand) -> Operand
+    requires { IsNamed site.now.texts.now.names operand }
+    ensures told { (source : Source) → source.spellings ≡ site.now.texts.now.names → result ≡ spec_same source operand }
+    ensures there { (f : Frame) → IsThere f character → IsOperand f operand → IsOperand f result }
+{
+    let texts = site.texts;
+    char_or_same(&texts.names, operand)
+}
+
 /// The code of a value, where a string of one character is a CHAR.
 #[tactic(auto, using(const_eval::proofs::TypesThere::there))]
 fn char_value<S: Scopes>(
@@ -254,8 +266,7 @@ fn char_value<S: Scopes>(
     requires x { IsCoded (S.state scopes.old).frame fragments.old.nodes.items x }
     ensures { (notes : NotesOf) → Coding (S.state scopes.old) (S.state scopes.new) notes notes fragments.old.nodes.items fragments.new.nodes.items site.now result IsFragment part (λ c. gives (spec_value c (spec_char c (coded_in fragments.old.nodes.items x)))) }
 {
-    let texts = site.texts;
-    let operand = char_or_same(&texts.names, x.operand);
+    let operand = char_operand(site, x.operand);
     value_code(scopes, site, x.taken(operand), fragments)
 }
 

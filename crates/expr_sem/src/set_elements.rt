@@ -139,6 +139,7 @@ fn element_code<S: Scopes>(
 }
 
 /// With one more element.
+#[tactic(auto, using(const_eval::proofs::TypesThere::there))]
 pub fn add_element<S: Scopes>(
     scopes: &mut S,
     site: &Site,
@@ -212,6 +213,7 @@ fn range_code<S: Scopes>(
 }
 
 /// With the elements of one more range.
+#[tactic(auto, using(const_eval::proofs::TypesThere::there))]
 pub fn add_range<S: Scopes>(
     scopes: &mut S,
     site: &Site,

@@ -1,11 +1,11 @@
-use Rattle.std.proofs.Common.{◌∷◌, [], refl}
-use Rattle.code_form.specs.declared.instr.Instr.TheVariants.{Bit, Span, Union}
+use Rattle.std.proofs.Common.{◌∷◌, [], ap}
+use Rattle.code_form.specs.declared.instr.Instr.TheVariants.{Bit, Union}
 use Rattle.expr_sem.specs.Fragments.{part}
-use Rattle.expr_sem.specs.Parts.{plain, ◌⨟◌}
+use Rattle.expr_sem.specs.Parts.{Part, plain, ◌⨟◌}
 use Rattle.expr_sem.proofs.Onwards.{in_after, with_fragment, with_wanted}
 use Rattle.expr_sem.proofs.Operating.{unknown, unmade}
 use Rattle.expr_sem.proofs.Quiet.{no_notes}
-use Rattle.expr_sem.proofs.Sequencing.{joined_same, part_later}
+use Rattle.expr_sem.proofs.Sequencing.{part_later}
 use Rattle.expr_sem.proofs.set_elements.element_code.Goals as goal
 
 pub returns-in-DontKnowYet : goal.returns-in-DontKnowYet
@@ -27,4 +27,4 @@ pub returns : goal.returns
 returns g c notes =
     let ns = c.args.fragments.now.nodes.items in
     let one = rw c.in-Known.is at c.in-Ok.ensures notes in
-    with_fragment (λ p. part ns c.args.set ⨟ p ⨟ plain (Bit ∷ Union ∷ [])) one c.in_ok-code.ensures (joined_same (part_later one.grows c.args.set c.requires.set) refl)
+    with_fragment (λ p. part ns c.args.set ⨟ p ⨟ plain (Bit ∷ Union ∷ [])) one c.in_ok-code.ensures (ap (λ (p : Part). p ⨟ part c.value_code.new.fragments.nodes.items c.in-Known.value ⨟ plain (Bit ∷ Union ∷ [])) (part_later one.grows c.args.set c.requires.set))
