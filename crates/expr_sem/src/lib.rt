@@ -55,7 +55,5 @@ pub use laws::{errors_have_no_code, heights_are_right, operands_are_known};
 pub use operators::{made, one_coded, side_of, two_coded};
 pub use pieces::{Piece, With, append};
 pub use refusals::Refusal;
-pub use set_elements::{
-    Elements, add_element, add_range, element_coded, set_coded, set_start,
-};
+pub use set_elements::{Elements, add_element, add_range, element_coded, set_coded, set_start};
 pub use steps::Step;

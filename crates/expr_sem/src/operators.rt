@@ -344,7 +344,16 @@ fn right_code<S: Scopes>(
     ensures { (notes : NotesOf) → Coding (S.state scopes.old) (S.state scopes.new) notes notes fragments.old.nodes.items fragments.new.nodes.items site.now result IsFragment part (λ c. gives (spec_operation c.scene op of (spec_type y.operand) (part fragments.old.nodes.items left) (spec_value c (spec_char c (coded_in fragments.old.nodes.items y))))) }
 {
     let right = analysed!(char_value(scopes, site, y, fragments));
-    operation_code(scopes, site, op, of, operand_type(&y.operand), left, right, fragments)
+    operation_code(
+        scopes,
+        site,
+        op,
+        of,
+        operand_type(&y.operand),
+        left,
+        right,
+        fragments,
+    )
 }
 
 /// The code of an operator between two operands, by its result's type.

@@ -85,11 +85,7 @@ pub fn element_coded<S: Scopes>(
 }
 
 /// A code, and then an instruction.
-fn followed(
-    fragments: &mut Fragments,
-    first: Fragment,
-    instr: Instr,
-) -> Result<Fragment, Memory>
+fn followed(fragments: &mut Fragments, first: Fragment, instr: Instr) -> Result<Fragment, Memory>
     requires { IsIn fragments.old.nodes.items first }
     ensures { IsMade fragments.old.nodes.items fragments.new.nodes.items result (part fragments.old.nodes.items first ⨟ plain (instr ∷ [])) }
 {
@@ -248,9 +244,7 @@ pub fn set_coded(of: Place, es: Elements, fragments: &mut Fragments) -> Result<A
     ensures { (state : State) (notes : NotesOf) (site : SiteOf) → IsThere state.frame of → AreElements state.frame fragments.old.nodes.items es → Coding state state notes notes fragments.old.nodes.items fragments.new.nodes.items site result IsCoded coded_in (λ c. gives (spec_set of (elements_in fragments.old.nodes.items es))) }
 {
     match es.set {
-        Operand::Constant(_, bits) => {
-            Ok(Ask::Known(Coded::bare(Operand::Constant(of, bits))))
-        }
+        Operand::Constant(_, bits) => { Ok(Ask::Known(Coded::bare(Operand::Constant(of, bits)))) }
         Operand::InError => Ok(Ask::Known(Coded::in_error())),
         _ => {
             let code = from_empty(fragments, es.code)?;

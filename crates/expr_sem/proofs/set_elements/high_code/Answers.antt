@@ -31,6 +31,6 @@ returns g c notes =
     let ns = c.args.fragments.now.nodes.items in
     let ms = c.value_code.new.fragments.nodes.items in
     let one = rw c.in-Known.is at c.in-Ok.ensures notes in
-    with_fragment (λ p. part ns c.args.set ⨟ part ns c.args.low ⨟ p ⨟ plain (Span ∷ Union ∷ [])) one c.in_ok-code.ensures 
+    with_fragment (λ p. part ns c.args.set ⨟ part ns c.args.low ⨟ p ⨟ plain (Span ∷ Union ∷ [])) one c.in_ok-code.ensures
     (ap (λ (p : Part). p ⨟ part ms c.args.low ⨟ part ms c.in-Known.value ⨟ plain (Span ∷ Union ∷ [])) (part_later one.grows c.args.set c.requires.set)
     ∙ ap (λ (p : Part). part ns c.args.set ⨟ p ⨟ part ms c.in-Known.value ⨟ plain (Span ∷ Union ∷ [])) (part_later one.grows c.args.low c.requires.low))
