@@ -13,3 +13,5 @@ pub mod Making
 pub mod OwnSearch
 pub mod Quiet
 pub mod ValueCases
+pub mod Pushing
+pub mod Refusing
