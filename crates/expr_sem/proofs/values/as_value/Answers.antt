@@ -23,13 +23,13 @@ pub returns-then-level_of-eq0 : goal.returns-then-level_of-eq0
 returns-then-level_of-eq0 c state nodes h =
     described_there (Ok (Known c.args.x)) (value_alone state c.args.notes.now nodes c.args.site.now c.args.x IsCoded coded_in (λ k. coded_in nodes c.args.x) h (λ k. refl))
     (λ made. let k = context_of state.frame made c.args.site.now in
-    of_module k c.args.at (coded_in nodes c.args.x) _ c.in-Procedure.of _ _ (sym c.level_of.ensures ∙ c.if-level_of-eq0.true) ∙ ap (as_value_by k c.args.at (coded_in nodes c.args.x)) (sym c.in-Procedure.is))
+    of_module k c.args.at (coded_in nodes c.args.x) c.in-Procedure.field-0 c.in-Procedure.of c.in-Procedure.field-2 c.in-Procedure.field-3 (sym c.level_of.ensures ∙ c.if-level_of-eq0.true) ∙ ap (as_value_by k c.args.at (coded_in nodes c.args.x)) (sym c.in-Procedure.is))
 
 pub returns-else-level_of-eq0 : goal.returns-else-level_of-eq0
 returns-else-level_of-eq0 c state nodes h =
     described_there c.refused-else-level_of-eq0.result (c.refused-else-level_of-eq0.ensures state nodes)
     (λ made. let k = context_of state.frame made c.args.site.now in
-    of_procedure k c.args.at (coded_in nodes c.args.x) _ c.in-Procedure.of _ _ (λ e. c.if-level_of-eq0.false (c.level_of.ensures ∙ e)) ∙ ap (as_value_by k c.args.at (coded_in nodes c.args.x)) (sym c.in-Procedure.is))
+    of_procedure k c.args.at (coded_in nodes c.args.x) c.in-Procedure.field-0 c.in-Procedure.of c.in-Procedure.field-2 c.in-Procedure.field-3 (λ e. c.if-level_of-eq0.false (c.level_of.ensures ∙ e)) ∙ ap (as_value_by k c.args.at (coded_in nodes c.args.x)) (sym c.in-Procedure.is))
 
 pub returns-in_default : goal.returns-in_default
 returns-in_default c state nodes h =
