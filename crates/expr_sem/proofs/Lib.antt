@@ -11,3 +11,5 @@ pub mod Operating
 pub mod Sequencing
 pub mod Pushing
 pub mod Refusing
+pub mod PieceParts
+pub mod Stacked

@@ -17,4 +17,5 @@ pub mod Heights
 pub mod Fragments
 pub mod Codings
 pub mod Pieces
+pub mod Stacks
 pub mod Refusals

@@ -29,6 +29,7 @@ macro_rules! analysed {
     };
 }
 
+mod appending;
 mod coded;
 mod fragments;
 mod laws;
