@@ -17,3 +17,5 @@ pub mod Refusing
 pub mod Making
 pub mod OwnSearch
 pub mod ValueCases
+pub mod PieceParts
+pub mod Stacked

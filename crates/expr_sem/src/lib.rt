@@ -30,6 +30,7 @@ macro_rules! analysed {
 }
 
 mod answers;
+mod appending;
 mod coded;
 mod elements;
 mod fitting;
