@@ -21,3 +21,4 @@ pub mod Pieces
 pub mod Refusals
 pub mod Targets
 pub mod SetCodings
+pub mod Selections

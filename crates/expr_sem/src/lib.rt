@@ -29,7 +29,18 @@ macro_rules! analysed {
     };
 }
 
+/// The answer to a question, or the end of an analysis where it isn't known yet.
+macro_rules! asked {
+    ($asked:expr) => {
+        match $asked {
+            Ask::Known(value) => value,
+            Ask::DontKnowYet(head) => return Ok(Ask::DontKnowYet(head)),
+        }
+    };
+}
+
 mod coded;
+mod designated;
 mod elements;
 mod fitting;
 mod fragments;
@@ -53,7 +64,5 @@ pub use laws::{errors_have_no_code, heights_are_right, operands_are_known};
 pub use operators::{one_coded, two_coded};
 pub use pieces::{Piece, With, append};
 pub use refusals::Refusal;
-pub use set_elements::{
-    Elements, add_element, add_range, element_coded, set_coded, set_start,
-};
+pub use set_elements::{Elements, add_element, add_range, element_coded, set_coded, set_start};
 pub use steps::Step;
