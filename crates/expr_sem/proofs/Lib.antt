@@ -10,3 +10,4 @@ pub mod Law
 pub mod Operating
 pub mod Sequencing
 pub mod Selecting
+pub mod Pushing
