@@ -11,3 +11,5 @@ pub mod Operating
 pub mod Sequencing
 pub mod Selecting
 pub mod Pushing
+pub mod Making
+pub mod OwnSearch

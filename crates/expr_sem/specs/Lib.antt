@@ -20,5 +20,7 @@ pub mod Kinds
 pub mod Pieces
 pub mod Refusals
 pub mod Targets
+pub mod Takings
+pub mod RangeChecks
 pub mod SetCodings
 pub mod Selections
