@@ -1,12 +1,11 @@
 -- What a question of rows gives, and then the code that its answer makes.
-use Rattle.std.specs.Prelude.{option_map}
+use Rattle.std.specs.Prelude.{option_map, IsErr}
+use Rattle.std.specs.Option.{IfSome}
 use Rattle.std.proofs.Common.{◌≡◌, ◌∙◌, [], ◌∷◌, ℕ, suc, List, Option, Some, None, Result, Ok, Err, Bool, true, false, if◌then◌else◌, ap, sym, subst, refl}
-use Rattle.m2_base.specs.Gives.{Gives, and_then, gives}
-use Rattle.m2_base.specs.Lists.{IsPrefixOf}
-use Rattle.m2_base.specs.States.{Frame, State, Waits}
-use Rattle.m2_base.specs.Statics.Contexts.{Context, Scene, refuse}
+use Rattle.m2_base.specs.Gives.{Gives, gives}
+use Rattle.m2_base.specs.States.{Frame, State}
+use Rattle.m2_base.specs.Statics.Contexts.{Block, Context, Scene, refuse}
 use Rattle.m2_base.specs.Statics.Diagnostics.{not_a_pointer, not_a_record, not_an_array}
-use Rattle.m2_base.specs.Statics.Operands.{is_bad}
 use Rattle.m2_base.specs.Statics.TypeParts.{field_of, named_target, target_by}
 use Rattle.m2_base.specs.Statics.Types.{kind_of, meaning_at}
 use Rattle.m2_base.specs.declared.memory.Memory.{Memory}
@@ -14,66 +13,73 @@ use Rattle.m2_base.specs.declared.notes.Notes.{Notes}
 use Rattle.m2_base.specs.declared.operands.Operand.{Operand}
 use Rattle.m2_base.specs.declared.operands.Operand.TheVariants.{InError, ModuleName, NotConstant, Variable}
 use Rattle.m2_base.specs.declared.replies.Ask.{Ask}
-use Rattle.m2_base.specs.declared.replies.Ask.TheVariants.{Known, DontKnowYet}
-use Rattle.m2_base.specs.declared.replies.Head.{Head}
+use Rattle.m2_base.specs.declared.replies.Ask.TheVariants.{Known}
+use Rattle.m2_base.specs.declared.rows.Mode.{Mode}
 use Rattle.m2_base.specs.declared.rows.Place.{Place}
 use Rattle.m2_base.specs.declared.rows.Row.{Row}
 use Rattle.m2_base.specs.declared.rows.RowMeaning.{RowMeaning}
 use Rattle.m2_base.specs.declared.rows.RowMeaning.TheVariants.{Array, Field, OpenArray, Pointer, Record, Var}
 use Rattle.m2_base.specs.declared.sites.Site.{Site}
 use Rattle.m2_base.specs.declared.trees.Ident.{Ident}
-use Rattle.m2_base.proofs.Kept.{IsPrefixOf-refl, Works-kept}
 use Rattle.type_rules.specs.Asks.{Reads}
-use Rattle.type_rules.specs.Scenes.{IsThere, WhereTold}
-use Rattle.type_rules.specs.Sites.{context_of}
 use Rattle.expr_sem.specs.Coded as code
 use Rattle.expr_sem.specs.Coded.{bare, coded, in_error}
-use Rattle.expr_sem.specs.Codings.{Coding, IsCoded, coded_in}
+use Rattle.expr_sem.specs.Codings.{Coding, IsCoded, coded_in, high_in}
 use Rattle.expr_sem.specs.Elements.{of_array, of_pointer, select_element_by, select_target_by}
-use Rattle.expr_sem.specs.Fragments.{Grows, IsMade}
-use Rattle.expr_sem.specs.Parts.{Part, with_record}
+use Rattle.expr_sem.specs.Fragments.{Grows, IsIn, IsMade}
+use Rattle.expr_sem.specs.Parts.{Part, with_record, ◌⨟◌}
 use Rattle.expr_sem.specs.RecordFields.{field_coded, field_or, with_field, no_selector, of_record, select_field_by}
 use Rattle.expr_sem.specs.Selections.{number_or, pointed, with_number}
 use Rattle.expr_sem.specs.Variables.{with_address}
-use Rattle.expr_sem.specs.Refusals.{code_of}
 use Rattle.expr_sem.specs.declared.coded.Coded.{Coded}
 use Rattle.expr_sem.specs.declared.fragments.Fragment.{Fragment}
 use Rattle.expr_sem.specs.declared.fragments.Node.{Node}
-use Rattle.expr_sem.proofs.Operating.{coding_after, described, quiet, value_grown, value_alone, made_wanted}
-use Rattle.expr_sem.proofs.Sequencing.{Grows-refl}
+use Rattle.expr_sem.proofs.Operating.{described, made_wanted, value_alone}
+use Rattle.expr_sem.proofs.Sequencing.{Grows-refl, Grows-trans}
 
--- ** Questions
+-- ** Fragments
 
--- what isn't known yet of a question isn't known yet of the whole
-pub asked_unknown : {U W : Type 0} {b d : State} {head : Head} {y : Notes} {ns : List Node} {s : Site} {Q : Frame → List Node → U → Type 0} {as_q : List Node → U → W} {h : Context → Gives W}
-    → Reads b d → Waits b d head → Coding b d y y ns ns s (Ok (DontKnowYet head)) Q as_q h
-asked_unknown {y = y} {ns = ns} reads waits =
-    record {
-      works = Works-kept y y reads.keeps refl (IsPrefixOf-refl y.diags.items);
-      waits = waits;
-      grows = Grows-refl ns;
-      told = λ made in_hand t of_site. tt;
-      there = tt;
-    }
+-- memory was wanted for a later fragment
+pub made_full : {a b d : List Node} {p q : Part} {m : Memory} (r : Result Fragment Memory) → IsErr r → IsMade b d (Err m) p → Grows a b → IsMade a d r q
+made_full (Ok f) is h g = absurd (let h : false ≡ true = is in cc)
+made_full (Err n) is h g = record { grows = Grows-trans g h.grows; made = tt }
 
--- want of memory after a question
-pub asked_wanted : {U W : Type 0} {b d : State} {y : Notes} {ns : List Node} {s : Site} {m : Memory} {Q : Frame → List Node → U → Type 0} {as_q : List Node → U → W} {h : Context → Gives W}
-    → Reads b d → Coding b d y y ns ns s (Err m) Q as_q h
-asked_wanted {y = y} {ns = ns} reads =
-    record {
-      works = Works-kept y y reads.keeps refl (IsPrefixOf-refl y.diags.items);
-      waits = tt;
-      grows = Grows-refl ns;
-      told = λ made in_hand t of_site. tt;
-      there = tt;
-    }
+pub then_both : {p q p' q' : Part} → p ≡ p' → q ≡ q' → (p ⨟ q) ≡ (p' ⨟ q')
+then_both {p} {q} {p'} {q'} e f = ap (λ (r : Part). r ⨟ q) e ∙ ap (λ (r : Part). p' ⨟ r) f
 
--- the answer of a question, and what is made by it
-pub asked_then : {T U W : Type 0} {b d e : State} {y z : Notes} {n1 n2 : List Node} {s : Site} {Q : Frame → List Node → U → Type 0} {as_q : List Node → U → W} {v : T} (f : Context → T) (h : T → Context → Gives W) (answer : Result (Ask U) Memory)
-    → Reads b d → WhereTold b.frame (λ made. v ≡ f (context_of b.frame made s)) → Coding d e y z n1 n2 s answer Q as_q (h v)
-    → Coding b e y z n1 n2 s answer Q as_q (λ c. h (f c) c)
-asked_then {T = T} {y = y} {n1 = n1} {s = s} {v = v} f h answer reads told q =
-    described answer (coding_after (λ c. gives (f c)) h answer (quiet y n1 s (Known v) (λ frame ns x. Unit {0}) (λ ns x. x) f reads tt told tt) q) (λ c. refl)
+-- the code of the number of elements less 1 that is there
+pub high_made : (ns : List Node) (h : Option Fragment) (f : Fragment) → h ≡ Some f → IfSome h (λ k. IsIn ns k) → IsMade ns ns (Ok f) (high_in ns h)
+high_made ns h f e there =
+    subst (λ (o : Option Fragment). IfSome o (λ k. IsIn ns k) → IsMade ns ns (Ok f) (high_in ns o)) (sym e) (λ t. record { grows = Grows-refl ns; made = record { there = t; part_is = refl } }) there
+
+-- ** Codings
+
+-- memory was wanted for a fragment
+pub coding_full : {T V : Type 0} (a : State) (n : Notes) (s : Site) {ns ms : List Node} {m : Memory} {p : Part} {P : Frame → List Node → T → Type 0} {as_p : List Node → T → V} {g : Context → Gives V} (r : Result (Ask T) Memory)
+    → IsErr r → IsMade ns ms (Err m) p → Coding a a n n ns ms s r P as_p g
+coding_full a n s (Ok f) is h = absurd (let h : false ≡ true = is in cc)
+coding_full a n s (Err k) is h = made_wanted a n s h k
+
+-- what is in error
+pub error_alone : (a : State) (n : Notes) (ns : List Node) (s : Site) (v : Coded) (g : Context → Gives code.Coded) → ((nodes : List Node) → coded_in nodes v ≡ in_error) → ((f : Frame) (nodes : List Node) → IsCoded f nodes v)
+    → ((k : Context) → gives in_error ≡ g k) → Coding a a n n ns ns s (Ok (Known v)) IsCoded coded_in g
+error_alone a n ns s v g told there e =
+    described (Ok (Known v)) (value_alone a n ns s v IsCoded coded_in (λ k. in_error) (there a.frame ns) (λ k. told ns)) e
+
+-- what could stand before a question can after it
+pub stays_read : {a b : State} (Q : Frame → Type 0) → Reads a b → Q a.frame → Q b.frame
+stays_read Q r h = subst (λ (f : Frame). Q f) (sym r.keeps.frame) h
+
+-- ** Variables
+
+pub with_other : (b : Block) (s : ℕ) (m : RowMeaning) (o : Operand) → ((t : Place) → o ≡ Variable t → ⊥) → bare o ≡ with_address b s m o
+with_other b s (Var t mode k) (Variable u) h = absurd (h u refl)
+with_other b s (Var t mode k) o h = refl
+with_other b s m o h = refl
+
+pub with_no_var : (b : Block) (s : ℕ) (m : RowMeaning) (u : Place) → ((t : Place) (mode : Mode) (k : ℕ) → m ≡ Var t mode k → ⊥) → bare (Variable u) ≡ with_address b s m (Variable u)
+with_no_var b s (Var t mode k) u h = absurd (h t mode k refl)
+with_no_var b s m u h = refl
 
 -- ** Operands that take no selector
 
@@ -101,18 +107,14 @@ no_field c first at i p o s v e n = refl
 
 -- ** Types that a selector isn't for
 
--- what a variable points to, by the meaning of its type
-abbrev pub pointer_by : Context → (at : ℕ) → Part → RowMeaning → Gives code.Coded
-pointer_by c at p (Pointer q) = pointed c.scene p (named_target q (meaning_at c.scene q))
-pointer_by c at p other = refuse c at not_a_pointer in_error
+pub no_pointer : (c : Context) (at : ℕ) (p : Part) (t : Place) (m : RowMeaning) → ((q : Place) → m ≡ Pointer q → ⊥) → refuse c at not_a_pointer in_error ≡ of_pointer c at p t m
+no_pointer c at p t (Pointer q) h = absurd (h q refl)
+no_pointer c at p t m h = refl
 
-pub no_pointer : (c : Context) (at : ℕ) (p : Part) (m : RowMeaning) → ((q : Place) → m ≡ Pointer q → ⊥) → refuse c at not_a_pointer in_error ≡ pointer_by c at p m
-no_pointer c at p (Pointer q) h = absurd (h q refl)
-no_pointer c at p m h = refl
-
-pub pointer_same : (c : Context) (at : ℕ) (p : Part) (t : Place) (m : RowMeaning) → m ≡ kind_of c.scene t → pointer_by c at p m ≡ of_pointer c at p t m
-pointer_same c at p t (Pointer q) e = ap (λ m. pointed c.scene p (target_by c.scene m)) e
-pointer_same c at p t m e = refl
+-- what a variable points to whose type's row is that of a pointer
+pub pointer_given : (c : Context) (at : ℕ) (p : Part) (t q : Place) → Pointer q ≡ kind_of c.scene t
+    → pointed c.scene p (named_target q (meaning_at c.scene q)) ≡ of_pointer c at p t (kind_of c.scene t)
+pointer_given c at p t q e = ap (λ m. pointed c.scene p (target_by c.scene m)) e ∙ ap (λ m. of_pointer c at p t m) e
 
 pub no_record : (c : Context) (at : ℕ) (p : Part) (i : Ident) (t : Place) (m : RowMeaning) → ((f s : ℕ) → m ≡ Record f s → ⊥) → refuse c at not_a_record in_error ≡ of_record c at p i t m
 no_record c at p i t (Record f s) h = absurd (h f s refl)

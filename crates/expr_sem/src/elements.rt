@@ -124,7 +124,8 @@ pub fn select_target<S: Scopes>(
 {
     match x.operand {
         Operand::Variable(of) => of_pointer(scopes, site, at, of, x.code, fragments, notes),
-        Operand::InError | Operand::NotConstant => Ok(Ask::Known(Coded::in_error())),
+        Operand::InError => Ok(Ask::Known(Coded::in_error())),
+        Operand::NotConstant => Ok(Ask::Known(Coded::in_error())),
         _ => refused(site, first, Refusal::NotAVariable, notes),
     }
 }
@@ -155,8 +156,8 @@ fn element_code(
     requires value { IsIn fragments.old.nodes.items value }
     ensures { IsMade fragments.old.nodes.items fragments.new.nodes.items result (part fragments.old.nodes.items code ⨟ part fragments.old.nodes.items value ⨟ plain (find ∷ [])) }
 {
-    let find = fragments.one(find)?;
-    let found = fragments.then(value, find)?;
+    let last = fragments.one(find)?;
+    let found = fragments.then(value, last)?;
     fragments.then(code, found)
 }
 
@@ -444,7 +445,8 @@ pub fn select_element<S: Scopes>(
 {
     match x.operand {
         Operand::Variable(of) => of_array(scopes, site, at, of, index, x, fragments, notes),
-        Operand::InError | Operand::NotConstant => Ok(Ask::Known(Coded::in_error())),
+        Operand::InError => Ok(Ask::Known(Coded::in_error())),
+        Operand::NotConstant => Ok(Ask::Known(Coded::in_error())),
         _ => refused(site, first, Refusal::NotAVariable, notes),
     }
 }

@@ -242,7 +242,8 @@ pub fn select_field<S: Scopes>(
         Operand::Variable(of) => {
             of_record(scopes, site, at, of, ident, x.code, fragments, notes)
         }
-        Operand::InError | Operand::NotConstant => Ok(Ask::Known(Coded::in_error())),
+        Operand::InError => Ok(Ask::Known(Coded::in_error())),
+        Operand::NotConstant => Ok(Ask::Known(Coded::in_error())),
         _ => refused(site, first, Refusal::NotAVariable, notes),
     }
 }
