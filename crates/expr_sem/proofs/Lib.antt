@@ -13,3 +13,4 @@ pub mod Selecting
 pub mod Pushing
 pub mod Making
 pub mod OwnSearch
+pub mod Refusing
