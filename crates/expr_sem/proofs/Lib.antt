@@ -14,3 +14,4 @@ pub mod Pushing
 pub mod Making
 pub mod OwnSearch
 pub mod Refusing
+pub mod Quiet
