@@ -25,3 +25,4 @@ pub mod Takings
 pub mod RangeChecks
 pub mod SetCodings
 pub mod MadeAnswers
+pub mod Selections

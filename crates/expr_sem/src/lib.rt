@@ -29,9 +29,20 @@ macro_rules! analysed {
     };
 }
 
+/// The answer to a question, or the end of an analysis where it isn't known yet.
+macro_rules! asked {
+    ($asked:expr) => {
+        match $asked {
+            Ask::Known(value) => value,
+            Ask::DontKnowYet(head) => return Ok(Ask::DontKnowYet(head)),
+        }
+    };
+}
+
 mod answers;
 mod appending;
 mod coded;
+mod designated;
 mod elements;
 mod fitting;
 mod fragments;

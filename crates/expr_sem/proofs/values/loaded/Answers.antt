@@ -1,6 +1,7 @@
-use Rattle.std.proofs.Common.{ap, ◌∙◌}
+use Rattle.std.proofs.Common.{◌∷◌, [], ap, ◌∙◌}
 use Rattle.expr_sem.specs.Fragments.{part}
-use Rattle.expr_sem.specs.Parts.{Part, ◌⨟◌}
+use Rattle.expr_sem.specs.Parts.{Part, plain, ◌⨟◌}
+use Rattle.code_form.specs.declared.instr.Instr.TheVariants.{Load}
 use Rattle.expr_sem.proofs.Sequencing.{made_after, part_later}
 use Rattle.expr_sem.proofs.values.loaded.Goals as goal
 
