@@ -288,10 +288,7 @@ fn instructed<S: Scopes>(
     requires y { IsIn fragments.old.nodes.items y }
     ensures { (notes : NotesOf) → Coding (S.state scopes.old) (S.state scopes.new) notes notes fragments.old.nodes.items fragments.new.nodes.items site.now result IsFragment part (λ c. gives (part fragments.old.nodes.items x ⨟ part fragments.old.nodes.items y ⨟ plain (two_instr c.scene op of right ∷ []))) }
 {
-    let instr = match instruction(scopes, site, op, of, right) {
-        Ask::Known(instr) => instr,
-        Ask::DontKnowYet(head) => return Ok(Ask::DontKnowYet(head)),
-    };
+    let instr = asked!(instruction(scopes, site, op, of, right));
     let code = applied(fragments, x, y, instr)?;
     Ok(Ask::Known(code))
 }

@@ -15,12 +15,12 @@ returns-in-DontKnowYet g c notes =
 
 pub returns-in_err-code : goal.returns-in_err-code
 returns-in_err-code g c notes =
-    with_wanted c.from_residual.result c.from_residual.ensures.0 (quiet notes c.args.fragments.now.nodes.items c.args.site.now (Known c.in-Known.instr) (λ f n i. Unit {0}) (λ n (i : Instr). i) (λ k. two_instr k.scene c.args.op c.args.of c.args.right)
+    with_wanted c.from_residual.result c.from_residual.ensures.0 (quiet notes c.args.fragments.now.nodes.items c.args.site.now (Known c.in-Known.value) (λ f n i. Unit {0}) (λ n (i : Instr). i) (λ k. two_instr k.scene c.args.op c.args.of c.args.right)
     c.in-Known.ensures.reads tt c.in-Known.ensures.told tt) c.in_err-code.ensures
 
 pub returns : goal.returns
 returns g c notes =
     let ns = c.args.fragments.now.nodes.items in
     with_fragment (λ i. part ns c.args.x ⨟ part ns c.args.y ⨟ plain (i ∷ []))
-    (quiet notes ns c.args.site.now (Known c.in-Known.instr) (λ f n i. Unit {0}) (λ n (i : Instr). i) (λ k. two_instr k.scene c.args.op c.args.of c.args.right)
+    (quiet notes ns c.args.site.now (Known c.in-Known.value) (λ f n i. Unit {0}) (λ n (i : Instr). i) (λ k. two_instr k.scene c.args.op c.args.of c.args.right)
     c.in-Known.ensures.reads tt c.in-Known.ensures.told tt) c.in_ok-code.ensures refl
