@@ -24,3 +24,5 @@ pub mod Takings
 pub mod RangeChecks
 pub mod SetCodings
 pub mod MadeAnswers
+pub mod ArgumentFits
+pub mod Callees

@@ -30,6 +30,8 @@ macro_rules! analysed {
 }
 
 mod answers;
+mod arguments;
+mod calls;
 mod coded;
 mod elements;
 mod fitting;
