@@ -18,6 +18,7 @@ pub mod Fragments
 pub mod Codings
 pub mod Kinds
 pub mod Pieces
+pub mod Stacks
 pub mod Refusals
 pub mod Targets
 pub mod Takings

@@ -30,6 +30,7 @@ macro_rules! analysed {
 }
 
 mod answers;
+mod appending;
 mod arguments;
 mod calls;
 mod coded;
@@ -54,10 +55,8 @@ mod variables;
 pub use coded::{Coded, Placed};
 pub use fragments::{Connective, Form, Fragment, Fragments, Node};
 pub use laws::{errors_have_no_code, heights_are_right, operands_are_known};
-pub use operators::{one_coded, two_coded};
+pub use operators::{made, one_coded, side_of, two_coded};
 pub use pieces::{Piece, With, append};
 pub use refusals::Refusal;
-pub use set_elements::{
-    Elements, add_element, add_range, element_coded, set_coded, set_start,
-};
+pub use set_elements::{Elements, add_element, add_range, element_coded, set_coded, set_start};
 pub use steps::Step;
