@@ -26,3 +26,5 @@ pub mod RangeChecks
 pub mod SetCodings
 pub mod MadeAnswers
 pub mod Selections
+pub mod ArgumentFits
+pub mod Callees

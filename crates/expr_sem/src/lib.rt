@@ -41,6 +41,8 @@ macro_rules! asked {
 
 mod answers;
 mod appending;
+mod arguments;
+mod calls;
 mod coded;
 mod designated;
 mod elements;

@@ -139,12 +139,7 @@ pub fn value_code<S: Scopes>(
 }
 
 /// What stands where a value is wanted: no type and no module alone, and no procedure that is no value.
-pub fn as_value(
-    site: &Site,
-    at: u32,
-    x: Coded,
-    notes: &mut Notes,
-) -> Result<Ask<Coded>, Memory>
+pub fn as_value(site: &Site, at: u32, x: Coded, notes: &mut Notes) -> Result<Ask<Coded>, Memory>
     ensures { (state : State) (nodes : List Node) → IsCoded state.frame nodes x → Coding state state notes.old notes.new nodes nodes site.now result IsCoded coded_in (λ c. spec_as_value c at (coded_in nodes x)) }
 {
     match x.operand {
