@@ -14,4 +14,3 @@ pub mod Pushing
 pub mod Making
 pub mod OwnSearch
 pub mod Refusing
-pub mod Quiet
