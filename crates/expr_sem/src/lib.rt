@@ -39,6 +39,8 @@ macro_rules! asked {
     };
 }
 
+mod answers;
+mod appending;
 mod coded;
 mod designated;
 mod elements;
@@ -62,7 +64,7 @@ mod variables;
 pub use coded::{Coded, Placed};
 pub use fragments::{Connective, Form, Fragment, Fragments, Node};
 pub use laws::{errors_have_no_code, heights_are_right, operands_are_known};
-pub use operators::{one_coded, two_coded};
+pub use operators::{made, one_coded, side_of, two_coded};
 pub use pieces::{Piece, With, append};
 pub use refusals::Refusal;
 pub use set_elements::{Elements, add_element, add_range, element_coded, set_coded, set_start};
