@@ -1,21 +1,15 @@
-use Rattle.std.proofs.Common.{◌∙◌, ◌∷◌, [], Ok, Err, ap, sym, subst, refl, if◌then◌else◌}
+use Rattle.std.proofs.Common.{◌∙◌, ◌∷◌, [], ap}
 use Rattle.m2_base.specs.Gives.{gives}
-use Rattle.m2_base.specs.States.{Frame}
 use Rattle.m2_base.specs.declared.operands.Operand.TheVariants.{Variable}
-use Rattle.m2_base.specs.declared.replies.Ask.TheVariants.{Known}
-use Rattle.code_form.specs.declared.instr.Instr.TheVariants.{IndexOpen}
-use Rattle.type_rules.specs.Scenes.{IsThere}
-use Rattle.type_rules.specs.Sites.{SuitsSite, context_of}
-use Rattle.expr_sem.specs.Coded.{coded, in_error, value_code}
-use Rattle.expr_sem.specs.Codings.{coded_in, high_in}
+use Rattle.type_rules.specs.Sites.{context_of}
+use Rattle.expr_sem.specs.Coded.{coded, value_code}
+use Rattle.expr_sem.specs.Codings.{coded_in}
 use Rattle.expr_sem.specs.Fragments.{part}
 use Rattle.expr_sem.specs.Parts.{plain, ◌⨟◌}
 use Rattle.expr_sem.proofs.Making.{after_question, question_failed, question_waits}
-use Rattle.expr_sem.proofs.Operating.{coded_later, coding_after, described, stays_coded, unknown, unmade}
-use Rattle.expr_sem.proofs.Quiet.{no_notes}
-use Rattle.expr_sem.proofs.Selecting.{error_alone, stays_read}
-use Rattle.expr_sem.proofs.Sequencing.{Grows-refl, in_later, part_later}
-use Rattle.m2_base.specs.Statics.Types.{range_of, size_of}
+use Rattle.expr_sem.proofs.Operating.{stays_coded}
+use Rattle.expr_sem.proofs.Sequencing.{Grows-refl}
+use Rattle.m2_base.specs.Statics.Types.{range_of}
 use Rattle.expr_sem.specs.Elements.{index_instr}
 use Rattle.expr_sem.proofs.elements.indexed.Goals as goal
 

@@ -1,20 +1,7 @@
-use Rattle.std.proofs.Common.{◌∙◌, ◌∷◌, [], Ok, Err, ap, sym, subst, refl, if◌then◌else◌}
-use Rattle.m2_base.specs.Gives.{gives}
-use Rattle.m2_base.specs.States.{Frame}
-use Rattle.m2_base.specs.declared.operands.Operand.TheVariants.{Variable}
-use Rattle.m2_base.specs.declared.replies.Ask.TheVariants.{Known}
-use Rattle.code_form.specs.declared.instr.Instr.TheVariants.{IndexOpen}
-use Rattle.type_rules.specs.Scenes.{IsThere}
-use Rattle.type_rules.specs.Sites.{SuitsSite, context_of}
-use Rattle.expr_sem.specs.Coded.{coded, in_error, value_code}
-use Rattle.expr_sem.specs.Codings.{coded_in, high_in}
-use Rattle.expr_sem.specs.Fragments.{part}
-use Rattle.expr_sem.specs.Parts.{plain, ◌⨟◌}
-use Rattle.expr_sem.proofs.Making.{after_question, question_failed, question_waits}
-use Rattle.expr_sem.proofs.Operating.{coded_later, coding_after, described, stays_coded, unknown, unmade}
-use Rattle.expr_sem.proofs.Quiet.{no_notes}
-use Rattle.expr_sem.proofs.Selecting.{error_alone, stays_read}
-use Rattle.expr_sem.proofs.Sequencing.{Grows-refl, in_later, part_later}
+use Rattle.std.proofs.Common.{ap, sym}
+use Rattle.expr_sem.specs.Codings.{coded_in}
+use Rattle.expr_sem.proofs.Operating.{described}
+use Rattle.expr_sem.proofs.Selecting.{error_alone}
 use Rattle.expr_sem.specs.Elements.{select_element_by}
 use Rattle.expr_sem.proofs.Selecting.{no_element}
 use Rattle.expr_sem.proofs.elements.select_element.Goals as goal

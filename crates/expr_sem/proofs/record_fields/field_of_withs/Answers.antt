@@ -1,4 +1,4 @@
-use Rattle.std.proofs.Common.{◌≡◌, ◌∙◌, ◌+◌, None, Some, sym}
+use Rattle.std.proofs.Common.{◌∙◌, None, Some, sym}
 use Rattle.type_rules.specs.Scenes.{scene_of}
 use Rattle.type_rules.proofs.Reading.{Reads-trans}
 use Rattle.expr_sem.proofs.Selecting.{asked_before, with_step}
