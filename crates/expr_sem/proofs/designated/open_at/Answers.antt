@@ -1,6 +1,5 @@
 use Rattle.std.proofs.Common.{◌∙◌, ap}
 use Rattle.m2_base.specs.declared.operands.Operand.TheVariants.{Variable}
-use Rattle.expr_sem.specs.Coded as code
 use Rattle.expr_sem.specs.Codings.{IsCoded, coded_in}
 use Rattle.expr_sem.specs.Fragments.{part}
 use Rattle.expr_sem.specs.Parts.{Part}

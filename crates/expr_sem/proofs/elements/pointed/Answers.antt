@@ -2,7 +2,7 @@ use Rattle.std.proofs.Common.{◌≡◌, ◌∙◌, Ok, sym, refl}
 use Rattle.m2_base.specs.Gives.{gives}
 use Rattle.m2_base.specs.Statics.Types.{is_broken}
 use Rattle.m2_base.specs.declared.replies.Ask.TheVariants.{Known}
-use Rattle.type_rules.specs.Scenes.{IsThere, WhereTold, scene_of}
+use Rattle.type_rules.specs.Scenes.{IsThere, scene_of}
 use Rattle.type_rules.proofs.Compatibles.{told_later}
 use Rattle.type_rules.proofs.Reading.{Reads-trans, Waits_read}
 use Rattle.expr_sem.specs.Coded.{in_error}
