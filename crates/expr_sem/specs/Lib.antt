@@ -16,5 +16,15 @@ pub mod Expressions
 pub mod Heights
 pub mod Fragments
 pub mod Codings
+pub mod Kinds
 pub mod Pieces
+pub mod Stacks
 pub mod Refusals
+pub mod Targets
+pub mod Takings
+pub mod RangeChecks
+pub mod SetCodings
+pub mod MadeAnswers
+pub mod Selections
+pub mod ArgumentFits
+pub mod Callees

@@ -29,16 +29,45 @@ macro_rules! analysed {
     };
 }
 
+/// The answer to a question, or the end of an analysis where it isn't known yet.
+macro_rules! asked {
+    ($asked:expr) => {
+        match $asked {
+            Ask::Known(value) => value,
+            Ask::DontKnowYet(head) => return Ok(Ask::DontKnowYet(head)),
+        }
+    };
+}
+
+mod answers;
+mod appending;
+mod arguments;
+mod calls;
 mod coded;
+mod designated;
+mod elements;
+mod fitting;
 mod fragments;
 mod laws;
+mod levels;
+mod operators;
 mod pieces;
+mod procedure_names;
+mod record_fields;
 mod refusals;
+mod set_elements;
+mod standard_functions;
+mod standard_procedures;
 mod steps;
+mod takings;
+mod values;
+mod variables;
 
 pub use coded::{Coded, Placed};
 pub use fragments::{Connective, Form, Fragment, Fragments, Node};
 pub use laws::{errors_have_no_code, heights_are_right, operands_are_known};
+pub use operators::{made, one_coded, side_of, two_coded};
 pub use pieces::{Piece, With, append};
 pub use refusals::Refusal;
+pub use set_elements::{Elements, add_element, add_range, element_coded, set_coded, set_start};
 pub use steps::Step;

@@ -1,0 +1,7 @@
+-- A procedure as code names it, as the definitions see it.
+use Rattle.expr_sem.specs.ProcedureNames as names
+use Rattle.expr_sem.specs.ProcedureNames.{target}
+use Rattle.expr_sem.specs.declared.procedure_names.Target.{Target}
+
+abbrev pub target_view : Target → names.Target
+target_view t = target t.of t.number

@@ -1,0 +1,254 @@
+//! The code of a set between brackets.
+ghost use Rattle.std.specs.Prelude.{◌≡◌, ◌∷◌, [], List, pos};
+ghost use Rattle.m2_base.specs.Gives.{gives};
+ghost use Rattle.m2_base.specs.States.{Frame, State, Waits};
+ghost use Rattle.m2_base.specs.Statics.Sets.{set_base as spec_base};
+ghost use Rattle.m2_base.specs.declared.notes.Notes.{Notes as NotesOf};
+ghost use Rattle.m2_base.specs.declared.sites.Site.{Site as SiteOf};
+ghost use Rattle.const_eval.specs.Sites.{IsOperand};
+ghost use Rattle.expr_sem.specs.Coded.{value_code as spec_value};
+ghost use Rattle.expr_sem.specs.Codings.{Coding, IsCoded, IsFragment, coded_in};
+ghost use Rattle.expr_sem.specs.Fragments.{IsIn, IsMade, part};
+ghost use Rattle.expr_sem.specs.Parts.{plain, ◌⨟◌};
+ghost use Rattle.expr_sem.specs.SetCodings.{AreElements, elements_in};
+ghost use Rattle.expr_sem.specs.SetElements.{add_element as spec_element, add_range as spec_range, element_as as spec_as, element_coded as spec_coded, no_elements_yet, set_coded as spec_set};
+ghost use Rattle.expr_sem.specs.declared.fragments.Node.{Node};
+ghost use Rattle.type_rules.specs.Asks.{Reads, WhereKnown, WhereWaiting};
+ghost use Rattle.type_rules.specs.Scenes.{IsThere, WhereTold};
+ghost use Rattle.type_rules.specs.Sites.{SuitsSite, context_of};
+
+use crate::coded::Coded;
+use crate::fragments::{Fragment, Fragments};
+use crate::operators::after_both;
+use crate::values::value_code;
+use code_form::Instr;
+use const_eval::{no_elements, set_base, taken, with_elements};
+use m2_base::{Ask, Memory, Notes, Operand, Place, Scopes, Site};
+
+/// What the elements make so far: the set by the static rule, and the code that adds each of them to the set on the stack.
+#[derive(Clone, Copy, Debug, PartialEq, Eq)]
+pub struct Elements {
+    pub set: Operand,
+    pub code: Fragment,
+}
+
+/// The base of a set type, and no element yet of such a set.
+#[tactic(auto, using(type_rules::proofs::Reading::reading, const_eval::proofs::TypesThere::there))]
+pub fn set_start<S: Scopes>(scopes: &mut S, site: &Site, of: Place) -> Ask<(Place, Elements)>
+    requires suits { SuitsSite (S.state scopes.old).frame site.now }
+    requires of { IsThere (S.state scopes.old).frame of }
+    ensures reads { Reads (S.state scopes.old) (S.state scopes.new) }
+    ensures waits { WhereWaiting result (λ head. Waits (S.state scopes.old) (S.state scopes.new) head) }
+    ensures based { WhereTold (S.state scopes.old).frame (λ made.
+        WhereKnown result (λ given. let c = context_of (S.state scopes.old).frame made site.now in given.0 ≡ spec_base c of)) }
+    ensures told { WhereTold (S.state scopes.old).frame (λ made.
+        WhereKnown result (λ given. let c = context_of (S.state scopes.old).frame made site.now in (nodes : List Node) → elements_in nodes given.1 ≡ no_elements_yet c of)) }
+    ensures base { WhereKnown result (λ given. IsThere (S.state scopes.old).frame given.0) }
+    ensures elements { WhereKnown result (λ given. (nodes : List Node) → AreElements (S.state scopes.old).frame nodes given.1) }
+{
+    let base = known!(set_base(scopes, site, of));
+    let set = known!(no_elements(scopes, site, of));
+    let elements = Elements {
+        set,
+        code: Fragment::Nothing,
+    };
+    Ask::Known((base, elements))
+}
+
+/// An element or a bound, as the static rule takes it.
+fn element_as(x: Coded, operand: Operand) -> Coded
+    ensures told { (nodes : List Node) → coded_in nodes result ≡ spec_as (coded_in nodes x) operand }
+    ensures there { (f : Frame) (nodes : List Node) → IsOperand f operand → IsCoded f nodes x → IsCoded f nodes result }
+{
+    match operand {
+        Operand::InError => Coded::in_error(),
+        _ => x.taken(operand),
+    }
+}
+
+/// An element or a bound, as it is taken into a set with this base.
+pub fn element_coded<S: Scopes>(
+    scopes: &mut S,
+    site: &Site,
+    base: Place,
+    at: u32,
+    x: Coded,
+    notes: &mut Notes,
+) -> Result<Ask<Coded>, Memory>
+    requires suits { SuitsSite (S.state scopes.old).frame site.now }
+    requires base { IsThere (S.state scopes.old).frame base }
+    requires x { IsOperand (S.state scopes.old).frame x.operand }
+    ensures { (nodes : List Node) → IsCoded (S.state scopes.old).frame nodes x → Coding (S.state scopes.old) (S.state scopes.new) notes.old notes.new nodes nodes site.now result IsCoded coded_in (λ c. spec_coded c base at (coded_in nodes x)) }
+{
+    let operand = analysed!(taken(scopes, site, base, at, x.operand, notes));
+    Ok(Ask::Known(element_as(x, operand)))
+}
+
+/// A code, and then an instruction.
+fn followed(fragments: &mut Fragments, first: Fragment, instr: Instr) -> Result<Fragment, Memory>
+    requires { IsIn fragments.old.nodes.items first }
+    ensures { IsMade fragments.old.nodes.items fragments.new.nodes.items result (part fragments.old.nodes.items first ⨟ plain (instr ∷ [])) }
+{
+    let last = fragments.one(instr)?;
+    fragments.then(first, last)
+}
+
+/// Two instructions.
+fn pair(fragments: &mut Fragments, first: Instr, second: Instr) -> Result<Fragment, Memory>
+    ensures { IsMade fragments.old.nodes.items fragments.new.nodes.items result (plain (first ∷ second ∷ [])) }
+{
+    let first = fragments.one(first)?;
+    followed(fragments, first, second)
+}
+
+/// Two codes, and then an instruction that makes a set of what they leave, which is added.
+fn joined(
+    fragments: &mut Fragments,
+    x: Fragment,
+    y: Fragment,
+    instr: Instr,
+) -> Result<Fragment, Memory>
+    requires x { IsIn fragments.old.nodes.items x }
+    requires y { IsIn fragments.old.nodes.items y }
+    ensures { IsMade fragments.old.nodes.items fragments.new.nodes.items result (part fragments.old.nodes.items x ⨟ part fragments.old.nodes.items y ⨟ plain (instr ∷ Instr.Union ∷ [])) }
+{
+    let last = pair(fragments, instr, Instr::Union)?;
+    after_both(fragments, x, y, last)
+}
+
+/// The code of a set, and then that of an element, which is added.
+fn element_code<S: Scopes>(
+    scopes: &mut S,
+    site: &Site,
+    set: Fragment,
+    x: Coded,
+    fragments: &mut Fragments,
+) -> Result<Ask<Fragment>, Memory>
+    requires suits { SuitsSite (S.state scopes.old).frame site.now }
+    requires set { IsIn fragments.old.nodes.items set }
+    requires x { IsCoded (S.state scopes.old).frame fragments.old.nodes.items x }
+    ensures { (notes : NotesOf) → Coding (S.state scopes.old) (S.state scopes.new) notes notes fragments.old.nodes.items fragments.new.nodes.items site.now result IsFragment part (λ c. gives (part fragments.old.nodes.items set ⨟ spec_value c (coded_in fragments.old.nodes.items x) ⨟ plain (Instr.Bit ∷ Instr.Union ∷ []))) }
+{
+    let value = analysed!(value_code(scopes, site, x, fragments));
+    let code = joined(fragments, set, value, Instr::Bit)?;
+    Ok(Ask::Known(code))
+}
+
+/// With one more element.
+#[tactic(auto, using(const_eval::proofs::TypesThere::there))]
+pub fn add_element<S: Scopes>(
+    scopes: &mut S,
+    site: &Site,
+    es: Elements,
+    x: Coded,
+    fragments: &mut Fragments,
+) -> Result<Ask<Elements>, Memory>
+    requires suits { SuitsSite (S.state scopes.old).frame site.now }
+    requires es { AreElements (S.state scopes.old).frame fragments.old.nodes.items es }
+    requires x { IsCoded (S.state scopes.old).frame fragments.old.nodes.items x }
+    ensures { (notes : NotesOf) → Coding (S.state scopes.old) (S.state scopes.new) notes notes fragments.old.nodes.items fragments.new.nodes.items site.now result AreElements elements_in (λ c. gives (spec_element c (elements_in fragments.old.nodes.items es) (coded_in fragments.old.nodes.items x))) }
+{
+    let set = with_elements(es.set, x.operand, x.operand);
+    let code = analysed!(element_code(scopes, site, es.code, x, fragments));
+    Ok(Ask::Known(Elements { set, code }))
+}
+
+/// The code of a set, then the bounds of a range, whose elements are added.
+fn with_span(
+    fragments: &mut Fragments,
+    set: Fragment,
+    low: Fragment,
+    high: Fragment,
+) -> Result<Fragment, Memory>
+    requires set { IsIn fragments.old.nodes.items set }
+    requires low { IsIn fragments.old.nodes.items low }
+    requires high { IsIn fragments.old.nodes.items high }
+    ensures { IsMade fragments.old.nodes.items fragments.new.nodes.items result (part fragments.old.nodes.items set ⨟ part fragments.old.nodes.items low ⨟ part fragments.old.nodes.items high ⨟ plain (Instr.Span ∷ Instr.Union ∷ [])) }
+{
+    let rest = joined(fragments, low, high, Instr::Span)?;
+    fragments.then(set, rest)
+}
+
+/// The codes of a set and of a bound, and then that of the other bound, and the elements are added.
+fn high_code<S: Scopes>(
+    scopes: &mut S,
+    site: &Site,
+    set: Fragment,
+    low: Fragment,
+    y: Coded,
+    fragments: &mut Fragments,
+) -> Result<Ask<Fragment>, Memory>
+    requires suits { SuitsSite (S.state scopes.old).frame site.now }
+    requires set { IsIn fragments.old.nodes.items set }
+    requires low { IsIn fragments.old.nodes.items low }
+    requires y { IsCoded (S.state scopes.old).frame fragments.old.nodes.items y }
+    ensures { (notes : NotesOf) → Coding (S.state scopes.old) (S.state scopes.new) notes notes fragments.old.nodes.items fragments.new.nodes.items site.now result IsFragment part (λ c. gives (part fragments.old.nodes.items set ⨟ part fragments.old.nodes.items low ⨟ spec_value c (coded_in fragments.old.nodes.items y) ⨟ plain (Instr.Span ∷ Instr.Union ∷ []))) }
+{
+    let high = analysed!(value_code(scopes, site, y, fragments));
+    let code = with_span(fragments, set, low, high)?;
+    Ok(Ask::Known(code))
+}
+
+/// The code of a set, and then those of the bounds of a range, whose elements are added.
+fn range_code<S: Scopes>(
+    scopes: &mut S,
+    site: &Site,
+    set: Fragment,
+    x: Coded,
+    y: Coded,
+    fragments: &mut Fragments,
+) -> Result<Ask<Fragment>, Memory>
+    requires suits { SuitsSite (S.state scopes.old).frame site.now }
+    requires set { IsIn fragments.old.nodes.items set }
+    requires x { IsCoded (S.state scopes.old).frame fragments.old.nodes.items x }
+    requires y { IsCoded (S.state scopes.old).frame fragments.old.nodes.items y }
+    ensures { (notes : NotesOf) → Coding (S.state scopes.old) (S.state scopes.new) notes notes fragments.old.nodes.items fragments.new.nodes.items site.now result IsFragment part (λ c. gives (part fragments.old.nodes.items set ⨟ spec_value c (coded_in fragments.old.nodes.items x) ⨟ spec_value c (coded_in fragments.old.nodes.items y) ⨟ plain (Instr.Span ∷ Instr.Union ∷ []))) }
+{
+    let low = analysed!(value_code(scopes, site, x, fragments));
+    high_code(scopes, site, set, low, y, fragments)
+}
+
+/// With the elements of one more range.
+#[tactic(auto, using(const_eval::proofs::TypesThere::there))]
+pub fn add_range<S: Scopes>(
+    scopes: &mut S,
+    site: &Site,
+    es: Elements,
+    x: Coded,
+    y: Coded,
+    fragments: &mut Fragments,
+) -> Result<Ask<Elements>, Memory>
+    requires suits { SuitsSite (S.state scopes.old).frame site.now }
+    requires es { AreElements (S.state scopes.old).frame fragments.old.nodes.items es }
+    requires x { IsCoded (S.state scopes.old).frame fragments.old.nodes.items x }
+    requires y { IsCoded (S.state scopes.old).frame fragments.old.nodes.items y }
+    ensures { (notes : NotesOf) → Coding (S.state scopes.old) (S.state scopes.new) notes notes fragments.old.nodes.items fragments.new.nodes.items site.now result AreElements elements_in (λ c. gives (spec_range c (elements_in fragments.old.nodes.items es) (coded_in fragments.old.nodes.items x) (coded_in fragments.old.nodes.items y))) }
+{
+    let set = with_elements(es.set, x.operand, y.operand);
+    let code = analysed!(range_code(scopes, site, es.code, x, y, fragments));
+    Ok(Ask::Known(Elements { set, code }))
+}
+
+/// The empty set, and then the code that adds the elements.
+fn from_empty(fragments: &mut Fragments, code: Fragment) -> Result<Fragment, Memory>
+    requires { IsIn fragments.old.nodes.items code }
+    ensures { IsMade fragments.old.nodes.items fragments.new.nodes.items result (plain (Instr.Push (pos 0) ∷ []) ⨟ part fragments.old.nodes.items code) }
+{
+    let empty = fragments.one(Instr::Push(0))?;
+    fragments.then(empty, code)
+}
+
+/// The set of this type that the elements make.
+pub fn set_coded(of: Place, es: Elements, fragments: &mut Fragments) -> Result<Ask<Coded>, Memory>
+    requires code { IsIn fragments.old.nodes.items es.code }
+    ensures { (state : State) (notes : NotesOf) (site : SiteOf) → IsThere state.frame of → AreElements state.frame fragments.old.nodes.items es → Coding state state notes notes fragments.old.nodes.items fragments.new.nodes.items site result IsCoded coded_in (λ c. gives (spec_set of (elements_in fragments.old.nodes.items es))) }
+{
+    match es.set {
+        Operand::Constant(_, bits) => { Ok(Ask::Known(Coded::bare(Operand::Constant(of, bits)))) }
+        Operand::InError => Ok(Ask::Known(Coded::in_error())),
+        _ => {
+            let code = from_empty(fragments, es.code)?;
+            Ok(Ask::Known(Coded::new(Operand::Computed(of), code)))
+        }
+    }
+}
