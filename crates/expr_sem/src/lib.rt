@@ -29,6 +29,17 @@ macro_rules! analysed {
     };
 }
 
+/// The value of an answer within an analysis, or the end of the function where it isn't known yet.
+macro_rules! asked {
+    ($asked:expr) => {
+        match $asked {
+            Ask::Known(value) => value,
+            Ask::DontKnowYet(head) => return Ok(Ask::DontKnowYet(head)),
+        }
+    };
+}
+
+mod chains;
 mod coded;
 mod elements;
 mod fitting;
@@ -44,6 +55,7 @@ mod set_elements;
 mod standard_functions;
 mod standard_procedures;
 mod steps;
+mod value_functions;
 mod values;
 mod variables;
 
