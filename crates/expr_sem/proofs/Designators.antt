@@ -4,7 +4,7 @@ use Rattle.m2_base.specs.declared.rows.Mode.TheVariants.{Plain, ByAddress, Open}
 use Rattle.m2_base.specs.declared.rows.RowMeaning.TheVariants.{Proc, Module, Standard, Const, TypeName, Var, Field, Array, OpenArray, Record, Pointer}
 use Rattle.code_form.specs.declared.instr.Instr.TheVariants.{Push, Local, Global, Load, Offset, Index, IndexOpen, Nil}
 use Rattle.expr_sem.proofs.Moves.{Moves-then, Moves-none, Moves-raise, plain-moves}
-use Rattle.expr_sem.proofs.Values.{with_operand, GoodAs, Good, Valued, value-moves, both_ways}
+use Rattle.expr_sem.proofs.ValueHeights.{with_operand, GoodAs, Good, Valued, value-moves, both_ways}
 use Rattle.expr_sem.proofs.Functions.{assigned-good}
 use Rattle.code_form.specs.declared.instr.Instr.{Instr}
 use Rattle.expr_sem.specs.Coded.{Coded, bare, coded, in_error, no_high, value_code}

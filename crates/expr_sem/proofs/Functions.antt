@@ -4,7 +4,7 @@ use Rattle.m2_base.specs.declared.rows.RowMeaning.TheVariants.{Array, OpenArray}
 use Rattle.m2_base.specs.declared.builtins.Builtin.TheVariants.{Abs, Cap, Chr, Dec, Dispose, Excl, Halt, High, Inc, Incl, Max, Min, New, Odd, Ord, Size, Val}
 use Rattle.code_form.specs.declared.instr.Instr.TheVariants.{Push, Check, Eq, Mod as Remainder, Abs as Magnitude, Cap as Capital}
 use Rattle.expr_sem.proofs.Moves.{Moves-then, Moves-none, plain-moves}
-use Rattle.expr_sem.proofs.Values.{with_operand, GoodAs, Good, Valued, as_value-good, value-moves, made-good, both_ways, taken_go}
+use Rattle.expr_sem.proofs.ValueHeights.{with_operand, GoodAs, Good, Valued, as_value-good, value-moves, made-good, both_ways, taken_go}
 use Rattle.code_form.specs.declared.instr.Instr.{Instr}
 use Rattle.expr_sem.specs.Coded.{Coded, bare, coded, in_error, taken, value_code}
 use Rattle.expr_sem.specs.Fitting.{check_of, fit_check, fitted_code, reaches_beyond}

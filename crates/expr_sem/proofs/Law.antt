@@ -2,7 +2,7 @@
 -- before; a variable's code leaves its address. By induction on the syntax.
 use Rattle.std.specs.Prelude.{◌≡◌, refl, ℕ, true, false, List, [], ◌∷◌}
 use Rattle.expr_sem.proofs.Moves.{Moves-none}
-use Rattle.expr_sem.proofs.Values.{Good, GoodAs, Valued, as_value-good, value-moves, one_coded-good, two_coded-valued, GoodSet, element-good, add_element-good, add_range-good, set-good}
+use Rattle.expr_sem.proofs.ValueHeights.{Good, GoodAs, Valued, as_value-good, value-moves, one_coded-good, two_coded-valued, GoodSet, element-good, add_element-good, add_range-good, set-good}
 use Rattle.expr_sem.proofs.Functions.{no_argument-good, one_argument-good, two_arguments-good}
 use Rattle.expr_sem.proofs.Designators.{name-good, select_field-good, select_target-good, select_element-good}
 use Rattle.expr_sem.proofs.Passing.{Passes, argument-good, after-all, called-good, by_called-good}

@@ -1,9 +1,11 @@
 pub mod Moves
 pub mod CodeChecks
 pub mod CallChecks
-pub mod Values
+pub mod ValueHeights
 pub mod Functions
 pub mod Designators
 pub mod Passing
 pub mod Proper
 pub mod Law
+pub mod Operating
+pub mod Sequencing

@@ -4,7 +4,7 @@ use Rattle.std.proofs.Common.{sym, subst, arith, zero-add}
 use Rattle.m2_base.specs.declared.rows.RowMeaning.TheVariants.{Array, OpenArray}
 use Rattle.code_form.specs.declared.instr.Instr.TheVariants.{Push, Local, Load, Move, Call, CallX}
 use Rattle.expr_sem.proofs.Moves.{Moves-then, Moves-none, Moves-raise, plain-moves, text-moves, call-moves}
-use Rattle.expr_sem.proofs.Values.{with_operand, GoodAs, Good, Valued, as_value-good, both_ways}
+use Rattle.expr_sem.proofs.ValueHeights.{with_operand, GoodAs, Good, Valued, as_value-good, both_ways}
 use Rattle.expr_sem.proofs.Functions.{fitted-moves, assigned-good}
 use Rattle.code_form.specs.Valid.{jump_of}
 use Rattle.code_form.specs.declared.instr.Instr.{Instr}

@@ -4,7 +4,7 @@ use Rattle.std.proofs.Common.{zero-add}
 use Rattle.m2_base.specs.declared.builtins.Builtin.TheVariants.{Dec, Dispose, Excl, Halt, Inc, Incl, New, Val}
 use Rattle.code_form.specs.declared.instr.Instr.TheVariants.{Push, Load, Store, Dup, Check, Add, Sub, Bit, Union, Diff, New as Room, Halt as Stop}
 use Rattle.expr_sem.proofs.Moves.{Moves-then, Moves-raise, plain-moves, call-moves}
-use Rattle.expr_sem.proofs.Values.{with_operand, GoodAs, Good, Valued, as_value-good, value-moves, both_ways, taken_go}
+use Rattle.expr_sem.proofs.ValueHeights.{with_operand, GoodAs, Good, Valued, as_value-good, value-moves, both_ways, taken_go}
 use Rattle.expr_sem.proofs.Functions.{fitted-moves, range_go}
 use Rattle.expr_sem.proofs.Passing.{Moves-at, Passes, GoodCall, called-good, unless_true}
 use Rattle.expr_sem.proofs.Law.{expression-good, passed-good, designated-good}
