@@ -18,6 +18,8 @@ pub mod Fragments
 pub mod Codings
 pub mod Kinds
 pub mod ValueFunctions
+pub mod VariableArguments
+pub mod Updates
 pub mod Pieces
 pub mod Refusals
 pub mod Targets

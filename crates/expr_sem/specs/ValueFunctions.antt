@@ -6,6 +6,7 @@ use Rattle.m2_base.specs.States.{Frame}
 use Rattle.m2_base.specs.Statics.Contexts.{Context, Scene}
 use Rattle.m2_base.specs.Statics.Functions.{val_of}
 use Rattle.m2_base.specs.Statics.Operands.{operand_type}
+use Rattle.m2_base.specs.Statics.Types.{range_of, size_of}
 use Rattle.m2_base.specs.declared.operands.Operand.{Operand}
 use Rattle.m2_base.specs.declared.rows.Place.{Place}
 use Rattle.code_form.specs.declared.instr.Instr.{Instr}
@@ -18,7 +19,7 @@ use Rattle.expr_sem.specs.Coded.{Coded, value_code}
 use Rattle.expr_sem.specs.Fitting.{fitted_code}
 use Rattle.expr_sem.specs.Operators.{made, side_of}
 use Rattle.expr_sem.specs.Parts.{Part, plain, ◌⨟◌}
-use Rattle.expr_sem.specs.StandardFunctions.{magnitude, named_type}
+use Rattle.expr_sem.specs.StandardFunctions.{high_of_range, magnitude, named_type}
 use Rattle.expr_sem.specs.declared.value_functions.Ending.{Ending}
 use Rattle.expr_sem.specs.declared.value_functions.Ending.TheVariants.{Nothing, Magnitude, Capital, Oddness}
 use Rattle.expr_sem.specs.declared.value_functions.Rule.{Rule}
@@ -76,3 +77,11 @@ under c rule at v = and_then (rule_of c rule at v.operand) (λ r. gives (made r 
 abbrev pub IsRuleHere : Frame → Rule → Type 0
 IsRuleHere f (Val t) = IsOperand f t.operand
 IsRuleHere f other = Unit {0}
+
+-- the number of elements less 1 of an array with this index type, pushed
+abbrev pub pushed_high : Scene → (index : Place) → Part
+pushed_high scene i = plain (Push (high_of_range (range_of scene i)) ∷ [])
+
+-- the size of a type, pushed
+abbrev pub pushed_size : Scene → Place → Part
+pushed_size scene t = plain (Push (pos (size_of scene t)) ∷ [])

@@ -55,8 +55,10 @@ mod set_elements;
 mod standard_functions;
 mod standard_procedures;
 mod steps;
+mod updates;
 mod value_functions;
 mod values;
+mod variable_arguments;
 mod variables;
 
 pub use coded::{Coded, Placed};

@@ -138,7 +138,7 @@ fn function_ending<S: Scopes>(
         ValueFunction::Abs => magnitude(scopes, site, of),
         ValueFunction::Cap => Ask::Known(Ending::Capital),
         ValueFunction::Odd => {
-            Ask::Known(Ending::Oddness(known!(side_of(scopes, site.around, of))))
+            Ask::Known(Ending::Oddness(known!(side_of(scopes, site, of))))
         }
         _ => Ask::Known(Ending::Nothing),
     }
