@@ -9,3 +9,4 @@ pub mod Proper
 pub mod Law
 pub mod Operating
 pub mod Sequencing
+pub mod Pushing

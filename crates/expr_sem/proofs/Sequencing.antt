@@ -1,25 +1,23 @@
 -- Fragments made one after another: an earlier one stands for the same part later.
-use Rattle.std.proofs.Common.{◌≡◌, ◌∙◌, ◌++◌, ◌∷◌, [], ℕ, ◌+◌, ◌<◌, ◌≤◌, List, length, Option, Some, None, Result, Ok, Err, ap, sym, subst, refl, arith, append_assoc}
+use Rattle.std.proofs.Common.{◌≡◌, ◌∙◌, ◌++◌, ◌∷◌, [], ℕ, ◌+◌, ◌<◌, List, length, Result, Ok, Err, ap, sym, subst, refl, arith}
 use Rattle.std.specs.Prelude.{slice_index_or}
-use Rattle.std.specs.Option.{IfSome}
 use Rattle.std.proofs.lemmas.List.{get_or_append_left, length-append, length_push}
-use Rattle.m2_base.specs.Lists.{IsPrefixOf}
 use Rattle.m2_base.specs.declared.memory.Memory.{Memory}
 use Rattle.m2_base.proofs.Kept.{IsPrefixOf-refl, IsPrefixOf-trans}
-use Rattle.expr_sem.specs.Fragments.{Grows, IsFragmentOf, IsIn, IsMade, MadeBy, part, part_among, part_by, parts_after}
+use Rattle.expr_sem.specs.Fragments.{Grows, IsIn, IsMade, MadeBy, part, part_by, parts_after}
 use Rattle.expr_sem.specs.Parts.{Part, none}
 use Rattle.expr_sem.specs.declared.fragments.Fragment.{Fragment}
 use Rattle.expr_sem.specs.declared.fragments.Fragment.TheVariants.{Nothing, Node as NodeOf}
 use Rattle.expr_sem.specs.declared.fragments.Node.{Node}
 
-parts_length : (ps : List Part) (ns : List Node) → length (parts_after ps ns) ≡ length ps + length ns
+pub parts_length : (ps : List Part) (ns : List Node) → length (parts_after ps ns) ≡ length ps + length ns
 parts_length ps [] = omega arith
 parts_length ps (n ∷ ns) =
     let e = parts_length (ps ++ part_by ps n.form ∷ []) ns in
     let l = length_push ps (part_by ps n.form) in
     omega (arith, e, l)
 
-parts_append : (ps : List Part) (xs ys : List Node) → parts_after ps (xs ++ ys) ≡ parts_after (parts_after ps xs) ys
+pub parts_append : (ps : List Part) (xs ys : List Node) → parts_after ps (xs ++ ys) ≡ parts_after (parts_after ps xs) ys
 parts_append ps [] ys = refl
 parts_append ps (x ∷ xs) ys = parts_append (ps ++ part_by ps x.form ∷ []) xs ys
 
@@ -30,7 +28,7 @@ parts_kept ps (n ∷ ns) k h =
     parts_kept (ps ++ part_by ps n.form ∷ []) ns k (omega (arith, h, l)) ∙ get_or_append_left ps (part_by ps n.form ∷ []) none k h
 
 -- behind further nodes a fragment stands for the same part
-part_before : (xs ys : List Node) (f : Fragment) → IsIn xs f → part (xs ++ ys) f ≡ part xs f
+pub part_before : (xs ys : List Node) (f : Fragment) → IsIn xs f → part (xs ++ ys) f ≡ part xs f
 part_before xs ys Nothing h = refl
 part_before xs ys (NodeOf k) h =
     let l = parts_length [] xs in

@@ -1,9 +1,8 @@
 //! Fragments of code: each is made of earlier ones, so that no code is copied while a statement is put together.
-ghost use Rattle.std.specs.Prelude.{◌≡◌, ◌∷◌, [], OnOk, IfOk};
-ghost use Rattle.m2_base.specs.Lists.{IsPrefixOf};
+ghost use Rattle.std.specs.Prelude.{◌≡◌, ◌∷◌, [], length};
 ghost use Rattle.expr_sem.specs.Arguments.{string_copy as spec_copy};
-ghost use Rattle.expr_sem.specs.Fragments.{AreSound, Grows, IsMade, jump_of, part, step_view};
-ghost use Rattle.expr_sem.specs.Parts.{none, plain, skip as spec_skip, steps, text as spec_text, with_record as spec_record, ◌⨟◌};
+ghost use Rattle.expr_sem.specs.Fragments.{AreSound, IsIn, IsMade, IsMadeOf, jump_of, part, part_by, parts_after, step_view};
+ghost use Rattle.expr_sem.specs.Parts.{Spot, plain, skip as spec_skip, steps, steps_size, text as spec_text, with_record as spec_record, ◌⨟◌};
 
 use crate::steps::Step;
 use code_form::Instr;
@@ -65,11 +64,52 @@ impl Fragments {
         }
     }
 
+    /// The fragment, where it is one of these. Any other stands for no code.
+    fn own(&self, fragment: Fragment) -> Fragment
+        ensures there { IsIn self.now.nodes.items result }
+        ensures same { part self.now.nodes.items result ≡ part self.now.nodes.items fragment }
+    {
+        match fragment {
+            Fragment::Nothing => Fragment::Nothing,
+            Fragment::Node(number) => {
+                if (number as usize) < self.nodes.len() {
+                    fragment
+                } else {
+                    Fragment::Nothing
+                }
+            }
+        }
+    }
+
+    /// The length of its code in bytes.
+    pub fn size(&self, fragment: Fragment) -> u64
+        requires there { IsIn self.now.nodes.items fragment }
+        ensures { AreSound self.now.nodes.items → (at : Spot) → steps_size (part self.now.nodes.items fragment at).code ≡ result }
+    {
+        match fragment {
+            Fragment::Nothing => 0,
+            Fragment::Node(number) => self.nodes[number as usize].size,
+        }
+    }
+
+    /// A further node, with the length of its code.
+    fn push(&mut self, form: Form, size: u64) -> Result<Fragment, Memory>
+        requires earlier { IsMadeOf (length self.now.nodes.items) form }
+        requires size { AreSound self.now.nodes.items → (at : Spot) → steps_size (part_by (parts_after [] self.now.nodes.items) form at).code ≡ size }
+        ensures made { IsMade self.old.nodes.items self.new.nodes.items result (part_by (parts_after [] self.old.nodes.items) form) }
+    {
+        let Ok(number) = u32::try_from(self.nodes.len()) else {
+            return Err(Memory);
+        };
+        self.nodes.push(Node { form, size })?;
+        Ok(Fragment::Node(number))
+    }
+
     /// One step.
     pub fn step(&mut self, step: Step) -> Result<Fragment, Memory>
         ensures made { IsMade self.old.nodes.items self.new.nodes.items result (steps (step_view step ∷ [])) }
     {
-        Err(Memory)
+        self.push(Form::One(step), step.size())
     }
 
     /// One instruction that is no call and no return.
@@ -83,34 +123,42 @@ impl Fragments {
     pub fn then(&mut self, first: Fragment, second: Fragment) -> Result<Fragment, Memory>
         ensures made { IsMade self.old.nodes.items self.new.nodes.items result (part self.old.nodes.items first ⨟ part self.old.nodes.items second) }
     {
-        Err(Memory)
+        let (first, second) = (self.own(first), self.own(second));
+        let Some(size) = self.size(first).checked_add(self.size(second)) else {
+            return Err(Memory);
+        };
+        self.push(Form::Then(first, second), size)
     }
 
     /// A fragment that is skipped where the operand before it decides.
     pub fn skip(&mut self, connective: Connective, skipped: Fragment) -> Result<Fragment, Memory>
         ensures made { IsMade self.old.nodes.items self.new.nodes.items result (spec_skip (jump_of connective) (part self.old.nodes.items skipped)) }
     {
-        Err(Memory)
+        let skipped = self.own(skipped);
+        let Some(size) = self.size(skipped).checked_add(5) else {
+            return Err(Memory);
+        };
+        self.push(Form::Skip(connective, skipped), size)
     }
 
     /// The address of these characters in the block's data.
     pub fn text(&mut self, characters: Vec<u8>) -> Result<Fragment, Memory>
         ensures made { IsMade self.old.nodes.items self.new.nodes.items result (spec_text characters.items) }
     {
-        Err(Memory)
+        self.push(Form::Text(characters), 5)
     }
 
     /// The address of so many temporary cells with a copy of these characters.
     pub fn string_copy(&mut self, size: u32, characters: Vec<u8>) -> Result<Fragment, Memory>
         ensures made { IsMade self.old.nodes.items self.new.nodes.items result (spec_copy size characters.items) }
     {
-        Err(Memory)
+        self.push(Form::StringCopy(size, characters), 28)
     }
 
     /// The address of the record of an open WITH, of which 0 is the innermost.
     pub fn with_record(&mut self, number: u32) -> Result<Fragment, Memory>
         ensures made { IsMade self.old.nodes.items self.new.nodes.items result (spec_record number) }
     {
-        Err(Memory)
+        self.push(Form::WithRecord(number), 10)
     }
 }
