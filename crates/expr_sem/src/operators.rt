@@ -1,11 +1,228 @@
-//! The code of operators.
-ghost use Rattle.expr_sem.specs.Codings.{Coding, IsCoded, coded_in};
-ghost use Rattle.expr_sem.specs.Operators.{one_coded as spec_one, two_coded as spec_two};
-ghost use Rattle.type_rules.specs.Sites.{SuitsSite};
+//! The code of operators: the operands' values from left to right, and then the instruction.
+ghost use Rattle.std.specs.Prelude.{◌≡◌, ◌∷◌, [], List};
+ghost use Rattle.m2_base.specs.Gives.{gives};
+ghost use Rattle.m2_base.specs.States.{Frame, Waits};
+ghost use Rattle.m2_base.specs.Statics.Operands.{operand_type as spec_type};
+ghost use Rattle.m2_base.specs.Statics.Operations.{is_set_kind};
+ghost use Rattle.m2_base.specs.declared.notes.Notes.{Notes as NotesOf};
+ghost use Rattle.const_eval.specs.Sites.{IsOperand};
+ghost use Rattle.expr_sem.specs.Coded.{value_code as spec_value, with_char as spec_char};
+ghost use Rattle.expr_sem.specs.Codings.{Coding, IsCoded, IsFragment, coded_in};
+ghost use Rattle.expr_sem.specs.Fragments.{IsIn, IsMade, jump_of, part};
+ghost use Rattle.expr_sem.specs.Operators.{made as spec_made, one_coded as spec_one, one_instr, operation_code as spec_operation, scalar_instr, set_instr, side_of as spec_side, two_coded as spec_two, two_instr};
+ghost use Rattle.expr_sem.specs.Parts.{plain, skip, ◌⨟◌};
+ghost use Rattle.expr_sem.specs.declared.fragments.Node.{Node};
+ghost use Rattle.type_rules.specs.Asks.{Reads, WhereKnown, WhereWaiting};
+ghost use Rattle.type_rules.specs.Scenes.{IsThere, WhereTold};
+ghost use Rattle.type_rules.specs.Sites.{SuitsSite, context_of};
 
 use crate::coded::{Coded, Placed};
-use crate::fragments::Fragments;
-use m2_base::{Ask, Memory, Notes, Operator, Scopes, Site};
+use crate::fragments::{Connective, Fragment, Fragments};
+use crate::values::value_code;
+use code_form::Instr;
+use const_eval::{Argument, applied_one, char_or_same, operated};
+use m2_base::{Ask, Memory, Notes, Operand, Operator, Place, RowMeaning, Scopes, Site};
+use type_rules::{INTEGER, base_of, operand_type, stand};
+
+/// A result with its code, which a constant doesn't need; anything else is in error.
+pub fn made(operand: Operand, code: Fragment) -> Coded
+    ensures told { (nodes : List Node) → coded_in nodes result ≡ spec_made operand (part nodes code) }
+    ensures there { (f : Frame) (nodes : List Node) → IsOperand f operand → IsIn nodes code → IsCoded f nodes result }
+{
+    match operand {
+        Operand::Computed(_) => Coded::new(operand, code),
+        Operand::Constant(..) => Coded::bare(operand),
+        _ => Coded::in_error(),
+    }
+}
+
+/// The instruction of an operator whose right operand is a set.
+fn set_instruction(op: Operator) -> Instr
+    ensures { result ≡ set_instr op }
+{
+    match op {
+        Operator::Plus => Instr::Union,
+        Operator::Minus => Instr::Diff,
+        Operator::Times => Instr::Inter,
+        Operator::Slash => Instr::SymDiff,
+        Operator::LessEqual => Instr::Subset,
+        Operator::GreaterEqual => Instr::Superset,
+        Operator::Equal => Instr::Eq,
+        Operator::Unequal => Instr::Ne,
+        _ => Instr::In,
+    }
+}
+
+/// The instruction of an operator on scalars. The side is 0 for INTEGER.
+fn scalar_instruction(side: u8, op: Operator) -> Instr
+    ensures { result ≡ scalar_instr side op }
+{
+    match op {
+        Operator::Plus => Instr::Add(side),
+        Operator::Minus => Instr::Sub(side),
+        Operator::Times => Instr::Mul(side),
+        Operator::Div => Instr::Div(side),
+        Operator::Mod => Instr::Mod(side),
+        Operator::Unequal => Instr::Ne,
+        Operator::Less => Instr::Lt,
+        Operator::LessEqual => Instr::Le,
+        Operator::Greater => Instr::Gt,
+        Operator::GreaterEqual => Instr::Ge,
+        _ => Instr::Eq,
+    }
+}
+
+/// 0 tells INTEGER, 1 all other types.
+#[tactic(auto, using(type_rules::proofs::Reading::reading))]
+pub fn side_of<S: Scopes>(scopes: &mut S, site: &Site, of: Place) -> Ask<u8>
+    requires suits { SuitsSite (S.state scopes.old).frame site.now }
+    requires of { IsThere (S.state scopes.old).frame of }
+    ensures reads { Reads (S.state scopes.old) (S.state scopes.new) }
+    ensures waits { WhereWaiting result (λ head. Waits (S.state scopes.old) (S.state scopes.new) head) }
+    ensures told { WhereTold (S.state scopes.old).frame (λ made.
+        WhereKnown result (λ side. let c = context_of (S.state scopes.old).frame made site.now in side ≡ spec_side c.scene of)) }
+{
+    let base = known!(base_of(scopes, site.around, of));
+    Ask::Known(if base == INTEGER { 0 } else { 1 })
+}
+
+/// Whether a row is that of a set.
+fn is_set(meaning: RowMeaning) -> bool
+    ensures { result ≡ is_set_kind meaning }
+{
+    matches!(meaning, RowMeaning::Set(_))
+}
+
+/// The instruction of an operator, by its result's type and its right operand's.
+#[tactic(auto, using(type_rules::proofs::Reading::reading))]
+fn instruction<S: Scopes>(
+    scopes: &mut S,
+    site: &Site,
+    op: Operator,
+    of: Place,
+    right: Place,
+) -> Ask<Instr>
+    requires suits { SuitsSite (S.state scopes.old).frame site.now }
+    requires of { IsThere (S.state scopes.old).frame of }
+    requires right { IsThere (S.state scopes.old).frame right }
+    ensures reads { Reads (S.state scopes.old) (S.state scopes.new) }
+    ensures waits { WhereWaiting result (λ head. Waits (S.state scopes.old) (S.state scopes.new) head) }
+    ensures told { WhereTold (S.state scopes.old).frame (λ made.
+        WhereKnown result (λ instr. let c = context_of (S.state scopes.old).frame made site.now in instr ≡ two_instr c.scene op of right)) }
+{
+    let (_, meaning) = known!(stand(scopes, site.around, right));
+    if is_set(meaning) {
+        return Ask::Known(set_instruction(op));
+    }
+    let side = known!(side_of(scopes, site, of));
+    Ask::Known(scalar_instruction(side, op))
+}
+
+/// The instruction of an operator before one operand; plus has none.
+fn sign(fragments: &mut Fragments, op: Operator) -> Result<Fragment, Memory>
+    ensures { IsMade fragments.old.nodes.items fragments.new.nodes.items result (plain (one_instr op)) }
+{
+    match op {
+        Operator::Not => fragments.one(Instr::Not),
+        Operator::Minus => fragments.one(Instr::Neg),
+        _ => Ok(Fragment::Nothing),
+    }
+}
+
+/// A value, and then the operator that stands before it.
+fn signed(fragments: &mut Fragments, op: Operator, value: Fragment) -> Result<Fragment, Memory>
+    requires value { IsIn fragments.old.nodes.items value }
+    ensures { IsMade fragments.old.nodes.items fragments.new.nodes.items result (part fragments.old.nodes.items value ⨟ plain (one_instr op)) }
+{
+    let last = sign(fragments, op)?;
+    fragments.then(value, last)
+}
+
+/// Two values, the right one skipped where the left one decides.
+fn decided(
+    fragments: &mut Fragments,
+    connective: Connective,
+    x: Fragment,
+    y: Fragment,
+) -> Result<Fragment, Memory>
+    requires x { IsIn fragments.old.nodes.items x }
+    requires y { IsIn fragments.old.nodes.items y }
+    ensures { IsMade fragments.old.nodes.items fragments.new.nodes.items result (part fragments.old.nodes.items x ⨟ skip (jump_of connective) (part fragments.old.nodes.items y)) }
+{
+    let skipped = fragments.skip(connective, y)?;
+    fragments.then(x, skipped)
+}
+
+/// Two values, and then what takes them.
+pub(crate) fn after_both(
+    fragments: &mut Fragments,
+    x: Fragment,
+    y: Fragment,
+    last: Fragment,
+) -> Result<Fragment, Memory>
+    requires x { IsIn fragments.old.nodes.items x }
+    requires y { IsIn fragments.old.nodes.items y }
+    requires last { IsIn fragments.old.nodes.items last }
+    ensures { IsMade fragments.old.nodes.items fragments.new.nodes.items result (part fragments.old.nodes.items x ⨟ part fragments.old.nodes.items y ⨟ part fragments.old.nodes.items last) }
+{
+    let rest = fragments.then(y, last)?;
+    fragments.then(x, rest)
+}
+
+/// Two values, and then an instruction.
+fn applied(
+    fragments: &mut Fragments,
+    x: Fragment,
+    y: Fragment,
+    instr: Instr,
+) -> Result<Fragment, Memory>
+    requires x { IsIn fragments.old.nodes.items x }
+    requires y { IsIn fragments.old.nodes.items y }
+    ensures { IsMade fragments.old.nodes.items fragments.new.nodes.items result (part fragments.old.nodes.items x ⨟ part fragments.old.nodes.items y ⨟ plain (instr ∷ [])) }
+{
+    let last = fragments.one(instr)?;
+    after_both(fragments, x, y, last)
+}
+
+/// The code of an operator before one operand.
+fn one_code<S: Scopes>(
+    scopes: &mut S,
+    site: &Site,
+    op: Operator,
+    x: Coded,
+    fragments: &mut Fragments,
+) -> Result<Ask<Fragment>, Memory>
+    requires suits { SuitsSite (S.state scopes.old).frame site.now }
+    requires x { IsCoded (S.state scopes.old).frame fragments.old.nodes.items x }
+    ensures { (notes : NotesOf) → Coding (S.state scopes.old) (S.state scopes.new) notes notes fragments.old.nodes.items fragments.new.nodes.items site.now result IsFragment part (λ c. gives (spec_value c (coded_in fragments.old.nodes.items x) ⨟ plain (one_instr op))) }
+{
+    let value = analysed!(value_code(scopes, site, x, fragments));
+    let code = signed(fragments, op, value)?;
+    Ok(Ask::Known(code))
+}
+
+/// What an operator before one operand makes, by its result.
+fn one_made<S: Scopes>(
+    scopes: &mut S,
+    site: &Site,
+    op: Operator,
+    result_is: Operand,
+    x: Coded,
+    fragments: &mut Fragments,
+) -> Result<Ask<Coded>, Memory>
+    requires suits { SuitsSite (S.state scopes.old).frame site.now }
+    requires result_is { IsOperand (S.state scopes.old).frame result_is }
+    requires x { IsCoded (S.state scopes.old).frame fragments.old.nodes.items x }
+    ensures { (notes : NotesOf) → Coding (S.state scopes.old) (S.state scopes.new) notes notes fragments.old.nodes.items fragments.new.nodes.items site.now result IsCoded coded_in (λ c. gives (spec_made result_is (spec_value c (coded_in fragments.old.nodes.items x) ⨟ plain (one_instr op)))) }
+{
+    match result_is {
+        Operand::Computed(_) => {
+            let code = analysed!(one_code(scopes, site, op, x, fragments));
+            Ok(Ask::Known(made(result_is, code)))
+        }
+        _ => Ok(Ask::Known(made(result_is, Fragment::Nothing))),
+    }
+}
 
 /// An operator before one operand.
 pub fn one_coded<S: Scopes>(
@@ -21,7 +238,132 @@ pub fn one_coded<S: Scopes>(
     requires x { IsCoded (S.state scopes.old).frame fragments.old.nodes.items x }
     ensures { Coding (S.state scopes.old) (S.state scopes.new) notes.old notes.new fragments.old.nodes.items fragments.new.nodes.items site.now result IsCoded coded_in (λ c. spec_one c op op_at (coded_in fragments.old.nodes.items x)) }
 {
-    Err(Memory)
+    let given = analysed!(applied_one(scopes, site, op, op_at, x.operand, notes));
+    one_made(scopes, site, op, given, x, fragments)
+}
+
+/// The code of a value, where a string of one character is a CHAR.
+fn char_value<S: Scopes>(
+    scopes: &mut S,
+    site: &Site,
+    x: Coded,
+    fragments: &mut Fragments,
+) -> Result<Ask<Fragment>, Memory>
+    requires suits { SuitsSite (S.state scopes.old).frame site.now }
+    requires x { IsCoded (S.state scopes.old).frame fragments.old.nodes.items x }
+    ensures { (notes : NotesOf) → Coding (S.state scopes.old) (S.state scopes.new) notes notes fragments.old.nodes.items fragments.new.nodes.items site.now result IsFragment part (λ c. gives (spec_value c (spec_char c (coded_in fragments.old.nodes.items x)))) }
+{
+    let texts = site.texts;
+    let operand = char_or_same(&texts.names, x.operand);
+    value_code(scopes, site, x.taken(operand), fragments)
+}
+
+/// Two values and the instruction of an operator.
+fn instructed<S: Scopes>(
+    scopes: &mut S,
+    site: &Site,
+    op: Operator,
+    of: Place,
+    right: Place,
+    x: Fragment,
+    y: Fragment,
+    fragments: &mut Fragments,
+) -> Result<Ask<Fragment>, Memory>
+    requires suits { SuitsSite (S.state scopes.old).frame site.now }
+    requires of { IsThere (S.state scopes.old).frame of }
+    requires right { IsThere (S.state scopes.old).frame right }
+    requires x { IsIn fragments.old.nodes.items x }
+    requires y { IsIn fragments.old.nodes.items y }
+    ensures { (notes : NotesOf) → Coding (S.state scopes.old) (S.state scopes.new) notes notes fragments.old.nodes.items fragments.new.nodes.items site.now result IsFragment part (λ c. gives (part fragments.old.nodes.items x ⨟ part fragments.old.nodes.items y ⨟ plain (two_instr c.scene op of right ∷ []))) }
+{
+    let instr = match instruction(scopes, site, op, of, right) {
+        Ask::Known(instr) => instr,
+        Ask::DontKnowYet(head) => return Ok(Ask::DontKnowYet(head)),
+    };
+    let code = applied(fragments, x, y, instr)?;
+    Ok(Ask::Known(code))
+}
+
+/// An operator between two values, by its result's type and its right operand's.
+fn operation_code<S: Scopes>(
+    scopes: &mut S,
+    site: &Site,
+    op: Operator,
+    of: Place,
+    right: Place,
+    x: Fragment,
+    y: Fragment,
+    fragments: &mut Fragments,
+) -> Result<Ask<Fragment>, Memory>
+    requires suits { SuitsSite (S.state scopes.old).frame site.now }
+    requires of { IsThere (S.state scopes.old).frame of }
+    requires right { IsThere (S.state scopes.old).frame right }
+    requires x { IsIn fragments.old.nodes.items x }
+    requires y { IsIn fragments.old.nodes.items y }
+    ensures { (notes : NotesOf) → Coding (S.state scopes.old) (S.state scopes.new) notes notes fragments.old.nodes.items fragments.new.nodes.items site.now result IsFragment part (λ c. gives (spec_operation c.scene op of right (part fragments.old.nodes.items x) (part fragments.old.nodes.items y))) }
+{
+    match op {
+        Operator::And => Ok(Ask::Known(decided(fragments, Connective::And, x, y)?)),
+        Operator::Or => Ok(Ask::Known(decided(fragments, Connective::Or, x, y)?)),
+        _ => instructed(scopes, site, op, of, right, x, y, fragments),
+    }
+}
+
+/// The code of an operator between two operands, by its result's type.
+fn two_code<S: Scopes>(
+    scopes: &mut S,
+    site: &Site,
+    op: Operator,
+    of: Place,
+    x: Coded,
+    y: Coded,
+    fragments: &mut Fragments,
+) -> Result<Ask<Fragment>, Memory>
+    requires suits { SuitsSite (S.state scopes.old).frame site.now }
+    requires of { IsThere (S.state scopes.old).frame of }
+    requires x { IsCoded (S.state scopes.old).frame fragments.old.nodes.items x }
+    requires y { IsCoded (S.state scopes.old).frame fragments.old.nodes.items y }
+    ensures { (notes : NotesOf) → Coding (S.state scopes.old) (S.state scopes.new) notes notes fragments.old.nodes.items fragments.new.nodes.items site.now result IsFragment part (λ c. gives (spec_operation c.scene op of (spec_type y.operand) (spec_value c (spec_char c (coded_in fragments.old.nodes.items x))) (spec_value c (spec_char c (coded_in fragments.old.nodes.items y))))) }
+{
+    let left = analysed!(char_value(scopes, site, x, fragments));
+    let right = analysed!(char_value(scopes, site, y, fragments));
+    operation_code(scopes, site, op, of, operand_type(&y.operand), left, right, fragments)
+}
+
+/// What an operator between two operands makes, by its result.
+fn two_made<S: Scopes>(
+    scopes: &mut S,
+    site: &Site,
+    op: Operator,
+    result_is: Operand,
+    x: Coded,
+    y: Coded,
+    fragments: &mut Fragments,
+) -> Result<Ask<Coded>, Memory>
+    requires suits { SuitsSite (S.state scopes.old).frame site.now }
+    requires result_is { IsOperand (S.state scopes.old).frame result_is }
+    requires x { IsCoded (S.state scopes.old).frame fragments.old.nodes.items x }
+    requires y { IsCoded (S.state scopes.old).frame fragments.old.nodes.items y }
+    ensures { (notes : NotesOf) → Coding (S.state scopes.old) (S.state scopes.new) notes notes fragments.old.nodes.items fragments.new.nodes.items site.now result IsCoded coded_in (λ c. gives (spec_made result_is (spec_operation c.scene op (spec_type result_is) (spec_type y.operand) (spec_value c (spec_char c (coded_in fragments.old.nodes.items x))) (spec_value c (spec_char c (coded_in fragments.old.nodes.items y)))))) }
+{
+    match result_is {
+        Operand::Computed(of) => {
+            let code = analysed!(two_code(scopes, site, op, of, x, y, fragments));
+            Ok(Ask::Known(made(result_is, code)))
+        }
+        _ => Ok(Ask::Known(made(result_is, Fragment::Nothing))),
+    }
+}
+
+/// The operand alone, with its first token.
+fn argument(x: Placed) -> Argument
+    ensures at { result.at ≡ x.at }
+    ensures operand { result.operand ≡ x.coded.operand }
+{
+    Argument {
+        at: x.at,
+        operand: x.coded.operand,
+    }
 }
 
 /// An operator between two operands, with their first tokens.
@@ -40,5 +382,6 @@ pub fn two_coded<S: Scopes>(
     requires y { IsCoded (S.state scopes.old).frame fragments.old.nodes.items y.coded }
     ensures { Coding (S.state scopes.old) (S.state scopes.new) notes.old notes.new fragments.old.nodes.items fragments.new.nodes.items site.now result IsCoded coded_in (λ c. spec_two c op op_at x.at (coded_in fragments.old.nodes.items x.coded) y.at (coded_in fragments.old.nodes.items y.coded)) }
 {
-    Err(Memory)
+    let given = analysed!(operated(scopes, site, op, op_at, argument(x), argument(y), notes));
+    two_made(scopes, site, op, given, x.coded, y.coded, fragments)
 }

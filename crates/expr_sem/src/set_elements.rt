@@ -1,15 +1,16 @@
 //! The code of a set between brackets.
-ghost use Rattle.std.specs.Prelude.{◌≡◌, List};
+ghost use Rattle.std.specs.Prelude.{◌≡◌, ◌∷◌, [], List, pos};
 ghost use Rattle.m2_base.specs.Gives.{gives};
-ghost use Rattle.m2_base.specs.States.{State, Waits};
+ghost use Rattle.m2_base.specs.States.{Frame, State, Waits};
 ghost use Rattle.m2_base.specs.Statics.Sets.{set_base as spec_base};
 ghost use Rattle.m2_base.specs.declared.notes.Notes.{Notes as NotesOf};
 ghost use Rattle.m2_base.specs.declared.sites.Site.{Site as SiteOf};
 ghost use Rattle.const_eval.specs.Sites.{IsOperand};
 ghost use Rattle.expr_sem.specs.Codings.{Coding, IsCoded, coded_in};
-ghost use Rattle.expr_sem.specs.Fragments.{IsIn};
+ghost use Rattle.expr_sem.specs.Fragments.{IsIn, IsMade, part};
+ghost use Rattle.expr_sem.specs.Parts.{plain, ◌⨟◌};
 ghost use Rattle.expr_sem.specs.SetCodings.{AreElements, elements_in};
-ghost use Rattle.expr_sem.specs.SetElements.{add_element as spec_element, add_range as spec_range, element_coded as spec_coded, no_elements_yet, set_coded as spec_set};
+ghost use Rattle.expr_sem.specs.SetElements.{add_element as spec_element, add_range as spec_range, element_as as spec_as, element_coded as spec_coded, no_elements_yet, set_coded as spec_set};
 ghost use Rattle.expr_sem.specs.declared.fragments.Node.{Node};
 ghost use Rattle.type_rules.specs.Asks.{Reads, WhereKnown, WhereWaiting};
 ghost use Rattle.type_rules.specs.Scenes.{IsThere, WhereTold};
@@ -17,7 +18,10 @@ ghost use Rattle.type_rules.specs.Sites.{SuitsSite, context_of};
 
 use crate::coded::Coded;
 use crate::fragments::{Fragment, Fragments};
-use const_eval::{no_elements, set_base};
+use crate::operators::after_both;
+use crate::values::value_code;
+use code_form::Instr;
+use const_eval::{no_elements, set_base, taken, with_elements};
 use m2_base::{Ask, Memory, Notes, Operand, Place, Scopes, Site};
 
 /// What the elements make so far: the set by the static rule, and the code that adds each of them to the set on the stack.
@@ -34,8 +38,10 @@ pub fn set_start<S: Scopes>(scopes: &mut S, site: &Site, of: Place) -> Ask<(Plac
     requires of { IsThere (S.state scopes.old).frame of }
     ensures reads { Reads (S.state scopes.old) (S.state scopes.new) }
     ensures waits { WhereWaiting result (λ head. Waits (S.state scopes.old) (S.state scopes.new) head) }
+    ensures based { WhereTold (S.state scopes.old).frame (λ made.
+        WhereKnown result (λ given. let c = context_of (S.state scopes.old).frame made site.now in given.0 ≡ spec_base c of)) }
     ensures told { WhereTold (S.state scopes.old).frame (λ made.
-        WhereKnown result (λ given. let c = context_of (S.state scopes.old).frame made site.now in (nodes : List Node) → (given.0, elements_in nodes given.1) ≡ (spec_base c of, no_elements_yet c of))) }
+        WhereKnown result (λ given. let c = context_of (S.state scopes.old).frame made site.now in (nodes : List Node) → elements_in nodes given.1 ≡ no_elements_yet c of)) }
     ensures base { WhereKnown result (λ given. IsThere (S.state scopes.old).frame given.0) }
     ensures elements { WhereKnown result (λ given. (nodes : List Node) → AreElements (S.state scopes.old).frame nodes given.1) }
 {
@@ -46,6 +52,17 @@ pub fn set_start<S: Scopes>(scopes: &mut S, site: &Site, of: Place) -> Ask<(Plac
         code: Fragment::Nothing,
     };
     Ask::Known((base, elements))
+}
+
+/// An element or a bound, as the static rule takes it.
+fn element_as(x: Coded, operand: Operand) -> Coded
+    ensures told { (nodes : List Node) → coded_in nodes result ≡ spec_as (coded_in nodes x) operand }
+    ensures there { (f : Frame) (nodes : List Node) → IsOperand f operand → IsCoded f nodes x → IsCoded f nodes result }
+{
+    match operand {
+        Operand::InError => Coded::in_error(),
+        _ => x.taken(operand),
+    }
 }
 
 /// An element or a bound, as it is taken into a set with this base.
@@ -62,7 +79,31 @@ pub fn element_coded<S: Scopes>(
     requires x { IsOperand (S.state scopes.old).frame x.operand }
     ensures { (nodes : List Node) → IsCoded (S.state scopes.old).frame nodes x → Coding (S.state scopes.old) (S.state scopes.new) notes.old notes.new nodes nodes site.now result IsCoded coded_in (λ c. spec_coded c base at (coded_in nodes x)) }
 {
-    Err(Memory)
+    let operand = analysed!(taken(scopes, site, base, at, x.operand, notes));
+    Ok(Ask::Known(element_as(x, operand)))
+}
+
+/// Two instructions.
+fn pair(fragments: &mut Fragments, first: Instr, second: Instr) -> Result<Fragment, Memory>
+    ensures { IsMade fragments.old.nodes.items fragments.new.nodes.items result (plain (first ∷ second ∷ [])) }
+{
+    let first = fragments.one(first)?;
+    let second = fragments.one(second)?;
+    fragments.then(first, second)
+}
+
+/// The code of a set, then an element, which is added.
+fn with_element(
+    fragments: &mut Fragments,
+    set: Fragment,
+    value: Fragment,
+) -> Result<Fragment, Memory>
+    requires set { IsIn fragments.old.nodes.items set }
+    requires value { IsIn fragments.old.nodes.items value }
+    ensures { IsMade fragments.old.nodes.items fragments.new.nodes.items result (part fragments.old.nodes.items set ⨟ part fragments.old.nodes.items value ⨟ plain (Instr.Bit ∷ Instr.Union ∷ [])) }
+{
+    let last = pair(fragments, Instr::Bit, Instr::Union)?;
+    after_both(fragments, set, value, last)
 }
 
 /// With one more element.
@@ -78,7 +119,27 @@ pub fn add_element<S: Scopes>(
     requires x { IsCoded (S.state scopes.old).frame fragments.old.nodes.items x }
     ensures { (notes : NotesOf) → Coding (S.state scopes.old) (S.state scopes.new) notes notes fragments.old.nodes.items fragments.new.nodes.items site.now result AreElements elements_in (λ c. gives (spec_element c (elements_in fragments.old.nodes.items es) (coded_in fragments.old.nodes.items x))) }
 {
-    Err(Memory)
+    let value = analysed!(value_code(scopes, site, x, fragments));
+    let code = with_element(fragments, es.code, value)?;
+    let set = with_elements(es.set, x.operand, x.operand);
+    Ok(Ask::Known(Elements { set, code }))
+}
+
+/// The code of a set, then the bounds of a range, whose elements are added.
+fn with_span(
+    fragments: &mut Fragments,
+    set: Fragment,
+    low: Fragment,
+    high: Fragment,
+) -> Result<Fragment, Memory>
+    requires set { IsIn fragments.old.nodes.items set }
+    requires low { IsIn fragments.old.nodes.items low }
+    requires high { IsIn fragments.old.nodes.items high }
+    ensures { IsMade fragments.old.nodes.items fragments.new.nodes.items result (part fragments.old.nodes.items set ⨟ part fragments.old.nodes.items low ⨟ part fragments.old.nodes.items high ⨟ plain (Instr.Span ∷ Instr.Union ∷ [])) }
+{
+    let last = pair(fragments, Instr::Span, Instr::Union)?;
+    let rest = after_both(fragments, low, high, last)?;
+    fragments.then(set, rest)
 }
 
 /// With the elements of one more range.
@@ -96,7 +157,20 @@ pub fn add_range<S: Scopes>(
     requires y { IsCoded (S.state scopes.old).frame fragments.old.nodes.items y }
     ensures { (notes : NotesOf) → Coding (S.state scopes.old) (S.state scopes.new) notes notes fragments.old.nodes.items fragments.new.nodes.items site.now result AreElements elements_in (λ c. gives (spec_range c (elements_in fragments.old.nodes.items es) (coded_in fragments.old.nodes.items x) (coded_in fragments.old.nodes.items y))) }
 {
-    Err(Memory)
+    let low = analysed!(value_code(scopes, site, x, fragments));
+    let high = analysed!(value_code(scopes, site, y, fragments));
+    let code = with_span(fragments, es.code, low, high)?;
+    let set = with_elements(es.set, x.operand, y.operand);
+    Ok(Ask::Known(Elements { set, code }))
+}
+
+/// The empty set, and then the code that adds the elements.
+fn from_empty(fragments: &mut Fragments, code: Fragment) -> Result<Fragment, Memory>
+    requires { IsIn fragments.old.nodes.items code }
+    ensures { IsMade fragments.old.nodes.items fragments.new.nodes.items result (plain (Instr.Push (pos 0) ∷ []) ⨟ part fragments.old.nodes.items code) }
+{
+    let empty = fragments.one(Instr::Push(0))?;
+    fragments.then(empty, code)
 }
 
 /// The set of this type that the elements make.
@@ -104,5 +178,14 @@ pub fn set_coded(of: Place, es: Elements, fragments: &mut Fragments) -> Result<A
     requires code { IsIn fragments.old.nodes.items es.code }
     ensures { (state : State) (notes : NotesOf) (site : SiteOf) → IsThere state.frame of → AreElements state.frame fragments.old.nodes.items es → Coding state state notes notes fragments.old.nodes.items fragments.new.nodes.items site result IsCoded coded_in (λ c. gives (spec_set of (elements_in fragments.old.nodes.items es))) }
 {
-    Err(Memory)
+    match es.set {
+        Operand::Constant(_, bits) => {
+            Ok(Ask::Known(Coded::bare(Operand::Constant(of, bits))))
+        }
+        Operand::InError => Ok(Ask::Known(Coded::in_error())),
+        _ => {
+            let code = from_empty(fragments, es.code)?;
+            Ok(Ask::Known(Coded::new(Operand::Computed(of), code)))
+        }
+    }
 }

@@ -3,3 +3,4 @@ pub mod Assigning
 pub mod Forms
 pub mod Scenes
 pub mod Sites
+pub mod Members
