@@ -10,3 +10,5 @@ pub mod Law
 pub mod Operating
 pub mod Sequencing
 pub mod Pushing
+pub mod Making
+pub mod OwnSearch

@@ -23,4 +23,6 @@ pub mod Updates
 pub mod Pieces
 pub mod Refusals
 pub mod Targets
+pub mod Takings
+pub mod RangeChecks
 pub mod SetCodings

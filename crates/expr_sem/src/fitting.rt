@@ -1,17 +1,90 @@
 //! When a value is checked against the range of a type.
+ghost use Rattle.std.specs.Prelude.{◌≡◌, option_map};
 ghost use Rattle.m2_base.specs.Gives.{gives};
+ghost use Rattle.m2_base.specs.States.{Waits};
+ghost use Rattle.m2_base.specs.Statics.Ranges.{range};
+ghost use Rattle.m2_base.specs.Statics.Types.{range_of as spec_range};
 ghost use Rattle.m2_base.specs.declared.notes.Notes.{Notes};
 ghost use Rattle.const_eval.specs.Sites.{IsOperand};
 ghost use Rattle.expr_sem.specs.Codings.{Coding, IsCoded, IsFragment, coded_in};
-ghost use Rattle.expr_sem.specs.Fitting.{fit_of as spec_fit_of, fitted_code as spec_fitted};
-ghost use Rattle.expr_sem.specs.Fragments.{part};
-ghost use Rattle.type_rules.specs.Scenes.{IsThere};
+ghost use Rattle.expr_sem.specs.Fitting.{check_of as spec_check_of, fit_check as spec_fit_check, fit_of as spec_fit_of, fitted_code as spec_fitted};
+ghost use Rattle.expr_sem.specs.Fragments.{IsMade, part};
+ghost use Rattle.expr_sem.specs.Parts.{plain};
+ghost use Rattle.expr_sem.specs.RangeChecks.{checks_of};
+ghost use Rattle.type_rules.specs.Asks.{Reads, WhereKnown, WhereWaiting};
+ghost use Rattle.type_rules.specs.Scenes.{IsThere, Suits, WhereTold, scene_of};
 ghost use Rattle.type_rules.specs.Sites.{SuitsSite};
 
 use crate::coded::Coded;
 use crate::fragments::{Fragment, Fragments};
 use crate::values::value_code;
-use m2_base::{Ask, Memory, Operand, Place, Scopes, Site};
+use code_form::Instr;
+use m2_base::{Around, Ask, Memory, Operand, Place, Scopes, Site};
+use type_rules::range_of;
+
+/// The range against which a value of the first range is checked: the second, where the first isn't within it.
+fn ends_to_check(
+    from: Option<(i64, i64)>,
+    to: Option<(i64, i64)>,
+) -> Option<(i64, i64)>
+    ensures { checks_of result ≡ spec_check_of (option_map (λ ends. range ends.0 ends.1) from) (option_map (λ ends. range ends.0 ends.1) to) }
+{
+    let (low, high) = to?;
+    match from {
+        Some((least, greatest)) if low <= least && greatest <= high => None,
+        _ => to,
+    }
+}
+
+/// The check against a range, where there is one.
+fn check(ends: Option<(i64, i64)>, fragments: &mut Fragments) -> Result<Fragment, Memory>
+    ensures { IsMade fragments.old.nodes.items fragments.new.nodes.items result (plain (checks_of ends)) }
+{
+    match ends {
+        Some((low, high)) => fragments.one(Instr::Check(low, high)),
+        None => Ok(Fragment::Nothing),
+    }
+}
+
+/// The range against which a value of one type is checked that is to be of another.
+#[tactic(auto, using(type_rules::proofs::Reading::reading))]
+fn range_to_check<S: Scopes>(
+    scopes: &mut S,
+    around: &Around,
+    from: Place,
+    to: Place,
+) -> Ask<Option<(i64, i64)>>
+    requires suits { Suits (S.state scopes.old).frame around.now }
+    requires from { IsThere (S.state scopes.old).frame from }
+    requires to { IsThere (S.state scopes.old).frame to }
+    ensures reads { Reads (S.state scopes.old) (S.state scopes.new) }
+    ensures waits { WhereWaiting result (λ head. Waits (S.state scopes.old) (S.state scopes.new) head) }
+    ensures told { WhereTold (S.state scopes.old).frame (λ made.
+        WhereKnown result (λ ends. let scene = scene_of (S.state scopes.old).frame made around.now in checks_of ends ≡ spec_check_of (spec_range scene from) (spec_range scene to))) }
+{
+    let values = known!(range_of(scopes, around, from));
+    let wanted = known!(range_of(scopes, around, to));
+    Ask::Known(ends_to_check(values, wanted))
+}
+
+/// The check behind a value of one type that is to be of another.
+fn fit_check<S: Scopes>(
+    scopes: &mut S,
+    site: &Site,
+    from: Place,
+    to: Place,
+    fragments: &mut Fragments,
+) -> Result<Ask<Fragment>, Memory>
+    requires suits { SuitsSite (S.state scopes.old).frame site.now }
+    requires from { IsThere (S.state scopes.old).frame from }
+    requires to { IsThere (S.state scopes.old).frame to }
+    ensures { (notes : Notes) → Coding (S.state scopes.old) (S.state scopes.new) notes notes fragments.old.nodes.items fragments.new.nodes.items site.now result IsFragment part (λ c. gives (spec_fit_check c.scene from to)) }
+{
+    match range_to_check(scopes, site.around, from, to) {
+        Ask::Known(ends) => Ok(Ask::Known(check(ends, fragments)?)),
+        Ask::DontKnowYet(head) => Ok(Ask::DontKnowYet(head)),
+    }
+}
 
 /// The check behind an operand that is to be of a type. A constant was looked at already, and a procedure has no range.
 pub fn fit_of<S: Scopes>(
@@ -26,7 +99,12 @@ pub fn fit_of<S: Scopes>(
     requires operand { IsOperand (S.state scopes.old).frame operand }
     ensures { (notes : Notes) → Coding (S.state scopes.old) (S.state scopes.new) notes notes fragments.old.nodes.items fragments.new.nodes.items site.now result IsFragment part (λ c. gives (spec_fit_of c.scene to operand)) }
 {
-    Err(Memory)
+    match operand {
+        Operand::Variable(of) | Operand::Computed(of) => {
+            fit_check(scopes, site, of, to, fragments)
+        }
+        _ => Ok(Ask::Known(Fragment::Nothing)),
+    }
 }
 
 /// The code of a value that is to be of a type.
@@ -42,5 +120,7 @@ pub fn fitted_code<S: Scopes>(
     requires x { IsCoded (S.state scopes.old).frame fragments.old.nodes.items x }
     ensures { (notes : Notes) → Coding (S.state scopes.old) (S.state scopes.new) notes notes fragments.old.nodes.items fragments.new.nodes.items site.now result IsFragment part (λ c. gives (spec_fitted c to (coded_in fragments.old.nodes.items x))) }
 {
-    Err(Memory)
+    let value = analysed!(value_code(scopes, site, x, fragments));
+    let fit = analysed!(fit_of(scopes, site, to, x.operand, fragments));
+    Ok(Ask::Known(fragments.then(value, fit)?))
 }

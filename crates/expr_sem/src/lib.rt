@@ -55,6 +55,7 @@ mod set_elements;
 mod standard_functions;
 mod standard_procedures;
 mod steps;
+mod takings;
 mod updates;
 mod value_functions;
 mod values;

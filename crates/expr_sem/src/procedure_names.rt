@@ -4,11 +4,14 @@ ghost use Rattle.std.specs.Option.{IfSome};
 ghost use Rattle.m2_base.specs.Asks.{IfKnown, IfWaits};
 ghost use Rattle.m2_base.specs.Gives.{gives};
 ghost use Rattle.m2_base.specs.States.{Frame, Waits};
+ghost use Rattle.m2_base.specs.Rows.{row_meaning};
+ghost use Rattle.m2_base.specs.Statics.Contexts.{Scene};
 ghost use Rattle.m2_base.specs.Statics.Lookup.{entry_in};
 ghost use Rattle.m2_base.specs.declared.notes.Notes.{Notes};
+ghost use Rattle.m2_base.specs.declared.rows.Place.{Place as Spot};
 ghost use Rattle.expr_sem.specs.Codings.{Coding, IsFragment};
-ghost use Rattle.expr_sem.specs.Fragments.{part};
-ghost use Rattle.expr_sem.specs.ProcedureNames.{import_number as spec_import_number, import_of_target as spec_import, is_foreign as spec_foreign, is_own as spec_own, is_own_definition as spec_own_definition, procedure_code as spec_code, target_by as spec_by, target_of_entry, target_of_procedure as spec_target};
+ghost use Rattle.expr_sem.specs.Fragments.{IsMade, part};
+ghost use Rattle.expr_sem.specs.ProcedureNames.{import_number as spec_import_number, import_of_target as spec_import, is_foreign as spec_foreign, is_own as spec_own, is_own_definition as spec_own_definition, procedure_code as spec_code, target_by as spec_by, target_of_entry as spec_of_entry, target_of_procedure as spec_target};
 ghost use Rattle.expr_sem.specs.Targets.{target_view};
 ghost use Rattle.type_rules.specs.Asks.{Reads, WhereKnown, WhereWaiting};
 ghost use Rattle.type_rules.specs.Scenes.{IsRowOf, IsThere, WhereTold, block_of, rows_of, scene_of};
@@ -69,6 +72,64 @@ pub fn import_of_target(around: &Around, target: Target) -> u32
     }
 }
 
+/// The first row of the module's scope that has a name.
+#[tactic(auto, using(type_rules::proofs::Reading::reading))]
+fn own_entry<S: Scopes>(scopes: &mut S, site: &Site, name: u32) -> Ask<Option<(Place, Row)>>
+    requires suits { SuitsSite (S.state scopes.old).frame site.now }
+    requires named { name ≢ 0 }
+    requires statement { site.now.item ≡ None }
+    ensures reads { Reads (S.state scopes.old) (S.state scopes.new) }
+    ensures waits { WhereWaiting result (λ head. Waits (S.state scopes.old) (S.state scopes.new) head) }
+    ensures told { WhereTold (S.state scopes.old).frame (λ made.
+        WhereKnown result (λ entry. entry ≡ entry_in (rows_of (S.state scopes.old).frame made) site.now.around.now.module name)) }
+    ensures row { WhereKnown result (λ entry. IfSome entry (λ entry. IsRowOf (S.state scopes.old).frame entry.0 entry.1)) }
+{
+    match scopes.search(0, &[site.around.module], name) {
+        Reply::Found(place, row) => Ask::Known(Some((place, row))),
+        Reply::Absent => Ask::Known(None),
+        Reply::DontKnowYet(head) if head.scope == site.around.scope => Ask::Known(None),
+        Reply::DontKnowYet(head) => Ask::DontKnowYet(head),
+    }
+}
+
+/// The procedure that a row declares.
+fn target_by(row: &Row) -> Option<Target>
+    ensures told { option_map target_view result ≡ spec_by (row_meaning row.now) }
+    ensures there { (f : Frame) (p : Spot) → IsRowOf f p row.now → IfSome result (λ target. IsThere f target.of) }
+{
+    match read_row(row) {
+        RowMeaning::Proc(of, number, _) => Some(Target { of, number }),
+        _ => None,
+    }
+}
+
+/// The procedure that a name is declared as.
+fn target_of_entry(entry: Option<(Place, Row)>) -> Option<Target>
+    ensures told { option_map target_view result ≡ spec_of_entry entry }
+    ensures there { (f : Frame) → IfSome entry (λ entry. IsRowOf f entry.0 entry.1) → IfSome result (λ target. IsThere f target.of) }
+{
+    match entry {
+        Some((_, row)) => target_by(&row),
+        None => None,
+    }
+}
+
+/// The module's own procedure of a name.
+#[tactic(auto, using(type_rules::proofs::Reading::reading))]
+fn own_target<S: Scopes>(scopes: &mut S, site: &Site, name: u32) -> Ask<Option<Target>>
+    requires suits { SuitsSite (S.state scopes.old).frame site.now }
+    requires named { name ≢ 0 }
+    requires statement { site.now.item ≡ None }
+    ensures reads { Reads (S.state scopes.old) (S.state scopes.new) }
+    ensures waits { WhereWaiting result (λ head. Waits (S.state scopes.old) (S.state scopes.new) head) }
+    ensures told { WhereTold (S.state scopes.old).frame (λ made.
+        WhereKnown result (λ given. option_map target_view given ≡ spec_of_entry (entry_in (rows_of (S.state scopes.old).frame made) site.now.around.now.module name))) }
+    ensures there { WhereKnown result (λ given. IfSome given (λ target. IsThere (S.state scopes.old).frame target.of)) }
+{
+    let entry = known!(own_entry(scopes, site, name));
+    Ask::Known(target_of_entry(entry))
+}
+
 /// A procedure by its name, its type and its number. A heading of the own definition is the module's own procedure of that
 /// name, if there is one; any other procedure is itself. Only statements name procedures, and each procedure has a name:
 /// otherwise the error is that memory is wanted, which comes about in no module.
@@ -87,7 +148,28 @@ pub fn target_of_procedure<S: Scopes>(
         IfKnown result (λ given. option_map target_view given ≡ spec_target (scene_of (S.state scopes.old).frame made site.now.around.now) name of number)) }
     ensures there { IfKnown result (λ given. IfSome given (λ target. IsThere (S.state scopes.old).frame target.of)) }
 {
-    Err(Memory)
+    if !is_own_definition(site.around.own, of.scope) {
+        return Ok(Ask::Known(Some(Target { of, number })));
+    }
+    if name == 0 || site.item.is_some() {
+        return Err(Memory);
+    }
+    Ok(own_target(scopes, site, name))
+}
+
+/// The code of a procedure value.
+fn value_of_target(
+    around: &Around,
+    target: Option<Target>,
+    fragments: &mut Fragments,
+) -> Result<Fragment, Memory>
+    ensures { (scene : Scene) → scene.block ≡ block_of around.now → IsMade fragments.old.nodes.items fragments.new.nodes.items result (spec_code scene (option_map target_view target)) }
+{
+    let instr = match target {
+        Some(target) => Instr::Proc(import_of_target(around, target), target.number),
+        None => Instr::Proc(0, 0),
+    };
+    fragments.one(instr)
 }
 
 /// The code of a procedure as a value. Where the module lacks the procedure, its definition isn't implemented, which is
@@ -104,5 +186,6 @@ pub fn procedure_code<S: Scopes>(
     requires of { IsThere (S.state scopes.old).frame of }
     ensures { (notes : Notes) → Coding (S.state scopes.old) (S.state scopes.new) notes notes fragments.old.nodes.items fragments.new.nodes.items site.now result IsFragment part (λ c. gives (spec_code c.scene (spec_target c.scene name of number))) }
 {
-    Err(Memory)
+    let target = analysed!(target_of_procedure(scopes, site, name, of, number));
+    Ok(Ask::Known(value_of_target(site.around, target, fragments)?))
 }

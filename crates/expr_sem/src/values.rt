@@ -1,15 +1,19 @@
 //! What stands where a value is wanted, the code of a value, and which value a variable of a type takes.
-ghost use Rattle.std.specs.Prelude.{◌≡◌, ◌<◌, List, length, IfOk};
+ghost use Rattle.std.specs.Prelude.{◌≡◌, ◌<◌, [], ◌∷◌, List, length, option_map, IfOk};
 ghost use Rattle.m2_base.specs.Gives.{gives};
 ghost use Rattle.m2_base.specs.States.{State, Waits};
 ghost use Rattle.m2_base.specs.Statics.Contexts.{Source};
+ghost use Rattle.m2_base.specs.Statics.Ranges.{range};
 ghost use Rattle.m2_base.specs.declared.notes.Notes.{Notes as NotesOf};
+ghost use Rattle.m2_base.specs.declared.operands.Operand.TheVariants as OperandOf;
+ghost use Rattle.code_form.specs.declared.instr.Instr.TheVariants.{Load};
 ghost use Rattle.const_eval.specs.Sites.{IsOperand};
-ghost use Rattle.expr_sem.specs.Coded.{characters as spec_characters, is_structured as spec_structured, value_code as spec_value_code};
+ghost use Rattle.expr_sem.specs.Coded.{characters as spec_characters, is_structured as spec_structured, value_by, value_code as spec_value_code};
 ghost use Rattle.expr_sem.specs.Codings.{Coding, IsCoded, IsFragment, coded_in};
-ghost use Rattle.expr_sem.specs.Fragments.{part};
+ghost use Rattle.expr_sem.specs.Fragments.{IsIn, IsMade, part};
+ghost use Rattle.expr_sem.specs.Parts.{plain, text as spec_text, ◌⨟◌};
 ghost use Rattle.expr_sem.specs.Refusals.{code_of};
-ghost use Rattle.expr_sem.specs.Values.{as_value as spec_as_value, assigned_to as spec_assigned_to, in_range as spec_in_range};
+ghost use Rattle.expr_sem.specs.Values.{as_value as spec_as_value, assigned_to as spec_assigned_to, in_range as spec_in_range, in_range_by as spec_in_range_by};
 ghost use Rattle.expr_sem.specs.declared.fragments.Node.{Node};
 ghost use Rattle.type_rules.specs.Asks.{Reads, WhereKnown, WhereWaiting};
 ghost use Rattle.type_rules.specs.Scenes.{IsThere, Suits, WhereTold, scene_of};
@@ -17,16 +21,27 @@ ghost use Rattle.type_rules.specs.Sites.{SuitsSite};
 
 use crate::coded::Coded;
 use crate::fragments::{Fragment, Fragments};
+use crate::levels::level_of;
+use crate::procedure_names::procedure_code;
 use crate::refusals::{Refusal, refused};
+use crate::takings::{Taking, taking_of};
+use code_form::Instr;
+use const_eval::is_within;
 use m2_base::{Around, Ask, Memory, Notes, Operand, Place, RowMeaning, Scopes, Site};
-use type_rules::stand;
+use type_rules::{range_of, stand};
 
 /// The characters of the string of this name; an empty string is one character of code 0.
 pub fn characters(site: &Site, name: u32) -> Result<Vec<u8>, Memory>
     requires named { name < length site.now.texts.now.names }
     ensures { IfOk result (λ bytes. (source : Source) → source.spellings ≡ site.now.texts.now.names → bytes.items ≡ spec_characters source name) }
 {
-    Err(Memory)
+    let texts = site.texts;
+    let alloc = *texts.order.allocator();
+    let bytes = texts.names.bytes(name);
+    if bytes.is_empty() {
+        return Ok(b"\0".to_vec(alloc)?);
+    }
+    Ok(bytes.to_vec(alloc)?)
 }
 
 /// Whether a type is an array, open or fixed, or a record: its value is its address.
@@ -46,6 +61,44 @@ pub fn is_structured<S: Scopes>(scopes: &mut S, around: &Around, of: Place) -> A
     ))
 }
 
+/// The code of a variable's value, by that of its address.
+fn loaded(code: Fragment, fragments: &mut Fragments) -> Result<Fragment, Memory>
+    requires code { IsIn fragments.old.nodes.items code }
+    ensures { IsMade fragments.old.nodes.items fragments.new.nodes.items result (part fragments.old.nodes.items code ⨟ plain (Load ∷ [])) }
+{
+    let load = fragments.one(Instr::Load)?;
+    fragments.then(code, load)
+}
+
+/// The code of the value of a variable of a type.
+fn variable_value<S: Scopes>(
+    scopes: &mut S,
+    site: &Site,
+    of: Place,
+    code: Fragment,
+    fragments: &mut Fragments,
+) -> Result<Ask<Fragment>, Memory>
+    requires suits { SuitsSite (S.state scopes.old).frame site.now }
+    requires of { IsThere (S.state scopes.old).frame of }
+    requires code { IsIn fragments.old.nodes.items code }
+    ensures { (notes : NotesOf) → Coding (S.state scopes.old) (S.state scopes.new) notes notes fragments.old.nodes.items fragments.new.nodes.items site.now result IsFragment part (λ c. gives (value_by c (part fragments.old.nodes.items code) (OperandOf.Variable of))) }
+{
+    match is_structured(scopes, site.around, of) {
+        Ask::Known(true) => Ok(Ask::Known(code)),
+        Ask::Known(false) => Ok(Ask::Known(loaded(code, fragments)?)),
+        Ask::DontKnowYet(head) => Ok(Ask::DontKnowYet(head)),
+    }
+}
+
+/// The code of a string.
+fn string_value(site: &Site, name: u32, fragments: &mut Fragments) -> Result<Fragment, Memory>
+    requires named { name < length site.now.texts.now.names }
+    ensures { (source : Source) → source.spellings ≡ site.now.texts.now.names → IsMade fragments.old.nodes.items fragments.new.nodes.items result (spec_text (spec_characters source name)) }
+{
+    let bytes = characters(site, name)?;
+    fragments.text(bytes)
+}
+
 /// The code of a value.
 pub fn value_code<S: Scopes>(
     scopes: &mut S,
@@ -57,7 +110,15 @@ pub fn value_code<S: Scopes>(
     requires x { IsCoded (S.state scopes.old).frame fragments.old.nodes.items x }
     ensures { (notes : NotesOf) → Coding (S.state scopes.old) (S.state scopes.new) notes notes fragments.old.nodes.items fragments.new.nodes.items site.now result IsFragment part (λ c. gives (spec_value_code c (coded_in fragments.old.nodes.items x))) }
 {
-    Err(Memory)
+    match x.operand {
+        Operand::Constant(_, value) => Ok(Ask::Known(fragments.one(Instr::Push(value))?)),
+        Operand::StringConstant(name, _) => Ok(Ask::Known(string_value(site, name, fragments)?)),
+        Operand::Variable(of) => variable_value(scopes, site, of, x.code, fragments),
+        Operand::Procedure(name, of, number, _) => {
+            procedure_code(scopes, site, name, of, number, fragments)
+        }
+        _ => Ok(Ask::Known(x.code)),
+    }
 }
 
 /// What stands where a value is wanted: no type and no module alone, and no procedure that is no value.
@@ -69,7 +130,42 @@ pub fn as_value(
 ) -> Result<Ask<Coded>, Memory>
     ensures { (state : State) (nodes : List Node) → IsCoded state.frame nodes x → Coding state state notes.old notes.new nodes nodes site.now result IsCoded coded_in (λ c. spec_as_value c at (coded_in nodes x)) }
 {
-    Err(Memory)
+    match x.operand {
+        Operand::NamedType(_) | Operand::ModuleName(_) => {
+            refused(site, at, Refusal::NotAVariable, notes)
+        }
+        Operand::StandardProcedure(_) => refused(site, at, Refusal::NotAProcedureValue, notes),
+        Operand::Procedure(_, of, _, _) => {
+            if level_of(site.around, of.scope) == 0 {
+                Ok(Ask::Known(x))
+            } else {
+                refused(site, at, Refusal::NotAProcedureValue, notes)
+            }
+        }
+        _ => Ok(Ask::Known(x)),
+    }
+}
+
+/// A value that lies in a range, where there is one; a constant outside it is refused.
+fn within(
+    site: &Site,
+    at: u32,
+    ends: Option<(i64, i64)>,
+    x: Coded,
+    notes: &mut Notes,
+) -> Result<Ask<Coded>, Memory>
+    ensures { (state : State) (nodes : List Node) → IsCoded state.frame nodes x → Coding state state notes.old notes.new nodes nodes site.now result IsCoded coded_in (λ c. spec_in_range_by c at (option_map (λ ends. range ends.0 ends.1) ends) (coded_in nodes x) x.operand) }
+{
+    match x.operand {
+        Operand::Constant(_, value) => {
+            if is_within(ends, value) {
+                Ok(Ask::Known(x))
+            } else {
+                refused(site, at, Refusal::OutOfRange, notes)
+            }
+        }
+        _ => Ok(Ask::Known(x)),
+    }
 }
 
 /// A value for a variable of a type: a constant lies in its range.
@@ -85,7 +181,10 @@ pub fn in_range<S: Scopes>(
     requires to { IsThere (S.state scopes.old).frame to }
     ensures { (nodes : List Node) → IsCoded (S.state scopes.old).frame nodes x → Coding (S.state scopes.old) (S.state scopes.new) notes.old notes.new nodes nodes site.now result IsCoded coded_in (λ c. spec_in_range c at to (coded_in nodes x)) }
 {
-    Err(Memory)
+    match range_of(scopes, site.around, to) {
+        Ask::Known(ends) => within(site, at, ends, x, notes),
+        Ask::DontKnowYet(head) => Ok(Ask::DontKnowYet(head)),
+    }
 }
 
 /// A value that a variable of a type takes, as it is taken: it must be assignable, or else is refused with this diagnostic,
@@ -104,5 +203,12 @@ pub fn assigned_to<S: Scopes>(
     requires x { IsOperand (S.state scopes.old).frame x.operand }
     ensures { (nodes : List Node) → IsCoded (S.state scopes.old).frame nodes x → Coding (S.state scopes.old) (S.state scopes.new) notes.old notes.new nodes nodes site.now result IsCoded coded_in (λ c. spec_assigned_to c to at (code_of refusal) (coded_in nodes x)) }
 {
-    Err(Memory)
+    match taking_of(scopes, site, to, x.operand) {
+        Ask::Known(Taking::PassedOver) => Ok(Ask::Known(Coded::in_error())),
+        Ask::Known(Taking::Refused) => refused(site, at, refusal, notes),
+        Ask::Known(Taking::Taken(operand)) => {
+            in_range(scopes, site, at, to, x.taken(operand), notes)
+        }
+        Ask::DontKnowYet(head) => Ok(Ask::DontKnowYet(head)),
+    }
 }

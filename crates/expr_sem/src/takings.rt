@@ -1,0 +1,194 @@
+//! What becomes of a value for a variable of a type.
+ghost use Rattle.std.specs.Prelude.{◌≡◌, ◌&&◌, ◌||◌, if◌then◌else◌};
+ghost use Rattle.m2_base.specs.Rows.{is_same_place};
+ghost use Rattle.m2_base.specs.Standard.{character};
+ghost use Rattle.m2_base.specs.States.{Frame, Waits};
+ghost use Rattle.m2_base.specs.Statics.Assignable.{taken_into as spec_taken_into};
+ghost use Rattle.m2_base.specs.Statics.Contexts.{Source};
+ghost use Rattle.m2_base.specs.Statics.Operands.{char_or_same as spec_char_or_same, is_string as spec_string};
+ghost use Rattle.m2_base.specs.Statics.Types.{is_broken as spec_broken, kind_of};
+ghost use Rattle.const_eval.specs.Sites.{IsNamed, IsOperand};
+ghost use Rattle.expr_sem.specs.Takings.{IsTaking, taken_or_refused as spec_taken_or_refused, taking as spec_taking};
+ghost use Rattle.expr_sem.specs.Values.{has_broken_part as spec_broken_part, is_passed_over as spec_passed_over};
+ghost use Rattle.type_rules.specs.Asks.{Reads, WhereKnown, WhereWaiting};
+ghost use Rattle.type_rules.specs.Scenes.{IsThere, Suits, WhereTold, scene_of};
+ghost use Rattle.type_rules.specs.Sites.{SuitsSite, context_of};
+
+use const_eval::{char_of_string, is_broken};
+use m2_base::{Around, Ask, Operand, Place, RowMeaning, Scopes, Site};
+use type_rules::{CHARACTER, assignable, base_of, is_one_char, is_string, stand};
+
+/// What becomes of a value for a variable.
+#[derive(Clone, Copy, Debug, PartialEq, Eq)]
+pub enum Taking {
+    /// Nothing is said of it, and it is in error.
+    PassedOver,
+    /// It isn't assignable.
+    Refused,
+    /// It is taken as this.
+    Taken(Operand),
+}
+
+/// Whether one of two types is in error.
+#[tactic(auto, using(type_rules::proofs::Reading::reading))]
+fn is_either_broken<S: Scopes>(scopes: &mut S, around: &Around, x: Place, y: Place) -> Ask<bool>
+    requires suits { Suits (S.state scopes.old).frame around.now }
+    requires x { IsThere (S.state scopes.old).frame x }
+    requires y { IsThere (S.state scopes.old).frame y }
+    ensures reads { Reads (S.state scopes.old) (S.state scopes.new) }
+    ensures waits { WhereWaiting result (λ head. Waits (S.state scopes.old) (S.state scopes.new) head) }
+    ensures told { WhereTold (S.state scopes.old).frame (λ made.
+        WhereKnown result (λ holds. let scene = scene_of (S.state scopes.old).frame made around.now in holds ≡ (spec_broken scene x || spec_broken scene y))) }
+{
+    if known!(is_broken(scopes, around, x)) {
+        return Ask::Known(true);
+    }
+    is_broken(scopes, around, y)
+}
+
+/// Whether a type is an array whose index type or element type is in error.
+#[tactic(auto, using(type_rules::proofs::Reading::reading))]
+fn has_broken_part<S: Scopes>(scopes: &mut S, around: &Around, of: Place) -> Ask<bool>
+    requires suits { Suits (S.state scopes.old).frame around.now }
+    requires of { IsThere (S.state scopes.old).frame of }
+    ensures reads { Reads (S.state scopes.old) (S.state scopes.new) }
+    ensures waits { WhereWaiting result (λ head. Waits (S.state scopes.old) (S.state scopes.new) head) }
+    ensures told { WhereTold (S.state scopes.old).frame (λ made.
+        WhereKnown result (λ holds. let scene = scene_of (S.state scopes.old).frame made around.now in holds ≡ spec_broken_part scene (kind_of scene of))) }
+{
+    let (_, meaning) = known!(stand(scopes, around, of));
+    match meaning {
+        RowMeaning::Array(index, element, _) => is_either_broken(scopes, around, index, element),
+        _ => Ask::Known(false),
+    }
+}
+
+/// Whether nothing is said of any value for a variable of a type, or of a string for it.
+#[tactic(auto, using(type_rules::proofs::Reading::reading))]
+fn is_type_passed_over<S: Scopes>(
+    scopes: &mut S,
+    around: &Around,
+    to: Place,
+    operand: Operand,
+) -> Ask<bool>
+    requires suits { Suits (S.state scopes.old).frame around.now }
+    requires to { IsThere (S.state scopes.old).frame to }
+    ensures reads { Reads (S.state scopes.old) (S.state scopes.new) }
+    ensures waits { WhereWaiting result (λ head. Waits (S.state scopes.old) (S.state scopes.new) head) }
+    ensures told { WhereTold (S.state scopes.old).frame (λ made.
+        WhereKnown result (λ holds. let scene = scene_of (S.state scopes.old).frame made around.now in holds ≡ (spec_broken scene to || (spec_string operand && spec_broken_part scene (kind_of scene to))))) }
+{
+    if known!(is_broken(scopes, around, to)) {
+        return Ask::Known(true);
+    }
+    if is_string(&operand) {
+        has_broken_part(scopes, around, to)
+    } else {
+        Ask::Known(false)
+    }
+}
+
+/// Whether nothing is said of a value for a variable of a type: one of them is in error.
+#[tactic(auto, using(type_rules::proofs::Reading::reading))]
+fn is_passed_over<S: Scopes>(
+    scopes: &mut S,
+    around: &Around,
+    to: Place,
+    operand: Operand,
+) -> Ask<bool>
+    requires suits { Suits (S.state scopes.old).frame around.now }
+    requires to { IsThere (S.state scopes.old).frame to }
+    ensures reads { Reads (S.state scopes.old) (S.state scopes.new) }
+    ensures waits { WhereWaiting result (λ head. Waits (S.state scopes.old) (S.state scopes.new) head) }
+    ensures told { WhereTold (S.state scopes.old).frame (λ made.
+        WhereKnown result (λ holds. holds ≡ spec_passed_over (scene_of (S.state scopes.old).frame made around.now) to operand)) }
+{
+    if matches!(operand, Operand::InError | Operand::NotConstant) {
+        return Ask::Known(true);
+    }
+    is_type_passed_over(scopes, around, to, operand)
+}
+
+/// A string of one character for a variable with this base: for a CHAR it is one.
+fn taken_by_base(site: &Site, base: Place, operand: Operand) -> Operand
+    requires named { IsNamed site.now.texts.now.names operand }
+    ensures told { (source : Source) → source.spellings ≡ site.now.texts.now.names → result ≡ (if is_same_place base character then spec_char_or_same source operand else operand) }
+    ensures there { (f : Frame) → IsThere f character → IsOperand f operand → IsOperand f result }
+{
+    if base == CHARACTER {
+        char_of_string(site, operand)
+    } else {
+        operand
+    }
+}
+
+/// A value as a variable of a type takes it: a string of one character for a CHAR is a CHAR.
+#[tactic(auto, using(type_rules::proofs::Reading::reading, const_eval::proofs::TypesThere::there))]
+fn taken_into<S: Scopes>(
+    scopes: &mut S,
+    site: &Site,
+    to: Place,
+    operand: Operand,
+) -> Ask<Operand>
+    requires suits { SuitsSite (S.state scopes.old).frame site.now }
+    requires to { IsThere (S.state scopes.old).frame to }
+    requires operand { IsOperand (S.state scopes.old).frame operand }
+    ensures reads { Reads (S.state scopes.old) (S.state scopes.new) }
+    ensures waits { WhereWaiting result (λ head. Waits (S.state scopes.old) (S.state scopes.new) head) }
+    ensures told { WhereTold (S.state scopes.old).frame (λ made.
+        WhereKnown result (λ given. let c = context_of (S.state scopes.old).frame made site.now in given ≡ spec_taken_into c.source c.scene to operand)) }
+    ensures there { WhereKnown result (λ given. IsOperand (S.state scopes.old).frame given) }
+{
+    if !is_one_char(&operand) {
+        return Ask::Known(operand);
+    }
+    let base = known!(base_of(scopes, site.around, to));
+    Ask::Known(taken_by_base(site, base, operand))
+}
+
+/// What a variable of a type takes, of what isn't passed over.
+#[tactic(auto, using(type_rules::proofs::Reading::reading, const_eval::proofs::TypesThere::there))]
+fn taken_or_refused<S: Scopes>(
+    scopes: &mut S,
+    site: &Site,
+    to: Place,
+    operand: Operand,
+) -> Ask<Taking>
+    requires suits { SuitsSite (S.state scopes.old).frame site.now }
+    requires to { IsThere (S.state scopes.old).frame to }
+    requires operand { IsOperand (S.state scopes.old).frame operand }
+    ensures reads { Reads (S.state scopes.old) (S.state scopes.new) }
+    ensures waits { WhereWaiting result (λ head. Waits (S.state scopes.old) (S.state scopes.new) head) }
+    ensures told { WhereTold (S.state scopes.old).frame (λ made.
+        WhereKnown result (λ given. given ≡ spec_taken_or_refused (context_of (S.state scopes.old).frame made site.now) to operand)) }
+    ensures there { WhereKnown result (λ given. IsTaking (S.state scopes.old).frame given) }
+{
+    if !known!(assignable(scopes, site.around, to, &operand)) {
+        return Ask::Known(Taking::Refused);
+    }
+    let taken = known!(taken_into(scopes, site, to, operand));
+    Ask::Known(Taking::Taken(taken))
+}
+
+/// What becomes of a value for a variable of a type.
+#[tactic(auto, using(type_rules::proofs::Reading::reading, const_eval::proofs::TypesThere::there))]
+pub fn taking_of<S: Scopes>(
+    scopes: &mut S,
+    site: &Site,
+    to: Place,
+    operand: Operand,
+) -> Ask<Taking>
+    requires suits { SuitsSite (S.state scopes.old).frame site.now }
+    requires to { IsThere (S.state scopes.old).frame to }
+    requires operand { IsOperand (S.state scopes.old).frame operand }
+    ensures reads { Reads (S.state scopes.old) (S.state scopes.new) }
+    ensures waits { WhereWaiting result (λ head. Waits (S.state scopes.old) (S.state scopes.new) head) }
+    ensures told { WhereTold (S.state scopes.old).frame (λ made.
+        WhereKnown result (λ given. given ≡ spec_taking (context_of (S.state scopes.old).frame made site.now) to operand)) }
+    ensures there { WhereKnown result (λ given. IsTaking (S.state scopes.old).frame given) }
+{
+    if known!(is_passed_over(scopes, site.around, to, operand)) {
+        return Ask::Known(Taking::PassedOver);
+    }
+    taken_or_refused(scopes, site, to, operand)
+}
