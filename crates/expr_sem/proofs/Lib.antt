@@ -9,6 +9,7 @@ pub mod Proper
 pub mod Law
 pub mod Operating
 pub mod Sequencing
+pub mod Selecting
 pub mod Pushing
 pub mod Making
 pub mod OwnSearch

@@ -26,3 +26,4 @@ pub mod Targets
 pub mod Takings
 pub mod RangeChecks
 pub mod SetCodings
+pub mod Selections

@@ -1,9 +1,9 @@
 //! What an expression or a designator stands for, with its code.
 ghost use Rattle.std.specs.Prelude.{◌≡◌, List};
 ghost use Rattle.m2_base.specs.States.{Frame};
-ghost use Rattle.expr_sem.specs.Coded.{bare, coded, in_error};
+ghost use Rattle.expr_sem.specs.Coded.{bare, coded, in_error, taken as spec_taken};
 ghost use Rattle.expr_sem.specs.Codings.{IsCoded, coded_in};
-ghost use Rattle.expr_sem.specs.Fragments.{part};
+ghost use Rattle.expr_sem.specs.Fragments.{IsIn, part};
 ghost use Rattle.expr_sem.specs.declared.fragments.Node.{Node};
 ghost use Rattle.const_eval.specs.Sites.{IsOperand};
 
@@ -29,7 +29,8 @@ pub struct Placed {
 impl Coded {
     /// An operand that is no open array, with its code.
     pub fn new(operand: Operand, code: Fragment) -> Coded
-        ensures { (nodes : List Node) → coded_in nodes result ≡ coded operand (part nodes code) }
+        ensures told { (nodes : List Node) → coded_in nodes result ≡ coded operand (part nodes code) }
+        ensures there { (f : Frame) (nodes : List Node) → IsOperand f operand → IsIn nodes code → IsCoded f nodes result }
     {
         Coded {
             operand,
@@ -55,7 +56,10 @@ impl Coded {
     }
 
     /// The same code for an operand as another rule takes it.
-    pub fn taken(self, operand: Operand) -> Coded {
+    pub fn taken(self, operand: Operand) -> Coded
+        ensures told { (nodes : List Node) → coded_in nodes result ≡ spec_taken operand (coded_in nodes self) }
+        ensures there { (f : Frame) (nodes : List Node) → IsOperand f operand → IsCoded f nodes self → IsCoded f nodes result }
+    {
         Coded { operand, ..self }
     }
 }

@@ -29,6 +29,7 @@ macro_rules! analysed {
     };
 }
 
+/// The answer to a question, or the end of an analysis where it isn't known yet.
 /// The value of an answer within an analysis, or the end of the function where it isn't known yet.
 macro_rules! asked {
     ($asked:expr) => {
@@ -41,6 +42,7 @@ macro_rules! asked {
 
 mod chains;
 mod coded;
+mod designated;
 mod elements;
 mod fitting;
 mod fragments;
@@ -68,7 +70,5 @@ pub use laws::{errors_have_no_code, heights_are_right, operands_are_known};
 pub use operators::{made, one_coded, side_of, two_coded};
 pub use pieces::{Piece, With, append};
 pub use refusals::Refusal;
-pub use set_elements::{
-    Elements, add_element, add_range, element_coded, set_coded, set_start,
-};
+pub use set_elements::{Elements, add_element, add_range, element_coded, set_coded, set_start};
 pub use steps::Step;
