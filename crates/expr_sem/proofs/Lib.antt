@@ -13,3 +13,8 @@ pub mod Selecting
 pub mod Pushing
 pub mod Making
 pub mod OwnSearch
+pub mod Joining
+pub mod Highs
+pub mod Onwards
+pub mod Quiet
+pub mod Without

@@ -1,4 +1,4 @@
-//! Instructions one behind another, and behind fragments.
+//! Instructions behind fragments.
 ghost use Rattle.std.specs.Prelude.{◌∷◌, []};
 ghost use Rattle.expr_sem.specs.Fragments.{IsIn, IsMade, part};
 ghost use Rattle.expr_sem.specs.Parts.{plain, ◌⨟◌};
@@ -18,16 +18,4 @@ pub fn instr_behind(
 {
     let last = fragments.one(instr)?;
     fragments.then(first, last)
-}
-
-/// Two instructions.
-pub fn two_instrs(
-    first: Instr,
-    second: Instr,
-    fragments: &mut Fragments,
-) -> Result<Fragment, Memory>
-    ensures { IsMade fragments.old.nodes.items fragments.new.nodes.items result (plain (first ∷ second ∷ [])) }
-{
-    let head = fragments.one(first)?;
-    instr_behind(head, second, fragments)
 }

@@ -1,19 +1,22 @@
 //! The code of the standard functions. What a function gives is the static rule's; where that is constant there is no code.
-ghost use Rattle.std.specs.Prelude.{◌≡◌, List, if◌then◌else◌, option_map};
+ghost use Rattle.std.specs.Prelude.{◌≡◌, ◌<◌, ◌^◌, List, if◌then◌else◌, option_map, pos};
 ghost use Rattle.std.specs.Option.{IfSome};
 ghost use Rattle.m2_base.specs.Gives.{and_then, gives};
 ghost use Rattle.m2_base.specs.Rows.{IsValue};
 ghost use Rattle.m2_base.specs.Standard.{cardinal};
+ghost use Rattle.m2_base.specs.States.{State};
 ghost use Rattle.m2_base.specs.Statics.Ranges.{range};
 ghost use Rattle.m2_base.specs.Statics.Types.{is_broken as spec_broken};
 ghost use Rattle.m2_base.specs.declared.notes.Notes.{Notes as NotesOf};
 ghost use Rattle.m2_base.specs.declared.operands.Operand.TheVariants as operands;
+ghost use Rattle.m2_base.specs.declared.sites.Site.{Site as SiteOf};
+ghost use Rattle.code_form.specs.declared.instr.Instr.TheVariants as instrs;
 ghost use Rattle.const_eval.specs.Calls.{of_type, of_value as spec_of_value};
 ghost use Rattle.const_eval.specs.Sites.{IsOperand};
 ghost use Rattle.const_eval.specs.declared.calls.TypeFunction.TheVariants as functions;
 ghost use Rattle.expr_sem.specs.Coded.{bare, coded, in_error};
 ghost use Rattle.expr_sem.specs.Codings.{Coding, IsCoded, IsFragment, coded_in, high_in};
-ghost use Rattle.expr_sem.specs.Fragments.{IsIn, IsMade, part};
+ghost use Rattle.expr_sem.specs.Fragments.{IsIn, part};
 ghost use Rattle.expr_sem.specs.Kinds.{IsKindHere};
 ghost use Rattle.expr_sem.specs.Operators.{made as spec_made};
 ghost use Rattle.expr_sem.specs.StandardFunctions.{as_variable as spec_variable, function_of_one as spec_one, high_code as spec_high, high_of as spec_high_of, high_of_range as spec_range, high_of_variable as spec_high_variable, on_value as spec_on_value, size_code as spec_size, value_of_type as spec_value};
@@ -24,6 +27,7 @@ ghost use Rattle.type_rules.specs.Scenes.{IsThere};
 ghost use Rattle.type_rules.specs.Sites.{SuitsSite};
 
 use crate::coded::{Coded, Placed};
+use crate::elements::high_or_none;
 use crate::fragments::{Fragment, Fragments};
 use crate::operators::made;
 use crate::refusals::{Refusal, refused};
@@ -57,17 +61,18 @@ fn index_high<S: Scopes>(
     ensures { (notes : NotesOf) → Coding (S.state scopes.old) (S.state scopes.new) notes notes fragments.old.nodes.items fragments.new.nodes.items site.now result IsFragment part (λ c. gives (pushed_high c.scene index)) }
 {
     let ends = asked!(range_of(scopes, site.around, index));
-    Ok(Ask::Known(fragments.one(Instr::Push(high_of_range(ends)))?))
+    let code = fragments.one(Instr::Push(high_of_range(ends)))?;
+    Ok(Ask::Known(code))
 }
 
 /// The number of elements less 1 of an open array, as its code says; of anything else nobody asks.
-fn open_high(high: Option<Fragment>, fragments: &mut Fragments) -> Result<Fragment, Memory>
-    requires { IfSome high (λ fragment. IsIn fragments.old.nodes.items fragment) }
-    ensures { IsMade fragments.old.nodes.items fragments.new.nodes.items result (high_in fragments.old.nodes.items high) }
+fn open_high(x: Coded, fragments: &mut Fragments) -> Result<Ask<Fragment>, Memory>
+    requires { IfSome x.high (λ fragment. IsIn fragments.old.nodes.items fragment) }
+    ensures { (state : State) (notes : NotesOf) (site : SiteOf) → Coding state state notes notes fragments.old.nodes.items fragments.new.nodes.items site result IsFragment part (λ c. gives (high_in fragments.old.nodes.items x.high)) }
 {
-    match high {
-        Some(fragment) => Ok(fragment),
-        None => fragments.one(Instr::Push(0)),
+    match high_or_none(x.high, fragments) {
+        Ok(code) => Ok(Ask::Known(code)),
+        Err(memory) => Err(memory),
     }
 }
 
@@ -86,7 +91,7 @@ pub fn high_code<S: Scopes>(
 {
     match kind {
         RowMeaning::Array(index, _, _) => index_high(scopes, site, index, fragments),
-        _ => Ok(Ask::Known(open_high(x.high, fragments)?)),
+        _ => open_high(x, fragments),
     }
 }
 
@@ -122,7 +127,8 @@ fn high_of_array<S: Scopes>(
     requires kind { IsKindHere (S.state scopes.old).frame kind }
     ensures { (notes : NotesOf) → Coding (S.state scopes.old) (S.state scopes.new) notes notes fragments.old.nodes.items fragments.new.nodes.items site.now result IsCoded coded_in (λ c. if spec_broken c.scene index then gives in_error else gives (coded (operands.Computed cardinal) (spec_high c.scene (coded_in fragments.old.nodes.items x) kind))) }
 {
-    if asked!(is_broken(scopes, site.around, index)) {
+    let broken = asked!(is_broken(scopes, site.around, index));
+    if broken {
         return Ok(Ask::Known(Coded::in_error()));
     }
     high_computed(scopes, site, x, kind, fragments)
@@ -187,6 +193,14 @@ fn high<S: Scopes>(
     high_of_variable(scopes, site, at, v, fragments, notes)
 }
 
+/// A size, pushed.
+fn push_size(size: u64) -> Instr
+    requires { size < 2 ^ 32 }
+    ensures { result ≡ instrs.Push (pos size) }
+{
+    Instr::Push(size as i64)
+}
+
 /// The code of SIZE of a variable of this type.
 fn size_code<S: Scopes>(
     scopes: &mut S,
@@ -199,7 +213,8 @@ fn size_code<S: Scopes>(
     ensures { (notes : NotesOf) → Coding (S.state scopes.old) (S.state scopes.new) notes notes fragments.old.nodes.items fragments.new.nodes.items site.now result IsFragment part (λ c. gives (pushed_size c.scene of)) }
 {
     let size = asked!(size_of(scopes, site.around, of));
-    Ok(Ask::Known(fragments.one(Instr::Push(size as i64))?))
+    let code = fragments.one(push_size(size))?;
+    Ok(Ask::Known(code))
 }
 
 /// What SIZE gives of an operand, with its code.

@@ -17,8 +17,9 @@ ghost use Rattle.type_rules.specs.Asks.{Reads, WhereKnown, WhereWaiting};
 ghost use Rattle.type_rules.specs.Scenes.{IsThere, WhereTold};
 ghost use Rattle.type_rules.specs.Sites.{SuitsSite, context_of};
 
-use crate::chains::{instr_behind, two_instrs};
+use crate::chains::instr_behind;
 use crate::coded::Coded;
+use crate::designated::pair;
 use crate::fragments::{Fragment, Fragments};
 use crate::operators::side_of;
 use crate::values::value_code;
@@ -43,7 +44,7 @@ impl Change {
         ensures { IsMade fragments.old.nodes.items fragments.new.nodes.items result (plain (instrs_of self)) }
     {
         match self.second {
-            Some(second) => two_instrs(self.first, second, fragments),
+            Some(second) => pair(self.first, second, fragments),
             None => fragments.one(self.first),
         }
     }
@@ -55,7 +56,7 @@ fn behind_value(number: Fragment, rest: Fragment, fragments: &mut Fragments) -> 
     requires rest { IsIn fragments.old.nodes.items rest }
     ensures { IsMade fragments.old.nodes.items fragments.new.nodes.items result (plain (instrs.Dup ∷ instrs.Load ∷ []) ⨟ part fragments.old.nodes.items number ⨟ part fragments.old.nodes.items rest) }
 {
-    let loaded = two_instrs(Instr::Dup, Instr::Load, fragments)?;
+    let loaded = pair(Instr::Dup, Instr::Load, fragments)?;
     let changed = fragments.then(number, rest)?;
     fragments.then(loaded, changed)
 }

@@ -18,8 +18,9 @@ ghost use Rattle.type_rules.specs.Asks.{Reads, WhereKnown, WhereWaiting};
 ghost use Rattle.type_rules.specs.Scenes.{IsThere, WhereTold};
 ghost use Rattle.type_rules.specs.Sites.{SuitsSite, context_of};
 
-use crate::chains::{instr_behind, two_instrs};
+use crate::chains::instr_behind;
 use crate::coded::Coded;
+use crate::designated::pair;
 use crate::fitting::fitted_code;
 use crate::fragments::{Fragment, Fragments};
 use crate::operators::{made, side_of};
@@ -146,7 +147,7 @@ fn function_ending<S: Scopes>(
 
 /// The ending of a rule; a value that is fitted has none.
 #[tactic(auto, using(type_rules::proofs::Reading::reading))]
-fn ending<S: Scopes>(scopes: &mut S, site: &Site, rule: Rule, of: Place) -> Ask<Ending>
+fn ending_of<S: Scopes>(scopes: &mut S, site: &Site, rule: Rule, of: Place) -> Ask<Ending>
     requires suits { SuitsSite (S.state scopes.old).frame site.now }
     requires of { IsThere (S.state scopes.old).frame of }
     ensures reads { Reads (S.state scopes.old) (S.state scopes.new) }
@@ -164,9 +165,18 @@ fn ending<S: Scopes>(scopes: &mut S, site: &Site, rule: Rule, of: Place) -> Ask<
 fn oddness(side: u8, fragments: &mut Fragments) -> Result<Fragment, Memory>
     ensures { IsMade fragments.old.nodes.items fragments.new.nodes.items result (plain (instrs_of (endings.Oddness side))) }
 {
-    let remainder = two_instrs(Instr::Push(2), Instr::Mod(side), fragments)?;
-    let is_one = two_instrs(Instr::Push(1), Instr::Eq, fragments)?;
+    let remainder = pair(Instr::Push(2), Instr::Mod(side), fragments)?;
+    let is_one = pair(Instr::Push(1), Instr::Eq, fragments)?;
     fragments.then(remainder, is_one)
+}
+
+/// A value with the test whether the remainder by 2 is 1.
+fn odd_behind(value: Fragment, side: u8, fragments: &mut Fragments) -> Result<Fragment, Memory>
+    requires value { IsIn fragments.old.nodes.items value }
+    ensures { IsMade fragments.old.nodes.items fragments.new.nodes.items result (part fragments.old.nodes.items value ⨟ plain (instrs_of (endings.Oddness side))) }
+{
+    let test = oddness(side, fragments)?;
+    fragments.then(value, test)
 }
 
 /// A value with its ending.
@@ -182,10 +192,7 @@ fn with_ending(
         Ending::Nothing => fragments.then(value, Fragment::Nothing),
         Ending::Magnitude => instr_behind(value, Instr::Abs, fragments),
         Ending::Capital => instr_behind(value, Instr::Cap, fragments),
-        Ending::Oddness(side) => {
-            let test = oddness(side, fragments)?;
-            fragments.then(value, test)
-        }
+        Ending::Oddness(side) => odd_behind(value, side, fragments),
     }
 }
 
@@ -203,8 +210,9 @@ fn ended<S: Scopes>(
     requires value { IsIn fragments.old.nodes.items value }
     ensures { (notes : NotesOf) → Coding (S.state scopes.old) (S.state scopes.new) notes notes fragments.old.nodes.items fragments.new.nodes.items site.now result IsFragment part (λ c. gives (part fragments.old.nodes.items value ⨟ plain (spec_ending c.scene of rule))) }
 {
-    let ending = asked!(ending(scopes, site, rule, of));
-    Ok(Ask::Known(with_ending(value, ending, fragments)?))
+    let after = asked!(ending_of(scopes, site, rule, of));
+    let code = with_ending(value, after, fragments)?;
+    Ok(Ask::Known(code))
 }
 
 /// The code of a value, and the ending of a rule behind it.

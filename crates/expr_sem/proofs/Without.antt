@@ -1,0 +1,32 @@
+-- Cases of operators and sets by exclusion.
+use Rattle.std.proofs.Common.{◌≡◌, ◌∷◌, [], ℤ, refl}
+use Rattle.m2_base.specs.Statics.Contexts.{Scene}
+use Rattle.m2_base.specs.declared.operands.Operand.{Operand}
+use Rattle.m2_base.specs.declared.operands.Operand.TheVariants.{Computed, Constant, InError}
+use Rattle.m2_base.specs.declared.rows.Place.{Place}
+use Rattle.m2_base.specs.declared.trees.operators.Operator.{Operator}
+use Rattle.m2_base.specs.declared.trees.operators.Operator.TheVariants.{And, Or}
+use Rattle.expr_sem.specs.Coded.{Coded, coded, in_error, taken}
+use Rattle.expr_sem.specs.Operators.{made, operation_code, two_instr}
+use Rattle.expr_sem.specs.Parts.{Part, plain, ◌⨟◌}
+use Rattle.expr_sem.specs.SetElements.{element_as}
+
+-- of a result that isn't computed no code counts
+pub made_without : (o : Operand) (p q : Part) → ((t : Place) → o ≡ Computed t → ⊥) → made o p ≡ made o q
+made_without (Computed t) p q other = absurd (other t refl)
+made_without o p q other = refl
+
+pub made_other : (o : Operand) (p : Part) → ((t : Place) → o ≡ Computed t → ⊥) → ((t : Place) (v : ℤ) → o ≡ Constant t v → ⊥) → in_error ≡ made o p
+made_other (Computed t) p computed constant = absurd (computed t refl)
+made_other (Constant t v) p computed constant = absurd (constant t v refl)
+made_other o p computed constant = refl
+
+-- an operator that is neither AND nor OR has an instruction behind both operands
+pub instructed_by : (scene : Scene) (op : Operator) (r t : Place) (x y : Part) → (op ≡ And → ⊥) → (op ≡ Or → ⊥) → (x ⨟ y ⨟ plain (two_instr scene op r t ∷ [])) ≡ operation_code scene op r t x y
+instructed_by scene And r t x y and or = absurd (and refl)
+instructed_by scene Or r t x y and or = absurd (or refl)
+instructed_by scene op r t x y and or = refl
+
+pub taken_as : (x : Coded) (o : Operand) → (o ≡ InError → ⊥) → taken o x ≡ element_as x o
+taken_as x InError other = absurd (other refl)
+taken_as x o other = refl
