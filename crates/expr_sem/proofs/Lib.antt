@@ -18,3 +18,4 @@ pub mod Highs
 pub mod Onwards
 pub mod Quiet
 pub mod Without
+pub mod Refusing

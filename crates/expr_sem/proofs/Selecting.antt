@@ -7,7 +7,7 @@ use Rattle.m2_base.specs.States.{Frame, State}
 use Rattle.m2_base.specs.Statics.Contexts.{Block, Context, Scene, refuse}
 use Rattle.m2_base.specs.Statics.Diagnostics.{not_a_pointer, not_a_record, not_an_array}
 use Rattle.m2_base.specs.Statics.TypeParts.{field_of, named_target, target_by}
-use Rattle.m2_base.specs.Statics.Types.{kind_of, meaning_at}
+use Rattle.m2_base.specs.Statics.Types.{is_broken, kind_of, meaning_at}
 use Rattle.m2_base.specs.declared.memory.Memory.{Memory}
 use Rattle.m2_base.specs.declared.notes.Notes.{Notes}
 use Rattle.m2_base.specs.declared.operands.Operand.{Operand}
@@ -22,13 +22,15 @@ use Rattle.m2_base.specs.declared.rows.RowMeaning.TheVariants.{Array, Field, Ope
 use Rattle.m2_base.specs.declared.sites.Site.{Site}
 use Rattle.m2_base.specs.declared.trees.Ident.{Ident}
 use Rattle.type_rules.specs.Asks.{Reads}
+use Rattle.code_form.specs.declared.instr.Instr.TheVariants.{Load, Nil}
+use Rattle.m2_base.proofs.Kept.{Works-refl}
 use Rattle.expr_sem.specs.Coded as code
 use Rattle.expr_sem.specs.Coded.{bare, coded, in_error}
 use Rattle.expr_sem.specs.Codings.{Coding, IsCoded, coded_in, high_in}
 use Rattle.expr_sem.specs.Elements.{of_array, of_pointer, select_element_by, select_target_by}
 use Rattle.expr_sem.specs.Fragments.{Grows, IsIn, IsMade}
-use Rattle.expr_sem.specs.Parts.{Part, with_record, ◌⨟◌}
-use Rattle.expr_sem.specs.RecordFields.{field_coded, field_or, with_field, no_selector, of_record, select_field_by}
+use Rattle.expr_sem.specs.Parts.{Part, plain, with_record, ◌⨟◌}
+use Rattle.expr_sem.specs.RecordFields.{field_by, field_coded, field_or, field_or_use, name_coded, with_field, no_selector, of_record, select_field_by}
 use Rattle.expr_sem.specs.Selections.{number_or, pointed, with_number}
 use Rattle.expr_sem.specs.Variables.{with_address}
 use Rattle.expr_sem.specs.declared.coded.Coded.{Coded}
@@ -59,6 +61,14 @@ pub coding_full : {T V : Type 0} (a : State) (n : Notes) (s : Site) {ns ms : Lis
     → IsErr r → IsMade ns ms (Err m) p → Coding a a n n ns ms s r P as_p g
 coding_full a n s (Ok f) is h = absurd (let h : false ≡ true = is in cc)
 coding_full a n s (Err k) is h = made_wanted a n s h k
+
+-- memory was wanted after fragments that were made
+pub grown_wanted : {T V : Type 0} (a : State) (n : Notes) (s : Site) {ns ms : List Node} {P : Frame → List Node → T → Type 0} {as_p : List Node → T → V} {g : Context → Gives V} → Grows ns ms → (k : Memory) → Coding a a n n ns ms s (Err k) P as_p g
+grown_wanted a n s h k = record { works = Works-refl a n; waits = tt; grows = h; told = λ made in_hand told of_site. tt; there = tt }
+
+-- a coding after fragments that were made
+pub grown : {T V : Type 0} {a b : State} {x y : Notes} {s : Site} {n1 n2 n3 : List Node} {P : Frame → List Node → T → Type 0} {as_p : List Node → T → V} {g : Context → Gives V} {answer : Result (Ask T) Memory} → Grows n1 n2 → Coding a b x y n2 n3 s answer P as_p g → Coding a b x y n1 n3 s answer P as_p g
+grown h p = record { works = p.works; waits = p.waits; grows = Grows-trans h p.grows; told = p.told; there = p.there }
 
 -- what is in error
 pub error_alone : (a : State) (n : Notes) (ns : List Node) (s : Site) (v : Coded) (g : Context → Gives code.Coded) → ((nodes : List Node) → coded_in nodes v ≡ in_error) → ((f : Frame) (nodes : List Node) → IsCoded f nodes v)
@@ -105,6 +115,10 @@ no_field c first at i p InError s v e n = absurd (e refl)
 no_field c first at i p NotConstant s v e n = absurd (n refl)
 no_field c first at i p o s v e n = refl
 
+pub not_field : (scene : Scene) (p : Part) (m : RowMeaning) → ((t : Place) (o r n : ℕ) → m ≡ Field t o r n → ⊥) → in_error ≡ field_by scene p m
+not_field scene p (Field t o r n) h = absurd (h t o r n refl)
+not_field scene p m h = refl
+
 -- ** Types that a selector isn't for
 
 pub no_pointer : (c : Context) (at : ℕ) (p : Part) (t : Place) (m : RowMeaning) → ((q : Place) → m ≡ Pointer q → ⊥) → refuse c at not_a_pointer in_error ≡ of_pointer c at p t m
@@ -115,6 +129,14 @@ no_pointer c at p t m h = refl
 pub pointer_given : (c : Context) (at : ℕ) (p : Part) (t q : Place) → Pointer q ≡ kind_of c.scene t
     → pointed c.scene p (named_target q (meaning_at c.scene q)) ≡ of_pointer c at p t (kind_of c.scene t)
 pointer_given c at p t q e = ap (λ m. pointed c.scene p (target_by c.scene m)) e ∙ ap (λ m. of_pointer c at p t m) e
+
+pub pointed_broken : (scene : Scene) (p : Part) (v t : Place) → true ≡ is_broken scene v → v ≡ t → gives in_error ≡ pointed scene p t
+pointed_broken scene p v t b e =
+    ap (λ (h : Bool). if h then gives in_error else gives (coded (Variable v) (p ⨟ plain (Load ∷ Nil ∷ [])))) b ∙ ap (λ u. pointed scene p u) e
+
+pub pointed_whole : (scene : Scene) (p : Part) (v t : Place) → false ≡ is_broken scene v → v ≡ t → gives (coded (Variable v) (p ⨟ plain (Load ∷ Nil ∷ []))) ≡ pointed scene p t
+pointed_whole scene p v t b e =
+    ap (λ (h : Bool). if h then gives in_error else gives (coded (Variable v) (p ⨟ plain (Load ∷ Nil ∷ [])))) b ∙ ap (λ u. pointed scene p u) e
 
 pub no_record : (c : Context) (at : ℕ) (p : Part) (i : Ident) (t : Place) (m : RowMeaning) → ((f s : ℕ) → m ≡ Record f s → ⊥) → refuse c at not_a_record in_error ≡ of_record c at p i t m
 no_record c at p i t (Record f s) h = absurd (h f s refl)
@@ -139,3 +161,9 @@ pub with_field_numbered : (scene : Scene) (k : ℕ) (ts : List Place) (name : �
     → with_field scene k ts name ≡ option_map (λ n. field_coded scene (with_record n.0) n.1) (with_number scene k ts name)
 with_field_numbered scene k [] name = refl
 with_field_numbered scene k (t ∷ ts) name = with_field_or scene k name (field_of scene t name) _ _ (with_field_numbered scene (suc k) ts name)
+
+-- a name where a designator begins, by the WITH that has a field of it
+pub name_given : (c : Context) (i : Ident) (ws : List Place) (found : Option (ℕ × Row)) → found ≡ with_number c.scene 0 ws i.name
+    → field_or_use c i (option_map (λ n. field_coded c.scene (with_record n.0) n.1) found) ≡ name_coded c ws i
+name_given c i ws found e =
+    ap (λ (o : Option (ℕ × Row)). field_or_use c i (option_map (λ n. field_coded c.scene (with_record n.0) n.1) o)) e ∙ ap (λ o. field_or_use c i o) (sym (with_field_numbered c.scene 0 ws i.name))

@@ -118,7 +118,33 @@ fn field_of_withs<S: Scopes>(
     Ask::Known(None)
 }
 
+/// A number, where it has 32 bits.
+fn small_number(number: usize) -> Option<u32>
+    ensures { IfSome result (λ small. small ≡ number) }
+{
+    u32::try_from(number).ok()
+}
+
 /// The field of this row, in the record of the open WITH of this number.
+fn field_of_record<S: Scopes>(
+    scopes: &mut S,
+    site: &Site,
+    number: u32,
+    field: Row,
+    fragments: &mut Fragments,
+) -> Result<Ask<Coded>, Memory>
+    requires suits { SuitsSite (S.state scopes.old).frame site.now }
+    requires field { IsField (S.state scopes.old).frame (row_meaning field) }
+    ensures { (notes : NotesOf) → Coding (S.state scopes.old) (S.state scopes.new) notes notes fragments.old.nodes.items fragments.new.nodes.items site.now result IsCoded coded_in (λ c. gives (spec_field_coded c.scene (spec_record number) field)) }
+{
+    match fragments.with_record(number) {
+        Ok(record) => field_coded(scopes, site, field, record, fragments),
+        Err(memory) => Err(memory),
+    }
+}
+
+/// The field of this row, in the record of the open WITH of this number, which has no more than 32 bits: else the error is
+/// that memory is wanted, which comes about in no module.
 fn field_of_with<S: Scopes>(
     scopes: &mut S,
     site: &Site,
@@ -130,11 +156,10 @@ fn field_of_with<S: Scopes>(
     requires field { IsField (S.state scopes.old).frame (row_meaning field) }
     ensures { (notes : NotesOf) → Coding (S.state scopes.old) (S.state scopes.new) notes notes fragments.old.nodes.items fragments.new.nodes.items site.now result IsCoded coded_in (λ c. gives (spec_field_coded c.scene (spec_record number) field)) }
 {
-    let Ok(number) = u32::try_from(number) else {
-        return Err(Memory);
-    };
-    let record = fragments.with_record(number)?;
-    field_coded(scopes, site, field, record, fragments)
+    match small_number(number) {
+        Some(small) => field_of_record(scopes, site, small, field, fragments),
+        None => Err(Memory),
+    }
 }
 
 /// What a name is bound to where it is used.
@@ -170,7 +195,7 @@ pub fn name_coded<S: Scopes>(
     ensures { Coding (S.state scopes.old) (S.state scopes.new) notes.old notes.new fragments.old.nodes.items fragments.new.nodes.items site.now result IsCoded coded_in (λ c. spec_name c (with_types withs.now) ident) }
 {
     match asked!(field_of_withs(scopes, site.around, withs, ident.name)) {
-        Some((number, field)) => field_of_with(scopes, site, number, field, fragments),
+        Some(found) => field_of_with(scopes, site, found.0, found.1, fragments),
         None => name_used(scopes, site, None, ident, fragments, notes),
     }
 }

@@ -1,5 +1,5 @@
 //! Where a variable is.
-ghost use Rattle.std.specs.Prelude.{◌≡◌, ◌+◌};
+ghost use Rattle.std.specs.Prelude.{◌≡◌, ◌+◌, ◌∷◌, []};
 ghost use Rattle.std.specs.Option.{IfSome};
 ghost use Rattle.m2_base.specs.Gives.{gives};
 ghost use Rattle.m2_base.specs.States.{State};
@@ -7,10 +7,13 @@ ghost use Rattle.m2_base.specs.declared.notes.Notes.{Notes};
 ghost use Rattle.m2_base.specs.declared.operands.Operand.TheVariants.{Variable};
 ghost use Rattle.m2_base.specs.declared.rows.Mode.TheVariants.{Open};
 ghost use Rattle.m2_base.specs.declared.rows.RowMeaning.TheVariants.{Var};
+ghost use Rattle.m2_base.specs.declared.sites.Site.{Site as SiteOf};
+ghost use Rattle.code_form.specs.declared.instr.Instr.TheVariants.{Load};
 ghost use Rattle.type_rules.specs.Scenes.{IsRowOf, IsThere, block_of};
 ghost use Rattle.type_rules.specs.Sites.{SuitsSite};
 ghost use Rattle.const_eval.specs.Sites.{IsOperand};
 ghost use Rattle.expr_sem.specs.Codings.{Coding, IsCoded, coded_in};
+ghost use Rattle.expr_sem.specs.Parts.{plain};
 ghost use Rattle.expr_sem.specs.Variables.{cell_instr as spec_cell, entry_coded as spec_entry, links_out as spec_links, with_address as spec_with};
 
 use crate::coded::Coded;
@@ -49,6 +52,19 @@ fn next_cell(offset: u32) -> Option<u32>
     offset.checked_add(1)
 }
 
+/// An open array of this type, by its two cells: the first has its address, and the second the number of its elements less 1.
+fn open_cells(
+    of: Place,
+    first: Instr,
+    second: Instr,
+    fragments: &mut Fragments,
+) -> Result<Ask<Coded>, Memory>
+    ensures { (state : State) (notes : Notes) (s : SiteOf) → IsThere state.frame of → Coding state state notes notes fragments.old.nodes.items fragments.new.nodes.items s result IsCoded coded_in (λ c. gives (record { operand = Variable of; code = plain (first ∷ Load ∷ []); high = plain (second ∷ Load ∷ []) })) }
+{
+    let high = pair(second, Instr::Load, fragments)?;
+    open_at(of, high, pair(first, Instr::Load, fragments))
+}
+
 /// An open array, by the offset of its first cell: that has its address, and the next one the number of its elements less 1.
 fn open_array(
     site: &Site,
@@ -63,8 +79,7 @@ fn open_array(
         Some(next) => {
             let first = cell_instr(site.around, scope, offset);
             let second = cell_instr(site.around, scope, next);
-            let high = pair(second, Instr::Load, fragments)?;
-            open_at(of, high, pair(first, Instr::Load, fragments))
+            open_cells(of, first, second, fragments)
         }
         None => Err(Memory),
     }

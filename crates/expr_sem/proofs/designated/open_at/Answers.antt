@@ -4,8 +4,8 @@ use Rattle.expr_sem.specs.Coded as code
 use Rattle.expr_sem.specs.Codings.{IsCoded, coded_in}
 use Rattle.expr_sem.specs.Fragments.{part}
 use Rattle.expr_sem.specs.Parts.{Part}
-use Rattle.expr_sem.proofs.Operating.{made_wanted, value_grown}
-use Rattle.expr_sem.proofs.Selecting.{made_full}
+use Rattle.expr_sem.proofs.Operating.{value_grown}
+use Rattle.expr_sem.proofs.Selecting.{grown_wanted}
 use Rattle.expr_sem.proofs.Sequencing.{Grows-trans, in_later, part_later}
 use Rattle.expr_sem.proofs.designated.open_at.Goals as goal
 
@@ -20,4 +20,4 @@ returns-in-Ok c state notes s from mid to p q there grows high made =
 pub returns-in-Err : goal.returns-in-Err
 returns-in-Err c state notes s from mid to p q there grows high made =
     let m = (rw c.in-Err.is at made) in
-    made_wanted {p = p} state notes s (record { grows = Grows-trans grows m.grows; made = tt }) _
+    grown_wanted state notes s (Grows-trans grows m.grows) _

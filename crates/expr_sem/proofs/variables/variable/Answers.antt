@@ -13,13 +13,13 @@ use Rattle.expr_sem.proofs.variables.variable.Goals as goal
 pub returns-in-Plain : goal.returns-in-Plain
 returns-in-Plain c state notes t there =
     described_there c.variable_at.result (c.variable_at.ensures state notes c.args.site.now _ _ _ there c.one.ensures.made)
-    (λ made. ap (λ i. gives (coded (Variable c.args.of) (plain (i ∷ [])))) c.cell_instr.ensures
+    (λ made. ap (λ i. gives (coded (Variable c.args.of) (plain (i ∷ [])))) c.cell_instr-cell.ensures
     ∙ ap (λ m. gives (with_address (block_of c.args.site.now.around.now) c.args.scope (Var t m c.args.offset) (Variable c.args.of))) (sym c.in-Plain.is))
 
 pub returns-in-ByAddress : goal.returns-in-ByAddress
 returns-in-ByAddress c state notes t there =
     described_there c.variable_at-in-ByAddress.result (c.variable_at-in-ByAddress.ensures state notes c.args.site.now _ _ _ there c.pair.ensures)
-    (λ made. ap (λ i. gives (coded (Variable c.args.of) (plain (i ∷ Load ∷ [])))) c.cell_instr.ensures
+    (λ made. ap (λ i. gives (coded (Variable c.args.of) (plain (i ∷ Load ∷ [])))) c.cell_instr-cell.ensures
     ∙ ap (λ m. gives (with_address (block_of c.args.site.now.around.now) c.args.scope (Var t m c.args.offset) (Variable c.args.of))) (sym c.in-ByAddress.is))
 
 pub returns-in-Open : goal.returns-in-Open

@@ -13,5 +13,5 @@ returns-in-Var c state notes there =
 
 pub returns-in_default : goal.returns-in_default
 returns-in_default c state notes there =
-    value_alone state notes _ _ c.bare.result IsCoded coded_in (λ k. with_address k.scene.block c.args.scope c.args.meaning (Variable c.args.of)) (c.bare.ensures.there state.frame _ there)
-    (λ k. c.bare.ensures.told _ ∙ with_no_var k.scene.block c.args.scope c.args.meaning c.args.of c.in_default.not-Var)
+    value_alone state notes _ _ c.bare.result IsCoded coded_in (λ k. with_address k.scene.block c.args.scope c.args.meaning (Variable c.args.of)) (c.bare.ensures.there state.frame c.args.fragments.now.nodes.items there)
+    (λ k. c.bare.ensures.told c.args.fragments.now.nodes.items ∙ with_no_var k.scene.block c.args.scope c.args.meaning c.args.of c.in_default.not-Var)

@@ -12,5 +12,5 @@ returns-in-Variable c state notes there =
 
 pub returns-in_default : goal.returns-in_default
 returns-in_default c state notes there =
-    value_alone state notes _ _ c.bare.result IsCoded coded_in (λ k. with_address k.scene.block c.args.scope c.args.meaning c.args.operand) (c.bare.ensures.there state.frame _ there)
-    (λ k. c.bare.ensures.told _ ∙ with_other k.scene.block c.args.scope c.args.meaning c.args.operand c.in_default.not-Variable)
+    value_alone state notes _ _ c.bare.result IsCoded coded_in (λ k. with_address k.scene.block c.args.scope c.args.meaning c.args.operand) (c.bare.ensures.there state.frame c.args.fragments.now.nodes.items there)
+    (λ k. c.bare.ensures.told c.args.fragments.now.nodes.items ∙ with_other k.scene.block c.args.scope c.args.meaning c.args.operand c.in_default.not-Variable)
