@@ -6,7 +6,9 @@ pub mod Functions
 pub mod Designators
 pub mod Passing
 pub mod Proper
+pub mod Quiet
 pub mod Law
+pub mod Onwards
 pub mod Operating
 pub mod Sequencing
 pub mod Selecting
@@ -19,3 +21,4 @@ pub mod Onwards
 pub mod Quiet
 pub mod Without
 pub mod Refusing
+pub mod ValueCases

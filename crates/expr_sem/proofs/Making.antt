@@ -1,5 +1,5 @@
 -- Code that is made after a question.
-use Rattle.std.proofs.Common.{◌≡◌, List, Result, Ok, Err, refl, subst}
+use Rattle.std.proofs.Common.{◌≡◌, List, Result, Ok, Err, refl, subst, sym}
 use Rattle.m2_base.specs.Asks.{IfKnown, IfWaits}
 use Rattle.m2_base.specs.Gives.{Adds, Gives, gives}
 use Rattle.m2_base.specs.States.{Frame, State, Waits, Works}
@@ -15,8 +15,10 @@ use Rattle.type_rules.specs.Asks.{Reads}
 use Rattle.type_rules.specs.Scenes.{Hand, WhereTold}
 use Rattle.type_rules.specs.Sites.{AreOfSite, context_of}
 use Rattle.type_rules.proofs.Compatibles.{told_later}
+use Rattle.type_rules.proofs.Reading.{Reads-refl}
 use Rattle.expr_sem.specs.Codings.{Coding, IsFragment}
-use Rattle.expr_sem.specs.Fragments.{IsMade, part}
+use Rattle.expr_sem.specs.Fragments.{IsIn, IsMade, part}
+use Rattle.expr_sem.specs.MadeAnswers.{answer_of}
 use Rattle.expr_sem.specs.Parts.{Part}
 use Rattle.expr_sem.specs.declared.fragments.Fragment.{Fragment}
 use Rattle.expr_sem.specs.declared.fragments.Node.{Node}
@@ -68,3 +70,21 @@ fragment_told {a} {b} {s} {ns} {ms} {p} n f g r m e =
           (subst (λ given. Adds n n (gives given) (part ms f)) m.made.part_is (Adds-refl n (part ms f)));
       there = m.made.there;
     }
+
+-- what is made after a question, by the answer
+pub made_told : {a b : State} {s : Site} {ns ms : List Node} {p : Part} (n : Notes) (made : Result Fragment Memory) (answer : Result (Ask Fragment) Memory) (g : Context → Part) → answer ≡ answer_of made
+    → Reads a b → IsMade ns ms made p → WhereTold a.frame (λ rows. p ≡ g (context_of a.frame rows s)) → Coding a b n n ns ms s answer IsFragment part (λ c. gives (g c))
+made_told {a} {b} {s} {ns} {ms} {p} n (Ok f) answer g same r m e =
+    subst (λ x. Coding a b n n ns ms s x IsFragment part (λ c. gives (g c))) (sym same) (fragment_told n f g r m e)
+made_told {a} {b} {s} {ns} {ms} {p} n (Err k) answer g same r m e =
+    subst (λ x. Coding a b n n ns ms s x IsFragment part (λ c. gives (g c))) (sym same) (question_wanted n r m k)
+
+-- what is made with no question
+pub made_alone : {a : State} {s : Site} {ns ms : List Node} {p : Part} (n : Notes) (made : Result Fragment Memory) (answer : Result (Ask Fragment) Memory) (g : Context → Part) → answer ≡ answer_of made
+    → IsMade ns ms made p → ((rows : Hand) → p ≡ g (context_of a.frame rows s)) → Coding a a n n ns ms s answer IsFragment part (λ c. gives (g c))
+made_alone {a} n made answer g same m e = made_told n made answer g same (Reads-refl a) m (λ rows in_hand told. e rows)
+
+-- what is there already
+pub there_told : {a b : State} {s : Site} {ns : List Node} (n : Notes) (f : Fragment) (g : Context → Part) → Reads a b → IsIn ns f
+    → WhereTold a.frame (λ rows. part ns f ≡ g (context_of a.frame rows s)) → Coding a b n n ns ns s (Ok (Known f)) IsFragment part (λ c. gives (g c))
+there_told {ns = ns} n f g r h e = fragment_told n f g r (record { grows = Grows-refl ns; made = record { there = h; part_is = refl } }) e

@@ -1,5 +1,6 @@
 -- What comes after code whose value is known: a value or a fragment made of it, or further code.
-use Rattle.std.proofs.Common.{◌≡◌, ◌∙◌, List, Option, Result, Ok, Err, ap, sym, subst, refl}
+use Rattle.std.proofs.Common.{◌≡◌, ◌∙◌, List, Option, Result, Ok, Err, true, false, ap, sym, subst, refl}
+use Rattle.std.specs.Prelude.{IsErr}
 use Rattle.m2_base.specs.Gives.{Gives, gives}
 use Rattle.m2_base.specs.States.{Frame, State}
 use Rattle.m2_base.specs.Statics.Contexts.{Context}
@@ -20,7 +21,7 @@ use Rattle.expr_sem.specs.declared.coded.Coded.{Coded}
 use Rattle.expr_sem.specs.declared.fragments.Fragment.{Fragment}
 use Rattle.expr_sem.specs.declared.fragments.Node.{Node}
 use Rattle.expr_sem.proofs.Sequencing.{Grows-refl, Grows-trans, in_later, part_later}
-use Rattle.expr_sem.proofs.Operating.{stays_coded}
+use Rattle.expr_sem.proofs.Operating.{made_wanted, stays_coded}
 
 module _ {T U V W : Type 0} {a b : State} {x y : Notes} {n1 n2 n3 : List Node} {s : Site} {P : Frame → List Node → T → Type 0} {as_p : List Node → T → V} {f : Context → V} {v : T} where
   -- a value that is made of it
@@ -38,9 +39,16 @@ module _ {T U V W : Type 0} {a b : State} {x y : Notes} {n1 n2 n3 : List Node} {
       }
 
   -- memory was wanted while a fragment was made
-  pub with_wanted : {m : Memory} {q : Part} {Q : Frame → List Node → U → Type 0} {as_q : List Node → U → W} {g : Context → Gives W} → Coding a b x y n1 n2 s (Ok (Known v)) P as_p (λ c. gives (f c)) → IsMade n2 n3 (Err m) q
-      → (n : Memory) → Coding a b x y n1 n3 s (Err n) Q as_q g
-  with_wanted p m n = record { works = p.works; waits = tt; grows = Grows-trans p.grows m.grows; told = λ made in_hand told of_site. tt; there = tt }
+  pub with_wanted : {m : Memory} {q : Part} {Q : Frame → List Node → U → Type 0} {as_q : List Node → U → W} {g : Context → Gives W} (r : Result (Ask U) Memory) → IsErr r
+      → Coding a b x y n1 n2 s (Ok (Known v)) P as_p (λ c. gives (f c)) → IsMade n2 n3 (Err m) q → Coding a b x y n1 n3 s r Q as_q g
+  with_wanted (Ok u) is p m = absurd (let h : false ≡ true = is in cc)
+  with_wanted (Err k) is p m = record { works = p.works; waits = tt; grows = Grows-trans p.grows m.grows; told = λ made in_hand told of_site. tt; there = tt }
+
+-- memory was wanted while a fragment was made, of nothing before
+pub just_wanted : {T V : Type 0} (a : State) (n : Notes) {ns ms : List Node} (s : Site) {m : Memory} {p : Part} {P : Frame → List Node → T → Type 0} {as_p : List Node → T → V} {g : Context → Gives V} (r : Result (Ask T) Memory) → IsErr r
+    → IsMade ns ms (Err m) p → Coding a a n n ns ms s r P as_p g
+just_wanted a n s (Ok u) is h = absurd (let e : false ≡ true = is in cc)
+just_wanted a n s (Err k) is h = made_wanted a n s h k
 
 -- a fragment that is made of it
 pub with_fragment : {T V : Type 0} {a b : State} {x y : Notes} {n1 n2 n3 : List Node} {s : Site} {P : Frame → List Node → T → Type 0} {as_p : List Node → T → V} {f : Context → V} {v : T} {w : Fragment} {q : Part} (h : V → Part)

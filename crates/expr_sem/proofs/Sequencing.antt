@@ -5,7 +5,7 @@ use Rattle.std.proofs.lemmas.List.{get_or_append_left, length-append, length_pus
 use Rattle.m2_base.specs.declared.memory.Memory.{Memory}
 use Rattle.m2_base.proofs.Kept.{IsPrefixOf-refl, IsPrefixOf-trans}
 use Rattle.expr_sem.specs.Fragments.{Grows, IsIn, IsMade, MadeBy, part, part_by, parts_after}
-use Rattle.expr_sem.specs.Parts.{Part, none}
+use Rattle.expr_sem.specs.Parts.{Part, none, ◌⨟◌}
 use Rattle.expr_sem.specs.declared.fragments.Fragment.{Fragment}
 use Rattle.expr_sem.specs.declared.fragments.Fragment.TheVariants.{Nothing, Node as NodeOf}
 use Rattle.expr_sem.specs.declared.fragments.Node.{Node}
@@ -66,3 +66,24 @@ made_nothing ns p e = record { grows = Grows-refl ns; made = record { there = tt
 -- memory was wanted, of a part that was made on the way or of the whole
 pub wanted : {a b : List Node} {p q : Part} {m : Memory} → IsMade a b (Err m) p → (n : Memory) → IsMade a b (Err n) q
 wanted h n = record { grows = h.grows; made = tt }
+
+pub joined_same : {p q r s : Part} → p ≡ r → q ≡ s → (p ⨟ q) ≡ (r ⨟ s)
+joined_same {p} {q} {r} {s} e f = ap (λ (t : Part). t ⨟ q) e ∙ ap (λ (t : Part). r ⨟ t) f
+
+-- a fragment, and another behind it that was just made
+pub behind : {a b c : List Node} {last : Fragment} {q : Part} (r : Result Fragment Memory) (first : Fragment) → IsIn a first → IsMade a b (Ok last) q → IsMade b c r (part b first ⨟ part b last) → IsMade a c r (part a first ⨟ q)
+behind r first h m t = made_after r m.grows t (joined_same (part_later m.grows first h) m.made.part_is)
+
+-- two fragments, and another behind them that was just made
+pub behind_both : {a b c : List Node} {last : Fragment} {q : Part} (r : Result Fragment Memory) (x y : Fragment) → IsIn a x → IsIn a y → IsMade a b (Ok last) q
+    → IsMade b c r (part b x ⨟ part b y ⨟ part b last) → IsMade a c r (part a x ⨟ part a y ⨟ q)
+behind_both r x y h k m t =
+    made_after r m.grows t (joined_same (part_later m.grows x h) (joined_same (part_later m.grows y k) m.made.part_is))
+
+-- one that was just made, and what is known of the rest
+pub then_rest : {a b c : List Node} {first : Fragment} {p : Part} (r : Result Fragment Memory) (q : Part) → IsMade a b (Ok first) p → IsMade b c r (part b first ⨟ q) → IsMade a c r (p ⨟ q)
+then_rest r q m t = made_after r m.grows t (ap (λ (u : Part). u ⨟ q) m.made.part_is)
+
+-- a fragment behind one that was just made
+pub made_before : {a b c : List Node} {first : Fragment} {p : Part} (r : Result Fragment Memory) (last : Fragment) → IsIn a last → IsMade a b (Ok first) p → IsMade b c r (part b first ⨟ part b last) → IsMade a c r (p ⨟ part a last)
+made_before r last h m t = made_after r m.grows t (joined_same m.made.part_is (part_later m.grows last h))

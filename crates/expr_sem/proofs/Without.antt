@@ -1,5 +1,8 @@
 -- Cases of operators and sets by exclusion.
-use Rattle.std.proofs.Common.{◌≡◌, ◌∷◌, [], ℤ, refl}
+use Rattle.std.proofs.Common.{◌≡◌, ◌∷◌, [], ℤ, pos, w64, arith, refl}
+use Rattle.std.specs.Prelude.{FitsSigned}
+use Rattle.std.proofs.lemmas.Int.{ints}
+use Rattle.m2_base.specs.Rows.{IsValue}
 use Rattle.m2_base.specs.Statics.Contexts.{Scene}
 use Rattle.m2_base.specs.declared.operands.Operand.{Operand}
 use Rattle.m2_base.specs.declared.operands.Operand.TheVariants.{Computed, Constant, InError}
@@ -9,7 +12,8 @@ use Rattle.m2_base.specs.declared.trees.operators.Operator.TheVariants.{And, Or}
 use Rattle.expr_sem.specs.Coded.{Coded, coded, in_error, taken}
 use Rattle.expr_sem.specs.Operators.{made, operation_code, two_instr}
 use Rattle.expr_sem.specs.Parts.{Part, plain, ◌⨟◌}
-use Rattle.expr_sem.specs.SetElements.{element_as}
+use Rattle.expr_sem.specs.SetElements.{element_as, set_by}
+use Rattle.code_form.specs.declared.instr.Instr.TheVariants.{Push}
 
 -- of a result that isn't computed no code counts
 pub made_without : (o : Operand) (p q : Part) → ((t : Place) → o ≡ Computed t → ⊥) → made o p ≡ made o q
@@ -30,3 +34,13 @@ instructed_by scene op r t x y and or = refl
 pub taken_as : (x : Coded) (o : Operand) → (o ≡ InError → ⊥) → taken o x ≡ element_as x o
 taken_as x InError other = absurd (other refl)
 taken_as x o other = refl
+
+-- a set that is neither constant nor in error begins as the empty one
+pub computed_set : (t : Place) (code : Part) (o : Operand) → ((u : Place) (v : ℤ) → o ≡ Constant u v → ⊥) → (o ≡ InError → ⊥) → coded (Computed t) (plain (Push (pos 0) ∷ []) ⨟ code) ≡ set_by t code o
+computed_set t code (Constant u v) constant error = absurd (constant u v refl)
+computed_set t code InError constant error = absurd (error refl)
+computed_set t code o constant error = refl
+
+-- a value of a row has room in 64 bits
+pub value_fits : (v : ℤ) → IsValue v → FitsSigned w64 v
+value_fits v h = omega (arith, ints, h.0, h.1)

@@ -27,3 +27,4 @@ pub mod Takings
 pub mod RangeChecks
 pub mod SetCodings
 pub mod Selections
+pub mod MadeAnswers

@@ -15,6 +15,7 @@ ghost use Rattle.type_rules.specs.Asks.{Reads, WhereKnown, WhereWaiting};
 ghost use Rattle.type_rules.specs.Scenes.{IsThere, Suits, WhereTold, scene_of};
 ghost use Rattle.type_rules.specs.Sites.{SuitsSite};
 
+use crate::answers::answered;
 use crate::coded::Coded;
 use crate::fragments::{Fragment, Fragments};
 use crate::values::value_code;
@@ -81,7 +82,7 @@ fn fit_check<S: Scopes>(
     ensures { (notes : Notes) → Coding (S.state scopes.old) (S.state scopes.new) notes notes fragments.old.nodes.items fragments.new.nodes.items site.now result IsFragment part (λ c. gives (spec_fit_check c.scene from to)) }
 {
     match range_to_check(scopes, site.around, from, to) {
-        Ask::Known(ends) => Ok(Ask::Known(check(ends, fragments)?)),
+        Ask::Known(ends) => answered(check(ends, fragments)),
         Ask::DontKnowYet(head) => Ok(Ask::DontKnowYet(head)),
     }
 }
@@ -100,9 +101,8 @@ pub fn fit_of<S: Scopes>(
     ensures { (notes : Notes) → Coding (S.state scopes.old) (S.state scopes.new) notes notes fragments.old.nodes.items fragments.new.nodes.items site.now result IsFragment part (λ c. gives (spec_fit_of c.scene to operand)) }
 {
     match operand {
-        Operand::Variable(of) | Operand::Computed(of) => {
-            fit_check(scopes, site, of, to, fragments)
-        }
+        Operand::Variable(of) => fit_check(scopes, site, of, to, fragments),
+        Operand::Computed(of) => fit_check(scopes, site, of, to, fragments),
         _ => Ok(Ask::Known(Fragment::Nothing)),
     }
 }
@@ -122,5 +122,5 @@ pub fn fitted_code<S: Scopes>(
 {
     let value = analysed!(value_code(scopes, site, x, fragments));
     let fit = analysed!(fit_of(scopes, site, to, x.operand, fragments));
-    Ok(Ask::Known(fragments.then(value, fit)?))
+    answered(fragments.then(value, fit))
 }

@@ -2,10 +2,12 @@
 ghost use Rattle.std.specs.Prelude.{◌≡◌, ◌∷◌, [], List};
 ghost use Rattle.m2_base.specs.Gives.{gives};
 ghost use Rattle.m2_base.specs.States.{Frame, Waits};
-ghost use Rattle.m2_base.specs.Statics.Operands.{operand_type as spec_type};
+ghost use Rattle.m2_base.specs.Standard.{character};
+ghost use Rattle.m2_base.specs.Statics.Contexts.{Source};
+ghost use Rattle.m2_base.specs.Statics.Operands.{char_or_same as spec_same, operand_type as spec_type};
 ghost use Rattle.m2_base.specs.Statics.Operations.{is_set_kind};
 ghost use Rattle.m2_base.specs.declared.notes.Notes.{Notes as NotesOf};
-ghost use Rattle.const_eval.specs.Sites.{IsOperand};
+ghost use Rattle.const_eval.specs.Sites.{IsNamed, IsOperand};
 ghost use Rattle.expr_sem.specs.Coded.{value_code as spec_value, with_char as spec_char};
 ghost use Rattle.expr_sem.specs.Codings.{Coding, IsCoded, IsFragment, coded_in};
 ghost use Rattle.expr_sem.specs.Fragments.{IsIn, IsMade, jump_of, part};
@@ -131,7 +133,7 @@ fn sign(fragments: &mut Fragments, op: Operator) -> Result<Fragment, Memory>
 
 /// A value, and then the operator that stands before it.
 fn signed(fragments: &mut Fragments, op: Operator, value: Fragment) -> Result<Fragment, Memory>
-    requires value { IsIn fragments.old.nodes.items value }
+    requires { IsIn fragments.old.nodes.items value }
     ensures { IsMade fragments.old.nodes.items fragments.new.nodes.items result (part fragments.old.nodes.items value ⨟ plain (one_instr op)) }
 {
     let last = sign(fragments, op)?;
@@ -242,7 +244,18 @@ pub fn one_coded<S: Scopes>(
     one_made(scopes, site, op, given, x, fragments)
 }
 
+/// A string of one character as a CHAR, anything else as it is.
+fn char_operand(site: &Site, operand: Operand) -> Operand
+    requires { IsNamed site.now.texts.now.names operand }
+    ensures told { (source : Source) → source.spellings ≡ site.now.texts.now.names → result ≡ spec_same source operand }
+    ensures there { (f : Frame) → IsThere f character → IsOperand f operand → IsOperand f result }
+{
+    let texts = site.texts;
+    char_or_same(&texts.names, operand)
+}
+
 /// The code of a value, where a string of one character is a CHAR.
+#[tactic(auto, using(const_eval::proofs::TypesThere::there))]
 fn char_value<S: Scopes>(
     scopes: &mut S,
     site: &Site,
@@ -253,8 +266,7 @@ fn char_value<S: Scopes>(
     requires x { IsCoded (S.state scopes.old).frame fragments.old.nodes.items x }
     ensures { (notes : NotesOf) → Coding (S.state scopes.old) (S.state scopes.new) notes notes fragments.old.nodes.items fragments.new.nodes.items site.now result IsFragment part (λ c. gives (spec_value c (spec_char c (coded_in fragments.old.nodes.items x)))) }
 {
-    let texts = site.texts;
-    let operand = char_or_same(&texts.names, x.operand);
+    let operand = char_operand(site, x.operand);
     value_code(scopes, site, x.taken(operand), fragments)
 }
 
@@ -303,10 +315,45 @@ fn operation_code<S: Scopes>(
     ensures { (notes : NotesOf) → Coding (S.state scopes.old) (S.state scopes.new) notes notes fragments.old.nodes.items fragments.new.nodes.items site.now result IsFragment part (λ c. gives (spec_operation c.scene op of right (part fragments.old.nodes.items x) (part fragments.old.nodes.items y))) }
 {
     match op {
-        Operator::And => Ok(Ask::Known(decided(fragments, Connective::And, x, y)?)),
-        Operator::Or => Ok(Ask::Known(decided(fragments, Connective::Or, x, y)?)),
+        Operator::And => {
+            let code = decided(fragments, Connective::And, x, y)?;
+            Ok(Ask::Known(code))
+        }
+        Operator::Or => {
+            let code = decided(fragments, Connective::Or, x, y)?;
+            Ok(Ask::Known(code))
+        }
         _ => instructed(scopes, site, op, of, right, x, y, fragments),
     }
+}
+
+/// The code of an operator between a value that is made and an operand, by its result's type.
+fn right_code<S: Scopes>(
+    scopes: &mut S,
+    site: &Site,
+    op: Operator,
+    of: Place,
+    left: Fragment,
+    y: Coded,
+    fragments: &mut Fragments,
+) -> Result<Ask<Fragment>, Memory>
+    requires suits { SuitsSite (S.state scopes.old).frame site.now }
+    requires of { IsThere (S.state scopes.old).frame of }
+    requires left { IsIn fragments.old.nodes.items left }
+    requires y { IsCoded (S.state scopes.old).frame fragments.old.nodes.items y }
+    ensures { (notes : NotesOf) → Coding (S.state scopes.old) (S.state scopes.new) notes notes fragments.old.nodes.items fragments.new.nodes.items site.now result IsFragment part (λ c. gives (spec_operation c.scene op of (spec_type y.operand) (part fragments.old.nodes.items left) (spec_value c (spec_char c (coded_in fragments.old.nodes.items y))))) }
+{
+    let right = analysed!(char_value(scopes, site, y, fragments));
+    operation_code(
+        scopes,
+        site,
+        op,
+        of,
+        operand_type(&y.operand),
+        left,
+        right,
+        fragments,
+    )
 }
 
 /// The code of an operator between two operands, by its result's type.
@@ -326,8 +373,7 @@ fn two_code<S: Scopes>(
     ensures { (notes : NotesOf) → Coding (S.state scopes.old) (S.state scopes.new) notes notes fragments.old.nodes.items fragments.new.nodes.items site.now result IsFragment part (λ c. gives (spec_operation c.scene op of (spec_type y.operand) (spec_value c (spec_char c (coded_in fragments.old.nodes.items x))) (spec_value c (spec_char c (coded_in fragments.old.nodes.items y))))) }
 {
     let left = analysed!(char_value(scopes, site, x, fragments));
-    let right = analysed!(char_value(scopes, site, y, fragments));
-    operation_code(scopes, site, op, of, operand_type(&y.operand), left, right, fragments)
+    right_code(scopes, site, op, of, left, y, fragments)
 }
 
 /// What an operator between two operands makes, by its result.
@@ -355,17 +401,6 @@ fn two_made<S: Scopes>(
     }
 }
 
-/// The operand alone, with its first token.
-fn argument(x: Placed) -> Argument
-    ensures at { result.at ≡ x.at }
-    ensures operand { result.operand ≡ x.coded.operand }
-{
-    Argument {
-        at: x.at,
-        operand: x.coded.operand,
-    }
-}
-
 /// An operator between two operands, with their first tokens.
 pub fn two_coded<S: Scopes>(
     scopes: &mut S,
@@ -382,6 +417,14 @@ pub fn two_coded<S: Scopes>(
     requires y { IsCoded (S.state scopes.old).frame fragments.old.nodes.items y.coded }
     ensures { Coding (S.state scopes.old) (S.state scopes.new) notes.old notes.new fragments.old.nodes.items fragments.new.nodes.items site.now result IsCoded coded_in (λ c. spec_two c op op_at x.at (coded_in fragments.old.nodes.items x.coded) y.at (coded_in fragments.old.nodes.items y.coded)) }
 {
-    let given = analysed!(operated(scopes, site, op, op_at, argument(x), argument(y), notes));
+    let left = Argument {
+        at: x.at,
+        operand: x.coded.operand,
+    };
+    let right = Argument {
+        at: y.at,
+        operand: y.coded.operand,
+    };
+    let given = analysed!(operated(scopes, site, op, op_at, left, right, notes));
     two_made(scopes, site, op, given, x.coded, y.coded, fragments)
 }

@@ -1,22 +1,23 @@
 //! Which procedure the code names where a procedure is called or is a value.
-ghost use Rattle.std.specs.Prelude.{◌≡◌, ◌≢◌, List, None, option_map};
+ghost use Rattle.std.specs.Prelude.{◌≡◌, ◌≢◌, [], ◌∷◌, List, None, option_map};
 ghost use Rattle.std.specs.Option.{IfSome};
 ghost use Rattle.m2_base.specs.Asks.{IfKnown, IfWaits};
 ghost use Rattle.m2_base.specs.Gives.{gives};
 ghost use Rattle.m2_base.specs.States.{Frame, Waits};
-ghost use Rattle.m2_base.specs.Rows.{row_meaning};
-ghost use Rattle.m2_base.specs.Statics.Contexts.{Scene};
+ghost use Rattle.m2_base.specs.Rows.{HasSmallNumbers, row_meaning};
 ghost use Rattle.m2_base.specs.Statics.Lookup.{entry_in};
 ghost use Rattle.m2_base.specs.declared.notes.Notes.{Notes};
-ghost use Rattle.m2_base.specs.declared.rows.Place.{Place as Spot};
+ghost use Rattle.m2_base.specs.declared.rows.Row.{Row as RowOf};
 ghost use Rattle.expr_sem.specs.Codings.{Coding, IsFragment};
-ghost use Rattle.expr_sem.specs.Fragments.{IsMade, part};
+ghost use Rattle.expr_sem.specs.Fragments.{part};
+ghost use Rattle.expr_sem.specs.Parts.{plain};
 ghost use Rattle.expr_sem.specs.ProcedureNames.{import_number as spec_import_number, import_of_target as spec_import, is_foreign as spec_foreign, is_own as spec_own, is_own_definition as spec_own_definition, procedure_code as spec_code, target_by as spec_by, target_of_entry as spec_of_entry, target_of_procedure as spec_target};
 ghost use Rattle.expr_sem.specs.Targets.{target_view};
 ghost use Rattle.type_rules.specs.Asks.{Reads, WhereKnown, WhereWaiting};
 ghost use Rattle.type_rules.specs.Scenes.{IsRowOf, IsThere, WhereTold, block_of, rows_of, scene_of};
 ghost use Rattle.type_rules.specs.Sites.{SuitsSite, context_of};
 
+use crate::answers::answered;
 use crate::fragments::{Fragment, Fragments};
 use crate::levels::level_of;
 use code_form::Instr;
@@ -92,11 +93,13 @@ fn own_entry<S: Scopes>(scopes: &mut S, site: &Site, name: u32) -> Ask<Option<(P
     }
 }
 
-/// The procedure that a row declares.
-fn target_by(row: &Row) -> Option<Target>
+/// The procedure that a row at a place declares.
+fn target_by(place: Place, row: &Row) -> Option<Target>
+    requires small { HasSmallNumbers (row_meaning row.now) }
     ensures told { option_map target_view result ≡ spec_by (row_meaning row.now) }
-    ensures there { (f : Frame) (p : Spot) → IsRowOf f p row.now → IfSome result (λ target. IsThere f target.of) }
+    ensures there { (f : Frame) → IsRowOf f place row.now → IfSome result (λ target. IsThere f target.of) }
 {
+    let _place = place.scope;
     match read_row(row) {
         RowMeaning::Proc(of, number, _) => Some(Target { of, number }),
         _ => None,
@@ -105,11 +108,12 @@ fn target_by(row: &Row) -> Option<Target>
 
 /// The procedure that a name is declared as.
 fn target_of_entry(entry: Option<(Place, Row)>) -> Option<Target>
+    requires small { IfSome entry (λ entry. HasSmallNumbers (row_meaning entry.1)) }
     ensures told { option_map target_view result ≡ spec_of_entry entry }
     ensures there { (f : Frame) → IfSome entry (λ entry. IsRowOf f entry.0 entry.1) → IfSome result (λ target. IsThere f target.of) }
 {
     match entry {
-        Some((_, row)) => target_by(&row),
+        Some((place, row)) => target_by(place, &row),
         None => None,
     }
 }
@@ -157,19 +161,14 @@ pub fn target_of_procedure<S: Scopes>(
     Ok(own_target(scopes, site, name))
 }
 
-/// The code of a procedure value.
-fn value_of_target(
-    around: &Around,
-    target: Option<Target>,
-    fragments: &mut Fragments,
-) -> Result<Fragment, Memory>
-    ensures { (scene : Scene) → scene.block ≡ block_of around.now → IsMade fragments.old.nodes.items fragments.new.nodes.items result (spec_code scene (option_map target_view target)) }
+/// The instruction for a procedure value.
+fn instr_of_target(around: &Around, target: Option<Target>) -> Instr
+    ensures { (tables : List (List RowOf)) → plain (result ∷ []) ≡ spec_code (record { block = block_of around.now; tables = tables }) (option_map target_view target) }
 {
-    let instr = match target {
+    match target {
         Some(target) => Instr::Proc(import_of_target(around, target), target.number),
         None => Instr::Proc(0, 0),
-    };
-    fragments.one(instr)
+    }
 }
 
 /// The code of a procedure as a value. Where the module lacks the procedure, its definition isn't implemented, which is
@@ -187,5 +186,5 @@ pub fn procedure_code<S: Scopes>(
     ensures { (notes : Notes) → Coding (S.state scopes.old) (S.state scopes.new) notes notes fragments.old.nodes.items fragments.new.nodes.items site.now result IsFragment part (λ c. gives (spec_code c.scene (spec_target c.scene name of number))) }
 {
     let target = analysed!(target_of_procedure(scopes, site, name, of, number));
-    Ok(Ask::Known(value_of_target(site.around, target, fragments)?))
+    answered(fragments.one(instr_of_target(site.around, target)))
 }

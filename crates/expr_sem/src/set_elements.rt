@@ -6,7 +6,8 @@ ghost use Rattle.m2_base.specs.Statics.Sets.{set_base as spec_base};
 ghost use Rattle.m2_base.specs.declared.notes.Notes.{Notes as NotesOf};
 ghost use Rattle.m2_base.specs.declared.sites.Site.{Site as SiteOf};
 ghost use Rattle.const_eval.specs.Sites.{IsOperand};
-ghost use Rattle.expr_sem.specs.Codings.{Coding, IsCoded, coded_in};
+ghost use Rattle.expr_sem.specs.Coded.{value_code as spec_value};
+ghost use Rattle.expr_sem.specs.Codings.{Coding, IsCoded, IsFragment, coded_in};
 ghost use Rattle.expr_sem.specs.Fragments.{IsIn, IsMade, part};
 ghost use Rattle.expr_sem.specs.Parts.{plain, ◌⨟◌};
 ghost use Rattle.expr_sem.specs.SetCodings.{AreElements, elements_in};
@@ -83,30 +84,58 @@ pub fn element_coded<S: Scopes>(
     Ok(Ask::Known(element_as(x, operand)))
 }
 
+/// A code, and then an instruction.
+fn followed(fragments: &mut Fragments, first: Fragment, instr: Instr) -> Result<Fragment, Memory>
+    requires { IsIn fragments.old.nodes.items first }
+    ensures { IsMade fragments.old.nodes.items fragments.new.nodes.items result (part fragments.old.nodes.items first ⨟ plain (instr ∷ [])) }
+{
+    let last = fragments.one(instr)?;
+    fragments.then(first, last)
+}
+
 /// Two instructions.
 fn pair(fragments: &mut Fragments, first: Instr, second: Instr) -> Result<Fragment, Memory>
     ensures { IsMade fragments.old.nodes.items fragments.new.nodes.items result (plain (first ∷ second ∷ [])) }
 {
     let first = fragments.one(first)?;
-    let second = fragments.one(second)?;
-    fragments.then(first, second)
+    followed(fragments, first, second)
 }
 
-/// The code of a set, then an element, which is added.
-fn with_element(
+/// Two codes, and then an instruction that makes a set of what they leave, which is added.
+fn joined(
     fragments: &mut Fragments,
-    set: Fragment,
-    value: Fragment,
+    x: Fragment,
+    y: Fragment,
+    instr: Instr,
 ) -> Result<Fragment, Memory>
-    requires set { IsIn fragments.old.nodes.items set }
-    requires value { IsIn fragments.old.nodes.items value }
-    ensures { IsMade fragments.old.nodes.items fragments.new.nodes.items result (part fragments.old.nodes.items set ⨟ part fragments.old.nodes.items value ⨟ plain (Instr.Bit ∷ Instr.Union ∷ [])) }
+    requires x { IsIn fragments.old.nodes.items x }
+    requires y { IsIn fragments.old.nodes.items y }
+    ensures { IsMade fragments.old.nodes.items fragments.new.nodes.items result (part fragments.old.nodes.items x ⨟ part fragments.old.nodes.items y ⨟ plain (instr ∷ Instr.Union ∷ [])) }
 {
-    let last = pair(fragments, Instr::Bit, Instr::Union)?;
-    after_both(fragments, set, value, last)
+    let last = pair(fragments, instr, Instr::Union)?;
+    after_both(fragments, x, y, last)
+}
+
+/// The code of a set, and then that of an element, which is added.
+fn element_code<S: Scopes>(
+    scopes: &mut S,
+    site: &Site,
+    set: Fragment,
+    x: Coded,
+    fragments: &mut Fragments,
+) -> Result<Ask<Fragment>, Memory>
+    requires suits { SuitsSite (S.state scopes.old).frame site.now }
+    requires set { IsIn fragments.old.nodes.items set }
+    requires x { IsCoded (S.state scopes.old).frame fragments.old.nodes.items x }
+    ensures { (notes : NotesOf) → Coding (S.state scopes.old) (S.state scopes.new) notes notes fragments.old.nodes.items fragments.new.nodes.items site.now result IsFragment part (λ c. gives (part fragments.old.nodes.items set ⨟ spec_value c (coded_in fragments.old.nodes.items x) ⨟ plain (Instr.Bit ∷ Instr.Union ∷ []))) }
+{
+    let value = analysed!(value_code(scopes, site, x, fragments));
+    let code = joined(fragments, set, value, Instr::Bit)?;
+    Ok(Ask::Known(code))
 }
 
 /// With one more element.
+#[tactic(auto, using(const_eval::proofs::TypesThere::there))]
 pub fn add_element<S: Scopes>(
     scopes: &mut S,
     site: &Site,
@@ -119,9 +148,8 @@ pub fn add_element<S: Scopes>(
     requires x { IsCoded (S.state scopes.old).frame fragments.old.nodes.items x }
     ensures { (notes : NotesOf) → Coding (S.state scopes.old) (S.state scopes.new) notes notes fragments.old.nodes.items fragments.new.nodes.items site.now result AreElements elements_in (λ c. gives (spec_element c (elements_in fragments.old.nodes.items es) (coded_in fragments.old.nodes.items x))) }
 {
-    let value = analysed!(value_code(scopes, site, x, fragments));
-    let code = with_element(fragments, es.code, value)?;
     let set = with_elements(es.set, x.operand, x.operand);
+    let code = analysed!(element_code(scopes, site, es.code, x, fragments));
     Ok(Ask::Known(Elements { set, code }))
 }
 
@@ -137,12 +165,51 @@ fn with_span(
     requires high { IsIn fragments.old.nodes.items high }
     ensures { IsMade fragments.old.nodes.items fragments.new.nodes.items result (part fragments.old.nodes.items set ⨟ part fragments.old.nodes.items low ⨟ part fragments.old.nodes.items high ⨟ plain (Instr.Span ∷ Instr.Union ∷ [])) }
 {
-    let last = pair(fragments, Instr::Span, Instr::Union)?;
-    let rest = after_both(fragments, low, high, last)?;
+    let rest = joined(fragments, low, high, Instr::Span)?;
     fragments.then(set, rest)
 }
 
+/// The codes of a set and of a bound, and then that of the other bound, and the elements are added.
+fn high_code<S: Scopes>(
+    scopes: &mut S,
+    site: &Site,
+    set: Fragment,
+    low: Fragment,
+    y: Coded,
+    fragments: &mut Fragments,
+) -> Result<Ask<Fragment>, Memory>
+    requires suits { SuitsSite (S.state scopes.old).frame site.now }
+    requires set { IsIn fragments.old.nodes.items set }
+    requires low { IsIn fragments.old.nodes.items low }
+    requires y { IsCoded (S.state scopes.old).frame fragments.old.nodes.items y }
+    ensures { (notes : NotesOf) → Coding (S.state scopes.old) (S.state scopes.new) notes notes fragments.old.nodes.items fragments.new.nodes.items site.now result IsFragment part (λ c. gives (part fragments.old.nodes.items set ⨟ part fragments.old.nodes.items low ⨟ spec_value c (coded_in fragments.old.nodes.items y) ⨟ plain (Instr.Span ∷ Instr.Union ∷ []))) }
+{
+    let high = analysed!(value_code(scopes, site, y, fragments));
+    let code = with_span(fragments, set, low, high)?;
+    Ok(Ask::Known(code))
+}
+
+/// The code of a set, and then those of the bounds of a range, whose elements are added.
+fn range_code<S: Scopes>(
+    scopes: &mut S,
+    site: &Site,
+    set: Fragment,
+    x: Coded,
+    y: Coded,
+    fragments: &mut Fragments,
+) -> Result<Ask<Fragment>, Memory>
+    requires suits { SuitsSite (S.state scopes.old).frame site.now }
+    requires set { IsIn fragments.old.nodes.items set }
+    requires x { IsCoded (S.state scopes.old).frame fragments.old.nodes.items x }
+    requires y { IsCoded (S.state scopes.old).frame fragments.old.nodes.items y }
+    ensures { (notes : NotesOf) → Coding (S.state scopes.old) (S.state scopes.new) notes notes fragments.old.nodes.items fragments.new.nodes.items site.now result IsFragment part (λ c. gives (part fragments.old.nodes.items set ⨟ spec_value c (coded_in fragments.old.nodes.items x) ⨟ spec_value c (coded_in fragments.old.nodes.items y) ⨟ plain (Instr.Span ∷ Instr.Union ∷ []))) }
+{
+    let low = analysed!(value_code(scopes, site, x, fragments));
+    high_code(scopes, site, set, low, y, fragments)
+}
+
 /// With the elements of one more range.
+#[tactic(auto, using(const_eval::proofs::TypesThere::there))]
 pub fn add_range<S: Scopes>(
     scopes: &mut S,
     site: &Site,
@@ -157,10 +224,8 @@ pub fn add_range<S: Scopes>(
     requires y { IsCoded (S.state scopes.old).frame fragments.old.nodes.items y }
     ensures { (notes : NotesOf) → Coding (S.state scopes.old) (S.state scopes.new) notes notes fragments.old.nodes.items fragments.new.nodes.items site.now result AreElements elements_in (λ c. gives (spec_range c (elements_in fragments.old.nodes.items es) (coded_in fragments.old.nodes.items x) (coded_in fragments.old.nodes.items y))) }
 {
-    let low = analysed!(value_code(scopes, site, x, fragments));
-    let high = analysed!(value_code(scopes, site, y, fragments));
-    let code = with_span(fragments, es.code, low, high)?;
     let set = with_elements(es.set, x.operand, y.operand);
+    let code = analysed!(range_code(scopes, site, es.code, x, y, fragments));
     Ok(Ask::Known(Elements { set, code }))
 }
 
@@ -179,9 +244,7 @@ pub fn set_coded(of: Place, es: Elements, fragments: &mut Fragments) -> Result<A
     ensures { (state : State) (notes : NotesOf) (site : SiteOf) → IsThere state.frame of → AreElements state.frame fragments.old.nodes.items es → Coding state state notes notes fragments.old.nodes.items fragments.new.nodes.items site result IsCoded coded_in (λ c. gives (spec_set of (elements_in fragments.old.nodes.items es))) }
 {
     match es.set {
-        Operand::Constant(_, bits) => {
-            Ok(Ask::Known(Coded::bare(Operand::Constant(of, bits))))
-        }
+        Operand::Constant(_, bits) => { Ok(Ask::Known(Coded::bare(Operand::Constant(of, bits)))) }
         Operand::InError => Ok(Ask::Known(Coded::in_error())),
         _ => {
             let code = from_empty(fragments, es.code)?;

@@ -3,6 +3,7 @@ ghost use Rattle.std.specs.Prelude.{◌≡◌, ◌<◌, [], ◌∷◌, List, len
 ghost use Rattle.m2_base.specs.Gives.{gives};
 ghost use Rattle.m2_base.specs.States.{State, Waits};
 ghost use Rattle.m2_base.specs.Statics.Contexts.{Source};
+ghost use Rattle.m2_base.specs.Statics.Operands.{characters_of as spec_characters_of};
 ghost use Rattle.m2_base.specs.Statics.Ranges.{range};
 ghost use Rattle.m2_base.specs.declared.notes.Notes.{Notes as NotesOf};
 ghost use Rattle.m2_base.specs.declared.operands.Operand.TheVariants as OperandOf;
@@ -19,6 +20,7 @@ ghost use Rattle.type_rules.specs.Asks.{Reads, WhereKnown, WhereWaiting};
 ghost use Rattle.type_rules.specs.Scenes.{IsThere, Suits, WhereTold, scene_of};
 ghost use Rattle.type_rules.specs.Sites.{SuitsSite};
 
+use crate::answers::answered;
 use crate::coded::Coded;
 use crate::fragments::{Fragment, Fragments};
 use crate::levels::level_of;
@@ -27,8 +29,19 @@ use crate::refusals::{Refusal, refused};
 use crate::takings::{Taking, taking_of};
 use code_form::Instr;
 use const_eval::is_within;
-use m2_base::{Around, Ask, Memory, Notes, Operand, Place, RowMeaning, Scopes, Site};
+use m2_base::{Around, Ask, Memory, Notes, Operand, Place, RowMeaning, Scopes, Site, Texts};
 use type_rules::{range_of, stand};
+
+/// The characters of a string with these bytes.
+fn characters_of(texts: &Texts, bytes: &[u8]) -> Result<Vec<u8>, Memory>
+    ensures { IfOk result (λ copy. copy.items ≡ spec_characters_of bytes.now) }
+{
+    if bytes.is_empty() {
+        copied(texts, &[0])
+    } else {
+        copied(texts, bytes)
+    }
+}
 
 /// The characters of the string of this name; an empty string is one character of code 0.
 pub fn characters(site: &Site, name: u32) -> Result<Vec<u8>, Memory>
@@ -36,12 +49,16 @@ pub fn characters(site: &Site, name: u32) -> Result<Vec<u8>, Memory>
     ensures { IfOk result (λ bytes. (source : Source) → source.spellings ≡ site.now.texts.now.names → bytes.items ≡ spec_characters source name) }
 {
     let texts = site.texts;
-    let alloc = *texts.order.allocator();
-    let bytes = texts.names.bytes(name);
-    if bytes.is_empty() {
-        return Ok(b"\0".to_vec(alloc)?);
-    }
-    Ok(bytes.to_vec(alloc)?)
+    characters_of(texts, texts.names.bytes(name))
+}
+
+/// A copy of bytes.
+fn copied(texts: &Texts, bytes: &[u8]) -> Result<Vec<u8>, Memory>
+    ensures { IfOk result (λ copy. copy.items ≡ bytes.now) }
+{
+    let mut copy = Vec::new(*texts.order.allocator());
+    copy.extend_from_slice(bytes)?;
+    Ok(copy)
 }
 
 /// Whether a type is an array, open or fixed, or a record: its value is its address.
@@ -85,7 +102,7 @@ fn variable_value<S: Scopes>(
 {
     match is_structured(scopes, site.around, of) {
         Ask::Known(true) => Ok(Ask::Known(code)),
-        Ask::Known(false) => Ok(Ask::Known(loaded(code, fragments)?)),
+        Ask::Known(false) => answered(loaded(code, fragments)),
         Ask::DontKnowYet(head) => Ok(Ask::DontKnowYet(head)),
     }
 }
@@ -111,8 +128,8 @@ pub fn value_code<S: Scopes>(
     ensures { (notes : NotesOf) → Coding (S.state scopes.old) (S.state scopes.new) notes notes fragments.old.nodes.items fragments.new.nodes.items site.now result IsFragment part (λ c. gives (spec_value_code c (coded_in fragments.old.nodes.items x))) }
 {
     match x.operand {
-        Operand::Constant(_, value) => Ok(Ask::Known(fragments.one(Instr::Push(value))?)),
-        Operand::StringConstant(name, _) => Ok(Ask::Known(string_value(site, name, fragments)?)),
+        Operand::Constant(_, value) => answered(fragments.one(Instr::Push(value))),
+        Operand::StringConstant(name, _) => answered(string_value(site, name, fragments)),
         Operand::Variable(of) => variable_value(scopes, site, of, x.code, fragments),
         Operand::Procedure(name, of, number, _) => {
             procedure_code(scopes, site, name, of, number, fragments)

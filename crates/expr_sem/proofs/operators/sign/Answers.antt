@@ -1,0 +1,15 @@
+use Rattle.std.proofs.Common.{◌≡◌, [], refl}
+use Rattle.m2_base.specs.declared.trees.operators.Operator.{Operator}
+use Rattle.m2_base.specs.declared.trees.operators.Operator.TheVariants.{Minus, Not}
+use Rattle.expr_sem.specs.Operators.{one_instr}
+use Rattle.expr_sem.specs.Parts.{none, plain}
+use Rattle.expr_sem.proofs.Sequencing.{made_nothing}
+use Rattle.expr_sem.proofs.operators.sign.Goals as goal
+
+no_sign : (op : Operator) → (op ≡ Not → ⊥) → (op ≡ Minus → ⊥) → none ≡ plain (one_instr op)
+no_sign Not n m = absurd (n refl)
+no_sign Minus n m = absurd (m refl)
+no_sign op n m = refl
+
+pub returns-in_default : goal.returns-in_default
+returns-in_default c = made_nothing c.args.fragments.now.nodes.items (plain (one_instr c.args.op)) (no_sign c.args.op c.in_default.not-Not c.in_default.not-Minus)

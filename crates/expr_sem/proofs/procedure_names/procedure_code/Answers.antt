@@ -1,0 +1,18 @@
+use Rattle.std.proofs.Common.{◌≡◌, ◌∙◌, Option, Ok, ap, option_map, subst}
+use Rattle.m2_base.specs.Asks.{IfKnown}
+use Rattle.m2_base.specs.declared.replies.Ask.{Ask}
+use Rattle.expr_sem.specs.ProcedureNames.{procedure_code as spec_code, target_of_procedure}
+use Rattle.expr_sem.specs.Targets.{target_view}
+use Rattle.expr_sem.specs.declared.procedure_names.Target.{Target}
+use Rattle.type_rules.specs.Scenes.{rows_of, scene_of}
+use Rattle.expr_sem.proofs.Making.{made_told}
+use Rattle.expr_sem.proofs.procedure_names.procedure_code.Goals as goal
+
+pub returns : goal.returns
+returns g c n =
+    let f = (g.S.Scopes.state c.args.scopes.now).frame in
+    let a = c.args.site.now.around.now in
+    made_told n c.one.result c.answered.result (λ k. spec_code k.scene (target_of_procedure k.scene c.args.name c.args.of c.args.number)) c.answered.ensures
+    c.in-Ok.ensures.reads c.one.ensures.made
+    (λ made in_hand told. c.instr_of_target.ensures (rows_of f made) ∙ ap (spec_code (scene_of f made a))
+    (subst (λ (x : Ask (Option Target)). IfKnown (Ok x) (λ t. option_map target_view t ≡ target_of_procedure (scene_of f made a) c.args.name c.args.of c.args.number)) c.in-Known.is (c.in-Ok.ensures.told made in_hand told)))
