@@ -1,7 +1,9 @@
 -- HIGH by the meaning of a type, and the standard functions that are none of one argument.
-use Rattle.std.proofs.Common.{◌≡◌, ◌∙◌, ℕ, ap, sym, refl, if◌then◌else◌}
+use Rattle.std.proofs.Common.{◌≡◌, ◌∙◌, ℕ, length, ap, sym, subst, refl, arith, if◌then◌else◌}
 use Rattle.m2_base.specs.Gives.{Gives, gives}
+use Rattle.m2_base.specs.Rows.{Fits}
 use Rattle.m2_base.specs.Standard.{cardinal}
+use Rattle.m2_base.specs.States.{Frame}
 use Rattle.m2_base.specs.Statics.Contexts.{Context, Scene, refuse}
 use Rattle.m2_base.specs.Statics.Diagnostics.{not_a_variable, wrong_argument}
 use Rattle.m2_base.specs.Statics.Types.{is_broken}
@@ -12,8 +14,24 @@ use Rattle.m2_base.specs.declared.operands.Operand.TheVariants.{Computed, InErro
 use Rattle.m2_base.specs.declared.rows.Place.{Place}
 use Rattle.m2_base.specs.declared.rows.RowMeaning.{RowMeaning}
 use Rattle.m2_base.specs.declared.rows.RowMeaning.TheVariants.{Array, OpenArray}
+use Rattle.type_rules.specs.Scenes.{IsThere}
 use Rattle.expr_sem.specs.Coded.{Coded, coded, in_error}
+use Rattle.expr_sem.specs.Kinds.{IsKindHere}
 use Rattle.expr_sem.specs.StandardFunctions.{as_variable_by, function_of_one, high_code, high_of}
+
+-- the index type of an array can be asked for
+pub index_there : {f : Frame} (m : RowMeaning) (i t : Place) (s : ℕ) → m ≡ Array i t s → IsKindHere f m → IsThere f i
+index_there {f} m i t s e k =
+    let fits = (subst (λ (n : RowMeaning). Fits (length f.setting.texts.names) k.place n) e k.said.fits).0 in
+    let bound = k.ordinal in
+    let scope = k.there.scope in
+    record {
+      scope = omega (arith, fits, bound, scope);
+      entered = λ same open_yet.
+          let here : k.place.scope ≡ f.setting.fills = omega (arith, fits, bound, scope, same) in
+          let entered = k.there.entered here open_yet in
+          omega (arith, fits, here, same, entered);
+    }
 
 -- what is no array of fixed length
 pub not_fixed : (scene : Scene) (x : Coded) (m : RowMeaning) → ((i t : Place) (s : ℕ) → m ≡ Array i t s → ⊥) → gives x.high ≡ gives (high_code scene x m)

@@ -17,8 +17,6 @@ pub mod Making
 pub mod OwnSearch
 pub mod Joining
 pub mod Highs
-pub mod Onwards
-pub mod Quiet
 pub mod Without
 pub mod Refusing
 pub mod ValueCases

@@ -40,6 +40,7 @@ macro_rules! asked {
     };
 }
 
+mod answers;
 mod chains;
 mod coded;
 mod designated;

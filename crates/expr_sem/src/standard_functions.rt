@@ -49,6 +49,14 @@ fn high_of_range(ends: Option<(i64, i64)>) -> i64
     }
 }
 
+/// How far a range reaches above its low end, pushed.
+fn push_high(ends: Option<(i64, i64)>) -> Instr
+    requires { IfSome ends (λ ends. IsValue ends.0 × IsValue ends.1) }
+    ensures { result ≡ instrs.Push (spec_range (option_map (λ ends. range ends.0 ends.1) ends)) }
+{
+    Instr::Push(high_of_range(ends))
+}
+
 /// The number of elements less 1 of an array with this index type.
 fn index_high<S: Scopes>(
     scopes: &mut S,
@@ -61,7 +69,7 @@ fn index_high<S: Scopes>(
     ensures { (notes : NotesOf) → Coding (S.state scopes.old) (S.state scopes.new) notes notes fragments.old.nodes.items fragments.new.nodes.items site.now result IsFragment part (λ c. gives (pushed_high c.scene index)) }
 {
     let ends = asked!(range_of(scopes, site.around, index));
-    let code = fragments.one(Instr::Push(high_of_range(ends)))?;
+    let code = fragments.one(push_high(ends))?;
     Ok(Ask::Known(code))
 }
 
@@ -156,6 +164,13 @@ fn high_of<S: Scopes>(
     }
 }
 
+/// The ordinal of a place has 32 bits.
+fn has_small_ordinal(place: Place)
+    ensures { place.ordinal < 2 ^ 32 }
+{
+    let _ordinal = place.ordinal;
+}
+
 /// HIGH of an argument that was a variable, or is in error.
 fn high_of_variable<S: Scopes>(
     scopes: &mut S,
@@ -172,7 +187,8 @@ fn high_of_variable<S: Scopes>(
     if is_bad(x.operand) {
         return Ok(Ask::Known(Coded::in_error()));
     }
-    let (_, kind) = asked!(stand(scopes, site.around, operand_type(&x.operand)));
+    let (place, kind) = asked!(stand(scopes, site.around, operand_type(&x.operand)));
+    has_small_ordinal(place);
     high_of(scopes, site, at, x, kind, fragments, notes)
 }
 

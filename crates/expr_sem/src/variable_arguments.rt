@@ -42,7 +42,8 @@ pub fn as_variable(
 {
     match x.operand {
         Operand::Variable(_) => Ok(Ask::Known(x)),
-        Operand::InError | Operand::NotConstant => Ok(Ask::Known(Coded::in_error())),
+        Operand::InError => Ok(Ask::Known(Coded::in_error())),
+        Operand::NotConstant => Ok(Ask::Known(Coded::in_error())),
         _ => refused(site, at, Refusal::NotAVariable, notes),
     }
 }

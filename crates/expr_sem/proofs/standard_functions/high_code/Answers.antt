@@ -3,9 +3,12 @@ use Rattle.m2_base.specs.Gives.{gives}
 use Rattle.m2_base.specs.declared.rows.RowMeaning.{RowMeaning}
 use Rattle.expr_sem.specs.Codings.{coded_in}
 use Rattle.expr_sem.specs.StandardFunctions.{high_code}
-use Rattle.expr_sem.proofs.Highs.{not_fixed}
+use Rattle.expr_sem.proofs.Highs.{index_there, not_fixed}
 use Rattle.expr_sem.proofs.Operating.{described}
 use Rattle.expr_sem.proofs.standard_functions.high_code.Goals as goal
+
+pub index_high-requires-clause-index : goal.index_high-requires-clause-index
+index_high-requires-clause-index g c = index_there c.args.kind c.in-Array.index _ _ c.in-Array.is c.requires.kind
 
 pub returns-in-Array : goal.returns-in-Array
 returns-in-Array g c notes =

@@ -16,4 +16,4 @@ returns-in-Err g c notes = unmade (c.in-Err.ensures notes) _
 pub returns : goal.returns
 returns g c notes =
     let one = rw c.in-Known.is at c.in-Ok.ensures notes in
-    with_grown (λ p k. coded (Computed cardinal) p) c.new.result one (Grows-refl _) (c.new.ensures.there _ _ (standard_there c.requires.suits.around 1) one.there) (λ k. c.new.ensures.told _)
+    with_grown (λ p k. coded (Computed cardinal) p) c.new.result one (Grows-refl c.high_code.new.fragments.nodes.items) (c.new.ensures.there _ c.high_code.new.fragments.nodes.items (standard_there c.requires.suits.around 1) one.there) (λ k. c.new.ensures.told c.high_code.new.fragments.nodes.items)

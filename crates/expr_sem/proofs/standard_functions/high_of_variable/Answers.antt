@@ -26,7 +26,7 @@ high_of-requires-clause-x g c = stays_read (λ (f : Frame). IsCoded f c.args.fra
 
 pub high_of-requires-clause-kind : goal.high_of-requires-clause-kind
 high_of-requires-clause-kind g c =
-    stays_read (λ (f : Frame). IsKindHere f c.in-Known.value.1) c.in-Known.ensures.reads (record { place = c.in-Known.value.0; there = c.in-Known.ensures.there; said = c.in-Known.ensures.said })
+    stays_read (λ (f : Frame). IsKindHere f c.in-Known.value.1) c.in-Known.ensures.reads (record { place = c.in-Known.value.0; there = c.in-Known.ensures.there; ordinal = c.has_small_ordinal.ensures; said = c.in-Known.ensures.said })
 
 pub returns : goal.returns
 returns g c =

@@ -13,4 +13,4 @@ returns-in_err-code g c notes = question_full notes c.from_residual.result c.fro
 pub returns : goal.returns
 returns g c notes =
     fragment_told notes c.in_ok-code.code (λ k. pushed_high k.scene c.args.index) c.in-Known.ensures.reads c.in_ok-code.ensures.made
-    (λ made in_hand told. ap (λ z. plain (Push z ∷ [])) (c.high_of_range.ensures ∙ ap high_of_range (c.in-Known.ensures.told made in_hand told)))
+    (λ made in_hand told. ap (λ i. plain (i ∷ [])) c.push_high.ensures ∙ ap (λ ends. plain (Push (high_of_range ends) ∷ [])) (c.in-Known.ensures.told made in_hand told))

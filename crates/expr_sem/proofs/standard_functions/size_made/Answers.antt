@@ -23,4 +23,4 @@ size_code-requires-clause-of g c =
 pub returns : goal.returns
 returns g c notes =
     let one = described _ (rw c.in-Known.is at c.in-Ok.ensures notes) (λ k. ap (λ (t : Place). gives (pushed_size k.scene t)) c.operand_type.ensures) in
-    with_grown (λ p k. made c.args.given p) c.made.result one (Grows-refl _) (c.made.ensures.there _ _ c.requires.given one.there) (λ k. c.made.ensures.told _)
+    with_grown (λ p k. made c.args.given p) c.made.result one (Grows-refl c.size_code.new.fragments.nodes.items) (c.made.ensures.there _ c.size_code.new.fragments.nodes.items c.requires.given one.there) (λ k. c.made.ensures.told c.size_code.new.fragments.nodes.items)

@@ -13,4 +13,4 @@ returns-in-Err g c notes = unmade (c.in-Err.ensures notes) _
 pub returns : goal.returns
 returns g c notes =
     let one = rw c.in-Known.is at c.in-Ok.ensures notes in
-    with_grown (λ p k. made c.args.given p) c.made.result one (Grows-refl _) (c.made.ensures.there _ _ c.requires.given one.there) (λ k. c.made.ensures.told _)
+    with_grown (λ p k. made c.args.given p) c.made.result one (Grows-refl c.rule_code.new.fragments.nodes.items) (c.made.ensures.there _ c.rule_code.new.fragments.nodes.items c.requires.given one.there) (λ k. c.made.ensures.told c.rule_code.new.fragments.nodes.items)
