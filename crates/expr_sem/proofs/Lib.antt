@@ -20,3 +20,5 @@ pub mod Highs
 pub mod Without
 pub mod Refusing
 pub mod ValueCases
+pub mod PieceParts
+pub mod Stacked

@@ -82,7 +82,7 @@ size_then p q a b h k at =
     let g = size_append (p at).code (q (p at).next).code in
     omega (arith, e, f, g)
 
-there_at : (ns : List Node) (k : ℕ) (n : Node) → k < length ns → n ≡ get_or ns k n → slice_get ns k ≡ Some n
+pub there_at : (ns : List Node) (k : ℕ) (n : Node) → k < length ns → n ≡ get_or ns k n → slice_get ns k ≡ Some n
 there_at [] k n h e = absurd (omega (arith, h))
 there_at (x ∷ xs) zero n h e = ap Some (sym e)
 there_at (x ∷ xs) (suc k) n h e = there_at xs k n (omega (arith, h)) e

@@ -21,7 +21,7 @@ pub parts_append : (ps : List Part) (xs ys : List Node) → parts_after ps (xs +
 parts_append ps [] ys = refl
 parts_append ps (x ∷ xs) ys = parts_append (ps ++ part_by ps x.form ∷ []) xs ys
 
-parts_kept : (ps : List Part) (ns : List Node) (k : ℕ) → k < length ps → slice_index_or (parts_after ps ns) k none ≡ slice_index_or ps k none
+pub parts_kept : (ps : List Part) (ns : List Node) (k : ℕ) → k < length ps → slice_index_or (parts_after ps ns) k none ≡ slice_index_or ps k none
 parts_kept ps [] k h = refl
 parts_kept ps (n ∷ ns) k h =
     let l = length_push ps (part_by ps n.form) in

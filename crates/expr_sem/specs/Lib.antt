@@ -21,6 +21,7 @@ pub mod ValueFunctions
 pub mod VariableArguments
 pub mod Updates
 pub mod Pieces
+pub mod Stacks
 pub mod Refusals
 pub mod Targets
 pub mod Takings
@@ -28,3 +29,5 @@ pub mod RangeChecks
 pub mod SetCodings
 pub mod Selections
 pub mod MadeAnswers
+pub mod ArgumentFits
+pub mod Callees

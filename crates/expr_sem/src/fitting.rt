@@ -24,10 +24,7 @@ use m2_base::{Around, Ask, Memory, Operand, Place, Scopes, Site};
 use type_rules::range_of;
 
 /// The range against which a value of the first range is checked: the second, where the first isn't within it.
-fn ends_to_check(
-    from: Option<(i64, i64)>,
-    to: Option<(i64, i64)>,
-) -> Option<(i64, i64)>
+fn ends_to_check(from: Option<(i64, i64)>, to: Option<(i64, i64)>) -> Option<(i64, i64)>
     ensures { checks_of result ≡ spec_check_of (option_map (λ ends. range ends.0 ends.1) from) (option_map (λ ends. range ends.0 ends.1) to) }
 {
     let (low, high) = to?;

@@ -1,8 +1,9 @@
 //! The code of a block in the making, and its bytes of data.
-ghost use Rattle.std.specs.Prelude.{◌≡◌, OnOk, OnErr};
+ghost use Rattle.std.specs.Prelude.{OnOk, OnErr};
 ghost use Rattle.expr_sem.specs.Fragments.{AreSound, IsIn, part};
-ghost use Rattle.expr_sem.specs.Pieces.{Appended};
+ghost use Rattle.expr_sem.specs.Pieces.{Appended, IsAsBefore};
 
+use crate::appending::append_all;
 use crate::fragments::{Fragment, Fragments};
 use crate::steps::Step;
 use m2_base::{Memory, Place};
@@ -26,7 +27,7 @@ pub struct With {
     pub cell: u32,
 }
 
-/// Appends a fragment's code and data. Without memory the piece is as before.
+/// Appends a fragment's code and data. Without memory the piece has what it had before.
 pub fn append(
     fragments: &Fragments,
     fragment: Fragment,
@@ -36,7 +37,16 @@ pub fn append(
     requires sound { AreSound fragments.now.nodes.items }
     requires there { IsIn fragments.now.nodes.items fragment }
     ensures ok { OnOk result (Appended piece.old piece.new withs.now (part fragments.now.nodes.items fragment)) }
-    ensures err { OnErr result (piece.new ≡ piece.old) }
+    ensures err { OnErr result (IsAsBefore piece.old piece.new) }
 {
-    Err(Memory)
+    let (steps, bytes) = (piece.steps.len(), piece.bytes.len());
+    let (cell, byte) = (piece.cell, piece.byte);
+    let appended = append_all(fragments, fragment, withs, piece);
+    if appended.is_err() {
+        piece.steps.truncate(steps);
+        piece.bytes.truncate(bytes);
+        piece.cell = cell;
+        piece.byte = byte;
+    }
+    appended
 }

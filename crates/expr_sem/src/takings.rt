@@ -124,12 +124,7 @@ fn taken_by_base(site: &Site, base: Place, operand: Operand) -> Operand
 
 /// A value as a variable of a type takes it: a string of one character for a CHAR is a CHAR.
 #[tactic(auto, using(type_rules::proofs::Reading::reading, const_eval::proofs::TypesThere::there))]
-fn taken_into<S: Scopes>(
-    scopes: &mut S,
-    site: &Site,
-    to: Place,
-    operand: Operand,
-) -> Ask<Operand>
+fn taken_into<S: Scopes>(scopes: &mut S, site: &Site, to: Place, operand: Operand) -> Ask<Operand>
     requires suits { SuitsSite (S.state scopes.old).frame site.now }
     requires to { IsThere (S.state scopes.old).frame to }
     requires operand { IsOperand (S.state scopes.old).frame operand }
@@ -172,12 +167,7 @@ fn taken_or_refused<S: Scopes>(
 
 /// What becomes of a value for a variable of a type.
 #[tactic(auto, using(type_rules::proofs::Reading::reading, const_eval::proofs::TypesThere::there))]
-pub fn taking_of<S: Scopes>(
-    scopes: &mut S,
-    site: &Site,
-    to: Place,
-    operand: Operand,
-) -> Ask<Taking>
+pub fn taking_of<S: Scopes>(scopes: &mut S, site: &Site, to: Place, operand: Operand) -> Ask<Taking>
     requires suits { SuitsSite (S.state scopes.old).frame site.now }
     requires to { IsThere (S.state scopes.old).frame to }
     requires operand { IsOperand (S.state scopes.old).frame operand }

@@ -139,18 +139,12 @@ pub fn value_code<S: Scopes>(
 }
 
 /// What stands where a value is wanted: no type and no module alone, and no procedure that is no value.
-pub fn as_value(
-    site: &Site,
-    at: u32,
-    x: Coded,
-    notes: &mut Notes,
-) -> Result<Ask<Coded>, Memory>
+pub fn as_value(site: &Site, at: u32, x: Coded, notes: &mut Notes) -> Result<Ask<Coded>, Memory>
     ensures { (state : State) (nodes : List Node) → IsCoded state.frame nodes x → Coding state state notes.old notes.new nodes nodes site.now result IsCoded coded_in (λ c. spec_as_value c at (coded_in nodes x)) }
 {
     match x.operand {
-        Operand::NamedType(_) | Operand::ModuleName(_) => {
-            refused(site, at, Refusal::NotAVariable, notes)
-        }
+        Operand::NamedType(_) => refused(site, at, Refusal::NotAVariable, notes),
+        Operand::ModuleName(_) => refused(site, at, Refusal::NotAVariable, notes),
         Operand::StandardProcedure(_) => refused(site, at, Refusal::NotAProcedureValue, notes),
         Operand::Procedure(_, of, _, _) => {
             if level_of(site.around, of.scope) == 0 {

@@ -1,0 +1,192 @@
+//! The forms of fragments, appended to a piece one after another.
+ghost use Rattle.std.specs.Prelude.{◌≡◌, ◌+◌, ◌∷◌, [], List, ◌++◌, OnOk, length, map, min, pos, slice_index};
+ghost use Rattle.m2_base.specs.Statics.Cells.{capped};
+ghost use Rattle.expr_sem.specs.Arguments.{string_copy as spec_copy};
+ghost use Rattle.expr_sem.specs.Fragments.{AreSound, IsIn, IsMadeOf, jump_of, part, step_view};
+ghost use Rattle.expr_sem.specs.Parts.{plain, steps, text as spec_text, unless_too_many, with_record as spec_record};
+ghost use Rattle.expr_sem.specs.Pieces.{Appended, Begins};
+ghost use Rattle.expr_sem.specs.declared.pieces.With.{With as OpenWith};
+ghost use Rattle.expr_sem.specs.Stacks.{Visited};
+
+use crate::fragments::{Connective, Form, Fragment, Fragments};
+use crate::pieces::{Piece, With};
+use crate::steps::Step;
+use code_form::Instr;
+use m2_base::Memory;
+
+/// One more than a type's or a block's cells, or a block's bytes of data, can be.
+const TOO_MANY: u32 = 16777216;
+
+/// So many more cells or bytes.
+fn capped_sum(count: u32, more: usize) -> u32
+    ensures { result ≡ capped (count + more) }
+{
+    let Ok(more) = u32::try_from(more) else {
+        return TOO_MANY;
+    };
+    match count.checked_add(more) {
+        Some(sum) if sum < TOO_MANY => sum,
+        _ => TOO_MANY,
+    }
+}
+
+/// Appends a step.
+fn push_step(piece: &mut Piece, step: Step) -> Result<(), Memory>
+    ensures begins { Begins piece.old piece.new }
+    ensures ok { (ws : List OpenWith) → OnOk result (Appended piece.old piece.new ws (steps (step_view step ∷ []))) }
+{
+    piece.steps.push(step)?;
+    Ok(())
+}
+
+/// Appends an instruction that is no call and no return.
+fn push_instr(piece: &mut Piece, instr: Instr) -> Result<(), Memory>
+    ensures begins { Begins piece.old piece.new }
+    ensures ok { (ws : List OpenWith) → OnOk result (Appended piece.old piece.new ws (plain (instr ∷ []))) }
+{
+    push_step(piece, Step::plain(instr))
+}
+
+/// Appends characters with a 0 behind them to the data, unless it would end behind the last byte that it can have.
+fn push_bytes(piece: &mut Piece, characters: &Vec<u8>, last: u32) -> Result<(), Memory>
+    ensures begins { Begins piece.old piece.new }
+    ensures steps { piece.new.steps ≡ piece.old.steps }
+    ensures cell { piece.new.cell ≡ piece.old.cell }
+    ensures byte { piece.new.byte ≡ piece.old.byte }
+    ensures ok { OnOk result (piece.new.bytes.items ≡ piece.old.bytes.items ++ unless_too_many last (characters.now.items ++ 0 ∷ [])) }
+{
+    if last < TOO_MANY {
+        piece.bytes.extend_from_slice(characters)?;
+        piece.bytes.push(0)?;
+    }
+    Ok(())
+}
+
+/// Appends the address of these characters, and the characters to the data.
+fn push_text(piece: &mut Piece, characters: &Vec<u8>) -> Result<(), Memory>
+    ensures begins { Begins piece.old piece.new }
+    ensures ok { (ws : List OpenWith) → OnOk result (Appended piece.old piece.new ws (spec_text characters.now.items)) }
+{
+    let first = piece.byte;
+    let last = capped_sum(first, characters.len() + 1);
+    push_bytes(piece, characters, last)?;
+    piece.byte = last;
+    push_instr(piece, Instr::Str(first))
+}
+
+/// How many cells a copy of so many characters with a 0 behind them takes among so many.
+fn moved(length: usize, size: u32) -> u32
+    ensures { result ≡ min (length + 1) size }
+{
+    match u32::try_from(length) {
+        Ok(length) if length < size => length + 1,
+        _ => size,
+    }
+}
+
+/// Appends the address of temporary cells with a copy of these characters.
+fn push_copy(piece: &mut Piece, size: u32, characters: &Vec<u8>) -> Result<(), Memory>
+    ensures begins { Begins piece.old piece.new }
+    ensures ok { (ws : List OpenWith) → OnOk result (Appended piece.old piece.new ws (spec_copy size characters.now.items)) }
+{
+    let first = piece.cell;
+    let moved = moved(characters.len(), size);
+    piece.cell = capped_sum(first, size as usize);
+    push_instr(piece, Instr::Local(0, first))?;
+    push_text(piece, characters)?;
+    push_instr(piece, Instr::Move(moved))?;
+    push_instr(piece, Instr::Local(0, first))
+}
+
+/// The cell of an open WITH.
+fn cell_of(withs: &[With], number: u32) -> u32
+    ensures { result ≡ slice_index (map (λ w. w.cell) withs.now) number }
+{
+    match withs.get(number as usize) {
+        Some(with) => with.cell,
+        None => 0,
+    }
+}
+
+/// Appends the address of the record of an open WITH.
+fn push_record(piece: &mut Piece, number: u32, withs: &[With]) -> Result<(), Memory>
+    ensures begins { Begins piece.old piece.new }
+    ensures ok { OnOk result (Appended piece.old piece.new withs.now (spec_record number)) }
+{
+    push_instr(piece, Instr::Local(0, cell_of(withs, number)))?;
+    push_instr(piece, Instr::Load)
+}
+
+/// Appends the jump over code of this length.
+fn push_jump(piece: &mut Piece, connective: Connective, size: u64) -> Result<(), Memory>
+    ensures begins { Begins piece.old piece.new }
+    ensures ok { (ws : List OpenWith) → OnOk result (Appended piece.old piece.new ws (plain (jump_of connective (pos size) ∷ []))) }
+{
+    let Ok(distance) = i32::try_from(size) else {
+        return Err(Memory);
+    };
+    push_instr(
+        piece,
+        match connective {
+            Connective::And => Instr::AndJump(distance),
+            Connective::Or => Instr::OrJump(distance),
+        },
+    )
+}
+
+/// Appends a form's own part; the fragments that it is made of are put on the stack, the first one last.
+fn visit(
+    fragments: &Fragments,
+    form: &Form,
+    withs: &[With],
+    rest: &mut Vec<Fragment>,
+    piece: &mut Piece,
+) -> Result<(), Memory>
+    requires sound { AreSound fragments.now.nodes.items }
+    requires there { IsMadeOf (length fragments.now.nodes.items) form.now }
+    ensures begins { Begins piece.old piece.new }
+    ensures ok { OnOk result (Visited piece.old piece.new withs.now fragments.now.nodes.items form.now rest.old.items rest.new.items) }
+{
+    match form {
+        Form::One(step) => push_step(piece, *step),
+        Form::Text(characters) => push_text(piece, characters),
+        Form::StringCopy(size, characters) => push_copy(piece, *size, characters),
+        Form::WithRecord(number) => push_record(piece, *number, withs),
+        Form::Then(first, second) => {
+            rest.push(*second)?;
+            rest.push(*first)?;
+            Ok(())
+        }
+        Form::Skip(connective, skipped) => {
+            push_jump(piece, *connective, fragments.size(*skipped))?;
+            rest.push(*skipped)?;
+            Ok(())
+        }
+    }
+}
+
+/// Appends a fragment's code and data, or a beginning of them.
+pub(crate) fn append_all(
+    fragments: &Fragments,
+    fragment: Fragment,
+    withs: &[With],
+    piece: &mut Piece,
+) -> Result<(), Memory>
+    requires sound { AreSound fragments.now.nodes.items }
+    requires there { IsIn fragments.now.nodes.items fragment }
+    ensures begins { Begins piece.old piece.new }
+    ensures ok { OnOk result (Appended piece.old piece.new withs.now (part fragments.now.nodes.items fragment)) }
+{
+    let mut rest = Vec::new(*piece.steps.allocator());
+    rest.push(fragment)?;
+    while let Some(next) = rest.pop() {
+        match next {
+            Fragment::Nothing => {}
+            Fragment::Node(number) => {
+                let node = &fragments.nodes[number as usize];
+                visit(fragments, &node.form, withs, &mut rest, piece)?;
+            }
+        }
+    }
+    Ok(())
+}
