@@ -1,7 +1,11 @@
 -- What a question of rows gives, and then the code that its answer makes.
-use Rattle.std.specs.Prelude.{option_map, IsErr}
+use Rattle.std.specs.Prelude.{get_or, option_map, IsErr}
+use Rattle.m2_base.specs.declared.sites.Around.{Around}
+use Rattle.type_rules.specs.Scenes.{WhereTold, scene_of}
+use Rattle.type_rules.proofs.Compatibles.{told_later}
+use Rattle.std.proofs.lemmas.List.{drop_more}
 use Rattle.std.specs.Option.{IfSome}
-use Rattle.std.proofs.Common.{◌≡◌, ◌∙◌, [], ◌∷◌, ℕ, suc, List, Option, Some, None, Result, Ok, Err, Bool, true, false, if◌then◌else◌, ap, sym, subst, refl}
+use Rattle.std.proofs.Common.{arith, ◌≡◌, ◌∙◌, [], ◌∷◌, ℕ, suc, ◌+◌, ◌<◌, drop, length, List, Option, Some, None, Result, Ok, Err, Bool, true, false, if◌then◌else◌, ap, sym, subst, refl}
 use Rattle.m2_base.specs.Gives.{Gives, gives}
 use Rattle.m2_base.specs.States.{Frame, State}
 use Rattle.m2_base.specs.Statics.Contexts.{Block, Context, Scene, refuse}
@@ -26,7 +30,7 @@ use Rattle.code_form.specs.declared.instr.Instr.TheVariants.{Load, Nil}
 use Rattle.m2_base.proofs.Kept.{Works-refl}
 use Rattle.expr_sem.specs.Coded as code
 use Rattle.expr_sem.specs.Coded.{bare, coded, in_error}
-use Rattle.expr_sem.specs.Codings.{Coding, IsCoded, coded_in, high_in}
+use Rattle.expr_sem.specs.Codings.{Coding, IsCoded, coded_in, high_in, with_types}
 use Rattle.expr_sem.specs.Elements.{of_array, of_pointer, select_element_by, select_target_by}
 use Rattle.expr_sem.specs.Fragments.{Grows, IsIn, IsMade}
 use Rattle.expr_sem.specs.Parts.{Part, plain, with_record, ◌⨟◌}
@@ -36,6 +40,7 @@ use Rattle.expr_sem.specs.Variables.{with_address}
 use Rattle.expr_sem.specs.declared.coded.Coded.{Coded}
 use Rattle.expr_sem.specs.declared.fragments.Fragment.{Fragment}
 use Rattle.expr_sem.specs.declared.fragments.Node.{Node}
+use Rattle.expr_sem.specs.declared.pieces.With.{With}
 use Rattle.expr_sem.proofs.Operating.{described, made_wanted, value_alone}
 use Rattle.expr_sem.proofs.Sequencing.{Grows-refl, Grows-trans}
 
@@ -167,3 +172,16 @@ pub name_given : (c : Context) (i : Ident) (ws : List Place) (found : Option (�
     → field_or_use c i (option_map (λ n. field_coded c.scene (with_record n.0) n.1) found) ≡ name_coded c ws i
 name_given c i ws found e =
     ap (λ (o : Option (ℕ × Row)). field_or_use c i (option_map (λ n. field_coded c.scene (with_record n.0) n.1) o)) e ∙ ap (λ o. field_or_use c i o) (sym (with_field_numbered c.scene 0 ws i.name))
+
+-- one WITH more was asked
+pub with_step : (scene : Scene) (k : ℕ) (ws : List With) (d : With) (name : ℕ) (o : Option Row) → k < length ws → o ≡ field_of scene (get_or ws k d).of name
+    → number_or k o (with_number scene (k + 1) (with_types (drop (k + 1) ws)) name) ≡ with_number scene k (with_types (drop k ws)) name
+with_step scene k ws d name o h e =
+    let s : suc k ≡ k + 1 = omega arith in
+    ap (λ (r : Option Row). number_or k r (with_number scene (k + 1) (with_types (drop (k + 1) ws)) name)) e
+    ∙ ap (λ (n : ℕ). number_or k (field_of scene (get_or ws k d).of name) (with_number scene n (with_types (drop (k + 1) ws)) name)) (sym s)
+    ∙ sym (ap (λ (l : List With). with_number scene k (with_types l) name) (drop_more ws k d h))
+
+-- what was told of a later question, over the frame before it
+pub asked_before : (f mid : Frame) (a : Around) (t : Place) (name : ℕ) (v : Option Row) → mid ≡ f → WhereTold mid (λ made. v ≡ field_of (scene_of mid made a) t name) → WhereTold f (λ made. v ≡ field_of (scene_of f made a) t name)
+asked_before f mid a t name v same says = told_later f mid (λ h made. v ≡ field_of (scene_of h made a) t name) same says

@@ -7,7 +7,7 @@ ghost use Rattle.m2_base.specs.Standard.{cardinal};
 ghost use Rattle.m2_base.specs.States.{Waits};
 ghost use Rattle.m2_base.specs.Statics.Diagnostics.{not_assignable};
 ghost use Rattle.m2_base.specs.Statics.Operands.{is_bad as spec_bad};
-ghost use Rattle.m2_base.specs.Statics.Ranges.{range};
+ghost use Rattle.m2_base.specs.Statics.Ranges.{count_of, range};
 ghost use Rattle.m2_base.specs.Statics.TypeParts.{named_target, target_of as spec_target_of};
 ghost use Rattle.m2_base.specs.Statics.Types.{is_broken as spec_broken, kind_of, meaning_at, size_of as spec_size, range_of as spec_range};
 ghost use Rattle.m2_base.specs.declared.notes.Notes.{Notes as NotesOf};
@@ -130,18 +130,30 @@ pub fn select_target<S: Scopes>(
     }
 }
 
-/// The instruction that finds an element of this size by an index of a type with these ends.
+/// How many numbers there are from the first of these to the second; none where the number has no 32 bits.
+fn count_between(low: i64, high: i64) -> Option<u32>
+    requires low { IsValue low }
+    requires high { IsValue high }
+    ensures { IfSome result (λ count. count ≡ count_of (range low high)) }
+{
+    if high < low {
+        return Some(0);
+    }
+    u32::try_from(high - low + 1).ok()
+}
+
+/// The instruction that finds an element of this size by an index of a type with these ends. A type with more than 32 bits of
+/// values comes about in no module: there the error is that memory is wanted.
 fn index_instr(ends: Option<(i64, i64)>, size: u32) -> Result<Instr, Memory>
     requires { IfSome ends (λ ends. IsValue ends.0 × IsValue ends.1) }
     ensures { IfOk result (λ instr. instr ≡ spec_index (option_map (λ ends. range ends.0 ends.1) ends) size) }
 {
-    let Some((low, high)) = ends else {
-        return Ok(Instr::Index(0, 0, size));
-    };
-    let count = if low <= high { high - low + 1 } else { 0 };
-    match u32::try_from(count) {
-        Ok(count) => Ok(Instr::Index(low, count, size)),
-        Err(_) => Err(Memory),
+    match ends {
+        None => Ok(Instr::Index(0, 0, size)),
+        Some(ends) => match count_between(ends.0, ends.1) {
+            Some(count) => Ok(Instr::Index(ends.0, count, size)),
+            None => Err(Memory),
+        },
     }
 }
 
@@ -197,8 +209,8 @@ fn extent<S: Scopes>(
     ensures values { WhereKnown result (λ given. IfSome given.0 (λ ends. IsValue ends.0 × IsValue ends.1)) }
 {
     let ends = known!(range_of(scopes, around, index));
-    let size = known!(size_of(scopes, around, of));
-    Ask::Known((ends, size as u32))
+    let size = known!(cells_of(scopes, around, of));
+    Ask::Known((ends, size))
 }
 
 /// The element of an array that this instruction finds, by its index.
@@ -238,9 +250,11 @@ fn indexed<S: Scopes>(
     requires code { IsIn fragments.old.nodes.items code }
     ensures { (notes : NotesOf) → Coding (S.state scopes.old) (S.state scopes.new) notes notes fragments.old.nodes.items fragments.new.nodes.items site.now result IsCoded coded_in (λ c. gives (coded (Variable of) (part fragments.old.nodes.items code ⨟ spec_value c (coded_in fragments.old.nodes.items index) ⨟ plain (spec_index (spec_range c.scene indices) (spec_size c.scene of) ∷ [])))) }
 {
-    let (ends, size) = asked!(extent(scopes, site.around, indices, of));
-    let find = index_instr(ends, size)?;
-    element_found(scopes, site, of, index, code, find, fragments)
+    let found = asked!(extent(scopes, site.around, indices, of));
+    match index_instr(found.0, found.1) {
+        Ok(find) => element_found(scopes, site, of, index, code, find, fragments),
+        Err(memory) => Err(memory),
+    }
 }
 
 /// The element of an array, by its index, unless one of them is in error.
@@ -315,6 +329,39 @@ fn open_found<S: Scopes>(
     variable_at(of, open_code(x, value, size, fragments))
 }
 
+/// The cells of a type.
+#[tactic(auto, using(type_rules::proofs::Reading::reading))]
+fn cells_of<S: Scopes>(scopes: &mut S, around: &Around, of: Place) -> Ask<u32>
+    requires suits { Suits (S.state scopes.old).frame around.now }
+    requires of { IsThere (S.state scopes.old).frame of }
+    ensures reads { Reads (S.state scopes.old) (S.state scopes.new) }
+    ensures waits { WhereWaiting result (λ head. Waits (S.state scopes.old) (S.state scopes.new) head) }
+    ensures told { WhereTold (S.state scopes.old).frame (λ made.
+        WhereKnown result (λ size. size ≡ spec_size (scene_of (S.state scopes.old).frame made around.now) of)) }
+{
+    let size = known!(size_of(scopes, around, of));
+    Ask::Known(size as u32)
+}
+
+/// The element of an open array, by its index.
+fn open_indexed<S: Scopes>(
+    scopes: &mut S,
+    site: &Site,
+    of: Place,
+    index: Coded,
+    x: Coded,
+    fragments: &mut Fragments,
+) -> Result<Ask<Coded>, Memory>
+    requires suits { SuitsSite (S.state scopes.old).frame site.now }
+    requires of { IsThere (S.state scopes.old).frame of }
+    requires index { IsCoded (S.state scopes.old).frame fragments.old.nodes.items index }
+    requires x { IsCoded (S.state scopes.old).frame fragments.old.nodes.items x }
+    ensures { (notes : NotesOf) → Coding (S.state scopes.old) (S.state scopes.new) notes notes fragments.old.nodes.items fragments.new.nodes.items site.now result IsCoded coded_in (λ c. gives (coded (Variable of) (part fragments.old.nodes.items x.code ⨟ high_in fragments.old.nodes.items x.high ⨟ spec_value c (coded_in fragments.old.nodes.items index) ⨟ plain (IndexOpen (spec_size c.scene of) ∷ [])))) }
+{
+    let size = asked!(cells_of(scopes, site.around, of));
+    open_found(scopes, site, of, size, index, x, fragments)
+}
+
 /// The element of an open array, by its index, unless one of them is in error.
 fn element_of_open<S: Scopes>(
     scopes: &mut S,
@@ -333,8 +380,7 @@ fn element_of_open<S: Scopes>(
     if asked!(is_spoilt(scopes, site.around, index.operand, of)) {
         return Ok(Ask::Known(Coded::in_error()));
     }
-    let size = asked!(size_of(scopes, site.around, of));
-    open_found(scopes, site, of, size as u32, index, x, fragments)
+    open_indexed(scopes, site, of, index, x, fragments)
 }
 
 /// The element of an array by an index that its index type takes.

@@ -5,7 +5,7 @@ use Rattle.expr_sem.proofs.Selecting.{high_made}
 use Rattle.expr_sem.proofs.elements.high_or_none.Goals as goal
 
 pub returns-in-Some : goal.returns-in-Some
-returns-in-Some c = high_made c.args.fragments.now.nodes.items c.args.high c.in-Some.high c.in-Some.is c.requires
+returns-in-Some c = high_made c.args.fragments.now.nodes.items c.args.high c.in-Some.high c.in-Some.is c.requires.there
 
 pub returns-in-None : goal.returns-in-None
 returns-in-None c =

@@ -1,4 +1,6 @@
-use Rattle.std.proofs.Common.{◌∙◌, refl}
+use Rattle.std.proofs.Common.{◌∙◌, ◌∷◌, [], ap}
+use Rattle.code_form.specs.declared.instr.Instr.TheVariants.{IndexOpen}
+use Rattle.expr_sem.specs.Parts.{Part, plain, ◌⨟◌}
 use Rattle.expr_sem.proofs.Selecting.{made_full, then_both}
 use Rattle.expr_sem.proofs.Sequencing.{Grows-trans, in_later, made_after, part_later}
 use Rattle.expr_sem.proofs.elements.open_code.Goals as goal
@@ -19,4 +21,4 @@ returns c =
     let found = c.in_ok-found.ensures in
     let both = Grows-trans high.grows found.grows in
     made_after c.then.result both c.then.ensures.made
-    (then_both (part_later both c.args.x.code c.requires.code) (found.made.part_is ∙ then_both high.made.part_is (then_both (part_later high.grows c.args.value c.requires.value) refl)))
+    (then_both (part_later both c.args.x.code c.requires.code) (found.made.part_is ∙ then_both high.made.part_is (ap (λ (q : Part). q ⨟ plain (IndexOpen c.args.size ∷ [])) (part_later high.grows c.args.value c.requires.value))))
