@@ -1,12 +1,11 @@
 -- HIGH by the meaning of a type, and the standard functions that are none of one argument.
-use Rattle.std.proofs.Common.{◌≡◌, ◌∙◌, ℕ, length, ap, sym, subst, refl, arith, if◌then◌else◌}
+use Rattle.std.proofs.Common.{◌≡◌, ◌∙◌, ℕ, length, ap, sym, subst, refl, arith}
 use Rattle.m2_base.specs.Gives.{Gives, gives}
 use Rattle.m2_base.specs.Rows.{Fits}
 use Rattle.m2_base.specs.Standard.{cardinal}
 use Rattle.m2_base.specs.States.{Frame}
 use Rattle.m2_base.specs.Statics.Contexts.{Context, Scene, refuse}
 use Rattle.m2_base.specs.Statics.Diagnostics.{not_a_variable, wrong_argument}
-use Rattle.m2_base.specs.Statics.Types.{is_broken}
 use Rattle.m2_base.specs.declared.builtins.Builtin.{Builtin}
 use Rattle.m2_base.specs.declared.builtins.Builtin.TheVariants.{Abs, Cap, Chr, High, Max, Min, Odd, Ord, Size}
 use Rattle.m2_base.specs.declared.operands.Operand.{Operand}
@@ -37,11 +36,6 @@ index_there {f} m i t s e k =
 pub not_fixed : (scene : Scene) (x : Coded) (m : RowMeaning) → ((i t : Place) (s : ℕ) → m ≡ Array i t s → ⊥) → gives x.high ≡ gives (high_code scene x m)
 not_fixed scene x (Array i t s) h = absurd (h i t s refl)
 not_fixed scene x m h = refl
-
-pub fixed_high : (c : Context) (at : ℕ) (x : Coded) (m : RowMeaning) (i t : Place) (s : ℕ) → m ≡ Array i t s
-    → (if is_broken c.scene i then gives in_error else gives (coded (Computed cardinal) (high_code c.scene x m))) ≡ high_of c at x m
-fixed_high c at x m i t s e =
-    ap (λ (n : RowMeaning). if is_broken c.scene i then gives in_error else gives (coded (Computed cardinal) (high_code c.scene x n))) e ∙ ap (λ (n : RowMeaning). high_of c at x n) (sym e)
 
 pub open_high : (c : Context) (at : ℕ) (x : Coded) (m : RowMeaning) (t : Place) → m ≡ OpenArray t → gives (coded (Computed cardinal) (high_code c.scene x m)) ≡ high_of c at x m
 open_high c at x m t e = ap (λ (n : RowMeaning). gives (coded (Computed cardinal) (high_code c.scene x n))) e ∙ ap (λ (n : RowMeaning). high_of c at x n) (sym e)

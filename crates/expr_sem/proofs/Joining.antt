@@ -1,36 +1,22 @@
 -- Fragments joined to others, and what comes after a question: the whole among the fragments that were there first.
 use Rattle.std.specs.Prelude.{IsErr}
-use Rattle.std.proofs.Common.{◌≡◌, ◌∙◌, List, Result, Ok, Err, false, true, ap, refl, subst}
-use Rattle.m2_base.specs.Gives.{Adds, Gives, gives}
+use Rattle.std.proofs.Common.{◌≡◌, ◌∙◌, List, Result, Ok, Err, false, true}
+use Rattle.m2_base.specs.Gives.{Gives}
 use Rattle.m2_base.specs.States.{Frame, State}
 use Rattle.m2_base.specs.Statics.Contexts.{Context}
 use Rattle.m2_base.specs.declared.memory.Memory.{Memory}
 use Rattle.m2_base.specs.declared.notes.Notes.{Notes}
-use Rattle.m2_base.specs.declared.operands.Operand.{Operand}
 use Rattle.m2_base.specs.declared.replies.Ask.{Ask}
-use Rattle.m2_base.specs.declared.replies.Ask.TheVariants.{Known}
 use Rattle.m2_base.specs.declared.sites.Site.{Site}
-use Rattle.m2_base.proofs.Kept.{Adds-refl}
 use Rattle.type_rules.specs.Asks.{Reads}
-use Rattle.type_rules.specs.Scenes.{WhereTold}
-use Rattle.type_rules.specs.Sites.{context_of}
-use Rattle.expr_sem.specs.Coded as code
-use Rattle.expr_sem.specs.Coded.{coded}
-use Rattle.expr_sem.specs.Codings.{Coding, IsCoded, IsFragment, coded_in}
-use Rattle.expr_sem.specs.Fragments.{Grows, IsIn, IsMade, part}
+use Rattle.expr_sem.specs.Codings.{Coding}
+use Rattle.expr_sem.specs.Fragments.{IsIn, IsMade, part}
 use Rattle.expr_sem.specs.Parts.{Part, ◌⨟◌}
-use Rattle.expr_sem.specs.declared.coded.Coded.{Coded}
 use Rattle.expr_sem.specs.declared.fragments.Fragment.{Fragment}
 use Rattle.expr_sem.specs.declared.fragments.Node.{Node}
-use Rattle.expr_sem.proofs.Making.{after_question, question_wanted}
-use Rattle.expr_sem.proofs.Operating.{value_grown}
+use Rattle.expr_sem.proofs.Making.{question_wanted}
 use Rattle.expr_sem.proofs.Selecting.{then_both}
-use Rattle.expr_sem.proofs.Sequencing.{Grows-refl, Grows-trans, made_after, part_later}
-
--- two that were there
-pub joined_old : {ns ms ks : List Node} (first second : Fragment) (r : Result Fragment Memory) → IsIn ns first → IsIn ns second → Grows ns ms
-    → IsMade ms ks r (part ms first ⨟ part ms second) → IsMade ns ks r (part ns first ⨟ part ns second)
-joined_old first second r h k g m = made_after r g m (then_both (part_later g first h) (part_later g second k))
+use Rattle.expr_sem.proofs.Sequencing.{Grows-trans, made_after, part_later}
 
 -- one that was there, and a new one
 pub joined_new : {ns ms ks : List Node} (first second : Fragment) {q : Part} (r : Result Fragment Memory) → IsIn ns first → IsMade ns ms (Ok second) q
@@ -48,10 +34,3 @@ module _ {T V : Type 0} {a b : State} {s : Site} {P : Frame → List Node → T 
   pub question_full : {ns ms : List Node} {m : Memory} {p : Part} {h : Context → Gives V} (n : Notes) (r : Result (Ask T) Memory) → IsErr r → Reads a b → IsMade ns ms (Err m) p → Coding a b n n ns ms s r P as_p h
   question_full n (Ok f) is reads h = absurd (let h : false ≡ true = is in cc)
   question_full n (Err k) is reads h = question_wanted n reads h k
-
--- an operand with code that is made after a question
-pub coded_told : {a b : State} {s : Site} {ns ms : List Node} {p : Part} (n : Notes) (x : Coded) (f : Fragment) (o : Operand) (g : Context → code.Coded) → Reads a b → IsMade ns ms (Ok f) p
-    → coded_in ms x ≡ coded o (part ms f) → IsCoded b.frame ms x → WhereTold a.frame (λ made. coded o p ≡ g (context_of a.frame made s)) → Coding a b n n ns ms s (Ok (Known x)) IsCoded coded_in (λ c. gives (g c))
-coded_told {a} {b} {s} {ns} {ms} {p} n x f o g reads m is there e =
-    after_question (Ok (Known x)) reads (value_grown b n s x IsCoded coded_in (λ k. coded o p) m.grows there (λ k. is ∙ ap (λ (q : Part). coded o q) m.made.part_is))
-    (λ made in_hand told. ap (λ (u : code.Coded). gives u) (e made in_hand told))

@@ -22,4 +22,3 @@ pub mod Refusing
 pub mod ValueCases
 pub mod PieceParts
 pub mod Stacked
-pub mod Selecting

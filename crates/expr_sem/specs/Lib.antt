@@ -18,8 +18,6 @@ pub mod Fragments
 pub mod Codings
 pub mod Kinds
 pub mod ValueFunctions
-pub mod VariableArguments
-pub mod Updates
 pub mod Pieces
 pub mod Stacks
 pub mod Refusals

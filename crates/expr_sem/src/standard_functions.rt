@@ -298,7 +298,15 @@ fn of_value<S: Scopes>(
     requires x { IsCoded (S.state scopes.old).frame fragments.old.nodes.items x }
     ensures { Coding (S.state scopes.old) (S.state scopes.new) notes.old notes.new fragments.old.nodes.items fragments.new.nodes.items site.now result IsCoded coded_in (λ c. spec_on_value c at (coded_in fragments.old.nodes.items x) (spec_of_value c function at) (code_of c (rules.Function function))) }
 {
-    on_value(scopes, site, Rule::Function(function), at, x, fragments, notes)
+    on_value(
+        scopes,
+        site,
+        Rule::Function(function),
+        at,
+        x,
+        fragments,
+        notes,
+    )
 }
 
 /// A function of one argument; of other standard procedures nobody asks.

@@ -138,9 +138,7 @@ fn function_ending<S: Scopes>(
     match function {
         ValueFunction::Abs => magnitude(scopes, site, of),
         ValueFunction::Cap => Ask::Known(Ending::Capital),
-        ValueFunction::Odd => {
-            Ask::Known(Ending::Oddness(known!(side_of(scopes, site, of))))
-        }
+        ValueFunction::Odd => { Ask::Known(Ending::Oddness(known!(side_of(scopes, site, of)))) }
         _ => Ask::Known(Ending::Nothing),
     }
 }
@@ -228,7 +226,14 @@ fn ended_code<S: Scopes>(
     ensures { (notes : NotesOf) → Coding (S.state scopes.old) (S.state scopes.new) notes notes fragments.old.nodes.items fragments.new.nodes.items site.now result IsFragment part (λ c. gives (code_to c rule (coded_in fragments.old.nodes.items v) None)) }
 {
     let value = analysed!(value_code(scopes, site, v, fragments));
-    ended(scopes, site, rule, operand_type(&v.operand), value, fragments)
+    ended(
+        scopes,
+        site,
+        rule,
+        operand_type(&v.operand),
+        value,
+        fragments,
+    )
 }
 
 /// The code of a value under a rule.

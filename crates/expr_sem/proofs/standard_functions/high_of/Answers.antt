@@ -1,11 +1,14 @@
+use Rattle.std.proofs.Common.{ap, sym}
+use Rattle.m2_base.specs.declared.rows.RowMeaning.{RowMeaning}
+use Rattle.expr_sem.specs.StandardFunctions.{high_of}
 use Rattle.expr_sem.specs.Codings.{coded_in}
-use Rattle.expr_sem.proofs.Highs.{fixed_high, no_high_of, open_high}
+use Rattle.expr_sem.proofs.Highs.{no_high_of, open_high}
 use Rattle.expr_sem.proofs.Operating.{described}
 use Rattle.expr_sem.proofs.standard_functions.high_of.Goals as goal
 
 pub returns-in-Array : goal.returns-in-Array
 returns-in-Array g c =
-    described c.high_of_array.result (c.high_of_array.ensures c.args.notes.now) (λ k. fixed_high k c.args.at (coded_in c.args.fragments.now.nodes.items c.args.x) c.args.kind c.in-Array.index _ _ c.in-Array.is)
+    described c.high_of_array.result (c.high_of_array.ensures c.args.notes.now) (λ k. ap (λ (m : RowMeaning). high_of k c.args.at (coded_in c.args.fragments.now.nodes.items c.args.x) m) (sym c.in-Array.is))
 
 pub returns-in-OpenArray : goal.returns-in-OpenArray
 returns-in-OpenArray g c =

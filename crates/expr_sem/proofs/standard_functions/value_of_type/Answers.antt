@@ -1,4 +1,3 @@
-
 use Rattle.expr_sem.proofs.standard_functions.value_of_type.Goals as goal
 
 pub returns : goal.returns
