@@ -11,12 +11,14 @@ pub mod Law
 pub mod Onwards
 pub mod Operating
 pub mod Sequencing
+pub mod Selecting
 pub mod Pushing
-pub mod Without
-pub mod Refusing
 pub mod Making
 pub mod OwnSearch
+pub mod Joining
+pub mod Highs
+pub mod Without
+pub mod Refusing
 pub mod ValueCases
 pub mod PieceParts
 pub mod Stacked
-pub mod Selecting

@@ -17,6 +17,7 @@ pub mod Heights
 pub mod Fragments
 pub mod Codings
 pub mod Kinds
+pub mod ValueFunctions
 pub mod Pieces
 pub mod Stacks
 pub mod Refusals

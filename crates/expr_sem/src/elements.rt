@@ -37,7 +37,7 @@ use type_rules::{CARDINAL, range_of, row_at, size_of, stand};
 
 /// The type that a pointer's row leads to: where that names a row of a type's name, the type of this.
 #[tactic(auto, using(type_rules::proofs::Reading::reading))]
-fn target_named<S: Scopes>(scopes: &mut S, around: &Around, to: Place) -> Ask<Place>
+pub fn target_named<S: Scopes>(scopes: &mut S, around: &Around, to: Place) -> Ask<Place>
     requires suits { Suits (S.state scopes.old).frame around.now }
     requires to { IsThere (S.state scopes.old).frame to }
     ensures reads { Reads (S.state scopes.old) (S.state scopes.new) }
@@ -281,7 +281,7 @@ fn element_of_array<S: Scopes>(
 }
 
 /// The code of the number of an open array's elements less 1.
-fn high_or_none(high: Option<Fragment>, fragments: &mut Fragments) -> Result<Fragment, Memory>
+pub fn high_or_none(high: Option<Fragment>, fragments: &mut Fragments) -> Result<Fragment, Memory>
     requires there { IfSome high (λ h. IsIn fragments.old.nodes.items h) }
     ensures { IsMade fragments.old.nodes.items fragments.new.nodes.items result (high_in fragments.old.nodes.items high) }
 {

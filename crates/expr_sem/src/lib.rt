@@ -30,6 +30,7 @@ macro_rules! analysed {
 }
 
 /// The answer to a question, or the end of an analysis where it isn't known yet.
+/// The value of an answer within an analysis, or the end of the function where it isn't known yet.
 macro_rules! asked {
     ($asked:expr) => {
         match $asked {
@@ -43,6 +44,7 @@ mod answers;
 mod appending;
 mod arguments;
 mod calls;
+mod chains;
 mod coded;
 mod designated;
 mod elements;
@@ -60,7 +62,9 @@ mod standard_functions;
 mod standard_procedures;
 mod steps;
 mod takings;
+mod value_functions;
 mod values;
+mod variable_arguments;
 mod variables;
 
 pub use coded::{Coded, Placed};

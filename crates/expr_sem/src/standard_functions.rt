@@ -1,17 +1,88 @@
 //! The code of the standard functions. What a function gives is the static rule's; where that is constant there is no code.
-ghost use Rattle.m2_base.specs.Gives.{gives};
+ghost use Rattle.std.specs.Prelude.{◌≡◌, ◌<◌, ◌^◌, List, if◌then◌else◌, option_map, pos};
+ghost use Rattle.std.specs.Option.{IfSome};
+ghost use Rattle.m2_base.specs.Gives.{and_then, gives};
+ghost use Rattle.m2_base.specs.Rows.{IsValue};
+ghost use Rattle.m2_base.specs.Standard.{cardinal};
 ghost use Rattle.m2_base.specs.States.{State};
+ghost use Rattle.m2_base.specs.Statics.Ranges.{range};
+ghost use Rattle.m2_base.specs.Statics.Types.{is_broken as spec_broken};
 ghost use Rattle.m2_base.specs.declared.notes.Notes.{Notes as NotesOf};
-ghost use Rattle.expr_sem.specs.Codings.{Coding, IsCoded, IsFragment, coded_in};
-ghost use Rattle.expr_sem.specs.Fragments.{part};
+ghost use Rattle.m2_base.specs.declared.operands.Operand.TheVariants as operands;
+ghost use Rattle.m2_base.specs.declared.sites.Site.{Site as SiteOf};
+ghost use Rattle.code_form.specs.declared.instr.Instr.TheVariants as instrs;
+ghost use Rattle.const_eval.specs.Calls.{of_type, of_value as spec_of_value};
+ghost use Rattle.const_eval.specs.Sites.{IsOperand};
+ghost use Rattle.const_eval.specs.declared.calls.TypeFunction.TheVariants as functions;
+ghost use Rattle.expr_sem.specs.Coded.{bare, coded, in_error};
+ghost use Rattle.expr_sem.specs.Codings.{Coding, IsCoded, IsFragment, coded_in, high_in};
+ghost use Rattle.expr_sem.specs.Fragments.{IsIn, part};
 ghost use Rattle.expr_sem.specs.Kinds.{IsKindHere};
-ghost use Rattle.expr_sem.specs.StandardFunctions.{function_of_one as spec_one, high_code as spec_high, value_of_type as spec_value};
-ghost use Rattle.type_rules.specs.Scenes.{scene_of};
+ghost use Rattle.expr_sem.specs.Operators.{made as spec_made};
+ghost use Rattle.expr_sem.specs.StandardFunctions.{as_variable as spec_variable, function_of_one as spec_one, high_code as spec_high, high_of as spec_high_of, high_of_range as spec_range, high_of_variable as spec_high_variable, on_value as spec_on_value, size_code as spec_size, value_of_type as spec_value};
+ghost use Rattle.expr_sem.specs.ValueFunctions.{code_of, pushed_high, pushed_size};
+ghost use Rattle.expr_sem.specs.declared.fragments.Node.{Node};
+ghost use Rattle.expr_sem.specs.declared.value_functions.Rule.TheVariants as rules;
+ghost use Rattle.type_rules.specs.Scenes.{IsThere};
 ghost use Rattle.type_rules.specs.Sites.{SuitsSite};
 
 use crate::coded::{Coded, Placed};
+use crate::elements::high_or_none;
 use crate::fragments::{Fragment, Fragments};
-use m2_base::{Ask, Builtin, Memory, Notes, RowMeaning, Scopes, Site};
+use crate::operators::made;
+use crate::refusals::{Refusal, refused};
+use crate::value_functions::{Rule, on_value};
+use crate::variable_arguments::as_variable;
+use code_form::Instr;
+use const_eval::{Argument, TypeFunction, ValueFunction, is_bad, is_broken, of_type_noted};
+use m2_base::{Ask, Builtin, Memory, Notes, Operand, Place, RowMeaning, Scopes, Site};
+use type_rules::{CARDINAL, operand_type, range_of, size_of, stand};
+
+/// How far a range reaches above its low end.
+fn high_of_range(ends: Option<(i64, i64)>) -> i64
+    requires { IfSome ends (λ ends. IsValue ends.0 × IsValue ends.1) }
+    ensures { result ≡ spec_range (option_map (λ ends. range ends.0 ends.1) ends) }
+{
+    match ends {
+        Some((low, high)) => high - low,
+        None => 0,
+    }
+}
+
+/// How far a range reaches above its low end, pushed.
+fn push_high(ends: Option<(i64, i64)>) -> Instr
+    requires { IfSome ends (λ ends. IsValue ends.0 × IsValue ends.1) }
+    ensures { result ≡ instrs.Push (spec_range (option_map (λ ends. range ends.0 ends.1) ends)) }
+{
+    Instr::Push(high_of_range(ends))
+}
+
+/// The number of elements less 1 of an array with this index type.
+fn index_high<S: Scopes>(
+    scopes: &mut S,
+    site: &Site,
+    index: Place,
+    fragments: &mut Fragments,
+) -> Result<Ask<Fragment>, Memory>
+    requires suits { SuitsSite (S.state scopes.old).frame site.now }
+    requires index { IsThere (S.state scopes.old).frame index }
+    ensures { (notes : NotesOf) → Coding (S.state scopes.old) (S.state scopes.new) notes notes fragments.old.nodes.items fragments.new.nodes.items site.now result IsFragment part (λ c. gives (pushed_high c.scene index)) }
+{
+    let ends = asked!(range_of(scopes, site.around, index));
+    let code = fragments.one(push_high(ends))?;
+    Ok(Ask::Known(code))
+}
+
+/// The number of elements less 1 of an open array, as its code says; of anything else nobody asks.
+fn open_high(x: Coded, fragments: &mut Fragments) -> Result<Ask<Fragment>, Memory>
+    requires { IfSome x.high (λ fragment. IsIn fragments.old.nodes.items fragment) }
+    ensures { (state : State) (notes : NotesOf) (site : SiteOf) → Coding state state notes notes fragments.old.nodes.items fragments.new.nodes.items site result IsFragment part (λ c. gives (high_in fragments.old.nodes.items x.high)) }
+{
+    match high_or_none(x.high, fragments) {
+        Ok(code) => Ok(Ask::Known(code)),
+        Err(memory) => Err(memory),
+    }
+}
 
 /// The number of elements less 1 of an array variable, by the meaning of its type.
 pub fn high_code<S: Scopes>(
@@ -26,7 +97,216 @@ pub fn high_code<S: Scopes>(
     requires kind { IsKindHere (S.state scopes.old).frame kind }
     ensures { (notes : NotesOf) → Coding (S.state scopes.old) (S.state scopes.new) notes notes fragments.old.nodes.items fragments.new.nodes.items site.now result IsFragment part (λ c. gives (spec_high c.scene (coded_in fragments.old.nodes.items x) kind)) }
 {
-    Err(Memory)
+    match kind {
+        RowMeaning::Array(index, _, _) => index_high(scopes, site, index, fragments),
+        _ => open_high(x, fragments),
+    }
+}
+
+/// HIGH of a variable of this kind, as a CARDINAL.
+fn high_computed<S: Scopes>(
+    scopes: &mut S,
+    site: &Site,
+    x: Coded,
+    kind: RowMeaning,
+    fragments: &mut Fragments,
+) -> Result<Ask<Coded>, Memory>
+    requires suits { SuitsSite (S.state scopes.old).frame site.now }
+    requires x { IsCoded (S.state scopes.old).frame fragments.old.nodes.items x }
+    requires kind { IsKindHere (S.state scopes.old).frame kind }
+    ensures { (notes : NotesOf) → Coding (S.state scopes.old) (S.state scopes.new) notes notes fragments.old.nodes.items fragments.new.nodes.items site.now result IsCoded coded_in (λ c. gives (coded (operands.Computed cardinal) (spec_high c.scene (coded_in fragments.old.nodes.items x) kind))) }
+{
+    let code = analysed!(high_code(scopes, site, x, kind, fragments));
+    Ok(Ask::Known(Coded::new(Operand::Computed(CARDINAL), code)))
+}
+
+/// HIGH of an array variable with this index type, unless that is in error.
+fn high_of_array<S: Scopes>(
+    scopes: &mut S,
+    site: &Site,
+    x: Coded,
+    index: Place,
+    kind: RowMeaning,
+    fragments: &mut Fragments,
+) -> Result<Ask<Coded>, Memory>
+    requires suits { SuitsSite (S.state scopes.old).frame site.now }
+    requires x { IsCoded (S.state scopes.old).frame fragments.old.nodes.items x }
+    requires index { IsThere (S.state scopes.old).frame index }
+    requires kind { IsKindHere (S.state scopes.old).frame kind }
+    ensures { (notes : NotesOf) → Coding (S.state scopes.old) (S.state scopes.new) notes notes fragments.old.nodes.items fragments.new.nodes.items site.now result IsCoded coded_in (λ c. if spec_broken c.scene index then gives in_error else gives (coded (operands.Computed cardinal) (spec_high c.scene (coded_in fragments.old.nodes.items x) kind))) }
+{
+    let broken = asked!(is_broken(scopes, site.around, index));
+    if broken {
+        return Ok(Ask::Known(Coded::in_error()));
+    }
+    high_computed(scopes, site, x, kind, fragments)
+}
+
+/// HIGH of a variable, by the meaning of its type.
+fn high_of<S: Scopes>(
+    scopes: &mut S,
+    site: &Site,
+    at: u32,
+    x: Coded,
+    kind: RowMeaning,
+    fragments: &mut Fragments,
+    notes: &mut Notes,
+) -> Result<Ask<Coded>, Memory>
+    requires suits { SuitsSite (S.state scopes.old).frame site.now }
+    requires x { IsCoded (S.state scopes.old).frame fragments.old.nodes.items x }
+    requires kind { IsKindHere (S.state scopes.old).frame kind }
+    ensures { Coding (S.state scopes.old) (S.state scopes.new) notes.old notes.new fragments.old.nodes.items fragments.new.nodes.items site.now result IsCoded coded_in (λ c. spec_high_of c at (coded_in fragments.old.nodes.items x) kind) }
+{
+    match kind {
+        RowMeaning::Array(index, _, _) => high_of_array(scopes, site, x, index, kind, fragments),
+        RowMeaning::OpenArray(_) => high_computed(scopes, site, x, kind, fragments),
+        _ => refused(site, at, Refusal::WrongArgument, notes),
+    }
+}
+
+/// The ordinal of a place has 32 bits.
+fn has_small_ordinal(place: Place)
+    ensures { place.ordinal < 2 ^ 32 }
+{
+    let _ordinal = place.ordinal;
+}
+
+/// HIGH of an argument that was a variable, or is in error.
+fn high_of_variable<S: Scopes>(
+    scopes: &mut S,
+    site: &Site,
+    at: u32,
+    x: Coded,
+    fragments: &mut Fragments,
+    notes: &mut Notes,
+) -> Result<Ask<Coded>, Memory>
+    requires suits { SuitsSite (S.state scopes.old).frame site.now }
+    requires x { IsCoded (S.state scopes.old).frame fragments.old.nodes.items x }
+    ensures { Coding (S.state scopes.old) (S.state scopes.new) notes.old notes.new fragments.old.nodes.items fragments.new.nodes.items site.now result IsCoded coded_in (λ c. spec_high_variable c at (coded_in fragments.old.nodes.items x)) }
+{
+    if is_bad(x.operand) {
+        return Ok(Ask::Known(Coded::in_error()));
+    }
+    let (place, kind) = asked!(stand(scopes, site.around, operand_type(&x.operand)));
+    has_small_ordinal(place);
+    high_of(scopes, site, at, x, kind, fragments, notes)
+}
+
+/// HIGH.
+fn high<S: Scopes>(
+    scopes: &mut S,
+    site: &Site,
+    at: u32,
+    x: Coded,
+    fragments: &mut Fragments,
+    notes: &mut Notes,
+) -> Result<Ask<Coded>, Memory>
+    requires suits { SuitsSite (S.state scopes.old).frame site.now }
+    requires x { IsCoded (S.state scopes.old).frame fragments.old.nodes.items x }
+    ensures { Coding (S.state scopes.old) (S.state scopes.new) notes.old notes.new fragments.old.nodes.items fragments.new.nodes.items site.now result IsCoded coded_in (λ c. and_then (spec_variable c at (coded_in fragments.old.nodes.items x)) (spec_high_variable c at)) }
+{
+    let v = analysed!(as_variable(site, at, x, notes));
+    high_of_variable(scopes, site, at, v, fragments, notes)
+}
+
+/// A size, pushed.
+fn push_size(size: u64) -> Instr
+    requires { size < 2 ^ 32 }
+    ensures { result ≡ instrs.Push (pos size) }
+{
+    Instr::Push(size as i64)
+}
+
+/// The code of SIZE of a variable of this type.
+fn size_code<S: Scopes>(
+    scopes: &mut S,
+    site: &Site,
+    of: Place,
+    fragments: &mut Fragments,
+) -> Result<Ask<Fragment>, Memory>
+    requires suits { SuitsSite (S.state scopes.old).frame site.now }
+    requires of { IsThere (S.state scopes.old).frame of }
+    ensures { (notes : NotesOf) → Coding (S.state scopes.old) (S.state scopes.new) notes notes fragments.old.nodes.items fragments.new.nodes.items site.now result IsFragment part (λ c. gives (pushed_size c.scene of)) }
+{
+    let size = asked!(size_of(scopes, site.around, of));
+    let code = fragments.one(push_size(size))?;
+    Ok(Ask::Known(code))
+}
+
+/// What SIZE gives of an operand, with its code.
+fn size_made<S: Scopes>(
+    scopes: &mut S,
+    site: &Site,
+    given: Operand,
+    x: Coded,
+    fragments: &mut Fragments,
+) -> Result<Ask<Coded>, Memory>
+    requires suits { SuitsSite (S.state scopes.old).frame site.now }
+    requires given { IsOperand (S.state scopes.old).frame given }
+    requires x { IsCoded (S.state scopes.old).frame fragments.old.nodes.items x }
+    ensures { (notes : NotesOf) → Coding (S.state scopes.old) (S.state scopes.new) notes notes fragments.old.nodes.items fragments.new.nodes.items site.now result IsCoded coded_in (λ c. gives (spec_made given (spec_size c (coded_in fragments.old.nodes.items x)))) }
+{
+    let code = analysed!(size_code(scopes, site, operand_type(&x.operand), fragments));
+    Ok(Ask::Known(made(given, code)))
+}
+
+/// SIZE.
+fn size<S: Scopes>(
+    scopes: &mut S,
+    site: &Site,
+    at: u32,
+    x: Coded,
+    fragments: &mut Fragments,
+    notes: &mut Notes,
+) -> Result<Ask<Coded>, Memory>
+    requires suits { SuitsSite (S.state scopes.old).frame site.now }
+    requires x { IsCoded (S.state scopes.old).frame fragments.old.nodes.items x }
+    ensures { Coding (S.state scopes.old) (S.state scopes.new) notes.old notes.new fragments.old.nodes.items fragments.new.nodes.items site.now result IsCoded coded_in (λ c. and_then (of_type c functions.Size at x.operand) (λ r. gives (spec_made r (spec_size c (coded_in fragments.old.nodes.items x))))) }
+{
+    let given = analysed!(of_type_noted(scopes, site, TypeFunction::Size, at, x.operand, notes));
+    size_made(scopes, site, given, x, fragments)
+}
+
+/// What MIN or MAX gives of a type, which needs no code.
+fn of_type_coded<S: Scopes>(
+    scopes: &mut S,
+    site: &Site,
+    function: TypeFunction,
+    at: u32,
+    x: Operand,
+    notes: &mut Notes,
+) -> Result<Ask<Coded>, Memory>
+    requires suits { SuitsSite (S.state scopes.old).frame site.now }
+    requires x { IsOperand (S.state scopes.old).frame x }
+    ensures { (nodes : List Node) → Coding (S.state scopes.old) (S.state scopes.new) notes.old notes.new nodes nodes site.now result IsCoded coded_in (λ c. and_then (of_type c function at x) (λ r. gives (bare r))) }
+{
+    let given = analysed!(of_type_noted(scopes, site, function, at, x, notes));
+    Ok(Ask::Known(Coded::bare(given)))
+}
+
+/// A function of a value, of which a value is wanted.
+fn of_value<S: Scopes>(
+    scopes: &mut S,
+    site: &Site,
+    function: ValueFunction,
+    at: u32,
+    x: Coded,
+    fragments: &mut Fragments,
+    notes: &mut Notes,
+) -> Result<Ask<Coded>, Memory>
+    requires suits { SuitsSite (S.state scopes.old).frame site.now }
+    requires x { IsCoded (S.state scopes.old).frame fragments.old.nodes.items x }
+    ensures { Coding (S.state scopes.old) (S.state scopes.new) notes.old notes.new fragments.old.nodes.items fragments.new.nodes.items site.now result IsCoded coded_in (λ c. spec_on_value c at (coded_in fragments.old.nodes.items x) (spec_of_value c function at) (code_of c (rules.Function function))) }
+{
+    on_value(
+        scopes,
+        site,
+        Rule::Function(function),
+        at,
+        x,
+        fragments,
+        notes,
+    )
 }
 
 /// A function of one argument; of other standard procedures nobody asks.
@@ -43,7 +323,18 @@ pub fn function_of_one<S: Scopes>(
     requires x { IsCoded (S.state scopes.old).frame fragments.old.nodes.items x }
     ensures { Coding (S.state scopes.old) (S.state scopes.new) notes.old notes.new fragments.old.nodes.items fragments.new.nodes.items site.now result IsCoded coded_in (λ c. spec_one c f at (coded_in fragments.old.nodes.items x)) }
 {
-    Err(Memory)
+    match f {
+        Builtin::Abs => of_value(scopes, site, ValueFunction::Abs, at, x, fragments, notes),
+        Builtin::Cap => of_value(scopes, site, ValueFunction::Cap, at, x, fragments, notes),
+        Builtin::Chr => of_value(scopes, site, ValueFunction::Chr, at, x, fragments, notes),
+        Builtin::Odd => of_value(scopes, site, ValueFunction::Odd, at, x, fragments, notes),
+        Builtin::Ord => of_value(scopes, site, ValueFunction::Ord, at, x, fragments, notes),
+        Builtin::Min => of_type_coded(scopes, site, TypeFunction::Min, at, x.operand, notes),
+        Builtin::Max => of_type_coded(scopes, site, TypeFunction::Max, at, x.operand, notes),
+        Builtin::Size => size(scopes, site, at, x, fragments, notes),
+        Builtin::High => high(scopes, site, at, x, fragments, notes),
+        _ => Ok(Ask::Known(Coded::in_error())),
+    }
 }
 
 /// VAL, of a type and a value.
@@ -60,5 +351,9 @@ pub fn value_of_type<S: Scopes>(
     requires x { IsCoded (S.state scopes.old).frame fragments.old.nodes.items x.coded }
     ensures { Coding (S.state scopes.old) (S.state scopes.new) notes.old notes.new fragments.old.nodes.items fragments.new.nodes.items site.now result IsCoded coded_in (λ c. spec_value c of.at (coded_in fragments.old.nodes.items of.coded) x.at (coded_in fragments.old.nodes.items x.coded)) }
 {
-    Err(Memory)
+    let rule = Rule::Val(Argument {
+        at: of.at,
+        operand: of.coded.operand,
+    });
+    on_value(scopes, site, rule, x.at, x.coded, fragments, notes)
 }

@@ -1,5 +1,5 @@
 //! The standard procedures that give no value, and how many arguments each standard procedure takes.
-ghost use Rattle.std.specs.Prelude.{◌≡◌, List};
+ghost use Rattle.std.specs.Prelude.{◌≡◌};
 ghost use Rattle.m2_base.specs.Gives.{gives};
 ghost use Rattle.m2_base.specs.States.{State};
 ghost use Rattle.m2_base.specs.declared.notes.Notes.{Notes as NotesOf};
@@ -42,7 +42,7 @@ pub fn is_function(f: Builtin) -> bool
 
 /// A standard procedure without arguments; of others than HALT nobody asks.
 pub fn of_no_argument(f: Builtin, fragments: &mut Fragments) -> Result<Ask<Coded>, Memory>
-    ensures { (state : State) (notes : NotesOf) (site : SiteOf) → Coding state state notes notes fragments.old.nodes.items fragments.new.nodes.items site result IsCoded coded_in (λ c. gives (spec_none f)) }
+    ensures { (state : State) (notes : NotesOf) (site : SiteOf) → SuitsSite state.frame site → Coding state state notes notes fragments.old.nodes.items fragments.new.nodes.items site result IsCoded coded_in (λ c. gives (spec_none f)) }
 {
     Err(Memory)
 }

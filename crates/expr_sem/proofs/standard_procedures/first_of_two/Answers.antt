@@ -1,0 +1,6 @@
+use Rattle.type_rules.proofs.Reading.{Reads-refl}
+use Rattle.expr_sem.proofs.Making.{question_failed}
+use Rattle.expr_sem.proofs.standard_procedures.first_of_two.Goals as goal
+
+pub returns : goal.returns
+returns g c = question_failed _ _ (Reads-refl _) _

@@ -1,0 +1,313 @@
+//! The standard functions of values: the static rule, and the code that each makes of the value.
+ghost use Rattle.std.specs.Prelude.{◌≡◌, None};
+ghost use Rattle.std.specs.Option.{IfSome};
+ghost use Rattle.m2_base.specs.Gives.{gives};
+ghost use Rattle.m2_base.specs.Standard.{broken, cardinal, character};
+ghost use Rattle.m2_base.specs.States.{Frame, Waits};
+ghost use Rattle.m2_base.specs.declared.notes.Notes.{Notes as NotesOf};
+ghost use Rattle.const_eval.specs.Analyses.{Analysed};
+ghost use Rattle.const_eval.specs.Sites.{IsOperand};
+ghost use Rattle.expr_sem.specs.Codings.{Coding, IsCoded, IsFragment, coded_in};
+ghost use Rattle.expr_sem.specs.Fragments.{IsIn, IsMade, part};
+ghost use Rattle.expr_sem.specs.Operators.{made as spec_made};
+ghost use Rattle.expr_sem.specs.Parts.{plain, ◌⨟◌};
+ghost use Rattle.expr_sem.specs.StandardFunctions.{magnitude as spec_magnitude, named_type as spec_named, on_value as spec_on_value};
+ghost use Rattle.expr_sem.specs.ValueFunctions.{IsRuleHere, code_of, code_to, ending as spec_ending, function_ending as spec_function_ending, function_target as spec_function_target, instrs_of, rule_of, target_of as spec_target, under};
+ghost use Rattle.expr_sem.specs.declared.value_functions.Ending.TheVariants as endings;
+ghost use Rattle.type_rules.specs.Asks.{Reads, WhereKnown, WhereWaiting};
+ghost use Rattle.type_rules.specs.Scenes.{IsThere, WhereTold};
+ghost use Rattle.type_rules.specs.Sites.{SuitsSite, context_of};
+
+use crate::chains::instr_behind;
+use crate::coded::Coded;
+use crate::designated::pair;
+use crate::fitting::fitted_code;
+use crate::fragments::{Fragment, Fragments};
+use crate::operators::{made, side_of};
+use crate::values::{as_value, value_code};
+use code_form::Instr;
+use const_eval::{Argument, ValueFunction, of_value_noted, val_of_operand};
+use m2_base::{Ask, Memory, Notes, Operand, Place, Scopes, Site};
+use type_rules::{BROKEN, CARDINAL, CHARACTER, INTEGER, base_of, operand_type};
+
+/// The rule for a value.
+#[derive(Clone, Copy)]
+pub enum Rule {
+    Function(ValueFunction),
+    /// VAL, with the argument that names its type.
+    Val(Argument),
+}
+
+/// The type that an operand names.
+fn named_type(operand: Operand) -> Place
+    ensures told { result ≡ spec_named operand }
+    ensures there { (f : Frame) → IsThere f broken → IsOperand f operand → IsThere f result }
+{
+    match operand {
+        Operand::NamedType(of) => of,
+        _ => BROKEN,
+    }
+}
+
+/// The type that a function makes its argument one of.
+fn function_target(function: ValueFunction) -> Option<Place>
+    ensures told { result ≡ spec_function_target function }
+    ensures there { (f : Frame) → IsThere f character → IsThere f cardinal → IfSome result (λ of. IsThere f of) }
+{
+    match function {
+        ValueFunction::Chr => Some(CHARACTER),
+        ValueFunction::Ord => Some(CARDINAL),
+        _ => None,
+    }
+}
+
+/// The type that the value becomes one of.
+fn target_of(rule: Rule) -> Option<Place>
+    ensures told { result ≡ spec_target rule }
+    ensures there { (f : Frame) → IsThere f character → IsThere f cardinal → IsThere f broken → IsRuleHere f rule → IfSome result (λ of. IsThere f of) }
+{
+    match rule {
+        Rule::Function(function) => function_target(function),
+        Rule::Val(of) => Some(named_type(of.operand)),
+    }
+}
+
+/// What a rule gives of a value; what is refused is noted.
+fn rule_noted<S: Scopes>(
+    scopes: &mut S,
+    site: &Site,
+    rule: Rule,
+    at: u32,
+    x: Operand,
+    notes: &mut Notes,
+) -> Result<Ask<Operand>, Memory>
+    requires suits { SuitsSite (S.state scopes.old).frame site.now }
+    requires rule { IsRuleHere (S.state scopes.old).frame rule }
+    requires x { IsOperand (S.state scopes.old).frame x }
+    ensures { Analysed (S.state scopes.old) (S.state scopes.new) notes.old notes.new site.now result IsOperand (λ c. rule_of c rule at x) }
+{
+    match rule {
+        Rule::Function(function) => of_value_noted(scopes, site, function, at, x, notes),
+        Rule::Val(of) => val_of_operand(scopes, site, of, at, x, notes),
+    }
+}
+
+/// What stands behind the value of an argument.
+#[derive(Clone, Copy, Debug, PartialEq, Eq)]
+pub enum Ending {
+    Nothing,
+    Magnitude,
+    Capital,
+    /// Whether the remainder by 2 is 1, on this side.
+    Oddness(u8),
+}
+
+/// The ending of ABS.
+#[tactic(auto, using(type_rules::proofs::Reading::reading))]
+fn magnitude<S: Scopes>(scopes: &mut S, site: &Site, of: Place) -> Ask<Ending>
+    requires suits { SuitsSite (S.state scopes.old).frame site.now }
+    requires of { IsThere (S.state scopes.old).frame of }
+    ensures reads { Reads (S.state scopes.old) (S.state scopes.new) }
+    ensures waits { WhereWaiting result (λ head. Waits (S.state scopes.old) (S.state scopes.new) head) }
+    ensures told { WhereTold (S.state scopes.old).frame (λ made.
+        WhereKnown result (λ ending. instrs_of ending ≡ spec_magnitude (context_of (S.state scopes.old).frame made site.now).scene of)) }
+{
+    let base = known!(base_of(scopes, site.around, of));
+    if base == INTEGER {
+        Ask::Known(Ending::Magnitude)
+    } else {
+        Ask::Known(Ending::Nothing)
+    }
+}
+
+/// The ending of a function.
+#[tactic(auto, using(type_rules::proofs::Reading::reading))]
+fn function_ending<S: Scopes>(
+    scopes: &mut S,
+    site: &Site,
+    function: ValueFunction,
+    of: Place,
+) -> Ask<Ending>
+    requires suits { SuitsSite (S.state scopes.old).frame site.now }
+    requires of { IsThere (S.state scopes.old).frame of }
+    ensures reads { Reads (S.state scopes.old) (S.state scopes.new) }
+    ensures waits { WhereWaiting result (λ head. Waits (S.state scopes.old) (S.state scopes.new) head) }
+    ensures told { WhereTold (S.state scopes.old).frame (λ made.
+        WhereKnown result (λ ending. instrs_of ending ≡ spec_function_ending (context_of (S.state scopes.old).frame made site.now).scene of function)) }
+{
+    match function {
+        ValueFunction::Abs => magnitude(scopes, site, of),
+        ValueFunction::Cap => Ask::Known(Ending::Capital),
+        ValueFunction::Odd => { Ask::Known(Ending::Oddness(known!(side_of(scopes, site, of)))) }
+        _ => Ask::Known(Ending::Nothing),
+    }
+}
+
+/// The ending of a rule; a value that is fitted has none.
+#[tactic(auto, using(type_rules::proofs::Reading::reading))]
+fn ending_of<S: Scopes>(scopes: &mut S, site: &Site, rule: Rule, of: Place) -> Ask<Ending>
+    requires suits { SuitsSite (S.state scopes.old).frame site.now }
+    requires of { IsThere (S.state scopes.old).frame of }
+    ensures reads { Reads (S.state scopes.old) (S.state scopes.new) }
+    ensures waits { WhereWaiting result (λ head. Waits (S.state scopes.old) (S.state scopes.new) head) }
+    ensures told { WhereTold (S.state scopes.old).frame (λ made.
+        WhereKnown result (λ ending. instrs_of ending ≡ spec_ending (context_of (S.state scopes.old).frame made site.now).scene of rule)) }
+{
+    match rule {
+        Rule::Function(function) => function_ending(scopes, site, function, of),
+        Rule::Val(_) => Ask::Known(Ending::Nothing),
+    }
+}
+
+/// The test whether the remainder by 2 is 1.
+fn oddness(side: u8, fragments: &mut Fragments) -> Result<Fragment, Memory>
+    ensures { IsMade fragments.old.nodes.items fragments.new.nodes.items result (plain (instrs_of (endings.Oddness side))) }
+{
+    let remainder = pair(Instr::Push(2), Instr::Mod(side), fragments)?;
+    let is_one = pair(Instr::Push(1), Instr::Eq, fragments)?;
+    fragments.then(remainder, is_one)
+}
+
+/// A value with the test whether the remainder by 2 is 1.
+fn odd_behind(value: Fragment, side: u8, fragments: &mut Fragments) -> Result<Fragment, Memory>
+    requires value { IsIn fragments.old.nodes.items value }
+    ensures { IsMade fragments.old.nodes.items fragments.new.nodes.items result (part fragments.old.nodes.items value ⨟ plain (instrs_of (endings.Oddness side))) }
+{
+    let test = oddness(side, fragments)?;
+    fragments.then(value, test)
+}
+
+/// A value with its ending.
+fn with_ending(
+    value: Fragment,
+    ending: Ending,
+    fragments: &mut Fragments,
+) -> Result<Fragment, Memory>
+    requires value { IsIn fragments.old.nodes.items value }
+    ensures { IsMade fragments.old.nodes.items fragments.new.nodes.items result (part fragments.old.nodes.items value ⨟ plain (instrs_of ending)) }
+{
+    match ending {
+        Ending::Nothing => fragments.then(value, Fragment::Nothing),
+        Ending::Magnitude => instr_behind(value, Instr::Abs, fragments),
+        Ending::Capital => instr_behind(value, Instr::Cap, fragments),
+        Ending::Oddness(side) => odd_behind(value, side, fragments),
+    }
+}
+
+/// A value of a type with the ending of a rule.
+fn ended<S: Scopes>(
+    scopes: &mut S,
+    site: &Site,
+    rule: Rule,
+    of: Place,
+    value: Fragment,
+    fragments: &mut Fragments,
+) -> Result<Ask<Fragment>, Memory>
+    requires suits { SuitsSite (S.state scopes.old).frame site.now }
+    requires of { IsThere (S.state scopes.old).frame of }
+    requires value { IsIn fragments.old.nodes.items value }
+    ensures { (notes : NotesOf) → Coding (S.state scopes.old) (S.state scopes.new) notes notes fragments.old.nodes.items fragments.new.nodes.items site.now result IsFragment part (λ c. gives (part fragments.old.nodes.items value ⨟ plain (spec_ending c.scene of rule))) }
+{
+    let after = asked!(ending_of(scopes, site, rule, of));
+    let code = with_ending(value, after, fragments)?;
+    Ok(Ask::Known(code))
+}
+
+/// The code of a value, and the ending of a rule behind it.
+fn ended_code<S: Scopes>(
+    scopes: &mut S,
+    site: &Site,
+    rule: Rule,
+    v: Coded,
+    fragments: &mut Fragments,
+) -> Result<Ask<Fragment>, Memory>
+    requires suits { SuitsSite (S.state scopes.old).frame site.now }
+    requires v { IsCoded (S.state scopes.old).frame fragments.old.nodes.items v }
+    ensures { (notes : NotesOf) → Coding (S.state scopes.old) (S.state scopes.new) notes notes fragments.old.nodes.items fragments.new.nodes.items site.now result IsFragment part (λ c. gives (code_to c rule (coded_in fragments.old.nodes.items v) None)) }
+{
+    let value = analysed!(value_code(scopes, site, v, fragments));
+    ended(
+        scopes,
+        site,
+        rule,
+        operand_type(&v.operand),
+        value,
+        fragments,
+    )
+}
+
+/// The code of a value under a rule.
+fn rule_code<S: Scopes>(
+    scopes: &mut S,
+    site: &Site,
+    rule: Rule,
+    v: Coded,
+    fragments: &mut Fragments,
+) -> Result<Ask<Fragment>, Memory>
+    requires suits { SuitsSite (S.state scopes.old).frame site.now }
+    requires rule { IsRuleHere (S.state scopes.old).frame rule }
+    requires v { IsCoded (S.state scopes.old).frame fragments.old.nodes.items v }
+    ensures { (notes : NotesOf) → Coding (S.state scopes.old) (S.state scopes.new) notes notes fragments.old.nodes.items fragments.new.nodes.items site.now result IsFragment part (λ c. gives (code_of c rule (coded_in fragments.old.nodes.items v))) }
+{
+    match target_of(rule) {
+        Some(to) => fitted_code(scopes, site, to, v, fragments),
+        None => ended_code(scopes, site, rule, v, fragments),
+    }
+}
+
+/// What a rule gives of a value, with its code.
+fn with_code<S: Scopes>(
+    scopes: &mut S,
+    site: &Site,
+    rule: Rule,
+    given: Operand,
+    v: Coded,
+    fragments: &mut Fragments,
+) -> Result<Ask<Coded>, Memory>
+    requires suits { SuitsSite (S.state scopes.old).frame site.now }
+    requires rule { IsRuleHere (S.state scopes.old).frame rule }
+    requires given { IsOperand (S.state scopes.old).frame given }
+    requires v { IsCoded (S.state scopes.old).frame fragments.old.nodes.items v }
+    ensures { (notes : NotesOf) → Coding (S.state scopes.old) (S.state scopes.new) notes notes fragments.old.nodes.items fragments.new.nodes.items site.now result IsCoded coded_in (λ c. gives (spec_made given (code_of c rule (coded_in fragments.old.nodes.items v)))) }
+{
+    let code = analysed!(rule_code(scopes, site, rule, v, fragments));
+    Ok(Ask::Known(made(given, code)))
+}
+
+/// A rule on what stands for a value.
+fn value_under<S: Scopes>(
+    scopes: &mut S,
+    site: &Site,
+    rule: Rule,
+    at: u32,
+    v: Coded,
+    fragments: &mut Fragments,
+    notes: &mut Notes,
+) -> Result<Ask<Coded>, Memory>
+    requires suits { SuitsSite (S.state scopes.old).frame site.now }
+    requires rule { IsRuleHere (S.state scopes.old).frame rule }
+    requires v { IsCoded (S.state scopes.old).frame fragments.old.nodes.items v }
+    ensures { Coding (S.state scopes.old) (S.state scopes.new) notes.old notes.new fragments.old.nodes.items fragments.new.nodes.items site.now result IsCoded coded_in (λ c. under c rule at (coded_in fragments.old.nodes.items v)) }
+{
+    let given = analysed!(rule_noted(scopes, site, rule, at, v.operand, notes));
+    with_code(scopes, site, rule, given, v, fragments)
+}
+
+/// A rule on an argument, of which a value is wanted.
+pub fn on_value<S: Scopes>(
+    scopes: &mut S,
+    site: &Site,
+    rule: Rule,
+    at: u32,
+    x: Coded,
+    fragments: &mut Fragments,
+    notes: &mut Notes,
+) -> Result<Ask<Coded>, Memory>
+    requires suits { SuitsSite (S.state scopes.old).frame site.now }
+    requires rule { IsRuleHere (S.state scopes.old).frame rule }
+    requires x { IsCoded (S.state scopes.old).frame fragments.old.nodes.items x }
+    ensures { Coding (S.state scopes.old) (S.state scopes.new) notes.old notes.new fragments.old.nodes.items fragments.new.nodes.items site.now result IsCoded coded_in (λ c. spec_on_value c at (coded_in fragments.old.nodes.items x) (rule_of c rule at) (code_of c rule)) }
+{
+    let v = analysed!(as_value(site, at, x, notes));
+    value_under(scopes, site, rule, at, v, fragments, notes)
+}
