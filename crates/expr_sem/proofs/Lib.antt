@@ -19,3 +19,4 @@ pub mod OwnSearch
 pub mod ValueCases
 pub mod PieceParts
 pub mod Stacked
+pub mod ArgumentCases
