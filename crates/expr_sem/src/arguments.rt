@@ -1,19 +1,21 @@
 //! The code of arguments beside their parameters.
-ghost use Rattle.std.specs.Prelude.{◌≡◌, ◌<◌, List, None, length};
+ghost use Rattle.std.specs.Prelude.{◌≡◌, ◌<◌, List, None, if◌then◌else◌, length};
 ghost use Rattle.m2_base.specs.Gives.{gives};
-ghost use Rattle.m2_base.specs.States.{State};
+ghost use Rattle.m2_base.specs.States.{State, Waits};
 ghost use Rattle.m2_base.specs.Statics.Contexts.{Source, refuse as spec_refuse};
-ghost use Rattle.m2_base.specs.Statics.Types.{size_of as spec_size};
+ghost use Rattle.m2_base.specs.Statics.Types.{is_broken as spec_broken, size_of as spec_size};
 ghost use Rattle.m2_base.specs.declared.notes.Notes.{Notes as NotesOf};
 ghost use Rattle.const_eval.specs.Sites.{IsOperand};
-ghost use Rattle.expr_sem.specs.ArgumentFits.{IsArgument, argument_in, parameter_view, passed_of};
+ghost use Rattle.expr_sem.specs.ArgumentFits.{IsArgument, argument_in, array_fit as spec_array_fit, element_fit as spec_element_fit, parameter_view, passed_of};
 ghost use Rattle.expr_sem.specs.Arguments.{argument as spec_argument, by_address as spec_address, by_value as spec_value, string_copy as spec_copy, value_argument as spec_value_argument};
 ghost use Rattle.expr_sem.specs.Coded.{characters as spec_characters};
 ghost use Rattle.expr_sem.specs.Codings.{Coding, IsCoded, IsFragment, coded_in};
 ghost use Rattle.expr_sem.specs.Fragments.{IsMade, part};
 ghost use Rattle.expr_sem.specs.Refusals.{code_of};
+ghost use Rattle.expr_sem.specs.declared.arguments.ElementFit.TheVariants.{Broken};
 ghost use Rattle.expr_sem.specs.declared.fragments.Node.{Node};
-ghost use Rattle.type_rules.specs.Scenes.{IsThere};
+ghost use Rattle.type_rules.specs.Asks.{Reads, WhereKnown, WhereWaiting};
+ghost use Rattle.type_rules.specs.Scenes.{IsSaid, IsThere, Suits, WhereTold, scene_of};
 ghost use Rattle.type_rules.specs.Sites.{SuitsSite};
 
 use crate::answers::answered;
@@ -22,7 +24,8 @@ use crate::fitting::fitted_code;
 use crate::fragments::{Fragment, Fragments};
 use crate::refusals::{Refusal, refused};
 use crate::values::{assigned_to, characters};
-use m2_base::{Ask, Memory, Notes, Operand, Place, Scopes, Site};
+use const_eval::is_broken;
+use m2_base::{Around, Ask, Memory, Notes, Operand, Place, RowMeaning, Scopes, Site};
 use type_rules::{same, size_of};
 
 /// A parameter: its type, and whether it is a VAR parameter.
@@ -30,6 +33,17 @@ use type_rules::{same, size_of};
 pub struct Parameter {
     pub of: Place,
     pub by_ref: bool,
+}
+
+/// How the elements of an array are beside the type that is wanted.
+#[derive(Clone, Copy, Debug, PartialEq, Eq)]
+pub enum ElementFit {
+    /// They are in error.
+    Broken,
+    /// They are of that type.
+    Alike,
+    /// They are of another type, or there are none.
+    Other,
 }
 
 /// The code of an argument that is a fragment.
@@ -152,6 +166,84 @@ fn by_address<S: Scopes>(
         Ask::Known(true) => Ok(Ask::Known(Some(x.code))),
         Ask::Known(false) => refused_argument(site, at, Refusal::WrongArgument, notes),
         Ask::DontKnowYet(head) => Ok(Ask::DontKnowYet(head)),
+    }
+}
+
+/// How elements are beside the type that is wanted.
+#[tactic(auto, using(type_rules::proofs::Reading::reading))]
+fn element_fit<S: Scopes>(
+    scopes: &mut S,
+    around: &Around,
+    want: Place,
+    element: Place,
+) -> Ask<ElementFit>
+    requires suits { Suits (S.state scopes.old).frame around.now }
+    requires want { IsThere (S.state scopes.old).frame want }
+    requires element { IsThere (S.state scopes.old).frame element }
+    ensures reads { Reads (S.state scopes.old) (S.state scopes.new) }
+    ensures waits { WhereWaiting result (λ head. Waits (S.state scopes.old) (S.state scopes.new) head) }
+    ensures told { WhereTold (S.state scopes.old).frame (λ made.
+        WhereKnown result (λ fit. fit ≡ spec_element_fit (scene_of (S.state scopes.old).frame made around.now) want element)) }
+{
+    if known!(is_broken(scopes, around, element)) {
+        return Ask::Known(ElementFit::Broken);
+    }
+    if known!(same(scopes, around, element, want)) {
+        Ask::Known(ElementFit::Alike)
+    } else {
+        Ask::Known(ElementFit::Other)
+    }
+}
+
+/// How the elements of a fixed array are beside the type that is wanted.
+#[tactic(auto, using(type_rules::proofs::Reading::reading))]
+fn fixed_array_fit<S: Scopes>(
+    scopes: &mut S,
+    around: &Around,
+    want: Place,
+    index: Place,
+    element: Place,
+) -> Ask<ElementFit>
+    requires suits { Suits (S.state scopes.old).frame around.now }
+    requires want { IsThere (S.state scopes.old).frame want }
+    requires index { IsThere (S.state scopes.old).frame index }
+    requires element { IsThere (S.state scopes.old).frame element }
+    ensures reads { Reads (S.state scopes.old) (S.state scopes.new) }
+    ensures waits { WhereWaiting result (λ head. Waits (S.state scopes.old) (S.state scopes.new) head) }
+    ensures told { WhereTold (S.state scopes.old).frame (λ made.
+        WhereKnown result (λ fit. let scene = scene_of (S.state scopes.old).frame made around.now in fit ≡ (if spec_broken scene index then Broken else spec_element_fit scene want element))) }
+{
+    if known!(is_broken(scopes, around, index)) {
+        return Ask::Known(ElementFit::Broken);
+    }
+    element_fit(scopes, around, want, element)
+}
+
+/// How the elements of an array are beside the type that is wanted, by what its row says.
+#[tactic(auto, using(type_rules::proofs::Reading::reading))]
+fn array_fit<S: Scopes>(
+    scopes: &mut S,
+    around: &Around,
+    want: Place,
+    place: Place,
+    kind: RowMeaning,
+) -> Ask<ElementFit>
+    requires suits { Suits (S.state scopes.old).frame around.now }
+    requires want { IsThere (S.state scopes.old).frame want }
+    requires place { IsThere (S.state scopes.old).frame place }
+    requires said { IsSaid (S.state scopes.old).frame place kind }
+    ensures reads { Reads (S.state scopes.old) (S.state scopes.new) }
+    ensures waits { WhereWaiting result (λ head. Waits (S.state scopes.old) (S.state scopes.new) head) }
+    ensures told { WhereTold (S.state scopes.old).frame (λ made.
+        WhereKnown result (λ fit. fit ≡ spec_array_fit (scene_of (S.state scopes.old).frame made around.now) want kind)) }
+{
+    let _place = place.scope;
+    match kind {
+        RowMeaning::Array(index, element, _) => {
+            fixed_array_fit(scopes, around, want, index, element)
+        }
+        RowMeaning::OpenArray(element) => element_fit(scopes, around, want, element),
+        _ => Ask::Known(ElementFit::Other),
     }
 }
 
