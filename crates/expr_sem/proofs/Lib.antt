@@ -20,3 +20,4 @@ pub mod ValueCases
 pub mod PieceParts
 pub mod Stacked
 pub mod ArgumentCases
+pub mod Selecting

@@ -1,26 +1,22 @@
 -- What comes after code whose value is known: a value or a fragment made of it, or further code.
-use Rattle.std.proofs.Common.{◌≡◌, ◌∙◌, List, Option, Result, Ok, Err, true, false, ap, sym, subst, refl}
+use Rattle.std.proofs.Common.{◌≡◌, ◌∙◌, List, Result, Ok, Err, true, false, ap, sym, subst}
 use Rattle.std.specs.Prelude.{IsErr}
 use Rattle.m2_base.specs.Gives.{Gives, gives}
 use Rattle.m2_base.specs.States.{Frame, State}
 use Rattle.m2_base.specs.Statics.Contexts.{Context}
 use Rattle.m2_base.specs.declared.memory.Memory.{Memory}
 use Rattle.m2_base.specs.declared.notes.Notes.{Notes}
-use Rattle.m2_base.specs.declared.operands.Operand.{Operand}
 use Rattle.m2_base.specs.declared.replies.Ask.{Ask}
 use Rattle.m2_base.specs.declared.replies.Ask.TheVariants.{Known}
-use Rattle.m2_base.specs.declared.rows.Place.{Place}
 use Rattle.m2_base.specs.declared.sites.Site.{Site}
-use Rattle.type_rules.specs.Scenes.{IsThere}
 use Rattle.type_rules.specs.Sites.{SuitsSite, context_of}
-use Rattle.const_eval.specs.Sites.{IsOperand}
 use Rattle.expr_sem.specs.Codings.{Coding, IsCoded, IsFragment}
 use Rattle.expr_sem.specs.Fragments.{Grows, IsIn, IsMade, part}
 use Rattle.expr_sem.specs.Parts.{Part}
 use Rattle.expr_sem.specs.declared.coded.Coded.{Coded}
 use Rattle.expr_sem.specs.declared.fragments.Fragment.{Fragment}
 use Rattle.expr_sem.specs.declared.fragments.Node.{Node}
-use Rattle.expr_sem.proofs.Sequencing.{Grows-refl, Grows-trans, in_later, part_later}
+use Rattle.expr_sem.proofs.Sequencing.{Grows-trans, in_later}
 use Rattle.expr_sem.proofs.Operating.{made_wanted, stays_coded}
 
 module _ {T U V W : Type 0} {a b : State} {x y : Notes} {n1 n2 n3 : List Node} {s : Site} {P : Frame → List Node → T → Type 0} {as_p : List Node → T → V} {f : Context → V} {v : T} where

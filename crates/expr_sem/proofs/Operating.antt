@@ -1,5 +1,5 @@
 -- Codings one after another, as operators and sets use them.
-use Rattle.std.proofs.Common.{◌≡◌, ◌∙◌, ◌++◌, ◌∷◌, [], ℕ, List, Option, Some, None, Result, Ok, Err, ap, sym, subst, refl}
+use Rattle.std.proofs.Common.{◌≡◌, ◌∙◌, List, Option, Some, None, Result, Ok, Err, ap, sym, subst, refl}
 use Rattle.std.specs.Option.{IfSome}
 use Rattle.m2_base.specs.Asks.{IfKnown, IfWaits}
 use Rattle.m2_base.specs.Gives.{Adds, Gives, and_then, gives}
@@ -19,8 +19,7 @@ use Rattle.type_rules.proofs.Compatibles.{told_later}
 use Rattle.const_eval.specs.Analyses.{Analysed}
 use Rattle.const_eval.specs.Sites.{IsOperand}
 use Rattle.expr_sem.specs.Codings.{Coding, IsCoded, IsFragment, coded_in, high_in}
-use Rattle.expr_sem.specs.Coded as code
-use Rattle.expr_sem.specs.Fragments.{Grows, IsFragmentOf, IsIn, IsMade, MadeBy, part}
+use Rattle.expr_sem.specs.Fragments.{Grows, IsIn, IsMade, part}
 use Rattle.expr_sem.specs.Parts.{Part}
 use Rattle.expr_sem.specs.declared.coded.Coded.{Coded}
 use Rattle.expr_sem.specs.declared.fragments.Fragment.{Fragment}

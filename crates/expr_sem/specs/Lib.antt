@@ -27,3 +27,4 @@ pub mod SetCodings
 pub mod MadeAnswers
 pub mod ArgumentFits
 pub mod Callees
+pub mod Selections

@@ -1,11 +1,112 @@
 //! Elements of arrays, and what pointers point to.
+ghost use Rattle.std.specs.Prelude.{◌≡◌, ◌∷◌, [], ◌<◌, ◌^◌, ◌||◌, IfOk, if◌then◌else◌, option_map};
+ghost use Rattle.std.specs.Option.{IfSome};
+ghost use Rattle.m2_base.specs.Gives.{and_then, gives};
+ghost use Rattle.m2_base.specs.Rows.{IsValue};
+ghost use Rattle.m2_base.specs.Standard.{cardinal};
+ghost use Rattle.m2_base.specs.States.{Waits};
+ghost use Rattle.m2_base.specs.Statics.Diagnostics.{not_assignable};
+ghost use Rattle.m2_base.specs.Statics.Operands.{is_bad as spec_bad};
+ghost use Rattle.m2_base.specs.Statics.Ranges.{count_of, range};
+ghost use Rattle.m2_base.specs.Statics.TypeParts.{named_target, target_of as spec_target_of};
+ghost use Rattle.m2_base.specs.Statics.Types.{is_broken as spec_broken, kind_of, meaning_at, size_of as spec_size, range_of as spec_range};
+ghost use Rattle.m2_base.specs.declared.notes.Notes.{Notes as NotesOf};
+ghost use Rattle.m2_base.specs.declared.operands.Operand.TheVariants.{Variable};
+ghost use Rattle.code_form.specs.declared.instr.Instr.TheVariants.{IndexOpen, Load, Nil};
+ghost use Rattle.type_rules.specs.Asks.{Reads, WhereKnown, WhereWaiting};
+ghost use Rattle.type_rules.specs.Scenes.{IsThere, Suits, WhereTold, scene_of};
 ghost use Rattle.type_rules.specs.Sites.{SuitsSite};
-ghost use Rattle.expr_sem.specs.Codings.{Coding, IsCoded, coded_in};
-ghost use Rattle.expr_sem.specs.Elements.{select_element as spec_element, select_target as spec_target};
+ghost use Rattle.const_eval.specs.Sites.{IsOperand};
+ghost use Rattle.expr_sem.specs.Coded.{coded, in_error as spec_in_error, value_code as spec_value};
+ghost use Rattle.expr_sem.specs.Codings.{Coding, IsCoded, coded_in, high_in};
+ghost use Rattle.expr_sem.specs.Elements.{element_of_array as spec_of_array, element_of_open as spec_of_open, index_instr as spec_index, of_array as spec_array, of_pointer as spec_pointer, select_element as spec_element, select_target as spec_target};
+ghost use Rattle.expr_sem.specs.Fragments.{IsIn, IsMade, part};
+ghost use Rattle.expr_sem.specs.Parts.{plain, ◌⨟◌};
+ghost use Rattle.expr_sem.specs.Selections.{pointed as spec_pointed};
+ghost use Rattle.expr_sem.specs.Values.{assigned_to as spec_assigned};
 
 use crate::coded::{Coded, Placed};
-use crate::fragments::Fragments;
-use m2_base::{Ask, Memory, Notes, Scopes, Site};
+use crate::designated::{pair, variable_at};
+use crate::fragments::{Fragment, Fragments};
+use crate::refusals::{Refusal, refused};
+use crate::values::{assigned_to, value_code};
+use code_form::Instr;
+use const_eval::{is_bad, is_broken};
+use m2_base::{Around, Ask, Memory, Notes, Operand, Place, RowMeaning, Scopes, Site, read_row};
+use type_rules::{CARDINAL, range_of, row_at, size_of, stand};
+
+/// The type that a pointer's row leads to: where that names a row of a type's name, the type of this.
+#[tactic(auto, using(type_rules::proofs::Reading::reading))]
+fn target_named<S: Scopes>(scopes: &mut S, around: &Around, to: Place) -> Ask<Place>
+    requires suits { Suits (S.state scopes.old).frame around.now }
+    requires to { IsThere (S.state scopes.old).frame to }
+    ensures reads { Reads (S.state scopes.old) (S.state scopes.new) }
+    ensures waits { WhereWaiting result (λ head. Waits (S.state scopes.old) (S.state scopes.new) head) }
+    ensures told { WhereTold (S.state scopes.old).frame (λ made.
+        WhereKnown result (λ target. target ≡ named_target to (meaning_at (scene_of (S.state scopes.old).frame made around.now) to))) }
+    ensures there { WhereKnown result (λ target. IsThere (S.state scopes.old).frame target) }
+{
+    let row = known!(row_at(scopes, around, to));
+    match read_row(&row) {
+        RowMeaning::TypeName(of) => Ask::Known(of),
+        _ => Ask::Known(to),
+    }
+}
+
+/// The address that a pointer has, by the code of the pointer's own address: it must not be NIL.
+fn target_code(code: Fragment, fragments: &mut Fragments) -> Result<Fragment, Memory>
+    requires there { IsIn fragments.old.nodes.items code }
+    ensures { IsMade fragments.old.nodes.items fragments.new.nodes.items result (part fragments.old.nodes.items code ⨟ plain (Load ∷ Nil ∷ [])) }
+{
+    let loaded = pair(Instr::Load, Instr::Nil, fragments)?;
+    fragments.then(code, loaded)
+}
+
+/// What a pointer points to whose row leads to this place, unless its type is in error.
+fn pointed<S: Scopes>(
+    scopes: &mut S,
+    site: &Site,
+    to: Place,
+    code: Fragment,
+    fragments: &mut Fragments,
+) -> Result<Ask<Coded>, Memory>
+    requires suits { SuitsSite (S.state scopes.old).frame site.now }
+    requires to { IsThere (S.state scopes.old).frame to }
+    requires code { IsIn fragments.old.nodes.items code }
+    ensures { (notes : NotesOf) → Coding (S.state scopes.old) (S.state scopes.new) notes notes fragments.old.nodes.items fragments.new.nodes.items site.now result IsCoded coded_in (λ c. spec_pointed c.scene (part fragments.old.nodes.items code) (named_target to (meaning_at c.scene to))) }
+{
+    let of = asked!(target_named(scopes, site.around, to));
+    if asked!(is_broken(scopes, site.around, of)) {
+        return Ok(Ask::Known(Coded::in_error()));
+    }
+    variable_at(of, target_code(code, fragments))
+}
+
+/// What a variable of this type points to. A pointer may lead to a type that is declared later: only statements ask for what
+/// it points to, and elsewhere the error is that memory is wanted, which comes about in no module.
+fn of_pointer<S: Scopes>(
+    scopes: &mut S,
+    site: &Site,
+    at: u32,
+    of: Place,
+    code: Fragment,
+    fragments: &mut Fragments,
+    notes: &mut Notes,
+) -> Result<Ask<Coded>, Memory>
+    requires suits { SuitsSite (S.state scopes.old).frame site.now }
+    requires of { IsThere (S.state scopes.old).frame of }
+    requires code { IsIn fragments.old.nodes.items code }
+    ensures { Coding (S.state scopes.old) (S.state scopes.new) notes.old notes.new fragments.old.nodes.items fragments.new.nodes.items site.now result IsCoded coded_in (λ c. spec_pointer c at (part fragments.old.nodes.items code) of (kind_of c.scene of)) }
+{
+    if site.item.is_some() {
+        return Err(Memory);
+    }
+    let (_, meaning) = asked!(stand(scopes, site.around, of));
+    match meaning {
+        RowMeaning::Pointer(to) => pointed(scopes, site, to, code, fragments),
+        _ => refused(site, at, Refusal::NotAPointer, notes),
+    }
+}
 
 /// What a pointer points to. `first` is the designator's first token, `at` the arrow.
 pub fn select_target<S: Scopes>(
@@ -21,7 +122,355 @@ pub fn select_target<S: Scopes>(
     requires x { IsCoded (S.state scopes.old).frame fragments.old.nodes.items x }
     ensures { Coding (S.state scopes.old) (S.state scopes.new) notes.old notes.new fragments.old.nodes.items fragments.new.nodes.items site.now result IsCoded coded_in (λ c. spec_target c first at (coded_in fragments.old.nodes.items x)) }
 {
-    Err(Memory)
+    match x.operand {
+        Operand::Variable(of) => of_pointer(scopes, site, at, of, x.code, fragments, notes),
+        Operand::InError => Ok(Ask::Known(Coded::in_error())),
+        Operand::NotConstant => Ok(Ask::Known(Coded::in_error())),
+        _ => refused(site, first, Refusal::NotAVariable, notes),
+    }
+}
+
+/// How many numbers there are from the first of these to the second; none where the number has no 32 bits.
+fn count_between(low: i64, high: i64) -> Option<u32>
+    requires low { IsValue low }
+    requires high { IsValue high }
+    ensures { IfSome result (λ count. count ≡ count_of (range low high)) }
+{
+    if high < low {
+        return Some(0);
+    }
+    u32::try_from(high - low + 1).ok()
+}
+
+/// The instruction that finds an element of this size by an index of a type with these ends. A type with more than 32 bits of
+/// values comes about in no module: there the error is that memory is wanted.
+fn index_instr(ends: Option<(i64, i64)>, size: u32) -> Result<Instr, Memory>
+    requires { IfSome ends (λ ends. IsValue ends.0 × IsValue ends.1) }
+    ensures { IfOk result (λ instr. instr ≡ spec_index (option_map (λ ends. range ends.0 ends.1) ends) size) }
+{
+    match ends {
+        None => Ok(Instr::Index(0, 0, size)),
+        Some(ends) => match count_between(ends.0, ends.1) {
+            Some(count) => Ok(Instr::Index(ends.0, count, size)),
+            None => Err(Memory),
+        },
+    }
+}
+
+/// The address of an element: that of the array, the index, and the instruction that finds it.
+fn element_code(
+    code: Fragment,
+    value: Fragment,
+    find: Instr,
+    fragments: &mut Fragments,
+) -> Result<Fragment, Memory>
+    requires code { IsIn fragments.old.nodes.items code }
+    requires value { IsIn fragments.old.nodes.items value }
+    ensures { IsMade fragments.old.nodes.items fragments.new.nodes.items result (part fragments.old.nodes.items code ⨟ part fragments.old.nodes.items value ⨟ plain (find ∷ [])) }
+{
+    let last = fragments.one(find)?;
+    let found = fragments.then(value, last)?;
+    fragments.then(code, found)
+}
+
+/// Whether an index or the type of the elements is in error.
+#[tactic(auto, using(type_rules::proofs::Reading::reading))]
+fn is_spoilt<S: Scopes>(scopes: &mut S, around: &Around, index: Operand, of: Place) -> Ask<bool>
+    requires suits { Suits (S.state scopes.old).frame around.now }
+    requires of { IsThere (S.state scopes.old).frame of }
+    ensures reads { Reads (S.state scopes.old) (S.state scopes.new) }
+    ensures waits { WhereWaiting result (λ head. Waits (S.state scopes.old) (S.state scopes.new) head) }
+    ensures told { WhereTold (S.state scopes.old).frame (λ made.
+        WhereKnown result (λ holds. holds ≡ (spec_bad index || spec_broken (scene_of (S.state scopes.old).frame made around.now) of))) }
+{
+    if is_bad(index) {
+        return Ask::Known(true);
+    }
+    is_broken(scopes, around, of)
+}
+
+/// The ends of an index type, and the size of the elements.
+#[tactic(auto, using(type_rules::proofs::Reading::reading))]
+fn extent<S: Scopes>(
+    scopes: &mut S,
+    around: &Around,
+    index: Place,
+    of: Place,
+) -> Ask<(Option<(i64, i64)>, u32)>
+    requires suits { Suits (S.state scopes.old).frame around.now }
+    requires index { IsThere (S.state scopes.old).frame index }
+    requires of { IsThere (S.state scopes.old).frame of }
+    ensures reads { Reads (S.state scopes.old) (S.state scopes.new) }
+    ensures waits { WhereWaiting result (λ head. Waits (S.state scopes.old) (S.state scopes.new) head) }
+    ensures ends { WhereTold (S.state scopes.old).frame (λ made.
+        WhereKnown result (λ given. option_map (λ ends. range ends.0 ends.1) given.0 ≡ spec_range (scene_of (S.state scopes.old).frame made around.now) index)) }
+    ensures size { WhereTold (S.state scopes.old).frame (λ made.
+        WhereKnown result (λ given. given.1 ≡ spec_size (scene_of (S.state scopes.old).frame made around.now) of)) }
+    ensures values { WhereKnown result (λ given. IfSome given.0 (λ ends. IsValue ends.0 × IsValue ends.1)) }
+{
+    let ends = known!(range_of(scopes, around, index));
+    let size = known!(cells_of(scopes, around, of));
+    Ask::Known((ends, size))
+}
+
+/// The element of an array that this instruction finds, by its index.
+fn element_found<S: Scopes>(
+    scopes: &mut S,
+    site: &Site,
+    of: Place,
+    index: Coded,
+    code: Fragment,
+    find: Instr,
+    fragments: &mut Fragments,
+) -> Result<Ask<Coded>, Memory>
+    requires suits { SuitsSite (S.state scopes.old).frame site.now }
+    requires of { IsThere (S.state scopes.old).frame of }
+    requires index { IsCoded (S.state scopes.old).frame fragments.old.nodes.items index }
+    requires code { IsIn fragments.old.nodes.items code }
+    ensures { (notes : NotesOf) → Coding (S.state scopes.old) (S.state scopes.new) notes notes fragments.old.nodes.items fragments.new.nodes.items site.now result IsCoded coded_in (λ c. gives (coded (Variable of) (part fragments.old.nodes.items code ⨟ spec_value c (coded_in fragments.old.nodes.items index) ⨟ plain (find ∷ [])))) }
+{
+    let value = analysed!(value_code(scopes, site, index, fragments));
+    variable_at(of, element_code(code, value, find, fragments))
+}
+
+/// The element of an array of these indices.
+fn indexed<S: Scopes>(
+    scopes: &mut S,
+    site: &Site,
+    indices: Place,
+    of: Place,
+    index: Coded,
+    code: Fragment,
+    fragments: &mut Fragments,
+) -> Result<Ask<Coded>, Memory>
+    requires suits { SuitsSite (S.state scopes.old).frame site.now }
+    requires indices { IsThere (S.state scopes.old).frame indices }
+    requires of { IsThere (S.state scopes.old).frame of }
+    requires index { IsCoded (S.state scopes.old).frame fragments.old.nodes.items index }
+    requires code { IsIn fragments.old.nodes.items code }
+    ensures { (notes : NotesOf) → Coding (S.state scopes.old) (S.state scopes.new) notes notes fragments.old.nodes.items fragments.new.nodes.items site.now result IsCoded coded_in (λ c. gives (coded (Variable of) (part fragments.old.nodes.items code ⨟ spec_value c (coded_in fragments.old.nodes.items index) ⨟ plain (spec_index (spec_range c.scene indices) (spec_size c.scene of) ∷ [])))) }
+{
+    let found = asked!(extent(scopes, site.around, indices, of));
+    match index_instr(found.0, found.1) {
+        Ok(find) => element_found(scopes, site, of, index, code, find, fragments),
+        Err(memory) => Err(memory),
+    }
+}
+
+/// The element of an array, by its index, unless one of them is in error.
+fn element_of_array<S: Scopes>(
+    scopes: &mut S,
+    site: &Site,
+    indices: Place,
+    of: Place,
+    index: Coded,
+    x: Coded,
+    fragments: &mut Fragments,
+) -> Result<Ask<Coded>, Memory>
+    requires suits { SuitsSite (S.state scopes.old).frame site.now }
+    requires indices { IsThere (S.state scopes.old).frame indices }
+    requires of { IsThere (S.state scopes.old).frame of }
+    requires index { IsCoded (S.state scopes.old).frame fragments.old.nodes.items index }
+    requires x { IsCoded (S.state scopes.old).frame fragments.old.nodes.items x }
+    ensures { (notes : NotesOf) → Coding (S.state scopes.old) (S.state scopes.new) notes notes fragments.old.nodes.items fragments.new.nodes.items site.now result IsCoded coded_in (λ c. spec_of_array c (coded_in fragments.old.nodes.items x) indices of (coded_in fragments.old.nodes.items index)) }
+{
+    if asked!(is_spoilt(scopes, site.around, index.operand, of)) {
+        return Ok(Ask::Known(Coded::in_error()));
+    }
+    indexed(scopes, site, indices, of, index, x.code, fragments)
+}
+
+/// The code of the number of an open array's elements less 1.
+fn high_or_none(high: Option<Fragment>, fragments: &mut Fragments) -> Result<Fragment, Memory>
+    requires there { IfSome high (λ h. IsIn fragments.old.nodes.items h) }
+    ensures { IsMade fragments.old.nodes.items fragments.new.nodes.items result (high_in fragments.old.nodes.items high) }
+{
+    match high {
+        Some(high) => Ok(high),
+        None => fragments.one(Instr::Push(0)),
+    }
+}
+
+/// The address of an element of an open array: that of the array, the number of its elements less 1, the index, and the
+/// instruction that finds it.
+fn open_code(
+    x: Coded,
+    value: Fragment,
+    size: u32,
+    fragments: &mut Fragments,
+) -> Result<Fragment, Memory>
+    requires code { IsIn fragments.old.nodes.items x.code }
+    requires high { IfSome x.high (λ h. IsIn fragments.old.nodes.items h) }
+    requires value { IsIn fragments.old.nodes.items value }
+    ensures { IsMade fragments.old.nodes.items fragments.new.nodes.items result (part fragments.old.nodes.items x.code ⨟ high_in fragments.old.nodes.items x.high ⨟ part fragments.old.nodes.items value ⨟ plain (IndexOpen size ∷ [])) }
+{
+    let high = high_or_none(x.high, fragments)?;
+    let found = element_code(high, value, Instr::IndexOpen(size), fragments)?;
+    fragments.then(x.code, found)
+}
+
+/// The element of an open array whose elements have this size.
+fn open_found<S: Scopes>(
+    scopes: &mut S,
+    site: &Site,
+    of: Place,
+    size: u32,
+    index: Coded,
+    x: Coded,
+    fragments: &mut Fragments,
+) -> Result<Ask<Coded>, Memory>
+    requires suits { SuitsSite (S.state scopes.old).frame site.now }
+    requires of { IsThere (S.state scopes.old).frame of }
+    requires index { IsCoded (S.state scopes.old).frame fragments.old.nodes.items index }
+    requires x { IsCoded (S.state scopes.old).frame fragments.old.nodes.items x }
+    ensures { (notes : NotesOf) → Coding (S.state scopes.old) (S.state scopes.new) notes notes fragments.old.nodes.items fragments.new.nodes.items site.now result IsCoded coded_in (λ c. gives (coded (Variable of) (part fragments.old.nodes.items x.code ⨟ high_in fragments.old.nodes.items x.high ⨟ spec_value c (coded_in fragments.old.nodes.items index) ⨟ plain (IndexOpen size ∷ [])))) }
+{
+    let value = analysed!(value_code(scopes, site, index, fragments));
+    variable_at(of, open_code(x, value, size, fragments))
+}
+
+/// The cells of a type.
+#[tactic(auto, using(type_rules::proofs::Reading::reading))]
+fn cells_of<S: Scopes>(scopes: &mut S, around: &Around, of: Place) -> Ask<u32>
+    requires suits { Suits (S.state scopes.old).frame around.now }
+    requires of { IsThere (S.state scopes.old).frame of }
+    ensures reads { Reads (S.state scopes.old) (S.state scopes.new) }
+    ensures waits { WhereWaiting result (λ head. Waits (S.state scopes.old) (S.state scopes.new) head) }
+    ensures told { WhereTold (S.state scopes.old).frame (λ made.
+        WhereKnown result (λ size. size ≡ spec_size (scene_of (S.state scopes.old).frame made around.now) of)) }
+{
+    let size = known!(size_of(scopes, around, of));
+    Ask::Known(size as u32)
+}
+
+/// The element of an open array, by its index.
+fn open_indexed<S: Scopes>(
+    scopes: &mut S,
+    site: &Site,
+    of: Place,
+    index: Coded,
+    x: Coded,
+    fragments: &mut Fragments,
+) -> Result<Ask<Coded>, Memory>
+    requires suits { SuitsSite (S.state scopes.old).frame site.now }
+    requires of { IsThere (S.state scopes.old).frame of }
+    requires index { IsCoded (S.state scopes.old).frame fragments.old.nodes.items index }
+    requires x { IsCoded (S.state scopes.old).frame fragments.old.nodes.items x }
+    ensures { (notes : NotesOf) → Coding (S.state scopes.old) (S.state scopes.new) notes notes fragments.old.nodes.items fragments.new.nodes.items site.now result IsCoded coded_in (λ c. gives (coded (Variable of) (part fragments.old.nodes.items x.code ⨟ high_in fragments.old.nodes.items x.high ⨟ spec_value c (coded_in fragments.old.nodes.items index) ⨟ plain (IndexOpen (spec_size c.scene of) ∷ [])))) }
+{
+    let size = asked!(cells_of(scopes, site.around, of));
+    open_found(scopes, site, of, size, index, x, fragments)
+}
+
+/// The element of an open array, by its index, unless one of them is in error.
+fn element_of_open<S: Scopes>(
+    scopes: &mut S,
+    site: &Site,
+    of: Place,
+    index: Coded,
+    x: Coded,
+    fragments: &mut Fragments,
+) -> Result<Ask<Coded>, Memory>
+    requires suits { SuitsSite (S.state scopes.old).frame site.now }
+    requires of { IsThere (S.state scopes.old).frame of }
+    requires index { IsCoded (S.state scopes.old).frame fragments.old.nodes.items index }
+    requires x { IsCoded (S.state scopes.old).frame fragments.old.nodes.items x }
+    ensures { (notes : NotesOf) → Coding (S.state scopes.old) (S.state scopes.new) notes notes fragments.old.nodes.items fragments.new.nodes.items site.now result IsCoded coded_in (λ c. spec_of_open c (coded_in fragments.old.nodes.items x) of (coded_in fragments.old.nodes.items index)) }
+{
+    if asked!(is_spoilt(scopes, site.around, index.operand, of)) {
+        return Ok(Ask::Known(Coded::in_error()));
+    }
+    open_indexed(scopes, site, of, index, x, fragments)
+}
+
+/// The element of an array by an index that its index type takes.
+fn array_element<S: Scopes>(
+    scopes: &mut S,
+    site: &Site,
+    indices: Place,
+    of: Place,
+    index: Placed,
+    x: Coded,
+    fragments: &mut Fragments,
+    notes: &mut Notes,
+) -> Result<Ask<Coded>, Memory>
+    requires suits { SuitsSite (S.state scopes.old).frame site.now }
+    requires indices { IsThere (S.state scopes.old).frame indices }
+    requires of { IsThere (S.state scopes.old).frame of }
+    requires index { IsCoded (S.state scopes.old).frame fragments.old.nodes.items index.coded }
+    requires x { IsCoded (S.state scopes.old).frame fragments.old.nodes.items x }
+    ensures { Coding (S.state scopes.old) (S.state scopes.new) notes.old notes.new fragments.old.nodes.items fragments.new.nodes.items site.now result IsCoded coded_in (λ c. and_then (spec_assigned c indices index.at not_assignable (coded_in fragments.old.nodes.items index.coded)) (spec_of_array c (coded_in fragments.old.nodes.items x) indices of)) }
+{
+    let refusal = Refusal::NotAssignable;
+    let taken = analysed!(assigned_to(
+        scopes,
+        site,
+        indices,
+        index.at,
+        refusal,
+        index.coded,
+        notes
+    ));
+    element_of_array(scopes, site, indices, of, taken, x, fragments)
+}
+
+/// The element of an open array by an index that a CARDINAL takes.
+#[tactic(auto, using(const_eval::proofs::TypesThere::there))]
+fn open_element<S: Scopes>(
+    scopes: &mut S,
+    site: &Site,
+    of: Place,
+    index: Placed,
+    x: Coded,
+    fragments: &mut Fragments,
+    notes: &mut Notes,
+) -> Result<Ask<Coded>, Memory>
+    requires suits { SuitsSite (S.state scopes.old).frame site.now }
+    requires of { IsThere (S.state scopes.old).frame of }
+    requires index { IsCoded (S.state scopes.old).frame fragments.old.nodes.items index.coded }
+    requires x { IsCoded (S.state scopes.old).frame fragments.old.nodes.items x }
+    ensures { Coding (S.state scopes.old) (S.state scopes.new) notes.old notes.new fragments.old.nodes.items fragments.new.nodes.items site.now result IsCoded coded_in (λ c. and_then (spec_assigned c cardinal index.at not_assignable (coded_in fragments.old.nodes.items index.coded)) (spec_of_open c (coded_in fragments.old.nodes.items x) of)) }
+{
+    let refusal = Refusal::NotAssignable;
+    let taken = analysed!(assigned_to(
+        scopes,
+        site,
+        CARDINAL,
+        index.at,
+        refusal,
+        index.coded,
+        notes
+    ));
+    element_of_open(scopes, site, of, taken, x, fragments)
+}
+
+/// The element of a variable of this type, by its index.
+fn of_array<S: Scopes>(
+    scopes: &mut S,
+    site: &Site,
+    at: u32,
+    of: Place,
+    index: Placed,
+    x: Coded,
+    fragments: &mut Fragments,
+    notes: &mut Notes,
+) -> Result<Ask<Coded>, Memory>
+    requires suits { SuitsSite (S.state scopes.old).frame site.now }
+    requires of { IsThere (S.state scopes.old).frame of }
+    requires index { IsCoded (S.state scopes.old).frame fragments.old.nodes.items index.coded }
+    requires x { IsCoded (S.state scopes.old).frame fragments.old.nodes.items x }
+    ensures { Coding (S.state scopes.old) (S.state scopes.new) notes.old notes.new fragments.old.nodes.items fragments.new.nodes.items site.now result IsCoded coded_in (λ c. spec_array c at (coded_in fragments.old.nodes.items x) index.at (coded_in fragments.old.nodes.items index.coded) (kind_of c.scene of)) }
+{
+    let (_, meaning) = asked!(stand(scopes, site.around, of));
+    match meaning {
+        RowMeaning::Array(indices, elements, _) => {
+            array_element(scopes, site, indices, elements, index, x, fragments, notes)
+        }
+        RowMeaning::OpenArray(elements) => {
+            open_element(scopes, site, elements, index, x, fragments, notes)
+        }
+        _ => refused(site, at, Refusal::NotAnArray, notes),
+    }
 }
 
 /// The element of an array by one index. `first` is the designator's first token, `at` the bracket.
@@ -40,5 +489,10 @@ pub fn select_element<S: Scopes>(
     requires x { IsCoded (S.state scopes.old).frame fragments.old.nodes.items x }
     ensures { Coding (S.state scopes.old) (S.state scopes.new) notes.old notes.new fragments.old.nodes.items fragments.new.nodes.items site.now result IsCoded coded_in (λ c. spec_element c first at index.at (coded_in fragments.old.nodes.items index.coded) (coded_in fragments.old.nodes.items x)) }
 {
-    Err(Memory)
+    match x.operand {
+        Operand::Variable(of) => of_array(scopes, site, at, of, index, x, fragments, notes),
+        Operand::InError => Ok(Ask::Known(Coded::in_error())),
+        Operand::NotConstant => Ok(Ask::Known(Coded::in_error())),
+        _ => refused(site, first, Refusal::NotAVariable, notes),
+    }
 }

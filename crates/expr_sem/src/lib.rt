@@ -29,11 +29,22 @@ macro_rules! analysed {
     };
 }
 
+/// The answer to a question, or the end of an analysis where it isn't known yet.
+macro_rules! asked {
+    ($asked:expr) => {
+        match $asked {
+            Ask::Known(value) => value,
+            Ask::DontKnowYet(head) => return Ok(Ask::DontKnowYet(head)),
+        }
+    };
+}
+
 mod answers;
 mod appending;
 mod arguments;
 mod calls;
 mod coded;
+mod designated;
 mod elements;
 mod fitting;
 mod fragments;

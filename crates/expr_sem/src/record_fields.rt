@@ -1,15 +1,184 @@
 //! Names where a designator begins, and names behind a point.
-ghost use Rattle.std.specs.Prelude.{◌≢◌};
+ghost use Rattle.std.specs.Prelude.{◌≡◌, ◌≢◌, ◌<◌, if◌then◌else◌, option_map};
+ghost use Rattle.std.specs.Option.{IfSome};
+ghost use Rattle.m2_base.specs.Gives.{and_then, gives};
 ghost use Rattle.m2_base.specs.Lists.{Each};
-ghost use Rattle.type_rules.specs.Scenes.{IsThere};
+ghost use Rattle.m2_base.specs.Rows.{row_meaning};
+ghost use Rattle.m2_base.specs.States.{Waits, fills_of};
+ghost use Rattle.m2_base.specs.Statics.TypeParts.{field_of as spec_field_of};
+ghost use Rattle.m2_base.specs.Statics.Types.{is_broken as spec_broken, kind_of};
+ghost use Rattle.m2_base.specs.Statics.Uses.{use_of};
+ghost use Rattle.m2_base.specs.declared.notes.Notes.{Notes as NotesOf};
+ghost use Rattle.m2_base.specs.declared.operands.Operand.TheVariants.{Variable};
+ghost use Rattle.type_rules.specs.Asks.{Reads, WhereKnown, WhereWaiting};
+ghost use Rattle.type_rules.specs.Scenes.{IsThere, Suits, WhereTold, scene_of};
 ghost use Rattle.type_rules.specs.Sites.{SuitsSite};
+ghost use Rattle.expr_sem.specs.Coded.{coded, in_error as spec_in_error};
 ghost use Rattle.expr_sem.specs.Codings.{Coding, IsCoded, coded_in, with_types};
-ghost use Rattle.expr_sem.specs.RecordFields.{name_coded as spec_name, select_field as spec_field};
+ghost use Rattle.expr_sem.specs.Fragments.{IsIn, IsMade, part};
+ghost use Rattle.expr_sem.specs.Parts.{◌⨟◌, with_record as spec_record};
+ghost use Rattle.expr_sem.specs.RecordFields.{field_coded as spec_field_coded, found_field as spec_found, name_coded as spec_name, of_record as spec_of_record, offset_code as spec_offset, select_field as spec_field};
+ghost use Rattle.expr_sem.specs.Selections.{IsField, with_number as spec_number};
+ghost use Rattle.expr_sem.specs.Variables.{entry_coded as spec_entry};
 
 use crate::coded::Coded;
-use crate::fragments::Fragments;
+use crate::designated::variable_at;
+use crate::fragments::{Fragment, Fragments};
 use crate::pieces::With;
-use m2_base::{Ask, Ident, Memory, Notes, Scopes, Site};
+use crate::refusals::{Refusal, refused};
+use crate::variables::entry_coded;
+use code_form::Instr;
+use const_eval::is_broken;
+use m2_base::{
+    Around, Ask, Ident, Memory, Notes, Operand, Place, Row, RowMeaning, Scopes, Site, read_row,
+};
+use type_rules::{field_of, stand, use_name};
+
+/// The code of so many cells behind an address; an offset of 0 is left out.
+fn offset_code(offset: u32, fragments: &mut Fragments) -> Result<Fragment, Memory>
+    ensures { IsMade fragments.old.nodes.items fragments.new.nodes.items result (spec_offset offset) }
+{
+    if offset == 0 {
+        return Ok(Fragment::Nothing);
+    }
+    fragments.one(Instr::Offset(offset))
+}
+
+/// The address of so many cells behind the one that this code gives.
+fn code_behind(code: Fragment, offset: u32, fragments: &mut Fragments) -> Result<Fragment, Memory>
+    requires there { IsIn fragments.old.nodes.items code }
+    ensures { IsMade fragments.old.nodes.items fragments.new.nodes.items result (part fragments.old.nodes.items code ⨟ spec_offset offset) }
+{
+    let behind = offset_code(offset, fragments)?;
+    fragments.then(code, behind)
+}
+
+/// A field of this type and offset, in the record whose address this code gives; in error where the type is.
+fn field_at<S: Scopes>(
+    scopes: &mut S,
+    site: &Site,
+    of: Place,
+    offset: u32,
+    code: Fragment,
+    fragments: &mut Fragments,
+) -> Result<Ask<Coded>, Memory>
+    requires suits { SuitsSite (S.state scopes.old).frame site.now }
+    requires of { IsThere (S.state scopes.old).frame of }
+    requires code { IsIn fragments.old.nodes.items code }
+    ensures { (notes : NotesOf) → Coding (S.state scopes.old) (S.state scopes.new) notes notes fragments.old.nodes.items fragments.new.nodes.items site.now result IsCoded coded_in (λ c. gives (if spec_broken c.scene of then spec_in_error else coded (Variable of) (part fragments.old.nodes.items code ⨟ spec_offset offset))) }
+{
+    if asked!(is_broken(scopes, site.around, of)) {
+        return Ok(Ask::Known(Coded::in_error()));
+    }
+    variable_at(of, code_behind(code, offset, fragments))
+}
+
+/// The field of this row, in the record whose address this code gives.
+fn field_coded<S: Scopes>(
+    scopes: &mut S,
+    site: &Site,
+    field: Row,
+    code: Fragment,
+    fragments: &mut Fragments,
+) -> Result<Ask<Coded>, Memory>
+    requires suits { SuitsSite (S.state scopes.old).frame site.now }
+    requires field { IsField (S.state scopes.old).frame (row_meaning field) }
+    requires code { IsIn fragments.old.nodes.items code }
+    ensures { (notes : NotesOf) → Coding (S.state scopes.old) (S.state scopes.new) notes notes fragments.old.nodes.items fragments.new.nodes.items site.now result IsCoded coded_in (λ c. gives (spec_field_coded c.scene (part fragments.old.nodes.items code) field)) }
+{
+    match read_row(&field) {
+        RowMeaning::Field(of, offset, _, _) => {
+            field_at(scopes, site, of, offset, code, fragments)
+        }
+        _ => Ok(Ask::Known(Coded::in_error())),
+    }
+}
+
+/// The number of the first of these WITHs whose record has a field of this name, and the field's row.
+#[tactic(auto, using(type_rules::proofs::Reading::reading))]
+fn field_of_withs<S: Scopes>(
+    scopes: &mut S,
+    around: &Around,
+    withs: &[With],
+    name: u32,
+) -> Ask<Option<(usize, Row)>>
+    requires suits { Suits (S.state scopes.old).frame around.now }
+    requires withs { Each (λ w. IsThere (S.state scopes.old).frame w.of) withs.now }
+    ensures reads { Reads (S.state scopes.old) (S.state scopes.new) }
+    ensures waits { WhereWaiting result (λ head. Waits (S.state scopes.old) (S.state scopes.new) head) }
+    ensures told { WhereTold (S.state scopes.old).frame (λ made.
+        WhereKnown result (λ found. found ≡ spec_number (scene_of (S.state scopes.old).frame made around.now) 0 (with_types withs.now) name)) }
+    ensures field { WhereKnown result (λ found. IfSome found (λ found. IsField (S.state scopes.old).frame (row_meaning found.1))) }
+{
+    for number in 0..withs.len() {
+        if let Some(field) = known!(field_of(scopes, around, withs[number].of, name)) {
+            return Ask::Known(Some((number, field)));
+        }
+    }
+    Ask::Known(None)
+}
+
+/// A number, where it has 32 bits.
+fn small_number(number: usize) -> Option<u32>
+    ensures { IfSome result (λ small. small ≡ number) }
+{
+    u32::try_from(number).ok()
+}
+
+/// The field of this row, in the record of the open WITH of this number.
+fn field_of_record<S: Scopes>(
+    scopes: &mut S,
+    site: &Site,
+    number: u32,
+    field: Row,
+    fragments: &mut Fragments,
+) -> Result<Ask<Coded>, Memory>
+    requires suits { SuitsSite (S.state scopes.old).frame site.now }
+    requires field { IsField (S.state scopes.old).frame (row_meaning field) }
+    ensures { (notes : NotesOf) → Coding (S.state scopes.old) (S.state scopes.new) notes notes fragments.old.nodes.items fragments.new.nodes.items site.now result IsCoded coded_in (λ c. gives (spec_field_coded c.scene (spec_record number) field)) }
+{
+    match fragments.with_record(number) {
+        Ok(record) => field_coded(scopes, site, field, record, fragments),
+        Err(memory) => Err(memory),
+    }
+}
+
+/// The field of this row, in the record of the open WITH of this number, which has no more than 32 bits: else the error is
+/// that memory is wanted, which comes about in no module.
+fn field_of_with<S: Scopes>(
+    scopes: &mut S,
+    site: &Site,
+    number: usize,
+    field: Row,
+    fragments: &mut Fragments,
+) -> Result<Ask<Coded>, Memory>
+    requires suits { SuitsSite (S.state scopes.old).frame site.now }
+    requires field { IsField (S.state scopes.old).frame (row_meaning field) }
+    ensures { (notes : NotesOf) → Coding (S.state scopes.old) (S.state scopes.new) notes notes fragments.old.nodes.items fragments.new.nodes.items site.now result IsCoded coded_in (λ c. gives (spec_field_coded c.scene (spec_record number) field)) }
+{
+    match small_number(number) {
+        Some(small) => field_of_record(scopes, site, small, field, fragments),
+        None => Err(Memory),
+    }
+}
+
+/// What a name is bound to where it is used.
+fn name_used<S: Scopes>(
+    scopes: &mut S,
+    site: &Site,
+    within: Option<u32>,
+    ident: Ident,
+    fragments: &mut Fragments,
+    notes: &mut Notes,
+) -> Result<Ask<Coded>, Memory>
+    requires suits { SuitsSite (S.state scopes.old).frame site.now }
+    requires within { IfSome within (λ scope. scope < fills_of (S.state scopes.old)) }
+    requires named { ident.name ≢ 0 }
+    ensures { Coding (S.state scopes.old) (S.state scopes.new) notes.old notes.new fragments.old.nodes.items fragments.new.nodes.items site.now result IsCoded coded_in (λ c. and_then (use_of c within ident.name ident.at) (λ e. gives (spec_entry c e))) }
+{
+    let entry = analysed!(use_name(scopes, site, within, ident.name, ident.at, notes));
+    entry_coded(scopes, site, entry, fragments)
+}
 
 /// A name where a designator begins: a field of an open WITH's record, the innermost first, or what the name is bound to.
 pub fn name_coded<S: Scopes>(
@@ -25,7 +194,54 @@ pub fn name_coded<S: Scopes>(
     requires named { ident.name ≢ 0 }
     ensures { Coding (S.state scopes.old) (S.state scopes.new) notes.old notes.new fragments.old.nodes.items fragments.new.nodes.items site.now result IsCoded coded_in (λ c. spec_name c (with_types withs.now) ident) }
 {
-    Err(Memory)
+    match asked!(field_of_withs(scopes, site.around, withs, ident.name)) {
+        Some(found) => field_of_with(scopes, site, found.0, found.1, fragments),
+        None => name_used(scopes, site, None, ident, fragments, notes),
+    }
+}
+
+/// The field of a name in a record of this type, whose address this code gives.
+fn found_field<S: Scopes>(
+    scopes: &mut S,
+    site: &Site,
+    of: Place,
+    ident: Ident,
+    code: Fragment,
+    fragments: &mut Fragments,
+    notes: &mut Notes,
+) -> Result<Ask<Coded>, Memory>
+    requires suits { SuitsSite (S.state scopes.old).frame site.now }
+    requires of { IsThere (S.state scopes.old).frame of }
+    requires code { IsIn fragments.old.nodes.items code }
+    ensures { Coding (S.state scopes.old) (S.state scopes.new) notes.old notes.new fragments.old.nodes.items fragments.new.nodes.items site.now result IsCoded coded_in (λ c. spec_found c (part fragments.old.nodes.items code) ident (spec_field_of c.scene of ident.name)) }
+{
+    match asked!(field_of(scopes, site.around, of, ident.name)) {
+        Some(field) => field_coded(scopes, site, field, code, fragments),
+        None => refused(site, ident.at, Refusal::NoSuchField, notes),
+    }
+}
+
+/// The field of a variable of this type, whose address this code gives.
+fn of_record<S: Scopes>(
+    scopes: &mut S,
+    site: &Site,
+    at: u32,
+    of: Place,
+    ident: Ident,
+    code: Fragment,
+    fragments: &mut Fragments,
+    notes: &mut Notes,
+) -> Result<Ask<Coded>, Memory>
+    requires suits { SuitsSite (S.state scopes.old).frame site.now }
+    requires of { IsThere (S.state scopes.old).frame of }
+    requires code { IsIn fragments.old.nodes.items code }
+    ensures { Coding (S.state scopes.old) (S.state scopes.new) notes.old notes.new fragments.old.nodes.items fragments.new.nodes.items site.now result IsCoded coded_in (λ c. spec_of_record c at (part fragments.old.nodes.items code) ident of (kind_of c.scene of)) }
+{
+    let (_, meaning) = asked!(stand(scopes, site.around, of));
+    match meaning {
+        RowMeaning::Record(..) => found_field(scopes, site, of, ident, code, fragments, notes),
+        _ => refused(site, at, Refusal::NotARecord, notes),
+    }
 }
 
 /// What a name behind a point selects. `first` is the designator's first token, `at` the point.
@@ -44,5 +260,15 @@ pub fn select_field<S: Scopes>(
     requires named { ident.name ≢ 0 }
     ensures { Coding (S.state scopes.old) (S.state scopes.new) notes.old notes.new fragments.old.nodes.items fragments.new.nodes.items site.now result IsCoded coded_in (λ c. spec_field c first at ident (coded_in fragments.old.nodes.items x)) }
 {
-    Err(Memory)
+    match x.operand {
+        Operand::ModuleName(scope) => {
+            name_used(scopes, site, Some(scope), ident, fragments, notes)
+        }
+        Operand::Variable(of) => {
+            of_record(scopes, site, at, of, ident, x.code, fragments, notes)
+        }
+        Operand::InError => Ok(Ask::Known(Coded::in_error())),
+        Operand::NotConstant => Ok(Ask::Known(Coded::in_error())),
+        _ => refused(site, first, Refusal::NotAVariable, notes),
+    }
 }

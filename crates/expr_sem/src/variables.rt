@@ -1,16 +1,141 @@
 //! Where a variable is.
-ghost use Rattle.std.specs.Prelude.{◌≡◌};
+ghost use Rattle.std.specs.Prelude.{◌≡◌, ◌+◌, ◌∷◌, []};
 ghost use Rattle.std.specs.Option.{IfSome};
 ghost use Rattle.m2_base.specs.Gives.{gives};
+ghost use Rattle.m2_base.specs.States.{State};
 ghost use Rattle.m2_base.specs.declared.notes.Notes.{Notes};
-ghost use Rattle.type_rules.specs.Scenes.{IsRowOf};
+ghost use Rattle.m2_base.specs.declared.operands.Operand.TheVariants.{Variable};
+ghost use Rattle.m2_base.specs.declared.rows.Mode.TheVariants.{Open};
+ghost use Rattle.m2_base.specs.declared.rows.RowMeaning.TheVariants.{Var};
+ghost use Rattle.m2_base.specs.declared.sites.Site.{Site as SiteOf};
+ghost use Rattle.code_form.specs.declared.instr.Instr.TheVariants.{Load};
+ghost use Rattle.type_rules.specs.Scenes.{IsRowOf, IsThere, block_of};
 ghost use Rattle.type_rules.specs.Sites.{SuitsSite};
+ghost use Rattle.const_eval.specs.Sites.{IsOperand};
 ghost use Rattle.expr_sem.specs.Codings.{Coding, IsCoded, coded_in};
-ghost use Rattle.expr_sem.specs.Variables.{entry_coded as spec_entry};
+ghost use Rattle.expr_sem.specs.Parts.{plain};
+ghost use Rattle.expr_sem.specs.Variables.{cell_instr as spec_cell, entry_coded as spec_entry, links_out as spec_links, with_address as spec_with};
 
 use crate::coded::Coded;
+use crate::designated::{open_at, pair, variable_at};
 use crate::fragments::Fragments;
-use m2_base::{Ask, Memory, Place, Row, Scopes, Site};
+use crate::levels::level_of;
+use crate::procedure_names::{import_number, is_own};
+use code_form::Instr;
+use const_eval::operand_of;
+use m2_base::{Around, Ask, Memory, Mode, Operand, Place, Row, RowMeaning, Scopes, Site, read_row};
+
+/// How many static links lead from a block out to the block of a scope.
+pub fn links_out(around: &Around, scope: u32) -> u32
+    ensures { result ≡ spec_links (block_of around.now) scope }
+{
+    around.level.saturating_sub(level_of(around, scope))
+}
+
+/// The address of the cell of a scope at this offset.
+pub fn cell_instr(around: &Around, scope: u32, offset: u32) -> Instr
+    ensures { result ≡ spec_cell (block_of around.now) scope offset }
+{
+    if is_own(around, scope) {
+        return Instr::Global(0, offset);
+    }
+    if level_of(around, scope) == 0 {
+        return Instr::Global(import_number(around, scope), offset);
+    }
+    Instr::Local(links_out(around, scope), offset)
+}
+
+/// The offset of the next cell; none where there is no further one.
+fn next_cell(offset: u32) -> Option<u32>
+    ensures { IfSome result (λ next. next ≡ offset + 1) }
+{
+    offset.checked_add(1)
+}
+
+/// An open array of this type, by its two cells: the first has its address, and the second the number of its elements less 1.
+fn open_cells(
+    of: Place,
+    first: Instr,
+    second: Instr,
+    fragments: &mut Fragments,
+) -> Result<Ask<Coded>, Memory>
+    ensures { (state : State) (notes : Notes) (s : SiteOf) → IsThere state.frame of → Coding state state notes notes fragments.old.nodes.items fragments.new.nodes.items s result IsCoded coded_in (λ c. gives (record { operand = Variable of; code = plain (first ∷ Load ∷ []); high = plain (second ∷ Load ∷ []) })) }
+{
+    let high = pair(second, Instr::Load, fragments)?;
+    open_at(of, high, pair(first, Instr::Load, fragments))
+}
+
+/// An open array, by the offset of its first cell: that has its address, and the next one the number of its elements less 1.
+fn open_array(
+    site: &Site,
+    scope: u32,
+    offset: u32,
+    of: Place,
+    fragments: &mut Fragments,
+) -> Result<Ask<Coded>, Memory>
+    ensures { (state : State) (notes : Notes) (t : Place) → IsThere state.frame of → Coding state state notes notes fragments.old.nodes.items fragments.new.nodes.items site.now result IsCoded coded_in (λ c. gives (spec_with c.scene.block scope (Var t Open offset) (Variable of))) }
+{
+    match next_cell(offset) {
+        Some(next) => {
+            let first = cell_instr(site.around, scope, offset);
+            let second = cell_instr(site.around, scope, next);
+            open_cells(of, first, second, fragments)
+        }
+        None => Err(Memory),
+    }
+}
+
+/// A variable, by its mode and the offset of its cell.
+fn variable(
+    site: &Site,
+    scope: u32,
+    mode: Mode,
+    offset: u32,
+    of: Place,
+    fragments: &mut Fragments,
+) -> Result<Ask<Coded>, Memory>
+    ensures { (state : State) (notes : Notes) (t : Place) → IsThere state.frame of → Coding state state notes notes fragments.old.nodes.items fragments.new.nodes.items site.now result IsCoded coded_in (λ c. gives (spec_with c.scene.block scope (Var t mode offset) (Variable of))) }
+{
+    let cell = cell_instr(site.around, scope, offset);
+    match mode {
+        Mode::Plain => variable_at(of, fragments.one(cell)),
+        Mode::ByAddress => variable_at(of, pair(cell, Instr::Load, fragments)),
+        Mode::Open => open_array(site, scope, offset, of, fragments),
+    }
+}
+
+/// A variable of this type, with the address that the row's meaning tells of, if it does.
+fn variable_by(
+    site: &Site,
+    scope: u32,
+    meaning: RowMeaning,
+    of: Place,
+    fragments: &mut Fragments,
+) -> Result<Ask<Coded>, Memory>
+    ensures { (state : State) (notes : Notes) → IsThere state.frame of → Coding state state notes notes fragments.old.nodes.items fragments.new.nodes.items site.now result IsCoded coded_in (λ c. gives (spec_with c.scene.block scope meaning (Variable of))) }
+{
+    match meaning {
+        RowMeaning::Var(_, mode, offset) => variable(site, scope, mode, offset, of, fragments),
+        _ => Ok(Ask::Known(Coded::bare(Operand::Variable(of)))),
+    }
+}
+
+/// An operand with the address of the variable that the row's meaning tells of. What is no variable has none, nor has a
+/// variable in error.
+fn with_address(
+    site: &Site,
+    scope: u32,
+    meaning: RowMeaning,
+    operand: Operand,
+    fragments: &mut Fragments,
+) -> Result<Ask<Coded>, Memory>
+    ensures { (state : State) (notes : Notes) → IsOperand state.frame operand → Coding state state notes notes fragments.old.nodes.items fragments.new.nodes.items site.now result IsCoded coded_in (λ c. gives (spec_with c.scene.block scope meaning operand)) }
+{
+    match operand {
+        Operand::Variable(of) => variable_by(site, scope, meaning, of, fragments),
+        _ => Ok(Ask::Known(Coded::bare(operand))),
+    }
+}
 
 /// What a name is bound to, with its address where that is a variable.
 pub fn entry_coded<S: Scopes>(
@@ -23,5 +148,11 @@ pub fn entry_coded<S: Scopes>(
     requires entry { IfSome entry (λ e. IsRowOf (S.state scopes.old).frame e.0 e.1) }
     ensures { (notes : Notes) → Coding (S.state scopes.old) (S.state scopes.new) notes notes fragments.old.nodes.items fragments.new.nodes.items site.now result IsCoded coded_in (λ c. gives (spec_entry c entry)) }
 {
-    Err(Memory)
+    match entry {
+        Some(entry) => {
+            let operand = asked!(operand_of(scopes, site.around, entry.0, entry.1));
+            with_address(site, entry.0.scope, read_row(&entry.1), operand, fragments)
+        }
+        None => Ok(Ask::Known(Coded::in_error())),
+    }
 }

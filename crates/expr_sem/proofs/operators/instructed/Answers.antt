@@ -1,5 +1,4 @@
 use Rattle.std.proofs.Common.{◌∷◌, [], refl}
-use Rattle.m2_base.specs.Statics.Contexts.{Context}
 use Rattle.m2_base.specs.declared.replies.Ask.TheVariants.{DontKnowYet, Known}
 use Rattle.code_form.specs.declared.instr.Instr.{Instr}
 use Rattle.expr_sem.specs.Fragments.{part}

@@ -1,7 +1,4 @@
-use Rattle.std.proofs.Common.{◌≡◌, ◌∙◌, refl}
-use Rattle.m2_base.specs.declared.operands.Operand.{Operand}
-use Rattle.m2_base.specs.declared.operands.Operand.TheVariants.{Computed}
-use Rattle.m2_base.specs.declared.rows.Place.{Place}
+use Rattle.std.proofs.Common.{◌∙◌}
 use Rattle.expr_sem.specs.Coded.{value_code}
 use Rattle.expr_sem.specs.Codings.{IsCoded, coded_in}
 use Rattle.expr_sem.specs.Operators.{made, one_instr}

@@ -1,4 +1,4 @@
-use Rattle.std.proofs.Common.{◌≡◌, [], refl}
+use Rattle.std.proofs.Common.{◌≡◌, refl}
 use Rattle.m2_base.specs.declared.trees.operators.Operator.{Operator}
 use Rattle.m2_base.specs.declared.trees.operators.Operator.TheVariants.{Minus, Not}
 use Rattle.expr_sem.specs.Operators.{one_instr}

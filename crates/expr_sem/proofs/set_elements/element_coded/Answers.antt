@@ -1,4 +1,4 @@
-use Rattle.std.proofs.Common.{Ok, ap}
+use Rattle.std.proofs.Common.{Ok}
 use Rattle.m2_base.specs.Gives.{gives}
 use Rattle.m2_base.specs.States.{Frame}
 use Rattle.m2_base.specs.Statics.Sets.{element_of}

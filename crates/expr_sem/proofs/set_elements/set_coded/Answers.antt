@@ -1,4 +1,4 @@
-use Rattle.std.proofs.Common.{◌≡◌, ◌∙◌, ap, subst, sym, ℤ, w64}
+use Rattle.std.proofs.Common.{◌∙◌, ap, subst, sym, ℤ, w64}
 use Rattle.std.proofs.lemmas.Int.{to_z-of_z}
 use Rattle.m2_base.specs.Rows.{IsValue}
 use Rattle.m2_base.specs.declared.operands.Operand.{Operand}

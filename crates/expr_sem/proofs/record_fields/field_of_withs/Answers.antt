@@ -1,0 +1,28 @@
+use Rattle.std.proofs.Common.{◌∙◌, None, Some, sym}
+use Rattle.type_rules.specs.Scenes.{scene_of}
+use Rattle.type_rules.proofs.Reading.{Reads-trans}
+use Rattle.expr_sem.proofs.Selecting.{asked_before, with_step}
+use Rattle.expr_sem.proofs.record_fields.field_of_withs.Goals as goal
+
+pub returns-in-Some-clause-told : goal.returns-in-Some-clause-told
+returns-in-Some-clause-told g c made in_hand told =
+    let f = (g.S.Scopes.state c.args.scopes.now).frame in
+    let h = (g.S.Scopes.state c.loop-number.scopes).frame in
+    let a = c.args.around.now in
+    let k = c.loop-number.number in
+    let asked = asked_before f h a _ c.args.name c.in-Known.value c.loop-number.invariant.reads.keeps.frame c.in-Known.ensures.told in
+    with_step (scene_of f made a) k c.args.withs.now _ c.args.name (Some c.in-Some.field) c.loop-number-test.true (sym c.in-Some.is ∙ asked made in_hand told)
+    ∙ c.loop-number.invariant.left made in_hand told
+
+pub loop-number-preserved : goal.loop-number-preserved
+loop-number-preserved g c =
+    let f = (g.S.Scopes.state c.args.scopes.now).frame in
+    let h = (g.S.Scopes.state c.loop-number.scopes).frame in
+    let a = c.args.around.now in
+    let k = c.loop-number.number in
+    let asked = asked_before f h a _ c.args.name c.in-Known.value c.loop-number.invariant.reads.keeps.frame c.in-Known.ensures.told in
+    record {
+      reads = Reads-trans c.loop-number.invariant.reads c.field_of.ensures.reads;
+      left = λ made in_hand told. with_step (scene_of f made a) k c.args.withs.now _ c.args.name None c.loop-number-test.true (sym c.in_default.is ∙ asked made in_hand told)
+          ∙ c.loop-number.invariant.left made in_hand told;
+    }
