@@ -22,3 +22,4 @@ pub mod Refusing
 pub mod ValueCases
 pub mod PieceParts
 pub mod Stacked
+pub mod ArgumentCases

@@ -1,8 +1,18 @@
 -- Arguments and parameters, as the definitions see them.
-use Rattle.std.specs.Prelude.{List, Option, Some, None}
+use Rattle.std.specs.Prelude.{List, Option, Some, None, Result, Ok, Err, if◌then◌else◌}
 use Rattle.std.specs.Option.{IfSome}
 use Rattle.m2_base.specs.States.{Frame}
+use Rattle.m2_base.specs.declared.memory.Memory.{Memory}
+use Rattle.m2_base.specs.declared.replies.Ask.{Ask}
+use Rattle.m2_base.specs.declared.replies.Ask.TheVariants.{Known, DontKnowYet}
+use Rattle.m2_base.specs.Statics.Contexts.{Scene}
 use Rattle.m2_base.specs.Statics.TypeParts as parts
+use Rattle.m2_base.specs.Statics.Types.{is_broken, is_same}
+use Rattle.m2_base.specs.declared.rows.Place.{Place}
+use Rattle.m2_base.specs.declared.rows.RowMeaning.{RowMeaning}
+use Rattle.m2_base.specs.declared.rows.RowMeaning.TheVariants.{Array, OpenArray}
+use Rattle.expr_sem.specs.declared.arguments.ElementFit.{ElementFit}
+use Rattle.expr_sem.specs.declared.arguments.ElementFit.TheVariants.{Alike, Broken, Other}
 use Rattle.expr_sem.specs.Fragments.{IsIn, part}
 use Rattle.expr_sem.specs.Parts.{Part}
 use Rattle.expr_sem.specs.declared.arguments.Parameter.{Parameter}
@@ -20,3 +30,21 @@ IsArgument f ns x = IfSome x (λ code. IsIn ns code)
 
 abbrev pub parameter_view : Parameter → parts.Parameter
 parameter_view p = record { typ = p.of; by_ref = p.by_ref }
+
+-- a fragment as the code of an argument
+abbrev pub passed_of : Result (Ask Fragment) Memory → Result (Ask (Option Fragment)) Memory
+passed_of (Ok (Known f)) = Ok (Known (Some f))
+passed_of (Ok (DontKnowYet h)) = Ok (DontKnowYet h)
+passed_of (Err m) = Err m
+
+-- how the elements of an array are beside the type that is wanted
+abbrev pub element_fit : Scene → (want elem : Place) → ElementFit
+element_fit scene want elem =
+    if is_broken scene elem then Broken else
+    if is_same scene elem want then Alike else Other
+
+-- how an array's elements are beside the type that is wanted, by the meaning of its row; nothing else has elements
+abbrev pub array_fit : Scene → (want : Place) → RowMeaning → ElementFit
+array_fit scene want (Array i t s) = if is_broken scene i then Broken else element_fit scene want t
+array_fit scene want (OpenArray t) = element_fit scene want t
+array_fit scene want other = Other
