@@ -29,3 +29,5 @@ pub mod Selections
 pub mod MadeAnswers
 pub mod ArgumentFits
 pub mod Callees
+pub mod VariableArguments
+pub mod Updates
