@@ -29,3 +29,5 @@ pub mod MadeAnswers
 pub mod Selections
 pub mod ArgumentFits
 pub mod Callees
+pub mod VariableArguments
+pub mod Updates

@@ -62,6 +62,7 @@ mod standard_functions;
 mod standard_procedures;
 mod steps;
 mod takings;
+mod updates;
 mod value_functions;
 mod values;
 mod variable_arguments;

@@ -1,15 +1,21 @@
 //! The standard procedures that give no value, and how many arguments each standard procedure takes.
-ghost use Rattle.std.specs.Prelude.{◌≡◌};
+ghost use Rattle.std.specs.Prelude.{◌≡◌, ◌∷◌, []};
 ghost use Rattle.m2_base.specs.Gives.{gives};
 ghost use Rattle.m2_base.specs.States.{State};
 ghost use Rattle.m2_base.specs.declared.notes.Notes.{Notes as NotesOf};
 ghost use Rattle.m2_base.specs.declared.sites.Site.{Site as SiteOf};
+ghost use Rattle.code_form.specs.declared.instr.Instr.TheVariants as instrs;
+ghost use Rattle.expr_sem.specs.Coded.{coded};
 ghost use Rattle.expr_sem.specs.Codings.{Coding, IsCoded, coded_in};
-ghost use Rattle.expr_sem.specs.StandardProcedures.{first_of_two as spec_first, is_function as spec_function, of_no_argument as spec_none, of_one_argument as spec_one, of_two_arguments as spec_two, takes_count as spec_count};
+ghost use Rattle.expr_sem.specs.Parts.{plain};
+ghost use Rattle.expr_sem.specs.StandardProcedures.{first_of_two as spec_first, is_function as spec_function, no_value, of_no_argument as spec_none, of_one_argument as spec_one, of_two_arguments as spec_two, takes_count as spec_count};
 ghost use Rattle.type_rules.specs.Sites.{SuitsSite};
 
 use crate::coded::{Coded, Placed};
 use crate::fragments::Fragments;
+use crate::updates::NO_VALUE;
+use crate::variable_arguments::{Wanted, variable_argument};
+use code_form::Instr;
 use m2_base::{Ask, Builtin, Memory, Notes, Scopes, Site};
 
 /// The standard procedure takes so many arguments.
@@ -40,11 +46,22 @@ pub fn is_function(f: Builtin) -> bool
     )
 }
 
+/// HALT.
+fn halted(fragments: &mut Fragments) -> Result<Ask<Coded>, Memory>
+    ensures { (state : State) (notes : NotesOf) (site : SiteOf) → SuitsSite state.frame site → Coding state state notes notes fragments.old.nodes.items fragments.new.nodes.items site result IsCoded coded_in (λ c. gives (coded no_value (plain (instrs.Halt ∷ [])))) }
+{
+    let code = fragments.one(Instr::Halt)?;
+    Ok(Ask::Known(Coded::new(NO_VALUE, code)))
+}
+
 /// A standard procedure without arguments; of others than HALT nobody asks.
 pub fn of_no_argument(f: Builtin, fragments: &mut Fragments) -> Result<Ask<Coded>, Memory>
     ensures { (state : State) (notes : NotesOf) (site : SiteOf) → SuitsSite state.frame site → Coding state state notes notes fragments.old.nodes.items fragments.new.nodes.items site result IsCoded coded_in (λ c. gives (spec_none f)) }
 {
-    Err(Memory)
+    match f {
+        Builtin::Halt => halted(fragments),
+        _ => Ok(Ask::Known(Coded::in_error())),
+    }
 }
 
 /// A standard procedure of one argument.
@@ -78,7 +95,13 @@ pub fn first_of_two<S: Scopes>(
     requires x { IsCoded (S.state scopes.old).frame fragments.old.nodes.items x }
     ensures { Coding (S.state scopes.old) (S.state scopes.new) notes.old notes.new fragments.old.nodes.items fragments.new.nodes.items site.now result IsCoded coded_in (λ c. spec_first c f at (coded_in fragments.old.nodes.items x)) }
 {
-    Err(Memory)
+    match f {
+        Builtin::Inc => variable_argument(scopes, site, Wanted::Ordinal, at, x, fragments, notes),
+        Builtin::Dec => variable_argument(scopes, site, Wanted::Ordinal, at, x, fragments, notes),
+        Builtin::Incl => variable_argument(scopes, site, Wanted::Set, at, x, fragments, notes),
+        Builtin::Excl => variable_argument(scopes, site, Wanted::Set, at, x, fragments, notes),
+        _ => Ok(Ask::Known(x)),
+    }
 }
 
 /// A standard procedure of two arguments, of which the first is as `first_of_two` gives it; of others nobody asks.

@@ -1,13 +1,34 @@
 //! Arguments of standard procedures that must be variables.
-ghost use Rattle.std.specs.Prelude.{List};
-ghost use Rattle.m2_base.specs.States.{State};
+ghost use Rattle.std.specs.Prelude.{◌≡◌, List, if◌then◌else◌};
+ghost use Rattle.m2_base.specs.Gives.{gives};
+ghost use Rattle.m2_base.specs.States.{State, Waits};
+ghost use Rattle.m2_base.specs.Statics.Contexts.{refuse};
+ghost use Rattle.m2_base.specs.Statics.Diagnostics.{wrong_argument};
+ghost use Rattle.const_eval.specs.Sites.{IsOperand};
+ghost use Rattle.expr_sem.specs.Coded.{in_error};
 ghost use Rattle.expr_sem.specs.Codings.{Coding, IsCoded, coded_in};
 ghost use Rattle.expr_sem.specs.StandardFunctions.{as_variable as spec_variable};
+ghost use Rattle.expr_sem.specs.StandardProcedures.{variable_argument as spec_argument, variable_where as spec_where};
+ghost use Rattle.expr_sem.specs.VariableArguments.{is_wanted as spec_wanted};
 ghost use Rattle.expr_sem.specs.declared.fragments.Node.{Node};
+ghost use Rattle.type_rules.specs.Asks.{Reads, WhereKnown, WhereWaiting};
+ghost use Rattle.type_rules.specs.Scenes.{IsThere, WhereTold};
+ghost use Rattle.type_rules.specs.Sites.{SuitsSite, context_of};
 
 use crate::coded::Coded;
+use crate::fragments::Fragments;
 use crate::refusals::{Refusal, refused};
-use m2_base::{Ask, Memory, Notes, Operand, Site};
+use const_eval::is_bad;
+use m2_base::{Ask, Memory, Notes, Operand, Place, RowMeaning, Scopes, Site};
+use type_rules::{operand_type, range_of, stand};
+
+/// Which type a variable is to have.
+#[derive(Clone, Copy, Debug, PartialEq, Eq)]
+pub enum Wanted {
+    Ordinal,
+    Set,
+    Pointer,
+}
 
 /// An argument that must be a variable.
 pub fn as_variable(site: &Site, at: u32, x: Coded, notes: &mut Notes) -> Result<Ask<Coded>, Memory>
@@ -19,4 +40,82 @@ pub fn as_variable(site: &Site, at: u32, x: Coded, notes: &mut Notes) -> Result<
         Operand::NotConstant => Ok(Ask::Known(Coded::in_error())),
         _ => refused(site, at, Refusal::NotAVariable, notes),
     }
+}
+
+/// Whether a type is as wanted.
+#[tactic(auto, using(type_rules::proofs::Reading::reading))]
+fn is_wanted<S: Scopes>(scopes: &mut S, site: &Site, wanted: Wanted, of: Place) -> Ask<bool>
+    requires suits { SuitsSite (S.state scopes.old).frame site.now }
+    requires of { IsThere (S.state scopes.old).frame of }
+    ensures reads { Reads (S.state scopes.old) (S.state scopes.new) }
+    ensures waits { WhereWaiting result (λ head. Waits (S.state scopes.old) (S.state scopes.new) head) }
+    ensures told { WhereTold (S.state scopes.old).frame (λ made.
+        WhereKnown result (λ holds. holds ≡ spec_wanted (context_of (S.state scopes.old).frame made site.now).scene wanted of)) }
+{
+    match wanted {
+        Wanted::Ordinal => Ask::Known(known!(range_of(scopes, site.around, of)).is_some()),
+        Wanted::Set => {
+            let (_, kind) = known!(stand(scopes, site.around, of));
+            Ask::Known(matches!(kind, RowMeaning::Set(_)))
+        }
+        Wanted::Pointer => {
+            let (_, kind) = known!(stand(scopes, site.around, of));
+            Ask::Known(matches!(kind, RowMeaning::Pointer(_)))
+        }
+    }
+}
+
+/// A variable whose type is as wanted, or what is refused otherwise.
+fn wanted_or_refused(
+    site: &Site,
+    at: u32,
+    holds: bool,
+    x: Coded,
+    notes: &mut Notes,
+) -> Result<Ask<Coded>, Memory>
+    ensures { (state : State) (nodes : List Node) → IsCoded state.frame nodes x → Coding state state notes.old notes.new nodes nodes site.now result IsCoded coded_in (λ c. if holds then gives (coded_in nodes x) else refuse c at wrong_argument in_error) }
+{
+    if holds {
+        Ok(Ask::Known(x))
+    } else {
+        refused(site, at, Refusal::WrongArgument, notes)
+    }
+}
+
+/// An argument that is a variable, or in error, whose type must be as wanted.
+fn variable_where<S: Scopes>(
+    scopes: &mut S,
+    site: &Site,
+    wanted: Wanted,
+    at: u32,
+    x: Coded,
+    notes: &mut Notes,
+) -> Result<Ask<Coded>, Memory>
+    requires suits { SuitsSite (S.state scopes.old).frame site.now }
+    requires x { IsOperand (S.state scopes.old).frame x.operand }
+    ensures { (nodes : List Node) → IsCoded (S.state scopes.old).frame nodes x → Coding (S.state scopes.old) (S.state scopes.new) notes.old notes.new nodes nodes site.now result IsCoded coded_in (λ c. spec_where c at (spec_wanted c.scene wanted) (coded_in nodes x)) }
+{
+    if is_bad(x.operand) {
+        return Ok(Ask::Known(x));
+    }
+    let holds = asked!(is_wanted(scopes, site, wanted, operand_type(&x.operand)));
+    wanted_or_refused(site, at, holds, x, notes)
+}
+
+/// An argument that must be a variable whose type is as wanted.
+pub fn variable_argument<S: Scopes>(
+    scopes: &mut S,
+    site: &Site,
+    wanted: Wanted,
+    at: u32,
+    x: Coded,
+    fragments: &Fragments,
+    notes: &mut Notes,
+) -> Result<Ask<Coded>, Memory>
+    requires suits { SuitsSite (S.state scopes.old).frame site.now }
+    requires x { IsCoded (S.state scopes.old).frame fragments.now.nodes.items x }
+    ensures { Coding (S.state scopes.old) (S.state scopes.new) notes.old notes.new fragments.now.nodes.items fragments.now.nodes.items site.now result IsCoded coded_in (λ c. spec_argument c at (spec_wanted c.scene wanted) (coded_in fragments.now.nodes.items x)) }
+{
+    let v = analysed!(as_variable(site, at, x, notes));
+    variable_where(scopes, site, wanted, at, v, notes)
 }

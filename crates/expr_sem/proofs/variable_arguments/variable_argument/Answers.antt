@@ -1,0 +1,22 @@
+use Rattle.expr_sem.specs.Codings.{coded_in}
+use Rattle.expr_sem.specs.StandardFunctions.{as_variable}
+use Rattle.expr_sem.specs.StandardProcedures.{variable_where}
+use Rattle.expr_sem.specs.VariableArguments.{is_wanted}
+use Rattle.expr_sem.proofs.Operating.{coding_after, unknown, unmade}
+use Rattle.expr_sem.proofs.variable_arguments.variable_argument.Goals as goal
+
+pub returns-in-DontKnowYet : goal.returns-in-DontKnowYet
+returns-in-DontKnowYet g c = unknown (rw c.in-DontKnowYet.is at c.in-Ok.ensures (g.S.Scopes.state c.args.scopes.now) c.args.fragments.now.nodes.items c.requires.x)
+
+pub returns-in-Err : goal.returns-in-Err
+returns-in-Err g c = unmade (c.in-Err.ensures (g.S.Scopes.state c.args.scopes.now) c.args.fragments.now.nodes.items c.requires.x) _
+
+pub variable_where-requires-clause-x : goal.variable_where-requires-clause-x
+variable_where-requires-clause-x g c = (rw c.in-Known.is at c.in-Ok.ensures (g.S.Scopes.state c.args.scopes.now) c.args.fragments.now.nodes.items c.requires.x).there.operand
+
+pub returns : goal.returns
+returns g c =
+    let ns = c.args.fragments.now.nodes.items in
+    let one = rw c.in-Known.is at c.in-Ok.ensures (g.S.Scopes.state c.args.scopes.now) ns c.requires.x in
+    coding_after (λ k. as_variable k c.args.at (coded_in ns c.args.x)) (λ u k. variable_where k c.args.at (is_wanted k.scene c.args.wanted) u) c.variable_where.result
+    one (c.variable_where.ensures ns one.there)

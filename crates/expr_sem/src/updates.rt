@@ -1,0 +1,206 @@
+//! Variables that a standard procedure changes: the change of INC and DEC, and that of INCL and EXCL.
+ghost use Rattle.std.specs.Prelude.{◌≡◌, ◌∷◌, ◌||◌, [], Some, option_map};
+ghost use Rattle.m2_base.specs.Gives.{gives};
+ghost use Rattle.m2_base.specs.States.{Waits};
+ghost use Rattle.m2_base.specs.Statics.Operands.{is_bad as spec_bad, operand_type as spec_type};
+ghost use Rattle.m2_base.specs.Statics.Ranges.{range};
+ghost use Rattle.m2_base.specs.declared.notes.Notes.{Notes as NotesOf};
+ghost use Rattle.code_form.specs.declared.instr.Instr.TheVariants as instrs;
+ghost use Rattle.expr_sem.specs.Coded.{coded, value_code as spec_value_code};
+ghost use Rattle.expr_sem.specs.Codings.{Coding, IsCoded, coded_in};
+ghost use Rattle.expr_sem.specs.Fitting.{check_of};
+ghost use Rattle.expr_sem.specs.Fragments.{IsIn, IsMade, part};
+ghost use Rattle.expr_sem.specs.Parts.{plain, ◌⨟◌};
+ghost use Rattle.expr_sem.specs.StandardProcedures.{counting_range as spec_counting, no_value, step_instr as spec_step_instr, step_instrs as spec_step_instrs, stepped as spec_stepped, update};
+ghost use Rattle.expr_sem.specs.Updates.{instrs_of, second_of, updated_by};
+ghost use Rattle.type_rules.specs.Asks.{Reads, WhereKnown, WhereWaiting};
+ghost use Rattle.type_rules.specs.Scenes.{IsThere, WhereTold};
+ghost use Rattle.type_rules.specs.Sites.{SuitsSite, context_of};
+
+use crate::chains::instr_behind;
+use crate::coded::Coded;
+use crate::designated::pair;
+use crate::fragments::{Fragment, Fragments};
+use crate::operators::side_of;
+use crate::values::value_code;
+use code_form::Instr;
+use const_eval::is_bad;
+use m2_base::{Ask, Builtin, Memory, Operand, Place, Scopes, Site};
+use type_rules::{BROKEN, operand_type, range_of};
+
+/// What the call of a proper procedure stands for.
+pub const NO_VALUE: Operand = Operand::Computed(BROKEN);
+
+/// One or two instructions that change a value by what stands on top of it.
+#[derive(Clone, Copy, Debug, PartialEq, Eq)]
+pub struct Change {
+    pub first: Instr,
+    pub second: Option<Instr>,
+}
+
+impl Change {
+    /// Its code.
+    fn code(self, fragments: &mut Fragments) -> Result<Fragment, Memory>
+        ensures { IsMade fragments.old.nodes.items fragments.new.nodes.items result (plain (instrs_of self)) }
+    {
+        match self.second {
+            Some(second) => pair(self.first, second, fragments),
+            None => fragments.one(self.first),
+        }
+    }
+}
+
+/// A number, behind the value of the variable whose address is on the stack.
+fn behind_value(
+    number: Fragment,
+    rest: Fragment,
+    fragments: &mut Fragments,
+) -> Result<Fragment, Memory>
+    requires number { IsIn fragments.old.nodes.items number }
+    requires rest { IsIn fragments.old.nodes.items rest }
+    ensures { IsMade fragments.old.nodes.items fragments.new.nodes.items result (plain (instrs.Dup ∷ instrs.Load ∷ []) ⨟ part fragments.old.nodes.items number ⨟ part fragments.old.nodes.items rest) }
+{
+    let loaded = pair(Instr::Dup, Instr::Load, fragments)?;
+    let changed = fragments.then(number, rest)?;
+    fragments.then(loaded, changed)
+}
+
+/// A variable changed by a number.
+pub fn updated(
+    variable: Fragment,
+    number: Fragment,
+    change: Change,
+    fragments: &mut Fragments,
+) -> Result<Fragment, Memory>
+    requires variable { IsIn fragments.old.nodes.items variable }
+    requires number { IsIn fragments.old.nodes.items number }
+    ensures { IsMade fragments.old.nodes.items fragments.new.nodes.items result (updated_by (part fragments.old.nodes.items variable) (part fragments.old.nodes.items number) (instrs_of change)) }
+{
+    let change = change.code(fragments)?;
+    let stored = instr_behind(change, Instr::Store, fragments)?;
+    let rest = behind_value(number, stored, fragments)?;
+    fragments.then(variable, rest)
+}
+
+/// The instruction of INC, and of DEC.
+fn step_instr(f: Builtin, side: u8) -> Instr
+    ensures { result ≡ spec_step_instr f side }
+{
+    match f {
+        Builtin::Inc => Instr::Add(side),
+        _ => Instr::Sub(side),
+    }
+}
+
+/// The least and the greatest of what a number of this side can be.
+fn counting_range(side: u8) -> (i64, i64)
+    ensures { range result.0 result.1 ≡ spec_counting side }
+{
+    if side == 0 {
+        (-2147483648, 2147483647)
+    } else {
+        (0, 4294967295)
+    }
+}
+
+/// The check against a range of what lies in another, where that isn't within it.
+fn check_within(from: (i64, i64), to: Option<(i64, i64)>) -> Option<Instr>
+    ensures { second_of result ≡ check_of (Some (range from.0 from.1)) (option_map (λ ends. range ends.0 ends.1) to) }
+{
+    match to {
+        Some((low, high)) if from.0 < low || high < from.1 => Some(Instr::Check(low, high)),
+        _ => None,
+    }
+}
+
+/// The change of INC and DEC to a variable of this type.
+#[tactic(auto, using(type_rules::proofs::Reading::reading))]
+fn step_change<S: Scopes>(scopes: &mut S, site: &Site, f: Builtin, of: Place) -> Ask<Change>
+    requires suits { SuitsSite (S.state scopes.old).frame site.now }
+    requires of { IsThere (S.state scopes.old).frame of }
+    ensures reads { Reads (S.state scopes.old) (S.state scopes.new) }
+    ensures waits { WhereWaiting result (λ head. Waits (S.state scopes.old) (S.state scopes.new) head) }
+    ensures told { WhereTold (S.state scopes.old).frame (λ made.
+        WhereKnown result (λ change. instrs_of change ≡ spec_step_instrs (context_of (S.state scopes.old).frame made site.now).scene f of)) }
+{
+    let side = known!(side_of(scopes, site, of));
+    let ends = known!(range_of(scopes, site.around, of));
+    Ask::Known(Change {
+        first: step_instr(f, side),
+        second: check_within(counting_range(side), ends),
+    })
+}
+
+/// A variable of a type, changed by INC or DEC by a number.
+fn step_code<S: Scopes>(
+    scopes: &mut S,
+    site: &Site,
+    f: Builtin,
+    of: Place,
+    variable: Fragment,
+    number: Fragment,
+    fragments: &mut Fragments,
+) -> Result<Ask<Coded>, Memory>
+    requires suits { SuitsSite (S.state scopes.old).frame site.now }
+    requires of { IsThere (S.state scopes.old).frame of }
+    requires variable { IsIn fragments.old.nodes.items variable }
+    requires number { IsIn fragments.old.nodes.items number }
+    ensures { (notes : NotesOf) → Coding (S.state scopes.old) (S.state scopes.new) notes notes fragments.old.nodes.items fragments.new.nodes.items site.now result IsCoded coded_in (λ c. gives (coded no_value (updated_by (part fragments.old.nodes.items variable) (part fragments.old.nodes.items number) (spec_step_instrs c.scene f of)))) }
+{
+    let change = asked!(step_change(scopes, site, f, of));
+    let code = updated(variable, number, change, fragments)?;
+    Ok(Ask::Known(Coded::new(NO_VALUE, code)))
+}
+
+/// INC or DEC of a variable by a number, neither of which is in error.
+fn step_by<S: Scopes>(
+    scopes: &mut S,
+    site: &Site,
+    f: Builtin,
+    x: Coded,
+    n: Coded,
+    fragments: &mut Fragments,
+) -> Result<Ask<Coded>, Memory>
+    requires suits { SuitsSite (S.state scopes.old).frame site.now }
+    requires x { IsCoded (S.state scopes.old).frame fragments.old.nodes.items x }
+    requires n { IsCoded (S.state scopes.old).frame fragments.old.nodes.items n }
+    ensures { (notes : NotesOf) → Coding (S.state scopes.old) (S.state scopes.new) notes notes fragments.old.nodes.items fragments.new.nodes.items site.now result IsCoded coded_in (λ c. gives (update (coded_in fragments.old.nodes.items x) (spec_value_code c (coded_in fragments.old.nodes.items n)) (spec_step_instrs c.scene f (spec_type x.operand)))) }
+{
+    let number = analysed!(value_code(scopes, site, n, fragments));
+    step_code(
+        scopes,
+        site,
+        f,
+        operand_type(&x.operand),
+        x.code,
+        number,
+        fragments,
+    )
+}
+
+/// Whether one of two operands takes part in no further check.
+fn either_bad(x: Operand, n: Operand) -> bool
+    ensures { result ≡ (spec_bad x || spec_bad n) }
+{
+    is_bad(x) || is_bad(n)
+}
+
+/// INC or DEC of a variable by a number, unless one of them is in error.
+pub fn stepped<S: Scopes>(
+    scopes: &mut S,
+    site: &Site,
+    f: Builtin,
+    x: Coded,
+    n: Coded,
+    fragments: &mut Fragments,
+) -> Result<Ask<Coded>, Memory>
+    requires suits { SuitsSite (S.state scopes.old).frame site.now }
+    requires x { IsCoded (S.state scopes.old).frame fragments.old.nodes.items x }
+    requires n { IsCoded (S.state scopes.old).frame fragments.old.nodes.items n }
+    ensures { (notes : NotesOf) → Coding (S.state scopes.old) (S.state scopes.new) notes notes fragments.old.nodes.items fragments.new.nodes.items site.now result IsCoded coded_in (λ c. gives (spec_stepped c f (coded_in fragments.old.nodes.items x) (coded_in fragments.old.nodes.items n))) }
+{
+    if either_bad(x.operand, n.operand) {
+        return Ok(Ask::Known(Coded::in_error()));
+    }
+    step_by(scopes, site, f, x, n, fragments)
+}
