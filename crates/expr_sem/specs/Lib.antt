@@ -28,6 +28,5 @@ pub mod SetCodings
 pub mod MadeAnswers
 pub mod Selections
 pub mod ArgumentFits
-pub mod Callees
 pub mod VariableArguments
 pub mod Updates

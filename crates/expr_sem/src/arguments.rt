@@ -6,8 +6,8 @@ ghost use Rattle.m2_base.specs.Statics.Contexts.{Source, refuse as spec_refuse};
 ghost use Rattle.m2_base.specs.Statics.Types.{is_broken as spec_broken, size_of as spec_size};
 ghost use Rattle.m2_base.specs.declared.notes.Notes.{Notes as NotesOf};
 ghost use Rattle.const_eval.specs.Sites.{IsOperand};
-ghost use Rattle.expr_sem.specs.ArgumentFits.{IsArgument, argument_in, array_fit as spec_array_fit, element_fit as spec_element_fit, parameter_view, passed_of};
-ghost use Rattle.expr_sem.specs.Arguments.{argument as spec_argument, by_address as spec_address, by_value as spec_value, string_copy as spec_copy, value_argument as spec_value_argument};
+ghost use Rattle.expr_sem.specs.ArgumentFits.{IsArgument, argument_in, array_fit as spec_array_fit, element_fit as spec_element_fit, passed_of};
+ghost use Rattle.expr_sem.specs.Arguments.{by_address as spec_address, by_value as spec_value, string_copy as spec_copy, value_argument as spec_value_argument};
 ghost use Rattle.expr_sem.specs.Coded.{characters as spec_characters};
 ghost use Rattle.expr_sem.specs.Codings.{Coding, IsCoded, IsFragment, coded_in};
 ghost use Rattle.expr_sem.specs.Fragments.{IsMade, part};
@@ -245,22 +245,4 @@ fn array_fit<S: Scopes>(
         RowMeaning::OpenArray(element) => element_fit(scopes, around, want, element),
         _ => Ask::Known(ElementFit::Other),
     }
-}
-
-/// The code of an argument beside its parameter, where neither is in error.
-pub fn argument<S: Scopes>(
-    scopes: &mut S,
-    site: &Site,
-    p: Parameter,
-    at: u32,
-    x: Coded,
-    fragments: &mut Fragments,
-    notes: &mut Notes,
-) -> Result<Ask<Option<Fragment>>, Memory>
-    requires suits { SuitsSite (S.state scopes.old).frame site.now }
-    requires p { IsThere (S.state scopes.old).frame p.of }
-    requires x { IsCoded (S.state scopes.old).frame fragments.old.nodes.items x }
-    ensures { Coding (S.state scopes.old) (S.state scopes.new) notes.old notes.new fragments.old.nodes.items fragments.new.nodes.items site.now result IsArgument argument_in (λ c. spec_argument c (parameter_view p) at (coded_in fragments.old.nodes.items x)) }
-{
-    Err(Memory)
 }

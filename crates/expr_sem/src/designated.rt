@@ -1,5 +1,5 @@
 //! Variables with the code of their addresses.
-ghost use Rattle.std.specs.Prelude.{◌≡◌, ◌∷◌, [], List};
+ghost use Rattle.std.specs.Prelude.{◌∷◌, [], List};
 ghost use Rattle.m2_base.specs.Gives.{gives};
 ghost use Rattle.m2_base.specs.States.{State};
 ghost use Rattle.m2_base.specs.declared.notes.Notes.{Notes};

@@ -1,5 +1,5 @@
 //! Elements of arrays, and what pointers point to.
-ghost use Rattle.std.specs.Prelude.{◌≡◌, ◌∷◌, [], ◌<◌, ◌^◌, ◌||◌, IfOk, if◌then◌else◌, option_map};
+ghost use Rattle.std.specs.Prelude.{◌≡◌, ◌∷◌, [], ◌<◌, ◌||◌, IfOk, if◌then◌else◌, option_map};
 ghost use Rattle.std.specs.Option.{IfSome};
 ghost use Rattle.m2_base.specs.Gives.{and_then, gives};
 ghost use Rattle.m2_base.specs.Rows.{IsValue};
@@ -8,7 +8,7 @@ ghost use Rattle.m2_base.specs.States.{Waits};
 ghost use Rattle.m2_base.specs.Statics.Diagnostics.{not_assignable};
 ghost use Rattle.m2_base.specs.Statics.Operands.{is_bad as spec_bad};
 ghost use Rattle.m2_base.specs.Statics.Ranges.{count_of, range};
-ghost use Rattle.m2_base.specs.Statics.TypeParts.{named_target, target_of as spec_target_of};
+ghost use Rattle.m2_base.specs.Statics.TypeParts.{named_target};
 ghost use Rattle.m2_base.specs.Statics.Types.{is_broken as spec_broken, kind_of, meaning_at, size_of as spec_size, range_of as spec_range};
 ghost use Rattle.m2_base.specs.declared.notes.Notes.{Notes as NotesOf};
 ghost use Rattle.m2_base.specs.declared.operands.Operand.TheVariants.{Variable};
@@ -16,8 +16,7 @@ ghost use Rattle.code_form.specs.declared.instr.Instr.TheVariants.{IndexOpen, Lo
 ghost use Rattle.type_rules.specs.Asks.{Reads, WhereKnown, WhereWaiting};
 ghost use Rattle.type_rules.specs.Scenes.{IsThere, Suits, WhereTold, scene_of};
 ghost use Rattle.type_rules.specs.Sites.{SuitsSite};
-ghost use Rattle.const_eval.specs.Sites.{IsOperand};
-ghost use Rattle.expr_sem.specs.Coded.{coded, in_error as spec_in_error, value_code as spec_value};
+ghost use Rattle.expr_sem.specs.Coded.{coded, value_code as spec_value};
 ghost use Rattle.expr_sem.specs.Codings.{Coding, IsCoded, coded_in, high_in};
 ghost use Rattle.expr_sem.specs.Elements.{element_of_array as spec_of_array, element_of_open as spec_of_open, index_instr as spec_index, of_array as spec_array, of_pointer as spec_pointer, select_element as spec_element, select_target as spec_target};
 ghost use Rattle.expr_sem.specs.Fragments.{IsIn, IsMade, part};

@@ -43,7 +43,6 @@ macro_rules! asked {
 mod answers;
 mod appending;
 mod arguments;
-mod calls;
 mod chains;
 mod coded;
 mod designated;

@@ -15,7 +15,7 @@ ghost use Rattle.expr_sem.specs.ProcedureNames.{import_number as spec_import_num
 ghost use Rattle.expr_sem.specs.Targets.{target_view};
 ghost use Rattle.type_rules.specs.Asks.{Reads, WhereKnown, WhereWaiting};
 ghost use Rattle.type_rules.specs.Scenes.{IsRowOf, IsThere, WhereTold, block_of, rows_of, scene_of};
-ghost use Rattle.type_rules.specs.Sites.{SuitsSite, context_of};
+ghost use Rattle.type_rules.specs.Sites.{SuitsSite};
 
 use crate::answers::answered;
 use crate::fragments::{Fragment, Fragments};

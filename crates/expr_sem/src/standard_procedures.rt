@@ -8,10 +8,10 @@ ghost use Rattle.code_form.specs.declared.instr.Instr.TheVariants as instrs;
 ghost use Rattle.expr_sem.specs.Coded.{coded};
 ghost use Rattle.expr_sem.specs.Codings.{Coding, IsCoded, coded_in};
 ghost use Rattle.expr_sem.specs.Parts.{plain};
-ghost use Rattle.expr_sem.specs.StandardProcedures.{first_of_two as spec_first, is_function as spec_function, no_value, of_no_argument as spec_none, of_one_argument as spec_one, of_two_arguments as spec_two, takes_count as spec_count};
+ghost use Rattle.expr_sem.specs.StandardProcedures.{first_of_two as spec_first, is_function as spec_function, no_value, of_no_argument as spec_none, takes_count as spec_count};
 ghost use Rattle.type_rules.specs.Sites.{SuitsSite};
 
-use crate::coded::{Coded, Placed};
+use crate::coded::Coded;
 use crate::fragments::Fragments;
 use crate::updates::NO_VALUE;
 use crate::variable_arguments::{Wanted, variable_argument};
@@ -64,23 +64,6 @@ pub fn of_no_argument(f: Builtin, fragments: &mut Fragments) -> Result<Ask<Coded
     }
 }
 
-/// A standard procedure of one argument.
-pub fn of_one_argument<S: Scopes>(
-    scopes: &mut S,
-    site: &Site,
-    f: Builtin,
-    at: u32,
-    x: Coded,
-    fragments: &mut Fragments,
-    notes: &mut Notes,
-) -> Result<Ask<Coded>, Memory>
-    requires suits { SuitsSite (S.state scopes.old).frame site.now }
-    requires x { IsCoded (S.state scopes.old).frame fragments.old.nodes.items x }
-    ensures { Coding (S.state scopes.old) (S.state scopes.new) notes.old notes.new fragments.old.nodes.items fragments.new.nodes.items site.now result IsCoded coded_in (λ c. spec_one c f at (coded_in fragments.old.nodes.items x)) }
-{
-    Err(Memory)
-}
-
 /// The first of two arguments, before the second is looked at.
 pub fn first_of_two<S: Scopes>(
     scopes: &mut S,
@@ -102,22 +85,4 @@ pub fn first_of_two<S: Scopes>(
         Builtin::Excl => variable_argument(scopes, site, Wanted::Set, at, x, fragments, notes),
         _ => Ok(Ask::Known(x)),
     }
-}
-
-/// A standard procedure of two arguments, of which the first is as `first_of_two` gives it; of others nobody asks.
-pub fn of_two_arguments<S: Scopes>(
-    scopes: &mut S,
-    site: &Site,
-    f: Builtin,
-    x: Placed,
-    y: Placed,
-    fragments: &mut Fragments,
-    notes: &mut Notes,
-) -> Result<Ask<Coded>, Memory>
-    requires suits { SuitsSite (S.state scopes.old).frame site.now }
-    requires x { IsCoded (S.state scopes.old).frame fragments.old.nodes.items x.coded }
-    requires y { IsCoded (S.state scopes.old).frame fragments.old.nodes.items y.coded }
-    ensures { Coding (S.state scopes.old) (S.state scopes.new) notes.old notes.new fragments.old.nodes.items fragments.new.nodes.items site.now result IsCoded coded_in (λ c. spec_two c f x.at (coded_in fragments.old.nodes.items x.coded) y.at (coded_in fragments.old.nodes.items y.coded)) }
-{
-    Err(Memory)
 }
