@@ -20,7 +20,7 @@ use Rattle.expr_sem.specs.Parts.{Part, plain}
 use Rattle.expr_sem.proofs.Law.{designated-good, expression-good}
 use Rattle.expr_sem.proofs.Moves.{Moves-none, Moves-then, plain-moves}
 use Rattle.expr_sem.proofs.Proper.{Addressed, call_alone-proper, variable-addressed}
-use Rattle.expr_sem.proofs.Values.{Valued, as_value-good, both_ways}
+use Rattle.expr_sem.proofs.ValueHeights.{Valued, as_value-good, both_ways}
 use Rattle.stmt_sem.specs.Assignments.{assignment, code_unless_bad}
 use Rattle.stmt_sem.specs.BlockCode.{copy_code, ending, first_spot, prologue, run_of}
 use Rattle.stmt_sem.specs.Cases.{labels_code, no_case, selector_code, selector_type}
