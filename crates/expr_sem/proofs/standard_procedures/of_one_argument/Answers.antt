@@ -1,6 +1,0 @@
-use Rattle.type_rules.proofs.Reading.{Reads-refl}
-use Rattle.expr_sem.proofs.Making.{question_failed}
-use Rattle.expr_sem.proofs.standard_procedures.of_one_argument.Goals as goal
-
-pub returns : goal.returns
-returns g c = question_failed _ _ (Reads-refl _) _
