@@ -60,7 +60,9 @@ mod structures;
 mod values;
 
 pub use arguments::{Arguments, Shape};
-pub use calls::{TypeFunction, ValueFunction, call_of, of_type_noted, of_value_noted, val_of_operand};
+pub use calls::{
+    TypeFunction, ValueFunction, call_of, of_type_noted, of_value_noted, val_of_operand,
+};
 pub use constants::constant;
 pub use extremes::{Extreme, extreme_of, size_value};
 pub use faults::{Fault, FaultKind};
