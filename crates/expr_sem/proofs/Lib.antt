@@ -23,3 +23,12 @@ pub mod ValueCases
 pub mod PieceParts
 pub mod Stacked
 pub mod ArgumentCases
+pub mod OpenArguments
+pub mod CallCases
+pub mod Walking
+pub mod ExpressionFolds
+pub mod PartsGiven
+pub mod ArgumentFolds
+pub mod StandardArguments
+pub mod Evaluating
+pub mod Calling

@@ -30,3 +30,9 @@ pub mod Selections
 pub mod ArgumentFits
 pub mod VariableArguments
 pub mod Updates
+pub mod SetMembers
+pub mod Rooms
+pub mod Callees
+pub mod Signatures
+pub mod ExpressionParts
+pub mod Evaluations

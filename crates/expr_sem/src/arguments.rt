@@ -1,17 +1,22 @@
 //! The code of arguments beside their parameters.
-ghost use Rattle.std.specs.Prelude.{◌≡◌, ◌<◌, List, None, if◌then◌else◌, length};
-ghost use Rattle.m2_base.specs.Gives.{gives};
+ghost use Rattle.std.specs.Prelude.{◌≡◌, ◌<◌, ◌-◌, ◌∷◌, ◌&&◌, [], List, None, if◌then◌else◌, length, not, pos};
+ghost use Rattle.m2_base.specs.Gives.{and_then, gives};
 ghost use Rattle.m2_base.specs.States.{State, Waits};
 ghost use Rattle.m2_base.specs.Statics.Contexts.{Source, refuse as spec_refuse};
-ghost use Rattle.m2_base.specs.Statics.Types.{is_broken as spec_broken, size_of as spec_size};
+ghost use Rattle.m2_base.specs.Statics.Types.{is_broken as spec_broken, kind_of, size_of as spec_size};
 ghost use Rattle.m2_base.specs.declared.notes.Notes.{Notes as NotesOf};
+ghost use Rattle.code_form.specs.declared.instr.Instr.TheVariants.{Push};
 ghost use Rattle.const_eval.specs.Sites.{IsOperand};
-ghost use Rattle.expr_sem.specs.ArgumentFits.{IsArgument, argument_in, array_fit as spec_array_fit, element_fit as spec_element_fit, passed_of};
-ghost use Rattle.expr_sem.specs.Arguments.{by_address as spec_address, by_value as spec_value, string_copy as spec_copy, value_argument as spec_value_argument};
+ghost use Rattle.expr_sem.specs.ArgumentFits.{IsArgument, argument_in, array_fit as spec_array_fit, closed_mode, element_fit as spec_element_fit, fitting_argument as spec_fitting, mode_by as spec_mode_by, parameter_view, passed_of, taken_mode as spec_taken_mode};
+ghost use Rattle.expr_sem.specs.Arguments.{argument as spec_argument, array_argument as spec_array_argument, by_address as spec_address, by_mode as spec_mode, by_value as spec_value, checked_mode as spec_checked, is_variable as spec_variable, open_argument as spec_open, string_argument as spec_string_argument, string_copy as spec_copy, value_argument as spec_value_argument};
 ghost use Rattle.expr_sem.specs.Coded.{characters as spec_characters};
 ghost use Rattle.expr_sem.specs.Codings.{Coding, IsCoded, IsFragment, coded_in};
 ghost use Rattle.expr_sem.specs.Fragments.{IsMade, part};
+ghost use Rattle.expr_sem.specs.Kinds.{IsKindHere};
+ghost use Rattle.expr_sem.specs.Parts.{plain, text as spec_text, ◌⨟◌};
 ghost use Rattle.expr_sem.specs.Refusals.{code_of};
+ghost use Rattle.expr_sem.specs.StandardFunctions.{high_code as spec_high};
+ghost use Rattle.expr_sem.specs.Values.{as_value as spec_as_value};
 ghost use Rattle.expr_sem.specs.declared.arguments.ElementFit.TheVariants.{Broken};
 ghost use Rattle.expr_sem.specs.declared.fragments.Node.{Node};
 ghost use Rattle.type_rules.specs.Asks.{Reads, WhereKnown, WhereWaiting};
@@ -19,14 +24,17 @@ ghost use Rattle.type_rules.specs.Scenes.{IsSaid, IsThere, Suits, WhereTold, sce
 ghost use Rattle.type_rules.specs.Sites.{SuitsSite};
 
 use crate::answers::answered;
-use crate::coded::Coded;
+use crate::chains::instr_behind;
+use crate::coded::{Coded, Placed};
 use crate::fitting::fitted_code;
 use crate::fragments::{Fragment, Fragments};
 use crate::refusals::{Refusal, refused};
-use crate::values::{assigned_to, characters};
-use const_eval::is_broken;
+use crate::standard_functions::{has_small_ordinal, high_code};
+use crate::values::{as_value, assigned_to, characters, string_value};
+use code_form::Instr;
+use const_eval::{is_bad, is_broken, is_in_error};
 use m2_base::{Around, Ask, Memory, Notes, Operand, Place, RowMeaning, Scopes, Site};
-use type_rules::{same, size_of};
+use type_rules::{CHARACTER, same, size_of, stand};
 
 /// A parameter: its type, and whether it is a VAR parameter.
 #[derive(Clone, Copy, Debug, PartialEq, Eq)]
@@ -244,5 +252,324 @@ fn array_fit<S: Scopes>(
         }
         RowMeaning::OpenArray(element) => element_fit(scopes, around, want, element),
         _ => Ask::Known(ElementFit::Other),
+    }
+}
+
+/// The code of an array as the argument of an open array: its address, and the number of its elements less 1.
+fn array_passed<S: Scopes>(
+    scopes: &mut S,
+    site: &Site,
+    x: Coded,
+    kind: RowMeaning,
+    fragments: &mut Fragments,
+) -> Result<Ask<Fragment>, Memory>
+    requires suits { SuitsSite (S.state scopes.old).frame site.now }
+    requires x { IsCoded (S.state scopes.old).frame fragments.old.nodes.items x }
+    requires kind { IsKindHere (S.state scopes.old).frame kind }
+    ensures { (notes : NotesOf) → Coding (S.state scopes.old) (S.state scopes.new) notes notes fragments.old.nodes.items fragments.new.nodes.items site.now result IsFragment part (λ c. gives (part fragments.old.nodes.items x.code ⨟ spec_high c.scene (coded_in fragments.old.nodes.items x) kind)) }
+{
+    let high = analysed!(high_code(scopes, site, x, kind, fragments));
+    answered(fragments.then(x.code, high))
+}
+
+/// An array as the argument of an open array, by how its elements are beside the type that is wanted.
+fn fitting_argument<S: Scopes>(
+    scopes: &mut S,
+    site: &Site,
+    x: Placed,
+    kind: RowMeaning,
+    fit: ElementFit,
+    fragments: &mut Fragments,
+    notes: &mut Notes,
+) -> Result<Ask<Option<Fragment>>, Memory>
+    requires suits { SuitsSite (S.state scopes.old).frame site.now }
+    requires x { IsCoded (S.state scopes.old).frame fragments.old.nodes.items x.coded }
+    requires kind { IsKindHere (S.state scopes.old).frame kind }
+    ensures { Coding (S.state scopes.old) (S.state scopes.new) notes.old notes.new fragments.old.nodes.items fragments.new.nodes.items site.now result IsArgument argument_in (λ c. spec_fitting c x.at (coded_in fragments.old.nodes.items x.coded) kind fit) }
+{
+    match fit {
+        ElementFit::Broken => Ok(Ask::Known(None)),
+        ElementFit::Alike => passed(array_passed(scopes, site, x.coded, kind, fragments)),
+        ElementFit::Other => refused_argument(site, x.at, Refusal::WrongArgument, notes),
+    }
+}
+
+/// A variable as the argument of an open array, by the place and the meaning of its type's row.
+fn array_argument<S: Scopes>(
+    scopes: &mut S,
+    site: &Site,
+    want: Place,
+    x: Placed,
+    stood: (Place, RowMeaning),
+    fragments: &mut Fragments,
+    notes: &mut Notes,
+) -> Result<Ask<Option<Fragment>>, Memory>
+    requires suits { SuitsSite (S.state scopes.old).frame site.now }
+    requires want { IsThere (S.state scopes.old).frame want }
+    requires x { IsCoded (S.state scopes.old).frame fragments.old.nodes.items x.coded }
+    requires there { IsThere (S.state scopes.old).frame stood.0 }
+    requires said { IsSaid (S.state scopes.old).frame stood.0 stood.1 }
+    ensures { Coding (S.state scopes.old) (S.state scopes.new) notes.old notes.new fragments.old.nodes.items fragments.new.nodes.items site.now result IsArgument argument_in (λ c. spec_array_argument c want x.at (coded_in fragments.old.nodes.items x.coded) stood.1) }
+{
+    let (place, kind) = stood;
+    has_small_ordinal(place);
+    match array_fit(scopes, site.around, want, place, kind) {
+        Ask::Known(fit) => fitting_argument(scopes, site, x, kind, fit, fragments, notes),
+        Ask::DontKnowYet(head) => Ok(Ask::DontKnowYet(head)),
+    }
+}
+
+/// A variable of a type as the argument of an open array.
+fn variable_argument<S: Scopes>(
+    scopes: &mut S,
+    site: &Site,
+    want: Place,
+    x: Placed,
+    of: Place,
+    fragments: &mut Fragments,
+    notes: &mut Notes,
+) -> Result<Ask<Option<Fragment>>, Memory>
+    requires suits { SuitsSite (S.state scopes.old).frame site.now }
+    requires want { IsThere (S.state scopes.old).frame want }
+    requires x { IsCoded (S.state scopes.old).frame fragments.old.nodes.items x.coded }
+    requires of { IsThere (S.state scopes.old).frame of }
+    ensures { Coding (S.state scopes.old) (S.state scopes.new) notes.old notes.new fragments.old.nodes.items fragments.new.nodes.items site.now result IsArgument argument_in (λ c. spec_array_argument c want x.at (coded_in fragments.old.nodes.items x.coded) (kind_of c.scene of)) }
+{
+    match stand(scopes, site.around, of) {
+        Ask::Known(stood) => array_argument(scopes, site, want, x, stood, fragments, notes),
+        Ask::DontKnowYet(head) => Ok(Ask::DontKnowYet(head)),
+    }
+}
+
+/// The length of a string less 1, pushed.
+fn push_length(length: u32) -> Instr
+    ensures { result ≡ Push (pos (length - 1)) }
+{
+    Instr::Push(length.saturating_sub(1) as i64)
+}
+
+/// The code of a string as the argument of an open array: its address, and its length less 1.
+fn string_passed(
+    site: &Site,
+    name: u32,
+    size: u32,
+    fragments: &mut Fragments,
+) -> Result<Fragment, Memory>
+    requires named { name < length site.now.texts.now.names }
+    ensures { (source : Source) → source.spellings ≡ site.now.texts.now.names → IsMade fragments.old.nodes.items fragments.new.nodes.items result (spec_text (spec_characters source name) ⨟ plain (Push (pos (size - 1)) ∷ [])) }
+{
+    let address = string_value(site, name, fragments)?;
+    instr_behind(address, push_length(size), fragments)
+}
+
+/// A string, by its name and its length, as the argument of an open array.
+fn string_argument<S: Scopes>(
+    scopes: &mut S,
+    site: &Site,
+    want: Place,
+    at: u32,
+    string: (u32, u32),
+    fragments: &mut Fragments,
+    notes: &mut Notes,
+) -> Result<Ask<Option<Fragment>>, Memory>
+    requires suits { SuitsSite (S.state scopes.old).frame site.now }
+    requires want { IsThere (S.state scopes.old).frame want }
+    requires named { string.0 < length site.now.texts.now.names }
+    ensures { Coding (S.state scopes.old) (S.state scopes.new) notes.old notes.new fragments.old.nodes.items fragments.new.nodes.items site.now result IsArgument argument_in (λ c. spec_string_argument c want at string.0 string.1) }
+{
+    match same(scopes, site.around, want, CHARACTER) {
+        Ask::Known(true) => {
+            passed(answered(string_passed(site, string.0, string.1, fragments)))
+        }
+        Ask::Known(false) => refused_argument(site, at, Refusal::WrongArgument, notes),
+        Ask::DontKnowYet(head) => Ok(Ask::DontKnowYet(head)),
+    }
+}
+
+/// An argument of an open array with elements of a type.
+fn open_argument<S: Scopes>(
+    scopes: &mut S,
+    site: &Site,
+    want: Place,
+    x: Placed,
+    fragments: &mut Fragments,
+    notes: &mut Notes,
+) -> Result<Ask<Option<Fragment>>, Memory>
+    requires suits { SuitsSite (S.state scopes.old).frame site.now }
+    requires want { IsThere (S.state scopes.old).frame want }
+    requires x { IsCoded (S.state scopes.old).frame fragments.old.nodes.items x.coded }
+    ensures { Coding (S.state scopes.old) (S.state scopes.new) notes.old notes.new fragments.old.nodes.items fragments.new.nodes.items site.now result IsArgument argument_in (λ c. spec_open c want x.at (coded_in fragments.old.nodes.items x.coded) x.coded.operand) }
+{
+    match x.coded.operand {
+        Operand::StringConstant(name, length) => {
+            let string = (name, length);
+            string_argument(scopes, site, want, x.at, string, fragments, notes)
+        }
+        Operand::Variable(of) => {
+            variable_argument(scopes, site, want, x, of, fragments, notes)
+        }
+        _ => refused_argument(site, x.at, Refusal::WrongArgument, notes),
+    }
+}
+
+/// An argument of a parameter that is no open array.
+fn closed_argument<S: Scopes>(
+    scopes: &mut S,
+    site: &Site,
+    p: Parameter,
+    x: Placed,
+    fragments: &mut Fragments,
+    notes: &mut Notes,
+) -> Result<Ask<Option<Fragment>>, Memory>
+    requires suits { SuitsSite (S.state scopes.old).frame site.now }
+    requires p { IsThere (S.state scopes.old).frame p.of }
+    requires x { IsCoded (S.state scopes.old).frame fragments.old.nodes.items x.coded }
+    ensures { Coding (S.state scopes.old) (S.state scopes.new) notes.old notes.new fragments.old.nodes.items fragments.new.nodes.items site.now result IsArgument argument_in (λ c. closed_mode c (parameter_view p) x.at (coded_in fragments.old.nodes.items x.coded)) }
+{
+    if p.by_ref {
+        by_address(scopes, site, p.of, x.at, x.coded, notes)
+    } else {
+        by_value(scopes, site, p.of, x.at, x.coded, fragments, notes)
+    }
+}
+
+/// An argument that isn't in error, by the place and the meaning of the row of its parameter's type.
+fn mode_by<S: Scopes>(
+    scopes: &mut S,
+    site: &Site,
+    p: Parameter,
+    stood: (Place, RowMeaning),
+    x: Placed,
+    fragments: &mut Fragments,
+    notes: &mut Notes,
+) -> Result<Ask<Option<Fragment>>, Memory>
+    requires suits { SuitsSite (S.state scopes.old).frame site.now }
+    requires p { IsThere (S.state scopes.old).frame p.of }
+    requires there { IsThere (S.state scopes.old).frame stood.0 }
+    requires said { IsSaid (S.state scopes.old).frame stood.0 stood.1 }
+    requires x { IsCoded (S.state scopes.old).frame fragments.old.nodes.items x.coded }
+    ensures { Coding (S.state scopes.old) (S.state scopes.new) notes.old notes.new fragments.old.nodes.items fragments.new.nodes.items site.now result IsArgument argument_in (λ c. spec_mode_by c (parameter_view p) x.at (coded_in fragments.old.nodes.items x.coded) stood.1) }
+{
+    let (place, kind) = stood;
+    has_small_ordinal(place);
+    match kind {
+        RowMeaning::OpenArray(element) => {
+            open_argument(scopes, site, element, x, fragments, notes)
+        }
+        _ => closed_argument(scopes, site, p, x, fragments, notes),
+    }
+}
+
+/// An argument that isn't in error, by the kind of its parameter.
+fn by_mode<S: Scopes>(
+    scopes: &mut S,
+    site: &Site,
+    p: Parameter,
+    x: Placed,
+    fragments: &mut Fragments,
+    notes: &mut Notes,
+) -> Result<Ask<Option<Fragment>>, Memory>
+    requires suits { SuitsSite (S.state scopes.old).frame site.now }
+    requires p { IsThere (S.state scopes.old).frame p.of }
+    requires x { IsCoded (S.state scopes.old).frame fragments.old.nodes.items x.coded }
+    ensures { Coding (S.state scopes.old) (S.state scopes.new) notes.old notes.new fragments.old.nodes.items fragments.new.nodes.items site.now result IsArgument argument_in (λ c. spec_mode c (parameter_view p) x.at (coded_in fragments.old.nodes.items x.coded)) }
+{
+    match stand(scopes, site.around, p.of) {
+        Ask::Known(stood) => mode_by(scopes, site, p, stood, x, fragments, notes),
+        Ask::DontKnowYet(head) => Ok(Ask::DontKnowYet(head)),
+    }
+}
+
+/// Whether a parameter is a VAR parameter, and an operand no variable.
+fn refuses(p: Parameter, operand: Operand) -> bool
+    ensures { result ≡ (p.by_ref && not (spec_variable operand)) }
+{
+    p.by_ref && !matches!(operand, Operand::Variable(_))
+}
+
+/// An argument that isn't in error, of a parameter that isn't: a VAR parameter takes a variable alone.
+fn taken_mode<S: Scopes>(
+    scopes: &mut S,
+    site: &Site,
+    p: Parameter,
+    x: Placed,
+    fragments: &mut Fragments,
+    notes: &mut Notes,
+) -> Result<Ask<Option<Fragment>>, Memory>
+    requires suits { SuitsSite (S.state scopes.old).frame site.now }
+    requires p { IsThere (S.state scopes.old).frame p.of }
+    requires x { IsCoded (S.state scopes.old).frame fragments.old.nodes.items x.coded }
+    ensures { Coding (S.state scopes.old) (S.state scopes.new) notes.old notes.new fragments.old.nodes.items fragments.new.nodes.items site.now result IsArgument argument_in (λ c. spec_taken_mode c (parameter_view p) x.at (coded_in fragments.old.nodes.items x.coded)) }
+{
+    if refuses(p, x.coded.operand) {
+        refused_argument(site, x.at, Refusal::NotAVariable, notes)
+    } else {
+        by_mode(scopes, site, p, x, fragments, notes)
+    }
+}
+
+/// An argument of a parameter, of which nothing is said where one of them is in error.
+fn checked_mode<S: Scopes>(
+    scopes: &mut S,
+    site: &Site,
+    p: Parameter,
+    x: Placed,
+    fragments: &mut Fragments,
+    notes: &mut Notes,
+) -> Result<Ask<Option<Fragment>>, Memory>
+    requires suits { SuitsSite (S.state scopes.old).frame site.now }
+    requires p { IsThere (S.state scopes.old).frame p.of }
+    requires x { IsCoded (S.state scopes.old).frame fragments.old.nodes.items x.coded }
+    ensures { Coding (S.state scopes.old) (S.state scopes.new) notes.old notes.new fragments.old.nodes.items fragments.new.nodes.items site.now result IsArgument argument_in (λ c. spec_checked c (parameter_view p) x.at (coded_in fragments.old.nodes.items x.coded)) }
+{
+    if is_bad(x.coded.operand) {
+        return Ok(Ask::Known(None));
+    }
+    match is_in_error(scopes, site.around, p.of) {
+        Ask::Known(true) => Ok(Ask::Known(None)),
+        Ask::Known(false) => taken_mode(scopes, site, p, x, fragments, notes),
+        Ask::DontKnowYet(head) => Ok(Ask::DontKnowYet(head)),
+    }
+}
+
+/// An argument of a value parameter.
+fn checked_value<S: Scopes>(
+    scopes: &mut S,
+    site: &Site,
+    p: Parameter,
+    x: Placed,
+    fragments: &mut Fragments,
+    notes: &mut Notes,
+) -> Result<Ask<Option<Fragment>>, Memory>
+    requires suits { SuitsSite (S.state scopes.old).frame site.now }
+    requires p { IsThere (S.state scopes.old).frame p.of }
+    requires x { IsCoded (S.state scopes.old).frame fragments.old.nodes.items x.coded }
+    ensures { Coding (S.state scopes.old) (S.state scopes.new) notes.old notes.new fragments.old.nodes.items fragments.new.nodes.items site.now result IsArgument argument_in (λ c. and_then (spec_as_value c x.at (coded_in fragments.old.nodes.items x.coded)) (spec_checked c (parameter_view p) x.at)) }
+{
+    let coded = analysed!(as_value(site, x.at, x.coded, notes));
+    let value = Placed { at: x.at, coded };
+    checked_mode(scopes, site, p, value, fragments, notes)
+}
+
+/// The code of an argument beside its parameter, where neither is in error.
+pub fn argument<S: Scopes>(
+    scopes: &mut S,
+    site: &Site,
+    p: Parameter,
+    at: u32,
+    x: Coded,
+    fragments: &mut Fragments,
+    notes: &mut Notes,
+) -> Result<Ask<Option<Fragment>>, Memory>
+    requires suits { SuitsSite (S.state scopes.old).frame site.now }
+    requires p { IsThere (S.state scopes.old).frame p.of }
+    requires x { IsCoded (S.state scopes.old).frame fragments.old.nodes.items x }
+    ensures { Coding (S.state scopes.old) (S.state scopes.new) notes.old notes.new fragments.old.nodes.items fragments.new.nodes.items site.now result IsArgument argument_in (λ c. spec_argument c (parameter_view p) at (coded_in fragments.old.nodes.items x)) }
+{
+    let placed = Placed { at, coded: x };
+    if p.by_ref {
+        checked_mode(scopes, site, p, placed, fragments, notes)
+    } else {
+        checked_value(scopes, site, p, placed, fragments, notes)
     }
 }

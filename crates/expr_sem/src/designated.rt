@@ -1,5 +1,5 @@
 //! Variables with the code of their addresses.
-ghost use Rattle.std.specs.Prelude.{◌∷◌, [], List};
+ghost use Rattle.std.specs.Prelude.{List};
 ghost use Rattle.m2_base.specs.Gives.{gives};
 ghost use Rattle.m2_base.specs.States.{State};
 ghost use Rattle.m2_base.specs.declared.notes.Notes.{Notes};
@@ -9,12 +9,11 @@ ghost use Rattle.type_rules.specs.Scenes.{IsThere};
 ghost use Rattle.expr_sem.specs.Coded.{coded};
 ghost use Rattle.expr_sem.specs.Codings.{Coding, IsCoded, coded_in};
 ghost use Rattle.expr_sem.specs.Fragments.{Grows, IsFragmentOf, IsMade};
-ghost use Rattle.expr_sem.specs.Parts.{Part, plain};
+ghost use Rattle.expr_sem.specs.Parts.{Part};
 ghost use Rattle.expr_sem.specs.declared.fragments.Node.{Node};
 
 use crate::coded::Coded;
-use crate::fragments::{Fragment, Fragments};
-use code_form::Instr;
+use crate::fragments::Fragment;
 use m2_base::{Ask, Memory, Operand, Place};
 
 /// A variable of this type, with the code of its address.
@@ -47,13 +46,4 @@ pub fn open_at(
         })),
         Err(memory) => Err(memory),
     }
-}
-
-/// Two instructions, none of which calls or returns.
-pub fn pair(first: Instr, second: Instr, fragments: &mut Fragments) -> Result<Fragment, Memory>
-    ensures { IsMade fragments.old.nodes.items fragments.new.nodes.items result (plain (first ∷ second ∷ [])) }
-{
-    let first = fragments.one(first)?;
-    let second = fragments.one(second)?;
-    fragments.then(first, second)
 }

@@ -24,8 +24,9 @@ ghost use Rattle.expr_sem.specs.Parts.{plain, ◌⨟◌};
 ghost use Rattle.expr_sem.specs.Selections.{pointed as spec_pointed};
 ghost use Rattle.expr_sem.specs.Values.{assigned_to as spec_assigned};
 
+use crate::chains::pair;
 use crate::coded::{Coded, Placed};
-use crate::designated::{pair, variable_at};
+use crate::designated::variable_at;
 use crate::fragments::{Fragment, Fragments};
 use crate::refusals::{Refusal, refused};
 use crate::values::{assigned_to, value_code};
@@ -330,7 +331,7 @@ fn open_found<S: Scopes>(
 
 /// The cells of a type.
 #[tactic(auto, using(type_rules::proofs::Reading::reading))]
-fn cells_of<S: Scopes>(scopes: &mut S, around: &Around, of: Place) -> Ask<u32>
+pub fn cells_of<S: Scopes>(scopes: &mut S, around: &Around, of: Place) -> Ask<u32>
     requires suits { Suits (S.state scopes.old).frame around.now }
     requires of { IsThere (S.state scopes.old).frame of }
     ensures reads { Reads (S.state scopes.old) (S.state scopes.new) }

@@ -17,6 +17,7 @@ ghost use Rattle.type_rules.specs.Asks.{Reads, WhereKnown, WhereWaiting};
 ghost use Rattle.type_rules.specs.Scenes.{IsThere, WhereTold};
 ghost use Rattle.type_rules.specs.Sites.{SuitsSite, context_of};
 
+use crate::chains::pair;
 use crate::coded::Coded;
 use crate::fragments::{Fragment, Fragments};
 use crate::operators::after_both;
@@ -84,23 +85,6 @@ pub fn element_coded<S: Scopes>(
     Ok(Ask::Known(element_as(x, operand)))
 }
 
-/// A code, and then an instruction.
-fn followed(fragments: &mut Fragments, first: Fragment, instr: Instr) -> Result<Fragment, Memory>
-    requires { IsIn fragments.old.nodes.items first }
-    ensures { IsMade fragments.old.nodes.items fragments.new.nodes.items result (part fragments.old.nodes.items first ⨟ plain (instr ∷ [])) }
-{
-    let last = fragments.one(instr)?;
-    fragments.then(first, last)
-}
-
-/// Two instructions.
-fn pair(fragments: &mut Fragments, first: Instr, second: Instr) -> Result<Fragment, Memory>
-    ensures { IsMade fragments.old.nodes.items fragments.new.nodes.items result (plain (first ∷ second ∷ [])) }
-{
-    let first = fragments.one(first)?;
-    followed(fragments, first, second)
-}
-
 /// Two codes, and then an instruction that makes a set of what they leave, which is added.
 fn joined(
     fragments: &mut Fragments,
@@ -112,7 +96,7 @@ fn joined(
     requires y { IsIn fragments.old.nodes.items y }
     ensures { IsMade fragments.old.nodes.items fragments.new.nodes.items result (part fragments.old.nodes.items x ⨟ part fragments.old.nodes.items y ⨟ plain (instr ∷ Instr.Union ∷ [])) }
 {
-    let last = pair(fragments, instr, Instr::Union)?;
+    let last = pair(instr, Instr::Union, fragments)?;
     after_both(fragments, x, y, last)
 }
 

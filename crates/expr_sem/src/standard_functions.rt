@@ -165,7 +165,7 @@ fn high_of<S: Scopes>(
 }
 
 /// The ordinal of a place has 32 bits.
-fn has_small_ordinal(place: Place)
+pub fn has_small_ordinal(place: Place)
     ensures { place.ordinal < 2 ^ 32 }
 {
     let _ordinal = place.ordinal;

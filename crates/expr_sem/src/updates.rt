@@ -17,9 +17,8 @@ ghost use Rattle.type_rules.specs.Asks.{Reads, WhereKnown, WhereWaiting};
 ghost use Rattle.type_rules.specs.Scenes.{IsThere, WhereTold};
 ghost use Rattle.type_rules.specs.Sites.{SuitsSite, context_of};
 
-use crate::chains::instr_behind;
+use crate::chains::{instr_behind, pair};
 use crate::coded::Coded;
-use crate::designated::pair;
 use crate::fragments::{Fragment, Fragments};
 use crate::operators::side_of;
 use crate::values::value_code;
@@ -179,7 +178,7 @@ fn step_by<S: Scopes>(
 }
 
 /// Whether one of two operands takes part in no further check.
-fn either_bad(x: Operand, n: Operand) -> bool
+pub fn either_bad(x: Operand, n: Operand) -> bool
     ensures { result ≡ (spec_bad x || spec_bad n) }
 {
     is_bad(x) || is_bad(n)

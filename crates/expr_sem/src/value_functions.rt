@@ -18,9 +18,8 @@ ghost use Rattle.type_rules.specs.Asks.{Reads, WhereKnown, WhereWaiting};
 ghost use Rattle.type_rules.specs.Scenes.{IsThere, WhereTold};
 ghost use Rattle.type_rules.specs.Sites.{SuitsSite, context_of};
 
-use crate::chains::instr_behind;
+use crate::chains::{instr_behind, pair};
 use crate::coded::Coded;
-use crate::designated::pair;
 use crate::fitting::fitted_code;
 use crate::fragments::{Fragment, Fragments};
 use crate::operators::{made, side_of};

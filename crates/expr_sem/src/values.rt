@@ -1,5 +1,5 @@
 //! What stands where a value is wanted, the code of a value, and which value a variable of a type takes.
-ghost use Rattle.std.specs.Prelude.{◌≡◌, ◌<◌, [], ◌∷◌, List, length, option_map, IfOk};
+ghost use Rattle.std.specs.Prelude.{◌≡◌, ◌<◌, List, length, option_map, IfOk};
 ghost use Rattle.m2_base.specs.Gives.{gives};
 ghost use Rattle.m2_base.specs.States.{State, Waits};
 ghost use Rattle.m2_base.specs.Statics.Contexts.{Source};
@@ -7,12 +7,11 @@ ghost use Rattle.m2_base.specs.Statics.Operands.{characters_of as spec_character
 ghost use Rattle.m2_base.specs.Statics.Ranges.{range};
 ghost use Rattle.m2_base.specs.declared.notes.Notes.{Notes as NotesOf};
 ghost use Rattle.m2_base.specs.declared.operands.Operand.TheVariants as OperandOf;
-ghost use Rattle.code_form.specs.declared.instr.Instr.TheVariants.{Load};
 ghost use Rattle.const_eval.specs.Sites.{IsOperand};
 ghost use Rattle.expr_sem.specs.Coded.{characters as spec_characters, is_structured as spec_structured, value_by, value_code as spec_value_code};
 ghost use Rattle.expr_sem.specs.Codings.{Coding, IsCoded, IsFragment, coded_in};
 ghost use Rattle.expr_sem.specs.Fragments.{IsIn, IsMade, part};
-ghost use Rattle.expr_sem.specs.Parts.{plain, text as spec_text, ◌⨟◌};
+ghost use Rattle.expr_sem.specs.Parts.{text as spec_text};
 ghost use Rattle.expr_sem.specs.Refusals.{code_of};
 ghost use Rattle.expr_sem.specs.Values.{as_value as spec_as_value, assigned_to as spec_assigned_to, in_range as spec_in_range, in_range_by as spec_in_range_by};
 ghost use Rattle.expr_sem.specs.declared.fragments.Node.{Node};
@@ -21,6 +20,7 @@ ghost use Rattle.type_rules.specs.Scenes.{IsThere, Suits, WhereTold, scene_of};
 ghost use Rattle.type_rules.specs.Sites.{SuitsSite};
 
 use crate::answers::answered;
+use crate::chains::instr_behind;
 use crate::coded::Coded;
 use crate::fragments::{Fragment, Fragments};
 use crate::levels::level_of;
@@ -78,15 +78,6 @@ pub fn is_structured<S: Scopes>(scopes: &mut S, around: &Around, of: Place) -> A
     ))
 }
 
-/// The code of a variable's value, by that of its address.
-fn loaded(code: Fragment, fragments: &mut Fragments) -> Result<Fragment, Memory>
-    requires code { IsIn fragments.old.nodes.items code }
-    ensures { IsMade fragments.old.nodes.items fragments.new.nodes.items result (part fragments.old.nodes.items code ⨟ plain (Load ∷ [])) }
-{
-    let load = fragments.one(Instr::Load)?;
-    fragments.then(code, load)
-}
-
 /// The code of the value of a variable of a type.
 fn variable_value<S: Scopes>(
     scopes: &mut S,
@@ -102,13 +93,13 @@ fn variable_value<S: Scopes>(
 {
     match is_structured(scopes, site.around, of) {
         Ask::Known(true) => Ok(Ask::Known(code)),
-        Ask::Known(false) => answered(loaded(code, fragments)),
+        Ask::Known(false) => answered(instr_behind(code, Instr::Load, fragments)),
         Ask::DontKnowYet(head) => Ok(Ask::DontKnowYet(head)),
     }
 }
 
 /// The code of a string.
-fn string_value(site: &Site, name: u32, fragments: &mut Fragments) -> Result<Fragment, Memory>
+pub fn string_value(site: &Site, name: u32, fragments: &mut Fragments) -> Result<Fragment, Memory>
     requires named { name < length site.now.texts.now.names }
     ensures { (source : Source) → source.spellings ≡ site.now.texts.now.names → IsMade fragments.old.nodes.items fragments.new.nodes.items result (spec_text (spec_characters source name)) }
 {

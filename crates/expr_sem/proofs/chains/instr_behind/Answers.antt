@@ -1,5 +1,5 @@
-use Rattle.expr_sem.proofs.Joining.{joined_new}
+use Rattle.expr_sem.proofs.Sequencing.{behind}
 use Rattle.expr_sem.proofs.chains.instr_behind.Goals as goal
 
 pub returns : goal.returns
-returns c = joined_new c.args.first c.in_ok-last.last c.then.result c.requires.first c.in_ok-last.ensures.made c.then.ensures.made
+returns c = behind c.then.result c.args.first c.requires c.in_ok-last.ensures.made c.then.ensures.made

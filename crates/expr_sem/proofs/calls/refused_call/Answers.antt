@@ -1,0 +1,22 @@
+use Rattle.std.proofs.Common.{Ok, refl}
+use Rattle.m2_base.specs.Gives.{gives}
+use Rattle.m2_base.specs.Statics.Contexts.{refuse}
+use Rattle.m2_base.specs.declared.replies.Ask.TheVariants.{Known}
+use Rattle.expr_sem.specs.Callees.{IsCallable, called_in}
+use Rattle.expr_sem.specs.Calls.{no_call}
+use Rattle.expr_sem.specs.Coded.{in_error}
+use Rattle.expr_sem.specs.Refusals.{code_of}
+use Rattle.expr_sem.specs.declared.calls.Callable.TheVariants.{Nothing}
+use Rattle.expr_sem.proofs.Operating.{coding_after, unknown, unmade, value_alone}
+use Rattle.expr_sem.proofs.calls.refused_call.Goals as goal
+
+pub returns-in-DontKnowYet : goal.returns-in-DontKnowYet
+returns-in-DontKnowYet c state nodes = unknown (rw c.in-DontKnowYet.is at c.in-Ok.ensures state nodes)
+
+pub returns-in-Err : goal.returns-in-Err
+returns-in-Err c state nodes = unmade (c.in-Err.ensures state nodes) c.in-Err.memory
+
+pub returns : goal.returns
+returns c state nodes =
+    coding_after (λ k. refuse k c.args.at (code_of c.args.refusal) in_error) (λ v k. gives no_call) (Ok (Known Nothing)) (rw c.in-Known.is at c.in-Ok.ensures state nodes)
+    (value_alone state c.refused.new.notes nodes c.args.site.now Nothing IsCallable called_in (λ k. no_call) tt (λ k. refl))

@@ -1,0 +1,29 @@
+use Rattle.std.proofs.Common.{◌∙◌, ◌∷◌, [], Ok, ap}
+use Rattle.std.specs.Prelude.{pos}
+use Rattle.code_form.specs.declared.instr.Instr.TheVariants.{Push, Store}
+use Rattle.const_eval.proofs.TypesThere.{standard_there}
+use Rattle.expr_sem.specs.Coded.{coded}
+use Rattle.expr_sem.specs.Codings.{IsCoded, coded_in}
+use Rattle.expr_sem.specs.Fragments.{part}
+use Rattle.expr_sem.specs.Parts.{Part, plain, ◌⨟◌}
+use Rattle.expr_sem.specs.StandardProcedures.{no_value}
+use Rattle.expr_sem.proofs.Operating.{value_grown}
+use Rattle.expr_sem.proofs.Selecting.{coding_full}
+use Rattle.expr_sem.proofs.Sequencing.{behind}
+use Rattle.expr_sem.proofs.rooms.emptied.Goals as goal
+
+pub returns-in_err-stored : goal.returns-in_err-stored
+returns-in_err-stored c state notes site suits = coding_full state notes site c.from_residual.result c.from_residual.ensures.0 c.in_err-stored.ensures
+
+pub returns-in_err-code : goal.returns-in_err-code
+returns-in_err-code c state notes site suits =
+    coding_full state notes site c.from_residual-in_err-code.result c.from_residual-in_err-code.ensures.0 (behind _ c.args.pointer c.requires.pointer c.in_ok-stored.ensures c.in_err-code.ensures.made)
+
+pub returns : goal.returns
+returns c state notes site suits =
+    let ns = c.args.fragments.now.nodes.items in
+    let ms = c.then.new.self.nodes.items in
+    let made = behind (Ok c.in_ok-code.code) c.args.pointer c.requires.pointer c.in_ok-stored.ensures c.in_ok-code.ensures.made in
+    value_grown state notes site c.new.result IsCoded coded_in (λ k. coded no_value (part ns c.args.pointer ⨟ plain (Push (pos 0) ∷ Store ∷ [])))
+    made.grows (c.new.ensures.there state.frame ms (standard_there suits.around 10) made.made.there)
+    (λ k. c.new.ensures.told ms ∙ ap (λ (p : Part). coded no_value p) made.made.part_is)

@@ -1,0 +1,31 @@
+use Rattle.std.proofs.Common.{◌∙◌, ℕ, ap}
+use Rattle.m2_base.specs.Gives.{gives}
+use Rattle.m2_base.specs.Standard.{broken}
+use Rattle.m2_base.specs.States.{Frame}
+use Rattle.const_eval.proofs.TypesThere.{standard_there}
+use Rattle.type_rules.specs.Scenes.{IsThere}
+use Rattle.expr_sem.specs.Coded.{coded}
+use Rattle.expr_sem.specs.Codings.{IsCoded, coded_in}
+use Rattle.expr_sem.specs.Fragments.{part}
+use Rattle.expr_sem.specs.Parts.{Part}
+use Rattle.expr_sem.specs.Rooms.{room_at}
+use Rattle.expr_sem.specs.StandardProcedures.{no_value}
+use Rattle.expr_sem.proofs.Joining.{question_full}
+use Rattle.expr_sem.proofs.Making.{after_question}
+use Rattle.expr_sem.proofs.Operating.{value_grown}
+use Rattle.expr_sem.proofs.Selecting.{stays_read}
+use Rattle.expr_sem.proofs.rooms.room_made.Goals as goal
+
+pub returns-in_err-code : goal.returns-in_err-code
+returns-in_err-code g c notes = question_full notes c.from_residual.result c.from_residual.ensures.0 c.in-Known.ensures.reads c.in_err-code.ensures
+
+pub returns : goal.returns
+returns g c notes =
+    let ns = c.args.fragments.now.nodes.items in
+    let ms = c.instr_behind.new.fragments.nodes.items in
+    let made = c.in_ok-code.ensures in
+    after_question _ c.in-Known.ensures.reads
+    (value_grown (g.S.Scopes.state c.cells_of.new.scopes) notes c.args.site.now c.new.result IsCoded coded_in (λ k. room_at (part ns c.args.pointer) c.in-Known.value)
+    made.grows (c.new.ensures.there _ ms (stays_read (λ (f : Frame). IsThere f broken) c.in-Known.ensures.reads (standard_there c.requires.suits.around 10)) made.made.there)
+    (λ k. c.new.ensures.told ms ∙ ap (λ (p : Part). coded no_value p) made.made.part_is))
+    (λ rows in_hand told. ap (λ (s : ℕ). gives (room_at (part ns c.args.pointer) s)) (c.in-Known.ensures.told rows in_hand told))

@@ -1,0 +1,21 @@
+use Rattle.std.proofs.Common.{Bool, ap, if◌then◌else◌}
+use Rattle.m2_base.specs.States.{Frame}
+use Rattle.m2_base.specs.Statics.Contexts.{refuse}
+use Rattle.m2_base.specs.Statics.Diagnostics.{wrong_argument}
+use Rattle.type_rules.specs.Sites.{context_of}
+use Rattle.expr_sem.specs.Coded.{in_error}
+use Rattle.expr_sem.specs.Codings.{IsCoded, coded_in}
+use Rattle.expr_sem.specs.Values.{in_range}
+use Rattle.expr_sem.proofs.Making.{after_question, question_waits}
+use Rattle.expr_sem.proofs.Selecting.{stays_read}
+use Rattle.expr_sem.proofs.step_numbers.number_of_type.Goals as goal
+
+pub returns-in-DontKnowYet : goal.returns-in-DontKnowYet
+returns-in-DontKnowYet g c nodes h = question_waits _ nodes c.is_step.ensures.reads c.in-DontKnowYet.ensures.waits
+
+pub returns : goal.returns
+returns g c nodes h =
+    after_question c.number_or_refused.result c.in-Known.ensures.reads
+    (c.number_or_refused.ensures nodes (stays_read (λ (f : Frame). IsCoded f nodes c.args.n) c.in-Known.ensures.reads h))
+    (λ made in_hand told. let k = context_of (g.S.Scopes.state c.args.scopes.now).frame made c.args.site.now in
+    ap (λ (b : Bool). if b then in_range k c.args.at c.args.want (coded_in nodes c.args.n) else refuse k c.args.at wrong_argument in_error) (c.in-Known.ensures.told made in_hand told))

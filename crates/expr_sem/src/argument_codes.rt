@@ -1,0 +1,68 @@
+//! The code of the arguments of a call, one behind another.
+ghost use Rattle.std.specs.Prelude.{◌≡◌, List, Some, map};
+ghost use Rattle.m2_base.specs.Gives.{gives};
+ghost use Rattle.m2_base.specs.States.{Frame, State};
+ghost use Rattle.m2_base.specs.declared.notes.Notes.{Notes as NotesOf};
+ghost use Rattle.m2_base.specs.declared.sites.Site.{Site as SiteOf};
+ghost use Rattle.expr_sem.specs.ArgumentFits.{IsArgument, argument_in, parameter_view};
+ghost use Rattle.expr_sem.specs.Arguments.{after_argument};
+ghost use Rattle.expr_sem.specs.Codings.{Coding};
+ghost use Rattle.expr_sem.specs.ExpressionParts.{all_passed as spec_all, behind_first as spec_behind};
+ghost use Rattle.expr_sem.specs.Fragments.{part};
+ghost use Rattle.expr_sem.specs.declared.fragments.Node.{Node};
+
+use crate::arguments::Parameter;
+use crate::fragments::{Fragment, Fragments};
+use m2_base::{Ask, Memory};
+
+/// The parameters behind the first.
+pub(crate) fn behind_first(params: &[Parameter]) -> &[Parameter]
+    ensures { result.now ≡ spec_behind params.now }
+{
+    match params {
+        [_, rest @ ..] => rest,
+        [] => params,
+    }
+}
+
+/// The code of the arguments, where none is missing for these parameters.
+pub(crate) fn all_passed(params: &[Parameter], code: Option<Fragment>) -> Option<Fragment>
+    ensures told { (nodes : List Node) → argument_in nodes result ≡ spec_all (map parameter_view params.now) (argument_in nodes code) }
+    ensures there { (f : Frame) (nodes : List Node) → IsArgument f nodes code → IsArgument f nodes result }
+{
+    match params {
+        [] => code,
+        [_, ..] => None,
+    }
+}
+
+/// A fragment and the code of an argument behind it.
+fn behind_fragment(
+    first: Fragment,
+    argument: Option<Fragment>,
+    fragments: &mut Fragments,
+) -> Result<Ask<Option<Fragment>>, Memory>
+    ensures { (state : State) (notes : NotesOf) (site : SiteOf) → Coding state state notes notes fragments.old.nodes.items fragments.new.nodes.items site result IsArgument argument_in (λ c. gives (after_argument (Some (part fragments.old.nodes.items first)) (argument_in fragments.old.nodes.items argument))) }
+{
+    match argument {
+        None => Ok(Ask::Known(None)),
+        Some(last) => {
+            let both = fragments.then(first, last)?;
+            Ok(Ask::Known(Some(both)))
+        }
+    }
+}
+
+/// The code of the arguments so far, and that of a further one behind it.
+pub(crate) fn joined(
+    code: Option<Fragment>,
+    argument: Option<Fragment>,
+    fragments: &mut Fragments,
+) -> Result<Ask<Option<Fragment>>, Memory>
+    ensures { (state : State) (notes : NotesOf) (site : SiteOf) → Coding state state notes notes fragments.old.nodes.items fragments.new.nodes.items site result IsArgument argument_in (λ c. gives (after_argument (argument_in fragments.old.nodes.items code) (argument_in fragments.old.nodes.items argument))) }
+{
+    match code {
+        None => Ok(Ask::Known(None)),
+        Some(first) => behind_fragment(first, argument, fragments),
+    }
+}

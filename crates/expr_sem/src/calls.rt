@@ -1,0 +1,503 @@
+//! What a call calls, and its code.
+ghost use Rattle.std.specs.Prelude.{◌≡◌, ◌+◌, ◌∷◌, [], List, Some, if◌then◌else◌, map, option_map};
+ghost use Rattle.m2_base.specs.Gives.{gives};
+ghost use Rattle.m2_base.specs.States.{Frame, State};
+ghost use Rattle.m2_base.specs.Statics.Contexts.{refuse as spec_refuse};
+ghost use Rattle.m2_base.specs.Statics.Types.{is_broken as spec_broken};
+ghost use Rattle.m2_base.specs.declared.notes.Notes.{Notes as NotesOf};
+ghost use Rattle.m2_base.specs.declared.operands.Operand.TheVariants as operands;
+ghost use Rattle.m2_base.specs.declared.rows.Row.{Row as RowOf};
+ghost use Rattle.m2_base.specs.declared.sites.Site.{Site as SiteOf};
+ghost use Rattle.code_form.specs.declared.instr.Instr.TheVariants.{Load};
+ghost use Rattle.const_eval.specs.Sites.{IsOperand};
+ghost use Rattle.expr_sem.specs.ArgumentFits.{IsArgument, argument_in, parameter_view};
+ghost use Rattle.expr_sem.specs.Calls.{allowed as spec_allowed, allowed_by_type, call_code as spec_call_code, call_coded as spec_call_coded, call_instr as spec_call_instr, called as spec_called, called_by, is_same_truth as spec_same, links_to as spec_links, no_call, of_target, result_cells as spec_result};
+ghost use Rattle.expr_sem.specs.Callees.{IsCallee, IsCallable, called_in, target_called, value_called, variable_allowed, variable_called};
+ghost use Rattle.expr_sem.specs.Coded.{coded, in_error};
+ghost use Rattle.expr_sem.specs.Codings.{Coding, IsCoded, IsFragment, coded_in};
+ghost use Rattle.expr_sem.specs.Fragments.{IsIn, IsMade, part};
+ghost use Rattle.expr_sem.specs.Parts.{Part, call as spec_call, plain, ◌⨟◌};
+ghost use Rattle.expr_sem.specs.ProcedureNames.{target_of_procedure as spec_target};
+ghost use Rattle.expr_sem.specs.Refusals.{code_of};
+ghost use Rattle.expr_sem.specs.Signatures.{IsSignature};
+ghost use Rattle.expr_sem.specs.Targets.{target_view};
+ghost use Rattle.expr_sem.specs.declared.fragments.Node.{Node};
+ghost use Rattle.type_rules.specs.Forms.{IsFormHere, parameters_from};
+ghost use Rattle.type_rules.specs.Scenes.{IsThere, block_of};
+ghost use Rattle.type_rules.specs.Sites.{SuitsSite};
+
+use crate::answers::answered;
+use crate::arguments::Parameter;
+use crate::coded::Coded;
+use crate::fragments::{Fragment, Fragments};
+use crate::levels::level_of;
+use crate::procedure_names::{Target, import_of_target, is_foreign, target_of_procedure};
+use crate::refusals::{Refusal, refused};
+use crate::signatures::{Signature, cells_of_all, result_cells, signature_by, signature_of};
+use crate::standard_procedures::{is_function, takes_count};
+use crate::steps::Step;
+use crate::updates::NO_VALUE;
+use crate::chains::instr_behind;
+use crate::variables::links_out;
+use code_form::Instr;
+use const_eval::is_broken;
+use m2_base::{
+    Around, Ask, Builtin, Memory, Notes, Operand, Place, Scopes, Site, standard_procedure,
+};
+use type_rules::{Form, form_of};
+
+/// A procedure or a procedure value that is called: its parameters, the code before the arguments, the instruction, the
+/// result, and how many operands the call takes beside the arguments.
+#[derive(Drop)]
+pub struct Callee {
+    pub params: Vec<Parameter>,
+    pub before: Fragment,
+    pub instr: Instr,
+    pub result: Option<Place>,
+    pub more: u64,
+}
+
+/// What a call calls; nothing, where a diagnostic or a part in error came before.
+#[derive(Drop)]
+pub enum Callable {
+    Standard(Builtin),
+    Procedure(Callee),
+    Nothing,
+}
+
+/// How a call is written: whether it stands where a value is wanted, its designator's first token, and the number of its
+/// arguments.
+#[derive(Clone, Copy, Debug, PartialEq, Eq)]
+struct Wording {
+    is_wanted: bool,
+    at: u32,
+    count: usize,
+}
+
+/// What is refused as a call: it calls nothing.
+fn refused_call(
+    site: &Site,
+    at: u32,
+    refusal: Refusal,
+    notes: &mut Notes,
+) -> Result<Ask<Callable>, Memory>
+    ensures { (state : State) (nodes : List Node) → Coding state state notes.old notes.new nodes nodes site.now result IsCallable called_in (λ c. spec_refuse c at (code_of refusal) no_call) }
+{
+    let _refused = analysed!(refused(site, at, refusal, notes));
+    Ok(Ask::Known(Callable::Nothing))
+}
+
+/// Whether two truth values are the same.
+fn is_same_truth(x: bool, y: bool) -> bool
+    ensures { result ≡ spec_same x y }
+{
+    if x { y } else { !y }
+}
+
+/// What a call calls, unless it gives no value where one is wanted, or the other way round, or its arguments aren't as many
+/// as are taken.
+fn allowed(
+    site: &Site,
+    call: Wording,
+    gives_value: bool,
+    is_count: bool,
+    what: Callable,
+    notes: &mut Notes,
+) -> Result<Ask<Callable>, Memory>
+    ensures { (state : State) (nodes : List Node) → IsCallable state.frame nodes what → Coding state state notes.old notes.new nodes nodes site.now result IsCallable called_in (λ c. spec_allowed c call.at call.is_wanted gives_value is_count (called_in nodes what)) }
+{
+    if is_same_truth(call.is_wanted, gives_value) {
+        if is_count {
+            Ok(Ask::Known(what))
+        } else {
+            refused_call(site, call.at, Refusal::WrongCount, notes)
+        }
+    } else {
+        refused_call(site, call.at, Refusal::NotAProcedure, notes)
+    }
+}
+
+/// A call of a standard procedure, by the number of its name.
+fn called_standard(
+    site: &Site,
+    call: Wording,
+    name: u32,
+    notes: &mut Notes,
+) -> Result<Ask<Callable>, Memory>
+    ensures { (state : State) (nodes : List Node) (code : Part) → Coding state state notes.old notes.new nodes nodes site.now result IsCallable called_in (λ c. called_by c call.is_wanted call.at call.count code (operands.StandardProcedure name)) }
+{
+    let f = standard_procedure(name);
+    let is_count = takes_count(f, call.count);
+    allowed(site, call, is_function(f), is_count, Callable::Standard(f), notes)
+}
+
+/// How many static links lead from a block to the frame that encloses a procedure of a scope; none for one of a module.
+fn links_to(around: &Around, scope: u32) -> u32
+    ensures { result ≡ spec_links (block_of around.now) scope }
+{
+    if level_of(around, scope) == 0 {
+        0
+    } else {
+        links_out(around, scope)
+    }
+}
+
+/// The instruction that calls a procedure.
+fn call_instr(around: &Around, target: Target) -> Instr
+    ensures { (tables : List (List RowOf)) → result ≡ spec_call_instr (record { block = block_of around.now; tables = tables }) (target_view target) }
+{
+    if is_foreign(around, target) {
+        Instr::CallX(import_of_target(around, target), target.number)
+    } else {
+        Instr::Call(target.number, links_to(around, target.of.scope))
+    }
+}
+
+/// A call of a procedure; one that the module lacks was refused elsewhere.
+fn procedure_callable(around: &Around, signature: Signature, target: Option<Target>) -> Callable
+    ensures told { (tables : List (List RowOf)) (nodes : List Node) → called_in nodes result ≡ target_called (record { block = block_of around.now; tables = tables }) (map parameter_view signature.params.items) signature.result (option_map target_view target) }
+    ensures there { (f : Frame) (nodes : List Node) → IsSignature f signature → IsCallable f nodes result }
+{
+    match target {
+        Some(target) => Callable::Procedure(Callee {
+            params: signature.params,
+            before: Fragment::Nothing,
+            instr: call_instr(around, target),
+            result: signature.result,
+            more: 0,
+        }),
+        None => Callable::Nothing,
+    }
+}
+
+/// A call of a procedure, by its name, its type and its number.
+fn called_procedure<S: Scopes>(
+    scopes: &mut S,
+    site: &Site,
+    call: Wording,
+    name: u32,
+    of: Place,
+    number: u32,
+    notes: &mut Notes,
+) -> Result<Ask<Callable>, Memory>
+    requires suits { SuitsSite (S.state scopes.old).frame site.now }
+    requires of { IsThere (S.state scopes.old).frame of }
+    ensures { (nodes : List Node) → Coding (S.state scopes.old) (S.state scopes.new) notes.old notes.new nodes nodes site.now result IsCallable called_in (λ c. allowed_by_type c call.at call.is_wanted call.count of (of_target c.scene of (spec_target c.scene name of number))) }
+{
+    let signature = analysed!(signature_of(scopes, site, of));
+    let target = analysed!(target_of_procedure(scopes, site, name, of, number));
+    let gives_value = signature.gives_value();
+    let is_count = signature.takes(call.count);
+    let what = procedure_callable(site.around, signature, target);
+    allowed(site, call, gives_value, is_count, what, notes)
+}
+
+/// A call of a procedure variable whose arguments have so many cells, by the code of its value.
+fn value_callable(signature: Signature, cells: u32, before: Fragment) -> Callable
+    ensures told { (nodes : List Node) → called_in nodes result ≡ value_called (map parameter_view signature.params.items) signature.result cells (part nodes before) }
+    ensures there { (f : Frame) (nodes : List Node) → IsSignature f signature → IsIn nodes before → IsCallable f nodes result }
+{
+    Callable::Procedure(Callee {
+        params: signature.params,
+        before,
+        instr: Instr::CallVar(cells, result_cells(signature.result)),
+        result: signature.result,
+        more: 1,
+    })
+}
+
+/// A call of a procedure variable whose arguments have so many cells, by the code of its address. Where these are too many
+/// for an instruction, memory is wanted.
+fn loaded_callable(
+    signature: Signature,
+    cells: u64,
+    code: Fragment,
+    fragments: &mut Fragments,
+) -> Result<Ask<Callable>, Memory>
+    requires code { IsIn fragments.old.nodes.items code }
+    ensures { (state : State) (notes : NotesOf) (site : SiteOf) → IsSignature state.frame signature → Coding state state notes notes fragments.old.nodes.items fragments.new.nodes.items site result IsCallable called_in (λ c. gives (value_called (map parameter_view signature.params.items) signature.result cells (part fragments.old.nodes.items code ⨟ plain (Load ∷ [])))) }
+{
+    let Ok(cells) = u32::try_from(cells) else {
+        return Err(Memory);
+    };
+    let before = instr_behind(code, Instr::Load, fragments)?;
+    Ok(Ask::Known(value_callable(signature, cells, before)))
+}
+
+/// A call of a procedure variable, by the code of its address.
+fn variable_callable<S: Scopes>(
+    scopes: &mut S,
+    site: &Site,
+    signature: Signature,
+    code: Fragment,
+    fragments: &mut Fragments,
+) -> Result<Ask<Callable>, Memory>
+    requires suits { SuitsSite (S.state scopes.old).frame site.now }
+    requires signature { IsSignature (S.state scopes.old).frame signature }
+    requires code { IsIn fragments.old.nodes.items code }
+    ensures { (notes : NotesOf) → Coding (S.state scopes.old) (S.state scopes.new) notes notes fragments.old.nodes.items fragments.new.nodes.items site.now result IsCallable called_in (λ c. gives (variable_called c.scene (map parameter_view signature.params.items) signature.result (part fragments.old.nodes.items code))) }
+{
+    let cells = analysed!(cells_of_all(scopes, site.around, &signature.params));
+    loaded_callable(signature, cells, code, fragments)
+}
+
+/// A call of a procedure variable of these parameters and this result.
+fn called_by_signature<S: Scopes>(
+    scopes: &mut S,
+    site: &Site,
+    call: Wording,
+    signature: Signature,
+    code: Fragment,
+    fragments: &mut Fragments,
+    notes: &mut Notes,
+) -> Result<Ask<Callable>, Memory>
+    requires suits { SuitsSite (S.state scopes.old).frame site.now }
+    requires signature { IsSignature (S.state scopes.old).frame signature }
+    requires code { IsIn fragments.old.nodes.items code }
+    ensures { Coding (S.state scopes.old) (S.state scopes.new) notes.old notes.new fragments.old.nodes.items fragments.new.nodes.items site.now result IsCallable called_in (λ c. variable_allowed c call.at call.is_wanted call.count (part fragments.old.nodes.items code) (map parameter_view signature.params.items) signature.result) }
+{
+    let gives_value = signature.gives_value();
+    let is_count = signature.takes(call.count);
+    let what = analysed!(variable_callable(scopes, site, signature, code, fragments));
+    allowed(site, call, gives_value, is_count, what, notes)
+}
+
+/// A call of a procedure variable whose type has this form.
+fn called_by_form<S: Scopes>(
+    scopes: &mut S,
+    site: &Site,
+    call: Wording,
+    form: Form,
+    code: Fragment,
+    fragments: &mut Fragments,
+    notes: &mut Notes,
+) -> Result<Ask<Callable>, Memory>
+    requires suits { SuitsSite (S.state scopes.old).frame site.now }
+    requires form { IsFormHere (S.state scopes.old).frame form }
+    requires code { IsIn fragments.old.nodes.items code }
+    ensures { Coding (S.state scopes.old) (S.state scopes.new) notes.old notes.new fragments.old.nodes.items fragments.new.nodes.items site.now result IsCallable called_in (λ c. variable_allowed c call.at call.is_wanted call.count (part fragments.old.nodes.items code) (parameters_from c.scene form.of form.first) form.result) }
+{
+    let signature = analysed!(signature_by(scopes, site, form));
+    called_by_signature(scopes, site, call, signature, code, fragments, notes)
+}
+
+/// A call of a variable of a type.
+fn called_variable<S: Scopes>(
+    scopes: &mut S,
+    site: &Site,
+    call: Wording,
+    of: Place,
+    code: Fragment,
+    fragments: &mut Fragments,
+    notes: &mut Notes,
+) -> Result<Ask<Callable>, Memory>
+    requires suits { SuitsSite (S.state scopes.old).frame site.now }
+    requires of { IsThere (S.state scopes.old).frame of }
+    requires code { IsIn fragments.old.nodes.items code }
+    ensures { Coding (S.state scopes.old) (S.state scopes.new) notes.old notes.new fragments.old.nodes.items fragments.new.nodes.items site.now result IsCallable called_in (λ c. called_by c call.is_wanted call.at call.count (part fragments.old.nodes.items code) (operands.Variable of)) }
+{
+    match form_of(scopes, site.around, of) {
+        Ask::Known(Some(form)) => {
+            called_by_form(scopes, site, call, form, code, fragments, notes)
+        }
+        Ask::Known(None) => refused_call(site, call.at, Refusal::NotAProcedure, notes),
+        Ask::DontKnowYet(head) => Ok(Ask::DontKnowYet(head)),
+    }
+}
+
+/// What something with its code is as what is called.
+fn called_by_operand<S: Scopes>(
+    scopes: &mut S,
+    site: &Site,
+    call: Wording,
+    x: Coded,
+    fragments: &mut Fragments,
+    notes: &mut Notes,
+) -> Result<Ask<Callable>, Memory>
+    requires suits { SuitsSite (S.state scopes.old).frame site.now }
+    requires x { IsCoded (S.state scopes.old).frame fragments.old.nodes.items x }
+    ensures { Coding (S.state scopes.old) (S.state scopes.new) notes.old notes.new fragments.old.nodes.items fragments.new.nodes.items site.now result IsCallable called_in (λ c. called_by c call.is_wanted call.at call.count (part fragments.old.nodes.items x.code) x.operand) }
+{
+    match x.operand {
+        Operand::StandardProcedure(name) => called_standard(site, call, name, notes),
+        Operand::Procedure(name, of, number, _) => {
+            called_procedure(scopes, site, call, name, of, number, notes)
+        }
+        Operand::Variable(of) => {
+            called_variable(scopes, site, call, of, x.code, fragments, notes)
+        }
+        Operand::ModuleName(_) => refused_call(site, call.at, Refusal::NotAVariable, notes),
+        Operand::InError => Ok(Ask::Known(Callable::Nothing)),
+        _ => refused_call(site, call.at, Refusal::NotAProcedure, notes),
+    }
+}
+
+/// What a call with so many arguments calls. `is_wanted` tells whether it stands where a value is wanted; `at` is the
+/// designator's first token.
+pub fn called<S: Scopes>(
+    scopes: &mut S,
+    site: &Site,
+    is_wanted: bool,
+    at: u32,
+    count: usize,
+    x: Coded,
+    fragments: &mut Fragments,
+    notes: &mut Notes,
+) -> Result<Ask<Callable>, Memory>
+    requires suits { SuitsSite (S.state scopes.old).frame site.now }
+    requires x { IsCoded (S.state scopes.old).frame fragments.old.nodes.items x }
+    ensures { Coding (S.state scopes.old) (S.state scopes.new) notes.old notes.new fragments.old.nodes.items fragments.new.nodes.items site.now result IsCallable called_in (λ c. spec_called c is_wanted at count (coded_in fragments.old.nodes.items x)) }
+{
+    let call = Wording {
+        is_wanted,
+        at,
+        count,
+    };
+    called_by_operand(scopes, site, call, x, fragments, notes)
+}
+
+/// The instruction that calls, with what it takes and leaves. Where it takes more than there are numbers, memory is wanted.
+fn call_step(
+    callee: &Callee,
+    cells: u64,
+    fragments: &mut Fragments,
+) -> Result<Fragment, Memory>
+    ensures { IsMade fragments.old.nodes.items fragments.new.nodes.items result (spec_call callee.now.instr (cells + callee.now.more) (spec_result callee.now.result)) }
+{
+    let Some(takes) = cells.checked_add(callee.more) else {
+        return Err(Memory);
+    };
+    fragments.step(Step {
+        instr: callee.instr,
+        takes,
+        leaves: result_cells(callee.result) as u64,
+    })
+}
+
+/// The instruction that calls behind the arguments, which have so many cells.
+fn call_behind(
+    callee: &Callee,
+    cells: u64,
+    args: Fragment,
+    fragments: &mut Fragments,
+) -> Result<Fragment, Memory>
+    requires args { IsIn fragments.old.nodes.items args }
+    ensures { IsMade fragments.old.nodes.items fragments.new.nodes.items result (part fragments.old.nodes.items args ⨟ spec_call callee.now.instr (cells + callee.now.more) (spec_result callee.now.result)) }
+{
+    let call = call_step(callee, cells, fragments)?;
+    fragments.then(args, call)
+}
+
+/// The code of a call whose arguments have so many cells.
+fn call_made(
+    callee: &Callee,
+    cells: u64,
+    args: Fragment,
+    fragments: &mut Fragments,
+) -> Result<Fragment, Memory>
+    requires before { IsIn fragments.old.nodes.items callee.now.before }
+    requires args { IsIn fragments.old.nodes.items args }
+    ensures { IsMade fragments.old.nodes.items fragments.new.nodes.items result (part fragments.old.nodes.items callee.now.before ⨟ part fragments.old.nodes.items args ⨟ spec_call callee.now.instr (cells + callee.now.more) (spec_result callee.now.result)) }
+{
+    let rest = call_behind(callee, cells, args, fragments)?;
+    fragments.then(callee.before, rest)
+}
+
+/// The code of a call: what comes before the arguments, the arguments, and the instruction.
+fn call_code<S: Scopes>(
+    scopes: &mut S,
+    site: &Site,
+    callee: &Callee,
+    args: Fragment,
+    fragments: &mut Fragments,
+) -> Result<Ask<Fragment>, Memory>
+    requires suits { SuitsSite (S.state scopes.old).frame site.now }
+    requires callee { IsCallee (S.state scopes.old).frame fragments.old.nodes.items callee.now }
+    requires args { IsIn fragments.old.nodes.items args }
+    ensures { (notes : NotesOf) → Coding (S.state scopes.old) (S.state scopes.new) notes notes fragments.old.nodes.items fragments.new.nodes.items site.now result IsFragment part (λ c. gives (spec_call_code c.scene (map parameter_view callee.now.params.items) (part fragments.old.nodes.items callee.now.before) callee.now.instr callee.now.result callee.now.more (part fragments.old.nodes.items args))) }
+{
+    let cells = analysed!(cells_of_all(scopes, site.around, &callee.params));
+    answered(call_made(callee, cells, args, fragments))
+}
+
+/// A call that stands for an operand.
+fn call_as<S: Scopes>(
+    scopes: &mut S,
+    site: &Site,
+    callee: &Callee,
+    operand: Operand,
+    args: Fragment,
+    fragments: &mut Fragments,
+) -> Result<Ask<Coded>, Memory>
+    requires suits { SuitsSite (S.state scopes.old).frame site.now }
+    requires callee { IsCallee (S.state scopes.old).frame fragments.old.nodes.items callee.now }
+    requires operand { IsOperand (S.state scopes.old).frame operand }
+    requires args { IsIn fragments.old.nodes.items args }
+    ensures { (notes : NotesOf) → Coding (S.state scopes.old) (S.state scopes.new) notes notes fragments.old.nodes.items fragments.new.nodes.items site.now result IsCoded coded_in (λ c. gives (coded operand (spec_call_code c.scene (map parameter_view callee.now.params.items) (part fragments.old.nodes.items callee.now.before) callee.now.instr callee.now.result callee.now.more (part fragments.old.nodes.items args)))) }
+{
+    let code = analysed!(call_code(scopes, site, callee, args, fragments));
+    Ok(Ask::Known(Coded::new(operand, code)))
+}
+
+/// A call that gives a value of a type; where that is in error, so is the call.
+fn call_of_type<S: Scopes>(
+    scopes: &mut S,
+    site: &Site,
+    callee: &Callee,
+    of: Place,
+    args: Fragment,
+    fragments: &mut Fragments,
+) -> Result<Ask<Coded>, Memory>
+    requires suits { SuitsSite (S.state scopes.old).frame site.now }
+    requires callee { IsCallee (S.state scopes.old).frame fragments.old.nodes.items callee.now }
+    requires of { IsThere (S.state scopes.old).frame of }
+    requires args { IsIn fragments.old.nodes.items args }
+    ensures { (notes : NotesOf) → Coding (S.state scopes.old) (S.state scopes.new) notes notes fragments.old.nodes.items fragments.new.nodes.items site.now result IsCoded coded_in (λ c. gives (if spec_broken c.scene of then in_error else coded (operands.Computed of) (spec_call_code c.scene (map parameter_view callee.now.params.items) (part fragments.old.nodes.items callee.now.before) callee.now.instr callee.now.result callee.now.more (part fragments.old.nodes.items args)))) }
+{
+    match is_broken(scopes, site.around, of) {
+        Ask::Known(true) => Ok(Ask::Known(Coded::in_error())),
+        Ask::Known(false) => {
+            let operand = Operand::Computed(of);
+            call_as(scopes, site, callee, operand, args, fragments)
+        }
+        Ask::DontKnowYet(head) => Ok(Ask::DontKnowYet(head)),
+    }
+}
+
+/// The call, with its arguments. It is in error where the result's type is.
+fn call_with<S: Scopes>(
+    scopes: &mut S,
+    site: &Site,
+    callee: &Callee,
+    args: Fragment,
+    fragments: &mut Fragments,
+) -> Result<Ask<Coded>, Memory>
+    requires suits { SuitsSite (S.state scopes.old).frame site.now }
+    requires callee { IsCallee (S.state scopes.old).frame fragments.old.nodes.items callee.now }
+    requires args { IsIn fragments.old.nodes.items args }
+    ensures { (notes : NotesOf) → Coding (S.state scopes.old) (S.state scopes.new) notes notes fragments.old.nodes.items fragments.new.nodes.items site.now result IsCoded coded_in (λ c. gives (spec_call_coded c.scene (map parameter_view callee.now.params.items) (part fragments.old.nodes.items callee.now.before) callee.now.instr callee.now.result callee.now.more (Some (part fragments.old.nodes.items args)))) }
+{
+    match callee.result {
+        Some(of) => call_of_type(scopes, site, callee, of, args, fragments),
+        None => call_as(scopes, site, callee, NO_VALUE, args, fragments),
+    }
+}
+
+/// The call, once its arguments are there. Without one of them it is in error, and so it is where the result's type is.
+pub fn call_coded<S: Scopes>(
+    scopes: &mut S,
+    site: &Site,
+    callee: &Callee,
+    args: Option<Fragment>,
+    fragments: &mut Fragments,
+) -> Result<Ask<Coded>, Memory>
+    requires suits { SuitsSite (S.state scopes.old).frame site.now }
+    requires callee { IsCallee (S.state scopes.old).frame fragments.old.nodes.items callee.now }
+    requires args { IsArgument (S.state scopes.old).frame fragments.old.nodes.items args }
+    ensures { (notes : NotesOf) → Coding (S.state scopes.old) (S.state scopes.new) notes notes fragments.old.nodes.items fragments.new.nodes.items site.now result IsCoded coded_in (λ c. gives (spec_call_coded c.scene (map parameter_view callee.now.params.items) (part fragments.old.nodes.items callee.now.before) callee.now.instr callee.now.result callee.now.more (argument_in fragments.old.nodes.items args))) }
+{
+    match args {
+        Some(args) => call_with(scopes, site, callee, args, fragments),
+        None => Ok(Ask::Known(Coded::in_error())),
+    }
+}

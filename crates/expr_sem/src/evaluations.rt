@@ -1,0 +1,169 @@
+//! The code of a value, or of an address, appended to a piece of a block's code.
+ghost use Rattle.std.specs.Prelude.{◌≡◌, List, Some};
+ghost use Rattle.std.specs.Option.{IfSome};
+ghost use Rattle.m2_base.specs.Asks.{IfKnown, IfWaits};
+ghost use Rattle.m2_base.specs.Gives.{gives};
+ghost use Rattle.m2_base.specs.Lists.{Each};
+ghost use Rattle.m2_base.specs.States.{Frame};
+ghost use Rattle.m2_base.specs.Statics.ReadTrees.{IsReadDesignator, IsReadExpr};
+ghost use Rattle.m2_base.specs.Views.{designator_view, expr_view};
+ghost use Rattle.m2_base.specs.declared.notes.Notes.{Notes as NotesOf};
+ghost use Rattle.expr_sem.specs.Coded.{value_code as spec_code};
+ghost use Rattle.expr_sem.specs.Codings.{Coding, IsCoded, coded_in, with_types};
+ghost use Rattle.expr_sem.specs.Evaluations.{Evaluates, IsEvaluated, KeepsPiece, evaluated as spec_evaluated, evaluated_in, evaluation, operand_of};
+ghost use Rattle.expr_sem.specs.Expressions.{designated as spec_designated, value as spec_value};
+ghost use Rattle.expr_sem.specs.Fragments.{AreSound, IsIn, part};
+ghost use Rattle.expr_sem.specs.Pieces.{Appended};
+ghost use Rattle.expr_sem.specs.declared.fragments.Node.{Node};
+ghost use Rattle.type_rules.specs.Scenes.{IsThere};
+ghost use Rattle.type_rules.specs.Sites.{SuitsSite};
+
+use crate::coded::Coded;
+use crate::expressions::{designated, value_of};
+use crate::fragments::{Fragment, Fragments};
+use crate::pieces::{Piece, With, append};
+use crate::values::value_code;
+use m2_base::{Ask, Designator, Expr, Memory, Notes, Operand, Scopes, Site};
+
+/// An operand that isn't in error, with the code of its value.
+fn valued<S: Scopes>(
+    scopes: &mut S,
+    site: &Site,
+    x: Coded,
+    fragments: &mut Fragments,
+) -> Result<Ask<Option<(Operand, Fragment)>>, Memory>
+    requires suits { SuitsSite (S.state scopes.old).frame site.now }
+    requires x { IsCoded (S.state scopes.old).frame fragments.old.nodes.items x }
+    ensures { (notes : NotesOf) → Coding (S.state scopes.old) (S.state scopes.new) notes notes fragments.old.nodes.items fragments.new.nodes.items site.now result IsEvaluated evaluated_in (λ c. gives (Some (x.operand, spec_code c (coded_in fragments.old.nodes.items x)))) }
+{
+    let code = analysed!(value_code(scopes, site, x, fragments));
+    Ok(Ask::Known(Some((x.operand, code))))
+}
+
+/// An operand with the code of its value; none of what is in error.
+fn value_or_none<S: Scopes>(
+    scopes: &mut S,
+    site: &Site,
+    x: Coded,
+    fragments: &mut Fragments,
+) -> Result<Ask<Option<(Operand, Fragment)>>, Memory>
+    requires suits { SuitsSite (S.state scopes.old).frame site.now }
+    requires x { IsCoded (S.state scopes.old).frame fragments.old.nodes.items x }
+    ensures { (notes : NotesOf) → Coding (S.state scopes.old) (S.state scopes.new) notes notes fragments.old.nodes.items fragments.new.nodes.items site.now result IsEvaluated evaluated_in (λ c. gives (spec_evaluated x.operand (spec_code c (coded_in fragments.old.nodes.items x)))) }
+{
+    match x.operand {
+        Operand::InError => Ok(Ask::Known(None)),
+        _ => valued(scopes, site, x, fragments),
+    }
+}
+
+/// An operand with its own code; none of what is in error.
+fn address_or_none(x: Coded) -> Option<(Operand, Fragment)>
+    ensures told { (nodes : List Node) → evaluated_in nodes result ≡ spec_evaluated x.operand (part nodes x.code) }
+    ensures there { (f : Frame) (nodes : List Node) → IsCoded f nodes x → IsEvaluated f nodes result }
+{
+    match x.operand {
+        Operand::InError => None,
+        _ => Some((x.operand, x.code)),
+    }
+}
+
+/// An expression's operand with the code of its value.
+fn value_made<S: Scopes>(
+    scopes: &mut S,
+    site: &Site,
+    withs: &[With],
+    e: &Expr,
+    fragments: &mut Fragments,
+    notes: &mut Notes,
+) -> Result<Ask<Option<(Operand, Fragment)>>, Memory>
+    requires suits { SuitsSite (S.state scopes.old).frame site.now }
+    requires withs { Each (λ w. IsThere (S.state scopes.old).frame w.of) withs.now }
+    requires read { IsReadExpr site.now.texts.now.names (expr_view e.now) }
+    ensures { Coding (S.state scopes.old) (S.state scopes.new) notes.old notes.new fragments.old.nodes.items fragments.new.nodes.items site.now result IsEvaluated evaluated_in (λ c. evaluation (spec_value c (with_types withs.now) (expr_view e.now)) (λ x. spec_code c x)) }
+{
+    let x = analysed!(value_of(scopes, site, withs, e, fragments, notes));
+    value_or_none(scopes, site, x, fragments)
+}
+
+/// What a designator stands for, with its own code.
+fn address_made<S: Scopes>(
+    scopes: &mut S,
+    site: &Site,
+    withs: &[With],
+    of: &Designator,
+    fragments: &mut Fragments,
+    notes: &mut Notes,
+) -> Result<Ask<Option<(Operand, Fragment)>>, Memory>
+    requires suits { SuitsSite (S.state scopes.old).frame site.now }
+    requires withs { Each (λ w. IsThere (S.state scopes.old).frame w.of) withs.now }
+    requires read { IsReadDesignator site.now.texts.now.names (designator_view of.now) }
+    ensures { Coding (S.state scopes.old) (S.state scopes.new) notes.old notes.new fragments.old.nodes.items fragments.new.nodes.items site.now result IsEvaluated evaluated_in (λ c. evaluation (spec_designated c (with_types withs.now) (designator_view of.now)) (λ x. x.code)) }
+{
+    let x = analysed!(designated(scopes, site, withs, of, fragments, notes));
+    Ok(Ask::Known(address_or_none(x)))
+}
+
+/// The code of an operand is appended to a piece. Without memory the piece has what it had before.
+fn appended(
+    fragments: &Fragments,
+    made: Option<(Operand, Fragment)>,
+    withs: &[With],
+    piece: &mut Piece,
+) -> Result<Ask<Option<Operand>>, Memory>
+    requires sound { AreSound fragments.now.nodes.items }
+    requires there { IfSome made (λ x. IsIn fragments.now.nodes.items x.1) }
+    ensures kept { KeepsPiece result piece.old piece.new }
+    ensures operand { IfKnown result (λ o. o ≡ operand_of made) }
+    ensures code { IfKnown result (λ o. IfSome made (λ x. Appended piece.old piece.new withs.now (part fragments.now.nodes.items x.1))) }
+    ensures known { IfWaits result (λ head. ⊥) }
+{
+    match made {
+        None => Ok(Ask::Known(None)),
+        Some((operand, code)) => {
+            append(fragments, code, withs, piece)?;
+            Ok(Ask::Known(Some(operand)))
+        }
+    }
+}
+
+/// The code of an expression's value is appended to a piece of a block's code, and its operand is what comes out: none where
+/// the expression is in error, and then the piece is as it was. Where the answer isn't known yet, and where memory is wanted,
+/// the piece has what it had before.
+pub fn value<S: Scopes>(
+    scopes: &mut S,
+    site: &Site,
+    withs: &[With],
+    e: &Expr,
+    piece: &mut Piece,
+    notes: &mut Notes,
+) -> Result<Ask<Option<Operand>>, Memory>
+    requires suits { SuitsSite (S.state scopes.old).frame site.now }
+    requires withs { Each (λ w. IsThere (S.state scopes.old).frame w.of) withs.now }
+    requires read { IsReadExpr site.now.texts.now.names (expr_view e.now) }
+    ensures { Evaluates (S.state scopes.old) (S.state scopes.new) notes.old notes.new piece.old piece.new withs.now site.now result (λ c x. spec_code c x) (λ c. spec_value c (with_types withs.now) (expr_view e.now)) }
+{
+    let mut fragments = Fragments::new(*piece.steps.allocator());
+    let made = analysed!(value_made(scopes, site, withs, e, &mut fragments, notes));
+    appended(&fragments, made, withs, piece)
+}
+
+/// The code of what a designator stands for is appended to a piece of a block's code: of a variable it gives the address. The
+/// operand is what comes out, as of `value`.
+pub fn address<S: Scopes>(
+    scopes: &mut S,
+    site: &Site,
+    withs: &[With],
+    of: &Designator,
+    piece: &mut Piece,
+    notes: &mut Notes,
+) -> Result<Ask<Option<Operand>>, Memory>
+    requires suits { SuitsSite (S.state scopes.old).frame site.now }
+    requires withs { Each (λ w. IsThere (S.state scopes.old).frame w.of) withs.now }
+    requires read { IsReadDesignator site.now.texts.now.names (designator_view of.now) }
+    ensures { Evaluates (S.state scopes.old) (S.state scopes.new) notes.old notes.new piece.old piece.new withs.now site.now result (λ c x. x.code) (λ c. spec_designated c (with_types withs.now) (designator_view of.now)) }
+{
+    let mut fragments = Fragments::new(*piece.steps.allocator());
+    let made = analysed!(address_made(scopes, site, withs, of, &mut fragments, notes));
+    appended(&fragments, made, withs, piece)
+}

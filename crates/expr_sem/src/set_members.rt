@@ -1,0 +1,224 @@
+//! The element of INCL or EXCL, and how it changes a set.
+ghost use Rattle.std.specs.Prelude.{◌≡◌, List, if◌then◌else◌};
+ghost use Rattle.std.specs.Option.{IfSome};
+ghost use Rattle.m2_base.specs.Gives.{gives};
+ghost use Rattle.m2_base.specs.Statics.Assignable.{taken_into};
+ghost use Rattle.m2_base.specs.Statics.Compatible.{is_compatible};
+ghost use Rattle.m2_base.specs.Statics.Contexts.{refuse};
+ghost use Rattle.m2_base.specs.Statics.Diagnostics.{wrong_argument};
+ghost use Rattle.m2_base.specs.Statics.Operands.{operand_type as spec_type};
+ghost use Rattle.m2_base.specs.Statics.Sets.{set_base as spec_base};
+ghost use Rattle.m2_base.specs.declared.notes.Notes.{Notes as NotesOf};
+ghost use Rattle.m2_base.specs.declared.operands.Operand.TheVariants as operands;
+ghost use Rattle.const_eval.specs.Sites.{IsOperand};
+ghost use Rattle.expr_sem.specs.Coded.{in_error, taken};
+ghost use Rattle.expr_sem.specs.Codings.{Coding, IsCoded, coded_in};
+ghost use Rattle.expr_sem.specs.Fitting.{fitted_code as spec_fitted};
+ghost use Rattle.expr_sem.specs.SetMembers.{member_by};
+ghost use Rattle.expr_sem.specs.StandardProcedures.{beside, element_of_base as spec_element, included as spec_included, member_instrs, set_member as spec_member, update};
+ghost use Rattle.expr_sem.specs.Updates.{instrs_of};
+ghost use Rattle.expr_sem.specs.Values.{in_range as spec_in_range};
+ghost use Rattle.expr_sem.specs.declared.fragments.Node.{Node};
+ghost use Rattle.type_rules.specs.Scenes.{IsThere};
+ghost use Rattle.type_rules.specs.Sites.{SuitsSite};
+
+use crate::coded::Coded;
+use crate::fitting::fitted_code;
+use crate::fragments::Fragments;
+use crate::refusals::{Refusal, refused};
+use crate::updates::{Change, NO_VALUE, either_bad, updated};
+use crate::values::{as_value, in_range};
+use code_form::Instr;
+use const_eval::{compatible_pair, is_broken, set_base};
+use m2_base::{Ask, Builtin, Memory, Notes, Operand, Place, Scopes, Site};
+use type_rules::operand_type;
+
+/// An element as it is taken beside a value of the set's base, or what is refused where they aren't compatible.
+fn member_or_refused<S: Scopes>(
+    scopes: &mut S,
+    site: &Site,
+    at: u32,
+    base: Place,
+    pair: Option<(Operand, Operand)>,
+    v: Coded,
+    notes: &mut Notes,
+) -> Result<Ask<Coded>, Memory>
+    requires suits { SuitsSite (S.state scopes.old).frame site.now }
+    requires base { IsThere (S.state scopes.old).frame base }
+    requires pair { IfSome pair (λ pair. IsOperand (S.state scopes.old).frame pair.0) }
+    ensures { (nodes : List Node) → IsCoded (S.state scopes.old).frame nodes v → Coding (S.state scopes.old) (S.state scopes.new) notes.old notes.new nodes nodes site.now result IsCoded coded_in (λ c. member_by c at base (coded_in nodes v) pair) }
+{
+    match pair {
+        Some((operand, _)) => in_range(scopes, site, at, base, v.taken(operand), notes),
+        None => refused(site, at, Refusal::WrongArgument, notes),
+    }
+}
+
+/// An element for a set with this base, which isn't in error.
+fn compatible_member<S: Scopes>(
+    scopes: &mut S,
+    site: &Site,
+    at: u32,
+    base: Place,
+    v: Coded,
+    notes: &mut Notes,
+) -> Result<Ask<Coded>, Memory>
+    requires suits { SuitsSite (S.state scopes.old).frame site.now }
+    requires base { IsThere (S.state scopes.old).frame base }
+    requires v { IsOperand (S.state scopes.old).frame v.operand }
+    ensures { (nodes : List Node) → IsCoded (S.state scopes.old).frame nodes v → Coding (S.state scopes.old) (S.state scopes.new) notes.old notes.new nodes nodes site.now result IsCoded coded_in (λ c. if is_compatible c.scene v.operand (operands.Computed base) then spec_in_range c at base (taken (taken_into c.source c.scene base v.operand) (coded_in nodes v)) else refuse c at wrong_argument in_error) }
+{
+    let pair = asked!(compatible_pair(scopes, site, v.operand, Operand::Computed(base)));
+    member_or_refused(scopes, site, at, base, pair, v, notes)
+}
+
+/// An element for a set with this base: compatible with it, and a constant in its range.
+fn element_of_base<S: Scopes>(
+    scopes: &mut S,
+    site: &Site,
+    at: u32,
+    base: Place,
+    v: Coded,
+    notes: &mut Notes,
+) -> Result<Ask<Coded>, Memory>
+    requires suits { SuitsSite (S.state scopes.old).frame site.now }
+    requires base { IsThere (S.state scopes.old).frame base }
+    requires v { IsOperand (S.state scopes.old).frame v.operand }
+    ensures { (nodes : List Node) → IsCoded (S.state scopes.old).frame nodes v → Coding (S.state scopes.old) (S.state scopes.new) notes.old notes.new nodes nodes site.now result IsCoded coded_in (λ c. spec_element c at base (coded_in nodes v)) }
+{
+    let broken = asked!(is_broken(scopes, site.around, base));
+    if broken {
+        return Ok(Ask::Known(Coded::in_error()));
+    }
+    compatible_member(scopes, site, at, base, v, notes)
+}
+
+/// An element for a set of this type.
+fn member_of<S: Scopes>(
+    scopes: &mut S,
+    site: &Site,
+    of: Place,
+    at: u32,
+    v: Coded,
+    notes: &mut Notes,
+) -> Result<Ask<Coded>, Memory>
+    requires suits { SuitsSite (S.state scopes.old).frame site.now }
+    requires of { IsThere (S.state scopes.old).frame of }
+    requires v { IsOperand (S.state scopes.old).frame v.operand }
+    ensures { (nodes : List Node) → IsCoded (S.state scopes.old).frame nodes v → Coding (S.state scopes.old) (S.state scopes.new) notes.old notes.new nodes nodes site.now result IsCoded coded_in (λ c. spec_element c at (spec_base c of) (coded_in nodes v)) }
+{
+    let base = asked!(set_base(scopes, site, of));
+    element_of_base(scopes, site, at, base, v, notes)
+}
+
+/// An element beside the set of its call, where neither is in error.
+fn member_beside<S: Scopes>(
+    scopes: &mut S,
+    site: &Site,
+    x: Coded,
+    at: u32,
+    v: Coded,
+    notes: &mut Notes,
+) -> Result<Ask<Coded>, Memory>
+    requires suits { SuitsSite (S.state scopes.old).frame site.now }
+    requires x { IsOperand (S.state scopes.old).frame x.operand }
+    requires v { IsOperand (S.state scopes.old).frame v.operand }
+    ensures { (nodes : List Node) → IsCoded (S.state scopes.old).frame nodes v → Coding (S.state scopes.old) (S.state scopes.new) notes.old notes.new nodes nodes site.now result IsCoded coded_in (λ c. beside (coded_in nodes x) (spec_element c at (spec_base c (spec_type x.operand))) (coded_in nodes v)) }
+{
+    if either_bad(x.operand, v.operand) {
+        return Ok(Ask::Known(Coded::in_error()));
+    }
+    member_of(scopes, site, operand_type(&x.operand), at, v, notes)
+}
+
+/// The element by which a set is changed.
+pub fn set_member<S: Scopes>(
+    scopes: &mut S,
+    site: &Site,
+    x: Coded,
+    at: u32,
+    e: Coded,
+    fragments: &Fragments,
+    notes: &mut Notes,
+) -> Result<Ask<Coded>, Memory>
+    requires suits { SuitsSite (S.state scopes.old).frame site.now }
+    requires x { IsOperand (S.state scopes.old).frame x.operand }
+    requires e { IsCoded (S.state scopes.old).frame fragments.now.nodes.items e }
+    ensures { Coding (S.state scopes.old) (S.state scopes.new) notes.old notes.new fragments.now.nodes.items fragments.now.nodes.items site.now result IsCoded coded_in (λ c. spec_member c (coded_in fragments.now.nodes.items x) at (coded_in fragments.now.nodes.items e)) }
+{
+    let v = analysed!(as_value(site, at, e, notes));
+    member_beside(scopes, site, x, at, v, notes)
+}
+
+/// The change of INCL, and of EXCL.
+fn member_change(f: Builtin) -> Change
+    ensures { instrs_of result ≡ member_instrs f }
+{
+    let second = match f {
+        Builtin::Incl => Instr::Union,
+        _ => Instr::Diff,
+    };
+    Change {
+        first: Instr::Bit,
+        second: Some(second),
+    }
+}
+
+/// A set with this base, changed by INCL or EXCL by an element.
+fn changed_by<S: Scopes>(
+    scopes: &mut S,
+    site: &Site,
+    f: Builtin,
+    base: Place,
+    x: Coded,
+    e: Coded,
+    fragments: &mut Fragments,
+) -> Result<Ask<Coded>, Memory>
+    requires suits { SuitsSite (S.state scopes.old).frame site.now }
+    requires base { IsThere (S.state scopes.old).frame base }
+    requires x { IsCoded (S.state scopes.old).frame fragments.old.nodes.items x }
+    requires e { IsCoded (S.state scopes.old).frame fragments.old.nodes.items e }
+    ensures { (notes : NotesOf) → Coding (S.state scopes.old) (S.state scopes.new) notes notes fragments.old.nodes.items fragments.new.nodes.items site.now result IsCoded coded_in (λ c. gives (update (coded_in fragments.old.nodes.items x) (spec_fitted c base (coded_in fragments.old.nodes.items e)) (member_instrs f))) }
+{
+    let element = analysed!(fitted_code(scopes, site, base, e, fragments));
+    let code = updated(x.code, element, member_change(f), fragments)?;
+    Ok(Ask::Known(Coded::new(NO_VALUE, code)))
+}
+
+/// INCL or EXCL of a set and an element, neither of which is in error.
+fn included_by<S: Scopes>(
+    scopes: &mut S,
+    site: &Site,
+    f: Builtin,
+    x: Coded,
+    e: Coded,
+    fragments: &mut Fragments,
+) -> Result<Ask<Coded>, Memory>
+    requires suits { SuitsSite (S.state scopes.old).frame site.now }
+    requires x { IsCoded (S.state scopes.old).frame fragments.old.nodes.items x }
+    requires e { IsCoded (S.state scopes.old).frame fragments.old.nodes.items e }
+    ensures { (notes : NotesOf) → Coding (S.state scopes.old) (S.state scopes.new) notes notes fragments.old.nodes.items fragments.new.nodes.items site.now result IsCoded coded_in (λ c. gives (update (coded_in fragments.old.nodes.items x) (spec_fitted c (spec_base c (spec_type x.operand)) (coded_in fragments.old.nodes.items e)) (member_instrs f))) }
+{
+    let base = asked!(set_base(scopes, site, operand_type(&x.operand)));
+    changed_by(scopes, site, f, base, x, e, fragments)
+}
+
+/// INCL or EXCL of a set and an element, unless one of them is in error.
+pub fn included<S: Scopes>(
+    scopes: &mut S,
+    site: &Site,
+    f: Builtin,
+    x: Coded,
+    e: Coded,
+    fragments: &mut Fragments,
+) -> Result<Ask<Coded>, Memory>
+    requires suits { SuitsSite (S.state scopes.old).frame site.now }
+    requires x { IsCoded (S.state scopes.old).frame fragments.old.nodes.items x }
+    requires e { IsCoded (S.state scopes.old).frame fragments.old.nodes.items e }
+    ensures { (notes : NotesOf) → Coding (S.state scopes.old) (S.state scopes.new) notes notes fragments.old.nodes.items fragments.new.nodes.items site.now result IsCoded coded_in (λ c. gives (spec_included c f (coded_in fragments.old.nodes.items x) (coded_in fragments.old.nodes.items e))) }
+{
+    if either_bad(x.operand, e.operand) {
+        return Ok(Ask::Known(Coded::in_error()));
+    }
+    included_by(scopes, site, f, x, e, fragments)
+}

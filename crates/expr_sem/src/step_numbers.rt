@@ -1,0 +1,185 @@
+//! The number by which INC or DEC changes a variable.
+ghost use Rattle.std.specs.Prelude.{◌≡◌, List, if◌then◌else◌};
+ghost use Rattle.m2_base.specs.Rows.{is_same_place};
+ghost use Rattle.m2_base.specs.Standard.{cardinal};
+ghost use Rattle.m2_base.specs.States.{Frame, Waits};
+ghost use Rattle.m2_base.specs.Statics.Compatible.{is_integer_or_cardinal as spec_number};
+ghost use Rattle.m2_base.specs.Statics.Contexts.{refuse};
+ghost use Rattle.m2_base.specs.Statics.Diagnostics.{wrong_argument};
+ghost use Rattle.m2_base.specs.Statics.Operands.{operand_type as spec_type};
+ghost use Rattle.m2_base.specs.Statics.Types.{base_of as spec_base};
+ghost use Rattle.const_eval.specs.Sites.{IsOperand};
+ghost use Rattle.expr_sem.specs.Coded.{in_error};
+ghost use Rattle.expr_sem.specs.Codings.{Coding, IsCoded, coded_in};
+ghost use Rattle.expr_sem.specs.StandardProcedures.{beside, is_step as spec_is_step, number_of_type as spec_of_type, step_number as spec_step_number, step_type as spec_step_type};
+ghost use Rattle.expr_sem.specs.Values.{in_range as spec_in_range};
+ghost use Rattle.expr_sem.specs.declared.fragments.Node.{Node};
+ghost use Rattle.type_rules.specs.Asks.{Reads, WhereKnown, WhereWaiting};
+ghost use Rattle.type_rules.specs.Scenes.{IsThere, Suits, WhereTold, scene_of};
+ghost use Rattle.type_rules.specs.Sites.{SuitsSite, context_of};
+
+use crate::coded::Coded;
+use crate::fragments::Fragments;
+use crate::refusals::{Refusal, refused};
+use crate::updates::either_bad;
+use crate::values::{as_value, in_range};
+use m2_base::{Around, Ask, Memory, Notes, Operand, Place, Scopes, Site};
+use type_rules::{CARDINAL, WHOLE, base_of, is_integer_or_cardinal, operand_type};
+
+/// A base that is a type of numbers, or else CARDINAL.
+fn number_or_cardinal(base: Place) -> Place
+    ensures told { result ≡ (if spec_number base then base else cardinal) }
+    ensures there { (f : Frame) → IsThere f base → IsThere f cardinal → IsThere f result }
+{
+    if is_integer_or_cardinal(base) {
+        base
+    } else {
+        CARDINAL
+    }
+}
+
+/// The type of the number by which a variable of a type is changed.
+#[tactic(auto, using(type_rules::proofs::Reading::reading, const_eval::proofs::TypesThere::there))]
+fn step_type<S: Scopes>(scopes: &mut S, site: &Site, of: Place) -> Ask<Place>
+    requires suits { SuitsSite (S.state scopes.old).frame site.now }
+    requires of { IsThere (S.state scopes.old).frame of }
+    ensures reads { Reads (S.state scopes.old) (S.state scopes.new) }
+    ensures waits { WhereWaiting result (λ head. Waits (S.state scopes.old) (S.state scopes.new) head) }
+    ensures told { WhereTold (S.state scopes.old).frame (λ made.
+        WhereKnown result (λ want. want ≡ spec_step_type (context_of (S.state scopes.old).frame made site.now).scene of)) }
+    ensures there { WhereKnown result (λ want. IsThere (S.state scopes.old).frame want) }
+{
+    let base = known!(base_of(scopes, site.around, of));
+    Ask::Known(number_or_cardinal(base))
+}
+
+/// Whether a type has this base.
+#[tactic(auto, using(type_rules::proofs::Reading::reading))]
+fn has_base<S: Scopes>(scopes: &mut S, around: &Around, of: Place, want: Place) -> Ask<bool>
+    requires suits { Suits (S.state scopes.old).frame around.now }
+    requires of { IsThere (S.state scopes.old).frame of }
+    ensures reads { Reads (S.state scopes.old) (S.state scopes.new) }
+    ensures waits { WhereWaiting result (λ head. Waits (S.state scopes.old) (S.state scopes.new) head) }
+    ensures told { WhereTold (S.state scopes.old).frame (λ made.
+        WhereKnown result (λ holds. holds ≡ is_same_place (spec_base (scene_of (S.state scopes.old).frame made around.now) of) want)) }
+{
+    let base = known!(base_of(scopes, around, of));
+    Ask::Known(base == want)
+}
+
+/// Whether an operand is a number of this type, or a whole constant.
+#[tactic(auto, using(type_rules::proofs::Reading::reading))]
+fn is_step<S: Scopes>(scopes: &mut S, site: &Site, want: Place, operand: Operand) -> Ask<bool>
+    requires suits { SuitsSite (S.state scopes.old).frame site.now }
+    requires operand { IsOperand (S.state scopes.old).frame operand }
+    ensures reads { Reads (S.state scopes.old) (S.state scopes.new) }
+    ensures waits { WhereWaiting result (λ head. Waits (S.state scopes.old) (S.state scopes.new) head) }
+    ensures told { WhereTold (S.state scopes.old).frame (λ made.
+        WhereKnown result (λ holds. holds ≡ spec_is_step (context_of (S.state scopes.old).frame made site.now).scene want operand)) }
+{
+    match operand {
+        Operand::Constant(of, _) => {
+            let holds = known!(has_base(scopes, site.around, of, want));
+            Ask::Known(holds || of == WHOLE)
+        }
+        Operand::Computed(of) => has_base(scopes, site.around, of, want),
+        Operand::Variable(of) => has_base(scopes, site.around, of, want),
+        _ => Ask::Known(false),
+    }
+}
+
+/// A number of this type, or what is refused otherwise.
+fn number_or_refused<S: Scopes>(
+    scopes: &mut S,
+    site: &Site,
+    at: u32,
+    want: Place,
+    holds: bool,
+    n: Coded,
+    notes: &mut Notes,
+) -> Result<Ask<Coded>, Memory>
+    requires suits { SuitsSite (S.state scopes.old).frame site.now }
+    requires want { IsThere (S.state scopes.old).frame want }
+    ensures { (nodes : List Node) → IsCoded (S.state scopes.old).frame nodes n → Coding (S.state scopes.old) (S.state scopes.new) notes.old notes.new nodes nodes site.now result IsCoded coded_in (λ c. if holds then spec_in_range c at want (coded_in nodes n) else refuse c at wrong_argument in_error) }
+{
+    if holds {
+        in_range(scopes, site, at, want, n, notes)
+    } else {
+        refused(site, at, Refusal::WrongArgument, notes)
+    }
+}
+
+/// A number of this type; a constant is in its range.
+fn number_of_type<S: Scopes>(
+    scopes: &mut S,
+    site: &Site,
+    at: u32,
+    want: Place,
+    n: Coded,
+    notes: &mut Notes,
+) -> Result<Ask<Coded>, Memory>
+    requires suits { SuitsSite (S.state scopes.old).frame site.now }
+    requires want { IsThere (S.state scopes.old).frame want }
+    requires n { IsOperand (S.state scopes.old).frame n.operand }
+    ensures { (nodes : List Node) → IsCoded (S.state scopes.old).frame nodes n → Coding (S.state scopes.old) (S.state scopes.new) notes.old notes.new nodes nodes site.now result IsCoded coded_in (λ c. spec_of_type c at want (coded_in nodes n)) }
+{
+    let holds = asked!(is_step(scopes, site, want, n.operand));
+    number_or_refused(scopes, site, at, want, holds, n, notes)
+}
+
+/// A number by which a variable of this type is changed.
+fn number_for<S: Scopes>(
+    scopes: &mut S,
+    site: &Site,
+    of: Place,
+    at: u32,
+    n: Coded,
+    notes: &mut Notes,
+) -> Result<Ask<Coded>, Memory>
+    requires suits { SuitsSite (S.state scopes.old).frame site.now }
+    requires of { IsThere (S.state scopes.old).frame of }
+    requires n { IsOperand (S.state scopes.old).frame n.operand }
+    ensures { (nodes : List Node) → IsCoded (S.state scopes.old).frame nodes n → Coding (S.state scopes.old) (S.state scopes.new) notes.old notes.new nodes nodes site.now result IsCoded coded_in (λ c. spec_of_type c at (spec_step_type c.scene of) (coded_in nodes n)) }
+{
+    let want = asked!(step_type(scopes, site, of));
+    number_of_type(scopes, site, at, want, n, notes)
+}
+
+/// A number beside the variable of its call, where neither is in error.
+fn number_beside<S: Scopes>(
+    scopes: &mut S,
+    site: &Site,
+    x: Coded,
+    at: u32,
+    n: Coded,
+    notes: &mut Notes,
+) -> Result<Ask<Coded>, Memory>
+    requires suits { SuitsSite (S.state scopes.old).frame site.now }
+    requires x { IsOperand (S.state scopes.old).frame x.operand }
+    requires n { IsOperand (S.state scopes.old).frame n.operand }
+    ensures { (nodes : List Node) → IsCoded (S.state scopes.old).frame nodes n → Coding (S.state scopes.old) (S.state scopes.new) notes.old notes.new nodes nodes site.now result IsCoded coded_in (λ c. beside (coded_in nodes x) (spec_of_type c at (spec_step_type c.scene (spec_type x.operand))) (coded_in nodes n)) }
+{
+    if either_bad(x.operand, n.operand) {
+        return Ok(Ask::Known(Coded::in_error()));
+    }
+    number_for(scopes, site, operand_type(&x.operand), at, n, notes)
+}
+
+/// The number by which a variable is changed.
+pub fn step_number<S: Scopes>(
+    scopes: &mut S,
+    site: &Site,
+    x: Coded,
+    at: u32,
+    n: Coded,
+    fragments: &Fragments,
+    notes: &mut Notes,
+) -> Result<Ask<Coded>, Memory>
+    requires suits { SuitsSite (S.state scopes.old).frame site.now }
+    requires x { IsOperand (S.state scopes.old).frame x.operand }
+    requires n { IsCoded (S.state scopes.old).frame fragments.now.nodes.items n }
+    ensures { Coding (S.state scopes.old) (S.state scopes.new) notes.old notes.new fragments.now.nodes.items fragments.now.nodes.items site.now result IsCoded coded_in (λ c. spec_step_number c (coded_in fragments.now.nodes.items x) at (coded_in fragments.now.nodes.items n)) }
+{
+    let v = analysed!(as_value(site, at, n, notes));
+    number_beside(scopes, site, x, at, v, notes)
+}
