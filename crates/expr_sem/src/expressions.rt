@@ -14,6 +14,7 @@ ghost use Rattle.expr_sem.specs.SetCodings.{AreElements, elements_in};
 ghost use Rattle.type_rules.specs.Scenes.{IsThere};
 ghost use Rattle.type_rules.specs.Sites.{SuitsSite};
 
+use crate::argument_codes::{all_passed, behind_first, joined};
 use crate::arguments::{Parameter, argument};
 use crate::calls::{Callable, Callee, call_coded, called};
 use crate::coded::{Coded, Placed};
@@ -21,7 +22,6 @@ use crate::elements::{select_element, select_target};
 use crate::fragments::{Fragment, Fragments};
 use crate::leaves::{string_constant, type_noted};
 use crate::operators::{one_coded, two_coded};
-use crate::argument_codes::{all_passed, behind_first, joined};
 use crate::pieces::With;
 use crate::record_fields::{name_coded, select_field};
 use crate::set_elements::{Elements, add_element, add_range, element_coded, set_coded, set_start};
@@ -91,7 +91,7 @@ fn expression<S: Scopes>(
 
 /// An expression where a value is wanted.
 #[cycle(expressions)]
-pub(crate) fn value_of<S: Scopes>(
+pub fn value_of<S: Scopes>(
     scopes: &mut S,
     site: &Site,
     withs: &[With],
@@ -529,7 +529,7 @@ fn called_with<S: Scopes>(
 
 /// What a designator stands for.
 #[cycle(expressions)]
-pub(crate) fn designated<S: Scopes>(
+pub fn designated<S: Scopes>(
     scopes: &mut S,
     site: &Site,
     withs: &[With],
@@ -660,7 +660,7 @@ fn index<S: Scopes>(
 }
 
 /// A call as a statement.
-pub(crate) fn call_alone<S: Scopes>(
+pub fn call_alone<S: Scopes>(
     scopes: &mut S,
     site: &Site,
     withs: &[With],

@@ -29,7 +29,6 @@ macro_rules! analysed {
     };
 }
 
-/// The answer to a question, or the end of an analysis where it isn't known yet.
 /// The value of an answer within an analysis, or the end of the function where it isn't known yet.
 macro_rules! asked {
     ($asked:expr) => {
@@ -78,10 +77,16 @@ mod variables;
 
 pub use coded::{Coded, Placed};
 pub use evaluations::{address, value};
+pub use expressions::{call_alone, designated, value_of};
+pub use fitting::fitted_code;
 pub use fragments::{Connective, Form, Fragment, Fragments, Node};
 pub use laws::{errors_have_no_code, heights_are_right, operands_are_known};
 pub use operators::{made, one_coded, side_of, two_coded};
 pub use pieces::{Piece, With, append};
-pub use refusals::Refusal;
+pub use record_fields::field_of_withs;
+pub use refusals::{Refusal, refused};
 pub use set_elements::{Elements, add_element, add_range, element_coded, set_coded, set_start};
 pub use steps::Step;
+pub use values::{assigned_to, characters, is_structured, value_code};
+pub use variable_arguments::as_variable;
+pub use variables::entry_coded;

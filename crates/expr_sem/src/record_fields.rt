@@ -96,7 +96,7 @@ fn field_coded<S: Scopes>(
 
 /// The number of the first of these WITHs whose record has a field of this name, and the field's row.
 #[tactic(auto, using(type_rules::proofs::Reading::reading))]
-fn field_of_withs<S: Scopes>(
+pub fn field_of_withs<S: Scopes>(
     scopes: &mut S,
     around: &Around,
     withs: &[With],
