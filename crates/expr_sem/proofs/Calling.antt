@@ -1,6 +1,6 @@
 -- Calls: what stays of what is called, of the parameters that are left and of the arguments so far.
 use Rattle.std.proofs.Common.{◌≡◌, ◌∙◌, ◌<◌, [], ◌∷◌, List, Option, Some, None, Result, Ok, Bool, true, length, map, ap, arith, refl, sym, subst}
-use Rattle.std.specs.Prelude.{get_or}
+use Rattle.std.specs.Prelude.{slice_get}
 use Rattle.std.specs.Option.{IfSome}
 use Rattle.m2_base.specs.Gives.{Gives, and_then, gives}
 use Rattle.m2_base.specs.Lists.{Each}
@@ -105,12 +105,20 @@ module _ {T V : Type 0} {a b : State} {x y : Notes} {n1 n2 : List Node} {s : Sit
 
 -- ** The first parameter
 
-pub first_there : (f : Frame) (ps : List Parameter) (p : Parameter) → 0 < length ps → p ≡ get_or ps 0 p → AreParameters f ps → IsThere f p.of
-first_there f [] p h e all = absurd (omega (arith, h))
-first_there f (q ∷ ps) p h e all = subst (λ (r : Parameter). IsThere f r.of) (sym e) all.0
+first_is : (q p : Parameter) → Some p ≡ Some q → q ≡ p
+first_is q p e = cc
 
-pub next_given : (c : Context) (withs : List Place) (ps : List Parameter) (p : Parameter) (made : Option Part) (e : Expr) → 0 < length ps → p ≡ get_or ps 0 p
+pub first_there : (f : Frame) (ps : List Parameter) (p : Parameter) → Some p ≡ slice_get ps 0 → AreParameters f ps → IsThere f p.of
+first_there f [] p e all = absurd (cc)
+first_there f (q ∷ ps) p e all = subst (λ (r : Parameter). IsThere f r.of) (first_is q p e) all.0
+
+pub next_given : (c : Context) (withs : List Place) (ps : List Parameter) (p : Parameter) (made : Option Part) (e : Expr) → Some p ≡ slice_get ps 0
     → and_then (expression c withs e) (λ x. and_then (argument c (parameter_view p) (expr_at e) x) (λ a. gives (after_argument made a))) ≡ next_passed c withs (map parameter_view ps) made e
-next_given c withs [] p made e h same = absurd (omega (arith, h))
-next_given c withs (q ∷ ps) p made e h same =
-    ap (λ (r : Parameter). and_then (expression c withs e) (λ x. and_then (argument c (parameter_view r) (expr_at e) x) (λ a. gives (after_argument made a)))) same
+next_given c withs [] p made e is = absurd (cc)
+next_given c withs (q ∷ ps) p made e is =
+    ap (λ (r : Parameter). and_then (expression c withs e) (λ x. and_then (argument c (parameter_view r) (expr_at e) x) (λ a. gives (after_argument made a)))) (sym (first_is q p is))
+
+-- there is none
+pub none_passed : (c : Context) (withs : List Place) (ps : List Parameter) (made : Option Part) (e : Expr) → None ≡ slice_get ps 0 → gives None ≡ next_passed c withs (map parameter_view ps) made e
+none_passed c withs [] made e is = refl
+none_passed c withs (q ∷ ps) made e is = absurd (cc)

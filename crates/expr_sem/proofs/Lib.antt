@@ -15,7 +15,6 @@ pub mod Selecting
 pub mod Pushing
 pub mod Making
 pub mod OwnSearch
-pub mod Joining
 pub mod Highs
 pub mod Without
 pub mod Refusing

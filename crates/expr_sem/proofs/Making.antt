@@ -1,5 +1,6 @@
 -- Code that is made after a question.
-use Rattle.std.proofs.Common.{◌≡◌, List, Result, Ok, Err, refl, subst, sym}
+use Rattle.std.specs.Prelude.{IsErr}
+use Rattle.std.proofs.Common.{◌≡◌, List, Result, Ok, Err, false, true, refl, subst, sym}
 use Rattle.m2_base.specs.Asks.{IfKnown, IfWaits}
 use Rattle.m2_base.specs.Gives.{Adds, Gives, gives}
 use Rattle.m2_base.specs.States.{Frame, State, Waits, Works}
@@ -53,6 +54,10 @@ module _ {T V : Type 0} {a b : State} {s : Site} {P : Frame → List Node → T 
   -- memory was wanted after it
   pub question_wanted : {ns ms : List Node} {m : Memory} {p : Part} {h : Context → Gives V} (n : Notes) → Reads a b → IsMade ns ms (Err m) p → (k : Memory) → Coding a b n n ns ms s (Err k) P as_p h
   question_wanted n r m k = record { works = works_read n r; waits = tt; grows = m.grows; told = λ made in_hand told of_site. tt; there = tt }
+
+  pub question_full : {ns ms : List Node} {m : Memory} {p : Part} {h : Context → Gives V} (n : Notes) (r : Result (Ask T) Memory) → IsErr r → Reads a b → IsMade ns ms (Err m) p → Coding a b n n ns ms s r P as_p h
+  question_full n (Ok f) is reads h = absurd (let h : false ≡ true = is in cc)
+  question_full n (Err k) is reads h = question_wanted n reads h k
 
   -- memory is wanted, and nothing was done
   pub question_failed : {h : Context → Gives V} (n : Notes) (ns : List Node) → Reads a b → (k : Memory) → Coding a b n n ns ns s (Err k) P as_p h

@@ -51,9 +51,6 @@ pub made_full : {a b d : List Node} {p q : Part} {m : Memory} (r : Result Fragme
 made_full (Ok f) is h g = absurd (let h : false ≡ true = is in cc)
 made_full (Err n) is h g = record { grows = Grows-trans g h.grows; made = tt }
 
-pub then_both : {p q p' q' : Part} → p ≡ p' → q ≡ q' → (p ⨟ q) ≡ (p' ⨟ q')
-then_both {p} {q} {p'} {q'} e f = ap (λ (r : Part). r ⨟ q) e ∙ ap (λ (r : Part). p' ⨟ r) f
-
 -- the code of the number of elements less 1 that is there
 pub high_made : (ns : List Node) (h : Option Fragment) (f : Fragment) → h ≡ Some f → IfSome h (λ k. IsIn ns k) → IsMade ns ns (Ok f) (high_in ns h)
 high_made ns h f e there =

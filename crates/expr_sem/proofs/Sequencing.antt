@@ -87,3 +87,9 @@ then_rest r q m t = made_after r m.grows t (ap (λ (u : Part). u ⨟ q) m.made.p
 -- a fragment behind one that was just made
 pub made_before : {a b c : List Node} {first : Fragment} {p : Part} (r : Result Fragment Memory) (last : Fragment) → IsIn a last → IsMade a b (Ok first) p → IsMade b c r (part b first ⨟ part b last) → IsMade a c r (p ⨟ part a last)
 made_before r last h m t = made_after r m.grows t (joined_same m.made.part_is (part_later m.grows last h))
+
+-- two that were just made
+pub joined_both : {a b c d : List Node} (first second : Fragment) {p q : Part} (r : Result Fragment Memory) → IsMade a b (Ok first) p → IsMade b c (Ok second) q
+    → IsMade c d r (part c first ⨟ part c second) → IsMade a d r (p ⨟ q)
+joined_both first second r n m w =
+    made_after r (Grows-trans n.grows m.grows) w (joined_same (part_later m.grows first n.made.there ∙ n.made.part_is) m.made.part_is)

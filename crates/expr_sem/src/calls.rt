@@ -28,6 +28,7 @@ ghost use Rattle.type_rules.specs.Sites.{SuitsSite};
 
 use crate::answers::answered;
 use crate::arguments::Parameter;
+use crate::chains::{after_both, instr_behind};
 use crate::coded::Coded;
 use crate::fragments::{Fragment, Fragments};
 use crate::levels::level_of;
@@ -37,7 +38,6 @@ use crate::signatures::{Signature, cells_of_all, result_cells, signature_by, sig
 use crate::standard_procedures::{is_function, takes_count};
 use crate::steps::Step;
 use crate::updates::NO_VALUE;
-use crate::chains::instr_behind;
 use crate::variables::links_out;
 use code_form::Instr;
 use const_eval::is_broken;
@@ -374,20 +374,6 @@ fn call_step(
     })
 }
 
-/// The instruction that calls behind the arguments, which have so many cells.
-fn call_behind(
-    callee: &Callee,
-    cells: u64,
-    args: Fragment,
-    fragments: &mut Fragments,
-) -> Result<Fragment, Memory>
-    requires args { IsIn fragments.old.nodes.items args }
-    ensures { IsMade fragments.old.nodes.items fragments.new.nodes.items result (part fragments.old.nodes.items args ⨟ spec_call callee.now.instr (cells + callee.now.more) (spec_result callee.now.result)) }
-{
-    let call = call_step(callee, cells, fragments)?;
-    fragments.then(args, call)
-}
-
 /// The code of a call whose arguments have so many cells.
 fn call_made(
     callee: &Callee,
@@ -399,8 +385,8 @@ fn call_made(
     requires args { IsIn fragments.old.nodes.items args }
     ensures { IsMade fragments.old.nodes.items fragments.new.nodes.items result (part fragments.old.nodes.items callee.now.before ⨟ part fragments.old.nodes.items args ⨟ spec_call callee.now.instr (cells + callee.now.more) (spec_result callee.now.result)) }
 {
-    let rest = call_behind(callee, cells, args, fragments)?;
-    fragments.then(callee.before, rest)
+    let call = call_step(callee, cells, fragments)?;
+    after_both(fragments, callee.before, args, call)
 }
 
 /// The code of a call: what comes before the arguments, the arguments, and the instruction.

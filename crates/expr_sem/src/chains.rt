@@ -27,3 +27,34 @@ pub fn pair(first: Instr, second: Instr, fragments: &mut Fragments) -> Result<Fr
     let first = fragments.one(first)?;
     instr_behind(first, second, fragments)
 }
+
+/// Two fragments, and then what takes their values.
+pub fn after_both(
+    fragments: &mut Fragments,
+    x: Fragment,
+    y: Fragment,
+    last: Fragment,
+) -> Result<Fragment, Memory>
+    requires x { IsIn fragments.old.nodes.items x }
+    requires y { IsIn fragments.old.nodes.items y }
+    requires last { IsIn fragments.old.nodes.items last }
+    ensures { IsMade fragments.old.nodes.items fragments.new.nodes.items result (part fragments.old.nodes.items x ⨟ part fragments.old.nodes.items y ⨟ part fragments.old.nodes.items last) }
+{
+    let rest = fragments.then(y, last)?;
+    fragments.then(x, rest)
+}
+
+/// Two fragments, and then an instruction that takes their values.
+pub fn applied(
+    fragments: &mut Fragments,
+    x: Fragment,
+    y: Fragment,
+    instr: Instr,
+) -> Result<Fragment, Memory>
+    requires x { IsIn fragments.old.nodes.items x }
+    requires y { IsIn fragments.old.nodes.items y }
+    ensures { IsMade fragments.old.nodes.items fragments.new.nodes.items result (part fragments.old.nodes.items x ⨟ part fragments.old.nodes.items y ⨟ plain (instr ∷ [])) }
+{
+    let last = fragments.one(instr)?;
+    after_both(fragments, x, y, last)
+}

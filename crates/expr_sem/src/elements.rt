@@ -24,9 +24,9 @@ ghost use Rattle.expr_sem.specs.Parts.{plain, ◌⨟◌};
 ghost use Rattle.expr_sem.specs.Selections.{pointed as spec_pointed};
 ghost use Rattle.expr_sem.specs.Values.{assigned_to as spec_assigned};
 
-use crate::chains::pair;
+use crate::addressed::variable_at;
+use crate::chains::{applied, pair};
 use crate::coded::{Coded, Placed};
-use crate::designated::variable_at;
 use crate::fragments::{Fragment, Fragments};
 use crate::refusals::{Refusal, refused};
 use crate::values::{assigned_to, value_code};
@@ -157,22 +157,6 @@ fn index_instr(ends: Option<(i64, i64)>, size: u32) -> Result<Instr, Memory>
     }
 }
 
-/// The address of an element: that of the array, the index, and the instruction that finds it.
-fn element_code(
-    code: Fragment,
-    value: Fragment,
-    find: Instr,
-    fragments: &mut Fragments,
-) -> Result<Fragment, Memory>
-    requires code { IsIn fragments.old.nodes.items code }
-    requires value { IsIn fragments.old.nodes.items value }
-    ensures { IsMade fragments.old.nodes.items fragments.new.nodes.items result (part fragments.old.nodes.items code ⨟ part fragments.old.nodes.items value ⨟ plain (find ∷ [])) }
-{
-    let last = fragments.one(find)?;
-    let found = fragments.then(value, last)?;
-    fragments.then(code, found)
-}
-
 /// Whether an index or the type of the elements is in error.
 #[tactic(auto, using(type_rules::proofs::Reading::reading))]
 fn is_spoilt<S: Scopes>(scopes: &mut S, around: &Around, index: Operand, of: Place) -> Ask<bool>
@@ -230,7 +214,7 @@ fn element_found<S: Scopes>(
     ensures { (notes : NotesOf) → Coding (S.state scopes.old) (S.state scopes.new) notes notes fragments.old.nodes.items fragments.new.nodes.items site.now result IsCoded coded_in (λ c. gives (coded (Variable of) (part fragments.old.nodes.items code ⨟ spec_value c (coded_in fragments.old.nodes.items index) ⨟ plain (find ∷ [])))) }
 {
     let value = analysed!(value_code(scopes, site, index, fragments));
-    variable_at(of, element_code(code, value, find, fragments))
+    variable_at(of, applied(fragments, code, value, find))
 }
 
 /// The element of an array of these indices.
@@ -305,7 +289,7 @@ fn open_code(
     ensures { IsMade fragments.old.nodes.items fragments.new.nodes.items result (part fragments.old.nodes.items x.code ⨟ high_in fragments.old.nodes.items x.high ⨟ part fragments.old.nodes.items value ⨟ plain (IndexOpen size ∷ [])) }
 {
     let high = high_or_none(x.high, fragments)?;
-    let found = element_code(high, value, Instr::IndexOpen(size), fragments)?;
+    let found = applied(fragments, high, value, Instr::IndexOpen(size))?;
     fragments.then(x.code, found)
 }
 

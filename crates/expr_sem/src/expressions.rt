@@ -446,9 +446,9 @@ fn next_passed<S: Scopes>(
     requires read { IsReadExpr site.now.texts.now.names (expr_view e.now) }
     ensures { Coding (S.state scopes.old) (S.state scopes.new) notes.old notes.new fragments.old.nodes.items fragments.new.nodes.items site.now result IsArgument argument_in (λ c. spec_next c (with_types withs.now) (map parameter_view params.now) (argument_in fragments.old.nodes.items code) (expr_view e.now)) }
 {
-    match params {
-        [] => Ok(Ask::Known(None)),
-        [p, ..] => {
+    match params.first() {
+        None => Ok(Ask::Known(None)),
+        Some(p) => {
             let x = analysed!(expression(scopes, site, withs, e, fragments, notes));
             let more = analysed!(argument(scopes, site, *p, e.at, x, fragments, notes));
             joined(code, more, fragments)

@@ -3,7 +3,9 @@
 //! The words are those of Wirth's report and of the machine's instructions (`code_form`). What an expression stands for is
 //! said by the static rules (`m2_base`'s `specs/Statics`); here its code stands beside it. A part of code is a function of
 //! where it stands (`specs/Parts`). `specs/Expressions` goes over the trees; each rule of the language has a file of its
-//! own below it.
+//! own below it. `value` and `address` append to a piece of a block's code what an expression or a designator becomes, or
+//! wait (the record `Evaluates`, `specs/Evaluations`); statements, which put more code round it, take the functions below
+//! them, which make fragments (the record `Coding`, `specs/Codings`).
 #![tactic(auto)]
 
 /// The value of an answer, or the end of the function where it isn't known yet.
@@ -39,6 +41,7 @@ macro_rules! asked {
     };
 }
 
+mod addressed;
 mod answers;
 mod appending;
 mod argument_codes;
@@ -46,7 +49,6 @@ mod arguments;
 mod calls;
 mod chains;
 mod coded;
-mod designated;
 mod elements;
 mod evaluations;
 mod expressions;

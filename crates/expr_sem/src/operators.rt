@@ -18,6 +18,7 @@ ghost use Rattle.type_rules.specs.Asks.{Reads, WhereKnown, WhereWaiting};
 ghost use Rattle.type_rules.specs.Scenes.{IsThere, WhereTold};
 ghost use Rattle.type_rules.specs.Sites.{SuitsSite, context_of};
 
+use crate::chains::applied;
 use crate::coded::{Coded, Placed};
 use crate::fragments::{Connective, Fragment, Fragments};
 use crate::values::value_code;
@@ -153,37 +154,6 @@ fn decided(
 {
     let skipped = fragments.skip(connective, y)?;
     fragments.then(x, skipped)
-}
-
-/// Two values, and then what takes them.
-pub(crate) fn after_both(
-    fragments: &mut Fragments,
-    x: Fragment,
-    y: Fragment,
-    last: Fragment,
-) -> Result<Fragment, Memory>
-    requires x { IsIn fragments.old.nodes.items x }
-    requires y { IsIn fragments.old.nodes.items y }
-    requires last { IsIn fragments.old.nodes.items last }
-    ensures { IsMade fragments.old.nodes.items fragments.new.nodes.items result (part fragments.old.nodes.items x ⨟ part fragments.old.nodes.items y ⨟ part fragments.old.nodes.items last) }
-{
-    let rest = fragments.then(y, last)?;
-    fragments.then(x, rest)
-}
-
-/// Two values, and then an instruction.
-fn applied(
-    fragments: &mut Fragments,
-    x: Fragment,
-    y: Fragment,
-    instr: Instr,
-) -> Result<Fragment, Memory>
-    requires x { IsIn fragments.old.nodes.items x }
-    requires y { IsIn fragments.old.nodes.items y }
-    ensures { IsMade fragments.old.nodes.items fragments.new.nodes.items result (part fragments.old.nodes.items x ⨟ part fragments.old.nodes.items y ⨟ plain (instr ∷ [])) }
-{
-    let last = fragments.one(instr)?;
-    after_both(fragments, x, y, last)
 }
 
 /// The code of an operator before one operand.

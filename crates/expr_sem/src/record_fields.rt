@@ -21,8 +21,8 @@ ghost use Rattle.expr_sem.specs.RecordFields.{field_coded as spec_field_coded, f
 ghost use Rattle.expr_sem.specs.Selections.{IsField, with_number as spec_number};
 ghost use Rattle.expr_sem.specs.Variables.{entry_coded as spec_entry};
 
+use crate::addressed::variable_at;
 use crate::coded::Coded;
-use crate::designated::variable_at;
 use crate::fragments::{Fragment, Fragments};
 use crate::pieces::With;
 use crate::refusals::{Refusal, refused};

@@ -17,10 +17,9 @@ ghost use Rattle.type_rules.specs.Asks.{Reads, WhereKnown, WhereWaiting};
 ghost use Rattle.type_rules.specs.Scenes.{IsThere, WhereTold};
 ghost use Rattle.type_rules.specs.Sites.{SuitsSite, context_of};
 
-use crate::chains::pair;
+use crate::chains::{after_both, pair};
 use crate::coded::Coded;
 use crate::fragments::{Fragment, Fragments};
-use crate::operators::after_both;
 use crate::values::value_code;
 use code_form::Instr;
 use const_eval::{no_elements, set_base, taken, with_elements};

@@ -16,9 +16,9 @@ ghost use Rattle.expr_sem.specs.Codings.{Coding, IsCoded, coded_in};
 ghost use Rattle.expr_sem.specs.Parts.{plain};
 ghost use Rattle.expr_sem.specs.Variables.{cell_instr as spec_cell, entry_coded as spec_entry, links_out as spec_links, with_address as spec_with};
 
+use crate::addressed::{open_at, variable_at};
 use crate::chains::pair;
 use crate::coded::Coded;
-use crate::designated::{open_at, variable_at};
 use crate::fragments::Fragments;
 use crate::levels::level_of;
 use crate::procedure_names::{import_number, is_own};

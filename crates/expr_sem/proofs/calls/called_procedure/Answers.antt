@@ -2,15 +2,24 @@ use Rattle.std.proofs.Common.{◌∙◌, ap, map}
 use Rattle.m2_base.specs.States.{Frame}
 use Rattle.type_rules.specs.Scenes.{rows_of}
 use Rattle.type_rules.specs.Sites.{context_of}
-use Rattle.type_rules.proofs.Reading.{Reads-trans}
+use Rattle.type_rules.proofs.Reading.{Reads-trans, Waits_read}
 use Rattle.expr_sem.specs.ArgumentFits.{parameter_view}
 use Rattle.expr_sem.specs.Callees.{allowed_by, called_in, target_called}
 use Rattle.expr_sem.specs.ProcedureNames.{target_of_procedure as spec_target}
 use Rattle.expr_sem.specs.Signatures.{IsSignature}
 use Rattle.expr_sem.proofs.CallCases.{parts_allowed, type_allowed}
-use Rattle.expr_sem.proofs.Making.{after_question}
+use Rattle.expr_sem.proofs.Making.{after_question, question_failed, question_waits}
 use Rattle.expr_sem.proofs.Selecting.{stays_read}
 use Rattle.expr_sem.proofs.calls.called_procedure.Goals as goal
+
+pub returns-in-DontKnowYet-asked : goal.returns-in-DontKnowYet-asked
+returns-in-DontKnowYet-asked g c nodes =
+    let first = c.in-Ok.ensures in
+    let second = c.in-Ok-target_of_procedure.ensures in
+    question_waits _ nodes (Reads-trans first.reads second.reads) (Waits_read first.reads (rw c.in-DontKnowYet-asked.is at second.waits))
+
+pub returns-in-Err-target_of_procedure : goal.returns-in-Err-target_of_procedure
+returns-in-Err-target_of_procedure g c nodes = question_failed _ nodes (Reads-trans c.in-Ok.ensures.reads c.in-Err-target_of_procedure.ensures.reads) _
 
 pub returns : goal.returns
 returns g c nodes =

@@ -12,11 +12,11 @@ use Rattle.expr_sem.proofs.Quiet.{no_notes}
 use Rattle.expr_sem.proofs.Sequencing.{in_later, part_later}
 use Rattle.expr_sem.proofs.elements.element_found.Goals as goal
 
-pub element_code-requires-clause-code : goal.element_code-requires-clause-code
-element_code-requires-clause-code g c = let one = (rw c.in-Known.is at c.in-Ok.ensures (no_notes c.args.fragments.now)) in in_later one.grows c.args.code c.requires.code
+pub applied-requires-clause-x : goal.applied-requires-clause-x
+applied-requires-clause-x g c = let one = (rw c.in-Known.is at c.in-Ok.ensures (no_notes c.args.fragments.now)) in in_later one.grows c.args.code c.requires.code
 
-pub element_code-requires-clause-value : goal.element_code-requires-clause-value
-element_code-requires-clause-value g c = let one = (rw c.in-Known.is at c.in-Ok.ensures (no_notes c.args.fragments.now)) in one.there
+pub applied-requires-clause-y : goal.applied-requires-clause-y
+applied-requires-clause-y g c = let one = (rw c.in-Known.is at c.in-Ok.ensures (no_notes c.args.fragments.now)) in one.there
 
 pub returns-in-DontKnowYet : goal.returns-in-DontKnowYet
 returns-in-DontKnowYet g c notes = unknown (rw c.in-DontKnowYet.is at c.in-Ok.ensures notes)
@@ -31,5 +31,5 @@ returns g c notes =
     let ms = c.value_code.new.fragments.nodes.items in
     described c.variable_at.result
     (coding_after (λ k. gives (value_code k (coded_in ns c.args.index))) (λ q k. gives (coded (Variable c.args.of) (part ms c.args.code ⨟ q ⨟ plain (c.args.find ∷ [])))) c.variable_at.result one
-    (c.variable_at.ensures (g.S.Scopes.state c.value_code.new.scopes) notes c.args.site.now _ _ _ (subst (λ (f : Frame). IsThere f c.args.of) (sym one.works.keeps.frame) c.requires.of) c.element_code.ensures))
+    (c.variable_at.ensures (g.S.Scopes.state c.value_code.new.scopes) notes c.args.site.now _ _ _ (subst (λ (f : Frame). IsThere f c.args.of) (sym one.works.keeps.frame) c.requires.of) c.applied.ensures))
     (λ k. ap (λ r. gives (coded (Variable c.args.of) (r ⨟ value_code k (coded_in ns c.args.index) ⨟ plain (c.args.find ∷ [])))) (part_later one.grows c.args.code c.requires.code))

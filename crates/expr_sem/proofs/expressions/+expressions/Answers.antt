@@ -37,7 +37,7 @@ use Rattle.expr_sem.specs.StandardProcedures.{first_of_two, of_no_argument, of_o
 use Rattle.expr_sem.specs.declared.calls.Callable.{Callable}
 use Rattle.expr_sem.specs.declared.fragments.Fragment.TheVariants.{Nothing}
 use Rattle.expr_sem.proofs.ArgumentFolds.{argument_step, count_given, passed_whole}
-use Rattle.expr_sem.proofs.Calling.{AreLeft, NoMatter, argument_after, argument_later, as_error, behind_in, behind_there, callee_after, error_in, first_there, left_in, next_given as parameter_given, params_after}
+use Rattle.expr_sem.proofs.Calling.{AreLeft, NoMatter, argument_after, argument_later, as_error, behind_in, behind_there, callee_after, error_in, first_there, left_in, next_given as parameter_given, none_passed, params_after}
 use Rattle.expr_sem.proofs.StandardArguments.{none_given, one_argument_given, two_arguments_given}
 use Rattle.expr_sem.proofs.Sequencing.{Grows-trans, part_later}
 use Rattle.expr_sem.specs.Operators.{one_coded, two_coded}
@@ -831,10 +831,11 @@ expression-returns-in-Known-asked g t c =
     described c.called_with.result (coding_after (λ k. designated k (with_types c.args.withs.now) (designator_view d)) (λ x k. called_with k (with_types c.args.withs.now) true d.first.at x args) c.called_with.result (rw c.in-Known-asked.is at c.in-Ok-designated.ensures) (rw c.deref-in-Call.ensures.value at c.called_with.ensures))
     (λ k. ap (λ (at : ℕ). and_then (designated k (with_types c.args.withs.now) (designator_view d)) (λ x. called_with k (with_types c.args.withs.now) true at x args)) (sym (designator_at_seen d)) ∙ form_given k (with_types c.args.withs.now) c.args.e.now _ _ c.in-Call.is (call_seen d c.in-Call.args))
 
-pub next_passed-returns-in-empty : goal.next_passed-returns-in-empty
-next_passed-returns-in-empty g t c =
+pub next_passed-returns-in-None : goal.next_passed-returns-in-None
+next_passed-returns-in-None g t c =
     let ns = c.args.fragments.now.nodes.items in
-    value_alone (g.S.Scopes.state c.args.scopes.now) c.args.notes.now ns c.args.site.now None IsArgument argument_in (λ k. None) tt (λ k. refl)
+    described (Ok (Known None)) (value_alone (g.S.Scopes.state c.args.scopes.now) c.args.notes.now ns c.args.site.now None IsArgument argument_in (λ k. None) tt (λ k. refl))
+    (λ k. none_passed k (with_types c.args.withs.now) c.args.params.now (argument_in ns c.args.code) (expr_view c.args.e.now) (rw c.in-None.is at c.first.ensures.value))
 
 pub next_passed-expression-requires : goal.next_passed-expression-requires
 next_passed-expression-requires g t c κs within =
@@ -854,7 +855,7 @@ next_passed-argument-requires-clause-suits g t c =
 
 pub next_passed-argument-requires-clause-p : goal.next_passed-argument-requires-clause-p
 next_passed-argument-requires-clause-p g t c =
-    there_after (rw c.in-Known.is at c.in-Ok.ensures) c.p-item.result.of (first_there _ c.args.params.now c.p-item.result (omega (arith, c.in-len1-up.len_at_least)) c.p-item.is c.requires.params)
+    there_after (rw c.in-Known.is at c.in-Ok.ensures) c.in-Some.p.now.of (first_there _ c.args.params.now c.in-Some.p.now (rw c.in-Some.is at c.first.ensures.value) c.requires.params)
 
 pub next_passed-argument-requires-clause-x : goal.next_passed-argument-requires-clause-x
 next_passed-argument-requires-clause-x g t c =
@@ -873,7 +874,7 @@ next_passed-returns-in-Known-asked g t c =
     let one = (rw c.in-Known.is at c.in-Ok.ensures) in
     let two = (rw c.in-Known-asked.is at c.in-Ok-argument.ensures) in
     let e = c.args.e.now in
-    let p = c.p-item.result in
+    let p = c.in-Some.p.now in
     let code = argument_in c.args.fragments.now.nodes.items c.args.code in
     let x = coded_in c.expression.new.fragments.nodes.items c.in-Known.value in
     let more = argument_in c.argument.new.fragments.nodes.items c.in-Known-asked.value in
@@ -882,7 +883,7 @@ next_passed-returns-in-Known-asked g t c =
     (described c.joined.result (c.joined.ensures (g.S.Scopes.state c.argument.new.scopes) c.argument.new.notes c.args.site.now)
     (λ k. ap (λ (o : Option Part). gives (after_argument o more)) (argument_later (Grows-trans one.grows two.grows) _ c.args.code c.requires.code)))))
     (λ k. ap (λ (at : ℕ). and_then (expression k (with_types c.args.withs.now) (expr_view e)) (λ x. and_then (argument k (parameter_view p) at x) (λ a. gives (after_argument code a)))) (sym (at_seen e))
-    ∙ parameter_given k (with_types c.args.withs.now) c.args.params.now p code (expr_view e) (omega (arith, c.in-len1-up.len_at_least)) c.p-item.is)
+    ∙ parameter_given k (with_types c.args.withs.now) c.args.params.now p code (expr_view e) (rw c.in-Some.is at c.first.ensures.value))
 
 pub expression-overflow_cast-value : goal.expression-overflow_cast-value
 expression-overflow_cast-value g t c =

@@ -10,8 +10,7 @@ use Rattle.expr_sem.specs.Fragments.{part}
 use Rattle.expr_sem.specs.Parts.{Part}
 use Rattle.expr_sem.specs.Rooms.{room_at}
 use Rattle.expr_sem.specs.StandardProcedures.{no_value}
-use Rattle.expr_sem.proofs.Joining.{question_full}
-use Rattle.expr_sem.proofs.Making.{after_question}
+use Rattle.expr_sem.proofs.Making.{after_question, question_full}
 use Rattle.expr_sem.proofs.Operating.{value_grown}
 use Rattle.expr_sem.proofs.Selecting.{stays_read}
 use Rattle.expr_sem.proofs.rooms.room_made.Goals as goal

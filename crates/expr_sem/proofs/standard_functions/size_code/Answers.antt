@@ -3,8 +3,7 @@ use Rattle.std.specs.Prelude.{pos}
 use Rattle.code_form.specs.declared.instr.Instr.TheVariants.{Push}
 use Rattle.expr_sem.specs.Parts.{plain}
 use Rattle.expr_sem.specs.ValueFunctions.{pushed_size}
-use Rattle.expr_sem.proofs.Joining.{question_full}
-use Rattle.expr_sem.proofs.Making.{fragment_told}
+use Rattle.expr_sem.proofs.Making.{fragment_told, question_full}
 use Rattle.expr_sem.proofs.standard_functions.size_code.Goals as goal
 
 pub returns-in_err-code : goal.returns-in_err-code

@@ -1,8 +1,8 @@
 use Rattle.std.proofs.Common.{◌∙◌, ◌∷◌, [], refl}
 use Rattle.code_form.specs.declared.instr.Instr.TheVariants.{Dup, Load, Store}
 use Rattle.expr_sem.specs.Parts.{plain}
-use Rattle.expr_sem.proofs.Selecting.{made_full, then_both}
-use Rattle.expr_sem.proofs.Sequencing.{Grows-trans, made_after, part_later}
+use Rattle.expr_sem.proofs.Selecting.{made_full}
+use Rattle.expr_sem.proofs.Sequencing.{Grows-trans, joined_same, made_after, part_later}
 use Rattle.expr_sem.proofs.updates.updated.Goals as goal
 
 pub returns-in_err-stored : goal.returns-in_err-stored
@@ -18,5 +18,5 @@ returns c =
     let rest = c.in_ok-rest.ensures in
     let before = Grows-trans change.grows stored.grows in
     made_after c.then.result (Grows-trans before rest.grows) c.then.ensures.made
-    (then_both (part_later (Grows-trans before rest.grows) c.args.variable c.requires.variable)
-    (rest.made.part_is ∙ then_both {p = plain (Dup ∷ Load ∷ [])} {p' = plain (Dup ∷ Load ∷ [])} refl (then_both (part_later before c.args.number c.requires.number) (stored.made.part_is ∙ then_both {q = plain (Store ∷ [])} {q' = plain (Store ∷ [])} change.made.part_is refl))))
+    (joined_same (part_later (Grows-trans before rest.grows) c.args.variable c.requires.variable)
+    (rest.made.part_is ∙ joined_same {p = plain (Dup ∷ Load ∷ [])} {p' = plain (Dup ∷ Load ∷ [])} refl (joined_same (part_later before c.args.number c.requires.number) (stored.made.part_is ∙ joined_same {q = plain (Store ∷ [])} {q' = plain (Store ∷ [])} change.made.part_is refl))))

@@ -3,8 +3,7 @@ use Rattle.code_form.specs.declared.instr.Instr.{Instr}
 use Rattle.expr_sem.specs.Fragments.{part}
 use Rattle.expr_sem.specs.Parts.{plain, ◌⨟◌}
 use Rattle.expr_sem.specs.ValueFunctions.{ending}
-use Rattle.expr_sem.proofs.Joining.{question_full}
-use Rattle.expr_sem.proofs.Making.{fragment_told}
+use Rattle.expr_sem.proofs.Making.{fragment_told, question_full}
 use Rattle.expr_sem.proofs.value_functions.ended.Goals as goal
 
 pub returns-in_err-code : goal.returns-in_err-code

@@ -1,4 +1,4 @@
-use Rattle.expr_sem.proofs.Joining.{joined_both}
+use Rattle.expr_sem.proofs.Sequencing.{joined_both}
 use Rattle.expr_sem.proofs.Selecting.{made_full}
 use Rattle.expr_sem.proofs.value_functions.oddness.Goals as goal
 

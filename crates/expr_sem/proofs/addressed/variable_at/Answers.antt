@@ -3,7 +3,7 @@ use Rattle.m2_base.specs.declared.operands.Operand.TheVariants.{Variable}
 use Rattle.expr_sem.specs.Coded.{coded}
 use Rattle.expr_sem.specs.Codings.{IsCoded, coded_in}
 use Rattle.expr_sem.proofs.Operating.{made_wanted, value_grown}
-use Rattle.expr_sem.proofs.designated.variable_at.Goals as goal
+use Rattle.expr_sem.proofs.addressed.variable_at.Goals as goal
 
 pub returns-in-Ok : goal.returns-in-Ok
 returns-in-Ok c state notes s from to p there made =

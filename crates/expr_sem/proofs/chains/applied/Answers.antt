@@ -1,5 +1,5 @@
 use Rattle.expr_sem.proofs.Sequencing.{behind_both, in_later}
-use Rattle.expr_sem.proofs.operators.applied.Goals as goal
+use Rattle.expr_sem.proofs.chains.applied.Goals as goal
 
 pub after_both-requires-clause-x : goal.after_both-requires-clause-x
 after_both-requires-clause-x c = in_later c.in_ok-last.ensures.made.grows c.args.x c.requires.x

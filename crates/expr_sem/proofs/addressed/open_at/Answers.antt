@@ -6,7 +6,7 @@ use Rattle.expr_sem.specs.Parts.{Part}
 use Rattle.expr_sem.proofs.Operating.{value_grown}
 use Rattle.expr_sem.proofs.Selecting.{grown_wanted}
 use Rattle.expr_sem.proofs.Sequencing.{Grows-trans, in_later, part_later}
-use Rattle.expr_sem.proofs.designated.open_at.Goals as goal
+use Rattle.expr_sem.proofs.addressed.open_at.Goals as goal
 
 pub returns-in-Ok : goal.returns-in-Ok
 returns-in-Ok c state notes s from mid to p q there grows high made =
