@@ -18,4 +18,4 @@ returns g c n =
     let code = part c.args.fragments.now.nodes.items c.args.code in
     after_question {g = λ k. gives (value_called ps r c.in-Known.value (code ⨟ plain (Load ∷ [])))} {h = λ k. gives (variable_called k.scene ps r code)} c.loaded_callable.result c.in-Ok.ensures.reads
     (c.loaded_callable.ensures (g.S.Scopes.state c.cells_of_all.new.scopes) n c.args.site.now (stays_read (λ (e : Frame). IsSignature e c.args.signature) c.in-Ok.ensures.reads c.requires.signature))
-    (λ made in_hand told. ap (λ (cells : ℕ). gives (value_called ps r cells (code ⨟ plain (Load ∷ [])))) (rw c.in-Known.is at c.in-Ok.ensures.told made in_hand told))
+    (λ made in_hand told. ap (λ (cells : ℕ). gives (value_called ps r cells (code ⨟ plain (Load ∷ [])))) (rw c.deref.ensures.value at (rw c.in-Known.is at c.in-Ok.ensures.told made in_hand told)))

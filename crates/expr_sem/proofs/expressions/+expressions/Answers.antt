@@ -881,7 +881,7 @@ next_passed-returns-in-Known-asked g t c =
     described c.joined.result (coding_after (λ k. expression k (with_types c.args.withs.now) (expr_view e)) (λ x k. and_then (argument k (parameter_view p) e.at x) (λ a. gives (after_argument code a))) c.joined.result one
     (coding_after (λ k. argument k (parameter_view p) e.at x) (λ a k. gives (after_argument code a)) c.joined.result two
     (described c.joined.result (c.joined.ensures (g.S.Scopes.state c.argument.new.scopes) c.argument.new.notes c.args.site.now)
-    (λ k. ap (λ (o : Option Part). gives (after_argument o more)) (argument_later (Grows-trans one.grows two.grows) _ c.args.code c.requires.code)))))
+    (λ k. ap (λ (o : Option Part). gives (after_argument o more)) (argument_later (Grows-trans one.grows two.grows) (g.S.Scopes.state c.args.scopes.now).frame c.args.code c.requires.code)))))
     (λ k. ap (λ (at : ℕ). and_then (expression k (with_types c.args.withs.now) (expr_view e)) (λ x. and_then (argument k (parameter_view p) at x) (λ a. gives (after_argument code a)))) (sym (at_seen e))
     ∙ parameter_given k (with_types c.args.withs.now) c.args.params.now p code (expr_view e) (rw c.in-Some.is at c.first.ensures.value))
 

@@ -19,4 +19,4 @@ returns c =
     let before = Grows-trans change.grows stored.grows in
     made_after c.then.result (Grows-trans before rest.grows) c.then.ensures.made
     (joined_same (part_later (Grows-trans before rest.grows) c.args.variable c.requires.variable)
-    (rest.made.part_is ∙ joined_same {p = plain (Dup ∷ Load ∷ [])} {p' = plain (Dup ∷ Load ∷ [])} refl (joined_same (part_later before c.args.number c.requires.number) (stored.made.part_is ∙ joined_same {q = plain (Store ∷ [])} {q' = plain (Store ∷ [])} change.made.part_is refl))))
+    (rest.made.part_is ∙ joined_same {p = plain (Dup ∷ Load ∷ [])} {r = plain (Dup ∷ Load ∷ [])} refl (joined_same (part_later before c.args.number c.requires.number) (stored.made.part_is ∙ joined_same {q = plain (Store ∷ [])} {s = plain (Store ∷ [])} change.made.part_is refl))))
