@@ -79,7 +79,7 @@ mod variables;
 pub use coded::{Coded, Placed};
 pub use evaluations::{address, value};
 pub use fragments::{Connective, Form, Fragment, Fragments, Node};
-pub use laws::{errors_have_no_code, heights_are_right, operands_are_known};
+pub use laws::{code_is_short, errors_have_no_code, heights_are_right, operands_are_known};
 pub use operators::{made, one_coded, side_of, two_coded};
 pub use pieces::{Piece, With, append};
 pub use refusals::Refusal;
