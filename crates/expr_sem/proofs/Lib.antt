@@ -31,3 +31,9 @@ pub mod ArgumentFolds
 pub mod StandardArguments
 pub mod Evaluating
 pub mod Calling
+pub mod Lengths
+pub mod ValueLengths
+pub mod FunctionLengths
+pub mod DesignatorLengths
+pub mod CallLengths
+pub mod LengthLaw

@@ -36,3 +36,5 @@ pub mod Callees
 pub mod Signatures
 pub mod ExpressionParts
 pub mod Evaluations
+pub mod Tokens
+pub mod Lengths

@@ -1,5 +1,5 @@
 //! Laws on the definitions, each the contract of a function that does nothing.
-ghost use Rattle.std.specs.Prelude.{◌≡◌, false, List};
+ghost use Rattle.std.specs.Prelude.{◌≡◌, false, List, ◌+◌};
 ghost use Rattle.m2_base.specs.Statics.Contexts.{Context};
 ghost use Rattle.m2_base.specs.Statics.Operands.{is_bad};
 ghost use Rattle.m2_base.specs.Trees.{Designator, Expr, Exprs};
@@ -8,7 +8,9 @@ ghost use Rattle.expr_sem.specs.Coded.{value_code};
 ghost use Rattle.expr_sem.specs.Expressions.{call_alone, designated, expression, value};
 ghost use Rattle.m2_base.specs.declared.operands.Operand.TheVariants.{InError, NotConstant};
 ghost use Rattle.expr_sem.specs.Heights.{IsAddressed, Moves};
+ghost use Rattle.expr_sem.specs.Lengths.{IsShortFor};
 ghost use Rattle.expr_sem.specs.Parts.{none};
+ghost use Rattle.expr_sem.specs.Tokens.{designator_tokens, expr_tokens, exprs_tokens};
 
 /// Wherever it stands, the code of a value leaves one operand more, and that of a variable its address; a call as a statement
 /// leaves the height as it was. None takes what was there before, and its jumps stay in the code.
@@ -30,4 +32,11 @@ pub fn errors_have_no_code()
     ensures expressions { (c : Context) (withs : List Place) (e : Expr) → (expression c withs e).value.operand ≡ InError → (expression c withs e).value.code ≡ none }
     ensures values { (c : Context) (withs : List Place) (e : Expr) → (value c withs e).value.operand ≡ InError → (value c withs e).value.code ≡ none }
     ensures designators { (c : Context) (withs : List Place) (d : Designator) → (designated c withs d).value.operand ≡ InError → (designated c withs d).value.code ≡ none }
+{}
+
+/// Wherever it stands, the code of a value, of a variable or of a call alone has at most 64 bytes for each of its tokens.
+pub fn code_is_short()
+    ensures values { (c : Context) (withs : List Place) (e : Expr) → IsShortFor (expr_tokens e) (value_code c (value c withs e).value) }
+    ensures variables { (c : Context) (withs : List Place) (d : Designator) → IsShortFor (designator_tokens d) (designated c withs d).value.code }
+    ensures calls { (c : Context) (withs : List Place) (d : Designator) (args : Exprs) → IsShortFor (designator_tokens d + exprs_tokens args) (call_alone c withs d args).value.code }
 {}

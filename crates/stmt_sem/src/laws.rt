@@ -1,18 +1,29 @@
 //! Laws on the definitions, each the contract of a function that does nothing.
-ghost use Rattle.std.specs.Prelude.{List, []};
+ghost use Rattle.std.specs.Prelude.{List, [], length, ◌*◌, ◌^◌, ◌<◌, ◌≤◌};
 ghost use Rattle.m2_base.specs.declared.rows.Row.{Row};
 ghost use Rattle.m2_base.specs.Statics.BlockRows.{declare_block};
 ghost use Rattle.m2_base.specs.Statics.Blocks.{BlockTree};
 ghost use Rattle.m2_base.specs.Statics.Contexts.{Source};
 ghost use Rattle.m2_base.specs.Statics.UnitNotes.{complete_context};
 ghost use Rattle.m2_base.specs.Trees.{Statements};
-ghost use Rattle.stmt_sem.specs.BlockCode.{body_of, run_of};
+ghost use Rattle.expr_sem.specs.Lengths.{bytes_for_token};
+ghost use Rattle.stmt_sem.specs.BlockCode.{block_code, body_of, run_of};
 ghost use Rattle.stmt_sem.specs.Heights.{KeepsHeight, Stands};
+ghost use Rattle.stmt_sem.specs.Lengths.{IsShortFor, most_tokens};
 ghost use Rattle.stmt_sem.specs.Statements.{Stand, flow_of};
+ghost use Rattle.stmt_sem.specs.Tokens.{block_tokens, statements_tokens};
 
 /// Wherever they stand, statements find what they take and leave the height as it was, and each of their jumps goes to an
 /// instruction at the height that the jump leaves. So does the code of every block, from its first instruction to its last.
 pub fn heights_are_right()
     ensures statements { (s : Stand) (body : Statements) → KeepsHeight (flow_of s body).value }
     ensures blocks { (source : Source) (before all : List (List Row)) (b : BlockTree) → Stands [] 0 0 ((run_of b (declare_block source before b).value (body_of (complete_context source all b.block) b).value).code 0) 0 }
+{}
+
+/// Wherever they stand, the code of statements has at most 64 bytes for each of their tokens, and so has a block's code; that of
+/// a block of a text that isn't too long has fewer than 2 ^ 31 bytes.
+pub fn code_is_short()
+    ensures statements { (s : Stand) (body : Statements) → IsShortFor (statements_tokens body) (flow_of s body).value }
+    ensures blocks { (source : Source) (before all : List (List Row)) (b : BlockTree) → length (block_code source before all b).code ≤ bytes_for_token * block_tokens b.tree }
+    ensures in_range { (source : Source) (before all : List (List Row)) (b : BlockTree) → block_tokens b.tree ≤ most_tokens → length (block_code source before all b).code < 2 ^ 31 }
 {}

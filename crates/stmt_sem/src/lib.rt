@@ -8,4 +8,4 @@
 
 mod laws;
 
-pub use laws::heights_are_right;
+pub use laws::{code_is_short, heights_are_right};
