@@ -7,7 +7,7 @@ use Rattle.std.proofs.Common.{append_assoc}
 use Rattle.std.proofs.lemmas.List.{append-nil}
 use Rattle.m2_base.specs.Gives.{Adds, Gives, and_then, gives}
 use Rattle.m2_base.specs.Lists.{IsPrefixOf}
-use Rattle.m2_base.specs.States.{Frame, State}
+use Rattle.m2_base.specs.States.{Frame, State, Waits}
 use Rattle.m2_base.specs.Statics.CaseLabels.{CaseLabels, LabelTest, case_labels, cover, joined, label_of, labels_of, one_taken, one_test, overlaps, range_taken, range_test, taken_label}
 use Rattle.m2_base.specs.Statics.Compatible.{is_compatible}
 use Rattle.m2_base.specs.Statics.Constants.{constant_of}
@@ -16,16 +16,19 @@ use Rattle.m2_base.specs.Statics.Diagnostics.{wrong_label}
 use Rattle.m2_base.specs.Statics.Operands.{constant_of_operand}
 use Rattle.m2_base.specs.Statics.Ranges.{Range, range}
 use Rattle.m2_base.specs.Statics.Types.{is_broken}
+use Rattle.m2_base.specs.Views.{expr_view}
 use Rattle.m2_base.specs.Trees.{Expr, Label, expr_at, label_with, labels, one_label, range_label}
 use Rattle.m2_base.specs.declared.notes.Notes.{Notes}
+use Rattle.m2_base.specs.declared.trees.expressions.Expr as tree
 use Rattle.m2_base.specs.declared.operands.Operand.{Operand}
 use Rattle.m2_base.specs.declared.operands.Operand.TheVariants.{Computed}
 use Rattle.m2_base.specs.declared.replies.Ask.{Ask}
 use Rattle.m2_base.specs.declared.replies.Ask.TheVariants.{Known, DontKnowYet}
+use Rattle.m2_base.specs.declared.replies.Head.{Head}
 use Rattle.m2_base.specs.declared.rows.Place.{Place}
 use Rattle.m2_base.specs.declared.sites.Site.{Site}
 use Rattle.m2_base.proofs.Kept.{Works-notes}
-use Rattle.type_rules.specs.Asks.{Reads, WhereKnown}
+use Rattle.type_rules.specs.Asks.{Reads, WhereKnown, WhereWaiting}
 use Rattle.type_rules.specs.Scenes.{WhereTold}
 use Rattle.type_rules.specs.Sites.{context_of}
 use Rattle.const_eval.specs.Analyses.{Analysed}
@@ -34,11 +37,11 @@ use Rattle.const_eval.specs.Sites.{IsOperand}
 use Rattle.const_eval.proofs.Analysing.{and_then_assoc, quiet}
 use Rattle.const_eval.proofs.Elements.{pair}
 use Rattle.const_eval.proofs.Folding.{and_then_gives, and_then_same, folded}
-use Rattle.case_labels.specs.Labels.{IsAny, covered_by, ends_in, is_ranged, label_at, label_fault, one_label_of, values_beside, values_by, values_in, values_of}
+use Rattle.case_labels.specs.Labels.{IsAny, covered_by, ends_in, is_ranged, label_at, label_fault, one_label_of, test_of, values_beside, values_by, values_in, values_of}
 use Rattle.case_labels.specs.Seen.{AreAny, test_seen}
 use Rattle.case_labels.specs.declared.tests.LabelTest as code
 use Rattle.case_labels.specs.declared.values.LabelValues.{LabelValues}
-use Rattle.case_labels.specs.declared.values.LabelValues.TheVariants.{Nothing, Wrong}
+use Rattle.case_labels.specs.declared.values.LabelValues.TheVariants.{Nothing, Values, Wrong}
 
 -- ** The ends of a label
 
@@ -241,3 +244,21 @@ asked_values {a} {b} {v} x s asked f is reads told =
 pub test_kept : {given : Option code.LabelTest} (wrong : Bool) (test : code.LabelTest) → given ≡ (if wrong then None else Some test) → option_map test_seen given ≡ (if wrong then None else Some (test_seen test))
 test_kept true test e = ap (λ (o : Option code.LabelTest). option_map test_seen o) e
 test_kept false test e = ap (λ (o : Option code.LabelTest). option_map test_seen o) e
+
+-- a label has a second part where its tree has
+pub ranged_seen : (high : Option tree.Expr) → is_some high ≡ is_some (option_map expr_view high)
+ranged_seen None = refl
+ranged_seen (Some e) = refl
+
+-- or isn't known yet
+pub asked_waits : {a b : State} {h : Head} (x : Notes) (s : Site) (asked : Ask LabelValues) (f : Context → LabelValues) → asked ≡ DontKnowYet h → Reads a b → WhereWaiting asked (λ head. Waits a b head)
+    → Analysed a b x x s (Ok (DontKnowYet h)) IsAny (λ c. gives (f c))
+asked_waits {a} {b} {h} x s asked f is reads waits =
+    quiet x s (DontKnowYet h) IsAny f reads (subst (λ (k : Ask LabelValues). WhereWaiting k (λ head. Waits a b head)) is waits) (λ made in_hand told. tt) tt
+
+-- values by their test
+pub values_cover : {l h m n : ℤ} {test : LabelTest} (c : Context) (at : ℕ) (ranged : Bool) (covered : List Range) (low high : ℤ) → l ≡ low → h ≡ high → m ≡ low → n ≡ high → test ≡ test_of ranged m n
+    → cover c at test (range l h) covered ≡ covered_by c at ranged covered (Values low high)
+values_cover {l} {h} {m} {n} {test} c at ranged covered low high e f d k is =
+    ap (λ (t : LabelTest). cover c at t (range l h) covered) (is ∙ ap (λ (v : ℤ). test_of ranged v n) d ∙ ap (λ (w : ℤ). test_of ranged low w) k)
+    ∙ ap (λ (v : ℤ). cover c at (test_of ranged low high) (range v h) covered) e ∙ ap (λ (w : ℤ). cover c at (test_of ranged low high) (range low w) covered) f

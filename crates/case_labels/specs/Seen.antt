@@ -1,8 +1,7 @@
 -- The labels of an arm, as the definitions see them.
-use Rattle.std.specs.Prelude.{List, Option, Some, None, Result, Ok, Err, [], ◌∷◌, false, map, true}
+use Rattle.std.specs.Prelude.{Result, Ok, Err, map}
 use Rattle.m2_base.specs.States.{Frame}
 use Rattle.m2_base.specs.Statics.CaseLabels as plain
-use Rattle.m2_base.specs.Statics.Ranges.{Range}
 use Rattle.m2_base.specs.declared.memory.Memory.{Memory}
 use Rattle.m2_base.specs.declared.replies.Ask.{Ask}
 use Rattle.m2_base.specs.declared.replies.Ask.TheVariants.{Known, DontKnowYet}
@@ -15,14 +14,14 @@ AreAny f labels = Unit {0}
 
 -- an answer, whose value is seen so
 abbrev pub answer_as : {T V : Type 0} → (T → V) → Result (Ask T) Memory → Result (Ask V) Memory
-answer_as as (Ok (Known v)) = Ok (Known (as v))
-answer_as as (Ok (DontKnowYet head)) = Ok (DontKnowYet head)
-answer_as as (Err m) = Err m
+answer_as seen (Ok (Known v)) = Ok (Known (seen v))
+answer_as seen (Ok (DontKnowYet head)) = Ok (DontKnowYet head)
+answer_as seen (Err m) = Err m
 
 -- the same, of an answer that never waits
 abbrev pub known_as : {T V : Type 0} → (T → V) → Result T Memory → Result (Ask V) Memory
-known_as as (Ok v) = Ok (Known (as v))
-known_as as (Err m) = Err m
+known_as seen (Ok v) = Ok (Known (seen v))
+known_as seen (Err m) = Err m
 
 -- a label's test
 abbrev pub test_seen : LabelTest → plain.LabelTest

@@ -1,4 +1,4 @@
-use Rattle.std.proofs.Common.{[], map, refl, true}
+use Rattle.std.proofs.Common.{[], List, ap, map, true}
 use Rattle.m2_base.specs.Gives.{gives}
 use Rattle.m2_base.specs.States.{Frame}
 use Rattle.m2_base.specs.Statics.CaseLabels.{case_labels, labels_of}
@@ -9,13 +9,15 @@ use Rattle.type_rules.specs.Sites.{SuitsSite}
 use Rattle.const_eval.proofs.Analysing.{value_everywhere}
 use Rattle.const_eval.proofs.ReadParts.{read_label}
 use Rattle.const_eval.proofs.Sequences.{failed_after, one_more, stays_after, waiting_after, whole}
-use Rattle.case_labels.specs.Seen.{AreAny}
+use Rattle.case_labels.specs.Seen.{AreAny, test_seen}
+use Rattle.case_labels.specs.declared.tests.LabelTest.{LabelTest}
 use Rattle.case_labels.proofs.CoveringLabels.{labels_folded, with_label}
 use Rattle.case_labels.proofs.labels.case_labels.Goals as goal
 
 pub loop-label-init : goal.loop-label-init
 loop-label-init g c =
-    value_everywhere (g.S.Scopes.state c.args.scopes.now) c.args.notes.now c.args.site.now (case_labels true [] c.args.covered) AreAny (λ k. gives (case_labels true [] c.args.covered)) tt (λ k. refl)
+    value_everywhere (g.S.Scopes.state c.args.scopes.now) c.args.notes.now c.args.site.now (case_labels true (map test_seen c.new.result.items) c.args.covered) AreAny (λ k. gives (case_labels true [] c.args.covered)) tt
+    (λ k. ap (λ (tests : List LabelTest). gives (case_labels true (map test_seen tests) c.args.covered)) c.new.ensures.items)
 
 pub with_label-requires-clause-suits : goal.with_label-requires-clause-suits
 with_label-requires-clause-suits g c = stays_after (λ (f : Frame). SuitsSite f c.args.site.now) c.loop-label.invariant c.requires.suits

@@ -1,5 +1,5 @@
 use Rattle.m2_base.proofs.Kept.{IsPrefixOf-refl}
-use Rattle.std.proofs.Common.{ap, option_map, refl, w64, ◌∙◌}
+use Rattle.std.proofs.Common.{refl, w64}
 use Rattle.std.proofs.lemmas.Int.{to_z-of_z}
 use Rattle.m2_base.specs.Statics.CaseLabels.{cover}
 use Rattle.m2_base.specs.Statics.Ranges.{range}
