@@ -6,7 +6,7 @@ pub mod BoundRanges
 pub mod Checks
 pub mod ConstantRows
 pub mod Constants
-pub mod Coverings
+pub mod CoveredLabels
 pub mod FieldNames
 pub mod FieldLists
 pub mod FirstNames
@@ -20,7 +20,6 @@ pub mod ImportedScopes
 pub mod ItemBeginnings
 pub mod ItemEffects
 pub mod ItemShapes
-pub mod CoveringLabels
 pub mod MadeFields
 pub mod MakingOn
 pub mod ManyItems
@@ -37,7 +36,6 @@ pub mod Pieces
 pub mod SectionLists
 pub mod PointerRows
 pub mod SizesInHand
-pub mod Steps
 pub mod SubrangeRows
 pub mod ProcTypes
 pub mod RecordSizes

@@ -7,7 +7,6 @@ pub mod FieldNotes
 pub mod Hands
 pub mod ImportedModules
 pub mod Items
-pub mod Labels
 pub mod LaidRows
 pub mod MadeRows
 pub mod Making
@@ -16,7 +15,6 @@ pub mod Pieces
 pub mod Progress
 pub mod Records
 pub mod Shapes
-pub mod Steps
 pub mod Stood
 pub mod Targets
 pub mod TypeUses

@@ -1,17 +1,24 @@
-//! The row of a record, and where its variants stand.
-ghost use Rattle.std.specs.Prelude.{◌≤◌, ◌∷◌, ◌<◌, ◌^◌, []};
+//! The row of a record, where its variants stand, and their labels.
+ghost use Rattle.std.specs.Prelude.{◌≤◌, ◌∷◌, ◌<◌, ◌^◌, [], map};
 ghost use Rattle.m2_base.specs.Rows.{record_kind};
 ghost use Rattle.m2_base.specs.States.{State};
-ghost use Rattle.m2_base.specs.Statics.ReadTrees.{IsReadOption, IsReadQual};
+ghost use Rattle.m2_base.specs.Statics.CaseLabels.{labels_of};
+ghost use Rattle.m2_base.specs.Statics.Makes.{only_gives};
+ghost use Rattle.m2_base.specs.Statics.ReadTrees.{AreReadLabels, IsReadOption, IsReadQual};
 ghost use Rattle.m2_base.specs.Statics.Shapes.{nameless, tag_shapes};
+ghost use Rattle.m2_base.specs.Trees.{labels as plain_labels};
+ghost use Rattle.m2_base.specs.Views.{label_view};
 ghost use Rattle.decl_sem.specs.Making.{next_ordinal};
-ghost use Rattle.decl_sem.specs.Pieces.{Declares, IsBehind, IsMaking, known_of};
-ghost use Rattle.decl_sem.specs.Records.{AreVariantsOf, IsOwner, record_row, tag_made};
+ghost use Rattle.decl_sem.specs.Pieces.{Declares, IsAny, IsBehind, IsMaking, known_of};
+ghost use Rattle.decl_sem.specs.Records.{AreVariantsOf, IsOwner, covered_of, record_row, tag_made};
+ghost use Rattle.type_rules.specs.Scenes.{IsThere};
 
 use crate::cells::fit;
 use crate::fields::{put_tag, tag_in};
 use crate::making::{Made, put_plain};
-use m2_base::{Ask, Ident, Memory, Place, Qual, RowMeaning, Scopes, Site};
+use case_labels::{Covered, case_labels};
+use m2_base::{Ask, Ident, Label, Memory, Place, Qual, RowMeaning, Scopes, Site};
+use std::alloc::Global;
 
 /// Where the variants behind a tag stand: the ordinal of their record's row, the offset at which each begins, and the type of
 /// the tag.
@@ -46,6 +53,25 @@ pub(crate) fn begin_variants<S: Scopes>(
         offset: begin,
         tag: typ,
     }))
+}
+
+/// The labels of one variant, whose tag is of this type. The value is what is covered with them.
+pub(crate) fn labels_in<S: Scopes>(
+    alloc: Global,
+    scopes: &mut S,
+    site: &Site,
+    of: Place,
+    covered: Covered,
+    labels: &[Label],
+    made: &mut Made,
+) -> Result<Ask<Covered>, Memory>
+    requires making { IsMaking (S.state scopes.old).frame site.now made.old [] }
+    requires of { IsThere (S.state scopes.old).frame of }
+    requires read { AreReadLabels site.now.texts.now.names (plain_labels (map label_view labels.now)) }
+    ensures { Declares (S.state scopes.old) (S.state scopes.new) made.old made.new site.now result [] IsAny (λ c. only_gives (covered_of (labels_of c of covered (plain_labels (map label_view labels.now))))) }
+{
+    let found = made!(case_labels(alloc, scopes, site, of, covered, labels, &mut made.notes));
+    Ok(Ask::Known(found.covered))
 }
 
 /// The row of a record whose first row has this ordinal and whose fields end at this offset. It has at least one cell, and

@@ -15,15 +15,15 @@ ghost use Rattle.m2_base.specs.Statics.ReadTrees.{AreReadArms, AreReadFields, Ar
 use crate::arrays::{checked_index, put_arrays};
 use crate::enumerations::make_enumeration;
 use crate::fields::put_fields;
-use crate::labels::{Covered, labels_in};
 use crate::making::{Made, next_row};
 use crate::names::{small_place, type_of_qual};
 use crate::procedure_types::proc_in;
-use crate::records::{Variants, begin_variants, put_record};
+use crate::records::{Variants, begin_variants, labels_in, put_record};
 use crate::sets::make_set;
 use crate::shapes::count_fields;
 use crate::subranges::subrange_in;
 use crate::targets::{pointer_row, target_in};
+use case_labels::Covered;
 use m2_base::{Ask, FieldList, Memory, Place, Qual, Scopes, Site, TypeExpr, TypeForm, VariantArm};
 use std::alloc::Global;
 
@@ -269,7 +269,7 @@ fn arms_in<S: Scopes>(
     let mut covered = Covered::new(alloc);
     let mut end = offset;
     for arm in arms {
-        covered = made!(labels_in(scopes, site, tag, covered, &arm.labels, made));
+        covered = made!(labels_in(alloc, scopes, site, tag, covered, &arm.labels, made));
         let after = made!(fields_in(alloc, scopes, site, own, offset, &arm.fields, made));
         end = end.max(after);
     }

@@ -1,0 +1,4 @@
+pub mod CoveringLabels
+pub mod Coverings
+pub mod Refusing
+pub mod Steps
