@@ -77,7 +77,11 @@ mod values;
 mod variable_arguments;
 mod variables;
 
+pub use answers::answered;
+pub use appending::{append_all, capped_sum, push_instr};
+pub use chains::{instr_behind, pair};
 pub use coded::{Coded, Placed};
+pub use elements::cells_of;
 pub use evaluations::{address, value};
 pub use expressions::{call_alone, designated, value_of};
 pub use fitting::fitted_code;
