@@ -142,7 +142,7 @@ pub cells_step : (scene : Scene) (ps : List Parameter) (k : ℕ) (d : Parameter)
     → now + cells_of_all scene (map parameter_view (drop (k + 1) ps)) ≡ before + cells_of_all scene (map parameter_view (drop k ps))
 cells_step scene ps k d own before now h e f =
     let all : cells_of_all scene (map parameter_view (drop k ps)) ≡ own + cells_of_all scene (map parameter_view (drop (k + 1) ps))
-        = ap (λ (l : List Parameter). cells_of_all scene (map parameter_view l)) (drop_more ps k d h) ∙ ap (λ (n : ℕ). n + cells_of_all scene (map parameter_view (drop (k + 1) ps))) e in
+    = ap (λ (l : List Parameter). cells_of_all scene (map parameter_view l)) (drop_more ps k d h) ∙ ap (λ (n : ℕ). n + cells_of_all scene (map parameter_view (drop (k + 1) ps))) e in
     omega (arith, all, f)
 
 -- ** What was told of a later question, over the frame before it

@@ -378,9 +378,7 @@ fn string_argument<S: Scopes>(
     ensures { Coding (S.state scopes.old) (S.state scopes.new) notes.old notes.new fragments.old.nodes.items fragments.new.nodes.items site.now result IsArgument argument_in (λ c. spec_string_argument c want at string.0 string.1) }
 {
     match same(scopes, site.around, want, CHARACTER) {
-        Ask::Known(true) => {
-            passed(answered(string_passed(site, string.0, string.1, fragments)))
-        }
+        Ask::Known(true) => { passed(answered(string_passed(site, string.0, string.1, fragments))) }
         Ask::Known(false) => refused_argument(site, at, Refusal::WrongArgument, notes),
         Ask::DontKnowYet(head) => Ok(Ask::DontKnowYet(head)),
     }
@@ -405,9 +403,7 @@ fn open_argument<S: Scopes>(
             let string = (name, length);
             string_argument(scopes, site, want, x.at, string, fragments, notes)
         }
-        Operand::Variable(of) => {
-            variable_argument(scopes, site, want, x, of, fragments, notes)
-        }
+        Operand::Variable(of) => { variable_argument(scopes, site, want, x, of, fragments, notes) }
         _ => refused_argument(site, x.at, Refusal::WrongArgument, notes),
     }
 }

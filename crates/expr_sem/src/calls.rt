@@ -128,7 +128,14 @@ fn called_standard(
 {
     let f = standard_procedure(name);
     let is_count = takes_count(f, call.count);
-    allowed(site, call, is_function(f), is_count, Callable::Standard(f), notes)
+    allowed(
+        site,
+        call,
+        is_function(f),
+        is_count,
+        Callable::Standard(f),
+        notes,
+    )
 }
 
 /// How many static links lead from a block to the frame that encloses a procedure of a scope; none for one of a module.
@@ -357,11 +364,7 @@ pub fn called<S: Scopes>(
 }
 
 /// The instruction that calls, with what it takes and leaves. Where it takes more than there are numbers, memory is wanted.
-fn call_step(
-    callee: &Callee,
-    cells: u64,
-    fragments: &mut Fragments,
-) -> Result<Fragment, Memory>
+fn call_step(callee: &Callee, cells: u64, fragments: &mut Fragments) -> Result<Fragment, Memory>
     ensures { IsMade fragments.old.nodes.items fragments.new.nodes.items result (spec_call callee.now.instr (cells + callee.now.more) (spec_result callee.now.result)) }
 {
     let Some(takes) = cells.checked_add(callee.more) else {

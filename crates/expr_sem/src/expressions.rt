@@ -25,13 +25,11 @@ use crate::operators::{one_coded, two_coded};
 use crate::pieces::With;
 use crate::record_fields::{name_coded, select_field};
 use crate::set_elements::{Elements, add_element, add_range, element_coded, set_coded, set_start};
-use crate::standard_procedures::{
-    first_of_two, of_no_argument, of_one_argument, of_two_arguments,
-};
+use crate::standard_procedures::{first_of_two, of_no_argument, of_one_argument, of_two_arguments};
 use crate::values::as_value;
 use m2_base::{
-    Ask, Builtin, Designator, Expr, ExprForm, Label, Memory, Next, Notes, Operand, Place, Scopes, Selector,
-    Site,
+    Ask, Builtin, Designator, Expr, ExprForm, Label, Memory, Next, Notes, Operand, Place, Scopes,
+    Selector, Site,
 };
 use type_rules::{BITSET, CHARACTER, WHOLE};
 
@@ -255,9 +253,7 @@ fn element<S: Scopes>(
     let low = analysed!(member(scopes, site, withs, base, &label.low, fragments, notes));
     match &label.high {
         None => add_element(scopes, site, es, low, fragments),
-        Some(high) => range_to(
-            scopes, site, withs, base, es, low, high, fragments, notes,
-        ),
+        Some(high) => range_to(scopes, site, withs, base, es, low, high, fragments, notes),
     }
 }
 
@@ -523,7 +519,9 @@ fn called_with<S: Scopes>(
     ensures { Coding (S.state scopes.old) (S.state scopes.new) notes.old notes.new fragments.old.nodes.items fragments.new.nodes.items site.now result IsCoded coded_in (λ c. spec_called_with c (with_types withs.now) is_wanted to.at (coded_in fragments.old.nodes.items to.coded) (exprs (map expr_view args.now))) }
 {
     let count = args.len();
-    let what = analysed!(called(scopes, site, is_wanted, to.at, count, to.coded, fragments, notes));
+    let what = analysed!(called(
+        scopes, site, is_wanted, to.at, count, to.coded, fragments, notes
+    ));
     called_as(scopes, site, withs, &what, args, fragments, notes)
 }
 
