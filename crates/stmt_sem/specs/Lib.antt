@@ -8,3 +8,6 @@ pub mod Withs
 pub mod Statements
 pub mod BlockCode
 pub mod Heights
+pub mod Refusals
+pub mod Plain
+pub mod LoopParts
