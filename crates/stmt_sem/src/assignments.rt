@@ -235,7 +235,8 @@ fn assigned<S: Scopes>(
     requires x { IsCoded (S.state scopes.old).frame fragments.old.nodes.items x }
     ensures { Coding (S.state scopes.old) (S.state scopes.new) notes.old notes.new fragments.old.nodes.items fragments.new.nodes.items site.now result IsFragment part (λ c. and_then (spec_assigned c (spec_type to.operand) at not_assignable (coded_in fragments.old.nodes.items x)) (λ v. gives (spec_store c (coded_in fragments.old.nodes.items to) v))) }
 {
-    let (of, refusal) = (operand_type(&to.operand), Refusal::NotAssignable);
+    let of = operand_type(&to.operand);
+    let refusal = Refusal::NotAssignable;
     let value = analysed!(assigned_to(scopes, site, of, at, refusal, x, notes));
     store_code(scopes, site, to, value, fragments)
 }

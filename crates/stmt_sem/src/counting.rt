@@ -89,6 +89,13 @@ fn has_numbers<S: Scopes>(scopes: &mut S, around: &Around, of: Place) -> Ask<boo
     Ask::Known(is_number(base))
 }
 
+/// Whether a step leads nowhere.
+fn is_nothing(value: i64) -> bool
+    ensures { result ≡ is_zero value }
+{
+    value == 0
+}
+
 /// A step other than 0.
 fn step_or_refused(
     site: &Site,
@@ -98,7 +105,7 @@ fn step_or_refused(
 ) -> Result<Ask<Option<i64>>, Memory>
     ensures { (state : State) (nodes : List Node) → Coding state state notes.old notes.new nodes nodes site.now result IsStep itself (λ c. if is_zero value then refuse c at out_of_range None else gives (Some value)) }
 {
-    if value == 0 {
+    if is_nothing(value) {
         refused_step(site, at, Refusal::OutOfRange, notes)
     } else {
         Ok(Ask::Known(Some(value)))
@@ -192,10 +199,10 @@ fn for_first<S: Scopes>(
     requires first { IsCoded (S.state scopes.old).frame fragments.old.nodes.items first }
     ensures { (notes : NotesOf) → Coding (S.state scopes.old) (S.state scopes.new) notes notes fragments.old.nodes.items fragments.new.nodes.items site.now result IsFragment part (λ c. gives (spec_first c (coded_in fragments.old.nodes.items x) (coded_in fragments.old.nodes.items first))) }
 {
-    if !have_code(x.operand, first.operand) {
-        return Ok(Ask::Known(Fragment::Nothing));
+    if have_code(x.operand, first.operand) {
+        return store_code(scopes, site, x, first, fragments);
     }
-    store_code(scopes, site, x, first, fragments)
+    Ok(Ask::Known(Fragment::Nothing))
 }
 
 /// The last value, fitted to this type.
@@ -228,10 +235,10 @@ fn last_value<S: Scopes>(
     requires last { IsCoded (S.state scopes.old).frame fragments.old.nodes.items last }
     ensures { (notes : NotesOf) → Coding (S.state scopes.old) (S.state scopes.new) notes notes fragments.old.nodes.items fragments.new.nodes.items site.now result IsOptionIn option_in (λ c. gives (spec_last c (coded_in fragments.old.nodes.items x) (coded_in fragments.old.nodes.items last))) }
 {
-    if !have_code(x.operand, last.operand) {
-        return Ok(Ask::Known(None));
+    if have_code(x.operand, last.operand) {
+        return fitted_last(scopes, site, operand_type(&x.operand), last, fragments);
     }
-    fitted_last(scopes, site, operand_type(&x.operand), last, fragments)
+    Ok(Ask::Known(None))
 }
 
 /// A number of this side is added to what stands above its variable's address, and stored.

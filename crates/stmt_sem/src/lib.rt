@@ -44,7 +44,6 @@ mod cases;
 mod control_variables;
 mod counting;
 mod laws;
-mod loop_parts;
 mod refusals;
 mod returns;
 mod tests;
