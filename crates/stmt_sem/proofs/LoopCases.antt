@@ -1,6 +1,6 @@
 -- Cases of the variable of a FOR, of its step and of its parts.
-use Rattle.std.proofs.Common.{◌≡◌, ◌∙◌, ℕ, ℤ, pos, negsuc, List, true, false, Option, Some, None, ap, sym, refl, option_map}
-use Rattle.std.specs.Prelude.{is_some, zero, suc}
+use Rattle.std.proofs.Common.{◌≡◌, ◌∙◌, ℕ, List, Option, Some, None, ap, sym, refl, option_map}
+use Rattle.std.specs.Prelude.{is_some}
 use Rattle.std.specs.Option.{IfSome}
 use Rattle.m2_base.specs.Statics.Contexts.{Scene}
 use Rattle.m2_base.specs.declared.rows.Place.{Place}
@@ -13,7 +13,6 @@ use Rattle.expr_sem.specs.declared.fragments.Fragment.{Fragment}
 use Rattle.expr_sem.specs.declared.fragments.Node.{Node}
 use Rattle.expr_sem.proofs.Selecting.{with_field_numbered}
 use Rattle.expr_sem.proofs.Sequencing.{in_later, part_later}
-use Rattle.stmt_sem.specs.Counting.{is_zero}
 use Rattle.stmt_sem.specs.LoopParts.{option_in, parts_in}
 use Rattle.expr_sem.specs.Coded.{Coded}
 use Rattle.stmt_sem.specs.declared.counting.LoopParts.{LoopParts as PartsMade}
@@ -28,14 +27,6 @@ withs_have scene ts name found e =
     some_mapped (λ n. field_coded scene (with_record n.0) n.1) found
     ∙ ap (λ (o : Option (ℕ × Row)). is_some (option_map (λ n. field_coded scene (with_record n.0) n.1) o)) e
     ∙ sym (ap (λ (o : Option Coded). is_some o) (with_field_numbered scene 0 ts name))
-
-pub zero_is : (v : ℤ) → v ≡ pos 0 → true ≡ is_zero v
-zero_is v e = ap is_zero (sym e)
-
-pub zero_not : (v : ℤ) → (v ≡ pos 0 → ⊥) → false ≡ is_zero v
-zero_not (pos zero) h = absurd (h refl)
-zero_not (pos (suc n)) h = refl
-zero_not (negsuc n) h = refl
 
 -- a fragment that may be missing is the same among more of them
 pub option_later : {from to : List Node} → Grows from to → (o : Option Fragment) → IfSome o (λ k. IsIn from k) → option_in to o ≡ option_in from o

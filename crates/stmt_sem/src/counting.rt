@@ -146,6 +146,24 @@ fn step_of_type<S: Scopes>(
     number_or_refused(site, at, holds, value, notes)
 }
 
+/// A step that is this constant operand.
+fn step_of<S: Scopes>(
+    scopes: &mut S,
+    site: &Site,
+    at: u32,
+    operand: Operand,
+    notes: &mut Notes,
+) -> Result<Ask<Option<i64>>, Memory>
+    requires suits { SuitsSite (S.state scopes.old).frame site.now }
+    requires operand { IsOperand (S.state scopes.old).frame operand }
+    ensures { (nodes : List Node) → Coding (S.state scopes.old) (S.state scopes.new) notes.old notes.new nodes nodes site.now result IsStep itself (λ c. spec_by c at (Some operand)) }
+{
+    match operand {
+        Operand::Constant(of, value) => step_of_type(scopes, site, at, of, value, notes),
+        _ => refused_step(site, at, Refusal::WrongOperands, notes),
+    }
+}
+
 /// BY is a number other than 0. `at` is its first token.
 pub fn by_constant<S: Scopes>(
     scopes: &mut S,
@@ -159,9 +177,8 @@ pub fn by_constant<S: Scopes>(
     ensures { (nodes : List Node) → Coding (S.state scopes.old) (S.state scopes.new) notes.old notes.new nodes nodes site.now result IsStep itself (λ c. spec_by c at constant) }
 {
     match constant {
+        Some(operand) => step_of(scopes, site, at, operand, notes),
         None => Ok(Ask::Known(None)),
-        Some(Operand::Constant(of, value)) => step_of_type(scopes, site, at, of, value, notes),
-        Some(_) => refused_step(site, at, Refusal::WrongOperands, notes),
     }
 }
 

@@ -15,7 +15,7 @@ use Rattle.stmt_sem.proofs.assignments.assigned.Goals as goal
 
 pub assigned_to-requires-clause-to : goal.assigned_to-requires-clause-to
 assigned_to-requires-clause-to g c =
-    subst (λ (t : Place). IsThere (g.S.Scopes.state c.args.scopes.now).frame t) (sym c.operand_type.ensures) (type_there c.requires.suits.around c.args.to.operand c.requires.to.operand)
+    subst (λ (t : Place). IsThere (g.S.Scopes.state c.args.scopes.now).frame t) (sym c.operand_type-of.ensures) (type_there c.requires.suits.around c.args.to.operand c.requires.to.operand)
 
 pub returns-in-DontKnowYet : goal.returns-in-DontKnowYet
 returns-in-DontKnowYet g c = unknown (rw c.in-DontKnowYet.is at c.in-Ok.ensures c.args.fragments.now.nodes.items c.requires.x)
@@ -35,4 +35,4 @@ store_code-requires-clause-x g c = holds_after (rw c.in-Known.is at c.in-Ok.ensu
 pub returns : goal.returns
 returns g c =
     coding_after (λ k. assigned_to k (operand_type c.args.to.operand) c.args.at not_assignable (coded_in c.args.fragments.now.nodes.items c.args.x)) (λ v k. gives (store_code k (coded_in c.args.fragments.now.nodes.items c.args.to) v)) c.store_code.result
-    (described _ (rw c.in-Known.is at c.in-Ok.ensures c.args.fragments.now.nodes.items c.requires.x) (λ k. ap (λ (t : Place). assigned_to k t c.args.at not_assignable (coded_in c.args.fragments.now.nodes.items c.args.x)) c.operand_type.ensures)) (c.store_code.ensures c.assigned_to.new.notes)
+    (described _ (rw c.in-Known.is at c.in-Ok.ensures c.args.fragments.now.nodes.items c.requires.x) (λ k. ap (λ (t : Place). assigned_to k t c.args.at not_assignable (coded_in c.args.fragments.now.nodes.items c.args.x)) c.operand_type-of.ensures)) (c.store_code.ensures c.assigned_to.new.notes)

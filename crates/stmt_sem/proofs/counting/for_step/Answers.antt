@@ -1,4 +1,4 @@
-use Rattle.std.proofs.Common.{◌∙◌, ◌∷◌, [], ℕ, ap, sym, subst}
+use Rattle.std.proofs.Common.{◌≡◌, ◌∙◌, ◌∷◌, [], ℕ, ℤ, ap, sym, subst, rules, of_z, to_z, w64}
 use Rattle.m2_base.specs.declared.rows.Place.{Place}
 use Rattle.code_form.specs.declared.instr.Instr.TheVariants.{Push, Store, Load, Dup, Add}
 use Rattle.const_eval.proofs.TypesThere.{type_there}
@@ -21,6 +21,8 @@ returns-in-DontKnowYet g c notes = question_waits notes _ c.side_of.ensures.read
 
 pub returns : goal.returns
 returns g c notes =
+    let value : to_z w64 (of_z w64 c.args.by) ≡ c.args.by = search rules in
     made_told notes c.stepped.result c.answered.result (λ k. for_step k.scene (coded_in c.args.fragments.now.nodes.items c.args.x) c.args.by) c.answered.ensures c.in-Known.ensures.reads c.stepped.ensures
     (λ made in_hand told. let k = context_of (g.S.Scopes.state c.args.scopes.now).frame made c.args.site.now in
-    ap (λ (n : ℕ). part c.args.fragments.now.nodes.items c.args.x.code ⨟ plain (Dup ∷ Load ∷ Push c.args.by ∷ Add n ∷ Store ∷ [])) (c.in-Known.ensures.told made in_hand told ∙ ap (λ (t : Place). side_of k.scene t) c.operand_type.ensures))
+    ap (λ (v : ℤ). part c.args.fragments.now.nodes.items c.args.x.code ⨟ plain (Dup ∷ Load ∷ Push v ∷ Add c.in-Known.value ∷ Store ∷ [])) value
+    ∙ ap (λ (n : ℕ). part c.args.fragments.now.nodes.items c.args.x.code ⨟ plain (Dup ∷ Load ∷ Push c.args.by ∷ Add n ∷ Store ∷ [])) (c.in-Known.ensures.told made in_hand told ∙ ap (λ (t : Place). side_of k.scene t) c.operand_type.ensures))

@@ -1,4 +1,4 @@
-use Rattle.std.proofs.Common.{◌∙◌, Option, ap, refl}
+use Rattle.std.proofs.Common.{◌≡◌, ◌∙◌, ℤ, Option, ap, refl, rules, of_z, to_z, w64}
 use Rattle.m2_base.specs.Gives.{gives}
 use Rattle.expr_sem.specs.Codings.{coded_in}
 use Rattle.expr_sem.specs.Fragments.{part}
@@ -36,6 +36,7 @@ returns g c notes =
     let ks = c.for_step.new.fragments.nodes.items in
     let one = rw c.in-Known.is at c.in-Ok.ensures notes in
     let two = rw c.in-Known-asked.is at c.in-Ok-for_step.ensures notes in
+    let value : to_z w64 (of_z w64 c.args.by) ≡ c.args.by = search rules in
     let both = Grows-trans one.grows two.grows in
     let ends = c.in-Known.value in
     coding_after (λ k. gives (for_first k (coded_in c.args.fragments.now.nodes.items c.args.x) (coded_in c.args.fragments.now.nodes.items c.args.first), last_value k (coded_in c.args.fragments.now.nodes.items c.args.x) (coded_in c.args.fragments.now.nodes.items c.args.last))) (λ (e : Part × Option Part) k. gives (record { first = e.0; last = e.1; variable = variable_code (coded_in c.args.fragments.now.nodes.items c.args.x); step = for_step k.scene (coded_in c.args.fragments.now.nodes.items c.args.x) c.args.by })) _ one
@@ -49,4 +50,5 @@ returns g c notes =
     })
     (λ k. parts_are ks (record { first = ends.0; last = ends.1; variable = c.variable_code.result; step = c.in-Known-asked.value }) (part_later two.grows ends.0 one.there.0) (option_later two.grows ends.1 one.there.1)
     (c.variable_code.ensures.told ks ∙ ap variable_code (coded_later both c.args.x c.requires.x)) refl))
-    (λ k. ap (λ y. gives (record { first = part ms ends.0; last = option_in ms ends.1; variable = variable_code (coded_in c.args.fragments.now.nodes.items c.args.x); step = for_step k.scene y c.args.by })) (coded_later one.grows c.args.x c.requires.x)))
+    (λ k. ap (λ (v : ℤ). gives (record { first = part ms ends.0; last = option_in ms ends.1; variable = variable_code (coded_in c.args.fragments.now.nodes.items c.args.x); step = for_step k.scene (coded_in ms c.args.x) v })) value
+    ∙ ap (λ y. gives (record { first = part ms ends.0; last = option_in ms ends.1; variable = variable_code (coded_in c.args.fragments.now.nodes.items c.args.x); step = for_step k.scene y c.args.by })) (coded_later one.grows c.args.x c.requires.x)))
