@@ -217,7 +217,14 @@ pub fn store_code<S: Scopes>(
     requires x { IsCoded (S.state scopes.old).frame fragments.old.nodes.items x }
     ensures { (notes : NotesOf) → Coding (S.state scopes.old) (S.state scopes.new) notes notes fragments.old.nodes.items fragments.new.nodes.items site.now result IsFragment part (λ c. gives (spec_store c (coded_in fragments.old.nodes.items to) (coded_in fragments.old.nodes.items x))) }
 {
-    store_by(scopes, site, operand_type(&to.operand), to.code, x, fragments)
+    store_by(
+        scopes,
+        site,
+        operand_type(&to.operand),
+        to.code,
+        x,
+        fragments,
+    )
 }
 
 /// An assignment to a variable that isn't in error.

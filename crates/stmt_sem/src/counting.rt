@@ -65,7 +65,15 @@ pub fn bound_value<S: Scopes>(
         return Ok(Ask::Known(Coded::in_error()));
     }
     let refusal = expr_sem::Refusal::NotAssignable;
-    assigned_to(scopes, site, operand_type(&x.operand), at, refusal, v, notes)
+    assigned_to(
+        scopes,
+        site,
+        operand_type(&x.operand),
+        at,
+        refusal,
+        v,
+        notes,
+    )
 }
 
 /// Whether a base is INTEGER or CARDINAL, or the type of whole constants.
