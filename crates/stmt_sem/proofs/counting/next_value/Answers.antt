@@ -1,0 +1,16 @@
+use Rattle.std.proofs.Common.{◌≡◌, ◌∷◌, [], ℤ, subst, rules, of_z, to_z, w64}
+use Rattle.code_form.specs.declared.instr.Instr.TheVariants.{Push, Store, Load, Dup, Add}
+use Rattle.expr_sem.specs.Fragments.{IsMade}
+use Rattle.expr_sem.specs.Parts.{plain}
+use Rattle.expr_sem.proofs.Joining.{joined_both}
+use Rattle.expr_sem.proofs.Selecting.{made_full}
+use Rattle.stmt_sem.proofs.counting.next_value.Goals as goal
+
+pub returns-in_err-sum : goal.returns-in_err-sum
+returns-in_err-sum c = made_full c.from_residual-in_err-sum.result c.from_residual-in_err-sum.ensures.0 c.in_err-sum.ensures c.in_ok-loaded.ensures.grows
+
+pub returns : goal.returns
+returns c =
+    let value : to_z w64 (of_z w64 c.args.by) ≡ c.args.by = search rules in
+    subst (λ (v : ℤ). IsMade c.args.fragments.now.nodes.items c.then.new.self.nodes.items c.then.result (plain (Dup ∷ Load ∷ Push v ∷ Add c.args.side ∷ Store ∷ []))) value
+    (joined_both c.in_ok-loaded.loaded c.in_ok-sum.sum c.then.result c.in_ok-loaded.ensures c.in_ok-sum.ensures c.then.ensures.made)

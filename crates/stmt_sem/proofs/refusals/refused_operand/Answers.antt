@@ -1,0 +1,14 @@
+use Rattle.m2_base.specs.Statics.Contexts.{refuse}
+use Rattle.expr_sem.specs.Coded.{in_error}
+use Rattle.expr_sem.specs.Codings.{IsCoded, coded_in}
+use Rattle.expr_sem.proofs.Refusing.{not_noted, refused_here}
+use Rattle.stmt_sem.specs.Refusals.{code_of}
+use Rattle.stmt_sem.proofs.refusals.refused_operand.Goals as goal
+
+pub returns-in_err-noted : goal.returns-in_err-noted
+returns-in_err-noted c = λ state nodes.
+    not_noted state c.args.notes.now c.noted.new.notes nodes c.args.site.now IsCoded coded_in (λ k. refuse k c.args.at (code_of c.args.refusal) in_error) c.from_residual.result c.from_residual.ensures.0 c.in_err-noted.ensures.answers c.in_err-noted.ensures.kept
+
+pub returns : goal.returns
+returns c = λ state nodes.
+    refused_here state c.args.notes.now c.noted.new.notes nodes c.args.site.now c.in_error.result IsCoded coded_in c.args.at (code_of c.args.refusal) in_error c.in_ok-noted.ensures.answers c.in_ok-noted.ensures.noted (c.in_error.ensures.there state.frame nodes) (c.in_error.ensures.told nodes)

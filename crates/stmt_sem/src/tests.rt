@@ -1,0 +1,95 @@
+//! The tests of IF, WHILE and REPEAT.
+ghost use Rattle.std.specs.Prelude.{◌≡◌, if◌then◌else◌};
+ghost use Rattle.m2_base.specs.Gives.{gives};
+ghost use Rattle.m2_base.specs.States.{State, Waits};
+ghost use Rattle.m2_base.specs.Statics.Contexts.{refuse};
+ghost use Rattle.m2_base.specs.Statics.Diagnostics.{not_boolean};
+ghost use Rattle.m2_base.specs.Statics.Operations.{is_boolean as spec_boolean};
+ghost use Rattle.const_eval.specs.Sites.{IsOperand};
+ghost use Rattle.expr_sem.specs.Coded.{value_code as spec_value_code};
+ghost use Rattle.expr_sem.specs.Codings.{Coding, IsCoded, IsFragment, coded_in};
+ghost use Rattle.expr_sem.specs.Fragments.{IsMade, part};
+ghost use Rattle.type_rules.specs.Asks.{Reads, WhereKnown, WhereWaiting};
+ghost use Rattle.type_rules.specs.Scenes.{WhereTold};
+ghost use Rattle.type_rules.specs.Sites.{SuitsSite, context_of};
+ghost use Rattle.stmt_sem.specs.Tests.{false_code as spec_false, test_code as spec_test};
+
+use crate::refusals::{Refusal, refused_code};
+use code_form::Instr;
+use const_eval::is_bad;
+use expr_sem::{Coded, Fragment, Fragments, answered, value_code};
+use m2_base::{Ask, Memory, Notes, Operand, Place, Scopes, Site};
+use type_rules::{BOOLEAN, base_of, operand_type};
+
+/// FALSE.
+pub fn false_code(fragments: &mut Fragments) -> Result<Fragment, Memory>
+    ensures { IsMade fragments.old.nodes.items fragments.new.nodes.items result spec_false }
+{
+    fragments.one(Instr::Push(0))
+}
+
+/// Whether an operand is a BOOLEAN.
+#[tactic(auto, using(type_rules::proofs::Reading::reading, const_eval::proofs::TypesThere::there))]
+fn is_boolean<S: Scopes>(scopes: &mut S, site: &Site, operand: Operand) -> Ask<bool>
+    requires suits { SuitsSite (S.state scopes.old).frame site.now }
+    requires operand { IsOperand (S.state scopes.old).frame operand }
+    ensures reads { Reads (S.state scopes.old) (S.state scopes.new) }
+    ensures waits { WhereWaiting result (λ head. Waits (S.state scopes.old) (S.state scopes.new) head) }
+    ensures told { WhereTold (S.state scopes.old).frame (λ made.
+        WhereKnown result (λ holds. holds ≡ spec_boolean (context_of (S.state scopes.old).frame made site.now) operand)) }
+{
+    let base = known!(base_of(scopes, site.around, operand_type(&operand)));
+    Ask::Known(base == BOOLEAN)
+}
+
+/// A test that is no BOOLEAN is refused, and stands as FALSE.
+fn refused_test(
+    site: &Site,
+    at: u32,
+    fragments: &mut Fragments,
+    notes: &mut Notes,
+) -> Result<Ask<Fragment>, Memory>
+    ensures { (state : State) → Coding state state notes.old notes.new fragments.old.nodes.items fragments.new.nodes.items site.now result IsFragment part (λ c. refuse c at not_boolean spec_false) }
+{
+    let _none = analysed!(refused_code(site, at, Refusal::NotBoolean, notes));
+    answered(false_code(fragments))
+}
+
+/// A test that isn't in error.
+fn test_wanted<S: Scopes>(
+    scopes: &mut S,
+    site: &Site,
+    at: u32,
+    x: Coded,
+    fragments: &mut Fragments,
+    notes: &mut Notes,
+) -> Result<Ask<Fragment>, Memory>
+    requires suits { SuitsSite (S.state scopes.old).frame site.now }
+    requires x { IsCoded (S.state scopes.old).frame fragments.old.nodes.items x }
+    ensures { Coding (S.state scopes.old) (S.state scopes.new) notes.old notes.new fragments.old.nodes.items fragments.new.nodes.items site.now result IsFragment part (λ c. if spec_boolean c x.operand then gives (spec_value_code c (coded_in fragments.old.nodes.items x)) else refuse c at not_boolean spec_false) }
+{
+    let boolean = asked!(is_boolean(scopes, site, x.operand));
+    if boolean {
+        return value_code(scopes, site, x, fragments);
+    }
+    refused_test(site, at, fragments, notes)
+}
+
+/// The code of a test. `at` is its first token.
+pub fn test_code<S: Scopes>(
+    scopes: &mut S,
+    site: &Site,
+    at: u32,
+    x: Coded,
+    fragments: &mut Fragments,
+    notes: &mut Notes,
+) -> Result<Ask<Fragment>, Memory>
+    requires suits { SuitsSite (S.state scopes.old).frame site.now }
+    requires x { IsCoded (S.state scopes.old).frame fragments.old.nodes.items x }
+    ensures { Coding (S.state scopes.old) (S.state scopes.new) notes.old notes.new fragments.old.nodes.items fragments.new.nodes.items site.now result IsFragment part (λ c. spec_test c at (coded_in fragments.old.nodes.items x)) }
+{
+    if is_bad(x.operand) {
+        return answered(false_code(fragments));
+    }
+    test_wanted(scopes, site, at, x, fragments, notes)
+}
