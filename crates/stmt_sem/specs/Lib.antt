@@ -8,3 +8,5 @@ pub mod Withs
 pub mod Statements
 pub mod BlockCode
 pub mod Heights
+pub mod FlowNodes
+pub mod Flowings

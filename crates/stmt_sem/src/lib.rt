@@ -6,6 +6,8 @@
 //! together; each kind of statement has a file of its own below them.
 #![tactic(auto)]
 
+mod flows;
 mod laws;
 
+pub use flows::{Arm, Code, Flow, FlowForm, FlowNode, Flows, LabelTest};
 pub use laws::heights_are_right;
