@@ -1,7 +1,7 @@
 -- Flows as nodes: the code of statements that each stands for. A node is made of earlier ones, and of fragments. What a node
 -- stands for is known once it is told the temporary cell of the statement that it is a part of; the flow of a whole statement
 -- is the same for every cell.
-use Rattle.std.specs.Prelude.{◌≡◌, ℕ, ◌<◌, List, [], ◌∷◌, ◌++◌, ◌×◌, length, map, Option, Some, None, Result, Ok, Err, slice_get, slice_index_or}
+use Rattle.std.specs.Prelude.{◌≡◌, ℕ, ◌<◌, List, [], ◌∷◌, ◌++◌, length, map, Option, Some, None, Result, Ok, Err, slice_get, slice_index_or}
 use Rattle.m2_base.specs.Lists.{Each, IsPrefixOf}
 use Rattle.m2_base.specs.Statics.CaseLabels as labels
 use Rattle.m2_base.specs.declared.memory.Memory.{Memory}
@@ -53,19 +53,23 @@ block_among fs (x ∷ xs) t = flow_among fs x t ⨾ block_among fs xs t
 -- what the arms make before what follows them, if anything does
 abbrev pub arms_among : List Node → List CellFlow → List Arm → (cell : ℕ) → Option flow.Flow → Option flow.Flow
 arms_among ns fs [] t other = other
-arms_among ns fs (a ∷ as) t other = arm_before (code_by ns a.test t) (flow_among fs a.body t) (arms_among ns fs as t other)
+arms_among ns fs (a ∷ others) t other = arm_before (code_by ns a.test t) (flow_among fs a.body t) (arms_among ns fs others t other)
 
 -- what stands where no arm is taken
 abbrev pub other_among : List CellFlow → Option Flow → (cell : ℕ) → Option flow.Flow
 other_among fs None t = None
 other_among fs (Some x) t = Some (flow_among fs x t)
 
+-- the first arm whose test holds, else what stands where none does
+abbrev pub choice_among : List Node → List CellFlow → List Arm → Option Flow → CellFlow
+choice_among ns fs arms other t = flow_or_nothing (arms_among ns fs arms t (other_among fs other t))
+
 -- what a node stands for, after those
 abbrev pub flow_by : List Node → List CellFlow → FlowForm → CellFlow
 flow_by ns fs (Straight c) t = straight (code_by ns c t)
 flow_by ns fs (Block xs) t = block_among fs xs.items t
 flow_by ns fs Exit t = exit
-flow_by ns fs (Choice arms other) t = flow_or_nothing (arms_among ns fs arms.items t (other_among fs other t))
+flow_by ns fs (Choice arms other) t = choice_among ns fs arms.items other t
 flow_by ns fs (WhileTrue c x) t = while_true (part ns c) (flow_among fs x t)
 flow_by ns fs (UntilTrue x c) t = until_true (flow_among fs x t) (part ns c)
 flow_by ns fs (ForEver x) t = for_ever (flow_among fs x t)
@@ -78,14 +82,35 @@ abbrev pub flows_after : List Node → List CellFlow → List FlowNode → List 
 flows_after ns fs [] = fs
 flows_after ns fs (m ∷ ms) = flows_after ns (fs ++ flow_by ns fs m.form ∷ []) ms
 
+-- what all of them stand for
+abbrev pub flows_in : Flows → List CellFlow
+flows_in fs = flows_after fs.fragments.nodes.items [] fs.nodes.items
+
 -- the code of statements that a flow stands for
 abbrev pub flow_in : Flows → Flow → CellFlow
-flow_in fs x = flow_among (flows_after fs.fragments.nodes.items [] fs.nodes.items) x
+flow_in fs x = flow_among (flows_in fs) x
+
+-- what a further node of this form stands for
+abbrev pub form_flow : Flows → FlowForm → CellFlow
+form_flow fs form = flow_by fs.fragments.nodes.items (flows_in fs) form
+
+-- so many bytes of code, wherever it stands
+abbrev pub Measures : CellFlow → ℕ → Type 0
+Measures f n = (cell : ℕ) → flow.HasSize (f cell) n
+
+-- so many bytes of a statement's own code, wherever it stands
+abbrev pub MeasuresPart : ((cell : ℕ) → Part) → ℕ → Type 0
+MeasuresPart p n = (cell : ℕ) (at : Spot) → steps_size (p cell at).code ≡ n
 
 -- a flow is one of the first k
 abbrev pub IsBefore : (k : ℕ) → Flow → Type 0
 IsBefore k Nothing = Unit {0}
 IsBefore k (NodeOf j) = j < k
+
+-- so is one that may be missing
+abbrev pub IsBeforeIfAny : (k : ℕ) → Option Flow → Type 0
+IsBeforeIfAny k None = Unit {0}
+IsBeforeIfAny k (Some x) = IsBefore k x
 
 -- a flow is one of these
 abbrev pub IsAmong : Flows → Flow → Type 0
@@ -98,13 +123,16 @@ IsCodeOf ns (Stored f) = IsIn ns f
 IsCodeOf ns (Compared f i) = IsIn ns f
 IsCodeOf ns (Labels ls) = Unit {0}
 
+-- so is an arm, of them and of the first k flows
+abbrev pub IsArmOf : List Node → (k : ℕ) → Arm → Type 0
+IsArmOf ns k a = IsCodeOf ns a.test × IsBefore k a.body
+
 -- a form is made of these fragments and of the first k flows
 abbrev pub IsMadeOf : List Node → (k : ℕ) → FlowForm → Type 0
 IsMadeOf ns k (Straight c) = IsCodeOf ns c
-IsMadeOf ns k (Block xs) = Each (λ x. IsBefore k x) xs.items
+IsMadeOf ns k (Block xs) = Each (IsBefore k) xs.items
 IsMadeOf ns k Exit = Unit {0}
-IsMadeOf ns k (Choice arms None) = Each (λ a. IsCodeOf ns a.test × IsBefore k a.body) arms.items
-IsMadeOf ns k (Choice arms (Some x)) = Each (λ a. IsCodeOf ns a.test × IsBefore k a.body) arms.items × IsBefore k x
+IsMadeOf ns k (Choice arms other) = Each (IsArmOf ns k) arms.items × IsBeforeIfAny k other
 IsMadeOf ns k (WhileTrue c x) = IsIn ns c × IsBefore k x
 IsMadeOf ns k (UntilTrue x c) = IsBefore k x × IsIn ns c
 IsMadeOf ns k (ForEver x) = IsBefore k x

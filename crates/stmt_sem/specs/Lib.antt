@@ -10,3 +10,4 @@ pub mod BlockCode
 pub mod Heights
 pub mod FlowNodes
 pub mod Flowings
+pub mod FlowSizes

@@ -1,9 +1,8 @@
 //! Flows: the code of statements in the making. As a fragment stands for a part of code, a flow stands for the code of
 //! statements, which is known once it is also told its statement's own cell, and how far away the end of the innermost LOOP is.
 //! Each is made of earlier ones, so that no code is copied, and since the length of each is known, no jump is patched.
-ghost use Rattle.std.specs.Prelude.{◌≡◌, [], length, map};
-ghost use Rattle.expr_sem.specs.Fragments.{AreSound as FragmentsAreSound};
-ghost use Rattle.stmt_sem.specs.FlowNodes.{AreSound, FlowsOf, IsFlowMade, flow_by};
+ghost use Rattle.std.specs.Prelude.{◌≡◌, []};
+ghost use Rattle.stmt_sem.specs.FlowNodes.{AreSound};
 
 use expr_sem::{Fragment, Fragments};
 use code_form::Instr;

@@ -6,6 +6,8 @@
 //! together; each kind of statement has a file of its own below them.
 #![tactic(auto)]
 
+mod flow_builders;
+mod flow_sizes;
 mod flows;
 mod laws;
 
