@@ -11,3 +11,4 @@ pub mod Heights
 pub mod FlowNodes
 pub mod Flowings
 pub mod FlowSizes
+pub mod FlowPieces

@@ -1,9 +1,10 @@
 //! The length of a flow's code: it depends neither on where the code stands nor on the temporary cell.
-ghost use Rattle.std.specs.Prelude.{◌≡◌, ◌+◌, IfOk, length, map};
+ghost use Rattle.std.specs.Prelude.{◌≡◌, ℕ, ◌+◌, IfOk, length, map};
 ghost use Rattle.m2_base.specs.Lists.{Each};
 ghost use Rattle.stmt_sem.specs.Cases.{label_code, labels_code};
-ghost use Rattle.stmt_sem.specs.FlowNodes.{AreSound, IsAmong, IsArmOf, IsBeforeIfAny, IsCodeOf, Measures, MeasuresPart, block_among, choice_among, code_by, flow_in, flows_in, test_view};
-ghost use Rattle.stmt_sem.specs.FlowSizes.{arm_bytes, arms_bytes, labels_bytes};
+ghost use Rattle.stmt_sem.specs.FlowNodes.{AreSound, IsAmong, IsArmOf, IsBeforeIfAny, IsCodeOf, Measures, MeasuresPart, block_among, choice_among, code_by, flow_in, flows_in, other_among, test_view};
+ghost use Rattle.stmt_sem.specs.FlowPieces.{Over};
+ghost use Rattle.stmt_sem.specs.FlowSizes.{arm_bytes, arms_bytes, flow_bytes, label_bytes, labels_bytes};
 
 use crate::flows::{Arm, Code, Flow, Flows, LabelTest};
 use expr_sem::Step;
@@ -23,8 +24,9 @@ pub fn sum(first: u64, second: u64) -> Result<u64, Memory>
 }
 
 /// The length of a label's test.
-fn label_size(label: &LabelTest) -> u64
-    ensures { MeasuresPart (λ t. label_code t (test_view label.now)) result }
+pub fn label_size(label: &LabelTest) -> u64
+    ensures size { MeasuresPart (λ t. label_code t (test_view label.now)) result }
+    ensures bytes { result ≡ label_bytes label.now }
 {
     match label.high {
         None => 20,
@@ -58,7 +60,8 @@ impl Flows {
     /// The length of a flow's code in bytes.
     pub fn size(&self, flow: Flow) -> u64
         requires there { IsAmong self.now flow }
-        ensures { AreSound self.now → Measures (flow_in self.now flow) result }
+        ensures size { AreSound self.now → Measures (flow_in self.now flow) result }
+        ensures bytes { AreSound self.now → result ≡ flow_bytes self.now flow }
     {
         match flow {
             Flow::Nothing => 0,
@@ -95,7 +98,7 @@ impl Flows {
     }
 
     /// The length of an arm with its two jumps.
-    fn arm_size(&self, arm: &Arm) -> Result<u64, Memory>
+    pub fn arm_size(&self, arm: &Arm) -> Result<u64, Memory>
         requires there { IsArmOf self.now.fragments.nodes.items (length self.now.nodes.items) arm.now }
         ensures { AreSound self.now → IfOk result (λ n. n ≡ arm_bytes self.now arm.now) }
     {
@@ -105,7 +108,7 @@ impl Flows {
     }
 
     /// The length of arms, each with two jumps.
-    fn arms_size(&self, arms: &[Arm]) -> Result<u64, Memory>
+    pub fn arms_size(&self, arms: &[Arm]) -> Result<u64, Memory>
         requires there { Each (IsArmOf self.now.fragments.nodes.items (length self.now.nodes.items)) arms.now }
         ensures { AreSound self.now → IfOk result (λ n. n ≡ arms_bytes self.now arms.now) }
     {
@@ -116,16 +119,24 @@ impl Flows {
         Ok(total)
     }
 
+    /// The length of what stands where no arm is taken, with a jump before it.
+    pub fn other_size(&self, other: Option<Flow>) -> Result<u64, Memory>
+        requires there { IsBeforeIfAny (length self.now.nodes.items) other }
+        ensures { AreSound self.now → IfOk result (λ n. (cell : ℕ) → Over (other_among (flows_in self.now) other cell) n) }
+    {
+        match other {
+            Some(flow) => sum(self.size(flow), JUMP),
+            None => Ok(0),
+        }
+    }
+
     /// The length of arms and of what stands where none is taken.
     pub fn choice_size(&self, arms: &[Arm], other: Option<Flow>) -> Result<u64, Memory>
         requires arms { Each (IsArmOf self.now.fragments.nodes.items (length self.now.nodes.items)) arms.now }
         requires other { IsBeforeIfAny (length self.now.nodes.items) other }
         ensures { AreSound self.now → IfOk result (λ n. Measures (choice_among self.now.fragments.nodes.items (flows_in self.now) arms.now other) n) }
     {
-        let total = self.arms_size(arms)?;
-        match other {
-            Some(flow) => sum(total, self.size(flow)),
-            None => Ok(total.saturating_sub(JUMP)),
-        }
+        let total = sum(self.arms_size(arms)?, self.other_size(other)?)?;
+        Ok(total.saturating_sub(JUMP))
     }
 }
