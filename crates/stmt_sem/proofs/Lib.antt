@@ -5,5 +5,3 @@ pub mod StatementChecks
 pub mod FlowsKept
 pub mod FlowsPushed
 pub mod FlowsSized
-pub mod FlowsAppended
-pub mod FlowRanks

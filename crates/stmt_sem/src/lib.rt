@@ -6,13 +6,10 @@
 //! together; each kind of statement has a file of its own below them.
 #![tactic(auto)]
 
-mod code_appending;
-mod flow_appending;
 mod flow_builders;
 mod flow_sizes;
 mod flows;
 mod laws;
 
-pub use flow_appending::append_flow;
 pub use flows::{Arm, Code, Flow, FlowForm, FlowNode, Flows, LabelTest};
 pub use laws::heights_are_right;
