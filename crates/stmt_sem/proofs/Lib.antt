@@ -9,3 +9,6 @@ pub mod LengthLaw
 pub mod ActionCases
 pub mod LoopFlows
 pub mod LoopCases
+pub mod FlowsKept
+pub mod FlowsPushed
+pub mod FlowsSized

@@ -1,6 +1,6 @@
 -- The code of statements. Beside where it stands, as a part of code, it is told how far behind it the place behind the
 -- innermost LOOP is: there EXIT jumps. Jumps go by their distance, so nothing is patched.
-use Rattle.std.specs.Prelude.{ℕ, ◌+◌, ℤ, pos, negsuc, List, [], ◌∷◌, ◌++◌}
+use Rattle.std.specs.Prelude.{◌≡◌, ℕ, ◌+◌, ℤ, pos, negsuc, List, [], ◌∷◌, ◌++◌}
 use Rattle.m2_base.specs.Statics.Cells.{capped}
 use Rattle.code_form.specs.declared.instr.Instr.{Instr}
 use Rattle.code_form.specs.declared.instr.Instr.TheVariants.{Jump, JumpFalse}
@@ -17,6 +17,14 @@ pub record Run : Type 0 where
 -- the code of a statement or of statements, as a function of where it stands
 abbrev pub Flow : Type 0
 Flow = Spot → Run
+
+-- as a part of code, once that is told
+abbrev pub part_at : (out : ℕ) → Flow → Part
+part_at out f at = let r = f at in record { code = r.code out; bytes = r.bytes; next = r.next }
+
+-- so many bytes of code, wherever it stands
+abbrev pub HasSize : Flow → ℕ → Type 0
+HasSize f n = (at : Spot) (out : ℕ) → steps_size ((f at).code out) ≡ n
 
 -- code without EXIT
 abbrev pub straight : Part → Flow

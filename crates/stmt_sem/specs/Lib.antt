@@ -13,3 +13,7 @@ pub mod Lengths
 pub mod Refusals
 pub mod Plain
 pub mod LoopParts
+pub mod FlowNodes
+pub mod Flowings
+pub mod FlowSizes
+pub mod FlowPieces

@@ -43,10 +43,14 @@ mod assignments;
 mod cases;
 mod control_variables;
 mod counting;
+mod flow_builders;
+mod flow_sizes;
+mod flows;
 mod laws;
 mod refusals;
 mod returns;
 mod tests;
 mod withs;
 
+pub use flows::{Arm, Code, Flow, FlowForm, FlowNode, Flows, LabelTest};
 pub use laws::{code_is_short, heights_are_right};

@@ -1,0 +1,46 @@
+use Rattle.std.proofs.Common.{List, ◌≡◌, ◌∙◌, ◌∷◌, [], ◌+◌, ap, arith, map, subst, sym, ℕ}
+use Rattle.std.specs.Prelude.{IfOk}
+use Rattle.code_form.specs.Bytes.{size}
+use Rattle.code_form.specs.Heights.{Step}
+use Rattle.code_form.specs.declared.instr.Instr.TheVariants.{Load, Local, Store}
+use Rattle.expr_sem.specs.Fragments.{part}
+use Rattle.expr_sem.specs.Parts.{plain, plain_step, ◌⨟◌}
+use Rattle.stmt_sem.specs.Cases.{labels_code}
+use Rattle.stmt_sem.specs.FlowNodes.{MeasuresPart, code_by, test_view}
+use Rattle.stmt_sem.specs.declared.flows.Code.{Code}
+use Rattle.stmt_sem.specs.declared.flows.LabelTest.{LabelTest}
+use Rattle.stmt_sem.proofs.FlowsSized.{compared_sized, if_ok, stored_sized}
+use Rattle.stmt_sem.proofs.flows.Flows.code_size.Goals as goal
+
+pub returns-in-Fixed : goal.returns-in-Fixed
+returns-in-Fixed c sound =
+    let ns = c.args.self.now.fragments.nodes.items in
+    subst (λ (d : Code). MeasuresPart (code_by ns d) c.size.result) (sym c.in-Fixed.is) (λ t at. c.size.ensures sound.fragments at)
+
+pub returns-in-Stored : goal.returns-in-Stored
+returns-in-Stored c sound =
+    let ns = c.args.self.now.fragments.nodes.items in
+    let f = c.in-Stored.fragment in
+    let n = c.size-in-Stored.result in
+    subst (λ (d : Code). IfOk c.sum.result (λ k. MeasuresPart (code_by ns d) k)) (sym c.in-Stored.is)
+    (if_ok (λ k. k ≡ n + 10) (λ k. MeasuresPart (λ t. plain (Local 0 t ∷ []) ⨟ part ns f ⨟ plain (Store ∷ [])) k) c.sum.result c.sum.ensures
+    (λ k e. subst (λ (j : ℕ). MeasuresPart (λ t. plain (Local 0 t ∷ []) ⨟ part ns f ⨟ plain (Store ∷ [])) j) (sym e) (stored_sized ns f n (c.size-in-Stored.ensures sound.fragments))))
+
+pub returns-in_ok-compared-in-Compared : goal.returns-in_ok-compared-in-Compared
+returns-in_ok-compared-in-Compared c sound =
+    let ns = c.args.self.now.fragments.nodes.items in
+    let f = c.in-Compared.fragment in
+    let i = c.in-Compared.instr in
+    let n = c.size-in-Compared.result in
+    let m = c.size-in-Compared-2.result in
+    let before = c.in_ok-compared-in-Compared.ensures in
+    let is_size : m ≡ size (plain_step i).instr = c.size-in-Compared-2.ensures ∙ ap (λ (s : Step). size s.instr) c.plain.ensures in
+    subst (λ (d : Code). IfOk c.sum-in-Compared-2.result (λ k. MeasuresPart (code_by ns d) k)) (sym c.in-Compared.is)
+    (if_ok (λ k. k ≡ c.in_ok-compared-in-Compared.compared + m) (λ k. MeasuresPart (λ t. part ns f ⨟ plain (Load ∷ Local 0 t ∷ Load ∷ i ∷ [])) k) c.sum-in-Compared-2.result c.sum-in-Compared-2.ensures
+    (λ k e. subst (λ (j : ℕ). MeasuresPart (λ t. part ns f ⨟ plain (Load ∷ Local 0 t ∷ Load ∷ i ∷ [])) j) (omega (arith, e, before)) (compared_sized ns f i n m (c.size-in-Compared.ensures sound.fragments) is_size)))
+
+pub returns-in-Labels : goal.returns-in-Labels
+returns-in-Labels c sound =
+    let ns = c.args.self.now.fragments.nodes.items in
+    subst (λ (d : Code). IfOk c.labels_size.result (λ k. MeasuresPart (code_by ns d) k)) (sym c.in-Labels.is)
+    (subst (λ (ls : List LabelTest). IfOk c.labels_size.result (λ k. MeasuresPart (λ t. labels_code t (map test_view ls)) k)) c.deref.ensures.value c.labels_size.ensures)
