@@ -6,3 +6,6 @@ pub mod FlowLengths
 pub mod StatementLengths
 pub mod BlockLengths
 pub mod LengthLaw
+pub mod Points
+pub mod Still
+pub mod ValidBlocks

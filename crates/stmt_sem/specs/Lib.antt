@@ -10,3 +10,4 @@ pub mod BlockCode
 pub mod Heights
 pub mod Tokens
 pub mod Lengths
+pub mod Places

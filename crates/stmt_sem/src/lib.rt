@@ -8,4 +8,4 @@
 
 mod laws;
 
-pub use laws::{code_is_short, heights_are_right};
+pub use laws::{code_is_short, code_is_valid, heights_are_right};
