@@ -174,7 +174,7 @@ copy-moves : (p : ParamCopy) → Moves 0 (copy_code p) 0
 copy-moves (own_copy own cell size) = plain-moves (Local 0 own ∷ Local 0 cell ∷ Load ∷ Move size ∷ []) 0 0 refl
 copy-moves (open_copy cell elem) = plain-moves (OpenCopy cell elem ∷ []) 0 0 refl
 
-prologue-moves : (ps : List ParamCopy) → Moves 0 (prologue ps) 0
+pub prologue-moves : (ps : List ParamCopy) → Moves 0 (prologue ps) 0
 prologue-moves [] = Moves-none 0
 prologue-moves (p ∷ ps) = Moves-then (copy_code p) (prologue ps) 0 0 0 (copy-moves p) (prologue-moves ps)
 

@@ -12,3 +12,6 @@ pub mod LoopCases
 pub mod FlowsKept
 pub mod FlowsPushed
 pub mod FlowsSized
+pub mod Points
+pub mod Still
+pub mod ValidBlocks

@@ -17,3 +17,4 @@ pub mod FlowNodes
 pub mod Flowings
 pub mod FlowSizes
 pub mod FlowPieces
+pub mod Places

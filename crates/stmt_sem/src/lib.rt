@@ -53,4 +53,4 @@ mod tests;
 mod withs;
 
 pub use flows::{Arm, Code, Flow, FlowForm, FlowNode, Flows, LabelTest};
-pub use laws::{code_is_short, heights_are_right};
+pub use laws::{code_is_short, code_is_valid, heights_are_right};

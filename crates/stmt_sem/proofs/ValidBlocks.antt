@@ -1,0 +1,117 @@
+-- A block's code is valid where its instructions are ones and name what is there.
+use Rattle.std.specs.Prelude.{◌≡◌, refl, ℕ, ◌+◌, ◌≤◌, ◌==◌, Bool, true, false, List, [], ◌∷◌, ◌++◌, length, if◌then◌else◌, Option, Some, None}
+use Rattle.std.specs.List.{AllByRecursion}
+use Rattle.std.proofs.Common.{arith, sym, ap, subst, ◌∙◌, append_assoc}
+use Rattle.code_form.specs.Bytes.{code_bytes}
+use Rattle.code_form.specs.Heights.{Step, greatest}
+use Rattle.code_form.specs.Instructions.{IsInstr}
+use Rattle.code_form.specs.Modules.{Procedure, World}
+use Rattle.code_form.specs.Valid.{AreInstrs, IsValidCode, callees_of, fault_among, is_end, jump_of}
+use Rattle.code_form.specs.declared.instr.Instr.TheVariants.{Return, Trap}
+use Rattle.m2_base.specs.declared.rows.Row.{Row}
+use Rattle.m2_base.specs.Statics.BlockRows.{declare_block}
+use Rattle.m2_base.specs.Statics.Blocks.{BlockTree}
+use Rattle.m2_base.specs.Statics.Contexts.{Context, Source}
+use Rattle.m2_base.specs.Statics.Effects.{BlockEffects}
+use Rattle.m2_base.specs.Statics.ProcedureRows.{result_cells}
+use Rattle.m2_base.specs.Statics.UnitNotes.{complete_context}
+use Rattle.m2_base.specs.Trees.{Heading}
+use Rattle.expr_sem.proofs.ValueHeights.{both_ways}
+use Rattle.expr_sem.specs.Parts.{Part, Spot, call, plain, plain_step, steps_size}
+use Rattle.stmt_sem.specs.BlockCode.{block_code, body_of, ending, first_spot, prologue, run_of, stand_of}
+use Rattle.stmt_sem.specs.Flows.{Flow, straight, ◌⨾◌}
+use Rattle.stmt_sem.specs.Heights.{KeepsHeight, Stands}
+use Rattle.stmt_sem.specs.Places.{Agree, NameThere, ReturnAll, block_steps, instrs_of}
+use Rattle.stmt_sem.specs.Returns.{return_code}
+use Rattle.stmt_sem.proofs.BlockLengths.{length-code}
+use Rattle.stmt_sem.proofs.Flowing.{straight-flows, then-flows}
+use Rattle.stmt_sem.proofs.Law.{all-flows, prologue-moves}
+use Rattle.stmt_sem.proofs.Points.{Ends, Sits, no_fault, sits-append}
+use Rattle.stmt_sem.proofs.Still.{Still, all-still}
+
+-- ---- the last step
+
+return_step : Step
+return_step = record { instr = Return; takes = 0; leaves = 0 }
+
+-- what a block ends with
+abbrev last_step : Option Heading → Step
+last_step None = record { instr = Return; takes = 0; leaves = 0 }
+last_step (Some h) = if result_cells h.result == 0 then record { instr = Return; takes = 0; leaves = 0 } else plain_step (Trap 7)
+
+last-is : (h : Option Heading) (at : Spot) → (ending h at).code ≡ last_step h ∷ []
+last-is None at = refl
+last-is (Some h) at = go (result_cells h.result == 0)
+  where
+    go : (b : Bool) → ((if b then return_code else plain (Trap 7 ∷ [])) at).code ≡ (if b then record { instr = Return; takes = 0; leaves = 0 } else plain_step (Trap 7)) ∷ []
+    go true = refl
+    go false = refl
+
+-- it takes nothing, doesn't jump, and ends
+record IsLast (s : Step) : Type 0 where
+  takes : s.takes ≤ 0
+  stays : jump_of s.instr ≡ None
+  ends : is_end s.instr ≡ true
+
+last-ends : (h : Option Heading) → IsLast (last_step h)
+last-ends None = record { takes = omega arith; stays = refl; ends = refl }
+last-ends (Some h) =
+    both_ways IsLast (result_cells h.result == 0) (record { instr = Return; takes = 0; leaves = 0 }) (plain_step (Trap 7))
+    (record { takes = omega arith; stays = refl; ends = refl }) (record { takes = omega arith; stays = refl; ends = refl })
+
+-- ---- the whole
+
+ends-append : (a : List Step) (x : Step) → is_end x.instr ≡ true → Ends (a ++ (x ∷ []))
+ends-append [] x e = e
+ends-append (s ∷ []) x e = e
+ends-append (s ∷ (t ∷ ss)) x e = ends-append (t ∷ ss) x e
+
+some-append : (a : List Step) (x : Step) → length (instrs_of (a ++ (x ∷ []))) ≡ 0 → ⊥
+some-append [] x e = omega (arith, e)
+some-append (s ∷ ss) x e = omega (arith, e)
+
+-- steps that sit where they may, and end
+record Whole (ss : List Step) : Type 0 where
+  sits : Sits [] 0 ss
+  ends : Ends ss
+  some : length (instrs_of ss) ≡ 0 → ⊥
+
+whole : (b : BlockTree) (e : BlockEffects) (body : Flow) → KeepsHeight body → Still body → Whole ((run_of b e body).code 0)
+whole b e body g s =
+    let at : Spot = first_spot b.tree.kind e in
+    let pro : Flow = straight (prologue e.prologue) in
+    let p : List Step = (prologue e.prologue at).code in
+    let s1 : Spot = (prologue e.prologue at).next in
+    let d : List Step = (ending b.tree.heading (body s1).next).code in
+    let x : Step = last_step b.tree.heading in
+    let n : ℕ = 0 + steps_size d in
+    let c : List Step = (body s1).code n in
+    let l : IsLast x = last-ends b.tree.heading in
+    let P : ℕ → List Step → Type 0 = λ o q. Stands [] o 0 (p ++ q) 0 in
+    let before : KeepsHeight (pro ⨾ body) = then-flows pro body (straight-flows (prologue e.prologue) (prologue-moves e.prologue)) g in
+    let zero : Stands [] 0 0 (p ++ c) 0 = subst (P 0) (s s1 0 n) (before at [] 0) in
+    let one : Stands [] 1 0 (p ++ c) 0 = subst (P 1) (s s1 1 n) (before at [] 1) in
+    let made : Whole ((p ++ c) ++ (x ∷ [])) = record {
+          sits = sits-append [] 0 0 (p ++ c) x zero one l.takes l.stays;
+          ends = ends-append (p ++ c) x l.ends;
+          some = some-append (p ++ c) x;
+        } in
+    subst Whole (append_assoc p c (x ∷ []) ∙ ap (λ (q : List Step). p ++ (c ++ q)) (sym (last-is b.tree.heading (body s1).next))) made
+
+-- the code of a block is valid
+pub block-valid : (source : Source) (before all : List (List Row)) (b : BlockTree) (w : World) (k : ℕ) (p : Procedure)
+    → p.code ≡ (block_code source before all b).code → p.high ≡ (block_code source before all b).high
+    → AllByRecursion IsInstr (instrs_of (block_steps source before all b))
+    → Agree (callees_of w p) (block_steps source before all b)
+    → ReturnAll 0 (block_steps source before all b)
+    → NameThere w k p (block_steps source before all b)
+    → IsValidCode w k p
+block-valid source before all b w k p e h i a r t =
+    let c : Context = complete_context source all b.block in
+    let ss : List Step = block_steps source before all b in
+    let g : Whole ss = whole b (declare_block source before b).value (body_of c b).value (all-flows (stand_of c b) b.tree.body) (all-still (stand_of c b) b.tree.body refl) in
+    record {
+      is = instrs_of ss;
+      instrs = record { in_range = i; spelled = e };
+      no_fault = no_fault w k p ss g.some g.sits a r t g.ends (sym (length-code ss) ∙ ap length (sym e)) (sym h);
+    }

@@ -1,0 +1,36 @@
+-- Steps at their places, as the conditions of valid code look at them.
+use Rattle.std.specs.Prelude.{◌≡◌, ℕ, pos, true, List, [], ◌∷◌, map}
+use Rattle.m2_base.specs.declared.rows.Row.{Row}
+use Rattle.m2_base.specs.Statics.BlockRows.{declare_block}
+use Rattle.m2_base.specs.Statics.Blocks.{BlockTree}
+use Rattle.m2_base.specs.Statics.Contexts.{Source}
+use Rattle.m2_base.specs.Statics.UnitNotes.{complete_context}
+use Rattle.stmt_sem.specs.BlockCode.{body_of, run_of}
+use Rattle.code_form.specs.Heights.{Callees, Step, after_step, step_among}
+use Rattle.code_form.specs.declared.instr.Instr.{Instr}
+use Rattle.code_form.specs.Modules.{Procedure, World}
+use Rattle.code_form.specs.Valid.{names_what_is_there, returns_all}
+
+-- the instructions of steps
+abbrev pub instrs_of : List Step → List Instr
+instrs_of ss = map (λ s. s.instr) ss
+
+-- each step takes and leaves what its instruction does among these callees
+abbrev pub Agree : Callees → List Step → Type 0
+Agree c [] = Unit {0}
+Agree c (s ∷ ss) = (step_among c s.instr ≡ s) × Agree c ss
+
+-- from this height on, what each return finds is the result alone
+abbrev pub ReturnAll : (height : ℕ) → List Step → Type 0
+ReturnAll h [] = Unit {0}
+ReturnAll h (s ∷ ss) = (returns_all s.instr (pos h) s.takes ≡ true) × ReturnAll (after_step h s) ss
+
+-- each instruction names what is there
+abbrev pub NameThere : World → (k : ℕ) → Procedure → List Step → Type 0
+NameThere w k p [] = Unit {0}
+NameThere w k p (s ∷ ss) = (names_what_is_there w k p s.instr ≡ true) × NameThere w k p ss
+
+-- the steps of a block's code
+abbrev pub block_steps : Source → (before all : List (List Row)) → BlockTree → List Step
+block_steps source before all b =
+    (run_of b (declare_block source before b).value (body_of (complete_context source all b.block) b).value).code 0
