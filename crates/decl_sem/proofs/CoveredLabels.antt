@@ -7,7 +7,6 @@ use Rattle.m2_base.specs.Statics.CaseLabels.{CaseLabels}
 use Rattle.m2_base.specs.Statics.Contexts.{Context}
 use Rattle.m2_base.specs.Statics.Makes.{only_gives}
 use Rattle.m2_base.specs.Statics.Ranges.{Range}
-use Rattle.m2_base.specs.Statics.Shapes.{Shape}
 use Rattle.m2_base.specs.declared.memory.Memory.{Memory}
 use Rattle.m2_base.specs.declared.notes.Notes.{Notes}
 use Rattle.m2_base.specs.declared.replies.Ask.{Ask}
@@ -37,6 +36,6 @@ covered_alone p =
     }
 
 -- as a piece of an item
-pub labels_covered : {a b : State} {x y : Made} {s : Site} {g : Context → Gives CaseLabels} (answer : Result (Ask (List Range)) Memory) → IsMaking a.frame s x [] → y.rows ≡ x.rows → y.first ≡ x.first
+pub labels_covered : {a b : State} {x y : Made} {s : Site} (g : Context → Gives CaseLabels) (answer : Result (Ask (List Range)) Memory) → IsMaking a.frame s x [] → y.rows ≡ x.rows → y.first ≡ x.first
     → Analysed a b x.notes y.notes s answer MayCover (λ c. covered_of (g c)) → Declares a b x y s answer [] IsAny (λ c. only_gives (covered_of (g c)))
-labels_covered answer making rows first p = analysed answer {P = MayCover} {Q = IsAny} making rows first (λ v h. tt) p
+labels_covered g answer making rows first p = analysed answer {P = MayCover} {Q = IsAny} making rows first (λ v h. tt) p
