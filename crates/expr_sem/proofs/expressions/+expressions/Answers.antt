@@ -29,15 +29,15 @@ use Rattle.expr_sem.specs.Coded.{bare, in_error}
 use Rattle.expr_sem.specs.Coded as code
 use Rattle.expr_sem.specs.Codings.{IsCoded, coded_in, with_types}
 use Rattle.expr_sem.specs.Elements.{select_element}
-use Rattle.expr_sem.specs.ExpressionParts.{all_passed, behind_first, called_as, called_with, first_argument, index, member, next_passed, procedure, second_argument, range_to, set_of, type_before}
-use Rattle.expr_sem.specs.Expressions.{continued, designated, element, elements, expression, followed, indexed, looked_at, passed, selected, selector, standard, value}
+use Rattle.expr_sem.specs.ExpressionParts.{all_passed, behind_first, called_as, called_with, first_argument, index, member, next_passed, second_argument, range_to, set_of, type_before}
+use Rattle.expr_sem.specs.Expressions.{continued, designated, element, elements, expression, followed, indexed, looked_at, passed, selected, selector, value}
 use Rattle.expr_sem.specs.Fragments.{part}
 use Rattle.expr_sem.specs.Parts.{Part, none}
-use Rattle.expr_sem.specs.StandardProcedures.{first_of_two, of_no_argument, of_one_argument, of_two_arguments}
+use Rattle.expr_sem.specs.StandardProcedures.{first_of_two, of_one_argument, of_two_arguments}
 use Rattle.expr_sem.specs.declared.calls.Callable.{Callable}
 use Rattle.expr_sem.specs.declared.fragments.Fragment.TheVariants.{Nothing}
 use Rattle.expr_sem.proofs.ArgumentFolds.{argument_step, count_given, passed_whole}
-use Rattle.expr_sem.proofs.Calling.{AreLeft, NoMatter, argument_after, argument_later, as_error, behind_in, behind_there, callee_after, error_in, first_there, left_in, next_given as parameter_given, none_passed, params_after}
+use Rattle.expr_sem.proofs.Calling.{AreLeft, NoMatter, argument_later, as_error, behind_in, behind_there, callee_after, error_in, first_there, left_in, next_given as parameter_given, none_passed, params_after}
 use Rattle.expr_sem.proofs.StandardArguments.{none_given, one_argument_given, two_arguments_given}
 use Rattle.expr_sem.proofs.Sequencing.{Grows-trans, part_later}
 use Rattle.expr_sem.specs.Operators.{one_coded, two_coded}
