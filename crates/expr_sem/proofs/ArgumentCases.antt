@@ -1,6 +1,6 @@
 -- Arguments, by what they are.
 use Rattle.std.proofs.Common.{◌≡◌, ℕ, false, List, Option, Some, None, Result, Ok, Err, ap, if◌then◌else◌, refl, subst, sym}
-use Rattle.m2_base.specs.Gives.{Adds, Gives, gives}
+use Rattle.m2_base.specs.Gives.{Adds, gives}
 use Rattle.m2_base.specs.States.{State}
 use Rattle.m2_base.specs.Statics.Contexts.{Context, refuse}
 use Rattle.m2_base.specs.Statics.Diagnostics.{wrong_argument}

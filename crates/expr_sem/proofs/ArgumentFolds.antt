@@ -1,5 +1,5 @@
 -- Arguments one behind another in a loop are those that the definition takes from the last one on.
-use Rattle.std.proofs.Common.{◌≡◌, ◌∙◌, ◌++◌, [], ◌∷◌, ℕ, suc, List, Option, Some, None, length, map, ap, refl, sym, append-nil, append_assoc}
+use Rattle.std.proofs.Common.{◌≡◌, ◌∙◌, [], ◌∷◌, suc, List, Option, Some, None, length, map, ap, refl, sym, append-nil, append_assoc}
 use Rattle.m2_base.specs.Gives.{Gives, and_then, gives}
 use Rattle.m2_base.specs.Statics.Contexts.{Context}
 use Rattle.m2_base.specs.Statics.TypeParts.{Parameter}
@@ -10,7 +10,7 @@ use Rattle.const_eval.proofs.Folding.{and_then_gives, and_then_same, folded}
 use Rattle.expr_sem.specs.Arguments.{after_argument, argument}
 use Rattle.expr_sem.specs.ExpressionParts.{all_passed, behind_first, next_passed}
 use Rattle.expr_sem.specs.Expressions.{count_of_exprs, expression, passed}
-use Rattle.expr_sem.specs.Parts.{Made, Part, Spot, none, ◌⨟◌}
+use Rattle.expr_sem.specs.Parts.{Part, none, ◌⨟◌}
 
 -- ** Parts in a row
 

@@ -1,5 +1,5 @@
 -- Calls, by what is called.
-use Rattle.std.proofs.Common.{◌≡◌, ◌∙◌, ℕ, suc, ◌+◌, ◌<◌, ◌==◌, ◌++◌, not, Bool, true, false, List, [], ◌∷◌, Option, Some, None, ap, arith, drop, if◌then◌else◌, is_some, length, map, refl, Result, Ok, Err, sym}
+use Rattle.std.proofs.Common.{◌≡◌, ◌∙◌, ℕ, ◌+◌, ◌<◌, ◌==◌, ◌++◌, not, Bool, true, false, List, [], ◌∷◌, Option, Some, None, ap, arith, drop, if◌then◌else◌, is_some, length, map, refl, Result, Ok, Err, sym}
 use Rattle.std.specs.Prelude.{get_or}
 use Rattle.std.proofs.lemmas.List.{append-nil, drop_more}
 use Rattle.m2_base.specs.Asks.{IfKnown}
@@ -27,7 +27,7 @@ use Rattle.type_rules.specs.declared.forms.Form.{Form}
 use Rattle.type_rules.specs.declared.forms.Formal.{Formal}
 use Rattle.type_rules.proofs.Compatibles.{told_later}
 use Rattle.expr_sem.specs.ArgumentFits.{parameter_view}
-use Rattle.expr_sem.specs.Callees.{allowed_by, target_called, variable_allowed, variable_called}
+use Rattle.expr_sem.specs.Callees.{allowed_by, target_called, variable_allowed}
 use Rattle.expr_sem.specs.Calls.{Called, allowed, allowed_by_type, called_by, cells_of_all, is_same_truth, no_call, of_target, of_variable, standard_call}
 use Rattle.expr_sem.specs.Parts.{Part}
 use Rattle.expr_sem.specs.ProcedureNames.{Target}

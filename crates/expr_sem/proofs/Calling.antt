@@ -1,5 +1,5 @@
 -- Calls: what stays of what is called, of the parameters that are left and of the arguments so far.
-use Rattle.std.proofs.Common.{◌≡◌, ◌∙◌, ◌<◌, [], ◌∷◌, List, Option, Some, None, Result, Ok, Bool, true, length, map, ap, arith, refl, sym, subst}
+use Rattle.std.proofs.Common.{◌≡◌, ◌∙◌, [], ◌∷◌, List, Option, Some, None, Result, Ok, Bool, true, map, ap, refl, sym, subst}
 use Rattle.std.specs.Prelude.{slice_get}
 use Rattle.std.specs.Option.{IfSome}
 use Rattle.m2_base.specs.Gives.{Gives, and_then, gives}
@@ -23,7 +23,7 @@ use Rattle.expr_sem.specs.Coded.{in_error}
 use Rattle.expr_sem.specs.Codings.{Coding, IsCoded, coded_in}
 use Rattle.expr_sem.specs.ExpressionParts.{behind_first, next_passed}
 use Rattle.expr_sem.specs.Expressions.{expression}
-use Rattle.expr_sem.specs.Fragments.{Grows, IsIn}
+use Rattle.expr_sem.specs.Fragments.{Grows}
 use Rattle.expr_sem.specs.Parts.{Part}
 use Rattle.expr_sem.specs.declared.arguments.Parameter.{Parameter}
 use Rattle.expr_sem.specs.declared.calls.Callee.{Callee}

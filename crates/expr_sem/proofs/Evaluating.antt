@@ -1,9 +1,9 @@
 -- A value or an address that is appended to a piece.
-use Rattle.std.proofs.Common.{◌≡◌, ◌∙◌, [], List, Option, Some, None, Result, Ok, Err, ap, sym, subst, refl}
+use Rattle.std.proofs.Common.{◌≡◌, ◌∙◌, List, Option, Some, None, Result, Ok, Err, ap, sym, subst, refl}
 use Rattle.std.specs.Prelude.{option_map}
 use Rattle.std.specs.Option.{IfSome}
 use Rattle.m2_base.specs.Asks.{IfKnown, IfWaits}
-use Rattle.m2_base.specs.Gives.{Adds, Gives, and_then, gives}
+use Rattle.m2_base.specs.Gives.{Gives}
 use Rattle.m2_base.specs.States.{Frame, State}
 use Rattle.m2_base.specs.Statics.Contexts.{Context}
 use Rattle.m2_base.specs.declared.memory.Memory.{Memory}

@@ -1,6 +1,6 @@
 -- HIGH by the meaning of a type, and the standard functions that are none of one argument.
 use Rattle.std.proofs.Common.{◌≡◌, ◌∙◌, ℕ, length, ap, sym, subst, refl, arith}
-use Rattle.m2_base.specs.Gives.{Gives, gives}
+use Rattle.m2_base.specs.Gives.{gives}
 use Rattle.m2_base.specs.Rows.{Fits}
 use Rattle.m2_base.specs.Standard.{cardinal}
 use Rattle.m2_base.specs.States.{Frame}

@@ -1,5 +1,5 @@
 -- Arguments of open arrays, and arguments by the kind of their parameter.
-use Rattle.std.proofs.Common.{◌≡◌, ◌∙◌, ℕ, ◌-◌, ◌&&◌, ◌||◌, not, Bool, true, false, [], ◌∷◌, List, None, Some, ap, arith, if◌then◌else◌, length, refl, subst, sym}
+use Rattle.std.proofs.Common.{◌≡◌, ◌∙◌, ℕ, ◌-◌, ◌&&◌, ◌||◌, not, Bool, true, false, [], ◌∷◌, None, Some, ap, arith, if◌then◌else◌, length, refl, subst, sym}
 use Rattle.std.specs.Prelude.{pos}
 use Rattle.m2_base.specs.Gives.{gives}
 use Rattle.m2_base.specs.Rows.{Fits}

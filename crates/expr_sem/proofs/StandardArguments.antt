@@ -1,5 +1,5 @@
 -- The arguments of a standard procedure, by how many there are.
-use Rattle.std.proofs.Common.{◌≡◌, ◌∙◌, [], ◌∷◌, ℕ, ◌<◌, ◌≤◌, List, length, map, ap, arith, refl, sym}
+use Rattle.std.proofs.Common.{◌≡◌, ◌∙◌, [], ◌∷◌, ◌<◌, ◌≤◌, List, length, map, ap, arith, refl}
 use Rattle.std.specs.Prelude.{get_or}
 use Rattle.m2_base.specs.Gives.{and_then, gives}
 use Rattle.m2_base.specs.Statics.Contexts.{Context}

@@ -1,9 +1,9 @@
 -- The code of a value and the check behind it, by what the operand is.
-use Rattle.std.proofs.Common.{◌≡◌, ◌∙◌, ◌≢◌, arith, ◌==◌, ℕ, ℤ, Bool, true, false, if◌then◌else◌, List, [], ◌∷◌, length, Result, Ok, Err, Option, Some, None, ap, sym, refl, option_map}
+use Rattle.std.proofs.Common.{◌≡◌, ◌∙◌, ◌≢◌, arith, ◌==◌, ℕ, ℤ, Bool, true, false, if◌then◌else◌, List, [], ◌∷◌, length, Result, Ok, Err, Option, ap, sym, refl}
 use Rattle.std.specs.Result.{IfOk}
 use Rattle.std.proofs.lemmas.Bool.{eq-eqb, eqb-true, true≢false}
-use Rattle.m2_base.specs.Gives.{Gives, gives}
-use Rattle.m2_base.specs.Statics.Contexts.{Context, Source, level_of, refuse}
+use Rattle.m2_base.specs.Gives.{gives}
+use Rattle.m2_base.specs.Statics.Contexts.{Context, level_of, refuse}
 use Rattle.m2_base.specs.Statics.Diagnostics.{not_a_procedure_value, out_of_range}
 use Rattle.m2_base.specs.Statics.Operands.{characters_of}
 use Rattle.m2_base.specs.declared.memory.Memory.{Memory}

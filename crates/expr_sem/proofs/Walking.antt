@@ -1,8 +1,8 @@
 -- The walk over trees: what a later step finds of an earlier one, and what loops make.
-use Rattle.std.proofs.Common.{◌≡◌, ◌∙◌, ◌++◌, ◌∷◌, [], ℕ, ◌+◌, ◌<◌, ◌≤◌, List, length, take, Result, Ok, Err, ap, sym, subst}
+use Rattle.std.proofs.Common.{◌≡◌, ◌∙◌, ◌++◌, ◌∷◌, [], ℕ, ◌+◌, ◌<◌, ◌≤◌, List, length, take, Result, Ok, ap, sym, subst}
 use Rattle.std.specs.Prelude.{get_or}
 use Rattle.std.proofs.lemmas.List.{take_all, take_more}
-use Rattle.m2_base.specs.Gives.{Gives, and_then, gives}
+use Rattle.m2_base.specs.Gives.{Gives, gives}
 use Rattle.m2_base.specs.Lists.{Each}
 use Rattle.m2_base.specs.States.{Frame, State, Waits}
 use Rattle.m2_base.specs.Statics.Contexts.{Context}
@@ -19,7 +19,7 @@ use Rattle.type_rules.specs.Sites.{context_of}
 use Rattle.const_eval.specs.Sites.{IsOperand}
 use Rattle.const_eval.proofs.Folding.{folded, folded_more}
 use Rattle.expr_sem.specs.Codings.{Coding}
-use Rattle.expr_sem.specs.Fragments.{Grows, part}
+use Rattle.expr_sem.specs.Fragments.{Grows}
 use Rattle.expr_sem.specs.Parts.{Part}
 use Rattle.expr_sem.specs.SetCodings.{AreElements, elements_in}
 use Rattle.expr_sem.specs.SetElements as sets

@@ -1,5 +1,5 @@
 -- What an analysis that makes code leaves and gives, whose answer may not be known yet.
-use Rattle.std.specs.Prelude.{◌≡◌, List, Option, Some, None, Result, map}
+use Rattle.std.specs.Prelude.{List, Option, Some, None, Result, map}
 use Rattle.std.specs.Option.{IfSome}
 use Rattle.m2_base.specs.Asks.{IfKnown, IfWaits}
 use Rattle.m2_base.specs.Gives.{Adds, Gives}

@@ -1,4 +1,4 @@
-use Rattle.std.proofs.Common.{◌∙◌, Ok, if◌then◌else◌, refl, sym}
+use Rattle.std.proofs.Common.{◌∙◌, Ok, refl, sym}
 use Rattle.m2_base.specs.declared.replies.Ask.TheVariants.{Known}
 use Rattle.expr_sem.specs.Callees.{IsCallable, called_in}
 use Rattle.expr_sem.proofs.CallCases.{all_allowed, count_refused, kind_refused}

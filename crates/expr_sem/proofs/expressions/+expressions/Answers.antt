@@ -29,15 +29,15 @@ use Rattle.expr_sem.specs.Coded.{bare, in_error}
 use Rattle.expr_sem.specs.Coded as code
 use Rattle.expr_sem.specs.Codings.{IsCoded, coded_in, with_types}
 use Rattle.expr_sem.specs.Elements.{select_element}
-use Rattle.expr_sem.specs.ExpressionParts.{all_passed, behind_first, called_as, called_with, first_argument, index, member, next_passed, procedure, second_argument, range_to, set_of, type_before}
-use Rattle.expr_sem.specs.Expressions.{continued, designated, element, elements, expression, followed, indexed, looked_at, passed, selected, selector, standard, value}
+use Rattle.expr_sem.specs.ExpressionParts.{all_passed, behind_first, called_as, called_with, first_argument, index, member, next_passed, second_argument, range_to, set_of, type_before}
+use Rattle.expr_sem.specs.Expressions.{continued, designated, element, elements, expression, followed, indexed, looked_at, passed, selected, selector, value}
 use Rattle.expr_sem.specs.Fragments.{part}
 use Rattle.expr_sem.specs.Parts.{Part, none}
-use Rattle.expr_sem.specs.StandardProcedures.{first_of_two, of_no_argument, of_one_argument, of_two_arguments}
+use Rattle.expr_sem.specs.StandardProcedures.{first_of_two, of_one_argument, of_two_arguments}
 use Rattle.expr_sem.specs.declared.calls.Callable.{Callable}
 use Rattle.expr_sem.specs.declared.fragments.Fragment.TheVariants.{Nothing}
 use Rattle.expr_sem.proofs.ArgumentFolds.{argument_step, count_given, passed_whole}
-use Rattle.expr_sem.proofs.Calling.{AreLeft, NoMatter, argument_after, argument_later, as_error, behind_in, behind_there, callee_after, error_in, first_there, left_in, next_given as parameter_given, none_passed, params_after}
+use Rattle.expr_sem.proofs.Calling.{AreLeft, NoMatter, argument_later, as_error, behind_in, behind_there, callee_after, error_in, first_there, left_in, next_given as parameter_given, none_passed, params_after}
 use Rattle.expr_sem.proofs.StandardArguments.{none_given, one_argument_given, two_arguments_given}
 use Rattle.expr_sem.proofs.Sequencing.{Grows-trans, part_later}
 use Rattle.expr_sem.specs.Operators.{one_coded, two_coded}
@@ -54,16 +54,13 @@ use Rattle.expr_sem.proofs.Walking.{elements_after, elements_later, one_more, op
 use Rattle.expr_sem.proofs.expressions.+expressions.Goals as goal
 
 pub value_of-expression-requires : goal.value_of-expression-requires
-value_of-expression-requires g t c κs within =
-    (search rules, (within, (c.requires.suits, (c.requires.withs, (c.requires.read)))))
+value_of-expression-requires g t c κs within = (search rules, (within, (c.requires.suits, (c.requires.withs, (c.requires.read)))))
 
 pub value_of-returns-in-DontKnowYet : goal.value_of-returns-in-DontKnowYet
-value_of-returns-in-DontKnowYet g t c =
-    unknown (rw c.in-DontKnowYet.is at c.in-Ok.ensures)
+value_of-returns-in-DontKnowYet g t c = unknown (rw c.in-DontKnowYet.is at c.in-Ok.ensures)
 
 pub value_of-returns-in-Err : goal.value_of-returns-in-Err
-value_of-returns-in-Err g t c =
-    unmade c.in-Err.ensures _
+value_of-returns-in-Err g t c = unmade c.in-Err.ensures _
 
 pub value_of-returns : goal.value_of-returns
 value_of-returns g t c =
@@ -73,28 +70,22 @@ value_of-returns g t c =
     (λ k. ap (λ (at : ℕ). and_then (expression k (with_types c.args.withs.now) (expr_view c.args.e.now)) (λ o. as_value k at o)) (sym (at_seen c.args.e.now)))
 
 pub member-value_of-requires : goal.member-value_of-requires
-member-value_of-requires g t c κs within =
-    (search rules, (within, (c.requires.suits, (c.requires.withs, (c.requires.read)))))
+member-value_of-requires g t c κs within = (search rules, (within, (c.requires.suits, (c.requires.withs, (c.requires.read)))))
 
 pub member-returns-in-DontKnowYet : goal.member-returns-in-DontKnowYet
-member-returns-in-DontKnowYet g t c =
-    unknown (rw c.in-DontKnowYet.is at c.in-Ok.ensures)
+member-returns-in-DontKnowYet g t c = unknown (rw c.in-DontKnowYet.is at c.in-Ok.ensures)
 
 pub member-returns-in-Err : goal.member-returns-in-Err
-member-returns-in-Err g t c =
-    unmade c.in-Err.ensures _
+member-returns-in-Err g t c = unmade c.in-Err.ensures _
 
 pub member-element_coded-requires-clause-suits : goal.member-element_coded-requires-clause-suits
-member-element_coded-requires-clause-suits g t c =
-    suits_after (rw c.in-Known.is at c.in-Ok.ensures) c.requires.suits
+member-element_coded-requires-clause-suits g t c = suits_after (rw c.in-Known.is at c.in-Ok.ensures) c.requires.suits
 
 pub member-element_coded-requires-clause-base : goal.member-element_coded-requires-clause-base
-member-element_coded-requires-clause-base g t c =
-    there_after (rw c.in-Known.is at c.in-Ok.ensures) c.args.base c.requires.base
+member-element_coded-requires-clause-base g t c = there_after (rw c.in-Known.is at c.in-Ok.ensures) c.args.base c.requires.base
 
 pub member-element_coded-requires-clause-x : goal.member-element_coded-requires-clause-x
-member-element_coded-requires-clause-x g t c =
-    (stands_after (rw c.in-Known.is at c.in-Ok.ensures)).operand
+member-element_coded-requires-clause-x g t c = (stands_after (rw c.in-Known.is at c.in-Ok.ensures)).operand
 
 pub member-returns : goal.member-returns
 member-returns g t c =
@@ -108,24 +99,19 @@ followed-value_of-requires g t c κs within =
     ((let small = next_smaller c.args.next.now in omega (arith, small, c.decreases)), (within, (c.requires.suits, (c.requires.withs, (next_read c.args.site.now.texts.now.names c.args.next.now c.requires.read)))))
 
 pub followed-returns-in-DontKnowYet : goal.followed-returns-in-DontKnowYet
-followed-returns-in-DontKnowYet g t c =
-    unknown (rw c.in-DontKnowYet.is at c.in-Ok.ensures)
+followed-returns-in-DontKnowYet g t c = unknown (rw c.in-DontKnowYet.is at c.in-Ok.ensures)
 
 pub followed-returns-in-Err : goal.followed-returns-in-Err
-followed-returns-in-Err g t c =
-    unmade c.in-Err.ensures _
+followed-returns-in-Err g t c = unmade c.in-Err.ensures _
 
 pub followed-two_coded-requires-clause-suits : goal.followed-two_coded-requires-clause-suits
-followed-two_coded-requires-clause-suits g t c =
-    suits_after (rw c.in-Known.is at c.in-Ok.ensures) c.requires.suits
+followed-two_coded-requires-clause-suits g t c = suits_after (rw c.in-Known.is at c.in-Ok.ensures) c.requires.suits
 
 pub followed-two_coded-requires-clause-x : goal.followed-two_coded-requires-clause-x
-followed-two_coded-requires-clause-x g t c =
-    coded_after (rw c.in-Known.is at c.in-Ok.ensures) c.args.left.coded c.requires.left
+followed-two_coded-requires-clause-x g t c = coded_after (rw c.in-Known.is at c.in-Ok.ensures) c.args.left.coded c.requires.left
 
 pub followed-two_coded-requires-clause-y : goal.followed-two_coded-requires-clause-y
-followed-two_coded-requires-clause-y g t c =
-    stands_after (rw c.in-Known.is at c.in-Ok.ensures)
+followed-two_coded-requires-clause-y g t c = stands_after (rw c.in-Known.is at c.in-Ok.ensures)
 
 pub followed-returns : goal.followed-returns
 followed-returns g t c =
@@ -139,28 +125,22 @@ followed-returns g t c =
     ∙ next_given k (with_types c.args.withs.now) c.args.left.at left n.op n.op_at (expr_view n.right) ∙ ap (followed k (with_types c.args.withs.now) c.args.left.at left) (sym (next_seen n)))
 
 pub index-value_of-requires : goal.index-value_of-requires
-index-value_of-requires g t c κs within =
-    (search rules, (within, (c.requires.suits, (c.requires.withs, (c.requires.read)))))
+index-value_of-requires g t c κs within = (search rules, (within, (c.requires.suits, (c.requires.withs, (c.requires.read)))))
 
 pub index-returns-in-DontKnowYet : goal.index-returns-in-DontKnowYet
-index-returns-in-DontKnowYet g t c =
-    unknown (rw c.in-DontKnowYet.is at c.in-Ok.ensures)
+index-returns-in-DontKnowYet g t c = unknown (rw c.in-DontKnowYet.is at c.in-Ok.ensures)
 
 pub index-returns-in-Err : goal.index-returns-in-Err
-index-returns-in-Err g t c =
-    unmade c.in-Err.ensures _
+index-returns-in-Err g t c = unmade c.in-Err.ensures _
 
 pub index-select_element-requires-clause-suits : goal.index-select_element-requires-clause-suits
-index-select_element-requires-clause-suits g t c =
-    suits_after (rw c.in-Known.is at c.in-Ok.ensures) c.requires.suits
+index-select_element-requires-clause-suits g t c = suits_after (rw c.in-Known.is at c.in-Ok.ensures) c.requires.suits
 
 pub index-select_element-requires-clause-index : goal.index-select_element-requires-clause-index
-index-select_element-requires-clause-index g t c =
-    stands_after (rw c.in-Known.is at c.in-Ok.ensures)
+index-select_element-requires-clause-index g t c = stands_after (rw c.in-Known.is at c.in-Ok.ensures)
 
 pub index-select_element-requires-clause-x : goal.index-select_element-requires-clause-x
-index-select_element-requires-clause-x g t c =
-    coded_after (rw c.in-Known.is at c.in-Ok.ensures) c.args.x c.requires.x
+index-select_element-requires-clause-x g t c = coded_after (rw c.in-Known.is at c.in-Ok.ensures) c.args.x c.requires.x
 
 pub index-returns : goal.index-returns
 index-returns g t c =
@@ -173,24 +153,19 @@ index-returns g t c =
     (λ k. ap (λ (at : ℕ). and_then (value k (with_types c.args.withs.now) (expr_view e)) (λ v. select_element k c.args.first c.args.at at v x)) (sym (at_seen e)))
 
 pub set_type-designated-requires : goal.set_type-designated-requires
-set_type-designated-requires g t c κs within =
-    (search rules, (within, (c.requires.suits, (c.requires.withs, (c.requires.read)))))
+set_type-designated-requires g t c κs within = (search rules, (within, (c.requires.suits, (c.requires.withs, (c.requires.read)))))
 
 pub set_type-returns-in-DontKnowYet : goal.set_type-returns-in-DontKnowYet
-set_type-returns-in-DontKnowYet g t c =
-    unknown (rw c.in-DontKnowYet.is at c.in-Ok.ensures)
+set_type-returns-in-DontKnowYet g t c = unknown (rw c.in-DontKnowYet.is at c.in-Ok.ensures)
 
 pub set_type-returns-in-Err : goal.set_type-returns-in-Err
-set_type-returns-in-Err g t c =
-    unmade c.in-Err.ensures _
+set_type-returns-in-Err g t c = unmade c.in-Err.ensures _
 
 pub set_type-type_noted-requires-clause-suits : goal.set_type-type_noted-requires-clause-suits
-set_type-type_noted-requires-clause-suits g t c =
-    suits_after (rw c.in-Known.is at c.in-Ok.ensures) c.requires.suits
+set_type-type_noted-requires-clause-suits g t c = suits_after (rw c.in-Known.is at c.in-Ok.ensures) c.requires.suits
 
 pub set_type-type_noted-requires-clause-x : goal.set_type-type_noted-requires-clause-x
-set_type-type_noted-requires-clause-x g t c =
-    (stands_after (rw c.in-Known.is at c.in-Ok.ensures)).operand
+set_type-type_noted-requires-clause-x g t c = (stands_after (rw c.in-Known.is at c.in-Ok.ensures)).operand
 
 pub set_type-returns : goal.set_type-returns
 set_type-returns g t c =
@@ -229,24 +204,19 @@ element-member-requires g t c κs within =
     ((let small = low_smaller c.args.label.now in omega (arith, small, c.decreases)), (within, (c.requires.suits, (c.requires.withs, (c.requires.base, (low_read c.args.site.now.texts.now.names (expr_view (out-Label c.args.label.now).low) (option_map expr_view (out-Label c.args.label.now).high) (label_read c.args.site.now.texts.now.names c.args.label.now c.requires.read)))))))
 
 pub element-returns-in-DontKnowYet : goal.element-returns-in-DontKnowYet
-element-returns-in-DontKnowYet g t c =
-    unknown (rw c.in-DontKnowYet.is at c.in-Ok.ensures)
+element-returns-in-DontKnowYet g t c = unknown (rw c.in-DontKnowYet.is at c.in-Ok.ensures)
 
 pub element-returns-in-Err : goal.element-returns-in-Err
-element-returns-in-Err g t c =
-    unmade c.in-Err.ensures _
+element-returns-in-Err g t c = unmade c.in-Err.ensures _
 
 pub element-add_element-requires-clause-suits : goal.element-add_element-requires-clause-suits
-element-add_element-requires-clause-suits g t c =
-    suits_after (rw c.in-Known.is at c.in-Ok.ensures) c.requires.suits
+element-add_element-requires-clause-suits g t c = suits_after (rw c.in-Known.is at c.in-Ok.ensures) c.requires.suits
 
 pub element-add_element-requires-clause-es : goal.element-add_element-requires-clause-es
-element-add_element-requires-clause-es g t c =
-    elements_after (rw c.in-Known.is at c.in-Ok.ensures) c.args.es c.requires.es
+element-add_element-requires-clause-es g t c = elements_after (rw c.in-Known.is at c.in-Ok.ensures) c.args.es c.requires.es
 
 pub element-add_element-requires-clause-x : goal.element-add_element-requires-clause-x
-element-add_element-requires-clause-x g t c =
-    stands_after (rw c.in-Known.is at c.in-Ok.ensures)
+element-add_element-requires-clause-x g t c = stands_after (rw c.in-Known.is at c.in-Ok.ensures)
 
 pub element-range_to-requires : goal.element-range_to-requires
 element-range_to-requires g t c κs within =
@@ -274,32 +244,25 @@ element-returns-in-Some g t c =
     ∙ ap (element k (with_types c.args.withs.now) c.args.base es) (sym (label_seen c.args.label.now ∙ ap (λ h. label_with (expr_view (out-Label c.args.label.now).low) (option_map expr_view h)) c.in-Some.is)))
 
 pub range_to-member-requires : goal.range_to-member-requires
-range_to-member-requires g t c κs within =
-    (search rules, (within, (c.requires.suits, (c.requires.withs, (c.requires.base, (c.requires.read))))))
+range_to-member-requires g t c κs within = (search rules, (within, (c.requires.suits, (c.requires.withs, (c.requires.base, (c.requires.read))))))
 
 pub range_to-returns-in-DontKnowYet : goal.range_to-returns-in-DontKnowYet
-range_to-returns-in-DontKnowYet g t c =
-    unknown (rw c.in-DontKnowYet.is at c.in-Ok.ensures)
+range_to-returns-in-DontKnowYet g t c = unknown (rw c.in-DontKnowYet.is at c.in-Ok.ensures)
 
 pub range_to-returns-in-Err : goal.range_to-returns-in-Err
-range_to-returns-in-Err g t c =
-    unmade c.in-Err.ensures _
+range_to-returns-in-Err g t c = unmade c.in-Err.ensures _
 
 pub range_to-add_range-requires-clause-suits : goal.range_to-add_range-requires-clause-suits
-range_to-add_range-requires-clause-suits g t c =
-    suits_after (rw c.in-Known.is at c.in-Ok.ensures) c.requires.suits
+range_to-add_range-requires-clause-suits g t c = suits_after (rw c.in-Known.is at c.in-Ok.ensures) c.requires.suits
 
 pub range_to-add_range-requires-clause-es : goal.range_to-add_range-requires-clause-es
-range_to-add_range-requires-clause-es g t c =
-    elements_after (rw c.in-Known.is at c.in-Ok.ensures) c.args.es c.requires.es
+range_to-add_range-requires-clause-es g t c = elements_after (rw c.in-Known.is at c.in-Ok.ensures) c.args.es c.requires.es
 
 pub range_to-add_range-requires-clause-x : goal.range_to-add_range-requires-clause-x
-range_to-add_range-requires-clause-x g t c =
-    coded_after (rw c.in-Known.is at c.in-Ok.ensures) c.args.low c.requires.low
+range_to-add_range-requires-clause-x g t c = coded_after (rw c.in-Known.is at c.in-Ok.ensures) c.args.low c.requires.low
 
 pub range_to-add_range-requires-clause-y : goal.range_to-add_range-requires-clause-y
-range_to-add_range-requires-clause-y g t c =
-    stands_after (rw c.in-Known.is at c.in-Ok.ensures)
+range_to-add_range-requires-clause-y g t c = stands_after (rw c.in-Known.is at c.in-Ok.ensures)
 
 pub range_to-returns : goal.range_to-returns
 range_to-returns g t c =
@@ -313,16 +276,13 @@ range_to-returns g t c =
     ∙ ap (λ (l : code.Coded). gives (add_range k es l high)) (coded_later one.grows c.args.low c.requires.low)))
 
 pub designated-name_coded-requires-clause-named : goal.designated-name_coded-requires-clause-named
-designated-name_coded-requires-clause-named g t c =
-    (designator_read c.args.site.now.texts.now.names c.args.of.now c.requires.read).0
+designated-name_coded-requires-clause-named g t c = (designator_read c.args.site.now.texts.now.names c.args.of.now c.requires.read).0
 
 pub designated-returns-in-DontKnowYet : goal.designated-returns-in-DontKnowYet
-designated-returns-in-DontKnowYet g t c =
-    unknown (rw c.in-DontKnowYet.is at c.in-Ok.ensures)
+designated-returns-in-DontKnowYet g t c = unknown (rw c.in-DontKnowYet.is at c.in-Ok.ensures)
 
 pub designated-returns-in-Err : goal.designated-returns-in-Err
-designated-returns-in-Err g t c =
-    unmade c.in-Err.ensures _
+designated-returns-in-Err g t c = unmade c.in-Err.ensures _
 
 pub designated-selected-requires : goal.designated-selected-requires
 designated-selected-requires g t c κs within =
@@ -367,12 +327,10 @@ continued-loop-next-preserved g t c =
     one_more (λ k o i. followed k (with_types c.args.withs.now) c.args.left.at o (next_view i)) (coded_in c.args.fragments.now.nodes.items c.args.left.coded) c.args.rest.now c.loop-next.next-index c.next-item.result c.loop-next-test.true c.next-item.is c.loop-next.invariant (rw c.in-Known.is at c.in-Ok.ensures)
 
 pub continued-returns-in-DontKnowYet : goal.continued-returns-in-DontKnowYet
-continued-returns-in-DontKnowYet g t c =
-    unknown_after c.loop-next.invariant (rw c.in-DontKnowYet.is at c.in-Ok.ensures)
+continued-returns-in-DontKnowYet g t c = unknown_after c.loop-next.invariant (rw c.in-DontKnowYet.is at c.in-Ok.ensures)
 
 pub continued-returns-in-Err : goal.continued-returns-in-Err
-continued-returns-in-Err g t c =
-    unmade_after c.loop-next.invariant c.in-Err.ensures _
+continued-returns-in-Err g t c = unmade_after c.loop-next.invariant c.in-Err.ensures _
 
 pub continued-returns : goal.continued-returns
 continued-returns g t c =
@@ -391,12 +349,10 @@ elements-loop-label-preserved g t c =
     one_more (λ k o i. element k (with_types c.args.withs.now) c.args.base o (label_view i)) (elements_in c.args.fragments.now.nodes.items c.args.es) c.args.items.now c.loop-label.label-index c.label-item.result c.loop-label-test.true c.label-item.is c.loop-label.invariant (rw c.in-Known.is at c.in-Ok.ensures)
 
 pub elements-returns-in-DontKnowYet : goal.elements-returns-in-DontKnowYet
-elements-returns-in-DontKnowYet g t c =
-    unknown_after c.loop-label.invariant (rw c.in-DontKnowYet.is at c.in-Ok.ensures)
+elements-returns-in-DontKnowYet g t c = unknown_after c.loop-label.invariant (rw c.in-DontKnowYet.is at c.in-Ok.ensures)
 
 pub elements-returns-in-Err : goal.elements-returns-in-Err
-elements-returns-in-Err g t c =
-    unmade_after c.loop-label.invariant c.in-Err.ensures _
+elements-returns-in-Err g t c = unmade_after c.loop-label.invariant c.in-Err.ensures _
 
 pub elements-returns : goal.elements-returns
 elements-returns g t c =
@@ -415,12 +371,10 @@ selected-loop-selector-preserved g t c =
     one_more (λ k o i. selector k (with_types c.args.withs.now) c.args.first o (selector_view i)) (coded_in c.args.fragments.now.nodes.items c.args.x) c.args.rest.now c.loop-selector.selector-index c.selector-item.result c.loop-selector-test.true c.selector-item.is c.loop-selector.invariant (rw c.in-Known.is at c.in-Ok.ensures)
 
 pub selected-returns-in-DontKnowYet : goal.selected-returns-in-DontKnowYet
-selected-returns-in-DontKnowYet g t c =
-    unknown_after c.loop-selector.invariant (rw c.in-DontKnowYet.is at c.in-Ok.ensures)
+selected-returns-in-DontKnowYet g t c = unknown_after c.loop-selector.invariant (rw c.in-DontKnowYet.is at c.in-Ok.ensures)
 
 pub selected-returns-in-Err : goal.selected-returns-in-Err
-selected-returns-in-Err g t c =
-    unmade_after c.loop-selector.invariant c.in-Err.ensures _
+selected-returns-in-Err g t c = unmade_after c.loop-selector.invariant c.in-Err.ensures _
 
 pub selected-returns : goal.selected-returns
 selected-returns g t c =
@@ -439,12 +393,10 @@ indexed-loop-e-preserved g t c =
     one_more (λ k o i. index k (with_types c.args.withs.now) c.args.first c.args.at o (expr_view i)) (coded_in c.args.fragments.now.nodes.items c.args.x) c.args.es.now c.loop-e.e-index c.e-item.result c.loop-e-test.true c.e-item.is c.loop-e.invariant (rw c.in-Known.is at c.in-Ok.ensures)
 
 pub indexed-returns-in-DontKnowYet : goal.indexed-returns-in-DontKnowYet
-indexed-returns-in-DontKnowYet g t c =
-    unknown_after c.loop-e.invariant (rw c.in-DontKnowYet.is at c.in-Ok.ensures)
+indexed-returns-in-DontKnowYet g t c = unknown_after c.loop-e.invariant (rw c.in-DontKnowYet.is at c.in-Ok.ensures)
 
 pub indexed-returns-in-Err : goal.indexed-returns-in-Err
-indexed-returns-in-Err g t c =
-    unmade_after c.loop-e.invariant c.in-Err.ensures _
+indexed-returns-in-Err g t c = unmade_after c.loop-e.invariant c.in-Err.ensures _
 
 pub indexed-returns : goal.indexed-returns
 indexed-returns g t c =
@@ -487,12 +439,10 @@ expression-set_type-requires g t c κs within =
     ((let small = set_type_smaller c.args.e.now c.in-Set.of c.in-Set.items c.in-Some.name c.in-Set.is c.in-Some.is in omega (arith, small, c.decreases)), (within, (c.requires.suits, (c.requires.withs, ((form_read c.args.site.now.texts.now.names c.args.e.now (Set (Some c.in-Some.name) c.in-Set.items) _ (c.in-Set.is ∙ ap (λ o. Set o c.in-Set.items) c.in-Some.is) (typed_set_seen c.in-Some.name c.in-Set.items) c.requires.read).0)))))
 
 pub expression-returns-in-DontKnowYet : goal.expression-returns-in-DontKnowYet
-expression-returns-in-DontKnowYet g t c =
-    unknown (rw c.in-DontKnowYet.is at c.in-Ok.ensures)
+expression-returns-in-DontKnowYet g t c = unknown (rw c.in-DontKnowYet.is at c.in-Ok.ensures)
 
 pub expression-returns-in-Err : goal.expression-returns-in-Err
-expression-returns-in-Err g t c =
-    unmade c.in-Err.ensures _
+expression-returns-in-Err g t c = unmade c.in-Err.ensures _
 
 pub expression-set_of-requires-in-Some : goal.expression-set_of-requires-in-Some
 expression-set_of-requires-in-Some g t c κs within =
@@ -518,20 +468,16 @@ expression-value_of-requires g t c κs within =
     ((let small = one_smaller c.args.e.now c.in-One.op c.in-One.op_at c.in-One.of c.in-One.is in let same = ap size-Expr c.deref-in-One.ensures in omega (arith, small, same, c.decreases)), (within, (c.requires.suits, (c.requires.withs, (rw c.deref-in-One.ensures (form_read c.args.site.now.texts.now.names c.args.e.now _ _ c.in-One.is (one_seen c.in-One.op c.in-One.op_at c.in-One.of) c.requires.read))))))
 
 pub expression-returns-in-DontKnowYet-asked-2 : goal.expression-returns-in-DontKnowYet-asked-2
-expression-returns-in-DontKnowYet-asked-2 g t c =
-    unknown (rw c.in-DontKnowYet-asked-2.is at c.in-Ok-value_of.ensures)
+expression-returns-in-DontKnowYet-asked-2 g t c = unknown (rw c.in-DontKnowYet-asked-2.is at c.in-Ok-value_of.ensures)
 
 pub expression-returns-in-Err-value_of : goal.expression-returns-in-Err-value_of
-expression-returns-in-Err-value_of g t c =
-    unmade c.in-Err-value_of.ensures _
+expression-returns-in-Err-value_of g t c = unmade c.in-Err-value_of.ensures _
 
 pub expression-one_coded-requires-clause-suits : goal.expression-one_coded-requires-clause-suits
-expression-one_coded-requires-clause-suits g t c =
-    suits_after (rw c.in-Known-asked-2.is at c.in-Ok-value_of.ensures) c.requires.suits
+expression-one_coded-requires-clause-suits g t c = suits_after (rw c.in-Known-asked-2.is at c.in-Ok-value_of.ensures) c.requires.suits
 
 pub expression-one_coded-requires-clause-x : goal.expression-one_coded-requires-clause-x
-expression-one_coded-requires-clause-x g t c =
-    stands_after (rw c.in-Known-asked-2.is at c.in-Ok-value_of.ensures)
+expression-one_coded-requires-clause-x g t c = stands_after (rw c.in-Known-asked-2.is at c.in-Ok-value_of.ensures)
 
 pub expression-returns-in-Known-asked-2 : goal.expression-returns-in-Known-asked-2
 expression-returns-in-Known-asked-2 g t c =
@@ -543,12 +489,10 @@ expression-value_of-requires-in-Many g t c κs within =
     ((let small = first_smaller c.args.e.now c.in-Many.first c.in-Many.rest c.in-Many.is in let same = ap size-Expr c.deref-in-Many.ensures in omega (arith, small, same, c.decreases)), (within, (c.requires.suits, (c.requires.withs, (rw c.deref-in-Many.ensures (form_read c.args.site.now.texts.now.names c.args.e.now _ _ c.in-Many.is (many_seen c.in-Many.first c.in-Many.rest) c.requires.read).0)))))
 
 pub expression-returns-in-DontKnowYet-asked-3 : goal.expression-returns-in-DontKnowYet-asked-3
-expression-returns-in-DontKnowYet-asked-3 g t c =
-    unknown (rw c.in-DontKnowYet-asked-3.is at c.in-Ok-value_of-2.ensures)
+expression-returns-in-DontKnowYet-asked-3 g t c = unknown (rw c.in-DontKnowYet-asked-3.is at c.in-Ok-value_of-2.ensures)
 
 pub expression-returns-in-Err-value_of-2 : goal.expression-returns-in-Err-value_of-2
-expression-returns-in-Err-value_of-2 g t c =
-    unmade c.in-Err-value_of-2.ensures _
+expression-returns-in-Err-value_of-2 g t c = unmade c.in-Err-value_of-2.ensures _
 
 pub expression-continued-requires : goal.expression-continued-requires
 expression-continued-requires g t c κs within =
@@ -562,24 +506,19 @@ expression-returns-in-Known-asked-3 g t c =
     (λ k. ap (λ (at : ℕ). and_then (value k (with_types c.args.withs.now) (expr_view first)) (λ x. continued k (with_types c.args.withs.now) at x rest)) (sym (at_seen first)) ∙ many_given k (with_types c.args.withs.now) (expr_view first) rest ∙ form_given k (with_types c.args.withs.now) c.args.e.now _ _ c.in-Many.is (many_seen c.in-Many.first c.in-Many.rest))
 
 pub first_argument-expression-requires : goal.first_argument-expression-requires
-first_argument-expression-requires g t c κs within =
-    (search rules, (within, (c.requires.suits, (c.requires.withs, (c.requires.read)))))
+first_argument-expression-requires g t c κs within = (search rules, (within, (c.requires.suits, (c.requires.withs, (c.requires.read)))))
 
 pub first_argument-returns-in-DontKnowYet : goal.first_argument-returns-in-DontKnowYet
-first_argument-returns-in-DontKnowYet g t c =
-    unknown (rw c.in-DontKnowYet.is at c.in-Ok.ensures)
+first_argument-returns-in-DontKnowYet g t c = unknown (rw c.in-DontKnowYet.is at c.in-Ok.ensures)
 
 pub first_argument-returns-in-Err : goal.first_argument-returns-in-Err
-first_argument-returns-in-Err g t c =
-    unmade c.in-Err.ensures _
+first_argument-returns-in-Err g t c = unmade c.in-Err.ensures _
 
 pub first_argument-first_of_two-requires-clause-suits : goal.first_argument-first_of_two-requires-clause-suits
-first_argument-first_of_two-requires-clause-suits g t c =
-    suits_after (rw c.in-Known.is at c.in-Ok.ensures) c.requires.suits
+first_argument-first_of_two-requires-clause-suits g t c = suits_after (rw c.in-Known.is at c.in-Ok.ensures) c.requires.suits
 
 pub first_argument-first_of_two-requires-clause-x : goal.first_argument-first_of_two-requires-clause-x
-first_argument-first_of_two-requires-clause-x g t c =
-    stands_after (rw c.in-Known.is at c.in-Ok.ensures)
+first_argument-first_of_two-requires-clause-x g t c = stands_after (rw c.in-Known.is at c.in-Ok.ensures)
 
 pub first_argument-returns : goal.first_argument-returns
 first_argument-returns g t c =
@@ -588,28 +527,22 @@ first_argument-returns g t c =
     (λ k. ap (λ (at : ℕ). and_then (expression k (with_types c.args.withs.now) (expr_view e)) (λ x. first_of_two k c.args.f at x)) (sym (at_seen e)))
 
 pub second_argument-expression-requires : goal.second_argument-expression-requires
-second_argument-expression-requires g t c κs within =
-    (search rules, (within, (c.requires.suits, (c.requires.withs, (c.requires.read)))))
+second_argument-expression-requires g t c κs within = (search rules, (within, (c.requires.suits, (c.requires.withs, (c.requires.read)))))
 
 pub second_argument-returns-in-DontKnowYet : goal.second_argument-returns-in-DontKnowYet
-second_argument-returns-in-DontKnowYet g t c =
-    unknown (rw c.in-DontKnowYet.is at c.in-Ok.ensures)
+second_argument-returns-in-DontKnowYet g t c = unknown (rw c.in-DontKnowYet.is at c.in-Ok.ensures)
 
 pub second_argument-returns-in-Err : goal.second_argument-returns-in-Err
-second_argument-returns-in-Err g t c =
-    unmade c.in-Err.ensures _
+second_argument-returns-in-Err g t c = unmade c.in-Err.ensures _
 
 pub second_argument-of_two_arguments-requires-clause-suits : goal.second_argument-of_two_arguments-requires-clause-suits
-second_argument-of_two_arguments-requires-clause-suits g t c =
-    suits_after (rw c.in-Known.is at c.in-Ok.ensures) c.requires.suits
+second_argument-of_two_arguments-requires-clause-suits g t c = suits_after (rw c.in-Known.is at c.in-Ok.ensures) c.requires.suits
 
 pub second_argument-of_two_arguments-requires-clause-x : goal.second_argument-of_two_arguments-requires-clause-x
-second_argument-of_two_arguments-requires-clause-x g t c =
-    coded_after (rw c.in-Known.is at c.in-Ok.ensures) c.args.first.coded c.requires.first
+second_argument-of_two_arguments-requires-clause-x g t c = coded_after (rw c.in-Known.is at c.in-Ok.ensures) c.args.first.coded c.requires.first
 
 pub second_argument-of_two_arguments-requires-clause-y : goal.second_argument-of_two_arguments-requires-clause-y
-second_argument-of_two_arguments-requires-clause-y g t c =
-    stands_after (rw c.in-Known.is at c.in-Ok.ensures)
+second_argument-of_two_arguments-requires-clause-y g t c = stands_after (rw c.in-Known.is at c.in-Ok.ensures)
 
 pub second_argument-returns : goal.second_argument-returns
 second_argument-returns g t c =
@@ -626,20 +559,16 @@ standard-expression-requires g t c κs within =
     ((let small = item_small size-Expr c.args.args.now 0 c.e-item.result (omega (arith, c.in-len1.len_at_least)) c.e-item.is in omega (arith, small, c.decreases)), (within, (c.requires.suits, (c.requires.withs, (read_expr c.args.site.now.texts.now.names expr_view c.args.args.now 0 c.e-item.result (omega (arith, c.in-len1.len_at_least)) c.e-item.is c.requires.read)))))
 
 pub standard-returns-in-DontKnowYet : goal.standard-returns-in-DontKnowYet
-standard-returns-in-DontKnowYet g t c =
-    unknown (rw c.in-DontKnowYet.is at c.in-Ok.ensures)
+standard-returns-in-DontKnowYet g t c = unknown (rw c.in-DontKnowYet.is at c.in-Ok.ensures)
 
 pub standard-returns-in-Err : goal.standard-returns-in-Err
-standard-returns-in-Err g t c =
-    unmade c.in-Err.ensures _
+standard-returns-in-Err g t c = unmade c.in-Err.ensures _
 
 pub standard-of_one_argument-requires-clause-suits : goal.standard-of_one_argument-requires-clause-suits
-standard-of_one_argument-requires-clause-suits g t c =
-    suits_after (rw c.in-Known.is at c.in-Ok.ensures) c.requires.suits
+standard-of_one_argument-requires-clause-suits g t c = suits_after (rw c.in-Known.is at c.in-Ok.ensures) c.requires.suits
 
 pub standard-of_one_argument-requires-clause-x : goal.standard-of_one_argument-requires-clause-x
-standard-of_one_argument-requires-clause-x g t c =
-    stands_after (rw c.in-Known.is at c.in-Ok.ensures)
+standard-of_one_argument-requires-clause-x g t c = stands_after (rw c.in-Known.is at c.in-Ok.ensures)
 
 pub standard-returns-in-empty : goal.standard-returns-in-empty
 standard-returns-in-empty g t c =
@@ -657,12 +586,10 @@ standard-first_argument-requires g t c κs within =
     ((let small = item_small size-Expr c.args.args.now 0 c.e-item-2.result (omega (arith, c.in-len2-up.len_at_least)) c.e-item-2.is in omega (arith, small, c.decreases)), (within, (c.requires.suits, (c.requires.withs, (read_expr c.args.site.now.texts.now.names expr_view c.args.args.now 0 c.e-item-2.result (omega (arith, c.in-len2-up.len_at_least)) c.e-item-2.is c.requires.read)))))
 
 pub standard-returns-in-DontKnowYet-asked : goal.standard-returns-in-DontKnowYet-asked
-standard-returns-in-DontKnowYet-asked g t c =
-    unknown (rw c.in-DontKnowYet-asked.is at c.in-Ok-first_argument.ensures)
+standard-returns-in-DontKnowYet-asked g t c = unknown (rw c.in-DontKnowYet-asked.is at c.in-Ok-first_argument.ensures)
 
 pub standard-returns-in-Err-first_argument : goal.standard-returns-in-Err-first_argument
-standard-returns-in-Err-first_argument g t c =
-    unmade c.in-Err-first_argument.ensures _
+standard-returns-in-Err-first_argument g t c = unmade c.in-Err-first_argument.ensures _
 
 pub standard-second_argument-requires : goal.standard-second_argument-requires
 standard-second_argument-requires g t c κs within =
@@ -690,12 +617,10 @@ looked_at-loop-e-preserved g t c =
     (coding_after (λ k. expression k (with_types c.args.withs.now) (expr_view c.e-item.result)) (λ x k. gives in_error) (Ok (Known true)) (rw c.in-Known.is at c.in-Ok.ensures) (value_alone (g.S.Scopes.state c.expression.new.scopes) c.expression.new.notes c.expression.new.fragments.nodes.items c.args.site.now true NoMatter error_in (λ k. in_error) tt (λ k. refl)))
 
 pub looked_at-returns-in-DontKnowYet : goal.looked_at-returns-in-DontKnowYet
-looked_at-returns-in-DontKnowYet g t c =
-    unknown_after c.loop-e.invariant (rw c.in-DontKnowYet.is at c.in-Ok.ensures)
+looked_at-returns-in-DontKnowYet g t c = unknown_after c.loop-e.invariant (rw c.in-DontKnowYet.is at c.in-Ok.ensures)
 
 pub looked_at-returns-in-Err : goal.looked_at-returns-in-Err
-looked_at-returns-in-Err g t c =
-    unmade_after c.loop-e.invariant c.in-Err.ensures _
+looked_at-returns-in-Err g t c = unmade_after c.loop-e.invariant c.in-Err.ensures _
 
 pub looked_at-returns : goal.looked_at-returns
 looked_at-returns g t c =
@@ -719,12 +644,10 @@ passed-loop-e-preserved g t c =
     (behind_there _ c.loop-e.left.now left c.behind_first-left.ensures (params_after one c.loop-e.left.now (stands_after c.loop-e.invariant).0), stands_after one) (λ k. behind_in left c.loop-e.left.now _ c.behind_first-left.ensures)))
 
 pub passed-returns-in-DontKnowYet : goal.passed-returns-in-DontKnowYet
-passed-returns-in-DontKnowYet g t c =
-    unknown_after c.loop-e.invariant (rw c.in-DontKnowYet.is at c.in-Ok.ensures)
+passed-returns-in-DontKnowYet g t c = unknown_after c.loop-e.invariant (rw c.in-DontKnowYet.is at c.in-Ok.ensures)
 
 pub passed-returns-in-Err : goal.passed-returns-in-Err
-passed-returns-in-Err g t c =
-    unmade_after c.loop-e.invariant c.in-Err.ensures _
+passed-returns-in-Err g t c = unmade_after c.loop-e.invariant c.in-Err.ensures _
 
 pub passed-returns : goal.passed-returns
 passed-returns g t c =
@@ -739,24 +662,19 @@ procedure-passed-requires g t c κs within =
     (search rules, (within, (c.requires.suits, (c.requires.withs, (rw c.deref.ensures.value c.requires.callee.params, (c.requires.read))))))
 
 pub procedure-returns-in-DontKnowYet : goal.procedure-returns-in-DontKnowYet
-procedure-returns-in-DontKnowYet g t c =
-    unknown (rw c.in-DontKnowYet.is at c.in-Ok.ensures)
+procedure-returns-in-DontKnowYet g t c = unknown (rw c.in-DontKnowYet.is at c.in-Ok.ensures)
 
 pub procedure-returns-in-Err : goal.procedure-returns-in-Err
-procedure-returns-in-Err g t c =
-    unmade c.in-Err.ensures _
+procedure-returns-in-Err g t c = unmade c.in-Err.ensures _
 
 pub procedure-call_coded-requires-clause-suits : goal.procedure-call_coded-requires-clause-suits
-procedure-call_coded-requires-clause-suits g t c =
-    suits_after (rw c.in-Known.is at c.in-Ok.ensures) c.requires.suits
+procedure-call_coded-requires-clause-suits g t c = suits_after (rw c.in-Known.is at c.in-Ok.ensures) c.requires.suits
 
 pub procedure-call_coded-requires-clause-callee : goal.procedure-call_coded-requires-clause-callee
-procedure-call_coded-requires-clause-callee g t c =
-    callee_after (rw c.in-Known.is at c.in-Ok.ensures) c.args.callee.now c.requires.callee
+procedure-call_coded-requires-clause-callee g t c = callee_after (rw c.in-Known.is at c.in-Ok.ensures) c.args.callee.now c.requires.callee
 
 pub procedure-call_coded-requires-clause-args : goal.procedure-call_coded-requires-clause-args
-procedure-call_coded-requires-clause-args g t c =
-    stands_after (rw c.in-Known.is at c.in-Ok.ensures)
+procedure-call_coded-requires-clause-args g t c = stands_after (rw c.in-Known.is at c.in-Ok.ensures)
 
 pub procedure-returns : goal.procedure-returns
 procedure-returns g t c =
@@ -767,16 +685,14 @@ procedure-returns g t c =
     (described c.call_coded.result (c.call_coded.ensures c.passed.new.notes) (λ k. ap (λ (before : Part). gives (call_coded k.scene (map parameter_view p.params.items) before p.instr p.result p.more (argument_in ms c.in-Known.value))) (part_later one.grows p.before c.requires.callee.before)))
 
 pub called_as-standard-requires : goal.called_as-standard-requires
-called_as-standard-requires g t c κs within =
-    (search rules, (within, (c.requires.suits, (c.requires.withs, (c.requires.read)))))
+called_as-standard-requires g t c κs within = (search rules, (within, (c.requires.suits, (c.requires.withs, (c.requires.read)))))
 
 pub called_as-procedure-requires : goal.called_as-procedure-requires
 called_as-procedure-requires g t c κs within =
     (search rules, (within, (c.requires.suits, (c.requires.withs, (rw c.in-Procedure.is at c.requires.what, (c.requires.read))))))
 
 pub called_as-looked_at-requires : goal.called_as-looked_at-requires
-called_as-looked_at-requires g t c κs within =
-    (search rules, (within, (c.requires.suits, (c.requires.withs, (c.requires.read)))))
+called_as-looked_at-requires g t c κs within = (search rules, (within, (c.requires.suits, (c.requires.withs, (c.requires.read)))))
 
 pub called_as-returns-in-Standard : goal.called_as-returns-in-Standard
 called_as-returns-in-Standard g t c =
@@ -791,12 +707,10 @@ called_as-returns-in-Nothing g t c =
     described c.looked_at.result c.looked_at.ensures (λ k. ap (λ (w : Callable). called_as k (with_types c.args.withs.now) (exprs (map expr_view c.args.args.now)) (called_in c.args.fragments.now.nodes.items w)) (sym c.in-Nothing.is))
 
 pub called_with-returns-in-DontKnowYet : goal.called_with-returns-in-DontKnowYet
-called_with-returns-in-DontKnowYet g t c =
-    unknown (rw c.in-DontKnowYet.is at c.in-Ok.ensures)
+called_with-returns-in-DontKnowYet g t c = unknown (rw c.in-DontKnowYet.is at c.in-Ok.ensures)
 
 pub called_with-returns-in-Err : goal.called_with-returns-in-Err
-called_with-returns-in-Err g t c =
-    unmade c.in-Err.ensures _
+called_with-returns-in-Err g t c = unmade c.in-Err.ensures _
 
 pub called_with-called_as-requires : goal.called_with-called_as-requires
 called_with-called_as-requires g t c κs within =
@@ -813,12 +727,10 @@ expression-designated-requires-in-Call g t c κs within =
     ((let small = called_smaller c.args.e.now c.in-Call.to c.in-Call.args c.in-Call.is in omega (arith, small, c.decreases)), (within, (c.requires.suits, (c.requires.withs, ((form_read c.args.site.now.texts.now.names c.args.e.now _ _ c.in-Call.is (call_seen c.in-Call.to c.in-Call.args) c.requires.read).0)))))
 
 pub expression-returns-in-DontKnowYet-asked : goal.expression-returns-in-DontKnowYet-asked
-expression-returns-in-DontKnowYet-asked g t c =
-    unknown (rw c.in-DontKnowYet-asked.is at c.in-Ok-designated.ensures)
+expression-returns-in-DontKnowYet-asked g t c = unknown (rw c.in-DontKnowYet-asked.is at c.in-Ok-designated.ensures)
 
 pub expression-returns-in-Err-designated : goal.expression-returns-in-Err-designated
-expression-returns-in-Err-designated g t c =
-    unmade c.in-Err-designated.ensures _
+expression-returns-in-Err-designated g t c = unmade c.in-Err-designated.ensures _
 
 pub expression-called_with-requires : goal.expression-called_with-requires
 expression-called_with-requires g t c κs within =
@@ -838,36 +750,29 @@ next_passed-returns-in-None g t c =
     (λ k. none_passed k (with_types c.args.withs.now) c.args.params.now (argument_in ns c.args.code) (expr_view c.args.e.now) (rw c.in-None.is at c.first.ensures.value))
 
 pub next_passed-expression-requires : goal.next_passed-expression-requires
-next_passed-expression-requires g t c κs within =
-    (search rules, (within, (c.requires.suits, (c.requires.withs, (c.requires.read)))))
+next_passed-expression-requires g t c κs within = (search rules, (within, (c.requires.suits, (c.requires.withs, (c.requires.read)))))
 
 pub next_passed-returns-in-DontKnowYet : goal.next_passed-returns-in-DontKnowYet
-next_passed-returns-in-DontKnowYet g t c =
-    unknown (rw c.in-DontKnowYet.is at c.in-Ok.ensures)
+next_passed-returns-in-DontKnowYet g t c = unknown (rw c.in-DontKnowYet.is at c.in-Ok.ensures)
 
 pub next_passed-returns-in-Err : goal.next_passed-returns-in-Err
-next_passed-returns-in-Err g t c =
-    unmade c.in-Err.ensures _
+next_passed-returns-in-Err g t c = unmade c.in-Err.ensures _
 
 pub next_passed-argument-requires-clause-suits : goal.next_passed-argument-requires-clause-suits
-next_passed-argument-requires-clause-suits g t c =
-    suits_after (rw c.in-Known.is at c.in-Ok.ensures) c.requires.suits
+next_passed-argument-requires-clause-suits g t c = suits_after (rw c.in-Known.is at c.in-Ok.ensures) c.requires.suits
 
 pub next_passed-argument-requires-clause-p : goal.next_passed-argument-requires-clause-p
 next_passed-argument-requires-clause-p g t c =
     there_after (rw c.in-Known.is at c.in-Ok.ensures) c.in-Some.p.now.of (first_there _ c.args.params.now c.in-Some.p.now (rw c.in-Some.is at c.first.ensures.value) c.requires.params)
 
 pub next_passed-argument-requires-clause-x : goal.next_passed-argument-requires-clause-x
-next_passed-argument-requires-clause-x g t c =
-    stands_after (rw c.in-Known.is at c.in-Ok.ensures)
+next_passed-argument-requires-clause-x g t c = stands_after (rw c.in-Known.is at c.in-Ok.ensures)
 
 pub next_passed-returns-in-DontKnowYet-asked : goal.next_passed-returns-in-DontKnowYet-asked
-next_passed-returns-in-DontKnowYet-asked g t c =
-    unknown_after (rw c.in-Known.is at c.in-Ok.ensures) (rw c.in-DontKnowYet-asked.is at c.in-Ok-argument.ensures)
+next_passed-returns-in-DontKnowYet-asked g t c = unknown_after (rw c.in-Known.is at c.in-Ok.ensures) (rw c.in-DontKnowYet-asked.is at c.in-Ok-argument.ensures)
 
 pub next_passed-returns-in-Err-argument : goal.next_passed-returns-in-Err-argument
-next_passed-returns-in-Err-argument g t c =
-    unmade_after (rw c.in-Known.is at c.in-Ok.ensures) c.in-Err-argument.ensures _
+next_passed-returns-in-Err-argument g t c = unmade_after (rw c.in-Known.is at c.in-Ok.ensures) c.in-Err-argument.ensures _
 
 pub next_passed-returns-in-Known-asked : goal.next_passed-returns-in-Known-asked
 next_passed-returns-in-Known-asked g t c =

@@ -1,7 +1,6 @@
-use Rattle.std.proofs.Common.{◌≡◌, Ok, ap, refl, subst, sym}
+use Rattle.std.proofs.Common.{ap, subst, sym}
 use Rattle.m2_base.specs.Gives.{gives}
 use Rattle.m2_base.specs.States.{Frame}
-use Rattle.m2_base.specs.declared.replies.Ask.TheVariants.{Known}
 use Rattle.const_eval.specs.Sites.{IsOperand}
 use Rattle.type_rules.specs.Scenes.{IsThere}
 use Rattle.type_rules.specs.Sites.{SuitsSite}
@@ -11,7 +10,7 @@ use Rattle.expr_sem.specs.Fitting.{fit_of as spec_fit_of}
 use Rattle.expr_sem.specs.Fragments.{part}
 use Rattle.expr_sem.specs.Parts.{Part, ◌⨟◌}
 use Rattle.expr_sem.proofs.Making.{made_told}
-use Rattle.expr_sem.proofs.Operating.{coding_after, described, unknown, unknown_after, unmade, unmade_after}
+use Rattle.expr_sem.proofs.Operating.{coding_after, unknown, unknown_after, unmade, unmade_after}
 use Rattle.expr_sem.proofs.Quiet.{no_notes}
 use Rattle.expr_sem.proofs.Sequencing.{part_later}
 use Rattle.type_rules.proofs.Reading.{Reads-refl}

@@ -1,4 +1,4 @@
-use Rattle.std.proofs.Common.{◌∙◌, ◌+◌, ◌∷◌, [], ◌++◌, List, ap, map, subst, sym}
+use Rattle.std.proofs.Common.{◌∙◌, ◌∷◌, [], ◌++◌, List, ap, map, subst, sym}
 use Rattle.m2_base.specs.States.{Frame}
 use Rattle.m2_base.specs.Statics.TypeParts as parts
 use Rattle.type_rules.specs.Forms.{parameters_from}

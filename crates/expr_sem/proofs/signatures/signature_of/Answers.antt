@@ -1,6 +1,5 @@
 use Rattle.std.proofs.Common.{◌∙◌, sym}
 use Rattle.type_rules.specs.Scenes.{scene_of}
-use Rattle.expr_sem.specs.Parts.{none}
 use Rattle.m2_base.specs.Statics.Types.{kind_of, stands_for}
 use Rattle.expr_sem.proofs.CallCases.{no_parameters, no_result, signature_told}
 use Rattle.expr_sem.proofs.signatures.signature_of.Goals as goal

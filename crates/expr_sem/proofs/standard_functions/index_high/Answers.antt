@@ -1,4 +1,4 @@
-use Rattle.std.proofs.Common.{◌∙◌, ◌∷◌, [], ap, ℤ}
+use Rattle.std.proofs.Common.{◌∙◌, ◌∷◌, [], ap}
 use Rattle.code_form.specs.declared.instr.Instr.TheVariants.{Push}
 use Rattle.expr_sem.specs.Parts.{plain}
 use Rattle.expr_sem.specs.StandardFunctions.{high_of_range}
