@@ -1,16 +1,15 @@
 -- A further node behind others: what it stands for, and that all stay sound.
-use Rattle.std.proofs.Common.{◌≡◌, ◌∙◌, ◌++◌, ◌∷◌, ◌⊎◌, inl, inr, [], ℕ, zero, suc, ◌+◌, ◌<◌, ◌≤◌, List, length, Some, Ok, ap, sym, subst, refl, arith}
-use Rattle.std.specs.Prelude.{get_or, slice_get, slice_index_or}
+use Rattle.std.proofs.Common.{◌≡◌, ◌∙◌, ◌++◌, ◌∷◌, ◌⊎◌, inl, inr, [], ℕ, zero, suc, ◌<◌, List, length, Some, Ok, ap, sym, subst, refl, arith}
+use Rattle.std.specs.Prelude.{slice_get, slice_index_or}
 use Rattle.std.proofs.lemmas.List.{get_or_push, length_push}
 use Rattle.m2_base.specs.Lists.{IsPrefixOf}
 use Rattle.m2_base.proofs.Kept.{IsPrefixOf-refl}
 use Rattle.expr_sem.specs.Fragments as parts
 use Rattle.expr_sem.specs.declared.fragments.Fragments.{Fragments}
-use Rattle.stmt_sem.specs.FlowNodes.{AreSound, CellFlow, Grows, IsBefore, IsFlowMade, IsFlowOf, IsMadeOf, IsSound, Measures, flow_by, flow_in, flows_after, flows_in, form_flow}
+use Rattle.stmt_sem.specs.FlowNodes.{AreSound, CellFlow, IsFlowMade, IsFlowOf, IsMadeOf, IsSound, Measures, flow_in, flows_after, flows_in, form_flow}
 use Rattle.stmt_sem.specs.Flows as flow
 use Rattle.stmt_sem.proofs.FlowsKept.{flow_before, flows_append, flows_length, no_flow}
 use Rattle.stmt_sem.specs.declared.flows.Flow.TheVariants.{Node as NodeOf}
-use Rattle.stmt_sem.specs.declared.flows.FlowForm.{FlowForm}
 use Rattle.stmt_sem.specs.declared.flows.FlowNode.{FlowNode}
 use Rattle.stmt_sem.specs.declared.flows.Flows.{Flows}
 

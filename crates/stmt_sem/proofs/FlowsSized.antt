@@ -1,6 +1,6 @@
 -- The lengths of flows that are put together, by those of their parts.
-use Rattle.std.proofs.Common.{Result, Ok, Err, ◌≡◌, ◌∙◌, ◌++◌, ◌∷◌, [], ℕ, zero, suc, ◌+◌, ◌-◌, ◌<◌, ◌≤◌, ℤ, List, length, map, Option, Some, None, ap, sym, subst, refl, arith}
-use Rattle.std.specs.Prelude.{IfOk, get_or, slice_get, slice_index_or, pos}
+use Rattle.std.proofs.Common.{Result, Ok, Err, ◌≡◌, ◌∙◌, ◌++◌, ◌∷◌, [], ℕ, zero, suc, ◌+◌, ◌-◌, ◌<◌, ℤ, List, length, map, Option, Some, None, sym, subst, refl, arith}
+use Rattle.std.specs.Prelude.{IfOk, slice_get, pos}
 use Rattle.m2_base.specs.Lists.{Each}
 use Rattle.m2_base.specs.declared.memory.Memory.{Memory}
 use Rattle.code_form.specs.Bytes.{size}
@@ -15,9 +15,9 @@ use Rattle.expr_sem.specs.declared.fragments.Fragment.{Fragment}
 use Rattle.expr_sem.specs.declared.fragments.Fragment.TheVariants.{Nothing as NoFragment, Node as FragmentOf}
 use Rattle.expr_sem.specs.declared.fragments.Node.{Node}
 use Rattle.stmt_sem.specs.Cases.{label_by, label_code, labels_code, more_labels_code}
-use Rattle.stmt_sem.specs.FlowNodes.{AreSound, CellFlow, IsArmOf, IsBefore, IsBeforeIfAny, IsCodeOf, Measures, MeasuresPart, arms_among, block_among, choice_among, code_by, flow_among, flow_in, flows_in, other_among, test_view}
+use Rattle.stmt_sem.specs.FlowNodes.{AreSound, IsArmOf, IsBefore, IsCodeOf, Measures, MeasuresPart, arms_among, block_among, choice_among, code_by, flow_in, flows_in, other_among, test_view}
 use Rattle.stmt_sem.specs.FlowPieces.{Over}
-use Rattle.stmt_sem.specs.FlowSizes.{arm_bytes, arms_bytes, block_bytes, flow_bytes, label_bytes, labels_bytes, somewhere}
+use Rattle.stmt_sem.specs.FlowSizes.{arms_bytes, block_bytes, flow_bytes, label_bytes, labels_bytes, somewhere}
 use Rattle.stmt_sem.specs.Flows as flow
 use Rattle.stmt_sem.specs.Flows.{HasSize, back, choose, counted, for_ever, nothing, straight, until_true, when, while_true, ◌⨾◌}
 use Rattle.stmt_sem.specs.Statements.{arm_before, flow_or_nothing}

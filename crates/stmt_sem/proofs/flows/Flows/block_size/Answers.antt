@@ -1,4 +1,4 @@
-use Rattle.std.proofs.Common.{◌≡◌, ◌∙◌, ◌+◌, ℕ, arith, subst, sym}
+use Rattle.std.proofs.Common.{ℕ, arith, subst}
 use Rattle.std.proofs.lemmas.List.{at_drop_all}
 use Rattle.stmt_sem.specs.FlowNodes.{Measures, block_among, flows_in}
 use Rattle.stmt_sem.specs.FlowSizes.{block_bytes}

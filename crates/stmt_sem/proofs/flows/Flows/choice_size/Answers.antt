@@ -1,6 +1,5 @@
-use Rattle.std.proofs.Common.{◌≡◌, ◌+◌, ◌-◌, ℕ, arith, subst}
+use Rattle.std.proofs.Common.{ℕ, arith, subst}
 use Rattle.stmt_sem.specs.FlowNodes.{Measures, choice_among, flows_in}
-use Rattle.stmt_sem.specs.FlowSizes.{arms_bytes}
 use Rattle.stmt_sem.proofs.FlowsSized.{arms_measured, choice_sized}
 use Rattle.stmt_sem.proofs.flows.Flows.choice_size.Goals as goal
 

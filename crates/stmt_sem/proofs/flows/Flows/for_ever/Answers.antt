@@ -1,4 +1,4 @@
-use Rattle.std.proofs.Common.{◌+◌, arith, subst, sym, ℕ}
+use Rattle.std.proofs.Common.{subst, sym, ℕ}
 use Rattle.stmt_sem.specs.FlowNodes.{flow_in}
 use Rattle.stmt_sem.specs.Flows.{HasSize, for_ever}
 use Rattle.stmt_sem.proofs.FlowsSized.{for_ever_sized}

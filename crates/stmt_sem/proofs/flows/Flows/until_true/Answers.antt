@@ -1,4 +1,4 @@
-use Rattle.std.proofs.Common.{◌≡◌, ◌+◌, arith, subst, ℕ}
+use Rattle.std.proofs.Common.{arith, subst, ℕ}
 use Rattle.expr_sem.specs.Fragments.{part}
 use Rattle.stmt_sem.specs.FlowNodes.{flow_in}
 use Rattle.stmt_sem.specs.Flows.{HasSize, until_true}
