@@ -305,7 +305,7 @@ steps_of source before all b = (run_of b (declare_block source before b).value (
 short : (x y n : ℕ) → x ≡ y → y ≤ 64 * n → x ≤ 64 * n
 short x y n e f = omega (arith, e, f)
 
-steps-short : (source : Source) (before all : List (List Row)) (b : BlockTree) → steps_size (steps_of source before all b) ≤ 64 * block_tokens b.tree
+pub steps-short : (source : Source) (before all : List (List Row)) (b : BlockTree) → steps_size (steps_of source before all b) ≤ 64 * block_tokens b.tree
 steps-short source before all b =
     let c : Context = complete_context source all b.block in
     run-short source before b (body_of c b).value (all-lean (stand_of c b) b.tree.body)

@@ -8,4 +8,6 @@ pub mod BlockLengths
 pub mod LengthLaw
 pub mod Points
 pub mod Still
+pub mod JumpRanges
+pub mod ReturnHeights
 pub mod ValidBlocks

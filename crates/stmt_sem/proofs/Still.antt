@@ -50,7 +50,7 @@ choose-still t f other g h = λ at o o'.
     let inner : ℕ → List Step = (f (t at).next).code in
     let behind : ℕ → List Step = (other (f (t at).next).next).code in
     let all : List Step → List Step → List Step = λ c d. (t at).code ++ (plain_step (JumpFalse (pos (steps_size c + jump_size)))
-        ∷ (c ++ (plain_step (Jump (pos (steps_size d))) ∷ d))) in
+    ∷ (c ++ (plain_step (Jump (pos (steps_size d))) ∷ d))) in
     ap (λ (d : List Step). all (inner (o + steps_size d + jump_size)) d) (h (f (t at).next).next o o')
     ∙ ap (λ (c : List Step). all c (behind o')) (g (t at).next (o + steps_size (behind o') + jump_size) (o' + steps_size (behind o') + jump_size))
 
