@@ -1,26 +1,26 @@
 -- No code of an expression or a designator returns: by the same cases as its length.
-use Rattle.std.specs.Prelude.{◌≡◌, refl, ℕ, zero, suc, ◌+◌, ◌-◌, ◌==◌, ◌&&◌, ◌||◌, not, Bool, true, false, if◌then◌else◌, is_some, pos, List, [], ◌∷◌, ◌++◌, length, map, min, Option, Some, None, slice_index}
+use Rattle.std.specs.Prelude.{◌≡◌, refl, ℕ, zero, suc, ◌+◌, ◌-◌, ◌==◌, ◌&&◌, ◌||◌, not, Bool, true, false, if◌then◌else◌, is_some, pos, List, [], ◌∷◌, ◌++◌, length, map, Option, Some, None}
 use Rattle.std.proofs.Common.{ap, ◌∙◌}
 use Rattle.code_form.specs.Heights.{Step, step_by}
 use Rattle.code_form.specs.Instructions.{line_of}
 use Rattle.code_form.specs.declared.effect.Effect.{Effect}
 use Rattle.code_form.specs.declared.effect.Effect.TheVariants.{Changes, CallsOwn, CallsImport, GivesResult}
 use Rattle.code_form.specs.declared.instr.Instr.{Instr}
-use Rattle.code_form.specs.declared.instr.Instr.TheVariants.{Push, Local, Global, Load, Store, Move, Dup, Offset, Index, IndexOpen, Check, Nil, Add, Sub, Eq, Union, Diff, Bit, Span, AndJump, OrJump, Call, CallX, CallVar, Proc as ProcValue, Return, New as Room, Halt as Stop, Mod as Remainder, Abs as Magnitude, Cap as Capital}
+use Rattle.code_form.specs.declared.instr.Instr.TheVariants.{Push, Local, Global, Load, Store, Dup, Offset, Index, IndexOpen, Check, Nil, Eq, Union, Diff, Bit, Span, AndJump, OrJump, Call, CallX, Proc as ProcValue, Return, New as Room, Halt as Stop, Mod as Remainder, Abs as Magnitude, Cap as Capital}
 use Rattle.expr_sem.proofs.ValueHeights.{both_ways}
-use Rattle.expr_sem.specs.Arguments.{address_by, after_argument, alike, argument, array_argument, by_address, by_mode, by_value, checked_mode, is_variable, open_argument, open_element, string_copy, value_argument, value_argument_by}
-use Rattle.expr_sem.specs.Calls.{Called, allowed, allowed_by_type, call_code, call_coded, called, called_by, call_instr, cells_of_all, is_same_truth, links_to, no_call, of_target, of_variable, procedure_call, result_cells, standard_call}
+use Rattle.expr_sem.specs.Arguments.{address_by, after_argument, alike, argument, array_argument, by_address, by_mode, by_value, checked_mode, is_variable, open_argument, open_element, string_copy, value_argument_by}
+use Rattle.expr_sem.specs.Calls.{Called, allowed, allowed_by_type, call_code, call_coded, called, called_by, cells_of_all, is_same_truth, links_to, no_call, of_target, of_variable, procedure_call, standard_call}
 use Rattle.expr_sem.specs.Coded.{Coded, bare, characters, coded, in_error, is_structured, no_high, taken, value_by, value_code, with_char}
-use Rattle.expr_sem.specs.Elements.{element_of_array, element_of_open, index_instr, of_array, of_pointer, select_element, select_element_by, select_target, select_target_by}
+use Rattle.expr_sem.specs.Elements.{element_of_array, element_of_open, index_instr, of_array, of_pointer, select_element, select_element_by, select_target_by}
 use Rattle.expr_sem.specs.Expressions.{by_called, call_alone, continued, count_of_exprs, designated, element, elements, expression, followed, form_coded, indexed, looked_at, passed, selected, selector, standard, value}
 use Rattle.expr_sem.specs.Fitting.{check_of, fit_of, fitted_code, reaches_beyond}
 use Rattle.expr_sem.specs.Operators.{made, one_coded, one_instr, operation_code, scalar_instr, set_instr, side_of, two_coded, two_instr}
 use Rattle.expr_sem.specs.Parts.{Part, Spot, call, no_callees, none, plain, plain_step, skip, text, with_record, ◌⨟◌}
 use Rattle.expr_sem.specs.ProcedureNames.{Target, import_number, import_of_target, is_foreign, is_own, procedure_code, target_of_procedure}
-use Rattle.expr_sem.specs.RecordFields.{field_by, field_or, field_or_use, found_field, name_coded, of_record, offset_code, select_field, select_field_by, with_field}
-use Rattle.expr_sem.specs.SetElements.{Elements, add_element, add_range, element_as, element_coded, no_elements_yet, set_by, set_coded}
-use Rattle.expr_sem.specs.StandardFunctions.{abs_code, as_variable, as_variable_by, cap_code, function_of_one, high_code, high_of, high_of_range, high_of_variable, magnitude, named_type, odd_code, on_value, size_code, value_of_type}
-use Rattle.expr_sem.specs.StandardProcedures.{beside, counting_range, disposed, element_of_base, first_of_two, included, is_function, is_pointer_type, is_step, member_instrs, new_room, no_value, number_of_type, of_no_argument, of_one_argument, of_two_arguments, one, ordinal_variable, pointer_variable, set_member, set_variable, step_instr, step_instrs, step_number, step_type, stepped, takes_count, update, variable_argument}
+use Rattle.expr_sem.specs.RecordFields.{field_by, field_or, field_or_use, found_field, name_coded, of_record, offset_code, select_field_by, with_field}
+use Rattle.expr_sem.specs.SetElements.{Elements, add_element, add_range, element_as, element_coded, no_elements_yet, set_by}
+use Rattle.expr_sem.specs.StandardFunctions.{abs_code, as_variable, as_variable_by, cap_code, function_of_one, high_code, high_of, high_of_range, high_of_variable, magnitude, named_type, odd_code, on_value, size_code}
+use Rattle.expr_sem.specs.StandardProcedures.{counting_range, disposed, element_of_base, first_of_two, included, is_function, is_pointer_type, is_step, member_instrs, new_room, no_value, number_of_type, of_no_argument, of_one_argument, of_two_arguments, one, ordinal_variable, pointer_variable, set_member, step_instr, step_instrs, step_number, step_type, stepped, takes_count, update, variable_argument}
 use Rattle.expr_sem.specs.Values.{as_value, as_value_by, assigned_to, in_range, in_range_by, is_passed_over}
 use Rattle.expr_sem.specs.Variables.{cell_instr, entry_coded, high_of_mode, through, with_address}
 use Rattle.m2_base.specs.Gives.{Gives, and_then, gives}
@@ -28,7 +28,6 @@ use Rattle.m2_base.specs.Rows.{is_same_place, row_meaning}
 use Rattle.m2_base.specs.Standard.{bitset, cardinal, character, integer}
 use Rattle.m2_base.specs.Statics.Assignable.{is_assignable, is_open_array, is_procedure_type, taken_into}
 use Rattle.m2_base.specs.Statics.Builtins.{builtin_of}
-use Rattle.m2_base.specs.Statics.Cells.{capped}
 use Rattle.m2_base.specs.Statics.Compatible.{is_compatible}
 use Rattle.m2_base.specs.Statics.Contexts.{Block, Context, Scene, level_of, refuse}
 use Rattle.m2_base.specs.Statics.Diagnostics.{not_a_procedure, not_a_variable, not_assignable, out_of_range, wrong_argument, wrong_count}
@@ -46,7 +45,7 @@ use Rattle.m2_base.specs.Trees.{Designator, Expr, ExprForm, Exprs, Label, Labels
 use Rattle.m2_base.specs.declared.builtins.Builtin.{Builtin}
 use Rattle.m2_base.specs.declared.builtins.Builtin.TheVariants.{Abs, Cap, Chr, Dec, Dispose, Excl, Halt, High, Inc, Incl, Max, Min, New, Odd, Ord, Size, Val}
 use Rattle.m2_base.specs.declared.operands.Operand.{Operand}
-use Rattle.m2_base.specs.declared.operands.Operand.TheVariants.{Computed, Constant, InError, ModuleName, NamedType, NotConstant, Procedure, StandardProcedure, StringConstant, Variable}
+use Rattle.m2_base.specs.declared.operands.Operand.TheVariants.{Computed, Constant, InError, ModuleName, NamedType, Procedure, StandardProcedure, StringConstant, Variable}
 use Rattle.m2_base.specs.declared.rows.Mode.{Mode}
 use Rattle.m2_base.specs.declared.rows.Mode.TheVariants.{Plain, ByAddress, Open}
 use Rattle.m2_base.specs.declared.rows.Place.{Place}
@@ -55,7 +54,7 @@ use Rattle.m2_base.specs.declared.rows.RowMeaning.{RowMeaning}
 use Rattle.m2_base.specs.declared.rows.RowMeaning.TheVariants.{Array, Field, OpenArray, Pointer, Record, Var}
 use Rattle.m2_base.specs.declared.trees.Ident.{Ident}
 use Rattle.m2_base.specs.declared.trees.operators.Operator.{Operator}
-use Rattle.m2_base.specs.declared.trees.operators.Operator.TheVariants.{Plus, Minus, Times, Slash, Div, Mod, And, Or, Not, Equal, Unequal, Less, Greater, LessEqual, GreaterEqual, In}
+use Rattle.m2_base.specs.declared.trees.operators.Operator.TheVariants.{Plus, Minus, Times, Slash, Div, Mod, And, Or, Not, Equal, Unequal, Less, Greater, LessEqual, GreaterEqual}
 
 -- ---- parts
 

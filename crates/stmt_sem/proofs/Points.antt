@@ -1,15 +1,14 @@
 -- Steps that stand where they may have valid code: at their places each height is right, and each jump goes to an instruction.
-use Rattle.std.specs.Prelude.{◌≡◌, refl, ℕ, zero, suc, ◌+◌, ◌-◌, ◌≤◌, ◌<◌, max, ℤ, pos, negsuc, ◌+ℤ◌, ◌-ℤ◌, int_le, int_lt, ◌==◌, ◌&&◌, ◌||◌, Bool, true, false, cond, ltb, leb, eqb, nat_lt, if◌then◌else◌, List, [], ◌∷◌, ◌++◌, length, map, Option, Some, None, ◌⊎◌}
+use Rattle.std.specs.Prelude.{◌≡◌, refl, ℕ, zero, suc, ◌+◌, ◌-◌, ◌≤◌, ◌<◌, max, ℤ, pos, negsuc, ◌+ℤ◌, ◌-ℤ◌, int_le, int_lt, ◌==◌, ◌&&◌, ◌||◌, Bool, true, false, cond, ltb, nat_lt, if◌then◌else◌, List, [], ◌∷◌, ◌++◌, length, Option, Some, None, ◌⊎◌}
 use Rattle.std.proofs.Common.{arith, sym, ap, subst, ◌∙◌, inl, inr}
 use Rattle.std.proofs.lemmas.Bool.{le-ltb, le-leb, lt-ltb, ltb-false, ltb-true, eq-eqb, ne_eqb}
 use Rattle.code_form.specs.Bytes.{size}
-use Rattle.code_form.specs.Heights.{Callees, Step, after_step, greatest, step_among}
+use Rattle.code_form.specs.Heights.{Callees, Step, after_step, greatest}
 use Rattle.code_form.specs.declared.instr.Instr.{Instr}
 use Rattle.code_form.specs.Modules.{Procedure, World}
-use Rattle.code_form.specs.Valid.{Fault, Point, at_place, callees_of, fault_among, first_not, height_behind, highest, in_code, in_code_or, is_end, is_level, is_right, jump_of, names_what_is_there, of_high, points, returns_all, same_height, same_place, target_passes}
-use Rattle.expr_sem.specs.Heights.{Reaches}
+use Rattle.code_form.specs.Valid.{Fault, Point, at_place, callees_of, fault_among, first_not, highest, in_code, in_code_or, is_end, is_level, is_right, jump_of, names_what_is_there, of_high, points, returns_all, same_height, target_passes}
 use Rattle.expr_sem.specs.Parts.{steps_size}
-use Rattle.stmt_sem.specs.Heights.{Behind, Goes, Has, Leads, Stands, behind, farther, passed}
+use Rattle.stmt_sem.specs.Heights.{Behind, Goes, Has, Leads, Stands, farther, passed}
 use Rattle.stmt_sem.specs.Places.{Agree, NameThere, instrs_of}
 
 -- from this height on, what each return finds is the result alone

@@ -1,17 +1,17 @@
 -- A return of a statement finds the result alone: nothing but RETURN returns, and it stands at the height of its value.
-use Rattle.std.specs.Prelude.{◌≡◌, refl, ℕ, ◌+◌, ◌==◌, ◌&&◌, ◌||◌, not, Bool, true, false, ℤ, pos, negsuc, List, [], ◌∷◌, ◌++◌, length, min, if◌then◌else◌, Option, Some, None, is_some}
-use Rattle.std.proofs.Common.{sym, ap, subst, ◌∙◌}
+use Rattle.std.specs.Prelude.{◌≡◌, refl, ℕ, ◌+◌, ◌&&◌, ◌||◌, not, Bool, true, false, ℤ, pos, negsuc, List, [], ◌∷◌, ◌++◌, length, min, if◌then◌else◌, Option, Some, None, is_some}
+use Rattle.std.proofs.Common.{sym, subst}
 use Rattle.code_form.specs.Heights.{Step, after_step}
 use Rattle.code_form.specs.Valid.{returns_all}
 use Rattle.code_form.specs.declared.instr.Instr.{Instr}
-use Rattle.code_form.specs.declared.instr.Instr.TheVariants.{Add, AndJump, Dup, Eq, Ge, Jump, JumpFalse, Le, Load, Local, More, Move, OpenCopy, OrJump, Push, Return, Store, Trap}
-use Rattle.m2_base.specs.Gives.{Gives, and_then, gives}
+use Rattle.code_form.specs.declared.instr.Instr.TheVariants.{Add, Dup, Eq, Ge, Jump, JumpFalse, Le, Load, Local, More, Move, OpenCopy, OrJump, Push, Return, Store}
+use Rattle.m2_base.specs.Gives.{and_then, gives}
 use Rattle.m2_base.specs.Rows.{row_meaning}
 use Rattle.m2_base.specs.Statics.CaseLabels.{LabelTest, labels_of}
 use Rattle.m2_base.specs.Statics.Cells.{capped}
 use Rattle.m2_base.specs.Statics.Contexts.{Context, Scene, refuse}
 use Rattle.m2_base.specs.Statics.Diagnostics.{exit_outside_loop, not_a_control_variable, not_a_record, not_assignable, not_boolean}
-use Rattle.m2_base.specs.Statics.Effects.{BlockEffects, ParamCopy, open_copy, own_copy}
+use Rattle.m2_base.specs.Statics.Effects.{ParamCopy, open_copy, own_copy}
 use Rattle.m2_base.specs.Statics.Lookup.{Entry}
 use Rattle.m2_base.specs.Statics.Operands.{is_bad, operand_type}
 use Rattle.m2_base.specs.Statics.Operations.{is_boolean}
@@ -25,26 +25,26 @@ use Rattle.m2_base.specs.declared.rows.Place.{Place}
 use Rattle.m2_base.specs.declared.trees.Ident.{Ident}
 use Rattle.expr_sem.proofs.Functions.{assigned-good, fitted-moves}
 use Rattle.expr_sem.proofs.Law.{designated-good, expression-good}
-use Rattle.expr_sem.proofs.NoReturns.{Quiet, Stays, as_value-quiet, assigned-quiet, call_alone-quiet, designated-quiet, entry-quiet, error-quiet, fitted-stays, go_on, goes_on, none-stays, plain-stays, text-stays, then-stays, value-quiet, value-stays, variable-quiet}
+use Rattle.expr_sem.proofs.NoReturns.{Quiet, Stays, assigned-quiet, call_alone-quiet, designated-quiet, entry-quiet, error-quiet, fitted-stays, go_on, goes_on, none-stays, plain-stays, text-stays, then-stays, value-quiet, value-stays, variable-quiet}
 use Rattle.expr_sem.proofs.Passing.{unless_true}
 use Rattle.expr_sem.proofs.Proper.{Addressed, variable-addressed}
 use Rattle.expr_sem.proofs.ValueHeights.{Valued, as_value-good, both_ways}
 use Rattle.expr_sem.specs.Coded.{Coded, characters, in_error, is_structured, value_code}
 use Rattle.expr_sem.specs.Expressions.{call_alone, designated, expression}
 use Rattle.expr_sem.specs.Fitting.{fitted_code}
-use Rattle.expr_sem.specs.Heights.{Fine, Moves}
+use Rattle.expr_sem.specs.Heights.{Moves}
 use Rattle.expr_sem.specs.Operators.{side_of}
 use Rattle.expr_sem.specs.Parts.{Part, Spot, call, none, plain, plain_step, skip, steps_size, text, ◌⨟◌}
 use Rattle.expr_sem.specs.RecordFields.{with_field}
 use Rattle.expr_sem.specs.Values.{assigned_to}
 use Rattle.expr_sem.specs.Variables.{entry_coded}
-use Rattle.stmt_sem.specs.Assignments.{assignment, code_unless_bad, store_by, store_code, store_text, store_value}
+use Rattle.stmt_sem.specs.Assignments.{assignment, code_unless_bad, store_by, store_code}
 use Rattle.stmt_sem.specs.BlockCode.{copy_code, prologue}
-use Rattle.stmt_sem.specs.Cases.{label_by, label_code, labels_code, more_labels_code, no_case, selector_code, selector_type, selector_value}
-use Rattle.stmt_sem.specs.Counting.{bound_value, can_control, comparison, control_variable, controls, controls_by, for_first, for_last, for_more, for_step, for_test, has_code, or_one}
+use Rattle.stmt_sem.specs.Cases.{label_by, label_code, labels_code, more_labels_code, selector_code, selector_type, selector_value}
+use Rattle.stmt_sem.specs.Counting.{bound_value, can_control, control_variable, controls, controls_by, for_first, for_last, for_more, for_step, for_test, has_code, or_one}
 use Rattle.stmt_sem.specs.Flows.{Flow, back, choose, counted, exit, for_ever, in_with, jump_size, nothing, straight, until_true, when, while_true, with_cell, ◌⨾◌}
 use Rattle.stmt_sem.specs.Heights.{Behind, KeepsHeight, Stands, passed}
-use Rattle.stmt_sem.specs.Returns.{return_alone, return_code, return_value}
+use Rattle.stmt_sem.specs.Returns.{return_alone, return_value}
 use Rattle.stmt_sem.specs.Statements.{Arm, Stand, arm_before, arm_flow, arms_flow, by_of, case_flow, cases_flow, else_flow, else_of, flow_of, flow_or_nothing, for_flow, form_flow, in_loop, return_of, statement_flow, test, value_at, variable, within}
 use Rattle.stmt_sem.specs.Tests.{false_code, test_code}
 use Rattle.stmt_sem.specs.Withs.{in_with_of, is_record, record_variable, with_code}

@@ -1,10 +1,9 @@
 -- A block's code is valid where its instructions are ones and name what is there.
 use Rattle.std.specs.Prelude.{◌≡◌, refl, ℕ, ◌+◌, ◌*◌, ◌^◌, ◌<◌, ◌≤◌, ◌==◌, Bool, true, false, List, [], ◌∷◌, ◌++◌, length, if◌then◌else◌, Option, Some, None}
 use Rattle.std.proofs.Common.{arith, sym, ap, subst, ◌∙◌, append_assoc}
-use Rattle.code_form.specs.Bytes.{code_bytes}
-use Rattle.code_form.specs.Heights.{Step, greatest}
+use Rattle.code_form.specs.Heights.{Step}
 use Rattle.code_form.specs.Modules.{Procedure, World}
-use Rattle.code_form.specs.Valid.{AreInstrs, IsValidCode, callees_of, fault_among, is_end, jump_of}
+use Rattle.code_form.specs.Valid.{IsValidCode, callees_of, is_end, jump_of}
 use Rattle.code_form.specs.declared.instr.Instr.TheVariants.{Return, Trap}
 use Rattle.m2_base.specs.declared.rows.Row.{Row}
 use Rattle.m2_base.specs.Statics.BlockRows.{declare_block}
@@ -15,7 +14,7 @@ use Rattle.m2_base.specs.Statics.ProcedureRows.{result_cells}
 use Rattle.m2_base.specs.Statics.UnitNotes.{complete_context}
 use Rattle.m2_base.specs.Trees.{Heading}
 use Rattle.expr_sem.proofs.ValueHeights.{both_ways}
-use Rattle.expr_sem.specs.Parts.{Part, Spot, call, plain, plain_step, steps_size}
+use Rattle.expr_sem.specs.Parts.{Spot, plain, plain_step, steps_size}
 use Rattle.stmt_sem.specs.BlockCode.{block_code, body_of, ending, first_spot, prologue, run_of, stand_of}
 use Rattle.stmt_sem.specs.Flows.{Flow, straight, ◌⨾◌}
 use Rattle.stmt_sem.specs.Heights.{KeepsHeight, Stands}
