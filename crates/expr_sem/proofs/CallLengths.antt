@@ -1,17 +1,17 @@
 -- How long the code of arguments and of calls is.
-use Rattle.std.specs.Prelude.{◌≡◌, refl, ℕ, ◌+◌, ◌-◌, ◌*◌, ◌≤◌, ◌==◌, Bool, true, false, not, ◌&&◌, ◌||◌, if◌then◌else◌, List, [], ◌∷◌, ◌++◌, Option, Some, None, pos, length, min, is_some}
+use Rattle.std.specs.Prelude.{◌≡◌, refl, ℕ, ◌+◌, ◌-◌, ◌*◌, ◌≤◌, ◌==◌, Bool, not, ◌&&◌, ◌||◌, if◌then◌else◌, List, [], ◌∷◌, ◌++◌, Option, Some, None, pos, length, min, is_some}
 use Rattle.std.proofs.Common.{arith}
 use Rattle.code_form.specs.Bytes.{size}
 use Rattle.code_form.specs.Heights.{Step}
 use Rattle.code_form.specs.declared.instr.Instr.{Instr}
 use Rattle.code_form.specs.declared.instr.Instr.TheVariants.{Push, Local, Load, Move, Call, CallX}
-use Rattle.expr_sem.proofs.Lengths.{Spares, call-short, none-short, plain-short, short-then, spares-before, spares-behind, spares-less, spares-short, spares-then, text-short}
+use Rattle.expr_sem.proofs.Lengths.{Spares, call-short, none-short, plain-short, short-then, spares-behind, spares-less, spares-short, spares-then, text-short}
 use Rattle.expr_sem.proofs.FunctionLengths.{high_code-short}
 use Rattle.expr_sem.proofs.Pushing.{size_append}
 use Rattle.expr_sem.proofs.ValueHeights.{both_ways}
 use Rattle.expr_sem.proofs.ValueLengths.{Roomy, Sized, as_value-roomy, assigned-roomy, coded-sized, error-roomy, fitted-spares, sized-less}
-use Rattle.expr_sem.specs.Arguments.{address_by, after_argument, alike, argument, array_argument, by_address, by_mode, by_value, checked_mode, is_variable, open_argument, open_element, string_copy, value_argument, value_argument_by}
-use Rattle.expr_sem.specs.Calls.{call_code, Called, allowed, allowed_by_type, call_coded, called, called_by, call_instr, cells_of_all, is_same_truth, links_to, no_call, of_target, of_variable, procedure_call, result_cells, standard_call}
+use Rattle.expr_sem.specs.Arguments.{address_by, after_argument, alike, argument, array_argument, by_address, by_mode, by_value, checked_mode, is_variable, open_argument, open_element, string_copy, value_argument_by}
+use Rattle.expr_sem.specs.Calls.{call_code, Called, allowed, allowed_by_type, call_coded, called, called_by, call_instr, cells_of_all, is_same_truth, links_to, no_call, of_target, of_variable, procedure_call, standard_call}
 use Rattle.expr_sem.specs.Coded.{coded, in_error, Coded, characters}
 use Rattle.expr_sem.specs.Expressions.{by_called}
 use Rattle.expr_sem.specs.Lengths.{IsShort}
@@ -33,7 +33,7 @@ use Rattle.m2_base.specs.Statics.TypeParts.{Parameter, parameters, result_of_typ
 use Rattle.m2_base.specs.Statics.Types.{is_broken, is_same, kind_of, size_of}
 use Rattle.m2_base.specs.declared.builtins.Builtin.{Builtin}
 use Rattle.m2_base.specs.declared.operands.Operand.{Operand}
-use Rattle.m2_base.specs.declared.operands.Operand.TheVariants.{Computed, InError, ModuleName, NotConstant, Procedure, StandardProcedure, StringConstant, Variable}
+use Rattle.m2_base.specs.declared.operands.Operand.TheVariants.{Computed, InError, ModuleName, Procedure, StandardProcedure, StringConstant, Variable}
 use Rattle.m2_base.specs.declared.rows.Place.{Place}
 use Rattle.m2_base.specs.declared.rows.RowMeaning.{RowMeaning}
 use Rattle.m2_base.specs.declared.rows.RowMeaning.TheVariants.{Array, OpenArray}

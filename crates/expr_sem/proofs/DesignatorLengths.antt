@@ -1,15 +1,15 @@
 -- How long the code of names, fields, elements and what pointers point to is.
-use Rattle.std.specs.Prelude.{◌≡◌, refl, ℕ, zero, suc, ◌+◌, ◌*◌, ◌≤◌, ◌==◌, ◌||◌, Bool, true, false, if◌then◌else◌, List, [], ◌∷◌, Option, Some, None, pos, slice_index, ◌-◌}
+use Rattle.std.specs.Prelude.{refl, ℕ, zero, suc, ◌+◌, ◌*◌, ◌≤◌, ◌==◌, ◌||◌, if◌then◌else◌, List, [], ◌∷◌, Option, Some, None, pos, slice_index, ◌-◌}
 use Rattle.std.proofs.Common.{arith}
 use Rattle.code_form.specs.declared.instr.Instr.{Instr}
 use Rattle.code_form.specs.declared.instr.Instr.TheVariants.{Push, Local, Global, Load, Offset, Index, IndexOpen, Nil}
 use Rattle.expr_sem.proofs.Lengths.{Spares, none-short, plain-short, spares-before, spares-behind, spares-less, spares-short, spares-then}
 use Rattle.expr_sem.proofs.ValueHeights.{both_ways}
-use Rattle.expr_sem.proofs.ValueLengths.{Roomy, Sized, assigned-roomy, bare-roomy, coded-sized, error-roomy, roomy-more, sized-less, value-spares}
-use Rattle.expr_sem.specs.Coded.{Coded, bare, coded, in_error, no_high, value_code}
+use Rattle.expr_sem.proofs.ValueLengths.{Roomy, assigned-roomy, bare-roomy, coded-sized, error-roomy, value-spares}
+use Rattle.expr_sem.specs.Coded.{Coded, coded, in_error, value_code}
 use Rattle.expr_sem.specs.Elements.{element_of_array, element_of_open, index_instr, of_array, of_pointer, select_element, select_element_by, select_target, select_target_by}
 use Rattle.expr_sem.specs.Lengths.{IsShort}
-use Rattle.expr_sem.specs.Parts.{Part, none, plain, with_record, ◌⨟◌}
+use Rattle.expr_sem.specs.Parts.{Part, plain, with_record, ◌⨟◌}
 use Rattle.expr_sem.specs.ProcedureNames.{import_number, is_own}
 use Rattle.expr_sem.specs.RecordFields.{field_by, field_or, field_or_use, found_field, name_coded, of_record, offset_code, select_field, select_field_by, with_field}
 use Rattle.expr_sem.specs.Values.{assigned_to}
@@ -27,7 +27,7 @@ use Rattle.m2_base.specs.Statics.TypeParts.{field_of, target_of}
 use Rattle.m2_base.specs.Statics.Types.{is_broken, kind_of, range_of, size_of}
 use Rattle.m2_base.specs.Statics.Uses.{use_of}
 use Rattle.m2_base.specs.declared.operands.Operand.{Operand}
-use Rattle.m2_base.specs.declared.operands.Operand.TheVariants.{InError, ModuleName, NotConstant, Variable}
+use Rattle.m2_base.specs.declared.operands.Operand.TheVariants.{ModuleName, Variable}
 use Rattle.m2_base.specs.declared.rows.Mode.{Mode}
 use Rattle.m2_base.specs.declared.rows.Mode.TheVariants.{Plain, ByAddress, Open}
 use Rattle.m2_base.specs.declared.rows.Place.{Place}

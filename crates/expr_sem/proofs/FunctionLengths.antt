@@ -1,19 +1,19 @@
 -- How long the code of standard functions and procedures is, by that of their arguments.
-use Rattle.std.specs.Prelude.{◌≡◌, refl, ℕ, ◌+◌, ◌*◌, ◌≤◌, ◌==◌, ◌||◌, nat_le, Bool, true, false, if◌then◌else◌, is_some, pos, List, [], ◌∷◌, Option, Some, None}
+use Rattle.std.specs.Prelude.{◌≡◌, refl, ℕ, ◌+◌, ◌*◌, ◌≤◌, ◌||◌, nat_le, Bool, true, if◌then◌else◌, is_some, pos, List, [], ◌∷◌, Option, Some}
 use Rattle.std.proofs.Common.{arith}
 use Rattle.std.proofs.lemmas.Bool.{leb-true}
 use Rattle.code_form.specs.declared.instr.Instr.{Instr}
 use Rattle.code_form.specs.declared.instr.Instr.TheVariants.{Push, Load, Store, Dup, Add, Sub, Check, Union, Diff, Bit, Eq, New as Room, Halt as Stop, Mod as Remainder, Abs as Magnitude, Cap as Capital}
-use Rattle.expr_sem.proofs.Lengths.{Spares, none-short, plain-short, short-then, spares-before, spares-behind, spares-less, spares-short, spares-then}
+use Rattle.expr_sem.proofs.Lengths.{Spares, plain-short, short-then, spares-before, spares-behind, spares-less, spares-short, spares-then}
 use Rattle.expr_sem.proofs.ValueHeights.{both_ways}
-use Rattle.expr_sem.proofs.ValueLengths.{Roomy, Sized, as_value-roomy, bare-roomy, check_behind-short, coded-sized, error-roomy, fitted-spares, in_range-roomy, made-sized, roomy-more, sized-less, taken-roomy, value-spares}
-use Rattle.expr_sem.specs.Coded.{Coded, bare, coded, in_error, taken, value_code}
+use Rattle.expr_sem.proofs.ValueLengths.{Roomy, Sized, as_value-roomy, bare-roomy, check_behind-short, coded-sized, error-roomy, fitted-spares, in_range-roomy, made-sized, sized-less, taken-roomy, value-spares}
+use Rattle.expr_sem.specs.Coded.{Coded, coded, in_error, taken, value_code}
 use Rattle.expr_sem.specs.Fitting.{check_of, fitted_code}
 use Rattle.expr_sem.specs.Lengths.{IsShort}
-use Rattle.expr_sem.specs.Operators.{made, side_of}
-use Rattle.expr_sem.specs.Parts.{Part, none, plain, ◌⨟◌}
+use Rattle.expr_sem.specs.Operators.{side_of}
+use Rattle.expr_sem.specs.Parts.{Part, plain, ◌⨟◌}
 use Rattle.expr_sem.specs.StandardFunctions.{abs_code, as_variable, as_variable_by, cap_code, function_of_one, high_code, high_of, high_of_range, high_of_variable, magnitude, named_type, odd_code, on_value, size_code, value_of_type}
-use Rattle.expr_sem.specs.StandardProcedures.{beside, counting_range, disposed, element_of_base, first_of_two, included, is_pointer_type, is_step, member_instrs, new_room, no_value, number_of_type, of_no_argument, of_one_argument, of_two_arguments, one, ordinal_variable, pointer_variable, set_member, set_variable, step_instr, step_instrs, step_number, step_type, stepped, update, variable_argument, variable_where}
+use Rattle.expr_sem.specs.StandardProcedures.{counting_range, disposed, element_of_base, first_of_two, included, is_pointer_type, is_step, member_instrs, new_room, no_value, number_of_type, of_no_argument, of_one_argument, of_two_arguments, one, ordinal_variable, pointer_variable, set_member, step_instr, step_instrs, step_number, step_type, stepped, update, variable_argument}
 use Rattle.expr_sem.specs.Values.{as_value, in_range}
 use Rattle.m2_base.specs.Gives.{Gives, gives}
 use Rattle.m2_base.specs.Rows.{is_same_place}
@@ -21,7 +21,7 @@ use Rattle.m2_base.specs.Standard.{cardinal, character, integer}
 use Rattle.m2_base.specs.Statics.Assignable.{taken_into}
 use Rattle.m2_base.specs.Statics.Compatible.{is_compatible}
 use Rattle.m2_base.specs.Statics.Contexts.{Context, Scene, refuse}
-use Rattle.m2_base.specs.Statics.Diagnostics.{not_a_variable, wrong_argument}
+use Rattle.m2_base.specs.Statics.Diagnostics.{wrong_argument}
 use Rattle.m2_base.specs.Statics.Functions.{abs_of, cap_of, chr_of, max_of, min_of, odd_of, ord_of, size_value, val_of}
 use Rattle.m2_base.specs.Statics.Operands.{is_bad, operand_type}
 use Rattle.m2_base.specs.Statics.Operations.{is_set_kind}
@@ -32,7 +32,7 @@ use Rattle.m2_base.specs.Statics.Types.{base_of, is_broken, kind_of, range_of, s
 use Rattle.m2_base.specs.declared.builtins.Builtin.{Builtin}
 use Rattle.m2_base.specs.declared.builtins.Builtin.TheVariants.{Abs, Cap, Chr, Dec, Dispose, Excl, Halt, High, Inc, Incl, Max, Min, New, Odd, Ord, Size, Val}
 use Rattle.m2_base.specs.declared.operands.Operand.{Operand}
-use Rattle.m2_base.specs.declared.operands.Operand.TheVariants.{Computed, InError, NotConstant, Variable}
+use Rattle.m2_base.specs.declared.operands.Operand.TheVariants.{Computed, Variable}
 use Rattle.m2_base.specs.declared.rows.Place.{Place}
 use Rattle.m2_base.specs.declared.rows.RowMeaning.{RowMeaning}
 use Rattle.m2_base.specs.declared.rows.RowMeaning.TheVariants.{Array, OpenArray}

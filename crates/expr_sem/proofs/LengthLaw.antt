@@ -1,19 +1,19 @@
 -- The law of lengths: the code of an expression, a designator or a call has so many bytes at most for each of its tokens. By
 -- induction on the syntax.
-use Rattle.std.specs.Prelude.{◌≡◌, refl, ℕ, ◌+◌, ◌*◌, ◌≤◌, Bool, true, false, List, [], ◌∷◌, Option}
+use Rattle.std.specs.Prelude.{ℕ, ◌+◌, ◌*◌, ◌≤◌, true, false, List, [], ◌∷◌}
 use Rattle.std.proofs.Common.{arith}
 use Rattle.expr_sem.proofs.CallLengths.{SparesIfThere, after-spares, argument-spares, by_called-sized, called-sized}
 use Rattle.expr_sem.proofs.DesignatorLengths.{name-roomy, select_element-roomy, select_field-roomy, select_target-roomy}
 use Rattle.expr_sem.proofs.FunctionLengths.{first-roomy, no_argument-roomy, one_argument-roomy, two_arguments-roomy}
-use Rattle.expr_sem.proofs.Lengths.{Spares, none-short, spares-all, spares-less, spares-short}
+use Rattle.expr_sem.proofs.Lengths.{Spares, spares-all, spares-less}
 use Rattle.expr_sem.proofs.ValueLengths.{Roomy, Sized, SizedSet, add_element-sized, add_range-sized, as_value-roomy, bare-roomy, element-roomy, error-roomy, one_coded-roomy, roomy-more, set-roomy, sized-less, two_coded-roomy, value-spares}
 use Rattle.expr_sem.specs.Arguments.{argument}
-use Rattle.expr_sem.specs.Calls.{Called, called}
+use Rattle.expr_sem.specs.Calls.{called}
 use Rattle.expr_sem.specs.Coded.{Coded, value_code}
 use Rattle.expr_sem.specs.Elements.{select_element}
-use Rattle.expr_sem.specs.Expressions.{by_called, call_alone, continued, count_of_exprs, designated, element, elements, expression, followed, form_coded, indexed, looked_at, passed, selected, selector, standard, value}
+use Rattle.expr_sem.specs.Expressions.{call_alone, continued, count_of_exprs, designated, element, elements, expression, followed, form_coded, indexed, looked_at, passed, selected, selector, standard, value}
 use Rattle.expr_sem.specs.Lengths.{IsShortFor}
-use Rattle.expr_sem.specs.Parts.{Part, none}
+use Rattle.expr_sem.specs.Parts.{none}
 use Rattle.expr_sem.specs.RecordFields.{name_coded}
 use Rattle.expr_sem.specs.SetElements.{Elements, element_coded, no_elements_yet, set_coded}
 use Rattle.expr_sem.specs.StandardProcedures.{first_of_two, of_two_arguments}
@@ -25,7 +25,6 @@ use Rattle.m2_base.specs.Statics.Sets.{set_base, set_type_of}
 use Rattle.m2_base.specs.Statics.TypeParts.{Parameter}
 use Rattle.m2_base.specs.Trees.{Designator, Expr, ExprForm, Exprs, Label, Labels, Next, Nexts, Selector, Selectors, call_form, char_form, deref_selector, designator, designator_at, expr, expr_at, field_selector, index_selector, many_form, more_exprs, more_labels, more_nexts, more_selectors, name_form, next, no_exprs, no_labels, no_nexts, no_selectors, number_form, one_form, one_label, range_label, set_form, string_form, typed_set_form}
 use Rattle.m2_base.specs.declared.builtins.Builtin.{Builtin}
-use Rattle.m2_base.specs.declared.operands.Operand.TheVariants.{Constant, StringConstant}
 use Rattle.m2_base.specs.declared.rows.Place.{Place}
 
 -- ---- numbers

@@ -1,6 +1,6 @@
 -- How long parts are that are put together, by how long each of them is. A part of so many tokens has some of their bytes
 -- left to spare, which what is put behind it takes.
-use Rattle.std.specs.Prelude.{◌≡◌, refl, ℕ, ◌+◌, ◌*◌, ◌≤◌, nat_le, true, List, [], ◌∷◌, ◌++◌, map}
+use Rattle.std.specs.Prelude.{◌≡◌, ℕ, ◌+◌, ◌*◌, ◌≤◌, nat_le, true, List, ◌++◌, map}
 use Rattle.std.proofs.Common.{arith}
 use Rattle.std.proofs.lemmas.Bool.{leb-true}
 use Rattle.code_form.specs.Bytes.{size}

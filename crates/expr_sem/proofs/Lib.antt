@@ -37,3 +37,4 @@ pub mod FunctionLengths
 pub mod DesignatorLengths
 pub mod CallLengths
 pub mod LengthLaw
+pub mod NoReturns

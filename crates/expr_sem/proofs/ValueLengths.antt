@@ -1,16 +1,16 @@
 -- How long the code of values, operators, sets and standard functions is, by that of their operands.
-use Rattle.std.specs.Prelude.{◌≡◌, refl, ℕ, ◌+◌, ◌*◌, ◌≤◌, ◌==◌, nat_le, Bool, true, false, if◌then◌else◌, pos, List, [], ◌∷◌, Option, Some, None}
+use Rattle.std.specs.Prelude.{◌≡◌, refl, ℕ, ◌+◌, ◌*◌, ◌≤◌, ◌==◌, nat_le, Bool, true, if◌then◌else◌, pos, [], ◌∷◌, Option, Some, None}
 use Rattle.std.proofs.Common.{arith}
 use Rattle.std.proofs.lemmas.Bool.{leb-true}
 use Rattle.code_form.specs.declared.instr.Instr.{Instr}
 use Rattle.code_form.specs.declared.instr.Instr.TheVariants.{AndJump, OrJump, Push, Load, Bit, Union, Span, Check, Proc as ProcValue}
-use Rattle.expr_sem.proofs.Lengths.{Spares, none-short, plain-short, shorter, skip_and-spares, skip_or-spares, spares-before, spares-behind, spares-less, spares-short, spares-then, text-short}
+use Rattle.expr_sem.proofs.Lengths.{Spares, none-short, plain-short, skip_and-spares, skip_or-spares, spares-before, spares-behind, spares-less, spares-short, spares-then, text-short}
 use Rattle.expr_sem.proofs.ValueHeights.{both_ways}
 use Rattle.expr_sem.specs.Coded.{Coded, bare, characters, coded, in_error, is_structured, no_high, taken, value_by, value_code, with_char}
-use Rattle.expr_sem.specs.Fitting.{check_of, fit_check, fit_of, fitted_code, reaches_beyond}
+use Rattle.expr_sem.specs.Fitting.{check_of, fit_of, fitted_code, reaches_beyond}
 use Rattle.expr_sem.specs.Lengths.{IsShort}
 use Rattle.expr_sem.specs.Operators.{made, one_coded, one_instr, operation_code, scalar_instr, set_instr, side_of, two_coded, two_instr}
-use Rattle.expr_sem.specs.Parts.{Part, Spot, none, plain, skip, steps_size, ◌⨟◌}
+use Rattle.expr_sem.specs.Parts.{Part, none, plain, skip, ◌⨟◌}
 use Rattle.expr_sem.specs.ProcedureNames.{Target, import_of_target, procedure_code, target_of_procedure}
 use Rattle.expr_sem.specs.SetElements.{element_as, Elements, add_element, add_range, element_coded, set_by, set_coded}
 use Rattle.expr_sem.specs.Values.{as_value, as_value_by, assigned_to, in_range, in_range_by, is_passed_over}
@@ -24,7 +24,7 @@ use Rattle.m2_base.specs.Statics.Ranges.{Range, is_within}
 use Rattle.m2_base.specs.Statics.Sets.{element_of}
 use Rattle.m2_base.specs.Statics.Types.{kind_of, range_of}
 use Rattle.m2_base.specs.declared.operands.Operand.{Operand}
-use Rattle.m2_base.specs.declared.operands.Operand.TheVariants.{Computed, Constant, InError, ModuleName, NamedType, NotConstant, Procedure, StandardProcedure, StringConstant, Variable}
+use Rattle.m2_base.specs.declared.operands.Operand.TheVariants.{Computed, Constant, InError, ModuleName, NamedType, Procedure, StandardProcedure, StringConstant, Variable}
 use Rattle.m2_base.specs.declared.rows.Place.{Place}
 use Rattle.m2_base.specs.declared.trees.operators.Operator.{Operator}
 use Rattle.m2_base.specs.declared.trees.operators.Operator.TheVariants.{Plus, Minus, Times, Slash, Div, Mod, And, Or, Not, Equal, Unequal, Less, Greater, LessEqual, GreaterEqual, In}

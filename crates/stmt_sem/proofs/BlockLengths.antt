@@ -1,6 +1,6 @@
 -- How long a block's code is: what it copies first is of its parameters.
 use Rattle.std.specs.Prelude.{◌≡◌, refl, ℕ, suc, ◌+◌, ◌*◌, ◌≤◌, ◌<◌, ◌^◌, ◌==◌, Bool, true, false, List, [], ◌∷◌, ◌++◌, length, map, flat_map, if◌then◌else◌, Option, Some, None}
-use Rattle.std.proofs.Common.{arith, sym, ap, ◌∙◌}
+use Rattle.std.proofs.Common.{arith}
 use Rattle.std.proofs.lemmas.List.{length-append}
 use Rattle.code_form.specs.Bytes.{code_bytes, size, spelling}
 use Rattle.code_form.specs.Heights.{Step}
@@ -18,18 +18,18 @@ use Rattle.m2_base.specs.Statics.Cells.{capped}
 use Rattle.m2_base.specs.Statics.Contexts.{Context, Source}
 use Rattle.m2_base.specs.Statics.Declarations.{declare}
 use Rattle.m2_base.specs.Statics.Effects.{BlockEffects, Effect, ParamCopy, open_copy, own_copy}
-use Rattle.m2_base.specs.Statics.HeadingRows.{Placing, heading_rows, open_copies, own_section_rows, own_sections_rows, parameter_row, parameter_rows, placing}
+use Rattle.m2_base.specs.Statics.HeadingRows.{Placing, open_copies, own_section_rows, own_sections_rows, parameter_row, parameter_rows, placing}
 use Rattle.m2_base.specs.Statics.Items.{Item, const_item, decl_item, heading_item, heading_items, import_item, import_items, items_of, proc_item, type_item, vars_item}
 use Rattle.m2_base.specs.Statics.Makes.{Makes, make_then, makes, makes_named, only_gives, with_rows}
 use Rattle.m2_base.specs.Statics.ProcedureRows.{parameter_cells, parameter_count, result_cells}
 use Rattle.m2_base.specs.Statics.ProcedureTypes.{is_structured, open_array_row}
 use Rattle.m2_base.specs.Statics.TypeNames.{type_of_qual}
 use Rattle.m2_base.specs.Statics.Types.{size_of}
-use Rattle.m2_base.specs.Trees.{Decl, Heading, Import, Section, Stream, const_decl, proc_decl, type_decl, vars_decl}
-use Rattle.expr_sem.proofs.Lengths.{Spares, call-short, none-short, plain-short, short-then, spares-short}
+use Rattle.m2_base.specs.Trees.{Decl, Heading, Import, Section, const_decl, proc_decl, type_decl, vars_decl}
+use Rattle.expr_sem.proofs.Lengths.{call-short, none-short, plain-short, short-then, spares-short}
 use Rattle.expr_sem.proofs.ValueHeights.{both_ways}
 use Rattle.expr_sem.specs.Lengths.{IsShort}
-use Rattle.expr_sem.specs.Parts.{Part, Spot, none, plain, steps_size, ◌⨟◌}
+use Rattle.expr_sem.specs.Parts.{plain, steps_size, ◌⨟◌}
 use Rattle.stmt_sem.specs.BlockCode.{copy_code, ending, first_spot, prologue, run_of}
 use Rattle.stmt_sem.specs.Flows.{Flow, straight, ◌⨾◌}
 use Rattle.stmt_sem.specs.Returns.{return_code}

@@ -1,31 +1,27 @@
 -- The law of lengths for statements and blocks: by recursion on the trees.
-use Rattle.std.specs.Prelude.{◌≡◌, refl, ℕ, suc, ◌+◌, ◌*◌, ◌≤◌, ◌<◌, ◌^◌, ◌==◌, nat_le, Bool, true, false, ℤ, List, [], ◌∷◌, ◌++◌, length, map, flat_map, if◌then◌else◌, Option, Some, None}
+use Rattle.std.specs.Prelude.{◌≡◌, refl, ℕ, ◌+◌, ◌*◌, ◌≤◌, ◌<◌, ◌^◌, nat_le, true, ℤ, List, [], length, if◌then◌else◌, Option, Some, None}
 use Rattle.std.proofs.Common.{arith}
 use Rattle.std.proofs.lemmas.Bool.{leb-true}
 use Rattle.code_form.specs.Heights.{Step}
-use Rattle.code_form.specs.declared.instr.Instr.TheVariants.{Load, Local, Move, OpenCopy, Return, Trap}
 use Rattle.m2_base.specs.Gives.{gives}
 use Rattle.m2_base.specs.declared.rows.Place.{Place}
 use Rattle.m2_base.specs.declared.rows.Row.{Row}
 use Rattle.m2_base.specs.Statics.BlockRows.{declare_block}
 use Rattle.m2_base.specs.Statics.UnitNotes.{complete_context}
 use Rattle.m2_base.specs.Statics.Blocks.{BlockTree}
-use Rattle.m2_base.specs.Statics.CaseLabels.{CaseLabels, labels_of}
+use Rattle.m2_base.specs.Statics.CaseLabels.{labels_of}
 use Rattle.m2_base.specs.Statics.Contexts.{Context, Source, refuse}
 use Rattle.m2_base.specs.Statics.Diagnostics.{exit_outside_loop}
-use Rattle.m2_base.specs.Statics.Effects.{BlockEffects, ParamCopy, open_copy, own_copy}
 use Rattle.m2_base.specs.Statics.Operands.{is_bad}
-use Rattle.m2_base.specs.Statics.ProcedureRows.{result_cells}
 use Rattle.m2_base.specs.Statics.Ranges.{Range}
-use Rattle.m2_base.specs.Trees.{CaseArm, CaseArms, CaseElse, Designator, Expr, Heading, IfArm, IfArms, Statement, Statements, StmtForm, assign_form, call_statement, case_arm, case_else, case_form, designator_at, empty_form, exit_form, expr_at, for_form, if_arm, if_form, loop_form, more_case_arms, more_if_arms, more_statements, no_case_arms, no_case_else, no_if_arms, no_statements, repeat_form, return_form, statement, while_form, with_form}
+use Rattle.m2_base.specs.Trees.{CaseArm, CaseArms, CaseElse, Designator, Expr, IfArm, IfArms, Statement, Statements, StmtForm, assign_form, call_statement, case_arm, case_else, case_form, designator_at, empty_form, exit_form, expr_at, for_form, if_arm, if_form, loop_form, more_case_arms, more_if_arms, more_statements, no_case_arms, no_case_else, no_if_arms, no_statements, repeat_form, return_form, statement, while_form, with_form}
 use Rattle.expr_sem.specs.Coded.{Coded}
 use Rattle.expr_sem.specs.Expressions.{call_alone, designated}
-use Rattle.expr_sem.specs.Lengths.{IsShort}
-use Rattle.expr_sem.specs.Parts.{Part, Spot, none, plain, steps_size, ◌⨟◌}
+use Rattle.expr_sem.specs.Parts.{Part, none, steps_size}
 use Rattle.expr_sem.specs.Tokens.{designator_tokens, expr_tokens, exprs_tokens, labels_tokens}
 use Rattle.expr_sem.proofs.FunctionLengths.{variable-roomy}
 use Rattle.expr_sem.proofs.LengthLaw.{call_alone-sized, designated-roomy, value-roomy}
-use Rattle.expr_sem.proofs.Lengths.{Spares, call-short, none-short, plain-short, short-then, spares-less, spares-short}
+use Rattle.expr_sem.proofs.Lengths.{Spares, spares-less, spares-short}
 use Rattle.expr_sem.proofs.ValueHeights.{both_ways}
 use Rattle.expr_sem.proofs.ValueLengths.{Roomy, Sized}
 use Rattle.stmt_sem.specs.Assignments.{assignment, code_unless_bad}
@@ -34,9 +30,8 @@ use Rattle.stmt_sem.specs.Cases.{labels_code, no_case, selector_code, selector_t
 use Rattle.stmt_sem.specs.Counting.{bound_value, control_variable, for_first, for_last, for_more, for_step, for_test, has_code, or_one}
 use Rattle.stmt_sem.specs.Flows.{Flow, counted, exit, in_with, nothing, straight, with_cell, ◌⨾◌}
 use Rattle.stmt_sem.specs.Lengths.{IsShortFor}
-use Rattle.stmt_sem.specs.Returns.{return_code}
 use Rattle.stmt_sem.specs.Statements.{Arm, Stand, arm_before, arm_flow, arms_flow, by_of, case_flow, cases_flow, else_flow, else_of, flow_of, flow_or_nothing, for_flow, form_flow, in_loop, return_of, statement_flow, test, value_at, variable, within}
-use Rattle.stmt_sem.specs.Tokens.{block_tokens, case_arm_tokens, case_arms_tokens, else_tokens, if_arm_tokens, if_arms_tokens, option_tokens, parameters_of, statement_tokens, statements_tokens, stmt_form_tokens}
+use Rattle.stmt_sem.specs.Tokens.{block_tokens, case_arm_tokens, case_arms_tokens, else_tokens, if_arm_tokens, if_arms_tokens, option_tokens, statement_tokens, statements_tokens, stmt_form_tokens}
 use Rattle.stmt_sem.specs.Withs.{in_with_of, record_variable, with_code}
 use Rattle.stmt_sem.proofs.BlockLengths.{below, length-code, run-short}
 use Rattle.stmt_sem.proofs.FlowLengths.{FlowSpares, choose-spares, counted-spares, exit-spares, flow-less, for_ever-spares, in_with-spares, nothing-spares, straight-spares, then-spares, until-spares, when-spares, while-spares, with_cell-spares}
@@ -305,7 +300,7 @@ steps_of source before all b = (run_of b (declare_block source before b).value (
 short : (x y n : ℕ) → x ≡ y → y ≤ 64 * n → x ≤ 64 * n
 short x y n e f = omega (arith, e, f)
 
-steps-short : (source : Source) (before all : List (List Row)) (b : BlockTree) → steps_size (steps_of source before all b) ≤ 64 * block_tokens b.tree
+pub steps-short : (source : Source) (before all : List (List Row)) (b : BlockTree) → steps_size (steps_of source before all b) ≤ 64 * block_tokens b.tree
 steps-short source before all b =
     let c : Context = complete_context source all b.block in
     run-short source before b (body_of c b).value (all-lean (stand_of c b) b.tree.body)

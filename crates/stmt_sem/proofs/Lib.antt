@@ -14,4 +14,6 @@ pub mod FlowsPushed
 pub mod FlowsSized
 pub mod Points
 pub mod Still
+pub mod JumpRanges
+pub mod ReturnHeights
 pub mod ValidBlocks

@@ -1,16 +1,20 @@
 -- Steps that stand where they may have valid code: at their places each height is right, and each jump goes to an instruction.
-use Rattle.std.specs.Prelude.{◌≡◌, refl, ℕ, zero, suc, ◌+◌, ◌-◌, ◌≤◌, ◌<◌, max, ℤ, pos, negsuc, ◌+ℤ◌, ◌-ℤ◌, int_le, int_lt, ◌==◌, ◌&&◌, ◌||◌, Bool, true, false, cond, ltb, leb, eqb, nat_lt, if◌then◌else◌, List, [], ◌∷◌, ◌++◌, length, map, Option, Some, None, ◌⊎◌}
+use Rattle.std.specs.Prelude.{◌≡◌, refl, ℕ, zero, suc, ◌+◌, ◌-◌, ◌≤◌, ◌<◌, max, ℤ, pos, negsuc, ◌+ℤ◌, ◌-ℤ◌, int_le, int_lt, ◌==◌, ◌&&◌, ◌||◌, Bool, true, false, cond, ltb, nat_lt, if◌then◌else◌, List, [], ◌∷◌, ◌++◌, length, Option, Some, None, ◌⊎◌}
 use Rattle.std.proofs.Common.{arith, sym, ap, subst, ◌∙◌, inl, inr}
 use Rattle.std.proofs.lemmas.Bool.{le-ltb, le-leb, lt-ltb, ltb-false, ltb-true, eq-eqb, ne_eqb}
 use Rattle.code_form.specs.Bytes.{size}
-use Rattle.code_form.specs.Heights.{Callees, Step, after_step, greatest, step_among}
+use Rattle.code_form.specs.Heights.{Callees, Step, after_step, greatest}
 use Rattle.code_form.specs.declared.instr.Instr.{Instr}
 use Rattle.code_form.specs.Modules.{Procedure, World}
-use Rattle.code_form.specs.Valid.{Fault, Point, at_place, callees_of, fault_among, first_not, height_behind, highest, in_code, in_code_or, is_end, is_level, is_right, jump_of, names_what_is_there, of_high, points, returns_all, same_height, same_place, target_passes}
-use Rattle.expr_sem.specs.Heights.{Reaches}
+use Rattle.code_form.specs.Valid.{Fault, Point, at_place, callees_of, fault_among, first_not, highest, in_code, in_code_or, is_end, is_level, is_right, jump_of, names_what_is_there, of_high, points, returns_all, same_height, target_passes}
 use Rattle.expr_sem.specs.Parts.{steps_size}
-use Rattle.stmt_sem.specs.Heights.{Behind, Goes, Has, Leads, Stands, behind, farther, passed}
-use Rattle.stmt_sem.specs.Places.{Agree, NameThere, ReturnAll, instrs_of}
+use Rattle.stmt_sem.specs.Heights.{Behind, Goes, Has, Leads, Stands, farther, passed}
+use Rattle.stmt_sem.specs.Places.{Agree, NameThere, instrs_of}
+
+-- from this height on, what each return finds is the result alone
+abbrev pub ReturnAll : (height : ℕ) → List Step → Type 0
+ReturnAll h [] = Unit {0}
+ReturnAll h (s ∷ ss) = (returns_all s.instr (pos h) s.takes ≡ true) × ReturnAll (after_step h s) ss
 
 -- ---- where steps stand with no way out
 
@@ -151,7 +155,7 @@ ahead-on all n h s ss f = λ j k r.
     back : (z j : ℕ) → j ≡ (z + j) - z
     back z j = omega arith
 
-nearer : (m d k : ℕ) (b : Behind) → Has d k (farther m b) → (m ≤ d) × Has (d - m) k b
+pub nearer : (m d k : ℕ) (b : Behind) → Has d k (farther m b) → (m ≤ d) × Has (d - m) k b
 nearer m d k [] r = absurd r
 nearer m d k (p ∷ ps) (inl r) = (most p.0 m d r.0, inl (left p.0 m d r.0, r.1))
   where
@@ -327,8 +331,8 @@ no_fault w k p ss m f a r t e d g =
     let right : first_not (is_right w k p all) all ≡ None = rights w k p all [] 0 0 ss f t e (start (steps_size ss) (length p.code) d) ahead past in
     let level : first_not (is_level all) all ≡ None = levels all [] 0 0 ss f r ahead past in
     let high : same_height (highest (pos 0) all) (pos p.high) ≡ true =
-        ap (λ (x : ℤ). same_height x (pos p.high)) (highest-marks [] 0 0 0 ss (omega arith) f)
-        ∙ eq-eqb (max 0 (greatest 0 ss)) p.high (top (greatest 0 ss) p.high g) in
+    ap (λ (x : ℤ). same_height x (pos p.high)) (highest-marks [] 0 0 0 ss (omega arith) f)
+    ∙ eq-eqb (max 0 (greatest 0 ss)) p.high (top (greatest 0 ss) p.high g) in
     ap (λ (ps : List Point). decide (length is == 0) (first_not (is_right w k p ps) ps) (first_not (is_level ps) ps) (same_height (highest (pos 0) ps) (pos p.high)))
     (points-marks (callees_of w p) [] 0 0 ss a f)
     ∙ ap (λ (b : Bool). decide b (first_not (is_right w k p all) all) (first_not (is_level all) all) (same_height (highest (pos 0) all) (pos p.high)))

@@ -1,8 +1,7 @@
 -- How long the code is that statements are made of.
-use Rattle.std.specs.Prelude.{◌≡◌, refl, ℕ, suc, ◌+◌, ◌*◌, ◌≤◌, Bool, true, false, not, ◌&&◌, ◌||◌, if◌then◌else◌, int_le, ℤ, pos, negsuc, List, [], ◌∷◌, ◌++◌, length, min, Option, Some, None, is_some, nat_le}
+use Rattle.std.specs.Prelude.{◌≡◌, refl, ℕ, suc, ◌+◌, ◌*◌, ◌≤◌, Bool, true, false, ◌&&◌, ◌||◌, if◌then◌else◌, int_le, ℤ, pos, negsuc, List, [], ◌∷◌, ◌++◌, length, min, Option, Some, None, is_some, nat_le}
 use Rattle.std.specs.List.{list_any}
 use Rattle.std.proofs.Common.{arith}
-use Rattle.code_form.specs.declared.instr.Instr.{Instr}
 use Rattle.code_form.specs.declared.instr.Instr.TheVariants.{Add, AndJump, Dup, Eq, Ge, Le, Load, Local, More, Move, OrJump, Push, Return, Store, Trap}
 use Rattle.m2_base.specs.Gives.{Gives, and_then, gives}
 use Rattle.m2_base.specs.Rows.{row_meaning}
@@ -28,17 +27,17 @@ use Rattle.expr_sem.specs.Lengths.{IsShort}
 use Rattle.expr_sem.specs.Operators.{side_of}
 use Rattle.expr_sem.specs.Parts.{Part, call, none, plain, skip, steps_size, text, ◌⨟◌}
 use Rattle.expr_sem.specs.RecordFields.{with_field}
-use Rattle.expr_sem.specs.Tokens.{expr_tokens, label_tokens, labels_tokens}
+use Rattle.expr_sem.specs.Tokens.{label_tokens, labels_tokens}
 use Rattle.expr_sem.specs.Values.{assigned_to}
 use Rattle.expr_sem.specs.Variables.{entry_coded}
 use Rattle.expr_sem.proofs.DesignatorLengths.{entry-roomy}
 use Rattle.expr_sem.proofs.Lengths.{Spares, call-short, none-short, plain-short, short-then, spares-before, spares-behind, spares-less, spares-short, spares-then, text-short}
 use Rattle.expr_sem.proofs.ValueHeights.{both_ways}
 use Rattle.expr_sem.proofs.ValueLengths.{Roomy, assigned-roomy, error-roomy, fitted-spares, value-spares}
-use Rattle.stmt_sem.specs.Assignments.{assignment, code_unless_bad, store_by, store_code, store_text, store_value}
+use Rattle.stmt_sem.specs.Assignments.{assignment, store_by, store_code, store_value}
 use Rattle.stmt_sem.specs.Cases.{label_by, label_code, labels_code, more_labels_code, no_case, selector_code, selector_value}
-use Rattle.stmt_sem.specs.Counting.{bound_value, can_control, comparison, control_variable, controls, controls_by, for_first, for_last, for_more, for_step, for_test, has_code}
-use Rattle.stmt_sem.specs.Returns.{return_alone, return_code, return_value, returned}
+use Rattle.stmt_sem.specs.Counting.{bound_value, can_control, control_variable, controls, controls_by, for_first, for_last, for_more, for_step, for_test, has_code}
+use Rattle.stmt_sem.specs.Returns.{return_alone, return_code, return_value}
 use Rattle.stmt_sem.specs.Tests.{false_code, test_code}
 use Rattle.stmt_sem.specs.Withs.{is_record, record_variable, with_code}
 

@@ -1,5 +1,5 @@
 -- Statements that no LOOP is round have no EXIT that leads out of them: their code is the same whatever stands behind.
-use Rattle.std.specs.Prelude.{◌≡◌, refl, ℕ, ◌+◌, Bool, true, false, ℤ, pos, List, [], ◌∷◌, ◌++◌, if◌then◌else◌, Option, Some, None}
+use Rattle.std.specs.Prelude.{◌≡◌, refl, ℕ, ◌+◌, Bool, false, ℤ, pos, List, [], ◌∷◌, ◌++◌, if◌then◌else◌, Option, Some, None}
 use Rattle.std.proofs.Common.{sym, ap, subst, ◌∙◌}
 use Rattle.code_form.specs.Heights.{Step}
 use Rattle.code_form.specs.declared.instr.Instr.TheVariants.{Jump, JumpFalse}
@@ -11,11 +11,11 @@ use Rattle.m2_base.specs.Statics.Contexts.{Context, refuse}
 use Rattle.m2_base.specs.Statics.Diagnostics.{exit_outside_loop}
 use Rattle.m2_base.specs.Statics.Operands.{is_bad, operand_type}
 use Rattle.m2_base.specs.Statics.Ranges.{Range}
-use Rattle.m2_base.specs.Trees.{CaseArm, CaseArms, CaseElse, Expr, IfArm, IfArms, Statement, Statements, StmtForm, assign_form, call_statement, case_arm, case_else, case_form, designator_at, empty_form, exit_form, expr_at, for_form, if_arm, if_form, loop_form, more_case_arms, more_if_arms, more_statements, no_case_arms, no_case_else, no_if_arms, no_statements, repeat_form, return_form, statement, while_form, with_form}
+use Rattle.m2_base.specs.Trees.{CaseArm, CaseArms, CaseElse, IfArm, IfArms, Statement, Statements, StmtForm, assign_form, call_statement, case_arm, case_else, case_form, designator_at, empty_form, exit_form, expr_at, for_form, if_arm, if_form, loop_form, more_case_arms, more_if_arms, more_statements, no_case_arms, no_case_else, no_if_arms, no_statements, repeat_form, return_form, statement, while_form, with_form}
 use Rattle.expr_sem.proofs.ValueHeights.{both_ways}
 use Rattle.expr_sem.specs.Coded.{Coded}
 use Rattle.expr_sem.specs.Parts.{Part, Spot, plain_step, steps_size}
-use Rattle.stmt_sem.specs.Cases.{labels_code, no_case, selector_code, selector_type}
+use Rattle.stmt_sem.specs.Cases.{labels_code, selector_code, selector_type}
 use Rattle.stmt_sem.specs.Counting.{bound_value, control_variable, for_first, for_last, for_more, for_step, for_test, has_code, or_one}
 use Rattle.stmt_sem.specs.Flows.{Flow, back, choose, counted, exit, in_with, jump_size, nothing, straight, until_true, when, while_true, with_cell, ◌⨾◌}
 use Rattle.stmt_sem.specs.Statements.{Arm, Stand, arm_before, arm_flow, arms_flow, by_of, case_flow, cases_flow, else_flow, else_of, flow_of, flow_or_nothing, for_flow, form_flow, statement_flow, test, value_at, variable, within}
@@ -50,7 +50,7 @@ choose-still t f other g h = λ at o o'.
     let inner : ℕ → List Step = (f (t at).next).code in
     let behind : ℕ → List Step = (other (f (t at).next).next).code in
     let all : List Step → List Step → List Step = λ c d. (t at).code ++ (plain_step (JumpFalse (pos (steps_size c + jump_size)))
-        ∷ (c ++ (plain_step (Jump (pos (steps_size d))) ∷ d))) in
+    ∷ (c ++ (plain_step (Jump (pos (steps_size d))) ∷ d))) in
     ap (λ (d : List Step). all (inner (o + steps_size d + jump_size)) d) (h (f (t at).next).next o o')
     ∙ ap (λ (c : List Step). all c (behind o')) (g (t at).next (o + steps_size (behind o') + jump_size) (o' + steps_size (behind o') + jump_size))
 

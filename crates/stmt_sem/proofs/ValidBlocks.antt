@@ -1,12 +1,9 @@
 -- A block's code is valid where its instructions are ones and name what is there.
-use Rattle.std.specs.Prelude.{◌≡◌, refl, ℕ, ◌+◌, ◌≤◌, ◌==◌, Bool, true, false, List, [], ◌∷◌, ◌++◌, length, if◌then◌else◌, Option, Some, None}
-use Rattle.std.specs.List.{AllByRecursion}
+use Rattle.std.specs.Prelude.{◌≡◌, refl, ℕ, ◌+◌, ◌*◌, ◌^◌, ◌<◌, ◌≤◌, ◌==◌, Bool, true, false, List, [], ◌∷◌, ◌++◌, length, if◌then◌else◌, Option, Some, None}
 use Rattle.std.proofs.Common.{arith, sym, ap, subst, ◌∙◌, append_assoc}
-use Rattle.code_form.specs.Bytes.{code_bytes}
-use Rattle.code_form.specs.Heights.{Step, greatest}
-use Rattle.code_form.specs.Instructions.{IsInstr}
+use Rattle.code_form.specs.Heights.{Step}
 use Rattle.code_form.specs.Modules.{Procedure, World}
-use Rattle.code_form.specs.Valid.{AreInstrs, IsValidCode, callees_of, fault_among, is_end, jump_of}
+use Rattle.code_form.specs.Valid.{IsValidCode, callees_of, is_end, jump_of}
 use Rattle.code_form.specs.declared.instr.Instr.TheVariants.{Return, Trap}
 use Rattle.m2_base.specs.declared.rows.Row.{Row}
 use Rattle.m2_base.specs.Statics.BlockRows.{declare_block}
@@ -17,16 +14,20 @@ use Rattle.m2_base.specs.Statics.ProcedureRows.{result_cells}
 use Rattle.m2_base.specs.Statics.UnitNotes.{complete_context}
 use Rattle.m2_base.specs.Trees.{Heading}
 use Rattle.expr_sem.proofs.ValueHeights.{both_ways}
-use Rattle.expr_sem.specs.Parts.{Part, Spot, call, plain, plain_step, steps_size}
+use Rattle.expr_sem.specs.Parts.{Spot, plain, plain_step, steps_size}
 use Rattle.stmt_sem.specs.BlockCode.{block_code, body_of, ending, first_spot, prologue, run_of, stand_of}
 use Rattle.stmt_sem.specs.Flows.{Flow, straight, ◌⨾◌}
 use Rattle.stmt_sem.specs.Heights.{KeepsHeight, Stands}
-use Rattle.stmt_sem.specs.Places.{Agree, NameThere, ReturnAll, block_steps, instrs_of}
+use Rattle.stmt_sem.specs.Places.{Agree, NameThere, OthersInRange, block_steps, instrs_of}
+use Rattle.stmt_sem.specs.Tokens.{block_tokens}
+use Rattle.stmt_sem.proofs.JumpRanges.{in_range}
+use Rattle.stmt_sem.proofs.LengthLaw.{steps-short}
 use Rattle.stmt_sem.specs.Returns.{return_code}
 use Rattle.stmt_sem.proofs.BlockLengths.{length-code}
 use Rattle.stmt_sem.proofs.Flowing.{straight-flows, then-flows}
 use Rattle.stmt_sem.proofs.Law.{all-flows, prologue-moves}
-use Rattle.stmt_sem.proofs.Points.{Ends, Sits, no_fault, sits-append}
+use Rattle.stmt_sem.proofs.Points.{Ends, ReturnAll, Sits, no_fault, sits-append}
+use Rattle.stmt_sem.proofs.ReturnHeights.{Exact, all-exact, prologue-stays, straight-exact, then-exact}
 use Rattle.stmt_sem.proofs.Still.{Still, all-still}
 
 -- ---- the last step
@@ -92,26 +93,42 @@ whole b e body g s =
     let zero : Stands [] 0 0 (p ++ c) 0 = subst (P 0) (s s1 0 n) (before at [] 0) in
     let one : Stands [] 1 0 (p ++ c) 0 = subst (P 1) (s s1 1 n) (before at [] 1) in
     let made : Whole ((p ++ c) ++ (x ∷ [])) = record {
-          sits = sits-append [] 0 0 (p ++ c) x zero one l.takes l.stays;
-          ends = ends-append (p ++ c) x l.ends;
-          some = some-append (p ++ c) x;
-        } in
+      sits = sits-append [] 0 0 (p ++ c) x zero one l.takes l.stays;
+      ends = ends-append (p ++ c) x l.ends;
+      some = some-append (p ++ c) x;
+    } in
     subst Whole (append_assoc p c (x ∷ []) ∙ ap (λ (q : List Step). p ++ (c ++ q)) (sym (last-is b.tree.heading (body s1).next))) made
+
+ending-exact : (h : Option Heading) → Exact (straight (ending h))
+ending-exact None = λ at o. (refl, tt)
+ending-exact (Some h) =
+    both_ways (λ p. Exact (straight p)) (result_cells h.result == 0) return_code (plain (Trap 7 ∷ [])) (λ at o. (refl, tt)) (λ at o. (refl, tt))
+
+returns : (b : BlockTree) (e : BlockEffects) (body : Flow) → KeepsHeight body → Exact body → ReturnAll 0 ((run_of b e body).code 0)
+returns b e body k g =
+    let last : Flow = straight (ending b.tree.heading) in
+    then-exact (straight (prologue e.prologue)) (body ⨾ last) (straight-flows (prologue e.prologue) (prologue-moves e.prologue))
+    (straight-exact (prologue e.prologue) (prologue-stays e.prologue)) (then-exact body last k g (ending-exact b.tree.heading))
+    (first_spot b.tree.kind e) 0
+
+short_enough : (x n : ℕ) → x ≤ 64 * n → n ≤ 1048576 → x < 2 ^ 31
+short_enough x n e f = omega (arith, e, f)
 
 -- the code of a block is valid
 pub block-valid : (source : Source) (before all : List (List Row)) (b : BlockTree) (w : World) (k : ℕ) (p : Procedure)
     → p.code ≡ (block_code source before all b).code → p.high ≡ (block_code source before all b).high
-    → AllByRecursion IsInstr (instrs_of (block_steps source before all b))
+    → block_tokens b.tree ≤ 1048576
+    → OthersInRange (block_steps source before all b)
     → Agree (callees_of w p) (block_steps source before all b)
-    → ReturnAll 0 (block_steps source before all b)
     → NameThere w k p (block_steps source before all b)
     → IsValidCode w k p
-block-valid source before all b w k p e h i a r t =
+block-valid source before all b w k p e h n i a t =
     let c : Context = complete_context source all b.block in
     let ss : List Step = block_steps source before all b in
+    let r : ReturnAll 0 ss = returns b (declare_block source before b).value (body_of c b).value (all-flows (stand_of c b) b.tree.body) (all-exact (stand_of c b) b.tree.body) in
     let g : Whole ss = whole b (declare_block source before b).value (body_of c b).value (all-flows (stand_of c b) b.tree.body) (all-still (stand_of c b) b.tree.body refl) in
     record {
       is = instrs_of ss;
-      instrs = record { in_range = i; spelled = e };
+      instrs = record { in_range = in_range ss g.sits (short_enough (steps_size ss) (block_tokens b.tree) (steps-short source before all b) n) i; spelled = e };
       no_fault = no_fault w k p ss g.some g.sits a r t g.ends (sym (length-code ss) ∙ ap length (sym e)) (sym h);
     }

@@ -1,15 +1,16 @@
 -- Steps at their places, as the conditions of valid code look at them.
-use Rattle.std.specs.Prelude.{◌≡◌, ℕ, pos, true, List, [], ◌∷◌, map}
+use Rattle.std.specs.Prelude.{◌≡◌, ℕ, true, List, [], ◌∷◌, map, None}
 use Rattle.m2_base.specs.declared.rows.Row.{Row}
 use Rattle.m2_base.specs.Statics.BlockRows.{declare_block}
 use Rattle.m2_base.specs.Statics.Blocks.{BlockTree}
 use Rattle.m2_base.specs.Statics.Contexts.{Source}
 use Rattle.m2_base.specs.Statics.UnitNotes.{complete_context}
 use Rattle.stmt_sem.specs.BlockCode.{body_of, run_of}
-use Rattle.code_form.specs.Heights.{Callees, Step, after_step, step_among}
+use Rattle.code_form.specs.Heights.{Callees, Step, step_among}
 use Rattle.code_form.specs.declared.instr.Instr.{Instr}
+use Rattle.code_form.specs.Instructions.{IsInstr}
 use Rattle.code_form.specs.Modules.{Procedure, World}
-use Rattle.code_form.specs.Valid.{names_what_is_there, returns_all}
+use Rattle.code_form.specs.Valid.{jump_of, names_what_is_there}
 
 -- the instructions of steps
 abbrev pub instrs_of : List Step → List Instr
@@ -20,10 +21,10 @@ abbrev pub Agree : Callees → List Step → Type 0
 Agree c [] = Unit {0}
 Agree c (s ∷ ss) = (step_among c s.instr ≡ s) × Agree c ss
 
--- from this height on, what each return finds is the result alone
-abbrev pub ReturnAll : (height : ℕ) → List Step → Type 0
-ReturnAll h [] = Unit {0}
-ReturnAll h (s ∷ ss) = (returns_all s.instr (pos h) s.takes ≡ true) × ReturnAll (after_step h s) ss
+-- each instruction that doesn't jump has its operands in their ranges
+abbrev pub OthersInRange : List Step → Type 0
+OthersInRange [] = Unit {0}
+OthersInRange (s ∷ ss) = (jump_of s.instr ≡ None → IsInstr s.instr) × OthersInRange ss
 
 -- each instruction names what is there
 abbrev pub NameThere : World → (k : ℕ) → Procedure → List Step → Type 0
