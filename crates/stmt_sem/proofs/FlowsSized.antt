@@ -15,7 +15,8 @@ use Rattle.expr_sem.specs.declared.fragments.Fragment.{Fragment}
 use Rattle.expr_sem.specs.declared.fragments.Fragment.TheVariants.{Nothing as NoFragment, Node as FragmentOf}
 use Rattle.expr_sem.specs.declared.fragments.Node.{Node}
 use Rattle.stmt_sem.specs.Cases.{label_by, label_code, labels_code, more_labels_code}
-use Rattle.stmt_sem.specs.FlowNodes.{AreSound, IsArmOf, IsBefore, IsCodeOf, Measures, MeasuresPart, arms_among, block_among, choice_among, code_by, flow_in, flows_in, other_among, test_view}
+use Rattle.case_labels.specs.Seen.{test_seen}
+use Rattle.stmt_sem.specs.FlowNodes.{AreSound, IsArmOf, IsBefore, IsCodeOf, Measures, MeasuresPart, arms_among, block_among, choice_among, code_by, flow_in, flows_in, other_among}
 use Rattle.stmt_sem.specs.FlowPieces.{Over}
 use Rattle.stmt_sem.specs.FlowSizes.{arms_bytes, block_bytes, flow_bytes, label_bytes, labels_bytes, somewhere}
 use Rattle.stmt_sem.specs.Flows as flow
@@ -28,7 +29,7 @@ use Rattle.stmt_sem.specs.declared.flows.Flow.{Flow}
 use Rattle.stmt_sem.specs.declared.flows.Flow.TheVariants.{Nothing, Node as NodeOf}
 use Rattle.stmt_sem.specs.declared.flows.FlowNode.{FlowNode}
 use Rattle.stmt_sem.specs.declared.flows.Flows.{Flows}
-use Rattle.stmt_sem.specs.declared.flows.LabelTest.{LabelTest}
+use Rattle.case_labels.specs.declared.tests.LabelTest.{LabelTest}
 
 -- so many bytes, wherever the part stands
 abbrev pub PartHas : Part → ℕ → Type 0
@@ -124,29 +125,29 @@ by_sized : (t : ℕ) (l : LabelTest) (h : Option ℤ) → l.high ≡ h → PartH
 by_sized t l None e at = refl
 by_sized t l (Some x) e at = refl
 
-pub label_sized : (t : ℕ) (l : LabelTest) → PartHas (label_code t (test_view l)) (label_bytes l)
+pub label_sized : (t : ℕ) (l : LabelTest) → PartHas (label_code t (test_seen l)) (label_bytes l)
 label_sized t l = by_sized t l l.high refl
 
-more_sized : (t : ℕ) (ls : List LabelTest) → PartHas (more_labels_code t (map test_view ls)) (labels_bytes ls)
+more_sized : (t : ℕ) (ls : List LabelTest) → PartHas (more_labels_code t (map test_seen ls)) (labels_bytes ls)
 more_sized t [] at = refl
 more_sized t (l ∷ ls) at =
-    let p : Part = label_code t (test_view l) in
-    let e = size_append (p at).code (more_labels_code t (map test_view ls) (p at).next).code in
+    let p : Part = label_code t (test_seen l) in
+    let e = size_append (p at).code (more_labels_code t (map test_seen ls) (p at).next).code in
     let x = label_sized t l at in
     let y = more_sized t ls (p at).next in
     omega (arith, e, x, y)
 
 -- the first label has no jump
-pub labels_sized : (t : ℕ) (ls : List LabelTest) → 0 < length ls → PartHas (labels_code t (map test_view ls)) (labels_bytes ls - 5)
+pub labels_sized : (t : ℕ) (ls : List LabelTest) → 0 < length ls → PartHas (labels_code t (map test_seen ls)) (labels_bytes ls - 5)
 labels_sized t [] h at = absurd (omega (arith, h))
 labels_sized t (l ∷ ls) h at =
-    let p : Part = label_code t (test_view l) in
-    let e = size_append (p at).code (more_labels_code t (map test_view ls) (p at).next).code in
+    let p : Part = label_code t (test_seen l) in
+    let e = size_append (p at).code (more_labels_code t (map test_seen ls) (p at).next).code in
     let x = label_sized t l at in
     let y = more_sized t ls (p at).next in
     omega (arith, e, x, y)
 
-pub none_sized : (t : ℕ) (ls : List LabelTest) → length ls ≡ 0 → PartHas (labels_code t (map test_view ls)) 9
+pub none_sized : (t : ℕ) (ls : List LabelTest) → length ls ≡ 0 → PartHas (labels_code t (map test_seen ls)) 9
 none_sized t [] h at = refl
 none_sized t (l ∷ ls) h at = absurd (omega (arith, h))
 
@@ -210,7 +211,7 @@ fragment_sized ns s (FragmentOf k) h at = known ns k h (λ n e. (s k n e).size a
     known (n ∷ ms) zero h f = f n refl
     known (n ∷ ms) (suc k) h f = known ms k (omega (arith, h)) f
 
-labels_measures : (ls : List LabelTest) → (n : ℕ) × MeasuresPart (λ t. labels_code t (map test_view ls)) n
+labels_measures : (ls : List LabelTest) → (n : ℕ) × MeasuresPart (λ t. labels_code t (map test_seen ls)) n
 labels_measures [] = (9, λ t at. refl)
 labels_measures (l ∷ ls) = (labels_bytes (l ∷ ls) - 5, λ t. labels_sized t (l ∷ ls) (omega arith))
 

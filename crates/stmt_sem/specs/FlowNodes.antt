@@ -3,7 +3,6 @@
 -- is the same for every cell.
 use Rattle.std.specs.Prelude.{◌≡◌, ℕ, ◌<◌, List, [], ◌∷◌, ◌++◌, length, map, Option, Some, None, Result, Ok, Err, slice_get, slice_index_or}
 use Rattle.m2_base.specs.Lists.{Each, IsPrefixOf}
-use Rattle.m2_base.specs.Statics.CaseLabels as labels
 use Rattle.m2_base.specs.declared.memory.Memory.{Memory}
 use Rattle.code_form.specs.declared.instr.Instr.TheVariants.{Load, Local, Store}
 use Rattle.expr_sem.specs.Fragments as fragments
@@ -23,18 +22,14 @@ use Rattle.stmt_sem.specs.declared.flows.FlowForm.{FlowForm}
 use Rattle.stmt_sem.specs.declared.flows.FlowForm.TheVariants.{Straight, Block, Exit, Choice, WhileTrue, UntilTrue, ForEver, Counted, WithCell, InWith}
 use Rattle.stmt_sem.specs.declared.flows.FlowNode.{FlowNode}
 use Rattle.stmt_sem.specs.declared.flows.Flows.{Flows}
-use Rattle.stmt_sem.specs.declared.flows.LabelTest.{LabelTest}
-
--- a label's test as the definitions see it
-abbrev pub test_view : LabelTest → labels.LabelTest
-test_view l = record { low = l.low; high = l.high }
+use Rattle.case_labels.specs.Seen.{test_seen}
 
 -- a statement's own code, by the cell of the statement
 abbrev pub code_by : List Node → Code → (cell : ℕ) → Part
 code_by ns (Fixed f) t = part ns f
 code_by ns (Stored f) t = plain (Local 0 t ∷ []) ⨟ part ns f ⨟ plain (Store ∷ [])
 code_by ns (Compared f i) t = part ns f ⨟ plain (Load ∷ Local 0 t ∷ Load ∷ i ∷ [])
-code_by ns (Labels ls) t = labels_code t (map test_view ls.items)
+code_by ns (Labels ls) t = labels_code t (map test_seen ls.items)
 
 -- what a statement's code is, by the cell of the statement
 abbrev pub CellFlow : Type 0

@@ -4,13 +4,14 @@ use Rattle.expr_sem.specs.Parts.{Spot, steps_size}
 use Rattle.expr_sem.specs.Fragments.{part}
 use Rattle.expr_sem.specs.declared.fragments.Fragment.{Fragment}
 use Rattle.stmt_sem.specs.Cases.{label_code}
-use Rattle.stmt_sem.specs.FlowNodes.{code_by, flow_in, test_view}
+use Rattle.case_labels.specs.Seen.{test_seen}
+use Rattle.stmt_sem.specs.FlowNodes.{code_by, flow_in}
 use Rattle.stmt_sem.specs.Flows.{jump_size}
 use Rattle.stmt_sem.specs.declared.flows.Arm.{Arm}
 use Rattle.stmt_sem.specs.declared.flows.Code.{Code}
 use Rattle.stmt_sem.specs.declared.flows.Flow.{Flow}
 use Rattle.stmt_sem.specs.declared.flows.Flows.{Flows}
-use Rattle.stmt_sem.specs.declared.flows.LabelTest.{LabelTest}
+use Rattle.case_labels.specs.declared.tests.LabelTest.{LabelTest}
 
 -- a spot, where it doesn't matter which
 abbrev pub somewhere : Spot
@@ -18,7 +19,7 @@ somewhere = record { cell = 0; byte = 0; withs = [] }
 
 -- a label's test
 abbrev pub label_bytes : LabelTest → ℕ
-label_bytes l = steps_size (label_code 0 (test_view l) somewhere).code
+label_bytes l = steps_size (label_code 0 (test_seen l) somewhere).code
 
 -- labels' tests, each with a jump
 abbrev pub labels_bytes : List LabelTest → ℕ

@@ -2,11 +2,13 @@
 ghost use Rattle.std.specs.Prelude.{◌≡◌, ℕ, ◌+◌, IfOk, length, map};
 ghost use Rattle.m2_base.specs.Lists.{Each};
 ghost use Rattle.stmt_sem.specs.Cases.{label_code, labels_code};
-ghost use Rattle.stmt_sem.specs.FlowNodes.{AreSound, IsAmong, IsArmOf, IsBeforeIfAny, IsCodeOf, Measures, MeasuresPart, block_among, choice_among, code_by, flow_in, flows_in, other_among, test_view};
+ghost use Rattle.case_labels.specs.Seen.{test_seen};
+ghost use Rattle.stmt_sem.specs.FlowNodes.{AreSound, IsAmong, IsArmOf, IsBeforeIfAny, IsCodeOf, Measures, MeasuresPart, block_among, choice_among, code_by, flow_in, flows_in, other_among};
 ghost use Rattle.stmt_sem.specs.FlowPieces.{Over};
 ghost use Rattle.stmt_sem.specs.FlowSizes.{arm_bytes, arms_bytes, flow_bytes, label_bytes, labels_bytes};
 
-use crate::flows::{Arm, Code, Flow, Flows, LabelTest};
+use crate::flows::{Arm, Code, Flow, Flows};
+use case_labels::LabelTest;
 use expr_sem::Step;
 use m2_base::Memory;
 
@@ -25,7 +27,7 @@ pub fn sum(first: u64, second: u64) -> Result<u64, Memory>
 
 /// The length of a label's test.
 pub fn label_size(label: &LabelTest) -> u64
-    ensures size { MeasuresPart (λ t. label_code t (test_view label.now)) result }
+    ensures size { MeasuresPart (λ t. label_code t (test_seen label.now)) result }
     ensures bytes { result ≡ label_bytes label.now }
 {
     match label.high {
@@ -48,7 +50,7 @@ fn all_labels_size(labels: &[LabelTest]) -> Result<u64, Memory>
 
 /// The length of the tests of an arm's labels.
 fn labels_size(labels: &[LabelTest]) -> Result<u64, Memory>
-    ensures { IfOk result (λ n. MeasuresPart (λ t. labels_code t (map test_view labels.now)) n) }
+    ensures { IfOk result (λ n. MeasuresPart (λ t. labels_code t (map test_seen labels.now)) n) }
 {
     if labels.is_empty() {
         return Ok(9);

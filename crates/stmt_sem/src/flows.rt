@@ -4,17 +4,11 @@
 ghost use Rattle.std.specs.Prelude.{◌≡◌, []};
 ghost use Rattle.stmt_sem.specs.FlowNodes.{AreSound};
 
+use case_labels::LabelTest;
 use code_form::Instr;
 use expr_sem::{Fragment, Fragments};
 use m2_base::Memory;
 use std::alloc::Global;
-
-/// The test of a label: one value, or those from the first to the second.
-#[derive(Clone, Copy, Debug, PartialEq, Eq)]
-pub struct LabelTest {
-    pub low: i64,
-    pub high: Option<i64>,
-}
 
 /// Code without EXIT that a statement has of its own. It may use the temporary cell of its statement.
 #[derive(Drop)]

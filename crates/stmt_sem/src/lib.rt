@@ -52,5 +52,5 @@ mod returns;
 mod tests;
 mod withs;
 
-pub use flows::{Arm, Code, Flow, FlowForm, FlowNode, Flows, LabelTest};
+pub use flows::{Arm, Code, Flow, FlowForm, FlowNode, Flows};
 pub use laws::{code_is_short, code_is_valid, heights_are_right};

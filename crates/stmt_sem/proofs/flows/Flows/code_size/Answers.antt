@@ -6,9 +6,10 @@ use Rattle.code_form.specs.declared.instr.Instr.TheVariants.{Load, Local, Store}
 use Rattle.expr_sem.specs.Fragments.{part}
 use Rattle.expr_sem.specs.Parts.{plain, plain_step, ◌⨟◌}
 use Rattle.stmt_sem.specs.Cases.{labels_code}
-use Rattle.stmt_sem.specs.FlowNodes.{MeasuresPart, code_by, test_view}
+use Rattle.case_labels.specs.Seen.{test_seen}
+use Rattle.stmt_sem.specs.FlowNodes.{MeasuresPart, code_by}
 use Rattle.stmt_sem.specs.declared.flows.Code.{Code}
-use Rattle.stmt_sem.specs.declared.flows.LabelTest.{LabelTest}
+use Rattle.case_labels.specs.declared.tests.LabelTest.{LabelTest}
 use Rattle.stmt_sem.proofs.FlowsSized.{compared_sized, if_ok, stored_sized}
 use Rattle.stmt_sem.proofs.flows.Flows.code_size.Goals as goal
 
@@ -43,4 +44,4 @@ pub returns-in-Labels : goal.returns-in-Labels
 returns-in-Labels c sound =
     let ns = c.args.self.now.fragments.nodes.items in
     subst (λ (d : Code). IfOk c.labels_size.result (λ k. MeasuresPart (code_by ns d) k)) (sym c.in-Labels.is)
-    (subst (λ (ls : List LabelTest). IfOk c.labels_size.result (λ k. MeasuresPart (λ t. labels_code t (map test_view ls)) k)) c.deref.ensures.value c.labels_size.ensures)
+    (subst (λ (ls : List LabelTest). IfOk c.labels_size.result (λ k. MeasuresPart (λ t. labels_code t (map test_seen ls)) k)) c.deref.ensures.value c.labels_size.ensures)
