@@ -1,19 +1,21 @@
--- No code of an expression or a designator returns: by the same cases as its length.
-use Rattle.std.specs.Prelude.{◌≡◌, refl, ℕ, zero, suc, ◌+◌, ◌-◌, ◌==◌, ◌&&◌, ◌||◌, not, Bool, true, false, if◌then◌else◌, is_some, pos, List, [], ◌∷◌, ◌++◌, length, map, Option, Some, None}
+-- No code of an expression or a designator returns, and what each of its steps takes and leaves is the table's unless it calls:
+-- by the same cases as its length.
+use Rattle.std.specs.Prelude.{◌≡◌, refl, ℕ, zero, suc, ◌+◌, ◌-◌, ◌==◌, ◌&&◌, ◌||◌, not, Bool, true, false, if◌then◌else◌, is_some, pos, List, [], ◌∷◌, ◌++◌, length, map, min, slice_index, Option, Some, None}
 use Rattle.std.proofs.Common.{ap, ◌∙◌}
-use Rattle.code_form.specs.Heights.{Step, step_by}
+use Rattle.code_form.specs.Heights.{Step, step_among, step_by}
 use Rattle.code_form.specs.Instructions.{line_of}
 use Rattle.code_form.specs.declared.effect.Effect.{Effect}
 use Rattle.code_form.specs.declared.effect.Effect.TheVariants.{Changes, CallsOwn, CallsImport, GivesResult}
 use Rattle.code_form.specs.declared.instr.Instr.{Instr}
-use Rattle.code_form.specs.declared.instr.Instr.TheVariants.{Push, Local, Global, Load, Store, Dup, Offset, Index, IndexOpen, Check, Nil, Eq, Union, Diff, Bit, Span, AndJump, OrJump, Call, CallX, Proc as ProcValue, Return, New as Room, Halt as Stop, Mod as Remainder, Abs as Magnitude, Cap as Capital}
+use Rattle.code_form.specs.declared.instr.Instr.TheVariants.{Push, Local, Global, Load, Store, Move, Dup, Offset, Index, IndexOpen, Check, Nil, Eq, Union, Diff, Bit, Span, AndJump, OrJump, Call, CallX, Proc as ProcValue, Return, New as Room, Halt as Stop, Mod as Remainder, Abs as Magnitude, Cap as Capital}
 use Rattle.expr_sem.proofs.ValueHeights.{both_ways}
 use Rattle.expr_sem.specs.Arguments.{address_by, after_argument, alike, argument, array_argument, by_address, by_mode, by_value, checked_mode, is_variable, open_argument, open_element, string_copy, value_argument_by}
-use Rattle.expr_sem.specs.Calls.{Called, allowed, allowed_by_type, call_code, call_coded, called, called_by, cells_of_all, is_same_truth, links_to, no_call, of_target, of_variable, procedure_call, standard_call}
+use Rattle.expr_sem.specs.Calls.{Called, allowed, allowed_by_type, call_code, call_coded, called, called_by, cells_of_all, is_same_truth, links_to, no_call, of_target, of_variable, procedure_call, standard_call, result_cells}
 use Rattle.expr_sem.specs.Coded.{Coded, bare, characters, coded, in_error, is_structured, no_high, taken, value_by, value_code, with_char}
 use Rattle.expr_sem.specs.Elements.{element_of_array, element_of_open, index_instr, of_array, of_pointer, select_element, select_element_by, select_target_by}
 use Rattle.expr_sem.specs.Expressions.{by_called, call_alone, continued, count_of_exprs, designated, element, elements, expression, followed, form_coded, indexed, looked_at, passed, selected, selector, standard, value}
 use Rattle.expr_sem.specs.Fitting.{check_of, fit_of, fitted_code, reaches_beyond}
+use Rattle.expr_sem.specs.Heights.{needs_callee}
 use Rattle.expr_sem.specs.Operators.{made, one_coded, one_instr, operation_code, scalar_instr, set_instr, side_of, two_coded, two_instr}
 use Rattle.expr_sem.specs.Parts.{Part, Spot, call, no_callees, none, plain, plain_step, skip, text, with_record, ◌⨟◌}
 use Rattle.expr_sem.specs.ProcedureNames.{Target, import_number, import_of_target, is_foreign, is_own, procedure_code, target_of_procedure}
@@ -28,6 +30,7 @@ use Rattle.m2_base.specs.Rows.{is_same_place, row_meaning}
 use Rattle.m2_base.specs.Standard.{bitset, cardinal, character, integer}
 use Rattle.m2_base.specs.Statics.Assignable.{is_assignable, is_open_array, is_procedure_type, taken_into}
 use Rattle.m2_base.specs.Statics.Builtins.{builtin_of}
+use Rattle.m2_base.specs.Statics.Cells.{capped}
 use Rattle.m2_base.specs.Statics.Compatible.{is_compatible}
 use Rattle.m2_base.specs.Statics.Contexts.{Block, Context, Scene, level_of, refuse}
 use Rattle.m2_base.specs.Statics.Diagnostics.{not_a_procedure, not_a_variable, not_assignable, out_of_range, wrong_argument, wrong_count}
@@ -67,33 +70,23 @@ abbrev pub go_on : List Step → Bool
 go_on [] = true
 go_on (s ∷ ss) = goes_on s.instr && go_on ss
 
-abbrev pub Stays : Part → Type 0
-Stays p = (at : Spot) → go_on (p at).code ≡ true
+-- what the step takes and leaves is the table's, unless it asks the callees
+abbrev pub IsOwn : Step → Type 0
+IsOwn s = needs_callee s.instr ≡ false → step_among no_callees s.instr ≡ s
 
-go_on-append : (a b : List Step) → go_on a ≡ true → go_on b ≡ true → go_on (a ++ b) ≡ true
-go_on-append [] b e f = f
-go_on-append (s ∷ ss) b e f = step (goes_on s.instr) (go_on ss) (go_on (ss ++ b)) e (λ g. go_on-append ss b g f)
-  where
-    step : (x y z : Bool) → (x && y) ≡ true → (y ≡ true → z ≡ true) → (x && z) ≡ true
-    step true true z e g = g refl
-    step true false z e g = absurd cc
-    step false y z e g = absurd cc
+abbrev pub Tame : List Step → Type 0
+Tame [] = Unit {0}
+Tame (s ∷ ss) = ((goes_on s.instr ≡ true) × IsOwn s) × Tame ss
+
+abbrev pub Stays : Part → Type 0
+Stays p = (at : Spot) → Tame (p at).code
+
+tame-append : (a b : List Step) → Tame a → Tame b → Tame (a ++ b)
+tame-append [] b e f = f
+tame-append (s ∷ ss) b e f = (e.0, tame-append ss b e.1 f)
 
 pub none-stays : Stays none
-none-stays = λ at. refl
-
-pub plain-stays : (is : List Instr) → go_on (map plain_step is) ≡ true → Stays (plain is)
-plain-stays is e = λ at. e
-
-pub text-stays : (cs : List ℕ) → Stays (text cs)
-text-stays cs = λ at. refl
-
-pub then-stays : (p q : Part) → Stays p → Stays q → Stays (p ⨟ q)
-then-stays p q f g = λ at. go_on-append (p at).code (q (p at).next).code (f at) (g (p at).next)
-
-one_more : (b : Bool) → b ≡ true → (b && true) ≡ true
-one_more true e = refl
-one_more false e = absurd cc
+none-stays = λ at. tt
 
 same_instr : (i : Instr) → (plain_step i).instr ≡ i
 same_instr i = go (line_of i).effect
@@ -104,12 +97,46 @@ same_instr i = go (line_of i).effect
     go (CallsImport m k) = refl
     go GivesResult = refl
 
+plain-tame : (is : List Instr) → go_on (map plain_step is) ≡ true → Tame (map plain_step is)
+plain-tame [] e = tt
+plain-tame (i ∷ is) e =
+    let p = parts (goes_on (plain_step i).instr) (go_on (map plain_step is)) e in
+    ((p.0, λ n. ap (step_among no_callees) (same_instr i)), plain-tame is p.1)
+  where
+    parts : (a b : Bool) → (a && b) ≡ true → (a ≡ true) × (b ≡ true)
+    parts true true e = (refl, refl)
+    parts true false e = absurd cc
+    parts false b e = absurd cc
+
+pub plain-stays : (is : List Instr) → go_on (map plain_step is) ≡ true → Stays (plain is)
+plain-stays is e = λ at. plain-tame is e
+
+pub text-stays : (cs : List ℕ) → Stays (text cs)
+text-stays cs = λ at. ((refl, λ n. refl), tt)
+
+pub then-stays : (p q : Part) → Stays p → Stays q → Stays (p ⨟ q)
+then-stays p q f g = λ at. tame-append (p at).code (q (p at).next).code (f at) (g (p at).next)
+
+pub skip_and-stays : (p : Part) → Stays p → Stays (skip AndJump p)
+skip_and-stays p f = λ at. ((refl, λ n. refl), f at)
+
+pub skip_or-stays : (p : Part) → Stays p → Stays (skip OrJump p)
+skip_or-stays p f = λ at. ((refl, λ n. refl), f at)
+
+one_more : (b : Bool) → b ≡ true → (b && true) ≡ true
+one_more true e = refl
+one_more false e = absurd cc
+
 -- an instruction alone
 alone : (i : Instr) → goes_on i ≡ true → (goes_on (plain_step i).instr && true) ≡ true
 alone i e = one_more (goes_on (plain_step i).instr) (ap goes_on (same_instr i) ∙ e)
 
-call-stays : (i : Instr) (takes leaves : ℕ) → goes_on i ≡ true → Stays (call i takes leaves)
-call-stays i takes leaves e = λ at. one_more (goes_on i) e
+-- what an instruction of a call takes and leaves is the table's, unless it asks the callees
+abbrev IsCall : Instr → (takes leaves : ℕ) → Type 0
+IsCall i takes leaves = (goes_on i ≡ true) × IsOwn (record { instr = i; takes = takes; leaves = leaves })
+
+call-stays : (i : Instr) (takes leaves : ℕ) → IsCall i takes leaves → Stays (call i takes leaves)
+call-stays i takes leaves e = λ at. (e, tt)
 
 -- what stands for something, with what an open array's length needs
 abbrev pub Quiet : Coded → Type 0
@@ -156,9 +183,9 @@ pub value-stays : (c : Context) (x : Coded) → Quiet x → Stays (value_code c 
 value-stays c x g = code_go c x.code x.operand g.0
 
 check-stays : (is : Instr) (from to : Option Range) → goes_on is ≡ true → Stays (plain (is ∷ check_of from to))
-check-stays i from None e = λ at. alone i e
+check-stays i from None e = plain-stays (i ∷ []) (alone i e)
 check-stays i from (Some r) e =
-    both_ways (λ is. Stays (plain (i ∷ is))) (reaches_beyond from r) (Check r.low r.high ∷ []) [] (λ at. alone i e) (λ at. alone i e)
+    both_ways (λ is. Stays (plain (i ∷ is))) (reaches_beyond from r) (Check r.low r.high ∷ []) [] (plain-stays (i ∷ Check r.low r.high ∷ []) (alone i e)) (plain-stays (i ∷ []) (alone i e))
 
 range-stays : (from to : Option Range) → Stays (plain (check_of from to))
 range-stays from None = plain-stays [] refl
@@ -229,13 +256,12 @@ scalar_instr-on b GreaterEqual = refl
 scalar_instr-on b op = refl
 
 two_instr-stays : (scene : Scene) (op : Operator) (r t : Place) → Stays (plain (two_instr scene op r t ∷ []))
-two_instr-stays scene op r t = λ at.
-    alone (two_instr scene op r t)
-    (both_ways (λ i. goes_on i ≡ true) (is_set_kind (kind_of scene t)) (set_instr op) (scalar_instr (side_of scene r) op) (set_instr-on op) (scalar_instr-on (side_of scene r) op))
+two_instr-stays scene op r t = plain-stays (two_instr scene op r t ∷ []) (alone (two_instr scene op r t)
+    (both_ways (λ i. goes_on i ≡ true) (is_set_kind (kind_of scene t)) (set_instr op) (scalar_instr (side_of scene r) op) (set_instr-on op) (scalar_instr-on (side_of scene r) op)))
 
 operation-stays : (scene : Scene) (op : Operator) (r t : Place) (x y : Part) → Stays x → Stays y → Stays (operation_code scene op r t x y)
-operation-stays scene And r t x y f g = then-stays x (skip AndJump y) f g
-operation-stays scene Or r t x y f g = then-stays x (skip OrJump y) f g
+operation-stays scene And r t x y f g = then-stays x (skip AndJump y) f (skip_and-stays y g)
+operation-stays scene Or r t x y f g = then-stays x (skip OrJump y) f (skip_or-stays y g)
 operation-stays scene op r t x y f g =
     then-stays x (y ⨟ plain (two_instr scene op r t ∷ [])) f (then-stays y (plain (two_instr scene op r t ∷ [])) g (two_instr-stays scene op r t))
 
@@ -433,12 +459,12 @@ cell-on b s o =
     (both_ways (λ i. goes_on i ≡ true) (level_of b s == 0) (Global (import_number b s) o) (Local (b.level - level_of b s) o) refl refl)
 
 address-stays : (b : Block) (s o : ℕ) (m : Mode) → Stays (plain (cell_instr b s o ∷ through m))
-address-stays b s o Plain = λ at. alone (cell_instr b s o) (cell-on b s o)
-address-stays b s o ByAddress = λ at. alone (cell_instr b s o) (cell-on b s o)
-address-stays b s o Open = λ at. alone (cell_instr b s o) (cell-on b s o)
+address-stays b s o Plain = plain-stays (cell_instr b s o ∷ []) (alone (cell_instr b s o) (cell-on b s o))
+address-stays b s o ByAddress = plain-stays (cell_instr b s o ∷ Load ∷ []) (alone (cell_instr b s o) (cell-on b s o))
+address-stays b s o Open = plain-stays (cell_instr b s o ∷ Load ∷ []) (alone (cell_instr b s o) (cell-on b s o))
 
 high-stays : (b : Block) (s o : ℕ) (m : Mode) → Stays (high_of_mode b s o m)
-high-stays b s o Open = λ at. alone (cell_instr b s (o + 1)) (cell-on b s (o + 1))
+high-stays b s o Open = plain-stays (cell_instr b s (o + 1) ∷ Load ∷ []) (alone (cell_instr b s (o + 1)) (cell-on b s (o + 1)))
 high-stays b s o m = high-none
 
 row_go : (b : Block) (s : ℕ) (m : RowMeaning) (x : Operand) → Quiet (with_address b s m x)
@@ -466,7 +492,7 @@ QuietIfThere (Some x) = Quiet x
 
 field_or-quiet : (scene : Scene) (k : ℕ) (f : Option Row) (outer : Option Coded) → QuietIfThere outer → QuietIfThere (field_or scene k f outer)
 field_or-quiet scene k None outer g = g
-field_or-quiet scene k (Some f) outer g = field-quiet scene (with_record k) (row_meaning f) (λ at. refl)
+field_or-quiet scene k (Some f) outer g = field-quiet scene (with_record k) (row_meaning f) (λ at. plain-stays (Local 0 (slice_index at.withs k) ∷ Load ∷ []) refl at)
 
 with_field-quiet : (scene : Scene) (k : ℕ) (withs : List Place) (name : ℕ) → QuietIfThere (with_field scene k withs name)
 with_field-quiet scene k [] name = tt
@@ -542,7 +568,11 @@ StaysIfThere None = Unit {0}
 StaysIfThere (Some p) = Stays p
 
 copy-stays : (n : ℕ) (cs : List ℕ) → Stays (string_copy n cs)
-copy-stays n cs = λ at. refl
+copy-stays n cs = λ at.
+    let tail : Part = plain (Move (min (length cs + 1) n) ∷ Local 0 at.cell ∷ []) in
+    then-stays (plain (Local 0 at.cell ∷ [])) (text cs ⨟ tail) (plain-stays (Local 0 at.cell ∷ []) refl)
+    (then-stays (text cs) tail (text-stays cs) (plain-stays (Move (min (length cs + 1) n) ∷ Local 0 at.cell ∷ []) refl))
+    (record at { cell = capped (at.cell + n) })
 
 argument_go : (c : Context) (t : Place) (x : Coded) (o : Operand) → Quiet x → StaysIfThere (value_argument_by c t x o)
 argument_go c t x InError g = tt
@@ -570,7 +600,7 @@ array_argument-stays c want at x m g = tt
 open_go : (c : Context) (want : Place) (at : ℕ) (x : Coded) (o : Operand) → Quiet x → StaysIfThere (open_argument c want at x o).value
 open_go c want at x (StringConstant name l) g =
     both_ways (λ r. StaysIfThere r.value) (is_same c.scene want character) (gives (Some (text (characters c.source name) ⨟ plain (Push (pos (l - 1)) ∷ []))))
-    (refuse c at wrong_argument None) (λ at'. refl) tt
+    (refuse c at wrong_argument None) (then-stays (text (characters c.source name)) (plain (Push (pos (l - 1)) ∷ [])) (text-stays (characters c.source name)) (plain-stays (Push (pos (l - 1)) ∷ []) refl)) tt
 open_go c want at x (Variable u) g = array_argument-stays c want at x (kind_of c.scene u) g
 open_go c want at x o g = tt
 
@@ -602,47 +632,48 @@ after-stays (Some a) (Some b) f g = then-stays a b f g
 after-stays (Some a) None f g = tt
 after-stays None b f g = tt
 
-abbrev QuietCall : Called → Type 0
-QuietCall (standard_call f) = Unit {0}
-QuietCall (procedure_call ps before i result more) = Stays before × (goes_on i ≡ true)
-QuietCall no_call = Unit {0}
+abbrev QuietCall : Scene → Called → Type 0
+QuietCall scene (standard_call f) = Unit {0}
+QuietCall scene (procedure_call ps before i result more) = Stays before × IsCall i (cells_of_all scene ps + more) (result_cells result)
+QuietCall scene no_call = Unit {0}
 
-allowed-quiet : (c : Context) (at : ℕ) (wanted found count : Bool) (what : Called) → QuietCall what → QuietCall (allowed c at wanted found count what).value
+allowed-quiet : (c : Context) (at : ℕ) (wanted found count : Bool) (what : Called) → QuietCall c.scene what → QuietCall c.scene (allowed c at wanted found count what).value
 allowed-quiet c at wanted found count what g =
-    both_ways (λ r. QuietCall r.value) (not (is_same_truth wanted found)) (refuse c at not_a_procedure no_call)
+    both_ways (λ r. QuietCall c.scene r.value) (not (is_same_truth wanted found)) (refuse c at not_a_procedure no_call)
     (if not count then refuse c at wrong_count no_call else gives what) tt
-    (both_ways (λ r. QuietCall r.value) (not count) (refuse c at wrong_count no_call) (gives what) tt g)
+    (both_ways (λ r. QuietCall c.scene r.value) (not count) (refuse c at wrong_count no_call) (gives what) tt g)
 
-by_type-quiet : (c : Context) (at : ℕ) (wanted : Bool) (count : ℕ) (t : Place) (what : Called) → QuietCall what → QuietCall (allowed_by_type c at wanted count t what).value
+by_type-quiet : (c : Context) (at : ℕ) (wanted : Bool) (count : ℕ) (t : Place) (what : Called) → QuietCall c.scene what → QuietCall c.scene (allowed_by_type c at wanted count t what).value
 by_type-quiet c at wanted count t what g = allowed-quiet c at wanted (is_some (result_of_type c.scene t)) (count == length (parameters c.scene t)) what g
 
-target-quiet : (scene : Scene) (t : Place) (p : Option Target) → QuietCall (of_target scene t p)
+target-quiet : (scene : Scene) (t : Place) (p : Option Target) → QuietCall scene (of_target scene t p)
 target-quiet scene t None = tt
 target-quiet scene t (Some p) = (
   none-stays,
-  both_ways (λ i. goes_on i ≡ true) (is_foreign scene.block p) (CallX (import_of_target scene.block p) p.number) (Call p.number (links_to scene.block p.typ.scope)) refl refl,
+  both_ways (λ i. IsCall i (cells_of_all scene (parameters scene t) + 0) (result_cells (result_of_type scene t))) (is_foreign scene.block p)
+      (CallX (import_of_target scene.block p) p.number) (Call p.number (links_to scene.block p.typ.scope)) (refl, λ e. absurd cc) (refl, λ e. absurd cc),
 )
 
-called_go : (c : Context) (wanted : Bool) (at count : ℕ) (code : Part) (o : Operand) → Stays code → QuietCall (called_by c wanted at count code o).value
+called_go : (c : Context) (wanted : Bool) (at count : ℕ) (code : Part) (o : Operand) → Stays code → QuietCall c.scene (called_by c wanted at count code o).value
 called_go c wanted at count code (StandardProcedure k) g =
     allowed-quiet c at wanted (is_function (builtin_of k)) (takes_count (builtin_of k) count) (standard_call (builtin_of k)) tt
 called_go c wanted at count code (Procedure name t k s) g =
     by_type-quiet c at wanted count t (of_target c.scene t (target_of_procedure c.scene name t k)) (target-quiet c.scene t (target_of_procedure c.scene name t k))
 called_go c wanted at count code (Variable t) g =
-    both_ways (λ r. QuietCall r.value) (is_procedure_type c.scene t) (allowed_by_type c at wanted count t (of_variable c.scene t code)) (refuse c at not_a_procedure no_call)
-    (by_type-quiet c at wanted count t (of_variable c.scene t code) (then-stays code (plain (Load ∷ [])) g (plain-stays (Load ∷ []) refl), refl)) tt
+    both_ways (λ r. QuietCall c.scene r.value) (is_procedure_type c.scene t) (allowed_by_type c at wanted count t (of_variable c.scene t code)) (refuse c at not_a_procedure no_call)
+    (by_type-quiet c at wanted count t (of_variable c.scene t code) (then-stays code (plain (Load ∷ [])) g (plain-stays (Load ∷ []) refl), (refl, λ e. refl))) tt
 called_go c wanted at count code (ModuleName s) g = tt
 called_go c wanted at count code InError g = tt
 called_go c wanted at count code o g = tt
 
-called-quiet : (c : Context) (wanted : Bool) (at count : ℕ) (x : Coded) → Quiet x → QuietCall (called c wanted at count x).value
+called-quiet : (c : Context) (wanted : Bool) (at count : ℕ) (x : Coded) → Quiet x → QuietCall c.scene (called c wanted at count x).value
 called-quiet c wanted at count x g = called_go c wanted at count x.code x.operand g.0
 
-code-stays : (before args : Part) (i : Instr) (takes leaves : ℕ) → Stays before → goes_on i ≡ true → Stays args → Stays (before ⨟ args ⨟ call i takes leaves)
+code-stays : (before args : Part) (i : Instr) (takes leaves : ℕ) → Stays before → IsCall i takes leaves → Stays args → Stays (before ⨟ args ⨟ call i takes leaves)
 code-stays before args i takes leaves f e g =
     then-stays before (args ⨟ call i takes leaves) f (then-stays args (call i takes leaves) g (call-stays i takes leaves e))
 
-call_go : (scene : Scene) (ps : List Parameter) (before : Part) (i : Instr) (result : Option Place) (more : ℕ) (args : Option Part) → Stays before → goes_on i ≡ true
+call_go : (scene : Scene) (ps : List Parameter) (before : Part) (i : Instr) (result : Option Place) (more : ℕ) (args : Option Part) → Stays before → IsCall i (cells_of_all scene ps + more) (result_cells result)
     → StaysIfThere args → Quiet (call_coded scene ps before i result more args)
 call_go scene ps before i result more None f e g = error-quiet
 call_go scene ps before i None more (Some args) f e g =
@@ -651,7 +682,7 @@ call_go scene ps before i (Some t) more (Some args) f e g =
     both_ways Quiet (is_broken scene t) in_error (coded (Computed t) (call_code scene ps before i (Some t) more args)) error-quiet
     (coded-quiet (Computed t) (call_code scene ps before i (Some t) more args) (code-stays before args i (cells_of_all scene ps + more) 1 f e g))
 
-by_called-quiet : (c : Context) (what : Called) (standard : Builtin → Gives Coded) (passed : List Parameter → Gives (Option Part)) (looked : Gives Coded) → QuietCall what
+by_called-quiet : (c : Context) (what : Called) (standard : Builtin → Gives Coded) (passed : List Parameter → Gives (Option Part)) (looked : Gives Coded) → QuietCall c.scene what
     → ((f : Builtin) → Quiet (standard f).value) → ((ps : List Parameter) → StaysIfThere (passed ps).value) → Quiet looked.value → Quiet (by_called c what standard passed looked).value
 by_called-quiet c (standard_call f) standard passed looked g s p e = s f
 by_called-quiet c (procedure_call ps before i result more) standard passed looked g s p e = call_go c.scene ps before i result more (passed ps).value g.0 g.1 (p ps)

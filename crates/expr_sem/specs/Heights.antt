@@ -1,10 +1,12 @@
 -- How a part of code moves the stack's height, wherever it stands: from so many operands above some height to so many above
 -- the same, never taking what is below; and each jump in it goes to an instruction of the part or to its end, where the
 -- height is the one that the jump leaves.
-use Rattle.std.specs.Prelude.{◌≡◌, ℕ, ◌-◌, ◌≤◌, ℤ, pos, negsuc, List, [], ◌∷◌, Option, Some, None, ◌⊎◌}
+use Rattle.std.specs.Prelude.{◌≡◌, ℕ, Bool, true, false, ◌-◌, ◌≤◌, ℤ, pos, negsuc, List, [], ◌∷◌, Option, Some, None, ◌⊎◌}
 use Rattle.code_form.specs.Bytes.{size}
 use Rattle.code_form.specs.Heights.{Step, after_step}
 use Rattle.code_form.specs.Valid.{jump_of}
+use Rattle.code_form.specs.declared.instr.Instr.{Instr}
+use Rattle.code_form.specs.declared.instr.Instr.TheVariants.{Call, CallX, Return}
 use Rattle.m2_base.specs.declared.operands.Operand.TheVariants.{Variable}
 use Rattle.m2_base.specs.declared.operands.Operand.{Operand}
 use Rattle.expr_sem.specs.Coded.{Coded}
@@ -39,3 +41,10 @@ IsAddressedBy code high other = Unit {0}
 -- where it is a variable, its code leaves its address
 abbrev pub IsAddressed : Coded → Type 0
 IsAddressed x = IsAddressedBy x.code x.high x.operand
+
+-- the instruction asks the callees what it takes and leaves
+abbrev pub needs_callee : Instr → Bool
+needs_callee (Call p h) = true
+needs_callee (CallX m k) = true
+needs_callee Return = true
+needs_callee i = false

@@ -3,18 +3,25 @@ use Rattle.std.specs.Prelude.{◌≡◌, refl, ℕ, zero, suc, ◌+◌, ◌-◌,
 use Rattle.std.proofs.Common.{arith, sym, ap, subst, ◌∙◌, inl, inr}
 use Rattle.std.proofs.lemmas.Bool.{le-ltb, le-leb, lt-ltb, ltb-false, ltb-true, eq-eqb, ne_eqb}
 use Rattle.code_form.specs.Bytes.{size}
-use Rattle.code_form.specs.Heights.{Callees, Step, after_step, greatest}
+use Rattle.code_form.specs.Heights.{Callees, Step, after_step, greatest, step_among}
 use Rattle.code_form.specs.declared.instr.Instr.{Instr}
 use Rattle.code_form.specs.Modules.{Procedure, World}
 use Rattle.code_form.specs.Valid.{Fault, Point, at_place, callees_of, fault_among, first_not, highest, in_code, in_code_or, is_end, is_level, is_right, jump_of, names_what_is_there, of_high, points, returns_all, same_height, target_passes}
+use Rattle.expr_sem.proofs.NoReturns.{IsOwn}
 use Rattle.expr_sem.specs.Parts.{steps_size}
 use Rattle.stmt_sem.specs.Heights.{Behind, Goes, Has, Leads, Stands, farther, passed}
-use Rattle.stmt_sem.specs.Places.{Agree, NameThere, instrs_of}
+use Rattle.stmt_sem.specs.Places.{NameThere, instrs_of}
 
--- from this height on, what each return finds is the result alone
+-- each step takes and leaves what its instruction does among these callees
+abbrev pub Agree : Callees → List Step → Type 0
+Agree c [] = Unit {0}
+Agree c (s ∷ ss) = (step_among c s.instr ≡ s) × Agree c ss
+
+-- From this height on, what each return finds is the result alone; and what each step takes and leaves is the table's, unless
+-- it asks the callees.
 abbrev pub ReturnAll : (height : ℕ) → List Step → Type 0
 ReturnAll h [] = Unit {0}
-ReturnAll h (s ∷ ss) = (returns_all s.instr (pos h) s.takes ≡ true) × ReturnAll (after_step h s) ss
+ReturnAll h (s ∷ ss) = ((returns_all s.instr (pos h) s.takes ≡ true) × IsOwn s) × ReturnAll (after_step h s) ss
 
 -- ---- where steps stand with no way out
 
@@ -232,7 +239,7 @@ levels all b n h (s ∷ ss) f r a p =
     (both (int_le (pos s.takes) (pos h)) (target_passes all (mark n h s) (λ q gone. same_height (pos h -ℤ pos gone) q.height) (jump_of s.instr))
     (le-leb s.takes h f.0)
     (target all n h k s (passed b h s) ss (jump_of s.instr) (λ q gone. same_height (pos h -ℤ pos gone) q.height) f.1 a' p' (λ m gone x l. same m gone h l)))
-    r.0)
+    r.0.0)
     (levels all (passed b h s) z k ss f.2 r.1 a' p')
 
 -- ---- operands, jumps and the end

@@ -4,7 +4,7 @@ use Rattle.std.proofs.Common.{sym, subst}
 use Rattle.code_form.specs.Heights.{Step, after_step}
 use Rattle.code_form.specs.Valid.{returns_all}
 use Rattle.code_form.specs.declared.instr.Instr.{Instr}
-use Rattle.code_form.specs.declared.instr.Instr.TheVariants.{Add, Dup, Eq, Ge, Jump, JumpFalse, Le, Load, Local, More, Move, OpenCopy, OrJump, Push, Return, Store}
+use Rattle.code_form.specs.declared.instr.Instr.TheVariants.{Add, AndJump, Dup, Eq, Ge, Jump, JumpFalse, Le, Load, Local, More, Move, OpenCopy, OrJump, Push, Return, Store}
 use Rattle.m2_base.specs.Gives.{and_then, gives}
 use Rattle.m2_base.specs.Rows.{row_meaning}
 use Rattle.m2_base.specs.Statics.CaseLabels.{LabelTest, labels_of}
@@ -25,7 +25,7 @@ use Rattle.m2_base.specs.declared.rows.Place.{Place}
 use Rattle.m2_base.specs.declared.trees.Ident.{Ident}
 use Rattle.expr_sem.proofs.Functions.{assigned-good, fitted-moves}
 use Rattle.expr_sem.proofs.Law.{designated-good, expression-good}
-use Rattle.expr_sem.proofs.NoReturns.{Quiet, Stays, assigned-quiet, call_alone-quiet, designated-quiet, entry-quiet, error-quiet, fitted-stays, go_on, goes_on, none-stays, plain-stays, text-stays, then-stays, value-quiet, value-stays, variable-quiet}
+use Rattle.expr_sem.proofs.NoReturns.{Quiet, Stays, assigned-quiet, call_alone-quiet, designated-quiet, entry-quiet, error-quiet, fitted-stays, goes_on, none-stays, plain-stays, text-stays, then-stays, value-quiet, value-stays, variable-quiet, Tame, skip_and-stays, skip_or-stays}
 use Rattle.expr_sem.proofs.Passing.{unless_true}
 use Rattle.expr_sem.proofs.Proper.{Addressed, variable-addressed}
 use Rattle.expr_sem.proofs.ValueHeights.{Valued, as_value-good, both_ways}
@@ -59,15 +59,9 @@ step-quiet : (i : Instr) (h : ℤ) (r : ℕ) → goes_on i ≡ true → returns_
 step-quiet Return h r e = absurd cc
 step-quiet i h r e = refl
 
-quiet : (h : ℕ) (ss : List Step) → go_on ss ≡ true → ReturnAll h ss
+quiet : (h : ℕ) (ss : List Step) → Tame ss → ReturnAll h ss
 quiet h [] e = tt
-quiet h (s ∷ ss) e =
-    let p = parts (goes_on s.instr) (go_on ss) e in (step-quiet s.instr (pos h) s.takes p.0, quiet (after_step h s) ss p.1)
-  where
-    parts : (a b : Bool) → (a && b) ≡ true → (a ≡ true) × (b ≡ true)
-    parts true true e = (refl, refl)
-    parts true false e = absurd cc
-    parts false b e = absurd cc
+quiet h (s ∷ ss) e = ((step-quiet s.instr (pos h) s.takes e.0.0, e.0.1), quiet (after_step h s) ss e.1)
 
 -- steps that end at a height, and those behind them
 pub return-append : (b : Behind) (o h l : ℕ) (a c : List Step) → Stands b o h a l → ReturnAll h a → ReturnAll l c → ReturnAll h (a ++ c)
@@ -106,7 +100,7 @@ in_with-exact t f g = λ at o. g (record at { withs = t ∷ at.withs }) o
 when-exact : (t : Part) (f : Flow) → Moves 0 t 1 → Stays t → Exact f → Exact (when t f)
 when-exact t f m q g = λ at o.
     let inner : List Step = (f (t at).next).code o in
-    behind_test t at (plain_step (JumpFalse (pos (steps_size inner))) ∷ inner) m q (refl, g (t at).next o)
+    behind_test t at (plain_step (JumpFalse (pos (steps_size inner))) ∷ inner) m q ((refl, λ n. refl), g (t at).next o)
 
 choose-exact : (t : Part) (f other : Flow) → Moves 0 t 1 → Stays t → KeepsHeight f → Exact f → Exact other → Exact (choose t f other)
 choose-exact t f other m q k g h = λ at o.
@@ -116,7 +110,7 @@ choose-exact t f other m q k g h = λ at o.
     let inner : List Step = (f s1).code n in
     let last : List Step = plain_step (Jump (pos (steps_size behind))) ∷ behind in
     behind_test t at (plain_step (JumpFalse (pos (steps_size inner + jump_size))) ∷ (inner ++ last)) m q
-    (refl, behind_flow f s1 n last k g (refl, h (f s1).next o))
+    ((refl, λ n. refl), behind_flow f s1 n last k g ((refl, λ n. refl), h (f s1).next o))
 
 while-exact : (t : Part) (f : Flow) → Moves 0 t 1 → Stays t → KeepsHeight f → Exact f → Exact (while_true t f)
 while-exact t f m q k g = λ at o.
@@ -124,17 +118,17 @@ while-exact t f m q k g = λ at o.
     let inner : List Step = (f s1).code (o + jump_size) in
     let last : List Step = back Jump (steps_size (t at).code + jump_size + steps_size inner) ∷ [] in
     behind_test t at (plain_step (JumpFalse (pos (steps_size inner + jump_size))) ∷ (inner ++ last)) m q
-    (refl, behind_flow f s1 (o + jump_size) last k g (refl, tt))
+    ((refl, λ n. refl), behind_flow f s1 (o + jump_size) last k g ((refl, λ n. refl), tt))
 
 until-exact : (f : Flow) (t : Part) → KeepsHeight f → Exact f → Moves 0 t 1 → Stays t → Exact (until_true f t)
 until-exact f t k g m q = λ at o.
     let test : List Step = (t (f at).next).code in
     let n : ℕ = o + steps_size test + jump_size in
     let last : List Step = back JumpFalse (steps_size ((f at).code n) + steps_size test) ∷ [] in
-    behind_flow f at n (test ++ last) k g (behind_test t (f at).next last m q (refl, tt))
+    behind_flow f at n (test ++ last) k g (behind_test t (f at).next last m q ((refl, λ n. refl), tt))
 
 for_ever-exact : (f : Flow) → KeepsHeight f → Exact f → Exact (for_ever f)
-for_ever-exact f k g = λ at o. behind_flow f at jump_size (back Jump (steps_size ((f at).code jump_size)) ∷ []) k g (refl, tt)
+for_ever-exact f k g = λ at o. behind_flow f at jump_size (back Jump (steps_size ((f at).code jump_size)) ∷ []) k g ((refl, λ n. refl), tt)
 
 counted-exact : (first : Part) (f : Flow) (again step : Part) → Moves 0 first 1 → Stays first → KeepsHeight f → Exact f → Moves 0 again 1 → Stays again
     → Moves 0 step 0 → Stays step → Exact (counted first f again step)
@@ -149,9 +143,9 @@ counted-exact first f again step m q k g m' q' m'' q'' = λ at o.
     let last : List Step = back Jump (steps_size inner + steps_size a + jump_size + steps_size s) ∷ [] in
     let third : List Step = plain_step (JumpFalse (pos (steps_size s + jump_size))) ∷ (s ++ last) in
     behind_test first at (plain_step (JumpFalse (pos (steps_size inner + behind))) ∷ (inner ++ (a ++ third))) m q (
-      refl,
+      (refl, λ n. refl),
       behind_flow f s1 (o + behind) (a ++ third) k g
-          (behind_test again s2 third m' q' (refl, behind_quiet step s3 last m'' q'' (refl, tt))),
+          (behind_test again s2 third m' q' ((refl, λ n. refl), behind_quiet step s3 last m'' q'' ((refl, λ n. refl), tt))),
     )
 
 -- ---- parts of statements
@@ -210,11 +204,14 @@ selector-stays c t x g =
 
 label-stays : (t : ℕ) (low : ℤ) (high : Option ℤ) → Stays (label_by t low high)
 label-stays t low None = plain-stays (Local 0 t ∷ Load ∷ Push low ∷ Eq ∷ []) refl
-label-stays t low (Some high) = λ at. refl
+label-stays t low (Some high) =
+    let p : Part = plain (Local 0 t ∷ Load ∷ Push high ∷ Le ∷ []) in
+    then-stays (plain (Local 0 t ∷ Load ∷ Push low ∷ Ge ∷ [])) (skip AndJump p) (plain-stays (Local 0 t ∷ Load ∷ Push low ∷ Ge ∷ []) refl)
+    (skip_and-stays p (plain-stays (Local 0 t ∷ Load ∷ Push high ∷ Le ∷ []) refl))
 
 more_labels-stay : (t : ℕ) (ls : List LabelTest) → Stays (more_labels_code t ls)
 more_labels-stay t [] = none-stays
-more_labels-stay t (l ∷ ls) = then-stays (skip OrJump (label_code t l)) (more_labels_code t ls) (λ at. label-stays t l.low l.high at) (more_labels-stay t ls)
+more_labels-stay t (l ∷ ls) = then-stays (skip OrJump (label_code t l)) (more_labels_code t ls) (skip_or-stays (label_code t l) (label-stays t l.low l.high)) (more_labels-stay t ls)
 
 labels-stay : (t : ℕ) (ls : List LabelTest) → Stays (labels_code t ls)
 labels-stay t [] = plain-stays (Push (pos 0) ∷ []) refl
@@ -297,7 +294,7 @@ none-exact : Exact nothing
 none-exact = λ at o. tt
 
 return_alone-exact : (c : Context) (at : ℕ) (r : Option Place) → Exact (straight (return_alone c at r).value)
-return_alone-exact c at None = λ s o. (refl, tt)
+return_alone-exact c at None = λ s o. ((refl, λ n. absurd cc), tt)
 return_alone-exact c at (Some t) = none-exact
 
 return_value-exact : (c : Context) (at : ℕ) (r : Option Place) (x_at : ℕ) (x : Coded) → Valued c.scene x → Quiet x → Exact (straight (return_value c at r x_at x).value)
@@ -307,7 +304,7 @@ return_value-exact c at (Some t) x_at x v g =
     unless_true (λ p. Exact (straight p)) (is_bad y.operand) none (fitted_code c t y ⨟ call Return 1 0) none-exact
     (λ b s o.
     behind_test (fitted_code c t y) s (record { instr = Return; takes = 1; leaves = 0 } ∷ [])
-    (fitted-moves c t y (assigned-good c t x_at not_assignable x v) b) (fitted-stays c t y (assigned-quiet c t x_at not_assignable x g)) (refl, tt))
+    (fitted-moves c t y (assigned-good c t x_at not_assignable x v) b) (fitted-stays c t y (assigned-quiet c t x_at not_assignable x g)) ((refl, λ n. absurd cc), tt))
 
 return-exact : (s : Stand) (at : ℕ) (e : Option Expr) → Exact (straight (return_of s at e).value)
 return-exact s at None = return_alone-exact s.context at s.result
@@ -348,7 +345,7 @@ mutual
       (arms-exact s arms (else_of other (flow_of s other).value) (else-exact other (flow_of s other).value (all-exact s other)))
   form-exact s at (loop_form body) = for_ever-exact (flow_of (in_loop s) body).value (all-flows (in_loop s) body) (all-exact (in_loop s) body)
   form-exact s at exit_form =
-      both_ways (λ r. Exact r.value) s.looped (gives exit) (refuse s.context at exit_outside_loop nothing) (λ a o. (refl, tt)) none-exact
+      both_ways (λ r. Exact r.value) s.looped (gives exit) (refuse s.context at exit_outside_loop nothing) (λ a o. ((refl, λ n. refl), tt)) none-exact
   form-exact s at (case_form e arms other) =
       let x : Coded = (value_at s e).value in
       let typ : Place = (selector_type s.context (expr_at e) x).value in
@@ -412,7 +409,7 @@ mutual
       choose-exact (labels_code t tests) (flow_of s body).value other (labels-moves t tests) (labels-stay t tests) (all-flows s body) (all-exact s body) g
 
   pub case_else-exact : (s : Stand) (e : CaseElse) → Exact (else_flow s e).value
-  case_else-exact s no_case_else = λ a o. (refl, tt)
+  case_else-exact s no_case_else = λ a o. ((refl, λ n. refl), tt)
   case_else-exact s (case_else body) = all-exact s body
 
 -- ---- what a block begins with

@@ -1,10 +1,11 @@
 -- A block's code is valid where its instructions are ones and name what is there.
 use Rattle.std.specs.Prelude.{◌≡◌, refl, ℕ, ◌+◌, ◌*◌, ◌^◌, ◌<◌, ◌≤◌, ◌==◌, Bool, true, false, List, [], ◌∷◌, ◌++◌, length, if◌then◌else◌, Option, Some, None}
 use Rattle.std.proofs.Common.{arith, sym, ap, subst, ◌∙◌, append_assoc}
-use Rattle.code_form.specs.Heights.{Step}
+use Rattle.code_form.specs.Heights.{Callees, Step, after_step, step_among}
 use Rattle.code_form.specs.Modules.{Procedure, World}
 use Rattle.code_form.specs.Valid.{IsValidCode, callees_of, is_end, jump_of}
-use Rattle.code_form.specs.declared.instr.Instr.TheVariants.{Return, Trap}
+use Rattle.code_form.specs.declared.instr.Instr.TheVariants.{Call, CallX, Return, Trap}
+use Rattle.code_form.specs.declared.instr.Instr.{Instr}
 use Rattle.m2_base.specs.declared.rows.Row.{Row}
 use Rattle.m2_base.specs.Statics.BlockRows.{declare_block}
 use Rattle.m2_base.specs.Statics.Blocks.{BlockTree}
@@ -14,11 +15,12 @@ use Rattle.m2_base.specs.Statics.ProcedureRows.{result_cells}
 use Rattle.m2_base.specs.Statics.UnitNotes.{complete_context}
 use Rattle.m2_base.specs.Trees.{Heading}
 use Rattle.expr_sem.proofs.ValueHeights.{both_ways}
-use Rattle.expr_sem.specs.Parts.{Spot, plain, plain_step, steps_size}
+use Rattle.expr_sem.specs.Heights.{needs_callee}
+use Rattle.expr_sem.specs.Parts.{Spot, plain, plain_step, steps_size, no_callees}
 use Rattle.stmt_sem.specs.BlockCode.{block_code, body_of, ending, first_spot, prologue, run_of, stand_of}
 use Rattle.stmt_sem.specs.Flows.{Flow, straight, ◌⨾◌}
 use Rattle.stmt_sem.specs.Heights.{KeepsHeight, Stands}
-use Rattle.stmt_sem.specs.Places.{Agree, NameThere, OthersInRange, block_steps, instrs_of}
+use Rattle.stmt_sem.specs.Places.{CallsAgree, NameThere, OthersInRange, block_steps, instrs_of}
 use Rattle.stmt_sem.specs.Tokens.{block_tokens}
 use Rattle.stmt_sem.proofs.JumpRanges.{in_range}
 use Rattle.stmt_sem.proofs.LengthLaw.{steps-short}
@@ -26,7 +28,7 @@ use Rattle.stmt_sem.specs.Returns.{return_code}
 use Rattle.stmt_sem.proofs.BlockLengths.{length-code}
 use Rattle.stmt_sem.proofs.Flowing.{straight-flows, then-flows}
 use Rattle.stmt_sem.proofs.Law.{all-flows, prologue-moves}
-use Rattle.stmt_sem.proofs.Points.{Ends, ReturnAll, Sits, no_fault, sits-append}
+use Rattle.stmt_sem.proofs.Points.{Agree, Ends, ReturnAll, Sits, no_fault, sits-append}
 use Rattle.stmt_sem.proofs.ReturnHeights.{Exact, all-exact, prologue-stays, straight-exact, then-exact}
 use Rattle.stmt_sem.proofs.Still.{Still, all-still}
 
@@ -100,9 +102,9 @@ whole b e body g s =
     subst Whole (append_assoc p c (x ∷ []) ∙ ap (λ (q : List Step). p ++ (c ++ q)) (sym (last-is b.tree.heading (body s1).next))) made
 
 ending-exact : (h : Option Heading) → Exact (straight (ending h))
-ending-exact None = λ at o. (refl, tt)
+ending-exact None = λ at o. ((refl, λ n. absurd cc), tt)
 ending-exact (Some h) =
-    both_ways (λ p. Exact (straight p)) (result_cells h.result == 0) return_code (plain (Trap 7 ∷ [])) (λ at o. (refl, tt)) (λ at o. (refl, tt))
+    both_ways (λ p. Exact (straight p)) (result_cells h.result == 0) return_code (plain (Trap 7 ∷ [])) (λ at o. ((refl, λ n. absurd cc), tt)) (λ at o. ((refl, λ n. refl), tt))
 
 returns : (b : BlockTree) (e : BlockEffects) (body : Flow) → KeepsHeight body → Exact body → ReturnAll 0 ((run_of b e body).code 0)
 returns b e body k g =
@@ -114,12 +116,27 @@ returns b e body k g =
 short_enough : (x n : ℕ) → x ≤ 64 * n → n ≤ 1048576 → x < 2 ^ 31
 short_enough x n e f = omega (arith, e, f)
 
+-- what asks no callee takes and leaves the same among all
+among-same : (c : Callees) (i : Instr) → needs_callee i ≡ false → step_among c i ≡ step_among no_callees i
+among-same c (Call p h) e = absurd cc
+among-same c (CallX m k) e = absurd cc
+among-same c Return e = absurd cc
+among-same c i e = refl
+
+agree : (c : Callees) (h : ℕ) (ss : List Step) → ReturnAll h ss → CallsAgree c ss → Agree c ss
+agree c h [] r f = tt
+agree c h (s ∷ ss) r f = (go (needs_callee s.instr) refl, agree c (after_step h s) ss r.1 f.1)
+  where
+    go : (b : Bool) → needs_callee s.instr ≡ b → step_among c s.instr ≡ s
+    go true e = f.0 e
+    go false e = among-same c s.instr e ∙ r.0.1 e
+
 -- the code of a block is valid
 pub block-valid : (source : Source) (before all : List (List Row)) (b : BlockTree) (w : World) (k : ℕ) (p : Procedure)
     → p.code ≡ (block_code source before all b).code → p.high ≡ (block_code source before all b).high
     → block_tokens b.tree ≤ 1048576
     → OthersInRange (block_steps source before all b)
-    → Agree (callees_of w p) (block_steps source before all b)
+    → CallsAgree (callees_of w p) (block_steps source before all b)
     → NameThere w k p (block_steps source before all b)
     → IsValidCode w k p
 block-valid source before all b w k p e h n i a t =
@@ -130,5 +147,5 @@ block-valid source before all b w k p e h n i a t =
     record {
       is = instrs_of ss;
       instrs = record { in_range = in_range ss g.sits (short_enough (steps_size ss) (block_tokens b.tree) (steps-short source before all b) n) i; spelled = e };
-      no_fault = no_fault w k p ss g.some g.sits a r t g.ends (sym (length-code ss) ∙ ap length (sym e)) (sym h);
+      no_fault = no_fault w k p ss g.some g.sits (agree (callees_of w p) 0 ss r a) r t g.ends (sym (length-code ss) ∙ ap length (sym e)) (sym h);
     }

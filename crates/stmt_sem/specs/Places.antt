@@ -5,6 +5,7 @@ use Rattle.m2_base.specs.Statics.BlockRows.{declare_block}
 use Rattle.m2_base.specs.Statics.Blocks.{BlockTree}
 use Rattle.m2_base.specs.Statics.Contexts.{Source}
 use Rattle.m2_base.specs.Statics.UnitNotes.{complete_context}
+use Rattle.expr_sem.specs.Heights.{needs_callee}
 use Rattle.stmt_sem.specs.BlockCode.{body_of, run_of}
 use Rattle.code_form.specs.Heights.{Callees, Step, step_among}
 use Rattle.code_form.specs.declared.instr.Instr.{Instr}
@@ -16,10 +17,10 @@ use Rattle.code_form.specs.Valid.{jump_of, names_what_is_there}
 abbrev pub instrs_of : List Step → List Instr
 instrs_of ss = map (λ s. s.instr) ss
 
--- each step takes and leaves what its instruction does among these callees
-abbrev pub Agree : Callees → List Step → Type 0
-Agree c [] = Unit {0}
-Agree c (s ∷ ss) = (step_among c s.instr ≡ s) × Agree c ss
+-- each call and each return takes and leaves what is told of these callees
+abbrev pub CallsAgree : Callees → List Step → Type 0
+CallsAgree c [] = Unit {0}
+CallsAgree c (s ∷ ss) = (needs_callee s.instr ≡ true → step_among c s.instr ≡ s) × CallsAgree c ss
 
 -- each instruction that doesn't jump has its operands in their ranges
 abbrev pub OthersInRange : List Step → Type 0

@@ -12,7 +12,7 @@ ghost use Rattle.expr_sem.specs.Lengths.{bytes_for_token};
 ghost use Rattle.stmt_sem.specs.BlockCode.{block_code, body_of, run_of};
 ghost use Rattle.stmt_sem.specs.Heights.{KeepsHeight, Stands};
 ghost use Rattle.stmt_sem.specs.Lengths.{IsShortFor, most_tokens};
-ghost use Rattle.stmt_sem.specs.Places.{Agree, NameThere, OthersInRange, block_steps};
+ghost use Rattle.stmt_sem.specs.Places.{CallsAgree, NameThere, OthersInRange, block_steps};
 ghost use Rattle.stmt_sem.specs.Statements.{Stand, flow_of};
 ghost use Rattle.stmt_sem.specs.Tokens.{block_tokens, statements_tokens};
 
@@ -32,12 +32,12 @@ pub fn code_is_short()
 {}
 
 /// The code of a block of a text that isn't too long is valid where each instruction but the jumps has its operands in their
-/// ranges, and each takes and leaves what is told of the callees, and names what is there. What else valid code asks for holds of
-/// itself: jumps are in range and go to instructions, heights agree, a return finds the result alone, the last instruction ends,
+/// ranges and names what is there, and where calls and returns take and leave what is told of the callees. What else valid code
+/// asks for holds of itself: jumps are in range and go to instructions, heights agree, a return finds the result alone, the last instruction ends,
 /// and the greatest height is the one that is told.
 pub fn code_is_valid()
     ensures blocks { (source : Source) (before all : List (List Row)) (b : BlockTree) (w : World) (k : ℕ) (p : Procedure) →
         let steps = block_steps source before all b in
         p.code ≡ (block_code source before all b).code → p.high ≡ (block_code source before all b).high
-        → block_tokens b.tree ≤ most_tokens → OthersInRange steps → Agree (callees_of w p) steps → NameThere w k p steps → IsValidCode w k p }
+        → block_tokens b.tree ≤ most_tokens → OthersInRange steps → CallsAgree (callees_of w p) steps → NameThere w k p steps → IsValidCode w k p }
 {}
