@@ -6,8 +6,8 @@ use Rattle.m2_base.specs.Lists.{Each}
 use Rattle.m2_base.specs.declared.memory.Memory.{Memory}
 use Rattle.m2_base.specs.Statics.Cells.{capped}
 use Rattle.code_form.specs.Heights.{Step}
-use Rattle.code_form.specs.declared.instr.Instr.TheVariants.{Jump, JumpFalse}
-use Rattle.expr_sem.specs.Parts.{Made, Part, Spot, none, plain, plain_step, steps_size, ◌⨟◌}
+use Rattle.code_form.specs.declared.instr.Instr.TheVariants.{Jump, JumpFalse, OrJump}
+use Rattle.expr_sem.specs.Parts.{Made, Part, Spot, none, plain, plain_step, skip, steps_size, ◌⨟◌}
 use Rattle.expr_sem.specs.Fragments.{step_view}
 use Rattle.expr_sem.specs.Pieces.{Appended, spot_of}
 use Rattle.expr_sem.specs.Stacks.{ends_as}
@@ -17,12 +17,14 @@ use Rattle.expr_sem.specs.declared.pieces.With.{With}
 use Rattle.stmt_sem.specs.FlowPieces.{AppendedArm, Over, again_part}
 use Rattle.stmt_sem.specs.Flows.{Flow, HasSize, Run, choose, counted, exit, for_ever, in_with, nothing, part_at, until_true, when, while_true, with_cell, ◌⨾◌}
 use Rattle.stmt_sem.specs.Statements.{arm_before, flow_or_nothing}
-use Rattle.stmt_sem.specs.FlowNodes.{AreSound, IsArmOf, IsBefore, arms_among, block_among, choice_among, code_by, flow_in, flows_in, other_among}
-use Rattle.stmt_sem.specs.FlowSizes.{arm_bytes, arms_bytes, block_bytes, flow_bytes}
+use Rattle.stmt_sem.specs.Cases.{label_code, more_labels_code}
+use Rattle.stmt_sem.specs.FlowNodes.{AreSound, IsArmOf, IsBefore, arms_among, block_among, choice_among, code_by, flow_in, flows_in, other_among, test_view}
+use Rattle.stmt_sem.specs.FlowSizes.{arm_bytes, arms_bytes, block_bytes, flow_bytes, label_bytes}
 use Rattle.stmt_sem.specs.declared.flows.Arm.{Arm}
 use Rattle.stmt_sem.specs.declared.flows.Flow.{Flow as FlowOf}
 use Rattle.stmt_sem.specs.declared.flows.Flows.{Flows}
-use Rattle.stmt_sem.proofs.FlowsSized.{PartHas, arms_measured, arms_over, block_sized}
+use Rattle.stmt_sem.specs.declared.flows.LabelTest.{LabelTest}
+use Rattle.stmt_sem.proofs.FlowsSized.{PartHas, arms_measured, arms_over, block_sized, label_sized}
 
 -- what is appended, by another name
 pub as_part : {a e : Piece} {ws : List With} (p q : Part) → Appended a e ws p → p (spot_of a ws) ≡ q (spot_of a ws) → Appended a e ws q
@@ -227,6 +229,21 @@ each_drop P zero xs h = h
 each_drop P (suc i) [] h = tt
 each_drop P (suc i) (x ∷ xs) h = each_drop P i xs h.1
 
+-- one more label
+pub label_appended : {a b c d : Piece} {ws : List With} (ls : List LabelTest) (i : ℕ) (x : LabelTest) → i < length ls → x ≡ get_or ls i x → (t : ℕ) (j : ℤ) → j ≡ pos (label_bytes x)
+    → ends_as b ws (more_labels_code t (map test_view (drop i ls))) ≡ ends_as a ws (more_labels_code t (map test_view ls))
+    → Appended b c ws (plain (OrJump j ∷ [])) → Appended c d ws (label_code t (test_view x))
+    → ends_as d ws (more_labels_code t (map test_view (drop (i + 1) ls))) ≡ ends_as a ws (more_labels_code t (map test_view ls))
+label_appended {a} {b} {c} {d} {ws} ls i x h e t j ej same h1 h2 =
+    let l : Part = label_code t (test_view x) in
+    let rest : Part = more_labels_code t (map test_view (drop (i + 1) ls)) in
+    let at : Spot = spot_of b ws in
+    let skipped : (plain (OrJump j ∷ []) ⨟ l) at ≡ skip OrJump l at = ap (λ (k : ℤ). (plain (OrJump k ∷ []) ⨟ l) at) (ej ∙ ap pos (sym (label_sized t x at))) in
+    ended rest (as_part (plain (OrJump j ∷ []) ⨟ l) (skip OrJump l) (append_then h1 h2) skipped)
+    ∙ ap (λ (y : LabelTest). ends_as b ws (more_labels_code t (map test_view (y ∷ drop (i + 1) ls)))) e
+    ∙ sym (at_drop_more (λ (m : List LabelTest). ends_as b ws (more_labels_code t (map test_view m))) ls i x h)
+    ∙ same
+
 -- one more entry of a block
 pub entry_appended : {a b c : Piece} {ws : List With} (fs : Flows) → AreSound fs → (xs : List FlowOf) → Each (IsBefore (length fs.nodes.items)) xs
     → (i : ℕ) (x : FlowOf) → i < length xs → x ≡ get_or xs i x → (out o t : ℕ) → o ≡ out + block_bytes fs (drop (i + 1) xs)
@@ -236,8 +253,8 @@ pub entry_appended : {a b c : Piece} {ws : List With} (fs : Flows) → AreSound 
 entry_appended {a} {b} {c} {ws} fs s xs there i x h e out o t eo same g =
     let rest = drop (i + 1) xs in
     let more : ends_as b ws (part_at out (block_among (flows_in fs) (drop i xs) t)) ≡ ends_as b ws (part_at out (block_among (flows_in fs) (x ∷ rest) t)) =
-        at_drop_more (λ (l : List FlowOf). ends_as b ws (part_at out (block_among (flows_in fs) l t))) xs i x h
-        ∙ ap (λ (y : FlowOf). ends_as b ws (part_at out (block_among (flows_in fs) (y ∷ rest) t))) (sym e) in
+    at_drop_more (λ (l : List FlowOf). ends_as b ws (part_at out (block_among (flows_in fs) l t))) xs i x h
+    ∙ ap (λ (y : FlowOf). ends_as b ws (part_at out (block_among (flows_in fs) (y ∷ rest) t))) (sym e) in
     block_ended out (block_bytes fs rest) (flow_in fs x t) (block_among (flows_in fs) rest t) (block_sized fs s rest (each_drop (IsBefore (length fs.nodes.items)) (i + 1) xs there) t)
     (subst (λ (k : ℕ). Appended b c ws (part_at k (flow_in fs x t))) eo g)
     ∙ sym more ∙ same
@@ -260,8 +277,8 @@ arm_appended {a} {b} {c} {ws} fs s xs there i x h e other out left k t el o same
     let rest = drop (i + 1) xs in
     let left_there = each_drop (IsArmOf ns (length fs.nodes.items)) (i + 1) xs there in
     let more : ends_as b ws (part_at out (choice_among ns (flows_in fs) (drop i xs) other t)) ≡ ends_as b ws (part_at out (choice_among ns (flows_in fs) (x ∷ rest) other t)) =
-        at_drop_more (λ (l : List Arm). ends_as b ws (part_at out (choice_among ns (flows_in fs) l other t))) xs i x h
-        ∙ ap (λ (y : Arm). ends_as b ws (part_at out (choice_among ns (flows_in fs) (y ∷ rest) other t))) (sym e) in
+    at_drop_more (λ (l : List Arm). ends_as b ws (part_at out (choice_among ns (flows_in fs) l other t))) xs i x h
+    ∙ ap (λ (y : Arm). ends_as b ws (part_at out (choice_among ns (flows_in fs) (y ∷ rest) other t))) (sym e) in
     g (arms_among ns (flows_in fs) rest t (other_among (flows_in fs) other t))
     (subst (λ (n : ℕ). Over (arms_among ns (flows_in fs) rest t (other_among (flows_in fs) other t)) n) (sym el)
     (arms_over fs s rest left_there (arms_measured fs s rest left_there) (other_among (flows_in fs) other t) k t (o t)))

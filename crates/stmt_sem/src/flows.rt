@@ -4,8 +4,8 @@
 ghost use Rattle.std.specs.Prelude.{◌≡◌, []};
 ghost use Rattle.stmt_sem.specs.FlowNodes.{AreSound};
 
-use expr_sem::{Fragment, Fragments};
 use code_form::Instr;
+use expr_sem::{Fragment, Fragments};
 use m2_base::Memory;
 use std::alloc::Global;
 
