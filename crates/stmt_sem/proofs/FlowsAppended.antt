@@ -143,11 +143,9 @@ choose_same out n m left t f g hf hg el at =
     (append_assoc x.code (first ∷ (inner ++ jump ∷ [])) behind ∙ ap (λ (l : List Step). x.code ++ (first ∷ l)) (append_assoc inner (jump ∷ []) behind))
     ∙ ap (λ (l : List ℕ). record { code = x.code ++ (first ∷ (inner ++ (jump ∷ behind))); bytes = (x.bytes ++ l) ++ o.bytes; next = o.next }) (append-nil b.bytes)
 
--- an arm with nothing behind it
-pub last_arm : {T : Type 0} (r : Result T Memory) {a b : Piece} (e : Piece) {ws : List With} (out left n : ℕ) (t : Part) (f : Flow) → HasSize f n → left ≡ 0
-    → Appended a b ws t → OnOk r (Appended b e ws (plain (JumpFalse (pos n) ∷ []) ⨟ part_at out f)) → OnOk r (AppendedArm a e ws out left t f)
-last_arm (Err v) e out left n t f hf z h1 h2 = tt
-last_arm (Ok v) {a} {b} e {ws} out left n t f hf z h1 h2 None o =
+last_of : (a b e : Piece) (ws : List With) (out left n : ℕ) (t : Part) (f : Flow) → HasSize f n → left ≡ 0 → Appended a b ws t → Appended b e ws (plain (JumpFalse (pos n) ∷ []) ⨟ part_at out f) → (other : Option Flow) → Over other left
+    → ends_as e ws (part_at out (flow_or_nothing other)) ≡ ends_as a ws (part_at out (flow_or_nothing (arm_before t f other)))
+last_of a b e ws out left n t f hf z h1 h2 None o =
     let g : Appended a e ws (part_at out (when t f)) = as_part (t ⨟ (plain (JumpFalse (pos n) ∷ []) ⨟ part_at out f)) (part_at out (when t f)) (append_then h1 h2) (when_same out n (pos n) t f hf refl (spot_of a ws)) in
     ended none g ∙ alone
   where
@@ -156,17 +154,27 @@ last_arm (Ok v) {a} {b} e {ws} out left n t f hf z h1 h2 None o =
         let m : Made = part_at out (when t f) (spot_of a ws) in
         ap (λ (l : List Step). record { code = map step_view a.steps.items ++ l; bytes = a.bytes.items ++ (m.bytes ++ []); next = m.next }) (append-nil m.code)
         ∙ ap (λ (l : List ℕ). record { code = map step_view a.steps.items ++ m.code; bytes = a.bytes.items ++ l; next = m.next }) (append-nil m.bytes)
-last_arm (Ok v) e out left n t f hf z h1 h2 (Some g) o = let x = o.1 in absurd (omega (arith, x, z))
+last_of a b e ws out left n t f hf z h1 h2 (Some g) o = let x = o.1 in absurd (omega (arith, x, z))
+
+-- an arm with nothing behind it
+pub last_arm : {T : Type 0} (r : Result T Memory) {a b : Piece} (e : Piece) {ws : List With} (out left n : ℕ) (t : Part) (f : Flow) → HasSize f n → left ≡ 0
+    → Appended a b ws t → OnOk r (Appended b e ws (plain (JumpFalse (pos n) ∷ []) ⨟ part_at out f)) → OnOk r (AppendedArm a e ws out left t f)
+last_arm (Err v) e out left n t f hf z h1 h2 = tt
+last_arm (Ok v) {a} {b} e {ws} out left n t f hf z h1 h2 = λ other o. last_of a b e ws out left n t f hf z h1 h2 other o
+
+first_of_arms : (a b e : Piece) (ws : List With) (out left n : ℕ) (t : Part) (f : Flow) → HasSize f n → 0 < left → Appended a b ws t → Appended b e ws (plain (JumpFalse (pos (n + 5)) ∷ []) ⨟ (part_at (out + left) f ⨟ plain (Jump (pos (left - 5)) ∷ []))) → (other : Option Flow) → Over other left
+    → ends_as e ws (part_at out (flow_or_nothing other)) ≡ ends_as a ws (part_at out (flow_or_nothing (arm_before t f other)))
+first_of_arms a b e ws out left n t f hf z h1 h2 None o = absurd (omega (arith, o, z))
+first_of_arms a b e ws out left n t f hf z h1 h2 (Some g) o =
+    ended (part_at out g) (append_then h1 h2)
+    ∙ ap (λ (m : Made). record { code = map step_view a.steps.items ++ m.code; bytes = a.bytes.items ++ m.bytes; next = m.next }) (choose_same out n o.0 left t f g hf o.2 o.1 (spot_of a ws))
 
 -- an arm with others behind it
 pub first_arm : {T : Type 0} (r : Result T Memory) {a b : Piece} (e : Piece) {ws : List With} (out left n : ℕ) (t : Part) (f : Flow) → HasSize f n → 0 < left
     → Appended a b ws t → OnOk r (Appended b e ws (plain (JumpFalse (pos (n + 5)) ∷ []) ⨟ (part_at (out + left) f ⨟ plain (Jump (pos (left - 5)) ∷ []))))
     → OnOk r (AppendedArm a e ws out left t f)
 first_arm (Err v) e out left n t f hf z h1 h2 = tt
-first_arm (Ok v) e out left n t f hf z h1 h2 None o = absurd (omega (arith, o, z))
-first_arm (Ok v) {a} {b} e {ws} out left n t f hf z h1 h2 (Some g) o =
-    ended (part_at out g) (append_then h1 h2)
-    ∙ ap (λ (m : Made). record { code = map step_view a.steps.items ++ m.code; bytes = a.bytes.items ++ m.bytes; next = m.next }) (choose_same out n o.0 left t f g hf o.2 o.1 (spot_of a ws))
+first_arm (Ok v) {a} {b} e {ws} out left n t f hf z h1 h2 = λ other o. first_of_arms a b e ws out left n t f hf z h1 h2 other o
 
 -- a cell was taken before
 pub with_cell_on : {T : Type 0} (r : Result T Memory) (a e : Piece) (ws : List With) (out cell : ℕ) (f : ℕ → Flow) → cell ≡ capped (a.cell + 1)
@@ -245,12 +253,12 @@ label_appended {a} {b} {c} {d} {ws} ls i x h e t j ej same h1 h2 =
     ∙ same
 
 -- one more entry of a block
-pub entry_appended : {a b c : Piece} {ws : List With} (fs : Flows) → AreSound fs → (xs : List FlowOf) → Each (IsBefore (length fs.nodes.items)) xs
+pub entry_appended : (a b c : Piece) (ws : List With) (fs : Flows) → AreSound fs → (xs : List FlowOf) → Each (IsBefore (length fs.nodes.items)) xs
     → (i : ℕ) (x : FlowOf) → i < length xs → x ≡ get_or xs i x → (out o t : ℕ) → o ≡ out + block_bytes fs (drop (i + 1) xs)
     → ends_as b ws (part_at out (block_among (flows_in fs) (drop i xs) t)) ≡ ends_as a ws (part_at out (block_among (flows_in fs) xs t))
     → Appended b c ws (part_at o (flow_in fs x t))
     → ends_as c ws (part_at out (block_among (flows_in fs) (drop (i + 1) xs) t)) ≡ ends_as a ws (part_at out (block_among (flows_in fs) xs t))
-entry_appended {a} {b} {c} {ws} fs s xs there i x h e out o t eo same g =
+entry_appended a b c ws fs s xs there i x h e out o t eo same g =
     let rest = drop (i + 1) xs in
     let more : ends_as b ws (part_at out (block_among (flows_in fs) (drop i xs) t)) ≡ ends_as b ws (part_at out (block_among (flows_in fs) (x ∷ rest) t)) =
     at_drop_more (λ (l : List FlowOf). ends_as b ws (part_at out (block_among (flows_in fs) l t))) xs i x h
@@ -267,12 +275,12 @@ pub arm_at : (fs : Flows) (xs : List Arm) (i : ℕ) (x : Arm) → i < length xs 
 arm_at fs xs i x h e = at_drop_more (arms_bytes fs) xs i x h ∙ ap (λ (y : Arm). arms_bytes fs (y ∷ drop (i + 1) xs)) (sym e)
 
 -- one more arm
-pub arm_appended : {a b c : Piece} {ws : List With} (fs : Flows) → AreSound fs → (xs : List Arm) → Each (IsArmOf fs.fragments.nodes.items (length fs.nodes.items)) xs
+pub arm_appended : (a b c : Piece) (ws : List With) (fs : Flows) → AreSound fs → (xs : List Arm) → Each (IsArmOf fs.fragments.nodes.items (length fs.nodes.items)) xs
     → (i : ℕ) (x : Arm) → i < length xs → x ≡ get_or xs i x → (other : Option FlowOf) (out left k t : ℕ) → left ≡ arms_bytes fs (drop (i + 1) xs) + k → ((u : ℕ) → Over (other_among (flows_in fs) other u) k)
     → ends_as b ws (part_at out (choice_among fs.fragments.nodes.items (flows_in fs) (drop i xs) other t)) ≡ ends_as a ws (part_at out (choice_among fs.fragments.nodes.items (flows_in fs) xs other t))
     → AppendedArm b c ws out left (code_by fs.fragments.nodes.items x.test t) (flow_in fs x.body t)
     → ends_as c ws (part_at out (choice_among fs.fragments.nodes.items (flows_in fs) (drop (i + 1) xs) other t)) ≡ ends_as a ws (part_at out (choice_among fs.fragments.nodes.items (flows_in fs) xs other t))
-arm_appended {a} {b} {c} {ws} fs s xs there i x h e other out left k t el o same g =
+arm_appended a b c ws fs s xs there i x h e other out left k t el o same g =
     let ns = fs.fragments.nodes.items in
     let rest = drop (i + 1) xs in
     let left_there = each_drop (IsArmOf ns (length fs.nodes.items)) (i + 1) xs there in
@@ -295,9 +303,9 @@ all_appended {a} {b} {ws} p q e z =
     }
 
 -- what was appended, and the last of it
-pub rest_appended : {T : Type 0} (r : Result T Memory) {a b : Piece} (c : Piece) {ws : List With} (p q : Part) → ends_as b ws p ≡ ends_as a ws q → OnOk r (Appended b c ws p) → OnOk r (Appended a c ws q)
-rest_appended (Err m) c p q e h = tt
-rest_appended (Ok v) {a} {b} c {ws} p q e h =
+pub rest_appended : {T : Type 0} (r : Result T Memory) (a b c : Piece) (ws : List With) (p q : Part) → ends_as b ws p ≡ ends_as a ws q → OnOk r (Appended b c ws p) → OnOk r (Appended a c ws q)
+rest_appended (Err m) a b c ws p q e h = tt
+rest_appended (Ok v) a b c ws p q e h =
     record {
       steps = h.steps ∙ ap (λ (m : Made). m.code) e;
       bytes = h.bytes ∙ ap (λ (m : Made). m.bytes) e;
