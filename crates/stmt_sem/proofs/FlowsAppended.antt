@@ -238,11 +238,11 @@ each_drop P (suc i) [] h = tt
 each_drop P (suc i) (x ∷ xs) h = each_drop P i xs h.1
 
 -- one more label
-pub label_appended : {a b c d : Piece} {ws : List With} (ls : List LabelTest) (i : ℕ) (x : LabelTest) → i < length ls → x ≡ get_or ls i x → (t : ℕ) (j : ℤ) → j ≡ pos (label_bytes x)
+pub label_appended : (a b c d : Piece) (ws : List With) (ls : List LabelTest) (i : ℕ) (x : LabelTest) → i < length ls → x ≡ get_or ls i x → (t : ℕ) (j : ℤ) → j ≡ pos (label_bytes x)
     → ends_as b ws (more_labels_code t (map test_view (drop i ls))) ≡ ends_as a ws (more_labels_code t (map test_view ls))
     → Appended b c ws (plain (OrJump j ∷ [])) → Appended c d ws (label_code t (test_view x))
     → ends_as d ws (more_labels_code t (map test_view (drop (i + 1) ls))) ≡ ends_as a ws (more_labels_code t (map test_view ls))
-label_appended {a} {b} {c} {d} {ws} ls i x h e t j ej same h1 h2 =
+label_appended a b c d ws ls i x h e t j ej same h1 h2 =
     let l : Part = label_code t (test_view x) in
     let rest : Part = more_labels_code t (map test_view (drop (i + 1) ls)) in
     let at : Spot = spot_of b ws in

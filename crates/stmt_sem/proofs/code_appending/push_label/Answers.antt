@@ -27,8 +27,10 @@ returns-in_ok-push_instr-in-Some-clause-ok c ws =
     let t = c.args.cell in
     let low = c.args.label.now.low in
     let f : FitsSigned w64 low = search rules in
+    let g : FitsSigned w64 c.in-Some.high = search rules in
     let high = plain (Local 0 t ∷ Load ∷ Push c.in-Some.high ∷ Le ∷ []) in
     subst (λ (h : Option ℤ). OnOk r (Appended c.args.piece.now e ws (label_by t low h))) (sym c.in-Some.is)
     (then_on r e (plain (AndJump (pos 20) ∷ []) ⨟ high) (label_by t low (Some c.in-Some.high)) (c.in_ok-push_bound-in-Some.ensures.ok ws)
     (ap (λ (v : ℤ). (plain (Local 0 t ∷ Load ∷ Push v ∷ Ge ∷ []) ⨟ (plain (AndJump (pos 20) ∷ []) ⨟ high)) (spot_of c.args.piece.now ws)) (to_z-of_z w64 low f))
-    (then_on r e high (plain (AndJump (pos 20) ∷ []) ⨟ high) (c.in_ok-push_instr-in-Some.ensures.ok ws) refl (c.push_bound-in-Some-2.ensures.ok ws)))
+    (then_on r e high (plain (AndJump (pos 20) ∷ []) ⨟ high) (c.in_ok-push_instr-in-Some.ensures.ok ws) refl
+    (subst (λ (v : ℤ). OnOk r (Appended c.push_instr.new.piece e ws (plain (Local 0 t ∷ Load ∷ Push v ∷ Le ∷ [])))) (to_z-of_z w64 c.in-Some.high g) (c.push_bound-in-Some-2.ensures.ok ws))))

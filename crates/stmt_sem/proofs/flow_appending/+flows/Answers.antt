@@ -1,8 +1,14 @@
 use Rattle.std.proofs.Common.{◌≡◌, ◌∙◌, ◌∷◌, [], ◌+◌, ℕ, ℤ, FitsSigned, ap, arith, negsuc, pos, refl, rules, subst, sym, w32}
 use Rattle.std.proofs.lemmas.Int.{to_z-of_z}
 use Rattle.expr_sem.specs.Fragments.{part}
-use Rattle.stmt_sem.specs.FlowNodes.{code_by, flow_in}
-use Rattle.stmt_sem.proofs.FlowsAppended.{for_ever_on, until_on, while_on, with_cell_on}
+use Rattle.std.specs.Prelude.{OnOk}
+use Rattle.expr_sem.specs.Pieces.{Appended}
+use Rattle.stmt_sem.specs.FlowNodes.{code_by, flow_in, form_flow}
+use Rattle.stmt_sem.specs.FlowSizes.{flow_bytes}
+use Rattle.stmt_sem.specs.Flows.{part_at}
+use Rattle.stmt_sem.specs.declared.flows.FlowForm.{FlowForm}
+use Rattle.stmt_sem.proofs.FlowsSized.{flow_measures}
+use Rattle.stmt_sem.proofs.FlowsAppended.{first_arm, for_ever_on, last_arm, while_on, with_cell_on}
 use Rattle.stmt_sem.proofs.flow_appending.+flows.Goals as goal
 
 pub append_while-returns-clause-ok : goal.append_while-returns-clause-ok
@@ -24,3 +30,36 @@ append_while-returns-clause-ok t c =
 pub append_with_cell-returns-clause-ok : goal.append_with_cell-returns-clause-ok
 append_with_cell-returns-clause-ok t c =
     with_cell_on c.append_inner.result c.args.piece.now c.append_inner.new.piece c.args.withs.now c.args.out c.capped_sum-piece.result (flow_in c.args.flows.now c.args.body) c.capped_sum-piece.ensures c.append_inner.ensures.ok
+
+pub append_arm-returns-then-left-eq0-clause-ok : goal.append_arm-returns-then-left-eq0-clause-ok
+append_arm-returns-then-left-eq0-clause-ok t c =
+    let fs = c.args.flows.now in
+    let body = c.args.arm.now.body in
+    last_arm c.append_last_body.result c.append_last_body.new.piece c.args.out c.args.left (flow_bytes fs body) (code_by fs.fragments.nodes.items c.args.arm.now.test c.args.cell) (flow_in fs body c.args.cell)
+    (flow_measures fs c.requires.sound body c.requires.there.1 c.args.cell) (grind (arith, c.if-left-eq0.true)) c.in_ok-append_code.ensures.ok c.append_last_body.ensures.ok
+
+pub append_arm-returns-else-left-eq0-clause-ok : goal.append_arm-returns-else-left-eq0-clause-ok
+append_arm-returns-else-left-eq0-clause-ok t c =
+    let fs = c.args.flows.now in
+    let body = c.args.arm.now.body in
+    first_arm c.append_body.result c.append_body.new.piece c.args.out c.args.left (flow_bytes fs body) (code_by fs.fragments.nodes.items c.args.arm.now.test c.args.cell) (flow_in fs body c.args.cell)
+    (flow_measures fs c.requires.sound body c.requires.there.1 c.args.cell) (grind (arith, c.if-left-eq0.false)) c.in_ok-append_code.ensures.ok c.append_body.ensures.ok
+
+pub append_for_ever-returns-clause-ok : goal.append_for_ever-returns-clause-ok
+append_for_ever-returns-clause-ok t c out =
+    let fs = c.args.flows.now in
+    let back : FitsSigned w32 c.in_ok-backward.field-0 = search rules in
+    for_ever_on c.push_instr.result c.push_instr.new.piece out c.size.result _ (flow_in fs c.args.body c.args.cell) (c.size.ensures.size c.requires.sound c.args.cell)
+    (to_z-of_z w32 c.in_ok-backward.field-0 back ∙ c.in_ok-backward.ensures) c.in_ok-append_inner.ensures.ok (c.push_instr.ensures.ok c.args.withs.now)
+
+pub append_form-returns-in-WhileTrue-clause-ok : goal.append_form-returns-in-WhileTrue-clause-ok
+append_form-returns-in-WhileTrue-clause-ok t c =
+    subst (λ (g : FlowForm). OnOk c.append_while.result (Appended c.args.piece.now c.append_while.new.piece c.args.withs.now (part_at c.args.out (form_flow c.args.flows.now g c.args.cell)))) (sym c.in-WhileTrue.is) c.append_while.ensures.ok
+
+pub append_form-returns-in-ForEver-clause-ok : goal.append_form-returns-in-ForEver-clause-ok
+append_form-returns-in-ForEver-clause-ok t c =
+    subst (λ (g : FlowForm). OnOk c.append_for_ever.result (Appended c.args.piece.now c.append_for_ever.new.piece c.args.withs.now (part_at c.args.out (form_flow c.args.flows.now g c.args.cell)))) (sym c.in-ForEver.is) (c.append_for_ever.ensures.ok c.args.out)
+
+pub append_form-returns-in-Counted-clause-ok : goal.append_form-returns-in-Counted-clause-ok
+append_form-returns-in-Counted-clause-ok t c =
+    subst (λ (g : FlowForm). OnOk c.append_counted.result (Appended c.args.piece.now c.append_counted.new.piece c.args.withs.now (part_at c.args.out (form_flow c.args.flows.now g c.args.cell)))) (sym c.in-Counted.is) c.append_counted.ensures.ok
