@@ -18,7 +18,7 @@ use m2_base::Memory;
 const TOO_MANY: u32 = 16777216;
 
 /// So many more cells or bytes.
-fn capped_sum(count: u32, more: usize) -> u32
+pub fn capped_sum(count: u32, more: usize) -> u32
     ensures { result ≡ capped (count + more) }
 {
     let Ok(more) = u32::try_from(more) else {
@@ -40,7 +40,7 @@ fn push_step(piece: &mut Piece, step: Step) -> Result<(), Memory>
 }
 
 /// Appends an instruction that is no call and no return.
-fn push_instr(piece: &mut Piece, instr: Instr) -> Result<(), Memory>
+pub fn push_instr(piece: &mut Piece, instr: Instr) -> Result<(), Memory>
     ensures begins { Begins piece.old piece.new }
     ensures ok { (ws : List OpenWith) → OnOk result (Appended piece.old piece.new ws (plain (instr ∷ []))) }
 {
@@ -166,7 +166,7 @@ fn visit(
 }
 
 /// Appends a fragment's code and data, or a beginning of them.
-pub(crate) fn append_all(
+pub fn append_all(
     fragments: &Fragments,
     fragment: Fragment,
     withs: &[With],

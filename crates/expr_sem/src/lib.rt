@@ -75,6 +75,7 @@ mod values;
 mod variable_arguments;
 mod variables;
 
+pub use appending::{append_all, capped_sum, push_instr};
 pub use coded::{Coded, Placed};
 pub use evaluations::{address, value};
 pub use expressions::{call_alone, designated, value_of};
