@@ -1,8 +1,11 @@
-use Rattle.std.proofs.Common.{◌≡◌, ◌∙◌, ◌∷◌, [], ◌+◌, ℕ, ℤ, FitsSigned, ap, arith, negsuc, pos, refl, rules, subst, sym, w32}
+use Rattle.std.proofs.Common.{◌≡◌, ◌∙◌, ◌∷◌, [], ◌+◌, ◌-◌, ℕ, ℤ, FitsSigned, ap, arith, negsuc, pos, refl, rules, subst, sym, w32}
 use Rattle.std.proofs.lemmas.Int.{to_z-of_z}
 use Rattle.expr_sem.specs.Fragments.{part}
 use Rattle.std.specs.Prelude.{OnOk}
-use Rattle.expr_sem.specs.Pieces.{Appended}
+use Rattle.code_form.specs.declared.instr.Instr.TheVariants.{Jump, JumpFalse}
+use Rattle.expr_sem.specs.Parts.{plain, ◌⨟◌}
+use Rattle.expr_sem.specs.Pieces.{Appended, spot_of}
+use Rattle.expr_sem.proofs.PieceParts.{then_on}
 use Rattle.stmt_sem.specs.FlowNodes.{code_by, flow_in, form_flow}
 use Rattle.stmt_sem.specs.FlowSizes.{flow_bytes}
 use Rattle.stmt_sem.specs.Flows.{part_at}
@@ -63,3 +66,30 @@ append_form-returns-in-ForEver-clause-ok t c =
 pub append_form-returns-in-Counted-clause-ok : goal.append_form-returns-in-Counted-clause-ok
 append_form-returns-in-Counted-clause-ok t c =
     subst (λ (g : FlowForm). OnOk c.append_counted.result (Appended c.args.piece.now c.append_counted.new.piece c.args.withs.now (part_at c.args.out (form_flow c.args.flows.now g c.args.cell)))) (sym c.in-Counted.is) c.append_counted.ensures.ok
+
+pub append_last_body-returns-clause-ok : goal.append_last_body-returns-clause-ok
+append_last_body-returns-clause-ok t c =
+    let fs = c.args.flows.now in
+    let ws = c.args.withs.now in
+    let rest = part_at c.args.out (flow_in fs c.args.body c.args.cell) in
+    let over : FitsSigned w32 c.in_ok-forward.field-0 = search rules in
+    then_on c.append_inner.result c.append_inner.new.piece rest (plain (JumpFalse (pos (flow_bytes fs c.args.body)) ∷ []) ⨟ rest) (c.in_ok-push_instr.ensures.ok ws)
+    (ap (λ (i : ℤ). (plain (JumpFalse i ∷ []) ⨟ rest) (spot_of c.args.piece.now ws)) (to_z-of_z w32 c.in_ok-forward.field-0 over ∙ c.in_ok-forward.ensures ∙ ap pos (c.size.ensures.bytes c.requires.sound)))
+    c.append_inner.ensures.ok
+
+pub append_body-returns-clause-ok : goal.append_body-returns-clause-ok
+append_body-returns-clause-ok t c =
+    let fs = c.args.flows.now in
+    let ws = c.args.withs.now in
+    let f = flow_in fs c.args.body c.args.cell in
+    let r = c.push_instr-2.result in
+    let e = c.push_instr-2.new.piece in
+    let last = plain (Jump (pos (c.args.left - 5)) ∷ []) in
+    let rest = part_at (c.args.out + c.args.left) f ⨟ last in
+    let over : FitsSigned w32 c.in_ok-forward.field-0 = search rules in
+    let past : FitsSigned w32 c.in_ok-forward-2.field-0 = search rules in
+    then_on r e rest (plain (JumpFalse (pos (flow_bytes fs c.args.body + 5)) ∷ []) ⨟ rest) (c.in_ok-push_instr.ensures.ok ws)
+    (ap (λ (i : ℤ). (plain (JumpFalse i ∷ []) ⨟ rest) (spot_of c.args.piece.now ws))
+    (to_z-of_z w32 c.in_ok-forward.field-0 over ∙ c.in_ok-forward.ensures ∙ ap pos (c.in_ok-size.ensures ∙ ap (λ (i : ℕ). i + 5) (c.size.ensures.bytes c.requires.sound))))
+    (then_on r e last rest c.in_ok-append_inner.ensures.ok (ap (λ (i : ℕ). (part_at i f ⨟ last) (spot_of c.push_instr.new.piece ws)) c.in_ok-sum.ensures)
+    (subst (λ (i : ℤ). OnOk r (Appended c.append_inner.new.piece e ws (plain (Jump i ∷ [])))) (to_z-of_z w32 c.in_ok-forward-2.field-0 past ∙ c.in_ok-forward-2.ensures ∙ ap pos c.saturating_sub.ensures) (c.push_instr-2.ensures.ok ws)))
