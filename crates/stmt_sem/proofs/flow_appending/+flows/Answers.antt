@@ -1,17 +1,17 @@
 use Rattle.std.proofs.Common.{◌≡◌, ◌∙◌, ◌∷◌, [], ◌+◌, ◌-◌, ℕ, ℤ, FitsSigned, ap, arith, negsuc, pos, refl, rules, subst, sym, w32}
 use Rattle.std.proofs.lemmas.Int.{to_z-of_z}
 use Rattle.expr_sem.specs.Fragments.{part}
-use Rattle.std.specs.Prelude.{OnOk}
+use Rattle.std.specs.Prelude.{OnOk, drop}
 use Rattle.code_form.specs.declared.instr.Instr.TheVariants.{Jump, JumpFalse}
 use Rattle.expr_sem.specs.Parts.{plain, ◌⨟◌}
 use Rattle.expr_sem.specs.Pieces.{Appended, spot_of}
-use Rattle.expr_sem.proofs.PieceParts.{then_on}
+use Rattle.expr_sem.proofs.PieceParts.{Begins-trans, then_on}
 use Rattle.stmt_sem.specs.FlowNodes.{code_by, flow_in, form_flow}
-use Rattle.stmt_sem.specs.FlowSizes.{flow_bytes}
+use Rattle.stmt_sem.specs.FlowSizes.{arms_bytes, flow_bytes}
 use Rattle.stmt_sem.specs.Flows.{part_at}
 use Rattle.stmt_sem.specs.declared.flows.FlowForm.{FlowForm}
 use Rattle.stmt_sem.proofs.FlowsSized.{flow_measures}
-use Rattle.stmt_sem.proofs.FlowsAppended.{first_arm, for_ever_on, last_arm, while_on, with_cell_on}
+use Rattle.stmt_sem.proofs.FlowsAppended.{arm_appended, arm_at, first_arm, for_ever_on, last_arm, while_on, with_cell_on}
 use Rattle.stmt_sem.proofs.flow_appending.+flows.Goals as goal
 
 pub append_while-returns-clause-ok : goal.append_while-returns-clause-ok
@@ -93,3 +93,22 @@ append_body-returns-clause-ok t c =
     (to_z-of_z w32 c.in_ok-forward.field-0 over ∙ c.in_ok-forward.ensures ∙ ap pos (c.in_ok-size.ensures ∙ ap (λ (i : ℕ). i + 5) (c.size.ensures.bytes c.requires.sound))))
     (then_on r e last rest c.in_ok-append_inner.ensures.ok (ap (λ (i : ℕ). (part_at i f ⨟ last) (spot_of c.push_instr.new.piece ws)) c.in_ok-sum.ensures)
     (subst (λ (i : ℤ). OnOk r (Appended c.append_inner.new.piece e ws (plain (Jump i ∷ [])))) (to_z-of_z w32 c.in_ok-forward-2.field-0 past ∙ c.in_ok-forward-2.ensures ∙ ap pos c.saturating_sub.ensures) (c.push_instr-2.ensures.ok ws)))
+
+pub append_choice-loop-arm-preserved : goal.append_choice-loop-arm-preserved
+append_choice-loop-arm-preserved t c =
+    let fs = c.args.flows.now in
+    let sound = c.requires.sound in
+    let arms = c.args.arms.now in
+    let i = c.loop-arm.arm-index in
+    let x = c.arm-item.result in
+    let k = c.loop-arm.invariant.left.0 in
+    let a = c.loop-arm.invariant.left.1 in
+    let b = arm_at fs arms i x c.loop-arm-test.true c.arm-item.is in
+    let size = c.in_ok-arm_size.ensures sound in
+    let d = c.saturating_sub-left.ensures in
+    let now : c.saturating_sub-left.result ≡ arms_bytes fs (drop (i + 1) arms) + k = omega (arith, a, b, size, d) in
+    record {
+      begins = Begins-trans c.loop-arm.invariant.begins c.in_ok-append_arm.ensures.begins;
+      left = (k, now, c.loop-arm.invariant.left.2);
+      same = arm_appended c.args.piece.now c.loop-arm.piece c.append_arm.new.piece c.args.withs.now fs sound arms c.requires.arms i x c.loop-arm-test.true c.arm-item.is c.args.other c.args.out c.saturating_sub-left.result k c.args.cell now c.loop-arm.invariant.left.2 c.loop-arm.invariant.same c.in_ok-append_arm.ensures.ok;
+    }
