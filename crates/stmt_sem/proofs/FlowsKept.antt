@@ -1,8 +1,8 @@
 -- Flows made one after another: an earlier one stands for the same code later, where the flows are sound.
-use Rattle.std.proofs.Common.{◌≡◌, ◌∙◌, ◌++◌, ◌∷◌, [], ℕ, suc, ◌+◌, ◌<◌, ◌≤◌, List, length, Option, Some, None, ap, sym, subst, refl, arith}
+use Rattle.std.proofs.Common.{◌≡◌, ◌∙◌, ◌++◌, ◌∷◌, [], ℕ, zero, suc, ◌+◌, ◌<◌, ◌≤◌, List, length, Option, Some, None, ap, sym, subst, refl, arith}
 use Rattle.std.proofs.Math.Path.{fun_ext}
 use Rattle.std.specs.Prelude.{slice_get, slice_index_or}
-use Rattle.std.proofs.lemmas.List.{get_or_append_left, length-append, length_push}
+use Rattle.std.proofs.lemmas.List.{get_or_append_left, get_or_push, length-append, length_push}
 use Rattle.m2_base.specs.Lists.{Each, IsPrefixOf}
 use Rattle.m2_base.proofs.Kept.{IsPrefixOf-refl, IsPrefixOf-trans}
 use Rattle.expr_sem.specs.Fragments as parts
@@ -13,7 +13,7 @@ use Rattle.expr_sem.specs.declared.fragments.Fragment.{Fragment}
 use Rattle.expr_sem.specs.declared.fragments.Fragment.TheVariants.{Nothing as NoFragment, Node as FragmentOf}
 use Rattle.expr_sem.specs.declared.fragments.Node.{Node}
 use Rattle.code_form.specs.declared.instr.Instr.TheVariants.{Load, Local, Store}
-use Rattle.stmt_sem.specs.FlowNodes.{AreSound, CellFlow, Grows, IsAmong, IsArmOf, IsBefore, IsBeforeIfAny, IsCodeOf, IsMadeOf, IsSound, arms_among, block_among, code_by, flow_among, flow_by, flow_in, flows_after, flows_in, other_among}
+use Rattle.stmt_sem.specs.FlowNodes.{AreSound, CellFlow, Grows, IsAmong, IsArmOf, IsBefore, IsBeforeIfAny, IsCodeOf, IsMadeOf, IsSound, arms_among, block_among, choice_among, code_by, flow_among, flow_by, flow_in, flows_after, flows_in, form_flow, other_among}
 use Rattle.stmt_sem.specs.Flows as flow
 use Rattle.stmt_sem.specs.Flows.{counted, for_ever, in_with, nothing, straight, until_true, while_true, with_cell, ◌⨾◌}
 use Rattle.stmt_sem.specs.Statements.{arm_before, flow_or_nothing}

@@ -12,6 +12,8 @@ pub mod LoopCases
 pub mod FlowsKept
 pub mod FlowsPushed
 pub mod FlowsSized
+pub mod FlowsAppended
+pub mod FlowRanks
 pub mod Points
 pub mod Still
 pub mod JumpRanges

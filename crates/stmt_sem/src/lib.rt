@@ -41,8 +41,10 @@ macro_rules! asked {
 
 mod assignments;
 mod cases;
+mod code_appending;
 mod control_variables;
 mod counting;
+mod flow_appending;
 mod flow_builders;
 mod flow_sizes;
 mod flows;
@@ -52,5 +54,6 @@ mod returns;
 mod tests;
 mod withs;
 
+pub use flow_appending::append_flow;
 pub use flows::{Arm, Code, Flow, FlowForm, FlowNode, Flows};
 pub use laws::{code_is_short, code_is_valid, heights_are_right};
