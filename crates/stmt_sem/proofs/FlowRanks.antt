@@ -1,9 +1,10 @@
 -- Flows are made of earlier ones, so that going down them ends.
-use Rattle.std.proofs.Common.{◌≡◌, ◌∷◌, [], ℕ, zero, suc, ◌+◌, ◌-◌, ◌<◌, ◌≤◌, List, length, Option, Some, None, ap, sym, subst, refl, arith}
-use Rattle.std.specs.Prelude.{get_or, slice_get}
+use Rattle.std.proofs.Common.{◌≡◌, ◌∙◌, ◌∷◌, [], ℕ, zero, suc, ◌+◌, ◌-◌, ◌<◌, ◌≤◌, List, length, Option, Some, None, ap, sym, subst, refl, arith}
+use Rattle.std.specs.Prelude.{get_or, slice_get, slice_index_or}
 use Rattle.m2_base.specs.Lists.{Each}
+use Rattle.m2_base.proofs.Kept.{Each-map}
 use Rattle.expr_sem.specs.declared.fragments.Node.{Node}
-use Rattle.stmt_sem.specs.FlowNodes.{AreSound, IsArmOf, IsBefore, IsBeforeIfAny, IsMadeOf}
+use Rattle.stmt_sem.specs.FlowNodes.{AreSound, IsArmOf, IsBefore, IsBeforeIfAny, IsMadeOf, flow_in, flows_in, form_flow}
 use Rattle.stmt_sem.specs.declared.flows.Arm.{Arm}
 use Rattle.stmt_sem.specs.declared.flows.Flow.{Flow}
 use Rattle.stmt_sem.specs.declared.flows.Flow.TheVariants.{Nothing, Node as NodeOf}
@@ -11,6 +12,7 @@ use Rattle.stmt_sem.specs.declared.flows.FlowForm.{FlowForm}
 use Rattle.stmt_sem.specs.declared.flows.FlowForm.TheVariants.{Straight, Block, Exit, Choice, WhileTrue, UntilTrue, ForEver, Counted, WithCell, InWith}
 use Rattle.stmt_sem.specs.declared.flows.FlowNode.{FlowNode}
 use Rattle.stmt_sem.specs.declared.flows.Flows.{Flows}
+use Rattle.stmt_sem.proofs.FlowsKept.{before_up, flows_at, no_flow}
 
 -- one more than the number of the flow's node
 abbrev pub rank : Flow → ℕ
@@ -83,6 +85,40 @@ there_at (x ∷ xs) (suc k) n h e = there_at xs k n (omega (arith, h)) e
 -- a node is made of what is before it
 pub node_below : (fs : Flows) → AreSound fs → (k : ℕ) (n : FlowNode) → k < length fs.nodes.items → n ≡ get_or fs.nodes.items k n → top n.form < suc k
 node_below fs s k n h e = let t = top_below fs.fragments.nodes.items k n.form (s.nodes k n (there_at fs.nodes.items k n h e)).earlier in omega (arith, t)
+
+if_any_up : (j k : ℕ) (o : Option Flow) → j ≤ k → IsBeforeIfAny j o → IsBeforeIfAny k o
+if_any_up j k None l h = tt
+if_any_up j k (Some x) l h = before_up j k x l h
+
+made_up : (ns : List Node) (j k : ℕ) (form : FlowForm) → j ≤ k → IsMadeOf ns j form → IsMadeOf ns k form
+made_up ns j k (Straight c) l h = h
+made_up ns j k (Block xs) l h = Each-map (IsBefore j) (IsBefore k) xs.items (λ x b. before_up j k x l b) h
+made_up ns j k Exit l h = tt
+made_up ns j k (Choice as' o) l h = (Each-map (IsArmOf ns j) (IsArmOf ns k) as'.items (λ a b. (b.0, before_up j k a.body l b.1)) h.0, if_any_up j k o l h.1)
+made_up ns j k (WhileTrue c x) l h = (h.0, before_up j k x l h.1)
+made_up ns j k (UntilTrue x c) l h = (before_up j k x l h.0, h.1)
+made_up ns j k (ForEver x) l h = before_up j k x l h
+made_up ns j k (Counted first x again step) l h = (h.0, before_up j k x l h.1, h.2, h.3)
+made_up ns j k (WithCell x) l h = before_up j k x l h
+made_up ns j k (InWith x) l h = before_up j k x l h
+
+-- a node's form is made of those that are there
+pub node_made : (fs : Flows) → AreSound fs → (k : ℕ) (n : FlowNode) → k < length fs.nodes.items → n ≡ get_or fs.nodes.items k n → IsMadeOf fs.fragments.nodes.items (length fs.nodes.items) n.form
+node_made fs s k n h e = made_up fs.fragments.nodes.items k (length fs.nodes.items) n.form (omega (arith, h)) (s.nodes k n (there_at fs.nodes.items k n h e)).earlier
+
+-- a node stands for what its form is made of
+pub node_flow : (fs : Flows) → AreSound fs → (k : ℕ) (n : FlowNode) → k < length fs.nodes.items → n ≡ get_or fs.nodes.items k n → (t : ℕ) → flow_in fs (NodeOf k) t ≡ form_flow fs n.form t
+node_flow fs s k n h e t =
+    let ns = fs.fragments.nodes.items in
+    let z : 0 + k ≡ k = omega arith in
+    ap (λ (j : ℕ). slice_index_or (flows_in fs) j no_flow t) (sym z)
+    ∙ flows_at ns [] fs.nodes.items k n (there_at fs.nodes.items k n h e) (subst (λ (j : ℕ). IsMadeOf ns j n.form) (sym z) (s.nodes k n (there_at fs.nodes.items k n h e)).earlier) t
+
+-- one of those that all have it has it
+pub each_at : {A : Type 0} (P : A → Type 0) (xs : List A) (i : ℕ) (x : A) → i < length xs → x ≡ get_or xs i x → Each P xs → P x
+each_at P [] i x l e h = absurd (omega (arith, l))
+each_at P (y ∷ xs) zero x l e h = subst P (sym e) h.0
+each_at P (y ∷ xs) (suc i) x l e h = each_at P xs i x (omega (arith, l)) e h.1
 
 -- the ranks of entries
 pub entry_below : (xs : List Flow) (i : ℕ) (x : Flow) → i < length xs → x ≡ get_or xs i x → rank x ≤ highest xs

@@ -231,6 +231,24 @@ counted_on (Ok v) {a} e {ws} out o n k s j first f again step hf ha hs eo ej h1 
     as_part (first ⨟ (plain (JumpFalse j ∷ []) ⨟ (part_at o f ⨟ again_part n k s again step))) (part_at out (counted first f again step)) (append_then h1 (append_then h2 (append_then h3 h4)))
     (counted_same out o n k s j first f again step hf ha hs eo ej (spot_of a ws))
 
+-- the parts of what comes after the body
+pub again_on : {T : Type 0} (r : Result T Memory) {a b c d : Piece} (e : Piece) {ws : List With} (n k s : ℕ) (j i : ℤ) (again step : Part) → j ≡ pos (s + 5) → i ≡ negsuc (n + k + (s + 5) + 4)
+    → Appended a b ws again → Appended b c ws (plain (JumpFalse j ∷ [])) → Appended c d ws step → OnOk r (Appended d e ws (plain (Jump i ∷ [])))
+    → OnOk r (Appended a e ws (again_part n k s again step))
+again_on (Err v) e n k s j i again step ej ei h1 h2 h3 h4 = tt
+again_on (Ok v) {a} e {ws} n k s j i again step ej ei h1 h2 h3 h4 =
+    let at : Spot = spot_of a ws in
+    as_part (again ⨟ (plain (JumpFalse j ∷ []) ⨟ (step ⨟ plain (Jump i ∷ [])))) (again_part n k s again step) (append_then h1 (append_then h2 (append_then h3 h4)))
+    (ap (λ (q : ℤ). (again ⨟ (plain (JumpFalse q ∷ []) ⨟ (step ⨟ plain (Jump i ∷ [])))) at) ej ∙ ap (λ (q : ℤ). (again ⨟ (plain (JumpFalse (pos (s + 5)) ∷ []) ⨟ (step ⨟ plain (Jump q ∷ [])))) at) ei)
+
+-- the bytes behind the body of a loop that counts
+pub behind_body : {b c k s m n : ℕ} → b ≡ c + 10 → c ≡ m + n → k ≡ m → s ≡ n → b ≡ k + s + 10
+behind_body e f g h = omega (arith, e, f, g, h)
+
+-- the bytes behind an entry
+pub behind_entry : {b o q x r s d : ℕ} → b ≡ o + q → q ≡ x + r → s ≡ x → d ≡ b - s → d ≡ o + r
+behind_entry e f g h = omega (arith, e, f, g, h)
+
 -- ---- the loops
 
 each_drop : {A : Type 0} (P : A → Type 0) (i : ℕ) (xs : List A) → Each P xs → Each P (drop i xs)

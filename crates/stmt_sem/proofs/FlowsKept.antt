@@ -100,6 +100,28 @@ flow_before ns xs ys x h t =
     ap (λ (fs : List CellFlow). flow_among fs x t) (flows_append ns [] xs ys)
     ∙ among_kept ns (flows_after ns [] xs) ys x (subst (λ (k : ℕ). IsBefore k x) l h) t
 
+some_is : (x y : FlowNode) → Some x ≡ Some y → x ≡ y
+some_is x y e = cc
+
+-- a node among further ones stands for what its form is made of
+pub flows_at : (ns : List Node) (fs : List CellFlow) (ms : List FlowNode) (k : ℕ) (m : FlowNode) → slice_get ms k ≡ Some m → IsMadeOf ns (length fs + k) m.form
+    → (t : ℕ) → slice_index_or (flows_after ns fs ms) (length fs + k) no_flow t ≡ flow_by ns (flows_after ns fs ms) m.form t
+flows_at ns fs [] k m e h t = absurd (cc)
+flows_at ns fs (x ∷ ms) zero m e h t =
+    let same : length fs + 0 ≡ length fs = omega arith in
+    let l = length_push fs (flow_by ns fs x.form) in
+    let made : IsMadeOf ns (length fs) x.form = subst (λ (y : FlowNode). IsMadeOf ns (length fs) y.form) (sym (some_is x m e)) (subst (λ (j : ℕ). IsMadeOf ns j m.form) same h) in
+    ap (λ (j : ℕ). slice_index_or (flows_after ns fs (x ∷ ms)) j no_flow t) same
+    ∙ ap (λ (f : CellFlow). f t) (flows_kept ns (fs ++ flow_by ns fs x.form ∷ []) ms (length fs) (omega (arith, l)))
+    ∙ ap (λ (f : CellFlow). f t) (get_or_push fs (flow_by ns fs x.form) no_flow (length fs) refl)
+    ∙ sym (form_kept ns fs (x ∷ ms) x.form made t)
+    ∙ ap (λ (y : FlowNode). flow_by ns (flows_after ns fs (x ∷ ms)) y.form t) (some_is x m e)
+flows_at ns fs (x ∷ ms) (suc k) m e h t =
+    let l = length_push fs (flow_by ns fs x.form) in
+    let same : length fs + suc k ≡ length (fs ++ flow_by ns fs x.form ∷ []) + k = omega (arith, l) in
+    ap (λ (j : ℕ). slice_index_or (flows_after ns fs (x ∷ ms)) j no_flow t) same
+    ∙ flows_at ns (fs ++ flow_by ns fs x.form ∷ []) ms k m e (subst (λ (j : ℕ). IsMadeOf ns j m.form) same h) t
+
 -- ---- over more fragments
 
 in_before : (xs ys : List Node) (f : Fragment) → IsIn xs f → IsIn (xs ++ ys) f
@@ -187,7 +209,7 @@ flow_later {from} {to} s g x h t =
     ∙ flow_before (ns ++ g.fragments.rest) from.nodes.items g.nodes.rest x h t
     ∙ ap (λ (fs : List CellFlow). flow_among fs x t) (nodes_more from g.fragments.rest s)
 
-before_up : (j k : ℕ) (x : Flow) → j ≤ k → IsBefore j x → IsBefore k x
+pub before_up : (j k : ℕ) (x : Flow) → j ≤ k → IsBefore j x → IsBefore k x
 before_up j k Nothing l h = tt
 before_up j k (NodeOf i) l h = omega (arith, l, h)
 
