@@ -242,12 +242,12 @@ again_on (Ok v) {a} e {ws} n k s j i again step ej ei h1 h2 h3 h4 =
     (ap (λ (q : ℤ). (again ⨟ (plain (JumpFalse q ∷ []) ⨟ (step ⨟ plain (Jump i ∷ [])))) at) ej ∙ ap (λ (q : ℤ). (again ⨟ (plain (JumpFalse (pos (s + 5)) ∷ []) ⨟ (step ⨟ plain (Jump q ∷ [])))) at) ei)
 
 -- the bytes behind the body of a loop that counts
-pub behind_body : {b c k s m n : ℕ} → b ≡ c + 10 → c ≡ m + n → k ≡ m → s ≡ n → b ≡ k + s + 10
-behind_body e f g h = omega (arith, e, f, g, h)
+pub behind_body : (b c k s m n : ℕ) → b ≡ c + 10 → c ≡ m + n → k ≡ m → s ≡ n → b ≡ k + s + 10
+behind_body b c k s m n e f g h = omega (arith, e, f, g, h)
 
 -- the bytes behind an entry
-pub behind_entry : {b o q x r s d : ℕ} → b ≡ o + q → q ≡ x + r → s ≡ x → d ≡ b - s → d ≡ o + r
-behind_entry e f g h = omega (arith, e, f, g, h)
+pub behind_entry : (b o q x r s d : ℕ) → b ≡ o + q → q ≡ x + r → s ≡ x → d ≡ b - s → d ≡ o + r
+behind_entry b o q x r s d e f g h = omega (arith, e, f, g, h)
 
 -- ---- the loops
 

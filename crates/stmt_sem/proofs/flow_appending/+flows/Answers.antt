@@ -1,17 +1,21 @@
-use Rattle.std.proofs.Common.{◌≡◌, ◌∙◌, ◌∷◌, [], ◌+◌, ◌-◌, ℕ, ℤ, FitsSigned, ap, arith, negsuc, pos, refl, rules, subst, sym, w32}
+use Rattle.std.proofs.Common.{◌≡◌, ◌∙◌, ◌∷◌, [], ◌+◌, ◌-◌, ◌≤◌, ◌<◌, ℕ, ℤ, FitsSigned, ap, arith, negsuc, pos, refl, rules, subst, sym, w32}
 use Rattle.std.proofs.lemmas.Int.{to_z-of_z}
+use Rattle.std.proofs.lemmas.List.{get_or_default}
 use Rattle.expr_sem.specs.Fragments.{part}
-use Rattle.std.specs.Prelude.{OnOk, drop}
+use Rattle.std.specs.Prelude.{OnOk, drop, get_or, length}
 use Rattle.code_form.specs.declared.instr.Instr.TheVariants.{Jump, JumpFalse}
 use Rattle.expr_sem.specs.Parts.{plain, ◌⨟◌}
 use Rattle.expr_sem.specs.Pieces.{Appended, spot_of}
-use Rattle.expr_sem.proofs.PieceParts.{Begins-trans, then_on}
-use Rattle.stmt_sem.specs.FlowNodes.{code_by, flow_in, form_flow}
-use Rattle.stmt_sem.specs.FlowSizes.{arms_bytes, flow_bytes}
+use Rattle.expr_sem.proofs.PieceParts.{Begins-refl, Begins-trans, then_on}
+use Rattle.stmt_sem.specs.FlowNodes.{IsArmOf, IsBefore, code_by, flow_in, form_flow}
+use Rattle.stmt_sem.specs.FlowSizes.{arms_bytes, block_bytes, code_bytes, flow_bytes, fragment_bytes, somewhere}
 use Rattle.stmt_sem.specs.Flows.{part_at}
+use Rattle.stmt_sem.specs.declared.flows.Flow.{Flow}
+use Rattle.stmt_sem.specs.declared.flows.Flow.TheVariants.{Nothing}
 use Rattle.stmt_sem.specs.declared.flows.FlowForm.{FlowForm}
-use Rattle.stmt_sem.proofs.FlowsSized.{flow_measures}
-use Rattle.stmt_sem.proofs.FlowsAppended.{arm_appended, arm_at, first_arm, for_ever_on, last_arm, while_on, with_cell_on}
+use Rattle.stmt_sem.proofs.FlowRanks.{arm_below, each_at, entry_below, highest, highest_body, node_below, node_flow, node_made, rank}
+use Rattle.stmt_sem.proofs.FlowsSized.{block_sized, flow_measures}
+use Rattle.stmt_sem.proofs.FlowsAppended.{arm_appended, arm_at, behind_body, behind_entry, counted_on, entry_appended, entry_bytes, first_arm, for_ever_on, last_arm, until_on, while_on, with_cell_on}
 use Rattle.stmt_sem.proofs.flow_appending.+flows.Goals as goal
 
 pub append_while-returns-clause-ok : goal.append_while-returns-clause-ok
@@ -112,3 +116,92 @@ append_choice-loop-arm-preserved t c =
       left = (k, now, c.loop-arm.invariant.left.2);
       same = arm_appended c.args.piece.now c.loop-arm.piece c.append_arm.new.piece c.args.withs.now fs sound arms c.requires.arms i x c.loop-arm-test.true c.arm-item.is c.args.other c.args.out c.saturating_sub-left.result k c.args.cell now c.loop-arm.invariant.left.2 c.loop-arm.invariant.same c.in_ok-append_arm.ensures.ok;
     }
+
+pub append_block-loop-entry-init : goal.append_block-loop-entry-init
+append_block-loop-entry-init t c =
+    let fs = c.args.flows.now in
+    let xs = c.args.entries.now in
+    let sound = c.requires.sound in
+    record {
+      begins = Begins-refl c.args.piece.now;
+      behind = c.in_ok-behind.ensures ∙ ap (λ (i : ℕ). c.args.out + i) (sym (c.in_ok-block_size.ensures sound 0 somewhere 0) ∙ block_sized fs sound xs c.requires.there 0 somewhere 0);
+      same = refl;
+    }
+
+pub append_block-append_inner-requires : goal.append_block-append_inner-requires
+append_block-append_inner-requires t c =
+    let fs = c.args.flows.now in
+    let xs = c.args.entries.now in
+    let i = c.loop-entry.entry-index in
+    let x : Flow = get_or xs i Nothing in
+    let is : x ≡ get_or xs i x = get_or_default xs i Nothing x c.loop-entry-test.true in
+    let below : rank x ≤ highest xs = entry_below xs i x c.loop-entry-test.true is in
+    (omega (arith, below), (c.requires.sound, each_at (IsBefore (length fs.nodes.items)) xs i x c.loop-entry-test.true is c.requires.there))
+
+pub append_block-loop-entry-preserved : goal.append_block-loop-entry-preserved
+append_block-loop-entry-preserved t c =
+    let fs = c.args.flows.now in
+    let xs = c.args.entries.now in
+    let sound = c.requires.sound in
+    let i = c.loop-entry.entry-index in
+    let x : Flow = get_or xs i Nothing in
+    let is : x ≡ get_or xs i x = get_or_default xs i Nothing x c.loop-entry-test.true in
+    let behind = behind_entry c.loop-entry.behind c.args.out (block_bytes fs (drop i xs)) (flow_bytes fs x) (block_bytes fs (drop (i + 1) xs)) c.size.result c.saturating_sub-behind.result
+        c.loop-entry.invariant.behind (entry_bytes fs xs i x c.loop-entry-test.true is) (c.size.ensures.bytes sound) c.saturating_sub-behind.ensures in
+    record {
+      begins = Begins-trans c.loop-entry.invariant.begins c.in_ok-append_inner.ensures.begins;
+      behind = behind;
+      same = entry_appended c.args.piece.now c.loop-entry.piece c.append_inner.new.piece c.args.withs.now fs sound xs c.requires.there i x c.loop-entry-test.true is c.args.out c.saturating_sub-behind.result c.args.cell behind c.loop-entry.invariant.same c.in_ok-append_inner.ensures.ok;
+    }
+
+pub append_choice-append_arm-requires : goal.append_choice-append_arm-requires
+append_choice-append_arm-requires t c =
+    let fs = c.args.flows.now in
+    let xs = c.args.arms.now in
+    let i = c.loop-arm.arm-index in
+    let x = c.arm-item.result in
+    let below : rank x.body ≤ highest_body xs = arm_below xs i x c.loop-arm-test.true c.arm-item.is in
+    (omega (arith, below), (c.requires.sound, each_at (IsArmOf fs.fragments.nodes.items (length fs.nodes.items)) xs i x c.loop-arm-test.true c.arm-item.is c.requires.arms))
+
+pub append_counted-returns-clause-ok : goal.append_counted-returns-clause-ok
+append_counted-returns-clause-ok t c =
+    let fs = c.args.flows.now in
+    let ns = fs.fragments.nodes.items in
+    let ws = c.args.withs.now in
+    let sound = c.requires.sound in
+    let n = c.size-size.result in
+    let k = code_bytes fs c.args.again.now in
+    let s = fragment_bytes fs c.args.step in
+    let again = c.in_ok-code_size.ensures sound in
+    let step = c.size.ensures sound.fragments in
+    let over : FitsSigned w32 c.in_ok-forward.field-0 = search rules in
+    let behind = behind_body c.in_ok-behind.behind c.in_ok-codes.codes k s c.in_ok-code_size.field-0 c.size.result c.in_ok-behind.ensures c.in_ok-codes.ensures (again 0 somewhere) (step somewhere) in
+    counted_on c.append_again.result c.append_again.new.piece c.args.out _ n k s _ (code_by ns c.args.first.now c.args.cell) (flow_in fs c.args.body c.args.cell) (code_by ns c.args.again.now c.args.cell) (part ns c.args.step)
+    (c.size-size.ensures.size sound c.args.cell) (λ at. again c.args.cell at ∙ sym (again 0 somewhere)) (λ at. step at ∙ sym (step somewhere))
+    (c.in_ok-sum-2.ensures ∙ ap (λ (i : ℕ). c.args.out + i) behind)
+    (to_z-of_z w32 c.in_ok-forward.field-0 over ∙ c.in_ok-forward.ensures ∙ ap pos (c.in_ok-sum.ensures ∙ ap (λ (i : ℕ). n + i) behind))
+    c.in_ok-append_code.ensures.ok (c.in_ok-push_instr.ensures.ok ws) c.in_ok-append_inner.ensures.ok c.append_again.ensures.ok
+
+pub append_until-returns-clause-ok : goal.append_until-returns-clause-ok
+append_until-returns-clause-ok t c =
+    let fs = c.args.flows.now in
+    let sound = c.requires.sound in
+    let m = c.size.result in
+    let n = c.size-test_size.result in
+    let back : FitsSigned w32 c.in_ok-backward.field-0 = search rules in
+    until_on c.push_instr.result c.push_instr.new.piece c.args.out _ m n _ (flow_in fs c.args.body c.args.cell) (part fs.fragments.nodes.items c.args.test)
+    (c.size.ensures.size sound c.args.cell) (c.size-test_size.ensures sound.fragments) (c.in_ok-behind.ensures ∙ ap (λ (i : ℕ). c.args.out + i) c.in_ok-sum.ensures)
+    (to_z-of_z w32 c.in_ok-backward.field-0 back ∙ c.in_ok-backward.ensures ∙ ap (λ (i : ℕ). negsuc (i + 4)) c.in_ok-all.ensures)
+    c.in_ok-append_inner.ensures.ok c.in_ok-append_all.ensures.ok (c.push_instr.ensures.ok c.args.withs.now)
+
+pub append_form-returns-in_ok-forward-in-Exit-clause-ok : goal.append_form-returns-in_ok-forward-in-Exit-clause-ok
+append_form-returns-in_ok-forward-in-Exit-clause-ok t c = ?
+
+pub append_in_with-returns-clause-ok : goal.append_in_with-returns-clause-ok
+append_in_with-returns-clause-ok t c = ?
+
+pub append_inner-append_form-requires : goal.append_inner-append_form-requires
+append_inner-append_form-requires t c = ?
+
+pub append_inner-returns-in-Node-clause-ok : goal.append_inner-returns-in-Node-clause-ok
+append_inner-returns-in-Node-clause-ok t c = ?
