@@ -1,4 +1,4 @@
-use Rattle.std.proofs.Common.{◌≡◌, ◌∙◌, ◌∷◌, [], ◌+◌, ◌-◌, ◌≤◌, ◌<◌, ℕ, ℤ, FitsSigned, ap, arith, negsuc, pos, refl, rules, subst, sym, w32}
+use Rattle.std.proofs.Common.{◌≡◌, ◌∙◌, ◌++◌, ◌∷◌, [], ◌+◌, ◌-◌, ◌≤◌, ◌<◌, ℕ, ℤ, FitsSigned, List, ap, arith, negsuc, pos, refl, rules, subst, sym, w32}
 use Rattle.std.proofs.lemmas.Int.{to_z-of_z}
 use Rattle.std.proofs.lemmas.List.{get_or_default}
 use Rattle.expr_sem.specs.Fragments.{part}
@@ -6,16 +6,17 @@ use Rattle.std.specs.Prelude.{OnOk, drop, get_or, length}
 use Rattle.code_form.specs.declared.instr.Instr.TheVariants.{Jump, JumpFalse}
 use Rattle.expr_sem.specs.Parts.{plain, ◌⨟◌}
 use Rattle.expr_sem.specs.Pieces.{Appended, spot_of}
+use Rattle.expr_sem.specs.declared.pieces.With.{With}
 use Rattle.expr_sem.proofs.PieceParts.{Begins-refl, Begins-trans, then_on}
 use Rattle.stmt_sem.specs.FlowNodes.{IsArmOf, IsBefore, code_by, flow_in, form_flow}
 use Rattle.stmt_sem.specs.FlowSizes.{arms_bytes, block_bytes, code_bytes, flow_bytes, fragment_bytes, somewhere}
-use Rattle.stmt_sem.specs.Flows.{part_at}
+use Rattle.stmt_sem.specs.Flows.{Flow as FlowOf, part_at}
 use Rattle.stmt_sem.specs.declared.flows.Flow.{Flow}
 use Rattle.stmt_sem.specs.declared.flows.Flow.TheVariants.{Nothing}
 use Rattle.stmt_sem.specs.declared.flows.FlowForm.{FlowForm}
 use Rattle.stmt_sem.proofs.FlowRanks.{arm_below, each_at, entry_below, highest, highest_body, node_below, node_flow, node_made, rank}
 use Rattle.stmt_sem.proofs.FlowsSized.{block_sized, flow_measures}
-use Rattle.stmt_sem.proofs.FlowsAppended.{arm_appended, arm_at, behind_body, behind_entry, counted_on, entry_appended, entry_bytes, first_arm, for_ever_on, last_arm, until_on, while_on, with_cell_on}
+use Rattle.stmt_sem.proofs.FlowsAppended.{arm_appended, arm_at, behind_body, behind_entry, counted_on, entry_appended, entry_bytes, first_arm, for_ever_on, in_with_on, last_arm, until_on, while_on, with_cell_on}
 use Rattle.stmt_sem.proofs.flow_appending.+flows.Goals as goal
 
 pub append_while-returns-clause-ok : goal.append_while-returns-clause-ok
@@ -195,13 +196,40 @@ append_until-returns-clause-ok t c =
     c.in_ok-append_inner.ensures.ok c.in_ok-append_all.ensures.ok (c.push_instr.ensures.ok c.args.withs.now)
 
 pub append_form-returns-in_ok-forward-in-Exit-clause-ok : goal.append_form-returns-in_ok-forward-in-Exit-clause-ok
-append_form-returns-in_ok-forward-in-Exit-clause-ok t c = ?
+append_form-returns-in_ok-forward-in-Exit-clause-ok t c =
+    let r = c.push_instr.result in
+    let a = c.args.piece.now in
+    let e = c.push_instr.new.piece in
+    let ws = c.args.withs.now in
+    let over : FitsSigned w32 c.in_ok-forward-in-Exit.field-0 = search rules in
+    subst (λ (g : FlowForm). OnOk r (Appended a e ws (part_at c.args.out (form_flow c.args.flows.now g c.args.cell)))) (sym c.in-Exit.is)
+    (subst (λ (i : ℤ). OnOk r (Appended a e ws (plain (Jump i ∷ [])))) (to_z-of_z w32 c.in_ok-forward-in-Exit.field-0 over ∙ c.in_ok-forward-in-Exit.ensures) (c.push_instr.ensures.ok ws))
 
 pub append_in_with-returns-clause-ok : goal.append_in_with-returns-clause-ok
-append_in_with-returns-clause-ok t c = ?
+append_in_with-returns-clause-ok t c =
+    let ws = c.args.withs.now in
+    let w : With = record { of = record { scope = 0; ordinal = 0 }; cell = c.args.cell } in
+    in_with_on c.append_inner.result c.args.piece.now c.append_inner.new.piece w ws c.deref.result.now c.args.out (flow_in c.args.flows.now c.args.body c.args.cell)
+    (c.deref.ensures.value ∙ c.in_ok-extend_from_slice.ensures.items ∙ ap (λ (l : List With). l ++ ws) (c.in_ok-push.ensures.items ∙ ap (λ (l : List With). l ++ w ∷ []) c.new-inner.ensures.items))
+    c.append_inner.ensures.ok
 
 pub append_inner-append_form-requires : goal.append_inner-append_form-requires
-append_inner-append_form-requires t c = ?
+append_inner-append_form-requires t c =
+    let fs = c.args.flows.now in
+    let k = c.in-Node.number in
+    let there : k < length fs.nodes.items = subst (λ (f : Flow). IsBefore (length fs.nodes.items) f) c.in-Node.is c.requires.there in
+    let below = node_below fs c.requires.sound k c.index-node.result.now there c.index-node.ensures in
+    let same : rank c.args.flow ≡ k + 1 = ap rank c.in-Node.is ∙ omega arith in
+    (omega (arith, below, same), (c.requires.sound, node_made fs c.requires.sound k c.index-node.result.now there c.index-node.ensures))
 
 pub append_inner-returns-in-Node-clause-ok : goal.append_inner-returns-in-Node-clause-ok
-append_inner-returns-in-Node-clause-ok t c = ?
+append_inner-returns-in-Node-clause-ok t c =
+    let fs = c.args.flows.now in
+    let r = c.append_form.result in
+    let a = c.args.piece.now in
+    let e = c.append_form.new.piece in
+    let ws = c.args.withs.now in
+    let k = c.in-Node.number in
+    let there : k < length fs.nodes.items = subst (λ (f : Flow). IsBefore (length fs.nodes.items) f) c.in-Node.is c.requires.there in
+    subst (λ (f : Flow). OnOk r (Appended a e ws (part_at c.args.out (flow_in fs f c.args.cell)))) (sym c.in-Node.is)
+    (subst (λ (f : FlowOf). OnOk r (Appended a e ws (part_at c.args.out f))) (sym (node_flow fs c.requires.sound k c.index-node.result.now there c.index-node.ensures c.args.cell)) c.append_form.ensures.ok)
