@@ -1,5 +1,5 @@
 -- Flows are made of earlier ones, so that going down them ends.
-use Rattle.std.proofs.Common.{◌≡◌, ◌∙◌, ◌∷◌, [], ℕ, zero, suc, ◌+◌, ◌-◌, ◌<◌, ◌≤◌, List, length, Option, Some, None, ap, sym, subst, refl, arith}
+use Rattle.std.proofs.Common.{◌≡◌, ◌∙◌, ◌∷◌, [], ℕ, zero, suc, ◌+◌, ◌-◌, ◌<◌, ◌≤◌, List, length, Option, Some, None, ap, sym, subst, arith}
 use Rattle.std.specs.Prelude.{get_or, slice_get, slice_index_or}
 use Rattle.m2_base.specs.Lists.{Each}
 use Rattle.m2_base.proofs.Kept.{Each-map}

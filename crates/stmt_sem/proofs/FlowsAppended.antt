@@ -1,5 +1,5 @@
 -- Flows appended to a piece: each combinator by the parts that are appended one after another.
-use Rattle.std.proofs.Common.{Result, Ok, Err, ◌≡◌, ◌∙◌, ◌++◌, ◌∷◌, [], ℕ, zero, suc, ◌+◌, ◌-◌, ◌<◌, ◌≤◌, ℤ, pos, negsuc, List, length, map, Option, Some, None, ap, sym, subst, refl, arith, append_assoc}
+use Rattle.std.proofs.Common.{Result, Ok, Err, ◌≡◌, ◌∙◌, ◌++◌, ◌∷◌, [], ℕ, zero, suc, ◌+◌, ◌-◌, ◌<◌, ℤ, pos, negsuc, List, length, map, Option, Some, None, ap, sym, subst, refl, arith, append_assoc}
 use Rattle.std.proofs.lemmas.List.{append-nil, at_drop_more}
 use Rattle.std.specs.Prelude.{OnOk, drop, get_or}
 use Rattle.m2_base.specs.Lists.{Each}
@@ -15,7 +15,7 @@ use Rattle.expr_sem.proofs.PieceParts.{append_then, ended}
 use Rattle.expr_sem.specs.declared.pieces.Piece.{Piece}
 use Rattle.expr_sem.specs.declared.pieces.With.{With}
 use Rattle.stmt_sem.specs.FlowPieces.{AppendedArm, Over, again_part}
-use Rattle.stmt_sem.specs.Flows.{Flow, HasSize, Run, choose, counted, exit, for_ever, in_with, nothing, part_at, until_true, when, while_true, with_cell, ◌⨾◌}
+use Rattle.stmt_sem.specs.Flows.{Flow, HasSize, Run, choose, counted, for_ever, in_with, part_at, until_true, when, while_true, with_cell, ◌⨾◌}
 use Rattle.stmt_sem.specs.Statements.{arm_before, flow_or_nothing}
 use Rattle.stmt_sem.specs.Cases.{label_code, more_labels_code}
 use Rattle.stmt_sem.specs.FlowNodes.{AreSound, IsArmOf, IsBefore, arms_among, block_among, choice_among, code_by, flow_in, flows_in, other_among}

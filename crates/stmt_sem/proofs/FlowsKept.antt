@@ -13,7 +13,7 @@ use Rattle.expr_sem.specs.declared.fragments.Fragment.{Fragment}
 use Rattle.expr_sem.specs.declared.fragments.Fragment.TheVariants.{Nothing as NoFragment, Node as FragmentOf}
 use Rattle.expr_sem.specs.declared.fragments.Node.{Node}
 use Rattle.code_form.specs.declared.instr.Instr.TheVariants.{Load, Local, Store}
-use Rattle.stmt_sem.specs.FlowNodes.{AreSound, CellFlow, Grows, IsAmong, IsArmOf, IsBefore, IsBeforeIfAny, IsCodeOf, IsMadeOf, IsSound, arms_among, block_among, choice_among, code_by, flow_among, flow_by, flow_in, flows_after, flows_in, form_flow, other_among}
+use Rattle.stmt_sem.specs.FlowNodes.{AreSound, CellFlow, Grows, IsAmong, IsArmOf, IsBefore, IsBeforeIfAny, IsCodeOf, IsMadeOf, IsSound, arms_among, block_among, code_by, flow_among, flow_by, flow_in, flows_after, flows_in, other_among}
 use Rattle.stmt_sem.specs.Flows as flow
 use Rattle.stmt_sem.specs.Flows.{counted, for_ever, in_with, nothing, straight, until_true, while_true, with_cell, ◌⨾◌}
 use Rattle.stmt_sem.specs.Statements.{arm_before, flow_or_nothing}

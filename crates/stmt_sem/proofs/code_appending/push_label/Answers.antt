@@ -1,4 +1,4 @@
-use Rattle.std.proofs.Common.{◌∷◌, [], ℤ, FitsSigned, Option, None, Some, ap, pos, refl, rules, subst, sym, w64}
+use Rattle.std.proofs.Common.{◌∷◌, [], ℤ, FitsSigned, Option, Some, ap, pos, refl, rules, subst, sym, w64}
 use Rattle.std.specs.Prelude.{OnOk}
 use Rattle.std.proofs.lemmas.Int.{to_z-of_z}
 use Rattle.code_form.specs.declared.instr.Instr.TheVariants.{AndJump, Eq, Ge, Le, Load, Local, Push}

@@ -148,7 +148,7 @@ append_block-loop-entry-preserved t c =
     let x : Flow = get_or xs i Nothing in
     let is : x ≡ get_or xs i x = get_or_default xs i Nothing x c.loop-entry-test.true in
     let behind = behind_entry c.loop-entry.behind c.args.out (block_bytes fs (drop i xs)) (flow_bytes fs x) (block_bytes fs (drop (i + 1) xs)) c.size.result c.saturating_sub-behind.result
-        c.loop-entry.invariant.behind (entry_bytes fs xs i x c.loop-entry-test.true is) (c.size.ensures.bytes sound) c.saturating_sub-behind.ensures in
+    c.loop-entry.invariant.behind (entry_bytes fs xs i x c.loop-entry-test.true is) (c.size.ensures.bytes sound) c.saturating_sub-behind.ensures in
     record {
       begins = Begins-trans c.loop-entry.invariant.begins c.in_ok-append_inner.ensures.begins;
       behind = behind;
