@@ -53,4 +53,4 @@ mod tests;
 mod withs;
 
 pub use flows::{Arm, Code, Flow, FlowForm, FlowNode, Flows};
-pub use laws::{code_is_short, code_is_valid, heights_are_right};
+pub use laws::{code_is_short, code_is_valid, heights_are_right, returns_agree};
