@@ -18,4 +18,6 @@ pub mod Points
 pub mod Still
 pub mod JumpRanges
 pub mod ReturnHeights
+pub mod EachStep
+pub mod ReturnTakings
 pub mod ValidBlocks

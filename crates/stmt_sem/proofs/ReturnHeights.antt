@@ -153,10 +153,10 @@ counted-exact first f again step m q k g m' q' m'' q'' = λ at o.
 valued : (s : Stand) (e : Expr) → Valued s.context.scene (value_at s e).value
 valued s e = as_value-good s.context (expr_at e) (expression s.context s.withs e).value (expression-good s.context s.withs e)
 
-quiet_value : (s : Stand) (e : Expr) → Quiet (value_at s e).value
+pub quiet_value : (s : Stand) (e : Expr) → Quiet (value_at s e).value
 quiet_value s e = value-quiet s.context s.withs e
 
-quiet_variable : (s : Stand) (d : Designator) → Quiet (variable s d).value
+pub quiet_variable : (s : Stand) (d : Designator) → Quiet (variable s d).value
 quiet_variable s d = variable-quiet s.context (designator_at d) (designated s.context s.withs d).value (designated-quiet s.context s.withs d)
 
 store_go : (c : Context) (t : Place) (to : Part) (x : Coded) (o : Operand) → Stays to → Quiet x → Stays (store_by c t to x o)
@@ -175,7 +175,7 @@ store_go c t to x o f g =
 store-stays : (c : Context) (to x : Coded) → Quiet to → Quiet x → Stays (store_code c to x)
 store-stays c to x f g = store_go c (operand_type to.operand) to.code x x.operand f.0 g
 
-assignment-stays : (c : Context) (to : Coded) (at : ℕ) (x : Coded) → Quiet to → Quiet x → Stays (assignment c to at x).value
+pub assignment-stays : (c : Context) (to : Coded) (at : ℕ) (x : Coded) → Quiet to → Quiet x → Stays (assignment c to at x).value
 assignment-stays c to at x f g =
     let t : Place = operand_type to.operand in
     both_ways (λ r. Stays r.value) (is_bad to.operand) (gives none) (and_then (assigned_to c t at not_assignable x) (λ y. gives (store_code c to y))) none-stays
@@ -188,7 +188,7 @@ test_code-stays c at x g =
     (both_ways (λ r. Stays r.value) (is_boolean c x.operand) (gives (value_code c x)) (refuse c at not_boolean false_code) (value-stays c x g)
     (plain-stays (Push (pos 0) ∷ []) refl))
 
-tests-stay : (s : Stand) (e : Expr) → Stays (test s e).value
+pub tests-stay : (s : Stand) (e : Expr) → Stays (test s e).value
 tests-stay s e = test_code-stays s.context (expr_at e) (value_at s e).value (quiet_value s e)
 
 tests-move : (s : Stand) (e : Expr) → Moves 0 (test s e).value 1
@@ -198,7 +198,7 @@ in_cell : (t : ℕ) (p : Part) → Stays p → Stays (plain (Local 0 t ∷ []) �
 in_cell t p f =
     then-stays (plain (Local 0 t ∷ [])) (p ⨟ plain (Store ∷ [])) (plain-stays (Local 0 t ∷ []) refl) (then-stays p (plain (Store ∷ [])) f (plain-stays (Store ∷ []) refl))
 
-selector-stays : (c : Context) (t : ℕ) (x : Coded) → Quiet x → Stays (selector_code c t x)
+pub selector-stays : (c : Context) (t : ℕ) (x : Coded) → Quiet x → Stays (selector_code c t x)
 selector-stays c t x g =
     in_cell t (selector_value c x) (both_ways Stays (is_bad x.operand) false_code (value_code c x) (plain-stays (Push (pos 0) ∷ []) refl) (value-stays c x g))
 
@@ -213,7 +213,7 @@ more_labels-stay : (t : ℕ) (ls : List LabelTest) → Stays (more_labels_code t
 more_labels-stay t [] = none-stays
 more_labels-stay t (l ∷ ls) = then-stays (skip OrJump (label_code t l)) (more_labels_code t ls) (skip_or-stays (label_code t l) (label-stays t l.low l.high)) (more_labels-stay t ls)
 
-labels-stay : (t : ℕ) (ls : List LabelTest) → Stays (labels_code t ls)
+pub labels-stay : (t : ℕ) (ls : List LabelTest) → Stays (labels_code t ls)
 labels-stay t [] = plain-stays (Push (pos 0) ∷ []) refl
 labels-stay t (l ∷ ls) = then-stays (label_code t l) (more_labels_code t ls) (label-stays t l.low l.high) (more_labels-stay t ls)
 
@@ -226,39 +226,39 @@ controls-quiet : (c : Context) (at : ℕ) (e : Option Entry) → Quiet (controls
 controls-quiet c at None = error-quiet
 controls-quiet c at (Some e) = let x : Coded = entry_coded c (Some e) in controls_go c at e x x.operand (entry-quiet c (Some e))
 
-control-quiet : (c : Context) (withs : List Place) (i : Ident) → Quiet (control_variable c withs i).value
+pub control-quiet : (c : Context) (withs : List Place) (i : Ident) → Quiet (control_variable c withs i).value
 control-quiet c withs i =
     both_ways (λ r. Quiet r.value) (is_some (with_field c.scene 0 withs i.name)) (refuse c i.at not_a_control_variable in_error)
     (and_then (use_of c None i.name i.at) (controls c i.at)) error-quiet (controls-quiet c i.at (use_of c None i.name i.at).value)
 
-bound-quiet : (c : Context) (x : Coded) (at : ℕ) (v : Coded) → Quiet v → Quiet (bound_value c x at v).value
+pub bound-quiet : (c : Context) (x : Coded) (at : ℕ) (v : Coded) → Quiet v → Quiet (bound_value c x at v).value
 bound-quiet c x at v g =
     both_ways (λ r. Quiet r.value) (is_bad x.operand) (gives in_error) (assigned_to c (operand_type x.operand) at not_assignable v) error-quiet
     (assigned-quiet c (operand_type x.operand) at not_assignable v g)
 
-record-quiet : (c : Context) (at : ℕ) (x : Coded) → Quiet x → Quiet (record_variable c at x).value
+pub record-quiet : (c : Context) (at : ℕ) (x : Coded) → Quiet x → Quiet (record_variable c at x).value
 record-quiet c at x g =
     both_ways (λ r. Quiet r.value) (is_bad x.operand || is_record (kind_of c.scene (operand_type x.operand))) (gives x) (refuse c at not_a_record in_error) g error-quiet
 
-with-stays : (t : ℕ) (x : Coded) → Quiet x → Stays (with_code t x)
+pub with-stays : (t : ℕ) (x : Coded) → Quiet x → Stays (with_code t x)
 with-stays t x g = both_ways Stays (is_bad x.operand) none (plain (Local 0 t ∷ []) ⨟ x.code ⨟ plain (Store ∷ [])) none-stays (in_cell t x.code g.0)
 
-first-stays : (c : Context) (x first : Coded) → Quiet x → Quiet first → Stays (for_first c x first)
+pub first-stays : (c : Context) (x first : Coded) → Quiet x → Quiet first → Stays (for_first c x first)
 first-stays c x first f g = both_ways Stays (has_code x && has_code first) (store_code c x first) none (store-stays c x first f g) none-stays
 
-last-stays : (c : Context) (t : ℕ) (x last : Coded) → Quiet last → Stays (for_last c t x last)
+pub last-stays : (c : Context) (t : ℕ) (x last : Coded) → Quiet last → Stays (for_last c t x last)
 last-stays c t x last g =
     both_ways Stays (has_code x && has_code last) (plain (Local 0 t ∷ []) ⨟ fitted_code c (operand_type x.operand) last ⨟ plain (Store ∷ [])) none
     (in_cell t (fitted_code c (operand_type x.operand) last) (fitted-stays c (operand_type x.operand) last g)) none-stays
 
-for_test-stays : (t : ℕ) (x : Coded) (by : ℤ) → Quiet x → Stays (for_test t x by)
+pub for_test-stays : (t : ℕ) (x : Coded) (by : ℤ) → Quiet x → Stays (for_test t x by)
 for_test-stays t x (pos n) g = then-stays x.code (plain (Load ∷ Local 0 t ∷ Load ∷ Le ∷ [])) g.0 (plain-stays (Load ∷ Local 0 t ∷ Load ∷ Le ∷ []) refl)
 for_test-stays t x (negsuc n) g = then-stays x.code (plain (Load ∷ Local 0 t ∷ Load ∷ Ge ∷ [])) g.0 (plain-stays (Load ∷ Local 0 t ∷ Load ∷ Ge ∷ []) refl)
 
-for_more-stays : (t : ℕ) (x : Coded) (by : ℤ) → Quiet x → Stays (for_more t x by)
+pub for_more-stays : (t : ℕ) (x : Coded) (by : ℤ) → Quiet x → Stays (for_more t x by)
 for_more-stays t x by g = then-stays x.code (plain (Load ∷ Local 0 t ∷ Load ∷ More by ∷ [])) g.0 (plain-stays (Load ∷ Local 0 t ∷ Load ∷ More by ∷ []) refl)
 
-for_step-stays : (scene : Scene) (x : Coded) (by : ℤ) → Quiet x → Stays (for_step scene x by)
+pub for_step-stays : (scene : Scene) (x : Coded) (by : ℤ) → Quiet x → Stays (for_step scene x by)
 for_step-stays scene x by g =
     then-stays x.code (plain (Dup ∷ Load ∷ Push by ∷ Add (side_of scene (operand_type x.operand)) ∷ Store ∷ [])) g.0
     (plain-stays (Dup ∷ Load ∷ Push by ∷ Add (side_of scene (operand_type x.operand)) ∷ Store ∷ []) refl)

@@ -1,5 +1,5 @@
 -- Steps at their places, as the conditions of valid code look at them.
-use Rattle.std.specs.Prelude.{◌≡◌, ℕ, true, List, [], ◌∷◌, map, None}
+use Rattle.std.specs.Prelude.{◌≡◌, ℕ, Bool, true, false, List, [], ◌∷◌, map, None}
 use Rattle.m2_base.specs.declared.rows.Row.{Row}
 use Rattle.m2_base.specs.Statics.BlockRows.{declare_block}
 use Rattle.m2_base.specs.Statics.Blocks.{BlockTree}
@@ -9,6 +9,7 @@ use Rattle.expr_sem.specs.Heights.{needs_callee}
 use Rattle.stmt_sem.specs.BlockCode.{body_of, run_of}
 use Rattle.code_form.specs.Heights.{Callees, Step, step_among}
 use Rattle.code_form.specs.declared.instr.Instr.{Instr}
+use Rattle.code_form.specs.declared.instr.Instr.TheVariants.{Call, CallX}
 use Rattle.code_form.specs.Instructions.{IsInstr}
 use Rattle.code_form.specs.Modules.{Procedure, World}
 use Rattle.code_form.specs.Valid.{jump_of, names_what_is_there}
@@ -21,6 +22,17 @@ instrs_of ss = map (λ s. s.instr) ss
 abbrev pub CallsAgree : Callees → List Step → Type 0
 CallsAgree c [] = Unit {0}
 CallsAgree c (s ∷ ss) = (needs_callee s.instr ≡ true → step_among c s.instr ≡ s) × CallsAgree c ss
+
+-- the instruction calls a procedure by its number
+abbrev pub calls_procedure : Instr → Bool
+calls_procedure (Call p h) = true
+calls_procedure (CallX m k) = true
+calls_procedure i = false
+
+-- each call of a procedure by its number takes and leaves what is told of these callees
+abbrev pub ProceduresAgree : Callees → List Step → Type 0
+ProceduresAgree c [] = Unit {0}
+ProceduresAgree c (s ∷ ss) = (calls_procedure s.instr ≡ true → step_among c s.instr ≡ s) × ProceduresAgree c ss
 
 -- each instruction that doesn't jump has its operands in their ranges
 abbrev pub OthersInRange : List Step → Type 0

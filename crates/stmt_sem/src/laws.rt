@@ -1,6 +1,7 @@
 //! Laws on the definitions, each the contract of a function that does nothing.
 ghost use Rattle.code_form.specs.Modules.{Procedure, World};
 ghost use Rattle.code_form.specs.Valid.{IsValidCode, callees_of};
+ghost use Rattle.code_form.specs.Heights.{Callees};
 ghost use Rattle.std.specs.Prelude.{◌≡◌, ℕ, List, [], length, ◌*◌, ◌^◌, ◌<◌, ◌≤◌};
 ghost use Rattle.m2_base.specs.declared.rows.Row.{Row};
 ghost use Rattle.m2_base.specs.Statics.BlockRows.{declare_block};
@@ -12,7 +13,7 @@ ghost use Rattle.expr_sem.specs.Lengths.{bytes_for_token};
 ghost use Rattle.stmt_sem.specs.BlockCode.{block_code, body_of, run_of};
 ghost use Rattle.stmt_sem.specs.Heights.{KeepsHeight, Stands};
 ghost use Rattle.stmt_sem.specs.Lengths.{IsShortFor, most_tokens};
-ghost use Rattle.stmt_sem.specs.Places.{CallsAgree, NameThere, OthersInRange, block_steps};
+ghost use Rattle.stmt_sem.specs.Places.{CallsAgree, NameThere, OthersInRange, ProceduresAgree, block_steps};
 ghost use Rattle.stmt_sem.specs.Statements.{Stand, flow_of};
 ghost use Rattle.stmt_sem.specs.Tokens.{block_tokens, statements_tokens};
 
@@ -40,4 +41,11 @@ pub fn code_is_valid()
         let steps = block_steps source before all b in
         p.code ≡ (block_code source before all b).code → p.high ≡ (block_code source before all b).high
         → block_tokens b.tree ≤ most_tokens → OthersInRange steps → CallsAgree (callees_of w p) steps → NameThere w k p steps → IsValidCode w k p }
+{}
+
+/// Each return of a block's code takes what the block's procedure gives, one operand in a function and else none: where the
+/// calls of procedures take and leave what is told of the callees, so do the returns.
+pub fn returns_agree()
+    ensures blocks { (source : Source) (before all : List (List Row)) (b : BlockTree) (c : Callees) → c.result ≡ (block_code source before all b).result
+        → ProceduresAgree c (block_steps source before all b) → CallsAgree c (block_steps source before all b) }
 {}

@@ -56,4 +56,4 @@ mod withs;
 
 pub use flow_appending::append_flow;
 pub use flows::{Arm, Code, Flow, FlowForm, FlowNode, Flows};
-pub use laws::{code_is_short, code_is_valid, heights_are_right};
+pub use laws::{code_is_short, code_is_valid, heights_are_right, returns_agree};
