@@ -1,0 +1,362 @@
+-- The rows of procedures have the numbers of the procedures that the block declares.
+use Rattle.std.specs.Prelude.{◌≡◌, ℕ, ◌+◌, ◌^◌, ◌<◌, ◌≤◌, ◌==◌, Bool, true, false, if◌then◌else◌, filter, List, [], ◌∷◌, ◌++◌, length, map, flat_map, slice_get, Option, Some, None}
+use Rattle.std.proofs.Common.{ap, subst, sym, ◌∙◌, refl, inl, inr, arith}
+use Rattle.std.proofs.lemmas.List.{append-nil, append_assoc, length-append}
+use Rattle.m2_base.specs.Lists.{Each, IsIn}
+use Rattle.m2_base.specs.Rows.{row_of, row_meaning, basic_of, natural, const_kind, type_name_kind, var_kind, proc_kind, module_kind, alias_kind, field_kind, param_kind, standard_kind, basic_kind, enum_kind, subrange_kind, array_kind, open_array_kind, record_kind, set_kind, pointer_kind, proc_type_kind, opaque_kind, place_of, number_of}
+use Rattle.m2_base.specs.declared.outputs.HeadingNote.{HeadingNote}
+use Rattle.m2_base.specs.declared.rows.Place.{Place}
+use Rattle.m2_base.specs.declared.rows.Row.{Row}
+use Rattle.m2_base.specs.declared.rows.RowMeaning.{RowMeaning}
+use Rattle.m2_base.specs.declared.rows.RowMeaning.TheVariants.{Proc, ProcType}
+use Rattle.m2_base.specs.declared.trees.Ident.{Ident}
+use Rattle.m2_base.specs.declared.trees.Qual.{Qual}
+use Rattle.m2_base.specs.declared.trees.declarations.StreamKind.{StreamKind}
+use Rattle.m2_base.specs.declared.trees.declarations.StreamKind.TheVariants.{Main, Definition, Procedure}
+use Rattle.m2_base.specs.declared.trees.types.Formal.{Formal}
+use Rattle.m2_base.specs.Standard.{is_standard}
+use Rattle.m2_base.specs.Trees.{TypeExpr, type_expr, TypeForm, named_type, enum_type, sub_type, array_type, record_type, set_type, pointer_type, proc_type, TypeExprs, no_types, more_types, FieldList, plain_fields, case_fields, FieldLists, no_fields, more_fields, variant_arm, VariantArms, no_variant_arms, more_variant_arms, Section, Heading}
+use Rattle.m2_base.specs.Statics.BlockRows.{declare_block, declare_items, at_item, context_of, scene_of, first_cell}
+use Rattle.m2_base.specs.Statics.Blocks.{BlockTree}
+use Rattle.m2_base.specs.Statics.Contexts.{Block, Context, Scene, Source}
+use Rattle.m2_base.specs.Statics.Declarations.{declare}
+use Rattle.m2_base.specs.Statics.Effects.{Effect, heading_list}
+use Rattle.m2_base.specs.Statics.Items.{Item, heading_item, import_item, const_item, type_item, vars_item, proc_item, items_of}
+use Rattle.m2_base.specs.Statics.Lookup.{has_name}
+use Rattle.m2_base.specs.Statics.Makes.{Makes, scene_with, with_rows, next_place, own_rows, makes_row, makes_named}
+use Rattle.m2_base.specs.Statics.ProcedureRows.{heading_note, is_proc, is_proc_meaning, parameter_cells, parameter_count, proc_number, proc_scope, result_cells, section_rows, sections_length}
+use Rattle.m2_base.specs.Statics.ProcedureTypes.{result_type}
+use Rattle.m2_base.specs.Statics.ShapedRows.{AreShaped, none_of, more_of}
+use Rattle.m2_base.specs.Statics.Shapes.{Shape, named, nameless, type_shapes, form_shapes, types_shapes, fields_shapes, field_shapes, arms_shapes, array_shapes, formal_shapes, open_shapes, tag_shapes, type_item_shapes, section_shapes, own_section_shapes}
+use Rattle.m2_base.proofs.ChainLaws.{each_append}
+use Rattle.m2_base.proofs.ItemLaws.{item_of, sections_of}
+use Rattle.m2_base.proofs.NoRepeats.{scene_empty}
+use Rattle.m2_base.proofs.RowLaws.{place_of-number_of}
+use Rattle.m2_base.proofs.SceneLaws.{own_of, own-with, with-none}
+use Rattle.m2_base.proofs.Sound.{next_of}
+use Rattle.m2_base.proofs.SoundTypes.{either}
+use Rattle.row_laws.specs.Procedures.{HasNumber, IsDeclared}
+use Rattle.row_laws.proofs.Numbers.{AllAgree}
+use Rattle.row_laws.proofs.Agreeing.{Ready, agree-left, agree-right, ready-left, ready-right, ready-then}
+use Rattle.row_laws.proofs.Closed.{IsClosed, closed_with}
+use Rattle.row_laws.proofs.Signatures.{IsRawType, Under, type_made_raw, under-left, under-right}
+
+-- ** Rows of other kinds
+
+-- the meaning is no procedure's
+abbrev IsNone : RowMeaning → Type 0
+IsNone m = is_proc_meaning m ≡ false
+
+otherwise : {A : Type 0} (P : A → Type 0) (b : Bool) (x y : A) → b ≡ false → P y → P (if b then x else y)
+otherwise P true x y e h = absurd (cc)
+otherwise P false x y e h = h
+
+basic_none : (n : ℕ) → IsNone (basic_of n)
+basic_none n =
+    either IsNone (n == 1) _ _ refl (either IsNone (n == 2) _ _ refl (either IsNone (n == 3) _ _ refl
+    (either IsNone (n == 4) _ _ refl (either IsNone (n == 5) _ _ refl (either IsNone (n == 6) _ _ refl refl)))))
+
+kind_none : (r : Row) → (r.kind == proc_kind) ≡ false → IsNone (row_meaning r)
+kind_none r e =
+    either IsNone (r.kind == const_kind) _ _ refl (either IsNone (r.kind == type_name_kind) _ _ refl
+    (either IsNone (r.kind == var_kind) _ _ refl
+    (otherwise IsNone (r.kind == proc_kind) _ _ e (either IsNone (r.kind == module_kind) _ _ refl (either IsNone (r.kind == alias_kind) _ _ refl
+    (either IsNone (r.kind == field_kind) _ _ refl (either IsNone (r.kind == param_kind) _ _ refl (either IsNone (r.kind == standard_kind) _ _ refl
+    (either IsNone (r.kind == basic_kind) _ _ (basic_none (natural r.a)) (either IsNone (r.kind == enum_kind) _ _ refl (either IsNone (r.kind == subrange_kind) _ _ refl
+    (either IsNone (r.kind == array_kind) _ _ refl (either IsNone (r.kind == open_array_kind) _ _ refl (either IsNone (r.kind == record_kind) _ _ refl
+    (either IsNone (r.kind == set_kind) _ _ refl (either IsNone (r.kind == pointer_kind) _ _ refl (either IsNone (r.kind == proc_type_kind) _ _ refl
+    (either IsNone (r.kind == opaque_kind) _ _ refl refl))))))))))))))))))
+
+-- no shape is a procedure's
+abbrev ArePlain : List Shape → Type 0
+ArePlain shapes = Each (λ (s : Shape). (s.kind == proc_kind) ≡ false) shapes
+
+plains : (xs ys : List Shape) → ArePlain xs → ArePlain ys → ArePlain (xs ++ ys)
+plains xs ys h k = each_append (λ (s : Shape). (s.kind == proc_kind) ≡ false) xs ys h k
+
+mapped : {A : Type 0} (f : A → Shape) (xs : List A) → ((x : A) → ((f x).kind == proc_kind) ≡ false) → ArePlain (map f xs)
+mapped f [] h = tt
+mapped f (x ∷ xs) h = (h x, mapped f xs h)
+
+open_plain : (is_open : Bool) (q : Qual) → ArePlain (open_shapes is_open q)
+open_plain true q = (refl, tt)
+open_plain false q = tt
+
+formals_plain : (formals : List Formal) → ArePlain (flat_map formal_shapes formals)
+formals_plain [] = tt
+formals_plain (f ∷ formals) = plains (formal_shapes f) _ (plains (open_shapes f.is_open f.of) _ (open_plain f.is_open f.of) (refl, tt)) (formals_plain formals)
+
+array_plain : (at : ℕ) (ts : TypeExprs) → ArePlain (array_shapes at ts)
+array_plain at no_types = tt
+array_plain at (more_types t ts) = (refl, array_plain at ts)
+
+tag_plain : (tag : Option Ident) → ArePlain (tag_shapes tag)
+tag_plain None = tt
+tag_plain (Some i) = (refl, tt)
+
+mutual
+  type_plain : (t : TypeExpr) → ArePlain (type_shapes t)
+  type_plain (type_expr at form) = form_plain at form
+
+  form_plain : (at : ℕ) (form : TypeForm) → ArePlain (form_shapes at form)
+  form_plain at (named_type q) = tt
+  form_plain at (enum_type idents) = (refl, mapped _ idents (λ i. refl))
+  form_plain at (sub_type base low high) = (refl, tt)
+  form_plain at (array_type index of) = plains (types_shapes index ++ type_shapes of) _ (plains (types_shapes index) _ (types_plain index) (type_plain of)) (array_plain at index)
+  form_plain at (record_type fields) = plains (fields_shapes fields) _ (fields_plain fields) (refl, tt)
+  form_plain at (set_type of) = plains (type_shapes of) _ (type_plain of) (refl, tt)
+  form_plain at (pointer_type of) = plains (type_shapes of) _ (type_plain of) (refl, tt)
+  form_plain at (proc_type formals result) = plains (flat_map formal_shapes formals) _ (formals_plain formals) (refl, tt)
+
+  types_plain : (ts : TypeExprs) → ArePlain (types_shapes ts)
+  types_plain no_types = tt
+  types_plain (more_types t ts) = plains (type_shapes t) _ (type_plain t) (types_plain ts)
+
+  fields_plain : (fs : FieldLists) → ArePlain (fields_shapes fs)
+  fields_plain no_fields = tt
+  fields_plain (more_fields f fs) = plains (field_shapes f) _ (field_plain f) (fields_plain fs)
+
+  field_plain : (f : FieldList) → ArePlain (field_shapes f)
+  field_plain (plain_fields idents t) = plains (type_shapes t) _ (type_plain t) (mapped _ idents (λ i. refl))
+  field_plain (case_fields tag of arms other) = plains (tag_shapes tag ++ arms_shapes arms) _ (plains (tag_shapes tag) _ (tag_plain tag) (arms_plain arms)) (fields_plain other)
+
+  arms_plain : (arms : VariantArms) → ArePlain (arms_shapes arms)
+  arms_plain no_variant_arms = tt
+  arms_plain (more_variant_arms (variant_arm ls fs) arms) = plains (fields_shapes fs) _ (fields_plain fs) (arms_plain arms)
+
+sections_plain : (sections : List Section) → ArePlain (flat_map section_shapes sections)
+sections_plain [] = tt
+sections_plain (s ∷ sections) =
+    plains (section_shapes s) _ (plains (open_shapes s.is_open s.of) _ (open_plain s.is_open s.of) (mapped (λ (i : Ident). nameless param_kind i.at) s.names (λ i. refl))) (sections_plain sections)
+
+own_plain : (sections : List Section) → ArePlain (flat_map own_section_shapes sections)
+own_plain [] = tt
+own_plain (s ∷ sections) =
+    plains (own_section_shapes s) _ (plains (open_shapes s.is_open s.of) _ (open_plain s.is_open s.of) (mapped (named var_kind) s.names (λ i. refl))) (own_plain sections)
+
+type_item_plain : (i : Ident) (t : Option TypeExpr) → ArePlain (type_item_shapes i t)
+type_item_plain i None = (refl, tt)
+type_item_plain i (Some t) = type_plain t
+
+shaped_none : (shapes : List Shape) (rows : List Row) → AreShaped shapes rows → ArePlain shapes → Each (λ r. IsNone (row_meaning r)) rows
+shaped_none [] [] none_of h = tt
+shaped_none [] (r ∷ rows) is h = elim is [ ]
+shaped_none (s ∷ shapes) [] is h = elim is [ ]
+shaped_none (s ∷ shapes) (r ∷ rows) (more_of is rest) h = (kind_none r (ap (λ k. k == proc_kind) is.kind ∙ h.0), shaped_none shapes rows rest h.1)
+
+-- ** What isn't a procedure's is declared so
+
+none_declared : (Q : Heading → Place → Type 0) (kind : StreamKind) (b : Block) (notes : List HeadingNote) (items : List Item) (m : RowMeaning) → IsNone m → IsDeclared Q kind b notes items m
+none_declared Q kind b notes items (Proc t k s) h = absurd (cc)
+none_declared Q kind b notes items m h = tt
+
+abbrev AreDeclared : (Heading → Place → Type 0) → StreamKind → Block → List HeadingNote → List Item → List Row → Type 0
+AreDeclared Q kind b notes items rows = Each (λ r. IsDeclared Q kind b notes items (row_meaning r)) rows
+
+nones_declared : (Q : Heading → Place → Type 0) (kind : StreamKind) (b : Block) (notes : List HeadingNote) (items : List Item) (rows : List Row) → Each (λ r. IsNone (row_meaning r)) rows → AreDeclared Q kind b notes items rows
+nones_declared Q kind b notes items [] h = tt
+nones_declared Q kind b notes items (r ∷ rows) h = (none_declared Q kind b notes items (row_meaning r) h.0, nones_declared Q kind b notes items rows h.1)
+
+nones_counted : (rows : List Row) → Each (λ r. IsNone (row_meaning r)) rows → length (filter is_proc rows) ≡ 0
+nones_counted [] h = refl
+nones_counted (r ∷ rows) h = ap (λ b. length (if b then r ∷ filter is_proc rows else filter is_proc rows)) h.0 ∙ nones_counted rows h.1
+
+filter_append : {A : Type 0} (p : A → Bool) (xs ys : List A) → length (filter p (xs ++ ys)) ≡ length (filter p xs) + length (filter p ys)
+filter_append p [] ys = omega arith
+filter_append {A} p (x ∷ xs) ys = by_test (p x) (filter_append p xs ys)
+  where
+    by_test : (b : Bool) → length (filter p (xs ++ ys)) ≡ length (filter p xs) + length (filter p ys)
+        → length (if b then x ∷ filter p (xs ++ ys) else filter p (xs ++ ys)) ≡ length (if b then x ∷ filter p xs else filter p xs) + length (filter p ys)
+    by_test true h = omega (arith, h)
+    by_test false h = h
+
+next_note : (front : List HeadingNote) (note : HeadingNote) (rest : List HeadingNote) → slice_get (front ++ note ∷ rest) (length front) ≡ Some note
+next_note [] note rest = refl
+next_note (x ∷ front) note rest = next_note front note rest
+
+-- ** Items
+
+-- the notes so far are as many as the procedures' rows, in a definition
+abbrev IsInStep : StreamKind → List HeadingNote → List Row → Type 0
+IsInStep Definition notes rows = length notes ≡ length (filter is_proc rows)
+IsInStep kind notes rows = Unit {0}
+
+-- what an item makes: rows that are declared, and as many notes as procedures' rows
+record Declared (Q : Heading → Place → Type 0) (kind : StreamKind) (b : Block) (items : List Item) (front more : List HeadingNote) (rows : List Row) (m : Makes Effect) : Type 0 where
+  declared : AreDeclared Q kind b (front ++ (heading_list m.value.heading ++ more)) items m.rows
+  in_step : IsInStep kind (front ++ heading_list m.value.heading) (rows ++ m.rows)
+
+same_step : (kind : StreamKind) (front : List HeadingNote) (rows more : List Row) → Each (λ r. IsNone (row_meaning r)) more → IsInStep kind front rows → IsInStep kind (front ++ []) (rows ++ more)
+same_step Definition front rows more none h =
+    let e = filter_append is_proc rows more in
+    let z = nones_counted more none in
+    let f = ap length (append-nil front) in
+    omega (arith, e, z, f, h)
+same_step Main front rows more none h = tt
+same_step Procedure front rows more none h = tt
+
+-- an item that declares no procedure
+plain_declared : (Q : Heading → Place → Type 0) (kind : StreamKind) (b : Block) (items : List Item) (front more : List HeadingNote) (rows : List Row) (m : Makes Effect) → m.value.heading ≡ None → Each (λ r. IsNone (row_meaning r)) m.rows
+    → IsInStep kind front rows → Declared Q kind b items front more rows m
+plain_declared Q kind b items front more rows m none h step =
+    record {
+      declared = nones_declared Q kind b (front ++ (heading_list m.value.heading ++ more)) items m.rows h;
+      in_step = subst (λ o. IsInStep kind (front ++ heading_list o) (rows ++ m.rows)) (sym none) (same_step kind front rows m.rows h step);
+    }
+
+named_each : (P : RowMeaning → Type 0) (c : Context) (name at : ℕ) (m : RowMeaning) → ((n : ℕ) → P (row_meaning (row_of n at m))) → Each (λ r. P (row_meaning r)) (makes_named c name at m).rows
+named_each P c name at m h =
+    either (λ (x : Makes Place). Each (λ r. P (row_meaning r)) x.rows) (is_standard name) _ _ (h 0, tt)
+    (either (λ (x : Makes Place). Each (λ r. P (row_meaning r)) x.rows) (has_name c.scene.tables c.scene.block.scope name) _ _ (h 0, tt) (h name, tt))
+
+-- a procedure's row with a name or without one is one row of a procedure
+named_count : (c : Context) (name at : ℕ) (t : Place) (k s : ℕ) → length (filter is_proc (makes_named c name at (Proc t k s)).rows) ≡ 1
+named_count c name at t k s =
+    either (λ (x : Makes Place). length (filter is_proc x.rows) ≡ 1) (is_standard name) _ _ refl
+    (either (λ (x : Makes Place). length (filter is_proc x.rows) ≡ 1) (has_name c.scene.tables c.scene.block.scope name) _ _ refl refl)
+
+result_none : (e : Context) (at : ℕ) (r : Option Place) (k first : ℕ) → Each (λ r. IsNone (row_meaning r)) (makes_row e at (ProcType r k first)).rows
+result_none e at None k first = (refl, tt)
+result_none e at (Some r) k first = (refl, tt)
+
+-- the number that a procedure's row has
+number_is : (c : Context) (kind : StreamKind) (h : Heading) (stream : ℕ) (front more : List HeadingNote) → IsInStep kind front (own_rows c)
+    → HasNumber kind c.scene.block (front ++ (heading_list (heading_note kind h (proc_number c kind stream)) ++ more)) h stream (proc_number c kind stream)
+number_is c Definition h stream front more step =
+    let note : HeadingNote = record { name = h.name.name; number = length (filter is_proc (own_rows c)); params = parameter_cells h.sections; result = result_cells h.result } in
+    ap (λ n. slice_get (front ++ note ∷ more) n) (sym step) ∙ next_note front note more
+number_is c Main h stream front more step = refl
+number_is c Procedure h stream front more step = refl
+
+notes_step : (c : Context) (kind : StreamKind) (h : Heading) (number : ℕ) (front : List HeadingNote) (before rows : List Row) → length (filter is_proc rows) ≡ 1 → IsInStep kind front before
+    → IsInStep kind (front ++ heading_list (heading_note kind h number)) (before ++ rows)
+notes_step c Definition h number front before rows one step =
+    let e = filter_append is_proc before rows in
+    let note : HeadingNote = record { name = h.name.name; number = number; params = parameter_cells h.sections; result = result_cells h.result } in
+    let f = length-append front (note ∷ []) in
+    omega (arith, e, f, one, step)
+notes_step c Main h number front before rows one step = tt
+notes_step c Procedure h number front before rows one step = tt
+
+-- the sections make as many rows as the syntax says
+sections_count : (sections : List Section) → length (flat_map section_shapes sections) ≡ sections_length sections
+sections_count [] = refl
+sections_count (s ∷ sections) =
+    let e = length-append (section_shapes s) (flat_map section_shapes sections) in
+    let rest = sections_count sections in
+    omega (arith, e, rest)
+
+module _ (names : ℕ) (final : Scene) where
+  abbrev Q : Heading → Place → Type 0
+  Q h t = IsRawType final h t
+
+  proc_declared : (h : Heading) (stream : ℕ) (c : Context) (kind : StreamKind) (cell : ℕ) (items : List Item) (front more : List HeadingNote) → IsIn (proc_item h stream) items
+      → Ready names c (declare c kind (proc_item h stream) cell).rows → Under c.scene (declare c kind (proc_item h stream) cell).rows final → IsClosed c.scene → IsInStep kind front (own_rows c) → Declared Q kind c.scene.block items front more (own_rows c) (declare c kind (proc_item h stream) cell)
+  proc_declared h stream c kind cell items front more is_in ready under closed step =
+      let start = (next_place c).ordinal in
+      let own = start + sections_length h.sections in
+      let made = section_rows c own h.sections in
+      let d = with_rows c made.rows in
+      let r = (result_type d h.result).value in
+      let e = with_rows d [] in
+      let t = makes_row e h.name.at (ProcType r (parameter_count h.sections) start) in
+      let f = with_rows e t.rows in
+      let number = proc_number c kind stream in
+      let p = makes_named f h.name.name h.name.at (Proc t.value number (proc_scope kind stream)) in
+      let left = ready-left (made.rows ++ (t.rows ++ (p.rows ++ []))) [] ready in
+      let at_type = ready-then (ready-right made.rows _ left) in
+      let few = at_type.sound.scene.few in
+      let small : t.value.ordinal < 2 ^ 32 = omega (arith, few) in
+      let notes = front ++ (heading_list (heading_note kind h number) ++ more) in
+      let P : Row → Type 0 = λ (x : Row). IsDeclared Q kind c.scene.block notes items (row_meaning x) in
+      let back = p.rows ++ [] in
+      let raw = type_made_raw names final h c back left (under-left (made.rows ++ (t.rows ++ back)) [] under) closed (sections_count h.sections) in
+      let typed : IsRawType final h (place_of (number_of t.value)) =
+      subst (IsRawType final h) (sym (place_of-number_of t.value small)) (subst (λ s. IsRawType final h (next_of s)) (sym (with-none d.scene)) raw) in
+      let none = shaped_none _ made.rows (sections_of h.sections c own) (sections_plain h.sections) in
+      let none_type = result_none e h.name.at r (parameter_count h.sections) start in
+      let row : Each P p.rows = named_each (IsDeclared Q kind c.scene.block notes items) f h.name.name h.name.at (Proc t.value number (proc_scope kind stream))
+      (λ n. (h, stream, is_in, refl, number_is c kind h stream front more step, ap (λ (q : Place). q.scope) (place_of-number_of t.value small), typed)) in
+      let rows = made.rows ++ (t.rows ++ (p.rows ++ [])) in
+      let count : length (filter is_proc (rows ++ [])) ≡ 1 =
+      let a = filter_append is_proc rows [] in
+      let b = filter_append is_proc made.rows (t.rows ++ (p.rows ++ [])) in
+      let x = filter_append is_proc t.rows (p.rows ++ []) in
+      let y = filter_append is_proc p.rows [] in
+      let z = nones_counted made.rows none in
+      let w = nones_counted t.rows none_type in
+      let one = named_count f h.name.name h.name.at t.value number (proc_scope kind stream) in
+      omega (arith, a, b, x, y, z, w, one) in
+      record {
+        declared = each_append P rows [] (each_append P made.rows (t.rows ++ (p.rows ++ [])) (nones_declared Q kind c.scene.block notes items made.rows none)
+            (each_append P t.rows (p.rows ++ []) (nones_declared Q kind c.scene.block notes items t.rows none_type) (each_append P p.rows [] row tt))) tt;
+        in_step = notes_step c kind h number front (own_rows c) (rows ++ []) count step;
+      }
+
+  item_declared : (x : Item) (c : Context) (kind : StreamKind) (cell : ℕ) (items : List Item) (front more : List HeadingNote) → IsIn x items
+      → Ready names c (declare c kind x cell).rows → Under c.scene (declare c kind x cell).rows final → IsClosed c.scene → IsInStep kind front (own_rows c) → Declared Q kind c.scene.block items front more (own_rows c) (declare c kind x cell)
+  item_declared (heading_item h) c kind cell items front more is_in ready under closed step =
+      plain_declared Q kind c.scene.block items front more (own_rows c) _ refl (shaped_none _ _ (item_of (heading_item h) c kind cell) (own_plain h.sections)) step
+  item_declared (import_item None i) c kind cell items front more is_in ready under closed step =
+      plain_declared Q kind c.scene.block items front more (own_rows c) _ refl (shaped_none _ _ (item_of (import_item None i) c kind cell) (refl, tt)) step
+  item_declared (import_item (Some m) i) c kind cell items front more is_in ready under closed step =
+      plain_declared Q kind c.scene.block items front more (own_rows c) _ refl (shaped_none _ _ (item_of (import_item (Some m) i) c kind cell) (refl, tt)) step
+  item_declared (const_item i e) c kind cell items front more is_in ready under closed step =
+      plain_declared Q kind c.scene.block items front more (own_rows c) _ refl (shaped_none _ _ (item_of (const_item i e) c kind cell) (refl, tt)) step
+  item_declared (type_item i t) c kind cell items front more is_in ready under closed step =
+      plain_declared Q kind c.scene.block items front more (own_rows c) _ refl (shaped_none _ _ (item_of (type_item i t) c kind cell) (plains (type_item_shapes i t) _ (type_item_plain i t) (refl, tt))) step
+  item_declared (vars_item idents t) c kind cell items front more is_in ready under closed step =
+      plain_declared Q kind c.scene.block items front more (own_rows c) _ refl (shaped_none _ _ (item_of (vars_item idents t) c kind cell) (plains (type_shapes t) _ (type_plain t) (mapped (named var_kind) idents (λ i. refl)))) step
+  item_declared (proc_item h stream) c kind cell items front more is_in ready under closed step = proc_declared h stream c kind cell items front more is_in ready under closed step
+
+  items_declared : (xs : List Item) (c : Context) (kind : StreamKind) (i cell : ℕ) (items : List Item) (front : List HeadingNote) → ((x : Item) → IsIn x xs → IsIn x items)
+      → Ready names c (declare_items c kind i cell xs).rows → Under c.scene (declare_items c kind i cell xs).rows final → AllAgree c.scene (declare_items c kind i cell xs).rows → IsClosed c.scene → IsInStep kind front (own_rows c)
+      → AreDeclared Q kind c.scene.block (front ++ (declare_items c kind i cell xs).value.headings) items (declare_items c kind i cell xs).rows
+  items_declared [] c kind i cell items front within ready under agree closed step = tt
+  items_declared (x ∷ xs) c kind i cell items front within ready under agree closed step =
+      let a = at_item c i in
+      let m = declare a kind x cell in
+      let d = with_rows c m.rows in
+      let more = declare_items d kind (i + 1) m.value.cell xs in
+      let left = ready-left m.rows (more.rows ++ []) ready in
+      let sound = left.sound in
+      let ra : Ready names a m.rows = record {
+        sound = record { scene = sound.scene; source = sound.source; few_names = sound.few_names; layout = sound.layout };
+        before = left.before;
+        ok = left.ok;
+        room = left.room;
+      } in
+      let first = item_declared x a kind cell items front more.value.headings (within x (inl refl)) ra (under-left m.rows (more.rows ++ []) under) closed step in
+      let behind = ready-left more.rows [] (ready-right m.rows (more.rows ++ []) ready) in
+      let next : List HeadingNote = front ++ heading_list m.value.heading in
+      let rest = items_declared xs d kind (i + 1) m.value.cell items next (λ y h. within y (inr h)) behind
+      (under-left more.rows [] (under-right m.rows (more.rows ++ []) under)) (agree-left more.rows [] (agree-right m.rows (more.rows ++ []) agree))
+      (closed_with names a m.rows ra (agree-left m.rows (more.rows ++ []) agree) closed)
+      (subst (IsInStep kind next) (sym (own-with c.scene m.rows sound.scene.room)) first.in_step) in
+      let notes = front ++ (heading_list m.value.heading ++ more.value.headings) in
+      let P : Row → Type 0 = λ (r : Row). IsDeclared Q kind c.scene.block notes items (row_meaning r) in
+      each_append P m.rows (more.rows ++ []) first.declared
+      (each_append P more.rows [] (subst (λ ns. AreDeclared Q kind c.scene.block ns items more.rows) (append_assoc front (heading_list m.value.heading) more.value.headings) rest) tt)
+
+  start_step : (kind : StreamKind) (rows : List Row) → rows ≡ [] → IsInStep kind [] rows
+  start_step Definition rows e = sym (ap (λ (rs : List Row). length (filter is_proc rs)) e)
+  start_step Main rows e = tt
+  start_step Procedure rows e = tt
+
+  block_under : (source : Source) (tables : List (List Row)) (b : BlockTree) → b.block.scope ≤ length tables → Ready names (context_of source tables b) (declare_block source tables b).rows
+      → AllAgree (scene_of tables b.block) (declare_block source tables b).rows → IsClosed (scene_of tables b.block) → Under (scene_of tables b.block) (declare_block source tables b).rows final
+      → Each (λ r. IsDeclared Q b.tree.kind b.block (declare_block source tables b).value.headings (items_of b.tree) (row_meaning r)) (declare_block source tables b).rows
+  unfolding declare_block
+  block_under source tables b before ready agree closed under =
+      items_declared (items_of b.tree) (context_of source tables b) b.tree.kind 0 (first_cell (scene_of tables b.block) b.tree.kind b.block.own) (items_of b.tree) [] (λ x h. h) ready under agree closed
+      (start_step b.tree.kind (own_of (scene_of tables b.block)) (scene_empty tables b.block before))
+
+-- the rows of procedures of a block are those of its items, with their types
+pub block_declared : (names : ℕ) (source : Source) (tables : List (List Row)) (b : BlockTree) → b.block.scope ≤ length tables → Ready names (context_of source tables b) (declare_block source tables b).rows
+    → AllAgree (scene_of tables b.block) (declare_block source tables b).rows → IsClosed (scene_of tables b.block)
+    → Each (λ r. IsDeclared (IsRawType (scene_with (scene_of tables b.block) (declare_block source tables b).rows)) b.tree.kind b.block (declare_block source tables b).value.headings (items_of b.tree) (row_meaning r))
+    (declare_block source tables b).rows
+block_declared names source tables b before ready agree closed =
+    let rows = (declare_block source tables b).rows in
+    block_under names (scene_with (scene_of tables b.block) rows) source tables b before ready agree closed
+    (record { tail = []; same = ap (scene_with (scene_of tables b.block)) (sym (append-nil rows)) })

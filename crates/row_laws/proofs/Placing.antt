@@ -1,0 +1,411 @@
+-- Variables are placed below the next free cell.
+use Rattle.std.specs.Prelude.{◌≡◌, ℕ, suc, ◌+◌, ◌*◌, ◌^◌, ◌<◌, ◌≤◌, ◌==◌, Bool, true, false, if◌then◌else◌, List, [], ◌∷◌, ◌++◌, length, map, flat_map, Option, Some, None}
+use Rattle.std.proofs.Common.{ap, subst, ◌∙◌, refl, arith}
+use Rattle.m2_base.specs.Lists.{Each}
+use Rattle.m2_base.specs.Rows.{row_of, row_meaning, basic_of, natural, Fits, const_kind, type_name_kind, var_kind, proc_kind, module_kind, alias_kind, field_kind, param_kind, standard_kind, basic_kind, enum_kind, subrange_kind, array_kind, open_array_kind, record_kind, set_kind, pointer_kind, proc_type_kind, opaque_kind}
+use Rattle.m2_base.specs.declared.rows.Mode.TheVariants.{Plain, ByAddress, Open}
+use Rattle.m2_base.specs.declared.rows.Place.{Place}
+use Rattle.m2_base.specs.declared.rows.Row.{Row}
+use Rattle.m2_base.specs.declared.rows.RowMeaning.{RowMeaning}
+use Rattle.m2_base.specs.declared.rows.RowMeaning.TheVariants.{Array, Record, Var}
+use Rattle.m2_base.specs.declared.trees.Ident.{Ident}
+use Rattle.m2_base.specs.Standard.{is_standard}
+use Rattle.m2_base.specs.Trees.{TypeExpr, type_expr, TypeForm, named_type, enum_type, sub_type, array_type, record_type, set_type, pointer_type, proc_type, TypeExprs, no_types, more_types, FieldList, plain_fields, case_fields, FieldLists, no_fields, more_fields, variant_arm, VariantArms, no_variant_arms, more_variant_arms, Section}
+use Rattle.m2_base.specs.declared.trees.types.Formal.{Formal}
+use Rattle.m2_base.specs.declared.trees.Qual.{Qual}
+use Rattle.m2_base.specs.Statics.Cells.{capped, most_cells}
+use Rattle.m2_base.specs.Statics.Contexts.{Context, Scene}
+use Rattle.m2_base.specs.Statics.Effects.{ParamCopy, open_copy, own_copy}
+use Rattle.m2_base.specs.Statics.FormedRows.{IsFilled}
+use Rattle.m2_base.specs.Statics.HeadingRows.{Placing, placing, open_copies, parameter_row, parameter_rows, own_section_rows, own_sections_rows}
+use Rattle.m2_base.specs.Statics.Lookup.{has_name}
+use Rattle.m2_base.specs.Statics.Makes.{Makes, make_then, makes, with_rows, makes_named}
+use Rattle.m2_base.specs.Statics.NameRows.{var_rows}
+use Rattle.m2_base.specs.Statics.ProcedureRows.{section_cells, parameter_cells}
+use Rattle.m2_base.specs.Statics.ProcedureTypes.{is_structured, open_array_row}
+use Rattle.m2_base.specs.Statics.ShapedRows.{AreShaped, none_of, more_of}
+use Rattle.m2_base.specs.Statics.Shapes.{Shape, type_shapes, form_shapes, types_shapes, fields_shapes, field_shapes, arms_shapes, array_shapes, formal_shapes, open_shapes, tag_shapes}
+use Rattle.m2_base.specs.Statics.TypeNames.{type_of_qual}
+use Rattle.m2_base.specs.Statics.Types.{kind_of, size_by, size_of, stands_for}
+use Rattle.m2_base.proofs.ChainLaws.{each_append, each_then}
+use Rattle.m2_base.proofs.ShapeLaws.{open_of}
+use Rattle.m2_base.proofs.Sound.{Sound, row_ok}
+use Rattle.m2_base.proofs.SoundParts.{most, capped-most}
+use Rattle.m2_base.proofs.SoundTypes.{either, kind_fits}
+use Rattle.row_laws.specs.RowRanges.{IsBelow, IsCopyBelow, IsCopyInRange}
+use Rattle.row_laws.proofs.Agreeing.{Ready, ready-left, ready-right, ready-then}
+
+-- ** Sizes
+
+filled_size : (m : RowMeaning) → IsFilled m → 1 ≤ size_by m
+filled_size (Array i t s) h = h
+filled_size (Record f s) h = h
+filled_size m h = omega arith
+
+small_size : (names : ℕ) (p : Place) (m : RowMeaning) → Fits names p m → size_by m < 2 ^ 32
+small_size names p (Array i t s) h = h.2
+small_size names p (Record f s) h = h.1
+small_size names p m h = omega arith
+
+pub size_some : {names : ℕ} {scene : Scene} → Sound names scene → (t : Place) → 1 ≤ size_of scene t
+size_some {names} {scene} sound t = filled_size (kind_of scene t) (row_ok sound (stands_for scene t)).cells
+
+pub size_few : {names : ℕ} {scene : Scene} → Sound names scene → (t : Place) → size_of scene t < 2 ^ 32
+size_few {names} {scene} sound t = small_size names (stands_for scene t) (kind_of scene t) (kind_fits sound t)
+
+-- ** Rows that are placed
+
+-- a variable's offset isn't too great, and its cells are below this one, unless that is one too many
+abbrev pub IsPlaced : (cells : ℕ) → RowMeaning → Type 0
+IsPlaced cells (Var t mode offset) = (offset ≤ most) × (cells ≤ most_cells → IsBelow cells (Var t mode offset))
+IsPlaced cells other = Unit {0}
+
+abbrev pub ArePlaced : (cells : ℕ) → List Row → Type 0
+ArePlaced cells rows = Each (λ r. IsPlaced cells (row_meaning r)) rows
+
+-- what is copied first is placed
+abbrev pub IsCopyPlaced : (cells : ℕ) → ParamCopy → Type 0
+IsCopyPlaced cells c = IsCopyInRange c × (cells ≤ most_cells → IsCopyBelow cells c)
+
+below_more : (a b : ℕ) (m : RowMeaning) → a ≤ b → IsBelow a m → IsBelow b m
+below_more a b (Var t Open o) h k = omega (arith, h, k)
+below_more a b (Var t Plain o) h k = omega (arith, h, k)
+below_more a b (Var t ByAddress o) h k = omega (arith, h, k)
+below_more a b m h k = tt
+
+pub placed_more : (a b : ℕ) (m : RowMeaning) → a ≤ b → IsPlaced a m → IsPlaced b m
+placed_more a b (Var t mode o) h k = (k.0, λ few. below_more a b (Var t mode o) h (k.1 (omega (arith, h, few))))
+placed_more a b m h k = tt
+
+pub placed-more : (a b : ℕ) (rows : List Row) → a ≤ b → ArePlaced a rows → ArePlaced b rows
+placed-more a b rows h k = each_then (λ (r : Row). IsPlaced a (row_meaning r)) (λ (r : Row). IsPlaced b (row_meaning r)) rows (λ r. placed_more a b (row_meaning r) h) k
+
+copy_below_more : (a b : ℕ) (c : ParamCopy) → a ≤ b → IsCopyBelow a c → IsCopyBelow b c
+copy_below_more a b (own_copy own cell size) h k = let x = k.0 in let y = k.1 in (omega (arith, h, x), omega (arith, h, y))
+copy_below_more a b (open_copy cell size) h k = omega (arith, h, k)
+
+pub copies-more : (a b : ℕ) (cs : List ParamCopy) → a ≤ b → Each (IsCopyPlaced a) cs → Each (IsCopyPlaced b) cs
+copies-more a b cs h k = each_then (IsCopyPlaced a) (IsCopyPlaced b) cs (λ c p. (p.0, λ few. copy_below_more a b c h (p.1 (omega (arith, h, few))))) k
+
+-- ** Rows of other kinds
+
+-- the meaning is no variable's
+abbrev pub IsOther : RowMeaning → Type 0
+IsOther (Var t mode offset) = ⊥
+IsOther other = Unit {0}
+
+basic_other : (n : ℕ) → IsOther (basic_of n)
+basic_other n =
+    either IsOther (n == 1) _ _ tt (either IsOther (n == 2) _ _ tt (either IsOther (n == 3) _ _ tt
+    (either IsOther (n == 4) _ _ tt (either IsOther (n == 5) _ _ tt (either IsOther (n == 6) _ _ tt tt)))))
+
+-- of two values the second, where the test fails
+otherwise : {A : Type 0} (P : A → Type 0) (b : Bool) (x y : A) → b ≡ false → P y → P (if b then x else y)
+otherwise P true x y e h = absurd (cc)
+otherwise P false x y e h = h
+
+pub kind_other : (r : Row) → (r.kind == var_kind) ≡ false → IsOther (row_meaning r)
+kind_other r e =
+    either IsOther (r.kind == const_kind) _ _ tt (either IsOther (r.kind == type_name_kind) _ _ tt
+    (otherwise IsOther (r.kind == var_kind) _ _ e
+    (either IsOther (r.kind == proc_kind) _ _ tt (either IsOther (r.kind == module_kind) _ _ tt (either IsOther (r.kind == alias_kind) _ _ tt
+    (either IsOther (r.kind == field_kind) _ _ tt (either IsOther (r.kind == param_kind) _ _ tt (either IsOther (r.kind == standard_kind) _ _ tt
+    (either IsOther (r.kind == basic_kind) _ _ (basic_other (natural r.a)) (either IsOther (r.kind == enum_kind) _ _ tt (either IsOther (r.kind == subrange_kind) _ _ tt
+    (either IsOther (r.kind == array_kind) _ _ tt (either IsOther (r.kind == open_array_kind) _ _ tt (either IsOther (r.kind == record_kind) _ _ tt
+    (either IsOther (r.kind == set_kind) _ _ tt (either IsOther (r.kind == pointer_kind) _ _ tt (either IsOther (r.kind == proc_type_kind) _ _ tt
+    (either IsOther (r.kind == opaque_kind) _ _ tt tt))))))))))))))))))
+
+other_placed : (cells : ℕ) (m : RowMeaning) → IsOther m → IsPlaced cells m
+other_placed cells (Var t mode o) h = absurd h
+other_placed cells m h = tt
+
+-- no shape is a variable's
+abbrev pub AreOther : List Shape → Type 0
+AreOther shapes = Each (λ (s : Shape). (s.kind == var_kind) ≡ false) shapes
+
+pub shaped_placed : (cells : ℕ) (shapes : List Shape) (rows : List Row) → AreShaped shapes rows → AreOther shapes → ArePlaced cells rows
+shaped_placed cells [] [] none_of h = tt
+shaped_placed cells [] (r ∷ rows) is h = elim is [ ]
+shaped_placed cells (s ∷ shapes) [] is h = elim is [ ]
+shaped_placed cells (s ∷ shapes) (r ∷ rows) (more_of is rest) h =
+    (other_placed cells (row_meaning r) (kind_other r (ap (λ k. k == var_kind) is.kind ∙ h.0)), shaped_placed cells shapes rows rest h.1)
+
+pub others : (xs ys : List Shape) → AreOther xs → AreOther ys → AreOther (xs ++ ys)
+others xs ys h k = each_append (λ (s : Shape). (s.kind == var_kind) ≡ false) xs ys h k
+
+pub mapped : {A : Type 0} (f : A → Shape) (xs : List A) → ((x : A) → ((f x).kind == var_kind) ≡ false) → AreOther (map f xs)
+mapped f [] h = tt
+mapped f (x ∷ xs) h = (h x, mapped f xs h)
+
+pub open_others : (is_open : Bool) (q : Qual) → AreOther (open_shapes is_open q)
+open_others true q = (refl, tt)
+open_others false q = tt
+
+formals_others : (formals : List Formal) → AreOther (flat_map formal_shapes formals)
+formals_others [] = tt
+formals_others (f ∷ formals) = others (formal_shapes f) _ (others (open_shapes f.is_open f.of) _ (open_others f.is_open f.of) (refl, tt)) (formals_others formals)
+
+array_others : (at : ℕ) (ts : TypeExprs) → AreOther (array_shapes at ts)
+array_others at no_types = tt
+array_others at (more_types t ts) = (refl, array_others at ts)
+
+tag_others : (tag : Option Ident) → AreOther (tag_shapes tag)
+tag_others None = tt
+tag_others (Some i) = (refl, tt)
+
+mutual
+  pub type_others : (t : TypeExpr) → AreOther (type_shapes t)
+  type_others (type_expr at form) = form_others at form
+
+  form_others : (at : ℕ) (form : TypeForm) → AreOther (form_shapes at form)
+  form_others at (named_type q) = tt
+  form_others at (enum_type idents) = (refl, mapped _ idents (λ i. refl))
+  form_others at (sub_type base low high) = (refl, tt)
+  form_others at (array_type index of) = others (types_shapes index ++ type_shapes of) _ (others (types_shapes index) _ (types_others index) (type_others of)) (array_others at index)
+  form_others at (record_type fields) = others (fields_shapes fields) _ (fields_others fields) (refl, tt)
+  form_others at (set_type of) = others (type_shapes of) _ (type_others of) (refl, tt)
+  form_others at (pointer_type of) = others (type_shapes of) _ (type_others of) (refl, tt)
+  form_others at (proc_type formals result) = others (flat_map formal_shapes formals) _ (formals_others formals) (refl, tt)
+
+  types_others : (ts : TypeExprs) → AreOther (types_shapes ts)
+  types_others no_types = tt
+  types_others (more_types t ts) = others (type_shapes t) _ (type_others t) (types_others ts)
+
+  fields_others : (fs : FieldLists) → AreOther (fields_shapes fs)
+  fields_others no_fields = tt
+  fields_others (more_fields f fs) = others (field_shapes f) _ (field_others f) (fields_others fs)
+
+  field_others : (f : FieldList) → AreOther (field_shapes f)
+  field_others (plain_fields idents t) = others (type_shapes t) _ (type_others t) (mapped _ idents (λ i. refl))
+  field_others (case_fields tag of arms other) = others (tag_shapes tag ++ arms_shapes arms) _ (others (tag_shapes tag) _ (tag_others tag) (arms_others arms)) (fields_others other)
+
+  arms_others : (arms : VariantArms) → AreOther (arms_shapes arms)
+  arms_others no_variant_arms = tt
+  arms_others (more_variant_arms (variant_arm ls fs) arms) = others (fields_shapes fs) _ (fields_others fs) (arms_others arms)
+
+pub type_placed : (cells : ℕ) (t : TypeExpr) (c : Context) (rows : List Row) → AreShaped (type_shapes t) rows → ArePlaced cells rows
+type_placed cells t c rows h = shaped_placed cells (type_shapes t) rows h (type_others t)
+
+-- ** Variables
+
+-- a row with a name or without one
+named_placed : (cells : ℕ) (c : Context) (name at : ℕ) (m : RowMeaning) → ((n : ℕ) → IsPlaced cells (row_meaning (row_of n at m))) → ArePlaced cells (makes_named c name at m).rows
+named_placed cells c name at m h =
+    either (λ (x : Makes Place). ArePlaced cells x.rows) (is_standard name) _ _ (h 0, tt)
+    (either (λ (x : Makes Place). ArePlaced cells x.rows) (has_name c.scene.tables c.scene.block.scope name) _ _ (h 0, tt) (h name, tt))
+
+-- cells after this one, and rows that are placed below them
+pub record Cells (cell next : ℕ) (rows : List Row) : Type 0 where
+  pub more : cell ≤ next
+  pub few : next ≤ most
+  pub placed : ArePlaced next rows
+
+-- the cells after a variable of some cells
+after_cells : (cell size : ℕ) → cell ≤ most → cell ≤ capped (cell + size)
+after_cells cell size h = omega (arith, h)
+
+-- a cell before the cells after it, unless they are too many
+before_cells : (cell size end : ℕ) → 1 ≤ size → capped (cell + size) ≤ end → end ≤ most_cells → cell < end
+before_cells cell size end some h few = omega (arith, some, h, few)
+
+module _ (names : ℕ) where
+  pub vars_placed : (idents : List Ident) (c : Context) (t : Place) (cell : ℕ) → Ready names c (var_rows c t cell idents).rows → cell ≤ most
+      → Cells cell (var_rows c t cell idents).value (var_rows c t cell idents).rows
+  vars_placed [] c t cell ready h = record { more = omega arith; few = h; placed = tt }
+  vars_placed (i ∷ idents) c t cell ready h =
+      let m = makes_named c i.name i.at (Var t Plain cell) in
+      let d = with_rows c m.rows in
+      let size = size_of d.scene t in
+      let rest = ready-right m.rows _ ready in
+      let others = vars_placed idents d t (capped (cell + size)) rest (capped-most (cell + size)) in
+      let up = others.more in
+      let first = after_cells cell size h in
+      let end = (var_rows d t (capped (cell + size)) idents).value in
+      record {
+        more = omega (arith, up, first);
+        few = others.few;
+        placed = each_append (λ (r : Row). IsPlaced end (row_meaning r)) m.rows _
+            (named_placed end c i.name i.at (Var t Plain cell) (λ n. (h, λ few. before_cells cell size end (size_some rest.sound.scene t) up few))) others.placed;
+      }
+
+  -- ** Parameters
+
+  -- the cells in which a parameter arrives
+  abbrev cells_of_one : Section → ℕ
+  cells_of_one s = if s.is_open then 2 else 1
+
+  -- where parameters are placed, of which so many cells are left
+  record Left (f : Placing) (left : ℕ) : Type 0 where
+    cell : f.cell ≤ most
+    own : f.own ≤ most
+    room : capped (f.cell + left) ≤ f.own
+    copies : Each (IsCopyPlaced f.own) f.copies
+
+  -- what parameters make: rows that are placed, and where the next ones are
+  record Parameters (f g : Placing) (left : ℕ) (rows : List Row) : Type 0 where
+    next : Left g left
+    more : f.own ≤ g.own
+    placed : ArePlaced g.own rows
+
+  -- of two values one, by a test that is told
+  either_told : {A : Type 0} (P : A → Type 0) (b : Bool) (x y : A) → (b ≡ true → P x) → (b ≡ false → P y) → P (if b then x else y)
+  either_told P true x y h k = h refl
+  either_told P false x y h k = k refl
+
+  after_one : (cell left own : ℕ) → capped (cell + (1 + left)) ≤ own → capped (capped (cell + 1) + left) ≤ own
+  after_one cell left own h = omega (arith, h)
+
+  after_two : (cell left own : ℕ) → capped (cell + (2 + left)) ≤ own → capped (capped (cell + 2) + left) ≤ own
+  after_two cell left own h = omega (arith, h)
+
+  one_below : (cell left own : ℕ) → capped (cell + (1 + left)) ≤ own → own ≤ most_cells → cell < own
+  one_below cell left own h few = omega (arith, h, few)
+
+  two_below : (cell left own : ℕ) → capped (cell + (2 + left)) ≤ own → own ≤ most_cells → cell + 1 < own
+  two_below cell left own h few = omega (arith, h, few)
+
+  open_copies_placed : (by_ref : Bool) (cell size own : ℕ) → cell ≤ most → size < 2 ^ 32 → (own ≤ most_cells → cell + 1 < own) → Each (IsCopyPlaced own) (open_copies by_ref cell size)
+  open_copies_placed true cell size own h k l = tt
+  open_copies_placed false cell size own h k l = (((omega (arith, h), k), l), tt)
+
+  parameter_placed : (c : Context) (s : Section) (elem t : Place) (f : Placing) (i : Ident) (left : ℕ) → Sound names c.scene → Left f (cells_of_one s + left)
+      → Parameters f (parameter_row c s elem t f i).value left (parameter_row c s elem t f i).rows
+  parameter_placed c s elem t f i left sound h =
+      either_told P s.is_open _ _ opened (λ e. either_told P s.by_ref _ _ (λ e'. addressed e) (λ e'. either_told P (is_structured c t) _ _ (λ e''. copied e) (λ e''. valued e)))
+    where
+      P : Makes Placing → Type 0
+      P m = Parameters f m.value left m.rows
+
+      two : s.is_open ≡ true → capped (f.cell + (2 + left)) ≤ f.own
+      two e = subst (λ n. capped (f.cell + (n + left)) ≤ f.own) (ap (λ b. if b then 2 else 1) e) h.room
+
+      one : s.is_open ≡ false → capped (f.cell + (1 + left)) ≤ f.own
+      one e = subst (λ n. capped (f.cell + (n + left)) ≤ f.own) (ap (λ b. if b then 2 else 1) e) h.room
+
+      opened : s.is_open ≡ true → P (make_then c (makes_named c i.name i.at (Var t Open f.cell)) (λ d p.
+          makes (placing (capped (f.cell + 2)) f.own (f.copies ++ open_copies s.by_ref f.cell (size_of c.scene elem)))))
+      opened e = record {
+        next = record {
+          cell = capped-most (f.cell + 2);
+          own = h.own;
+          room = after_two f.cell left f.own (two e);
+          copies = each_append (IsCopyPlaced f.own) f.copies _ h.copies
+              (open_copies_placed s.by_ref f.cell (size_of c.scene elem) f.own h.cell (size_few sound elem) (two_below f.cell left f.own (two e)));
+        };
+        more = omega arith;
+        placed = each_append (λ (r : Row). IsPlaced f.own (row_meaning r)) _ [] (named_placed f.own c i.name i.at (Var t Open f.cell) (λ n. (h.cell, two_below f.cell left f.own (two e)))) tt;
+      }
+
+      addressed : s.is_open ≡ false → P (make_then c (makes_named c i.name i.at (Var t ByAddress f.cell)) (λ d p. makes (placing (capped (f.cell + 1)) f.own f.copies)))
+      addressed e = record {
+        next = record { cell = capped-most (f.cell + 1); own = h.own; room = after_one f.cell left f.own (one e); copies = h.copies };
+        more = omega arith;
+        placed = each_append (λ (r : Row). IsPlaced f.own (row_meaning r)) _ [] (named_placed f.own c i.name i.at (Var t ByAddress f.cell) (λ n. (h.cell, one_below f.cell left f.own (one e)))) tt;
+      }
+
+      valued : s.is_open ≡ false → P (make_then c (makes_named c i.name i.at (Var t Plain f.cell)) (λ d p. makes (placing (capped (f.cell + 1)) f.own f.copies)))
+      valued e = record {
+        next = record { cell = capped-most (f.cell + 1); own = h.own; room = after_one f.cell left f.own (one e); copies = h.copies };
+        more = omega arith;
+        placed = each_append (λ (r : Row). IsPlaced f.own (row_meaning r)) _ [] (named_placed f.own c i.name i.at (Var t Plain f.cell) (λ n. (h.cell, one_below f.cell left f.own (one e)))) tt;
+      }
+
+      copied : s.is_open ≡ false → P (make_then c (makes_named c i.name i.at (Var t Plain f.own)) (λ d p.
+          makes (placing (capped (f.cell + 1)) (capped (f.own + size_of c.scene t)) (f.copies ++ own_copy f.own f.cell (size_of c.scene t) ∷ []))))
+      copied e =
+          let size = size_of c.scene t in
+          let end = capped (f.own + size) in
+          let some = size_some sound t in
+          let up : f.own ≤ end = after_cells f.own size h.own in
+          let same : end ≤ end = omega arith in
+          let small = capped-most (f.own + size) in
+          let left_room = one e in
+          let cell_few = h.cell in
+          let own_few = h.own in
+          record {
+            next = record {
+              cell = capped-most (f.cell + 1);
+              own = small;
+              room = let r = after_one f.cell left f.own left_room in omega (arith, r, up);
+              copies = each_append (IsCopyPlaced end) f.copies _ (copies-more f.own end f.copies up h.copies) (
+                (
+                  (omega (arith, own_few), omega (arith, cell_few), size_few sound t),
+                  λ few. (before_cells f.own size end some same few, let b = one_below f.cell left f.own left_room (omega (arith, up, few)) in omega (arith, b, up)),
+                ),
+                tt,
+              );
+            };
+            more = up;
+            placed = each_append (λ (r : Row). IsPlaced end (row_meaning r)) _ [] (named_placed end c i.name i.at (Var t Plain f.own) (λ n. (h.own, before_cells f.own size end some same))) tt;
+          }
+
+  parameters_placed : (idents : List Ident) (c : Context) (s : Section) (elem t : Place) (f : Placing) (left : ℕ) → Ready names c (parameter_rows c s elem t f idents).rows
+      → Left f (cells_of_one s * length idents + left) → Parameters f (parameter_rows c s elem t f idents).value left (parameter_rows c s elem t f idents).rows
+  parameters_placed [] c s elem t f left ready h =
+      record { next = subst (Left f) (let e : cells_of_one s * 0 + left ≡ left = omega arith in e) h; more = omega arith; placed = tt }
+  parameters_placed (i ∷ idents) c s elem t f left ready h =
+      let m = parameter_row c s elem t f i in
+      let more = cells_of_one s * length idents + left in
+      let enough : cells_of_one s * suc (length idents) + left ≡ cells_of_one s + more = omega arith in
+      let first = parameter_placed c s elem t f i more ready.sound.scene (subst (Left f) enough h) in
+      let rest = parameters_placed idents (with_rows c m.rows) s elem t m.value left (ready-right m.rows _ ready) first.next in
+      let x = first.more in
+      let y = rest.more in
+      let end = (parameter_rows (with_rows c m.rows) s elem t m.value idents).value.own in
+      record {
+        next = rest.next;
+        more = omega (arith, x, y);
+        placed = each_append (λ (r : Row). IsPlaced end (row_meaning r)) m.rows _ (placed-more m.value.own end m.rows y first.placed) rest.placed;
+      }
+
+  section_count : (s : Section) → section_cells s ≡ cells_of_one s * length s.names
+  section_count s = by_test s.is_open
+    where
+      by_test : (b : Bool) → (if b then 2 * length s.names else length s.names) ≡ (if b then 2 else 1) * length s.names
+      by_test true = refl
+      by_test false = omega arith
+
+  own_section_placed : (s : Section) (c : Context) (f : Placing) (left : ℕ) → Ready names c (own_section_rows c f s).rows → Left f (section_cells s + left)
+      → Parameters f (own_section_rows c f s).value left (own_section_rows c f s).rows
+  own_section_placed s c f left ready h =
+      let d = with_rows c [] in
+      let elem = (type_of_qual c s.of).value in
+      let typ = open_array_row d s.of.first.at s.is_open elem in
+      let e = with_rows d typ.rows in
+      let rest = parameters_placed s.names e s elem typ.value f left (ready-right typ.rows _ (ready-then ready)) (subst (λ n. Left f (n + left)) (section_count s) h) in
+      let end = (parameter_rows e s elem typ.value f s.names).value.own in
+      record {
+        next = rest.next;
+        more = rest.more;
+        placed = each_append (λ (r : Row). IsPlaced end (row_meaning r)) typ.rows _
+            (shaped_placed end (open_shapes s.is_open s.of) typ.rows (open_of d s.is_open s.of elem) (open_others s.is_open s.of)) rest.placed;
+      }
+
+  own_sections_placed : (sections : List Section) (c : Context) (f : Placing) → Ready names c (own_sections_rows c f sections).rows → Left f (parameter_cells sections)
+      → Parameters f (own_sections_rows c f sections).value 0 (own_sections_rows c f sections).rows
+  own_sections_placed [] c f ready h = record { next = h; more = omega arith; placed = tt }
+  own_sections_placed (s ∷ sections) c f ready h =
+      let m = own_section_rows c f s in
+      let first = own_section_placed s c f (parameter_cells sections) (ready-left m.rows _ ready) h in
+      let rest = own_sections_placed sections (with_rows c m.rows) m.value (ready-right m.rows _ ready) first.next in
+      let x = first.more in
+      let y = rest.more in
+      let end = (own_sections_rows (with_rows c m.rows) m.value sections).value.own in
+      record {
+        next = rest.next;
+        more = omega (arith, x, y);
+        placed = each_append (λ (r : Row). IsPlaced end (row_meaning r)) m.rows _ (placed-more m.value.own end m.rows y first.placed) rest.placed;
+      }
+
+  -- what the parameters of a heading make in its own scope
+  pub record Heads (own : ℕ) (copies : List ParamCopy) (rows : List Row) : Type 0 where
+    pub few : own ≤ most
+    pub placed : ArePlaced own rows
+    pub copied : Each (IsCopyPlaced own) copies
+
+  pub sections_placed : (sections : List Section) (c : Context) → Ready names c (own_sections_rows c (placing 0 (capped (parameter_cells sections)) []) sections).rows
+      → (let m = own_sections_rows c (placing 0 (capped (parameter_cells sections)) []) sections in Heads m.value.own m.value.copies m.rows)
+  sections_placed sections c ready =
+      let all = own_sections_placed sections c (placing 0 (capped (parameter_cells sections)) []) ready
+      (record { cell = omega arith; own = capped-most (parameter_cells sections); room = omega arith; copies = tt }) in
+      record { few = all.next.own; placed = all.placed; copied = all.next.copies }

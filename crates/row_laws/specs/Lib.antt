@@ -1,0 +1,3 @@
+pub mod RowRanges
+pub mod Procedures
+pub mod Lone
