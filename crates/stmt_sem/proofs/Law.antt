@@ -1,7 +1,6 @@
 -- Statements keep the height, whatever they are: by recursion on the trees.
 use Rattle.std.specs.Prelude.{◌≡◌, refl, ℕ, Bool, true, false, not, ℤ, List, [], ◌∷◌, ◌==◌, if◌then◌else◌, Option, Some, None}
 use Rattle.m2_base.specs.Gives.{gives}
-use Rattle.m2_base.specs.declared.rows.Row.{Row}
 use Rattle.m2_base.specs.declared.rows.Place.{Place}
 use Rattle.m2_base.specs.Statics.Blocks.{BlockTree}
 use Rattle.m2_base.specs.Statics.CaseLabels.{labels_of}

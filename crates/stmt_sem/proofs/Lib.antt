@@ -21,3 +21,17 @@ pub mod ReturnHeights
 pub mod EachStep
 pub mod ReturnTakings
 pub mod ValidBlocks
+pub mod Flowed
+pub mod StatementFolds
+pub mod FlowLists
+pub mod StatementReads
+pub mod FlowsMade
+pub mod CaseLists
+pub mod StatementGiven
+pub mod Walked
+pub mod SimpleGiven
+pub mod ReadBodies
+mod ProcedureCodes
+mod PiecesJoined
+mod TopStatements
+mod BlockStatements

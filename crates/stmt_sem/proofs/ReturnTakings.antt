@@ -2,9 +2,9 @@
 use Rattle.std.specs.Prelude.{◌≡◌, refl, ℕ, ◌==◌, Bool, true, false, ℤ, List, [], ◌∷◌, if◌then◌else◌, Option, Some, None}
 use Rattle.std.proofs.Common.{ap, subst, sym}
 use Rattle.code_form.specs.Heights.{Callees, Step, step_among}
-use Rattle.code_form.specs.declared.instr.Instr.TheVariants.{Call, CallX, Jump, JumpFalse, Return, Trap}
+use Rattle.code_form.specs.declared.instr.Instr.TheVariants.{Call, CallX, Return, Trap}
 use Rattle.code_form.specs.declared.instr.Instr.{Instr}
-use Rattle.m2_base.specs.Gives.{and_then, gives}
+use Rattle.m2_base.specs.Gives.{gives}
 use Rattle.m2_base.specs.Standard.{broken}
 use Rattle.m2_base.specs.Statics.CaseLabels.{LabelTest, labels_of}
 use Rattle.m2_base.specs.Statics.Contexts.{Context, Source, refuse}
@@ -23,7 +23,6 @@ use Rattle.m2_base.specs.Trees.{CaseArm, CaseArms, CaseElse, Expr, Heading, IfAr
 use Rattle.m2_base.specs.declared.rows.Place.{Place}
 use Rattle.m2_base.specs.declared.trees.Qual.{Qual}
 use Rattle.expr_sem.proofs.NoReturns.{Quiet, Stays, Tame, assigned-quiet, call_alone-quiet, fitted-stays, goes_on, none-stays}
-use Rattle.expr_sem.proofs.Passing.{unless_true}
 use Rattle.expr_sem.proofs.ValueHeights.{both_ways}
 use Rattle.expr_sem.specs.Coded.{Coded}
 use Rattle.expr_sem.specs.Expressions.{call_alone}
@@ -35,7 +34,7 @@ use Rattle.stmt_sem.specs.Assignments.{assignment, code_unless_bad}
 use Rattle.stmt_sem.specs.BlockCode.{block_code, ending, first_spot, prologue, result_by, results_of, run_of, stand_of}
 use Rattle.stmt_sem.specs.Cases.{labels_code, selector_code, selector_type}
 use Rattle.stmt_sem.specs.Counting.{bound_value, control_variable, for_first, for_last, for_more, for_step, for_test, has_code, or_one}
-use Rattle.stmt_sem.specs.Flows.{Flow, choose, counted, exit, in_with, nothing, straight, when, with_cell, ◌⨾◌}
+use Rattle.stmt_sem.specs.Flows.{Flow, counted, exit, in_with, nothing, straight, with_cell, ◌⨾◌}
 use Rattle.stmt_sem.specs.Places.{CallsAgree, ProceduresAgree, block_steps, calls_procedure}
 use Rattle.stmt_sem.specs.Returns.{return_alone, return_code, return_value}
 use Rattle.stmt_sem.specs.Statements.{Arm, Stand, arm_before, arm_flow, arms_flow, by_of, case_flow, cases_flow, else_flow, else_of, flow_of, flow_or_nothing, for_flow, form_flow, in_loop, return_of, statement_flow, test, value_at, variable, within}

@@ -1,6 +1,6 @@
 -- The code of some bodies, computed. Each is that of a module which was compiled apart, and its instructions, its cells and its
 -- greatest height are those that came out there.
-use Rattle.std.specs.Prelude.{◌≡◌, refl, ℕ, pos, negsuc, List, [], ◌∷◌, map, codes, false, Option, Some, None}
+use Rattle.std.specs.Prelude.{◌≡◌, refl, ℕ, pos, negsuc, List, [], ◌∷◌, map, codes, false, None}
 use Rattle.code_form.specs.Heights.{greatest}
 use Rattle.code_form.specs.declared.instr.Instr.{Instr}
 use Rattle.code_form.specs.declared.instr.Instr.TheVariants.{Push, Local, Global, Load, Store, Dup, Check, Add, Div, Eq, Gt, Ge, Le, Diff, Bit, Jump, JumpFalse, AndJump, OrJump, More, Return, Trap, Halt, Cap}
@@ -9,11 +9,10 @@ use Rattle.m2_base.specs.Standard.{bitset, boolean, cardinal, character, integer
 use Rattle.m2_base.specs.Statics.Blocks.{BlockTree}
 use Rattle.m2_base.specs.Statics.Contexts.{Context}
 use Rattle.m2_base.specs.Statics.Effects.{no_effects}
-use Rattle.m2_base.specs.Trees.{CaseArms, CaseElse, Designator, Expr, ExprForm, Statement, Statements, StmtForm, assign_form, call_form, call_statement, case_arm, case_else, case_form, char_form, designator, empty_form, exit_form, expr, exprs, for_form, if_arm, if_form, labels, loop_form, many_form, more_case_arms, more_if_arms, name_form, next, nexts, no_case_arms, no_case_else, no_if_arms, no_selectors, number_form, one_form, one_label, range_label, repeat_form, return_form, statement, statements, string_form, while_form, with_form}
+use Rattle.m2_base.specs.Trees.{Designator, Expr, ExprForm, Statement, Statements, StmtForm, assign_form, call_form, call_statement, case_arm, case_else, case_form, char_form, designator, empty_form, exit_form, expr, exprs, for_form, if_arm, if_form, labels, loop_form, many_form, more_case_arms, more_if_arms, name_form, next, nexts, no_case_arms, no_case_else, no_if_arms, no_selectors, number_form, one_form, one_label, range_label, repeat_form, return_form, statement, statements, string_form, while_form, with_form}
 use Rattle.m2_base.specs.declared.rows.Mode.TheVariants.{Plain}
 use Rattle.m2_base.specs.declared.rows.Row.{Row}
 use Rattle.m2_base.specs.declared.rows.RowMeaning.TheVariants.{Field, Record, Subrange, Var}
-use Rattle.m2_base.specs.declared.trees.Ident.{Ident}
 use Rattle.m2_base.specs.declared.trees.declarations.StreamKind.TheVariants.{Main}
 use Rattle.m2_base.specs.declared.trees.operators.Operator.TheVariants.{And, Div as Quotient, Greater, Minus, Not, Or}
 use Rattle.stmt_sem.specs.BlockCode.{body_of, run_of}

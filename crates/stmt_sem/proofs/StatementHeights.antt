@@ -30,7 +30,7 @@ use Rattle.expr_sem.proofs.Moves.{Moves-none, Moves-raise, Moves-then, call-move
 use Rattle.expr_sem.proofs.Passing.{unless_true}
 use Rattle.expr_sem.proofs.Proper.{Addressed, Proper, error-addressed}
 use Rattle.expr_sem.proofs.ValueHeights.{GoodAs, Valued, both_ways, value-moves, with_operand}
-use Rattle.stmt_sem.specs.Assignments.{assignment, code_unless_bad, store_by, store_code, store_text, store_value}
+use Rattle.stmt_sem.specs.Assignments.{assignment, code_unless_bad, store_by, store_code, store_value}
 use Rattle.stmt_sem.specs.Cases.{label_by, label_code, labels_code, more_labels_code, no_case, selector_code, selector_value}
 use Rattle.stmt_sem.specs.Counting.{bound_value, can_control, control_variable, controls, controls_by, for_first, for_last, for_more, for_step, for_test, has_code}
 use Rattle.stmt_sem.specs.Returns.{return_alone, return_code, return_value, returned}

@@ -14,7 +14,6 @@ use Rattle.m2_base.specs.Statics.Closing.{block_name, closing_diags}
 use Rattle.m2_base.specs.Statics.Contexts.{Block, Context, Source, diag}
 use Rattle.m2_base.specs.Statics.Diagnostics.{too_many_cells}
 use Rattle.m2_base.specs.Statics.Effects.{BlockEffects, ParamCopy, open_copy, own_copy}
-use Rattle.m2_base.specs.Statics.Makes.{Makes}
 use Rattle.m2_base.specs.Statics.ProcedureRows.{parameter_cells, result_cells}
 use Rattle.m2_base.specs.Statics.ProcedureTypes.{result_type}
 use Rattle.m2_base.specs.Statics.UnitNotes.{complete_context}

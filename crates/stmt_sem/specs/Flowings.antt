@@ -1,5 +1,5 @@
 -- What an analysis that makes flows leaves and gives, whose answer may not be known yet.
-use Rattle.std.specs.Prelude.{ℕ, Option, Result}
+use Rattle.std.specs.Prelude.{ℕ, Result}
 use Rattle.m2_base.specs.Asks.{IfKnown, IfWaits}
 use Rattle.m2_base.specs.Gives.{Adds, Gives}
 use Rattle.m2_base.specs.States.{Frame, State, Waits, Works}

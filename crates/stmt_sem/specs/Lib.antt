@@ -18,3 +18,11 @@ pub mod Flowings
 pub mod FlowSizes
 pub mod FlowPieces
 pub mod Places
+pub mod ReadStatements
+pub mod Stands
+pub mod StatementParts
+pub mod Taken
+pub mod Stated
+pub mod Blocks
+pub mod ProcedureCodes
+pub mod Stating

@@ -1,5 +1,5 @@
 -- The code of statements, by recursion on the trees. What is noted comes in text order.
-use Rattle.std.specs.Prelude.{ℕ, Bool, true, ℤ, pos, List, [], ◌∷◌, if◌then◌else◌, Option, Some, None}
+use Rattle.std.specs.Prelude.{ℕ, Bool, true, ℤ, List, [], ◌∷◌, if◌then◌else◌, Option, Some, None}
 use Rattle.m2_base.specs.Gives.{Gives, gives, and_then}
 use Rattle.m2_base.specs.declared.rows.Place.{Place}
 use Rattle.m2_base.specs.Statics.CaseLabels.{CaseLabels, labels_of}

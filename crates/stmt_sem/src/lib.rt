@@ -3,7 +3,10 @@
 //! The words are those of Wirth's report and of the machine's instructions (`code_form`). The code of an expression is a
 //! part of code (`expr_sem`'s `specs/Parts`); that of statements is a flow, which is known once it is also told how far away
 //! the end of the innermost LOOP is (`specs/Flows`). `specs/Statements` goes over the trees, `specs/BlockCode` puts a block
-//! together; each kind of statement has a file of its own below them.
+//! together; each kind of statement has a file of its own below them. `state` makes the code of one statement of a body, in a
+//! piece of its own (the record `Stating`, `specs/Stating`), and `block` puts these behind one another, between what a body
+//! copies first and its end, or waits (the record `Blocking`, `specs/Blocks`); `procedure_code` is what the object file has of
+//! the whole.
 #![tactic(auto)]
 
 /// The value of an answer, or the end of the function where it isn't known yet.
@@ -40,20 +43,34 @@ macro_rules! asked {
 }
 
 mod assignments;
+mod block_pieces;
+mod blocks;
 mod cases;
 mod code_appending;
 mod control_variables;
 mod counting;
 mod flow_appending;
 mod flow_builders;
+mod flow_parts;
 mod flow_sizes;
 mod flows;
 mod laws;
+mod procedure_codes;
 mod refusals;
 mod returns;
+mod simple_statements;
+mod stands;
+mod statement_parts;
+mod statements;
 mod tests;
+mod top_statements;
 mod withs;
 
+pub use blocks::block;
 pub use flow_appending::append_flow;
 pub use flows::{Arm, Code, Flow, FlowForm, FlowNode, Flows};
 pub use laws::{code_is_short, code_is_valid, heights_are_right, returns_agree};
+pub use procedure_codes::procedure_code;
+pub use stands::Stand;
+pub use statements::statement;
+pub use top_statements::{Stated, state};

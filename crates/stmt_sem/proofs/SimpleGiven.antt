@@ -1,0 +1,76 @@
+-- Statements that have no statements within them: what they make of their code, and what is made where memory was wanted or a
+-- statement is refused.
+use Rattle.std.proofs.Common.{◌≡◌, ◌∙◌, ◌++◌, ◌∷◌, [], ℕ, List, Result, Ok, Err, refl, subst, sym}
+use Rattle.std.specs.Result.{IsErr}
+use Rattle.m2_base.specs.Gives.{Gives, and_then, gives}
+use Rattle.m2_base.specs.Lists.{IsPrefixOf}
+use Rattle.m2_base.specs.States.{Frame, State}
+use Rattle.m2_base.specs.Statics.Contexts.{Context, refuse}
+use Rattle.m2_base.specs.Trees.{Designator, Expr, Exprs, assign_form, call_statement, expr_at}
+use Rattle.m2_base.specs.declared.memory.Memory.{Memory}
+use Rattle.m2_base.specs.declared.notes.Diag.{Diag}
+use Rattle.m2_base.specs.declared.notes.Notes.{Notes}
+use Rattle.m2_base.specs.declared.replies.Ask.{Ask}
+use Rattle.m2_base.specs.declared.replies.Ask.TheVariants.{Known}
+use Rattle.m2_base.specs.declared.sites.Site.{Site}
+use Rattle.m2_base.proofs.Kept.{Adds-refl, IsPrefixOf-refl, Works-notes, Works-refl}
+use Rattle.const_eval.proofs.Analysing.{and_then_assoc}
+use Rattle.const_eval.proofs.Folding.{and_then_same}
+use Rattle.expr_sem.specs.Expressions.{call_alone}
+use Rattle.expr_sem.specs.Fragments.{IsMade}
+use Rattle.expr_sem.specs.Parts.{Part}
+use Rattle.stmt_sem.specs.Assignments.{assignment, code_unless_bad}
+use Rattle.stmt_sem.specs.FlowNodes.{flow_in}
+use Rattle.stmt_sem.specs.Flowings.{Flowing, IsFlow}
+use Rattle.stmt_sem.specs.Flows.{nothing, straight}
+use Rattle.stmt_sem.specs.StatementParts.{assigned, assigned_value, called, form_of}
+use Rattle.stmt_sem.specs.Statements.{Stand, value_at, variable}
+use Rattle.stmt_sem.specs.declared.flows.Flow.TheVariants.{Nothing}
+use Rattle.stmt_sem.specs.declared.flows.Flows.{Flows}
+use Rattle.stmt_sem.proofs.FlowsKept.{Grows-refl, grown}
+
+-- ---- what they make of their code
+
+module _ (s : Stand) where
+  pub assign_given : (d : Designator) (e : Expr) → and_then (assigned s d e) (λ p. gives (straight p)) ≡ form_of s (assign_form d e)
+  assign_given d e =
+      let to = variable s d in
+      let last = λ (p : Part). gives (straight p) in
+      and_then_assoc to (λ v. assigned_value s v e) last
+      ∙ and_then_same to (λ v. and_then (assigned_value s v e) last) (λ v. and_then (value_at s e) (λ x. and_then (assignment s.context v (expr_at e) x) last)) (and_then_assoc (value_at s e) (assignment s.context to.value (expr_at e)) last)
+
+  pub call_given : (d : Designator) (args : Exprs) → and_then (called s d args) (λ p. gives (straight p)) ≡ form_of s (call_statement d args)
+  call_given d args = and_then_assoc (call_alone s.context s.withs d args) (λ x. gives (code_unless_bad x)) (λ p. gives (straight p))
+
+-- ---- refusals
+
+-- a diagnostic at a token of the site's text, and no code
+pub refused_flow : (a : State) (x y : Notes) (fs : Flows) (s : Site) (at code : ℕ) → y.answers.items ≡ x.answers.items → y.diags.items ≡ x.diags.items ++ record { text = s.around.now.text; at = at; code = code } ∷ []
+    → Flowing a a x y fs fs s (Ok (Known Nothing)) IsFlow flow_in (λ c. refuse c at code nothing)
+refused_flow a x y fs s at code answers diags =
+    record {
+      works = Works-notes a x y answers (record { rest = record { text = s.around.now.text; at = at; code = code } ∷ []; joined = sym diags });
+      waits = tt;
+      grows = Grows-refl fs;
+      told = λ made in_hand told of_site cell. record { value_is = refl; diags = diags; answers = answers ∙ (Adds-refl x nothing).answers };
+      there = tt;
+    }
+
+module _ {T V : Type 0} {P : Frame → Flows → T → Type 0} {as_p : Flows → T → (cell : ℕ) → V} {g : Context → Gives V} where
+  -- memory was wanted for a diagnostic
+  pub not_noted : (a : State) (x y : Notes) (fs : Flows) (s : Site) (r : Result (Ask T) Memory) → IsErr r → y.answers.items ≡ x.answers.items → y.diags.items ≡ x.diags.items → Flowing a a x y fs fs s r P as_p g
+  not_noted a x y fs s (Ok v) h answers diags = absurd (cc)
+  not_noted a x y fs s (Err m) h answers diags =
+      record {
+        works = Works-notes a x y answers (subst (λ (l : List Diag). IsPrefixOf x.diags.items l) (sym diags) (IsPrefixOf-refl x.diags.items));
+        waits = tt;
+        grows = Grows-refl fs;
+        told = λ made in_hand told of_site. tt;
+        there = tt;
+      }
+
+  -- memory was wanted for a fragment
+  pub fragment_wanted : (a : State) (n : Notes) {from to : Flows} (s : Site) {m : Memory} {p : Part} (r : Result (Ask T) Memory) → IsErr r → IsMade from.fragments.nodes.items to.fragments.nodes.items (Err m) p
+      → to.nodes.items ≡ from.nodes.items → Flowing a a n n from to s r P as_p g
+  fragment_wanted a n s (Ok v) is h e = absurd (cc)
+  fragment_wanted a n s (Err k) is h e = record { works = Works-refl a n; waits = tt; grows = grown h.grows e; told = λ made in_hand told of_site. tt; there = tt }

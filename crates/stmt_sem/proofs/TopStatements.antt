@@ -1,0 +1,97 @@
+-- One statement of a body, in a piece of its own.
+use Rattle.std.proofs.Common.{◌≡◌, ◌∙◌, ◌++◌, ◌∷◌, [], ◌<◌, false, ℕ, zero, suc, List, length, map, get_or, Option, Some, None, Result, Ok, Err, ap, sym, subst, arith}
+use Rattle.std.proofs.lemmas.Bool.{false≢true}
+use Rattle.std.specs.Prelude.{IsErr}
+use Rattle.std.specs.Option.{IfSome}
+use Rattle.m2_base.specs.Gives.{Adds, Gives}
+use Rattle.m2_base.specs.Lists.{Each}
+use Rattle.m2_base.specs.States.{Frame, IsAmong, Look, State}
+use Rattle.m2_base.specs.Statics.Contexts.{Context}
+use Rattle.m2_base.specs.Trees.{Statement, Statements, Stream, more_statements, no_statements, statements}
+use Rattle.m2_base.specs.Views.{statement_view}
+use Rattle.m2_base.specs.declared.memory.Memory.{Memory}
+use Rattle.m2_base.specs.declared.notes.Answer.{Answer}
+use Rattle.m2_base.specs.declared.notes.Notes.{Notes}
+use Rattle.m2_base.specs.declared.replies.Ask.{Ask}
+use Rattle.m2_base.specs.declared.replies.Ask.TheVariants.{DontKnowYet, Known}
+use Rattle.m2_base.specs.declared.replies.Head.{Head}
+use Rattle.m2_base.specs.declared.rows.Place.{Place}
+use Rattle.m2_base.specs.declared.sites.Site.{Site}
+use Rattle.m2_base.specs.declared.trees.statements.Statement.{Statement as StatementOf}
+use Rattle.type_rules.specs.Scenes.{Hand}
+use Rattle.type_rules.specs.Sites.{AreOfItem, AreOfSite, context_of}
+use Rattle.expr_sem.specs.Parts.{Spot}
+use Rattle.expr_sem.specs.declared.pieces.Piece.{Piece}
+use Rattle.stmt_sem.specs.Blocks.{Returns}
+use Rattle.stmt_sem.specs.FlowNodes.{flow_in}
+use Rattle.stmt_sem.specs.Flowings.{Flowing, IsFlow}
+use Rattle.stmt_sem.specs.Flows as flow
+use Rattle.stmt_sem.specs.Flows.{part_at}
+use Rattle.stmt_sem.specs.ReadStatements.{AreReadStatements, IsReadStatement}
+use Rattle.stmt_sem.specs.Statements as spec
+use Rattle.stmt_sem.specs.Statements.{statement_flow}
+use Rattle.stmt_sem.specs.Stating.{IsStated, Stating, given_at, made_in, statement_at}
+use Rattle.stmt_sem.specs.declared.flows.Flow.{Flow}
+use Rattle.stmt_sem.specs.declared.flows.Flows.{Flows}
+use Rattle.stmt_sem.specs.declared.top_statements.Stated.{Stated}
+
+-- ---- the statement of a number
+
+-- it is that of the list
+pub statement_is : (xs : List StatementOf) (k : ℕ) (x : StatementOf) → k < length xs → x ≡ get_or xs k x → statement_at (statements (map statement_view xs)) k ≡ Some (statement_view x)
+statement_is [] k x below is = absurd (omega (arith, below))
+statement_is (y ∷ xs) zero x below is = ap (λ (z : StatementOf). Some (statement_view z)) (sym is)
+statement_is (y ∷ xs) (suc k) x below is = statement_is xs k x (omega (arith, below)) is
+
+-- it is there, and as read, where all are
+pub statement_read : (names : List (List ℕ)) (ss : Statements) (k : ℕ) (st : Statement) → statement_at ss k ≡ Some st → AreReadStatements names ss → IsReadStatement names st
+statement_read names no_statements k st is h = cc
+statement_read names (more_statements s ss) zero st is h = subst (λ o. IfSome o (λ u. IsReadStatement names u)) is h.0
+statement_read names (more_statements s ss) (suc k) st is h = statement_read names ss k st is h.1
+
+-- ---- a statement of its own
+
+-- no rows are in hand in statements
+none_in_hand : (s : Site) (made : Hand) → s.item ≡ None → AreOfSite s made
+none_in_hand s made e = subst (λ (o : Option ℕ). IfSome o (λ item. AreOfItem s.layout.now.names item made.rows)) (sym e) tt
+
+-- the answers that were added behind none
+answers_shown : (looks : List Look) (xs ys zs : List Answer) → xs ≡ [] → ys ≡ xs ++ zs → Each (IsAmong looks) zs → Each (IsAmong looks) ys
+answers_shown looks xs ys zs none e h = subst (λ l. Each (IsAmong looks) l) (sym (e ∙ ap (λ l. l ++ zs) none)) h
+
+-- a stand at the beginning of a body
+abbrev pub at_first : Context → Option Place → spec.Stand
+at_first c r = record { context = c; result = r; withs = []; looped = false }
+
+module _ {a b : State} {x y : Notes} {f1 f2 : Flows} {s : Site} (tree : Stream) (k : ℕ) (at : Spot) where
+  -- after want of memory nothing is known
+  pub unstated : {T V : Type 0} {answer : Result (Ask T) Memory} {P : Frame → Flows → T → Type 0} {as_p : Flows → T → (cell : ℕ) → V} {h : Context → Gives V} → Flowing a b x y f1 f2 s answer P as_p h
+      → (r : Result (Ask Stated) Memory) → IsErr r → Stating a b s tree k at r
+  unstated p (Ok v) e = absurd (false≢true e)
+  unstated p (Err n) e = record { looks = p.works.looks; keeps = p.works.keeps; shown = tt; waits = tt; told = λ made in_hand told. tt }
+
+  -- and so it is where the statement waits
+  pub state_waits : {h : Head} {g : Context → Gives flow.Flow} → Flowing a b x y f1 f2 s (Ok (DontKnowYet h)) IsFlow flow_in g → Stating a b s tree k at (Ok (DontKnowYet h))
+  state_waits p = record { looks = p.works.looks; keeps = p.works.keeps; shown = tt; waits = p.waits; told = λ made in_hand told. tt }
+
+  -- the whole code of a statement
+  pub state_known : {v : Flow} (r : Option Place) (st : Statement) (piece : Piece) → s.item ≡ None → x.diags.items ≡ [] → x.answers.items ≡ [] → statement_at tree.body k ≡ Some st
+      → Returns a.frame s tree r
+      → Flowing a b x y f1 f2 s (Ok (Known v)) IsFlow flow_in (λ c. statement_flow (at_first c r) st)
+      → made_in piece ≡ part_at 0 (flow_in f2 v 0) at
+      → Stating a b s tree k at (Ok (Known (record { piece = piece; notes = y })))
+  state_known {v} r st piece alone no_diags no_answers is returns p same =
+      record {
+        looks = p.works.looks;
+        keeps = p.works.keeps;
+        shown = answers_shown p.works.looks x.answers.items y.answers.items p.works.answers no_answers p.works.noted p.works.shown;
+        waits = tt;
+        told = λ made in_hand told.
+            let c = context_of a.frame made s in
+            let h : Adds x y (given_at c tree st) (flow_in f2 v 0) = subst (λ (u : Option Place). Adds x y (statement_flow (at_first c u) st) (flow_in f2 v 0)) (returns made in_hand told) (p.told made in_hand told (none_in_hand s made alone) 0) in
+            subst (λ (o : Option Statement). IfSome o (λ u. IsStated (given_at c tree u) at (record { piece = piece; notes = y }))) (sym is) (record {
+              made_is = same ∙ ap (λ (f : flow.Flow). part_at 0 f at) h.value_is;
+              diags = h.diags ∙ ap (λ l. l ++ (given_at c tree st).diags) no_diags;
+              answers = h.answers ∙ ap (λ l. l ++ (given_at c tree st).answers) no_answers;
+            });
+      }

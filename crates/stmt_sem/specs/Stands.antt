@@ -1,0 +1,18 @@
+-- Where a statement stands in its block, as the definitions see it.
+use Rattle.std.specs.Option.{IfSome}
+use Rattle.m2_base.specs.Lists.{Each}
+use Rattle.m2_base.specs.States.{Frame}
+use Rattle.m2_base.specs.Statics.Contexts.{Context}
+use Rattle.type_rules.specs.Scenes.{IsThere}
+use Rattle.expr_sem.specs.Codings.{with_types}
+use Rattle.stmt_sem.specs.Statements as statements
+use Rattle.stmt_sem.specs.declared.stands.Stand.{Stand}
+
+-- the same stand in this context
+abbrev pub stand_in : Context → Stand → statements.Stand
+stand_in c s = record { context = c; result = s.result; withs = with_types s.withs.now; looped = s.looped }
+
+-- the types of the result and of the records of the open WITHs can be asked for
+pub record IsStand (f : Frame) (s : Stand) : Type 0 where
+  pub result : IfSome s.result (λ t. IsThere f t)
+  pub withs : Each (λ w. IsThere f w.of) s.withs.now

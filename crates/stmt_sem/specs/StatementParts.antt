@@ -1,0 +1,97 @@
+-- Parts of statements, as the walk over the trees goes through them.
+use Rattle.std.specs.Prelude.{ℕ, ℤ, [], ◌∷◌, Option}
+use Rattle.m2_base.specs.Gives.{Gives, and_then, gives}
+use Rattle.m2_base.specs.declared.rows.Place.{Place}
+use Rattle.m2_base.specs.declared.trees.Ident.{Ident}
+use Rattle.m2_base.specs.Trees.{CaseArms, CaseElse, Designator, Expr, Exprs, Statements, StmtForm, designator_at, expr_at, more_statements, no_statements}
+use Rattle.code_form.specs.declared.instr.Instr.TheVariants.{Local, Store}
+use Rattle.expr_sem.specs.Coded.{Coded}
+use Rattle.expr_sem.specs.Expressions.{call_alone}
+use Rattle.expr_sem.specs.Parts.{Part, plain, ◌⨟◌}
+use Rattle.stmt_sem.specs.Assignments.{assignment, code_unless_bad}
+use Rattle.stmt_sem.specs.Cases.{selector_type, selector_value}
+use Rattle.stmt_sem.specs.Counting.{bound_value, control_variable, or_one}
+use Rattle.stmt_sem.specs.Flows.{Flow, straight, with_cell, ◌⨾◌}
+use Rattle.stmt_sem.specs.LoopParts.{LoopParts, loop_parts}
+use Rattle.stmt_sem.specs.Statements.{Stand, by_of, cases_flow, else_flow, else_of, flow_of, form_flow, statement_flow, value_at, variable, within}
+use Rattle.stmt_sem.specs.Withs.{in_with_of, record_variable, with_code}
+
+-- what a form of statement makes of whose first token nothing depends
+abbrev pub form_of : Stand → StmtForm → Gives Flow
+form_of s form = form_flow s 0 form
+
+-- ---- parts of code
+
+-- a value to this variable
+abbrev pub assigned_value : Stand → (to : Coded) → Expr → Gives Part
+assigned_value s to e = and_then (value_at s e) (assignment s.context to (expr_at e))
+
+-- an assignment
+abbrev pub assigned : Stand → Designator → Expr → Gives Part
+assigned s d e = and_then (variable s d) (λ to. assigned_value s to e)
+
+-- a call
+abbrev pub called : Stand → Designator → Exprs → Gives Part
+called s d args = and_then (call_alone s.context s.withs d args) (λ x. gives (code_unless_bad x))
+
+-- the value of a selector that is there, and its type
+abbrev pub typed_selector : Stand → (at : ℕ) → Coded → Gives (Part × Place)
+typed_selector s at x = and_then (selector_type s.context at x) (λ t. gives (selector_value s.context x, t))
+
+-- the value of a selector, and its type
+abbrev pub selector : Stand → Expr → Gives (Part × Place)
+selector s e = and_then (value_at s e) (typed_selector s (expr_at e))
+
+-- the variable of a WITH
+abbrev pub record_of : Stand → Designator → Gives Coded
+record_of s d = and_then (variable s d) (record_variable s.context (designator_at d))
+
+-- ---- statements
+
+-- this value in a cell of its own, and then code that knows the cell
+abbrev pub stored_before : Part → ((cell : ℕ) → Flow) → Flow
+stored_before value rest = with_cell (λ t. straight (plain (Local 0 t ∷ []) ⨟ value ⨟ plain (Store ∷ [])) ⨾ rest t)
+
+-- the statements after ELSE of an IF, if there are any
+abbrev pub otherwise : Stand → Statements → Gives (Option Flow)
+otherwise s other = and_then (flow_of s other) (λ o. gives (else_of other o))
+
+-- the arms of a CASE whose selector has this value and this type, and its ELSE
+abbrev pub case_of : Stand → (selector : Part) → (typ : Place) → CaseArms → CaseElse → Gives Flow
+case_of s x typ arms other =
+    and_then (cases_flow s typ [] arms) (λ before. and_then (else_flow s other) (λ o. gives (stored_before x (λ t. before t o))))
+
+-- the statements in a WITH of this variable
+abbrev pub with_body : Stand → Coded → Statements → Gives Flow
+with_body s x body = and_then (flow_of (within s x) body) (λ b. gives (with_cell (λ t. straight (with_code t x) ⨾ in_with_of x t b)))
+
+-- statements one after another, behind what is there
+abbrev pub statements_onto : Stand → (before : Flow → Flow) → Statements → Gives (Flow → Flow)
+statements_onto s before no_statements = gives before
+statements_onto s before (more_statements st ss) = and_then (statement_flow s st) (λ a. statements_onto s (λ rest. before (a ⨾ rest)) ss)
+
+-- ---- FOR
+
+-- its first or its last value
+abbrev pub bound : Stand → (variable : Coded) → Expr → Gives Coded
+bound s x e = and_then (value_at s e) (bound_value s.context x (expr_at e))
+
+-- its parts, with this step
+abbrev pub parts_by : Stand → (variable first last : Coded) → Option ℤ → LoopParts × ℤ
+parts_by s x first last by = (loop_parts s.context x first last (or_one by), or_one by)
+
+-- behind its last value
+abbrev pub for_by : Stand → (variable first last : Coded) → Option Expr → Gives (LoopParts × ℤ)
+for_by s x first last by = and_then (by_of s by) (λ step. gives (parts_by s x first last step))
+
+-- behind its first value
+abbrev pub for_to : Stand → (variable first : Coded) → (last : Expr) → Option Expr → Gives (LoopParts × ℤ)
+for_to s x first last by = and_then (bound s x last) (λ l. for_by s x first l by)
+
+-- behind its variable
+abbrev pub for_from : Stand → (variable : Coded) → (first last : Expr) → Option Expr → Gives (LoopParts × ℤ)
+for_from s x first last by = and_then (bound s x first) (λ f. for_to s x f last by)
+
+-- its parts, and its step
+abbrev pub for_parts : Stand → Ident → (first last : Expr) → Option Expr → Gives (LoopParts × ℤ)
+for_parts s i first last by = and_then (control_variable s.context s.withs i) (λ x. for_from s x first last by)

@@ -1,0 +1,104 @@
+//! Pieces of a block's code: what a body copies first, how it ends, and a piece behind another.
+ghost use Rattle.std.specs.Prelude.{◌≡◌, ◌++◌, [], IfOk, OnOk, map, option_map};
+ghost use Rattle.m2_base.specs.Views.{heading_view};
+ghost use Rattle.decl_sem.specs.Effects.{copy_view};
+ghost use Rattle.expr_sem.specs.Parts.{none};
+ghost use Rattle.expr_sem.specs.Pieces.{Appended};
+ghost use Rattle.stmt_sem.specs.BlockCode.{copy_code, ending as spec_ending, first_cell as spec_cell, first_spot, prologue as spec_prologue};
+ghost use Rattle.stmt_sem.specs.Blocks.{effects_of};
+ghost use Rattle.stmt_sem.specs.Stating.{made_in, spot_at};
+
+use crate::procedure_codes::results_of;
+use code_form::Instr;
+use decl_sem::{Effect, ParamCopy};
+use expr_sem::{Piece, Step, push_instr};
+use m2_base::{Heading, Memory, StreamKind};
+use std::alloc::Global;
+
+/// The trap at the end of a function.
+const END_OF_FUNCTION: u8 = 7;
+
+/// A piece that has nothing yet, whose temporary cells begin at this cell and whose data at this byte.
+pub fn empty_piece(alloc: Global, cell: u32, byte: u32) -> Piece
+    ensures { made_in result ≡ none (spot_at cell byte) }
+{
+    Piece {
+        steps: Vec::new(alloc),
+        bytes: Vec::new(alloc),
+        cell,
+        byte,
+    }
+}
+
+/// The first temporary cell of a block whose variables end before this cell.
+fn first_cell(kind: StreamKind, cell: u32) -> u32
+    ensures { result ≡ spec_cell kind cell }
+{
+    match kind {
+        StreamKind::Procedure => cell,
+        _ => 0,
+    }
+}
+
+/// Appends the copy of a parameter.
+fn append_copy(copy: &ParamCopy, piece: &mut Piece) -> Result<(), Memory>
+    ensures { OnOk result (Appended piece.old piece.new [] (copy_code (copy_view copy.now))) }
+{
+    match *copy {
+        ParamCopy::Own(own, cell, size) => {
+            push_instr(piece, Instr::Local(0, own))?;
+            push_instr(piece, Instr::Local(0, cell))?;
+            push_instr(piece, Instr::Load)?;
+            push_instr(piece, Instr::Move(size))
+        }
+        ParamCopy::Open(cell, size) => push_instr(piece, Instr::OpenCopy(cell, size)),
+    }
+}
+
+/// Appends the copies of parameters.
+fn append_copies(copies: &[ParamCopy], piece: &mut Piece) -> Result<(), Memory>
+    ensures { OnOk result (Appended piece.old piece.new [] (spec_prologue (map copy_view copies.now))) }
+{
+    for copy in copies {
+        append_copy(copy, piece)?;
+    }
+    Ok(())
+}
+
+/// A piece with what a procedure's body copies first.
+pub fn begun(alloc: Global, kind: StreamKind, effect: &Effect) -> Result<Piece, Memory>
+    ensures { IfOk result (λ piece. made_in piece ≡ spec_prologue effect.now.prologue (first_spot kind (effects_of effect.now))) }
+{
+    let mut piece = empty_piece(alloc, first_cell(kind, effect.cell), 0);
+    append_copies(&effect.prologue, &mut piece)?;
+    Ok(piece)
+}
+
+/// Appends the end of a body: a function that comes to it traps.
+pub fn append_ending(heading: &Option<Heading>, piece: &mut Piece) -> Result<(), Memory>
+    ensures { OnOk result (Appended piece.old piece.new [] (spec_ending (option_map heading_view heading.now))) }
+{
+    if results_of(heading) != 0 {
+        return push_instr(piece, Instr::Trap(END_OF_FUNCTION));
+    }
+    piece.steps.push(Step {
+        instr: Instr::Return,
+        takes: 0,
+        leaves: 0,
+    })?;
+    Ok(())
+}
+
+/// Appends a piece that begins where the other one ends.
+pub fn append_piece(piece: &mut Piece, more: &Piece) -> Result<(), Memory>
+    ensures steps { OnOk result (piece.new.steps.items ≡ piece.old.steps.items ++ more.now.steps.items) }
+    ensures bytes { OnOk result (piece.new.bytes.items ≡ piece.old.bytes.items ++ more.now.bytes.items) }
+    ensures cell { OnOk result (piece.new.cell ≡ more.now.cell) }
+    ensures byte { OnOk result (piece.new.byte ≡ more.now.byte) }
+{
+    piece.steps.extend_from_slice(&more.steps)?;
+    piece.bytes.extend_from_slice(&more.bytes)?;
+    piece.cell = more.cell;
+    piece.byte = more.byte;
+    Ok(())
+}

@@ -1,0 +1,71 @@
+//! The statements of a block's body, each in a piece of its own.
+ghost use Rattle.std.specs.Prelude.{◌≡◌, ◌<◌, IfOk, None, length};
+ghost use Rattle.std.specs.Option.{IfSome};
+ghost use Rattle.m2_base.specs.Views.{stream_view};
+ghost use Rattle.stmt_sem.specs.Blocks.{Returns};
+ghost use Rattle.stmt_sem.specs.FlowNodes.{AreSound, IsAmong, flow_in};
+ghost use Rattle.stmt_sem.specs.Flows.{part_at};
+ghost use Rattle.stmt_sem.specs.ReadStatements.{AreReadStatements};
+ghost use Rattle.stmt_sem.specs.Stating.{Stating, made_in, spot_at};
+ghost use Rattle.type_rules.specs.Scenes.{IsThere};
+ghost use Rattle.type_rules.specs.Sites.{SuitsSite};
+
+use crate::block_pieces::empty_piece;
+use crate::flow_appending::append_flow;
+use crate::flows::{Flow, Flows};
+use crate::stands::Stand;
+use crate::statements::statement;
+use expr_sem::Piece;
+use m2_base::{Ask, Memory, Notes, Place, Scopes, Site, Stream};
+use std::alloc::Global;
+
+/// What one statement of a body makes, and what it notes.
+#[derive(Drop)]
+pub struct Stated {
+    pub piece: Piece,
+    pub notes: Notes,
+}
+
+/// A piece with the code of a statement that is in no LOOP and no WITH, from this cell and this byte on.
+fn piece_of(alloc: Global, flows: &Flows, flow: Flow, cell: u32, byte: u32) -> Result<Piece, Memory>
+    requires sound { AreSound flows.now }
+    requires there { IsAmong flows.now flow }
+    ensures { IfOk result (λ piece. made_in piece ≡ part_at 0 (flow_in flows.now flow 0) (spot_at cell byte)) }
+{
+    let mut piece = empty_piece(alloc, cell, byte);
+    append_flow(flows, flow, &mut piece)?;
+    Ok(piece)
+}
+
+/// One statement of a body whose procedure has this result: its code, whose temporary cells begin at this cell and whose data
+/// at this byte, and its notes.
+pub fn state<S: Scopes>(
+    alloc: Global,
+    scopes: &mut S,
+    site: &Site,
+    stream: &Stream,
+    index: usize,
+    returns: Option<Place>,
+    cell: u32,
+    data_from: u32,
+) -> Result<Ask<Stated>, Memory>
+    requires suits { SuitsSite (S.state scopes.old).frame site.now }
+    requires item { site.now.item ≡ None }
+    requires index { index < length stream.now.body.items }
+    requires read { AreReadStatements site.now.texts.now.names (stream_view stream.now).body }
+    requires returns { Returns (S.state scopes.old).frame site.now (stream_view stream.now) returns }
+    requires there { IfSome returns (λ t. IsThere (S.state scopes.old).frame t) }
+    ensures { Stating (S.state scopes.old) (S.state scopes.new) site.now (stream_view stream.now) index (spot_at cell data_from) result }
+{
+    let mut flows = Flows::new(alloc);
+    let mut notes = Notes::new(alloc);
+    let stand = Stand {
+        result: returns,
+        withs: &[],
+        looped: false,
+    };
+    let of = &stream.body[index];
+    let flow = analysed!(statement(scopes, site, &stand, of, &mut flows, &mut notes));
+    let piece = piece_of(alloc, &flows, flow, cell, data_from)?;
+    Ok(Ask::Known(Stated { piece, notes }))
+}
