@@ -1,0 +1,16 @@
+pub mod Values
+pub mod Results
+pub mod Constants
+pub mod Parts
+pub mod Coded
+pub mod Designators
+pub mod Expressions
+pub mod Flows
+pub mod Actions
+pub mod Statements
+pub mod InRange
+pub mod Lone
+pub mod Named
+pub mod LoneUnits
+pub mod Units
+pub mod StatementsRead

@@ -1,0 +1,48 @@
+-- The laws on blocks, over the laws on the rows of units.
+use Rattle.std.specs.Prelude.{◌≡◌, ℕ, ◌≤◌, List, [], ◌∷◌, ◌++◌}
+use Rattle.code_form.specs.Valid.{IsValidCode}
+use Rattle.m2_base.specs.Lists.{Each}
+use Rattle.m2_base.specs.declared.rows.Row.{Row}
+use Rattle.m2_base.specs.Standard.{standard_rows}
+use Rattle.m2_base.specs.Statics.BlockRows.{declare_block}
+use Rattle.m2_base.specs.Statics.Blocks.{BlockTree, UnitTrees, blocks_of, main_block}
+use Rattle.m2_base.specs.Statics.Contexts.{Source}
+use Rattle.m2_base.specs.Statics.UnitRows.{unit_rows}
+use Rattle.m2_base.specs.Trees.{Stream}
+use Rattle.row_laws.proofs.Units.{unit_cells, unit_declared, unit_in_range}
+use Rattle.row_laws.specs.RowRanges.{BlockInRange, EachBlock, IsSoundUnit}
+use Rattle.stmt_sem.specs.BlockCode.{block_code, block_diags}
+use Rattle.stmt_sem.specs.Places.{OthersInRange, block_steps}
+use Rattle.stmt_sem.specs.Tokens.{block_tokens}
+use Rattle.block_laws.specs.Lone.{IsLoneTree, lone_unit, lone_world}
+use Rattle.block_laws.specs.Named.{procedure_of}
+use Rattle.block_laws.specs.ReadStatements.{AreReadStatements}
+use Rattle.block_laws.proofs.InRange.{block-in_range}
+use Rattle.block_laws.proofs.LoneUnits.{lone-unit-valid}
+
+-- what follows for each block follows for the blocks
+blocks-follow : (P Q : List (List Row) → BlockTree → Type 0) (R : BlockTree → Type 0) → ((before : List (List Row)) (b : BlockTree) → P before b → R b → Q before b)
+    → (source : Source) (before : List (List Row)) (blocks : List BlockTree) → EachBlock P source before blocks → Each R blocks → EachBlock Q source before blocks
+blocks-follow P Q R f source before [] g h = tt
+blocks-follow P Q R f source before (b ∷ blocks) g h =
+    (f before b g.0 h.0, blocks-follow P Q R f source (before ++ (declare_block source before b).rows ∷ []) blocks g.1 h.1)
+
+pub units-in_range : (names : List (List ℕ)) (u : UnitTrees) → IsSoundUnit names u → Each (λ b. AreReadStatements names b.tree.body) (blocks_of u)
+    → EachBlock (λ before b. OthersInRange (block_steps u.source before (unit_rows u) b)) u.source (standard_rows ∷ []) (blocks_of u)
+units-in_range names u sound read =
+    blocks-follow (λ before b. BlockInRange u.source before (unit_rows u) b) (λ before b. OthersInRange (block_steps u.source before (unit_rows u) b))
+    (λ b. AreReadStatements names b.tree.body) (λ before b h r. block-in_range names u.source before (unit_rows u) b h r) u.source (standard_rows ∷ []) (blocks_of u)
+    (unit_in_range names u sound) read
+
+pub units-valid : (names : List (List ℕ)) (source : Source) (tree : Stream) → IsSoundUnit names (lone_unit source tree) → IsLoneTree tree → AreReadStatements names tree.body → block_tokens tree ≤ 1048576
+    → block_diags source (standard_rows ∷ []) (unit_rows (lone_unit source tree)) (main_block (lone_unit source tree) tree) ≡ []
+    → IsValidCode
+    (lone_world (declare_block source (standard_rows ∷ []) (main_block (lone_unit source tree) tree)).value.cell (procedure_of (block_code source (standard_rows ∷ []) (unit_rows (lone_unit source tree)) (main_block (lone_unit source tree) tree)))) 0
+    (procedure_of (block_code source (standard_rows ∷ []) (unit_rows (lone_unit source tree)) (main_block (lone_unit source tree) tree)))
+units-valid names source tree sound lone read few told =
+    let u : UnitTrees = lone_unit source tree in
+    lone-unit-valid names source tree (record {
+      ranges = unit_in_range names u sound;
+      cells = unit_cells names u sound;
+      procedures = unit_declared names u sound;
+    }) lone read few told

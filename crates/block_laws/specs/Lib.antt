@@ -1,0 +1,4 @@
+pub mod Lone
+pub mod Named
+pub mod ReadStatements
+pub mod Sight
