@@ -1,0 +1,6 @@
+pub mod StandingOperands
+pub mod StandingProcedures
+pub mod StandingCalls
+pub mod StandingValues
+pub mod StandingLabels
+pub mod StandingFlows
