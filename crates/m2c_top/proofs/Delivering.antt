@@ -1,7 +1,8 @@
 -- What answering a decision leaves, as the outcome of compiling the module.
-use Rattle.std.proofs.Common.{◌≡◌, ◌≢◌, ◌==◌, false, length, inl, inr, ℕ, List, [], Option, Some, refl, sym, ◌∙◌, ap, Result, Ok, Err, IfOk, IfSome, OnErr}
+use Rattle.std.proofs.Common.{◌≡◌, ◌≢◌, ◌==◌, true, false, arith, length, inl, inr, ℕ, List, [], ◌∷◌, Option, Some, refl, sym, ◌∙◌, ap, Result, Ok, Err, IfOk, IfSome, OnErr}
 use Rattle.std.specs.FinMap.{insert}
 use Rattle.std.proofs.lemmas.Bool.{false≢true}
+use Rattle.std.proofs.lemmas.Bool.Decides.{Decides-eqb}
 use Rattle.m2_base.specs.declared.notes.Diag.{Diag}
 use Rattle.m2_io.specs.Files.{Files, with_file}
 use Rattle.m2c_top.specs.Decisions.{Decision, limited, unbuilt, refused, to_compile}
@@ -16,6 +17,11 @@ use Rattle.m2c_top.specs.declared.status.Status.TheVariants.{Done, Diagnosed}
 use Rattle.m2c_top.specs.declared.top.Stop.{Stop}
 use Rattle.m2c_top.proofs.OneOutcome.{prints_part}
 use Rattle.m2c_top.proofs.Outcomes.{told, with_nothing}
+
+-- an empty list is none
+pub is_none : (ds : List Diag) (count : ℕ) → (count == 0) ≡ true → count ≡ length ds → ds ≡ []
+is_none [] count empty same = refl
+is_none (d ∷ ds) count empty same = let none : count ≡ 0 = (Decides-eqb count 0).0 empty in absurd (omega arith)
 
 -- a list that isn't empty is none
 pub not_empty : (xs ds : List Diag) → (length xs == 0) ≡ false → xs ≡ ds → ds ≢ []

@@ -1,34 +1,36 @@
 -- The diagnostics of a module stand at its tokens.
-use Rattle.std.proofs.Common.{◌≡◌, ℕ, ◌+◌, ◌<◌, Bool, true, false, List, [], ◌∷◌, ◌++◌, Option, Some, None, length, refl, arith, if◌then◌else◌}
-use Rattle.std.specs.Prelude.{nat_lt}
+use Rattle.std.proofs.Common.{◌≡◌, ℕ, ◌+◌, ◌<◌, Bool, true, false, List, [], ◌∷◌, ◌++◌, Option, Some, None, length, refl, sym, ap, subst, ◌∙◌, arith, if◌then◌else◌}
+use Rattle.std.specs.Prelude.{nat_lt, ◌||◌}
 use Rattle.m2_base.specs.Lists.{Each}
 use Rattle.m2_base.specs.Names.{standard_names}
 use Rattle.m2_base.specs.Statics.Cells.{most_cells}
-use Rattle.m2_base.specs.Statics.StandingTrees.{IsStandingName, IsStandingOption}
-use Rattle.m2_base.specs.Statics.UnitNotes.{declaration_diags}
-use Rattle.m2_base.specs.Tables.{lookup}
-use Rattle.m2_base.specs.Trees.{Stream}
+use Rattle.m2_base.specs.Statics.Blocks.{BlockTree}
+use Rattle.m2_base.specs.Statics.Closing.{block_name, closing_diags, heading_name}
+use Rattle.m2_base.specs.Statics.Contexts.{Context}
+use Rattle.m2_base.specs.Statics.Effects.{BlockEffects}
+use Rattle.m2_base.specs.Statics.StandingTrees.{IsStandingOption, IsStandingStream}
+use Rattle.m2_base.specs.Trees.{Heading, Stream}
 use Rattle.m2_base.specs.Units.{AreNumbered}
 use Rattle.m2_base.specs.declared.notes.Diag.{Diag}
 use Rattle.m2_base.specs.declared.outputs.StreamFault.{StreamFault}
 use Rattle.m2_base.specs.declared.outputs.StreamFault.TheVariants as faults
-use Rattle.m2_base.specs.declared.rows.Place.{Place}
-use Rattle.m2_base.specs.declared.rows.Row.{Row}
 use Rattle.m2_base.specs.declared.token.Token.{Token}
 use Rattle.m2_base.specs.declared.trees.Ident.{Ident}
-use Rattle.m2_base.specs.declared.trees.declarations.StreamKind.TheVariants.{Main}
+use Rattle.m2_base.specs.declared.trees.declarations.StreamKind.{StreamKind}
+use Rattle.m2_base.specs.declared.trees.declarations.StreamKind.TheVariants.{Definition, Main, Procedure}
+use Rattle.stmt_sem.specs.BlockCode.{cells_with, size_by, size_diags, stand_of, too_many_at}
+use Rattle.stmt_sem.specs.Flows.{Run}
 use Rattle.m2_base.proofs.Kept.{Each-append, Each-map}
 use Rattle.m2_base.proofs.StandingItems.{lone_noted}
 use Rattle.m2_base.proofs.StandingStreams.{streams_stand}
 use Rattle.m2_lex.proofs.TextUnit.{text_listed}
-use Rattle.m2c_top.specs.Bindings.{bound_to, own_chain, row_cell, use_of, uses_of}
-use Rattle.m2c_top.specs.Codes.{diag_at, too_many_cells}
-use Rattle.m2c_top.specs.Decisions.{Decides, Decision, Lexed, HasTokens, decision_for, faulty, module_of, module_text, other_form, other_name, other_tree, to_compile, too_long, too_many_tokens}
-use Rattle.m2c_top.specs.Diagnostics.{diags_of, noted_in, room_diags, use_diags}
-use Rattle.m2c_top.specs.Modules.{Module, cells_in, tables_of, trees_of}
+use Rattle.m2c_top.specs.Decisions.{Decides, Decision, Lexed, HasTokens, decision_for, faulty, module_of, module_text, other_form, other_name, to_compile, too_long, too_many_tokens}
+use Rattle.m2c_top.specs.Diagnostics.{diags_of, noted_in}
+use Rattle.m2c_top.specs.Modules.{Module, body_in, context_in, declared_in, own_block, run_in, trees_of}
+use Rattle.m2c_top.proofs.HeldTables.{no_heading}
+use Rattle.m2c_top.proofs.LoneTables.{lone_diags}
+use Rattle.block_notes.proofs.StandingFlows.{flow_below}
 use Rattle.m2c_top.specs.Ordering.{comes_before, in_order, is_same, with_diag}
-use Rattle.m2c_top.specs.Uses.{body_uses}
-use Rattle.m2c_top.proofs.StandingBodies.{uses_stand}
 
 below : (at : ℕ) (tokens : List Token) → AreNumbered at tokens → Each (λ (t : Token). t.at < at + length tokens) tokens
 below at [] h = absurd h
@@ -67,25 +69,40 @@ module _ (n : ℕ) where
   order_below [] h = tt
   order_below (d ∷ ds) h = with_below d (in_order ds) h.0 (order_below ds h.1)
 
-  room_below : (name : Option Ident) (cells : ℕ) → IsStandingOption n name → Each IsBelow (room_diags name cells)
-  room_below None cells h = tt
-  room_below (Some name) cells h = go (nat_lt most_cells cells)
+  name_below : (c : Context) (name : Option Ident) → IsStandingOption n name → Each IsBelow (too_many_at c name)
+  name_below c None h = tt
+  name_below c (Some name) h = (h, tt)
+
+  -- of a block's size
+  size_below : (c : Context) (b : BlockTree) (cells bytes : ℕ) → IsStandingOption n (block_name b.tree) → Each IsBelow (size_by c b cells bytes)
+  size_below c b cells bytes h = go (nat_lt most_cells cells || nat_lt most_cells bytes)
     where
-      go : (b : Bool) → Each IsBelow (if b then diag_at name.at too_many_cells ∷ [] else [])
-      go true = (h, tt)
+      go : (x : Bool) → Each IsBelow (if x then too_many_at c (block_name b.tree) else [])
+      go true = name_below c (block_name b.tree) h
       go false = tt
 
-  bound_below : (ident : Ident) (hit : Option (Place × Row)) → IsStandingName n ident → Each IsBelow (bound_to ident hit).diags
-  bound_below ident None h = (h, tt)
-  bound_below ident (Some hit) h = tt
+  sized_below : (c : Context) (b : BlockTree) (kind : StreamKind) (e : BlockEffects) (r : Run) → IsStandingOption n (block_name b.tree) → Each IsBelow (size_diags c b kind e r)
+  sized_below c b Definition e r h = size_below c b e.cell 0 h
+  sized_below c b Main e r h = size_below c b (cells_with Main e.cell r) r.next.byte h
+  sized_below c b Procedure e r h = size_below c b (cells_with Procedure e.cell r) r.next.byte h
 
-  uses_below : (tables : List (List Row)) (chain cells : List ℕ) (idents : List Ident) → Each (λ (i : Ident). IsStandingName n i) idents → Each IsBelow (uses_of tables chain cells idents).diags
-  uses_below tables chain cells [] h = tt
-  uses_below tables chain cells (ident ∷ idents) h =
-      let use_gives = use_of tables chain ident in
-      let next = cells ++ row_cell use_gives.value ∷ [] in
-      Each-append IsBelow use_gives.diags (uses_of tables chain next idents).diags
-      (bound_below ident (lookup tables chain ident.name) h.0) (uses_below tables chain next idents h.1)
+  module _ (m : Module) (standing : IsStandingStream n m.tree) (heading : m.tree.heading ≡ None) where
+    -- of all that is noted
+    all_below : Each IsBelow (noted_in m)
+    all_below =
+        let b = own_block m.names m.tree in
+        let c = context_in m in
+        let declared = lone_noted n (trees_of m) m.tree refl refl refl standing in
+        let own = (declared_in m.names m.tree).diags in
+        let closing = closing_diags c m.tree in
+        let sized = size_diags c b m.tree.kind (declared_in m.names m.tree).value (run_in m) in
+        let named : IsStandingOption n (block_name m.tree) = subst (λ (h : Option Heading). IsStandingOption n (heading_name m.tree.name h)) (sym heading) standing.name in
+        let body = (body_in m).diags in
+        Each-append IsBelow ((own ++ closing) ++ body) sized
+        (Each-append IsBelow (own ++ closing) body
+        (subst (λ (ds : List Diag). Each IsBelow ds) (lone_diags m.names m.tree) declared)
+        (flow_below n (stand_of c b) m.tree.body standing.body))
+        (sized_below c b m.tree.kind (declared_in m.names m.tree).value (run_in m) named)
 
 -- what is decided has diagnostics at its tokens alone
 abbrev HasBelow : Decision → Type 0
@@ -102,18 +119,13 @@ decided_below name text d (too_many_tokens a m) = tt
 decided_below name text d (other_form u h a) = tt
 decided_below name text d (other_name u at h a) = tt
 decided_below name text d (faulty u f h a b) = fault_below u.tokens f
-decided_below name text d (other_tree u t h a b none) = tt
-decided_below name text d (module_text u tree body built other answer is) =
-    let m = module_of u tree body in
+decided_below name text d (module_text u tree built other answer) =
+    let m = module_of u tree in
     let n = length u.tokens in
     let tokens = (tokens_below text u built.has_tokens).1 in
     let standing = streams_stand n Main tree u.tokens answer tokens in
-    let declared = lone_noted n (trees_of m) tree refl refl refl standing in
-    let uses = uses_stand n text u.tokens tree body answer tokens is in
-    order_below n (noted_in m)
-    (Each-append (IsBelow n) (declaration_diags (trees_of m)) (room_diags tree.name (cells_in m) ++ use_diags m) declared
-    (Each-append (IsBelow n) (room_diags tree.name (cells_in m)) (use_diags m) (room_below n tree.name (cells_in m) standing.name)
-    (uses_below n (tables_of m) own_chain [] (body_uses body) uses)))
+    let heading : tree.heading ≡ None = ap (λ (s : Stream). s.heading) (sym answer.gives) ∙ no_heading answer.sentence.tree [] in
+    order_below n (noted_in m) (all_below n m standing heading)
 
 pub diags_below : (name text : List ℕ) (m : Module) → Decides name text (to_compile m) → Each (λ (d : Diag). d.at < length m.tokens) (diags_of m)
 diags_below name text m decides = decided_below name text (to_compile m) decides

@@ -1,5 +1,5 @@
 -- Before the first declaration nothing is entered.
-use Rattle.std.specs.Prelude.{◌≡◌, ℕ, List, [], ◌∷◌}
+use Rattle.std.specs.Prelude.{◌≡◌, ℕ, [], ◌∷◌}
 use Rattle.std.proofs.Common.{refl, ap, arith}
 use Rattle.m2_base.specs.Units.{UnitTexts}
 use Rattle.m2_base.specs.Views.{stream_view}

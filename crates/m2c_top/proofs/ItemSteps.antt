@@ -1,7 +1,7 @@
 -- A declaration is analysed after those before: what it stands at, what it may enter, and what is declared then.
 use Rattle.std.specs.Prelude.{◌≡◌, ℕ, zero, suc, ◌+◌, ◌<◌, ◌≤◌, ◌^◌, true, false, List, [], ◌∷◌, ◌++◌, Option, Some, None, Result, Ok, Err, IfOk, OnOk, drop, filter, flat_map, length, map, option_map, slice_get, slice_index, take, unwrap_or}
 use Rattle.std.proofs.Common.{refl, sym, ap, subst, ◌∙◌, arith}
-use Rattle.std.proofs.lemmas.List.{append-nil, append_assoc, length-append, take-append-drop}
+use Rattle.std.proofs.lemmas.List.{append-nil, length-append, take-append-drop}
 use Rattle.std.proofs.lemmas.List.Concat.{flat_map-append}
 use Rattle.std.proofs.lemmas.List.Elements.{filter-append}
 use Rattle.std.proofs.lemmas.Option.{slice_get-map}
@@ -11,10 +11,10 @@ use Rattle.m2_base.specs.Names.{standard_names}
 use Rattle.m2_base.specs.Rows.{IsWellFormed, at_place, row_meaning}
 use Rattle.m2_base.specs.Scopes.{CanEnter, Entered}
 use Rattle.m2_base.specs.Standard.{standard_rows}
-use Rattle.m2_base.specs.States.{Frame, IsSound, State, Waits}
+use Rattle.m2_base.specs.States.{Frame, State}
 use Rattle.m2_base.specs.Statics.BlockRows.{at_item}
 use Rattle.m2_base.specs.Statics.Cells.{most_cells}
-use Rattle.m2_base.specs.Statics.Contexts.{Context, Source}
+use Rattle.m2_base.specs.Statics.Contexts.{Source}
 use Rattle.m2_base.specs.Statics.Declarations.{declare}
 use Rattle.m2_base.specs.Statics.Effects.{Effect}
 use Rattle.m2_base.specs.Statics.Items.{Item, decl_item, items_of}
@@ -22,7 +22,7 @@ use Rattle.m2_base.specs.Statics.Layouts.{Layout, firsts_from, layout_of}
 use Rattle.m2_base.specs.Statics.Makes.{Makes, with_rows}
 use Rattle.m2_base.specs.Statics.ProcedureRows.{is_proc}
 use Rattle.m2_base.specs.Statics.ReadTrees.{IsReadItem}
-use Rattle.m2_base.specs.Statics.Shapes.{Shape, item_shapes}
+use Rattle.m2_base.specs.Statics.Shapes.{item_shapes}
 use Rattle.m2_base.specs.Tables.{rows_at}
 use Rattle.m2_base.specs.Trees.{Decl, Stream, const_decl, proc_decl, type_decl, vars_decl}
 use Rattle.m2_base.specs.Units.{UnitTexts}
@@ -48,15 +48,15 @@ use Rattle.decl_sem.specs.DeclaredItems.{DeclaresItem, GivesAll}
 use Rattle.decl_sem.specs.ImportedModules.{IsFromBefore}
 use Rattle.decl_sem.specs.Items.{IsAtItem}
 use Rattle.decl_sem.specs.LaidRows.{AreLaid}
-use Rattle.decl_sem.specs.Pieces.{AreNewRows, IsNewRow, IsOwned, end_by, item_end}
+use Rattle.decl_sem.specs.Pieces.{AreNewRows, IsOwned, end_by, item_end}
 use Rattle.decl_sem.specs.declared.declaring.Declared.{Declared}
 use Rattle.decl_sem.specs.declared.items.Before.{Before}
 use Rattle.decl_sem.proofs.FirstNames.{AreLaid-append}
 use Rattle.decl_sem.proofs.FirstOrdinals.{end_of}
 use Rattle.decl_sem.proofs.Pieces.{laid-length}
-use Rattle.m2c_top.specs.Filled.{HasDeclared, IsBlock, first_context, first_items, first_made, made_by, main_around, own_block, row_count}
+use Rattle.m2c_top.specs.Filled.{HasDeclared, first_context, first_items, first_made, made_by, main_around, row_count}
 use Rattle.m2c_top.specs.Held.{IsHeld, held}
-use Rattle.m2c_top.specs.Modules.{declared_in, lone_unit, tables_of}
+use Rattle.m2c_top.specs.Modules.{declared_in, lone_unit, own_block, tables_of}
 use Rattle.m2c_top.specs.declared.module.Module.{Module as HeldModule}
 use Rattle.m2c_top.proofs.FewCells.{item_within}
 use Rattle.m2c_top.proofs.HeldTables.{held_alone, held_finished, items_are}
@@ -171,17 +171,21 @@ suits_main f m h texts fills areas told =
       told = told;
     }
 
+pub suits_at : (f : Frame) (s : Site) (m : HeldModule) → IsHeld m → s.texts.now ≡ m.texts → s.around.now ≡ main_around → f.setting.texts ≡ m.texts → f.setting.fills ≡ 1 → length f.setting.areas ≡ 2
+    → (s.item ≡ None → f.closed ≡ true) → WhereFinished f.setting.texts (Agrees f) → SuitsSite f s
+suits_at f s m h same around texts fills areas done told =
+    record {
+      around = subst (λ a. Suits f a) (sym around) (suits_main f m h texts fills areas told);
+      texts = same ∙ sym texts;
+      chain = subst (λ (a : Around). a.chain ≡ f.setting.fills ∷ drop 1 a.chain) (sym around) (ap (λ n. n ∷ []) (sym fills));
+      short = subst (λ (a : Around). length a.chain ≤ 18) (sym around) (omega arith);
+      down = subst (λ (a : Around). Each (λ k. k < f.setting.fills) (drop 1 a.chain)) (sym around) tt;
+      done = done;
+    }
+
 pub suits_site : (f : Frame) (s : Site) (m : HeldModule) (item : Option ℕ) → IsHeld m → IsSiteOf s m item → f.setting.texts ≡ m.texts → f.setting.fills ≡ 1 → length f.setting.areas ≡ 2
     → (item ≡ None → f.closed ≡ true) → WhereFinished f.setting.texts (Agrees f) → SuitsSite f s
-suits_site f s m item h is texts fills areas done told =
-    record {
-      around = subst (λ a. Suits f a) (sym is.around) (suits_main f m h texts fills areas told);
-      texts = is.texts ∙ sym texts;
-      chain = subst (λ (a : Around). a.chain ≡ f.setting.fills ∷ drop 1 a.chain) (sym is.around) (ap (λ n. n ∷ []) (sym fills));
-      short = subst (λ (a : Around). length a.chain ≤ 18) (sym is.around) (omega arith);
-      down = subst (λ (a : Around). Each (λ k. k < f.setting.fills) (drop 1 a.chain)) (sym is.around) tt;
-      done = λ none. done (sym is.item_is ∙ none);
-    }
+suits_site f s m item h is texts fills areas done told = suits_at f s m h is.texts is.around texts fills areas (λ none. done (sym is.item_is ∙ none)) told
 
 no_imports : (source : Source) (scope : ℕ) (d : Decl) → IsFromBefore source scope (decl_item d)
 no_imports source scope (const_decl name value) = tt

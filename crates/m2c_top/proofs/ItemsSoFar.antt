@@ -11,7 +11,6 @@ use Rattle.m2_base.specs.Statics.Effects.{BlockEffects, Effect}
 use Rattle.m2_base.specs.Statics.Items.{Item}
 use Rattle.m2_base.specs.Statics.Makes.{Makes, with_rows}
 use Rattle.m2_base.specs.declared.trees.declarations.StreamKind.{StreamKind}
-use Rattle.m2_base.specs.declared.notes.Diag.{Diag}
 use Rattle.m2_base.proofs.SceneLaws.{with-none, with-twice}
 
 -- what an item makes, as number i, after what those before have made

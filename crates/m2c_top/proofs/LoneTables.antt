@@ -1,22 +1,20 @@
 -- The tables and the diagnostics of a unit of one tree, which has no procedures.
 use Rattle.std.specs.Prelude.{◌≡◌, ℕ, List, [], ◌∷◌, ◌++◌, None}
-use Rattle.std.proofs.Common.{refl, sym, ap, ◌∙◌}
+use Rattle.std.proofs.Common.{refl, ap}
 use Rattle.std.proofs.lemmas.List.{append-nil}
 use Rattle.m2_base.specs.Standard.{standard_rows}
-use Rattle.m2_base.specs.Statics.BlockRows.{context_of, declare_block, declare_items, first_cell, scene_of}
-use Rattle.m2_base.specs.Statics.Blocks.{BlockTree, blocks_of, main_block}
+use Rattle.m2_base.specs.Statics.BlockRows.{declare_block, declare_items, first_cell, scene_of}
+use Rattle.m2_base.specs.Statics.Blocks.{blocks_of}
 use Rattle.m2_base.specs.Statics.Closing.{closing_diags}
-use Rattle.m2_base.specs.Statics.Contexts.{Context, Scene}
-use Rattle.m2_base.specs.Statics.Effects.{BlockEffects}
-use Rattle.m2_base.specs.Statics.Items.{Item, items_of}
-use Rattle.m2_base.specs.Statics.Makes.{Makes}
+use Rattle.m2_base.specs.Statics.Contexts.{Scene}
+use Rattle.m2_base.specs.Statics.Items.{items_of}
 use Rattle.m2_base.specs.Statics.UnitNotes.{complete_context, declaration_diags}
 use Rattle.m2_base.specs.Statics.UnitRows.{unit_rows}
 use Rattle.m2_base.specs.Trees.{Stream}
 use Rattle.m2_base.specs.declared.trees.declarations.StreamKind.{StreamKind}
 use Rattle.m2_base.specs.declared.trees.declarations.StreamKind.TheVariants.{Definition, Main, Procedure}
-use Rattle.m2c_top.specs.Filled.{first_context, made_by, own_block}
-use Rattle.m2c_top.specs.Modules.{declared_in, lone_unit}
+use Rattle.m2c_top.specs.Filled.{first_context, made_by}
+use Rattle.m2c_top.specs.Modules.{declared_in, lone_unit, own_block}
 
 first_is : (scene : Scene) (kind : StreamKind) → first_cell scene kind None ≡ 0
 first_is scene Main = refl

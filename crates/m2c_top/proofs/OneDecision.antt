@@ -14,9 +14,7 @@ use Rattle.ll_grammar.proofs.OneAnswer.{has_one_answer}
 use Rattle.m2_lex.specs.Faults.{HasTooMany}
 use Rattle.m2_parse.proofs.FrontLaws.{one_front}
 use Rattle.m2c_top.specs.Codes.{diag_at, other_module}
-use Rattle.m2c_top.specs.Decisions.{Decision, limited, unbuilt, refused, to_compile, Lexed, HasTokens, has_unbuilt, other_name_at, NamesOther, Answers, decision_for, Decides, too_long, too_many_tokens, other_form, other_name, faulty, module_of, module_text, other_tree}
-use Rattle.m2c_top.specs.Bodies.{body_of}
-use Rattle.m2c_top.specs.declared.plain.tree.Statement.{Statement}
+use Rattle.m2c_top.specs.Decisions.{Decision, limited, unbuilt, refused, to_compile, Lexed, HasTokens, has_unbuilt, other_name_at, NamesOther, Answers, decision_for, Decides, too_long, too_many_tokens, other_form, other_name, faulty, module_of, module_text}
 use Rattle.m2c_top.specs.declared.verdict.Limit.TheVariants.{TextBytes, Tokens}
 use Rattle.m2c_top.proofs.TokenCounts.{too_many}
 
@@ -60,26 +58,15 @@ one_place name u a b p q =
 
 -- the rows of a text, one question after another
 module _ (name text : List ℕ) where
-  data OfTree (u : Lexed) (t : Stream) : Decision → Type 0 where
-    is : (body : List Statement) → body_of text u.tokens t ≡ Some body → OfTree u t (to_compile (module_of u t body))
-    is_none : body_of text u.tokens t ≡ None → OfTree u t unbuilt
-
-  one_of_tree : (u : Lexed) (t : Stream) (d e : Decision) → OfTree u t d → OfTree u t e → d ≡ e
-  one_of_tree u t d e (is p a) (is q b) = ap (λ body. to_compile (module_of u t body)) (some_same p q (sym a ∙ b))
-  one_of_tree u t d e (is p a) (is_none none) = absurd (some_none p (sym a ∙ none))
-  one_of_tree u t d e (is_none none) (is p a) = absurd (some_none p (sym a ∙ none))
-  one_of_tree u t d e (is_none none) (is_none other) = refl
-
   data OfNamed (u : Lexed) : Decision → Type 0 where
     fault : (f : StreamFault) → Answers u.tokens (Err f) → OfNamed u (decision_for u.tokens f)
-    tree : (t : Stream) (d : Decision) → Answers u.tokens (Ok t) → OfTree u t d → OfNamed u d
+    tree : (t : Stream) → Answers u.tokens (Ok t) → OfNamed u (to_compile (module_of u t))
 
   one_of_named : (u : Lexed) (d e : Decision) → OfNamed u d → OfNamed u e → d ≡ e
   one_of_named u d e (fault f a) (fault g b) = ap (decision_for u.tokens) (err_same f g (one_answer u.tokens (Err f) (Err g) a b))
-  one_of_named u d e (fault f a) (tree t c b h) = absurd (ok_err t f (one_answer u.tokens (Ok t) (Err f) b a))
-  one_of_named u d e (tree t c a h) (fault g b) = absurd (ok_err t g (one_answer u.tokens (Ok t) (Err g) a b))
-  one_of_named u d e (tree t x a h) (tree s y b k) =
-      one_of_tree u s d e (subst (λ (r : Stream). OfTree u r d) (ok_same t s (one_answer u.tokens (Ok t) (Ok s) a b)) h) k
+  one_of_named u d e (fault f a) (tree t b) = absurd (ok_err t f (one_answer u.tokens (Ok t) (Err f) b a))
+  one_of_named u d e (tree t a) (fault g b) = absurd (ok_err t g (one_answer u.tokens (Ok t) (Err g) a b))
+  one_of_named u d e (tree t a) (tree s b) = ap (λ (x : Stream). to_compile (module_of u x)) (ok_same t s (one_answer u.tokens (Ok t) (Ok s) a b))
 
   data OfBuilt (u : Lexed) : Decision → Type 0 where
     other : (at : ℕ) → NamesOther name u (Some at) → OfBuilt u (refused u.tokens (diag_at at other_module))
@@ -123,8 +110,7 @@ module _ (name text : List ℕ) where
   asked d (other_form u h a) = lexed u d h (found a)
   asked d (other_name u at h a) = lexed u d h.has_tokens (built d h.built (other at a))
   asked d (faulty u f h a b) = lexed u d h.has_tokens (built d h.built (this d a (fault f b)))
-  asked d (module_text u t p h a b k) = lexed u d h.has_tokens (built d h.built (this d a (tree t d b (is p k))))
-  asked d (other_tree u t h a b none) = lexed u d h.has_tokens (built d h.built (this d a (tree t d b (is_none none))))
+  asked d (module_text u t h a b) = lexed u d h.has_tokens (built d h.built (this d a (tree t b)))
 
   pub one_decision : (d e : Decision) → Decides name text d → Decides name text e → d ≡ e
   one_decision d e a b = one_of_text d e (asked d a) (asked e b)

@@ -1,6 +1,6 @@
 -- Diagnostics that are sorted, and then each once, are those in order: two lists in order that have the same members are one.
-use Rattle.std.proofs.Common.{◌≡◌, ◌⊎◌, inl, inr, ℕ, ◌+◌, ◌<◌, ◌≤◌, ◌==◌, Bool, true, false, List, [], ◌∷◌, length, refl, sym, ◌∙◌, ap, subst, arith, cond, if◌then◌else◌}
-use Rattle.std.proofs.lemmas.Bool.{false≢true, true≢false}
+use Rattle.std.proofs.Common.{◌≡◌, ◌⊎◌, inl, inr, ◌+◌, Bool, true, false, List, [], ◌∷◌, refl, sym, ◌∙◌, subst, arith, cond, if◌then◌else◌}
+use Rattle.std.proofs.lemmas.Bool.{false≢true}
 use native.Mathlib.Numerals.{unary_clauses}
 use Rattle.std.specs.List.{dedup, dedup_from}
 use Rattle.std.specs.List.Sorted.{IsPermutation, IsSortedBy}

@@ -9,7 +9,7 @@ use Rattle.m2_base.specs.Kinds.{kind_in, reserved_words}
 use Rattle.m2_io.specs.Files.{Files, front_of}
 use Rattle.m2_io.specs.Written.{with_bytes}
 use Rattle.m2c_top.specs.Command.{is_name, is_identifier}
-use Rattle.m2c_top.specs.Decisions.{Decision, Decides, too_long, too_many_tokens, other_form, other_name, faulty, module_text, other_tree}
+use Rattle.m2c_top.specs.Decisions.{Decision, Decides, too_long, too_many_tokens, other_form, other_name, faulty, module_text}
 use Rattle.m2c_top.specs.Outcome.{Outcome, LacksText, IsDecided, text_name, line, Leaves, PrintsPart}
 
 pub on_err : {T E : Type 0} (r : Result T E) {P : Type 0} → P → OnErr r P
@@ -92,8 +92,7 @@ front_decides name text x d most size is h = go d h
     go e (other_form u t f) = within e t.short (other_form u t f)
     go e (other_name u at b n) = within e b.has_tokens.short (other_name u at b n)
     go e (faulty u f b n r) = within e b.has_tokens.short (faulty u f b n r)
-    go e (module_text u t p b n r k) = within e b.has_tokens.short (module_text u t p b n r k)
-    go e (other_tree u t b n r k) = within e b.has_tokens.short (other_tree u t b n r k)
+    go e (module_text u t b n r) = within e b.has_tokens.short (module_text u t b n r)
 
 module _ {V : Type 0} (items : V → List ℕ) (holds : Option Files) (files : Files) (name : List ℕ) (most : ℕ) (found : Option V)
     (reads : IfSome holds (λ f. option_map items found ≡ front_of f (text_name name) most)) (has : holds ≡ Some files) where

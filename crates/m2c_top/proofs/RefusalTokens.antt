@@ -12,7 +12,7 @@ use Rattle.m2_base.specs.declared.outputs.StreamFault.{StreamFault}
 use Rattle.m2_base.specs.declared.outputs.StreamFault.TheVariants as faults
 use Rattle.m2_base.specs.declared.token.Token.{Token}
 use Rattle.m2_base.specs.declared.trees.Ident.{Ident}
-use Rattle.m2c_top.specs.Decisions.{Decision, refused, other_name_at, Answers, decision_for, Decides, too_long, too_many_tokens, other_form, other_name, faulty, module_text, other_tree}
+use Rattle.m2c_top.specs.Decisions.{Decision, refused, other_name_at, Answers, decision_for, Decides, too_long, too_many_tokens, other_form, other_name, faulty, module_text}
 use Rattle.m2c_top.specs.Names.{is_named}
 use Rattle.m2c_top.proofs.DiagTokens.{tokens_below}
 
@@ -81,8 +81,7 @@ at_token name text d (other_name u at h n) =
     other_below (length u.tokens) u.names name n.front.name at
     (front_below (length u.tokens) u.tokens n.front n.is_front (tokens_below text u h.has_tokens).1) n.says
 at_token name text d (faulty u f h n a) = fault_at u.tokens f (tokens_below text u h.has_tokens).0 (tokens_below text u h.has_tokens).1 a
-at_token name text d (module_text u t body h n a k) = tt
-at_token name text d (other_tree u t h n a none) = tt
+at_token name text d (module_text u t h n a) = tt
 
 pub refusal_below : (name text : List ℕ) (ts : List Token) (diag : Diag) → Decides name text (refused ts diag) → diag.at < length ts
 refusal_below name text ts diag h = at_token name text (refused ts diag) h

@@ -1,5 +1,5 @@
 -- What the tokens of a text say of the unit that it makes up, and of its module's name.
-use Rattle.std.proofs.Common.{◌≡◌, ℕ, ◌<◌, ◌≤◌, ◌^◌, true, false, List, [], ◌∷◌, ◌++◌, Some, length, refl, sym, ap, subst, arith}
+use Rattle.std.proofs.Common.{◌≡◌, ℕ, ◌<◌, ◌^◌, false, List, [], ◌∷◌, ◌++◌, Some, length, get_or, refl, sym, ap, subst, arith}
 use Rattle.std.specs.List.{slice_get}
 use Rattle.ll_grammar.specs.Derivations.{Tree, both, tokens, Derives, of_token, of_then}
 use Rattle.ll_grammar.specs.Texts.{Spells}
@@ -8,6 +8,7 @@ use Rattle.m2_base.specs.Grammar.{grammar, ident, levels, number_of_token, strea
 use Rattle.m2_base.specs.KindNumbers.{kind_number}
 use Rattle.m2_base.specs.Lists.{Each}
 use Rattle.m2_base.specs.Names.{standard_names}
+use Rattle.m2_base.specs.Statics.FormedRows.{IsSoundText}
 use Rattle.m2_base.specs.Statics.ReadTrees.{IsReadToken}
 use Rattle.m2_base.specs.StreamsOf.{stream_of}
 use Rattle.m2_base.specs.Trees.{Stream}
@@ -22,14 +23,12 @@ use Rattle.m2_base.proofs.ReadExpressions.{kind_is}
 use Rattle.m2_lex.specs.LoneTexts.{one_text}
 use Rattle.m2_lex.proofs.ReadTokens.{tokens_read}
 use Rattle.m2_lex.proofs.TextUnit.{text_listed, text_unit}
-use Rattle.m2c_top.specs.Bindings.{IsName}
-use Rattle.m2c_top.specs.Bodies.{body_of}
 use Rattle.m2c_top.specs.Decisions.{HasTokens, IsBuilt, Lexed, has_unbuilt}
-use Rattle.m2c_top.specs.Held.{IsHeld, main_tokens}
+use Rattle.m2c_top.specs.Held.{CanBeHeld, IsHeld, main_tokens}
+use Rattle.m2c_top.specs.Modules.{lone_unit}
 use Rattle.m2c_top.specs.Names.{number_of}
-use Rattle.m2c_top.specs.Uses.{body_uses}
 use Rattle.m2c_top.specs.declared.module.Module.{Module}
-use Rattle.m2c_top.proofs.FewStatements.{alone_of, compiled_few, spelled_few}
+use Rattle.m2c_top.proofs.SoundNames.{names_sound}
 
 some_is : (x y : TextOf) → Some x ≡ Some y → x ≡ y
 some_is x y e = cc
@@ -78,22 +77,27 @@ unit_is text u tree has s countable =
     let named = spelled_named u.names tree u.tokens s (text_listed standard_names u.names text u.tokens has.are_tokens has.short).1 in
     text_unit standard_names u.names text u.tokens has.are_tokens has.short (number_of tree.name) (IsPrefixOf-refl standard_names) named has.few countable
 
--- what holds of a module that is held
-pub text_held : (m : Module) (text : List ℕ) (u : Lexed) (number : ℕ) → m.texts ≡ one_text u.names number u.tokens → IsUnit (one_text u.names number u.tokens) → IsBuilt text u
-    → Spells grammar levels (stream Main) (stream_of Main) (stream_view m.tree) u.tokens → body_of text u.tokens (stream_view m.tree) ≡ Some m.body.items → Each IsName (body_uses m.body.items) → IsHeld m
-text_held m text u number is unit built spelled body uses =
-    let few = spelled_few (stream_view m.tree) u.tokens spelled in
-    let compiled = compiled_few text u.tokens (stream_view m.tree) m.body.items body in
-    let tokens = built.has_tokens.few in
+-- a text whose forms are built, and which has this tree, can be held
+pub can_hold : (text : List ℕ) (u : Lexed) (tree : Stream) → IsBuilt text u → Spells grammar levels (stream Main) (stream_of Main) tree u.tokens → length u.names < 2 ^ 32
+    → ((i : ℕ) → get_or text i 0 < 256) → CanBeHeld u tree
+can_hold text u tree built spelled countable bytes =
     record {
-      unit = subst IsUnit (sym is) unit;
+      unit = unit_is text u tree built.has_tokens spelled countable;
+      read = tokens_read standard_names u.names text u.tokens (IsPrefixOf-refl standard_names) built.has_tokens.short built.has_tokens.are_tokens;
+      sound = names_sound u.names text u.tokens built.has_tokens.short bytes built.has_tokens.are_tokens (lone_unit u.names tree).source refl;
+      built = built.built;
+      spelled = spelled;
+    }
+
+-- what holds of a module that is held
+pub text_held : (m : Module) (u : Lexed) (number : ℕ) → m.texts ≡ one_text u.names number u.tokens → number ≡ number_of (stream_view m.tree).name → CanBeHeld u (stream_view m.tree) → IsHeld m
+text_held m u number is named can =
+    record {
+      unit = subst IsUnit (sym is) (subst (λ n. IsUnit (one_text u.names n u.tokens)) (sym named) can.unit);
       name = number;
       alone = subst (λ (x : UnitTexts). x ≡ one_text x.names number (main_tokens x.list)) (sym is) refl;
-      read = subst (λ (x : UnitTexts). Each (IsReadToken x.names) (main_tokens x.list)) (sym is)
-          (tokens_read standard_names u.names text u.tokens (IsPrefixOf-refl standard_names) built.has_tokens.short built.has_tokens.are_tokens);
-      built = subst (λ (x : UnitTexts). has_unbuilt (main_tokens x.list) ≡ false) (sym is) built.built;
-      spelled = subst (λ (x : UnitTexts). Spells grammar levels (stream Main) (stream_of Main) (stream_view m.tree) (main_tokens x.list)) (sym is) spelled;
-      lone = alone_of text u.tokens (stream_view m.tree) m.body.items body;
-      few = omega (arith, few, compiled, tokens);
-      uses = uses;
+      read = subst (λ (x : UnitTexts). Each (IsReadToken x.names) (main_tokens x.list)) (sym is) can.read;
+      sound = subst (λ (x : UnitTexts). IsSoundText (lone_unit x.names (stream_view m.tree)).source) (sym is) can.sound;
+      built = subst (λ (x : UnitTexts). has_unbuilt (main_tokens x.list) ≡ false) (sym is) can.built;
+      spelled = subst (λ (x : UnitTexts). Spells grammar levels (stream Main) (stream_of Main) (stream_view m.tree) (main_tokens x.list)) (sym is) can.spelled;
     }

@@ -1,10 +1,10 @@
 -- All declarations of a module are analysed: its scope may be completed, and what is noted then.
-use Rattle.std.specs.Prelude.{◌≡◌, ℕ, true, List, [], ◌∷◌, ◌++◌, length, map, take}
+use Rattle.std.specs.Prelude.{◌≡◌, ◌≤◌, ◌^◌, List, ◌++◌, length, map, take}
 use Rattle.std.proofs.Common.{refl, sym, ap, subst, ◌∙◌}
 use Rattle.std.proofs.lemmas.List.{length-map}
 use Rattle.std.proofs.Math.Seq.{take-length}
 use Rattle.m2_base.specs.Scopes.{CanComplete, Completed}
-use Rattle.m2_base.specs.States.{Frame, State}
+use Rattle.m2_base.specs.States.{State}
 use Rattle.m2_base.specs.Statics.Closing.{closing_diags}
 use Rattle.m2_base.specs.Statics.Contexts.{Context}
 use Rattle.m2_base.specs.Statics.Effects.{BlockEffects}
@@ -15,13 +15,12 @@ use Rattle.m2_base.specs.Statics.UnitRows.{unit_rows}
 use Rattle.m2_base.specs.Tables.{rows_at}
 use Rattle.m2_base.specs.Views.{decl_view, stream_view}
 use Rattle.m2_base.specs.declared.notes.Diag.{Diag}
-use Rattle.m2_base.specs.declared.rows.Row.{Row}
 use Rattle.m2_base.specs.declared.sites.Around.{Around}
 use Rattle.decl_sem.specs.Closing.{IsOfBlock}
 use Rattle.decl_sem.specs.declared.items.Before.{Before}
-use Rattle.m2c_top.specs.Filled.{HasDeclared, IsFilled, first_items, first_made, main_around, made_by, own_block}
+use Rattle.m2c_top.specs.Filled.{HasDeclared, IsFilled, first_items, row_count, first_made, main_around, made_by}
 use Rattle.m2c_top.specs.Held.{IsHeld, held}
-use Rattle.m2c_top.specs.Modules.{cells_in, declared_in, lone_unit, trees_of}
+use Rattle.m2c_top.specs.Modules.{cells_in, declared_in, lone_unit, own_block, trees_of}
 use Rattle.m2c_top.specs.declared.module.Module.{Module as HeldModule}
 use Rattle.m2c_top.proofs.HeldTables.{items_are}
 use Rattle.m2c_top.proofs.ItemSteps.{tables_are}
@@ -59,10 +58,17 @@ module _ (m : HeldModule) (h : IsHeld m) where
               all.entered ∙ ap (λ (x : Makes BlockEffects). x.rows) all_first ∙ sym own;
         }
 
-    pub all_filled : (b : State) → Completed a b → IsFilled b.frame m
-    all_filled b completed =
+    pub all_filled : row_count (stream_view m.tree) ≤ 2 ^ 31 → (b : State) → Completed a b → IsFilled b.frame m
+    all_filled few b completed =
         subst (λ f. IsFilled f m) (sym completed.frame)
-        (record { texts = all.texts; fills = all.fills; areas = ap length all.areas; closed = refl })
+        (record {
+          texts = all.texts;
+          fills = all.fills;
+          areas = ap length all.areas;
+          closed = refl;
+          entered = all.entered ∙ ap (λ (x : Makes BlockEffects). x.rows) all_first;
+          few = few;
+        })
 
     pub all_cells : next.cell ≡ cells_in (held m)
     all_cells = all.cell ∙ ap (λ (x : Makes BlockEffects). x.value.cell) all_first

@@ -54,6 +54,9 @@ not_a_variable = 48
 abbrev pub wrong_operands : ℕ
 wrong_operands = 49
 
+abbrev pub not_assignable : ℕ
+not_assignable = 50
+
 abbrev pub no_such_field : ℕ
 no_such_field = 51
 
@@ -72,14 +75,26 @@ wrong_count = 55
 abbrev pub wrong_argument : ℕ
 wrong_argument = 56
 
+abbrev pub not_boolean : ℕ
+not_boolean = 57
+
 abbrev pub wrong_label : ℕ
 wrong_label = 58
+
+abbrev pub exit_outside_loop : ℕ
+exit_outside_loop = 59
+
+abbrev pub wrong_return : ℕ
+wrong_return = 60
 
 abbrev pub wrong_index : ℕ
 wrong_index = 61
 
 abbrev pub too_many_cells : ℕ
 too_many_cells = 62
+
+abbrev pub not_a_control_variable : ℕ
+not_a_control_variable = 63
 
 abbrev pub not_a_procedure_value : ℕ
 not_a_procedure_value = 66
@@ -109,15 +124,20 @@ text_of code =
     if code == out_of_range then codes "value out of range" else
     if code == not_a_variable then codes "not a variable" else
     if code == wrong_operands then codes "wrong operand types" else
+    if code == not_assignable then codes "not assignable" else
     if code == no_such_field then codes "no such field" else
     if code == not_an_array then codes "not an array" else
     if code == not_a_pointer then codes "not a pointer" else
     if code == not_a_procedure then codes "not a procedure" else
     if code == wrong_count then codes "wrong number of arguments" else
     if code == wrong_argument then codes "wrong argument" else
+    if code == not_boolean then codes "not BOOLEAN" else
     if code == wrong_label then codes "wrong or repeated label" else
+    if code == exit_outside_loop then codes "EXIT outside LOOP" else
+    if code == wrong_return then codes "wrong RETURN" else
     if code == wrong_index then codes "wrong index or set base" else
     if code == too_many_cells then codes "too many cells" else
+    if code == not_a_control_variable then codes "not a control variable" else
     if code == not_a_procedure_value then codes "not a procedure value" else
     if code == not_a_record then codes "not a record" else codes "result not scalar"
 

@@ -20,10 +20,8 @@ use Rattle.m2_base.specs.declared.trees.Ident.{Ident}
 use Rattle.m2_base.specs.declared.trees.declarations.StreamKind.TheVariants.{Main}
 use Rattle.m2_lex.specs.Faults.{HasTooMany}
 use Rattle.m2c_top.specs.Codes.{diag_at, other_module}
-use Rattle.m2c_top.specs.Bodies.{body_of}
 use Rattle.m2c_top.specs.Modules.{Module}
 use Rattle.m2c_top.specs.Names.{is_named}
-use Rattle.m2c_top.specs.declared.plain.tree.Statement.{Statement}
 use Rattle.m2c_top.specs.declared.verdict.Limit.{Limit}
 use Rattle.m2c_top.specs.declared.verdict.Limit.TheVariants.{TextBytes, Tokens, Nesting}
 
@@ -94,8 +92,8 @@ decision_for tokens (faults.Syntax diag) = refused tokens diag
 decision_for tokens (faults.TooDeep text at) = limited Nesting
 
 -- the module of a tree that its tokens spell
-abbrev pub module_of : Lexed → Stream → List Statement → Module
-module_of u tree body = record { names = u.names; tokens = u.tokens; tree = tree; body = body }
+abbrev pub module_of : Lexed → Stream → Module
+module_of u tree = record { names = u.names; tokens = u.tokens; tree = tree }
 
 -- ** The rows
 
@@ -107,8 +105,4 @@ pub data Decides (name text : List ℕ) : Decision → Type 0 where
   other_name : (u : Lexed) (at : ℕ) → IsBuilt text u → NamesOther name u (Some at) → Decides name text (refused u.tokens (diag_at at other_module))
   faulty : (u : Lexed) (fault : StreamFault) → IsBuilt text u → NamesOther name u None → Answers u.tokens (Err fault)
       → Decides name text (decision_for u.tokens fault)
-  module_text : (u : Lexed) (tree : Stream) (body : List Statement) → IsBuilt text u → NamesOther name u None → Answers u.tokens (Ok tree)
-      → body_of text u.tokens tree ≡ Some body → Decides name text (to_compile (module_of u tree body))
-  -- a text that has a tree, and a body that isn't compiled yet
-  other_tree : (u : Lexed) (tree : Stream) → IsBuilt text u → NamesOther name u None → Answers u.tokens (Ok tree)
-      → body_of text u.tokens tree ≡ None → Decides name text unbuilt
+  module_text : (u : Lexed) (tree : Stream) → IsBuilt text u → NamesOther name u None → Answers u.tokens (Ok tree) → Decides name text (to_compile (module_of u tree))

@@ -5,7 +5,6 @@ use Rattle.m2_base.specs.Rows.{row_meaning}
 use Rattle.m2_base.specs.Standard.{standard_rows}
 use Rattle.m2_base.specs.States.{Frame}
 use Rattle.m2_base.specs.Statics.BlockRows.{context_of, declare_items}
-use Rattle.m2_base.specs.Statics.Blocks.{BlockTree, main_block}
 use Rattle.m2_base.specs.Statics.Cells.{most_cells}
 use Rattle.m2_base.specs.Statics.Contexts.{Context}
 use Rattle.m2_base.specs.Statics.Effects.{BlockEffects}
@@ -21,15 +20,11 @@ use Rattle.decl_sem.specs.LaidRows.{AreLaid}
 use Rattle.decl_sem.specs.Pieces.{IsOwned}
 use Rattle.decl_sem.specs.declared.items.Before.{Before}
 use Rattle.m2c_top.specs.Held.{IsHeld, held}
-use Rattle.m2c_top.specs.Modules.{Module, lone_unit}
+use Rattle.m2c_top.specs.Modules.{Module, declared_in, lone_unit, own_block}
 use Rattle.m2c_top.specs.declared.analysis.declaring.Block.{Block}
 use Rattle.m2c_top.specs.declared.module.Module.{Module as HeldModule}
 
 -- ** What declarations make
-
--- the block of a tree that is a unit's only one
-abbrev pub own_block : List (List ℕ) → Stream → BlockTree
-own_block names tree = main_block (lone_unit names tree) tree
 
 -- where its first item stands
 abbrev pub first_context : List (List ℕ) → Stream → Context
@@ -82,9 +77,11 @@ pub record HasDeclared (f : Frame) (m : HeldModule) (count : ℕ) (next : Before
   pub cells : next.cell ≤ most_cells + 1
   pub procedures : next.procedures ≡ length (filter is_proc f.entered)
 
--- all its rows are entered: of two scopes the second is the own one, and it is complete
+-- all its rows are entered, and there are not too many: of two scopes the second is the own one, and it is complete
 pub record IsFilled (f : Frame) (m : HeldModule) : Type 0 where
   pub texts : f.setting.texts ≡ m.texts
   pub fills : f.setting.fills ≡ 1
   pub areas : length f.setting.areas ≡ 2
   pub closed : f.closed ≡ true
+  pub entered : f.entered ≡ (declared_in m.texts.names (stream_view m.tree)).rows
+  pub few : row_count (stream_view m.tree) ≤ 2 ^ 31

@@ -1,7 +1,4 @@
-pub mod Bindings
-pub mod Bodies
-pub mod Bytes
-pub mod Code
+pub mod Analyses
 pub mod Codes
 pub mod Command
 pub mod Decisions
@@ -18,5 +15,4 @@ pub mod Object
 pub mod Ordering
 pub mod Outcome
 pub mod Statuses
-pub mod Uses
 pub mod Verdicts

@@ -1,23 +1,25 @@
--- A module that is compiled: its text, its tree, and what its statements do; and what its declarations make. It is a unit
--- of one text.
+-- A module that is compiled: its text and its tree, and what its one block makes. It is a unit of one text.
 use Rattle.std.specs.Prelude.{ℕ, List, [], ◌∷◌, None}
 use Rattle.m2_base.specs.declared.rows.Row.{Row}
 use Rattle.m2_base.specs.Standard.{standard_rows}
 use Rattle.m2_base.specs.Statics.BlockRows.{declare_block}
-use Rattle.m2_base.specs.Statics.Blocks.{UnitTrees, main_block}
+use Rattle.m2_base.specs.Statics.Blocks.{BlockTree, UnitTrees, main_block}
+use Rattle.m2_base.specs.Gives.{Gives}
+use Rattle.m2_base.specs.Statics.Contexts.{Context}
 use Rattle.m2_base.specs.Statics.Effects.{BlockEffects}
 use Rattle.m2_base.specs.Statics.Makes.{Makes}
+use Rattle.m2_base.specs.Statics.UnitNotes.{complete_context}
 use Rattle.m2_base.specs.Statics.UnitRows.{unit_rows}
 use Rattle.m2_base.specs.Trees.{Stream}
 use Rattle.m2_base.specs.declared.token.Token.{Token}
-use Rattle.m2c_top.specs.declared.plain.tree.Statement.{Statement}
+use Rattle.stmt_sem.specs.BlockCode.{ProcedureCode, block_code, body_of, run_of}
+use Rattle.stmt_sem.specs.Flows.{Flow, Run}
 
--- the tokens of a text and the names that they number, the tree that they spell, and the statements that it does
+-- the tokens of a text and the names that they number, and the tree that they spell
 pub record Module : Type 0 where
   pub names : List (List ℕ)
   pub tokens : List Token
   pub tree : Stream
-  pub body : List Statement
 
 -- the trees of a unit that has this tree alone
 abbrev pub lone_unit : List (List ℕ) → Stream → UnitTrees
@@ -30,10 +32,30 @@ trees_of m = lone_unit m.names m.tree
 abbrev pub tables_of : Module → List (List Row)
 tables_of m = unit_rows (trees_of m)
 
+-- the block of a tree that is a unit's only one
+abbrev pub own_block : List (List ℕ) → Stream → BlockTree
+own_block names tree = main_block (lone_unit names tree) tree
+
 -- what its declarations make
 abbrev pub declared_in : List (List ℕ) → Stream → Makes BlockEffects
-declared_in names tree = declare_block (lone_unit names tree).source (standard_rows ∷ []) (main_block (lone_unit names tree) tree)
+declared_in names tree = declare_block (lone_unit names tree).source (standard_rows ∷ []) (own_block names tree)
 
 -- how many cells its variables have
 abbrev pub cells_in : Module → ℕ
 cells_in m = (declared_in m.names m.tree).value.cell
+
+-- where its statements stand
+abbrev pub context_in : Module → Context
+context_in m = complete_context (trees_of m).source (tables_of m) (own_block m.names m.tree).block
+
+-- its statements
+abbrev pub body_in : Module → Gives Flow
+body_in m = body_of (context_in m) (own_block m.names m.tree)
+
+-- what its statements and its end make
+abbrev pub run_in : Module → Run
+run_in m = run_of (own_block m.names m.tree) (declared_in m.names m.tree).value (body_in m).value
+
+-- the code of its block
+abbrev pub code_in : Module → ProcedureCode
+code_in m = block_code (trees_of m).source (standard_rows ∷ []) (tables_of m) (own_block m.names m.tree)

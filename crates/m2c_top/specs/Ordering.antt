@@ -1,5 +1,5 @@
 -- Diagnostics in the order in which they are listed: by text, then by token, then by code, each once.
-use Rattle.std.specs.Prelude.{ℕ, Bool, nat_lt, ◌==◌, ◌&&◌, if◌then◌else◌, List, [], ◌∷◌}
+use Rattle.std.specs.Prelude.{Bool, nat_lt, ◌==◌, ◌&&◌, if◌then◌else◌, List, [], ◌∷◌}
 use Rattle.m2_base.specs.declared.notes.Diag.{Diag}
 
 -- one is listed before the other

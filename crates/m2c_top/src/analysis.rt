@@ -1,31 +1,36 @@
 //! What the analysis of a module finds: its declarations are analysed item after item, and their rows entered into the module's
-//! scope; then each name of its statements is searched there.
-ghost use Rattle.std.specs.Prelude.{◌≡◌, ◌≤◌, ◌^◌, ◌∷◌, ◌++◌, [], IfOk, OnOk};
+//! scope; then its statements are analysed there, and their code is made.
+ghost use Rattle.std.specs.Prelude.{◌≡◌, ◌≤◌, ◌^◌, ◌+◌, ◌||◌, ◌∷◌, ◌++◌, [], nat_lt, IfOk, OnOk};
 ghost use Rattle.m2_base.specs.States.{IsSound};
+ghost use Rattle.m2_base.specs.Statics.Blocks.{BlockTree};
+ghost use Rattle.m2_base.specs.Statics.Cells.{capped, most_cells};
+ghost use Rattle.m2_base.specs.Statics.Closing.{block_name};
+ghost use Rattle.m2_base.specs.Statics.Contexts.{Context};
 ghost use Rattle.m2_base.specs.Statics.Layouts.{layout_of};
 ghost use Rattle.m2_base.specs.Trees.{Stream};
 ghost use Rattle.scope_core.specs.PlainScopes.{started, state_of};
-ghost use Rattle.m2c_top.specs.Bindings.{own_chain, uses_of as spec_uses};
-ghost use Rattle.m2c_top.specs.Code.{cells_of};
-ghost use Rattle.m2c_top.specs.Diagnostics.{diags_of, noted_in, room_diags, use_diags};
+ghost use Rattle.stmt_sem.specs.BlockCode.{size_by};
+ghost use Rattle.stmt_sem.specs.Blocks.{whole_in, whole_of};
+ghost use Rattle.m2c_top.specs.Analyses.{IsFound};
+ghost use Rattle.m2c_top.specs.Diagnostics.{noted_in};
 ghost use Rattle.m2c_top.specs.Filled.{IsFilled, at_first, main_around, row_count as spec_count};
 ghost use Rattle.m2c_top.specs.Held.{IsHeld, held};
-ghost use Rattle.m2c_top.specs.Modules.{cells_in, tables_of};
-ghost use Rattle.m2c_top.specs.Uses.{body_uses};
+ghost use Rattle.m2c_top.specs.Modules.{body_in, cells_in, run_in};
 
-mod binding;
 mod declaring;
 
-use crate::analysis::binding::use_all;
 use crate::analysis::declaring::{Block, declare_block};
 use crate::diagnostic::{TOO_MANY_CELLS, diag_at};
 use crate::module::Module;
 use crate::ordering::put_in_order;
-use crate::plain::uses_of;
-use decl_sem::layout;
-use m2_base::{Around, Ask, Chain, Diag, Ident, Layout, Memory, Notes, Scopes, Texts};
+use decl_sem::{Effect, layout};
+use expr_sem::Piece;
+use m2_base::{
+    Around, Ask, Chain, Diag, Ident, Layout, Memory, Notes, ProcCode, Scopes, Site, Texts,
+};
 use scope_core::PlainScopes;
 use std::alloc::Global;
+use stmt_sem::{block, procedure_code};
 
 /// The number of standard rows.
 const STANDARD_ROWS: u32 = 37;
@@ -33,18 +38,16 @@ const STANDARD_ROWS: u32 = 37;
 /// A block has at most so many rows.
 const MOST_ROWS: u32 = 2_147_483_648;
 
-/// A module's variables have at most so many cells.
+/// A module's variables and its temporary cells are at most so many, and so are the bytes of its data.
 const MOST_CELLS: u32 = 16_777_215;
 
 /// What the analysis of a module finds.
 #[derive(Drop)]
-pub struct Analysis {
-    /// In the order in which they are listed.
-    pub diags: Vec<Diag>,
-    /// How many cells the variables have.
-    pub cells: u32,
-    /// The cells of the names that the statements use, in their order.
-    pub uses: Vec<u32>,
+pub enum Analysis {
+    /// The cells of its variables, and its code.
+    Sound(u32, ProcCode),
+    /// Its diagnostics, in the order in which they are listed.
+    Faulty(Vec<Diag>),
 }
 
 /// What surrounds a module that is a unit's only one.
@@ -81,61 +84,109 @@ fn scopes_for<'u>(alloc: Global, texts: &'u Texts, rows: u32) -> Result<PlainSco
     PlainScopes::new(alloc, texts, &[STANDARD_ROWS, rows])
 }
 
-/// Too many cells are told at the module's name.
-fn note_cells(name: Option<Ident>, cells: u32, diags: &mut Vec<Diag>) -> Result<(), Memory>
-    ensures { OnOk result (diags.new.items ≡ diags.old.items ++ room_diags name cells) }
-{
-    let Some(name) = name else {
-        return Ok(());
-    };
-    if cells > MOST_CELLS {
-        diags.push(diag_at(name.at, TOO_MANY_CELLS))?;
-    }
-    Ok(())
-}
-
-/// The cells of the names that the statements use.
-fn use_names<S: Scopes>(
+/// What the module's statements and its end make. Its declarations left it so many cells.
+fn make_code<S: Scopes>(
     alloc: Global,
     scopes: &mut S,
     module: &Module,
+    around: &Around,
+    cells: u32,
     notes: &mut Notes,
-) -> Result<Vec<u32>, Memory>
+) -> Result<Piece, Memory>
     requires held { IsHeld «module».now }
+    requires around { around.now ≡ main_around }
+    requires cells { cells ≡ cells_in (held «module».now) }
     requires sound { IsSound (S.state scopes.old) }
     requires filled { IsFilled (S.state scopes.old).frame «module».now }
-    ensures diags { OnOk result (notes.new.diags.items ≡ notes.old.diags.items ++ use_diags (held «module».now)) }
-    ensures cells { IfOk result (λ cells. cells.items ≡ cells_of (tables_of (held «module».now)) (body_uses «module».now.body.items)) }
+    ensures noted { OnOk result (notes.new.diags.items ≡ notes.old.diags.items ++ (body_in (held «module».now)).diags) }
+    ensures made { IfOk result (λ piece. whole_in piece ≡ whole_of (run_in (held «module».now))) }
 {
-    let names = uses_of(alloc, &module.body)?;
-    match use_all(alloc, scopes, &[1], &names, notes) {
-        Ok(Ask::Known(cells)) => Ok(cells),
+    let layout = Layout::new(alloc, Vec::new(alloc), Vec::new(alloc))?;
+    let site = Site {
+        texts: &module.texts,
+        around,
+        layout: &layout,
+        item: None,
+    };
+    let effect = Effect {
+        cell: cells,
+        prologue: Vec::new(alloc),
+        heading: None,
+    };
+    match block(alloc, scopes, &site, &module.tree, &effect, None, notes) {
+        Ok(Ask::Known(piece)) => Ok(piece),
         Ok(Ask::DontKnowYet(_)) => unreachable!(),
         Err(memory) => Err(memory),
     }
 }
 
-/// Analyses a module.
-pub fn analyse(alloc: Global, module: &Module) -> Result<Analysis, Memory>
-    requires { IsHeld «module».now }
-    ensures diags { IfOk result (λ found. found.diags.items ≡ diags_of (held «module».now)) }
-    ensures cells { IfOk result (λ found. found.cells ≡ cells_in (held «module».now)) }
-    ensures uses { IfOk result (λ found. found.uses.items ≡ cells_of (tables_of (held «module».now)) (body_uses «module».now.body.items)) }
+/// Whether the variables have too many cells with a body's temporary ones, or its data too many bytes.
+fn is_too_much(cells: u32, piece: &Piece) -> bool
+    ensures { result ≡ (nat_lt most_cells (capped (cells + piece.now.cell)) || nat_lt most_cells piece.now.byte) }
 {
-    let around = around_main(alloc)?;
+    cells.saturating_add(piece.cell) > MOST_CELLS || piece.byte > MOST_CELLS
+}
+
+/// Too many cells or bytes are told at the module's name.
+fn note_size(
+    name: Option<Ident>,
+    cells: u32,
+    piece: &Piece,
+    diags: &mut Vec<Diag>,
+) -> Result<(), Memory>
+    ensures { OnOk result ((c : Context) (b : BlockTree) → c.scene.block.text ≡ 0 → block_name b.tree ≡ name →
+        diags.new.items ≡ diags.old.items ++ size_by c b (capped (cells + piece.now.cell)) piece.now.byte) }
+{
+    let Some(name) = name else {
+        return Ok(());
+    };
+    if is_too_much(cells, piece) {
+        diags.push(diag_at(name.at, TOO_MANY_CELLS))?;
+    }
+    Ok(())
+}
+
+/// Analyses the block of a module: the cells of its variables, and what its statements make.
+fn analyse_block(
+    alloc: Global,
+    module: &Module,
+    around: &Around,
+    notes: &mut Notes,
+) -> Result<(u32, Piece), Memory>
+    requires held { IsHeld «module».now }
+    requires around { around.now ≡ main_around }
+    requires none { notes.old.diags.items ≡ [] }
+    ensures noted { OnOk result (notes.new.diags.items ≡ noted_in (held «module».now)) }
+    ensures cells { IfOk result (λ made. made.0 ≡ cells_in (held «module».now)) }
+    ensures made { IfOk result (λ made. whole_in made.1 ≡ whole_of (run_in (held «module».now))) }
+{
     let layout = layout(alloc, &module.tree)?;
     let rows = row_count(&layout)?;
     let mut scopes = scopes_for(alloc, &module.texts, rows)?;
-    let mut notes = Notes::new(alloc);
     let block = Block {
         compiled: module,
-        around: &around,
+        around,
         layout: &layout,
     };
     let cells = declare_block(alloc, &mut scopes, &block, &mut notes.diags)?;
-    note_cells(module.tree.name, cells, &mut notes.diags)?;
-    let uses = use_names(alloc, &mut scopes, module, &mut notes)?;
+    let piece = make_code(alloc, &mut scopes, module, around, cells, notes)?;
+    note_size(module.tree.name, cells, &piece, &mut notes.diags)?;
+    Ok((cells, piece))
+}
+
+/// Analyses a module. One without diagnostics has code.
+pub fn analyse(alloc: Global, module: &Module) -> Result<Analysis, Memory>
+    requires { IsHeld «module».now }
+    ensures { IfOk result (IsFound (held «module».now)) }
+{
+    let around = around_main(alloc)?;
+    let mut notes = Notes::new(alloc);
+    let (cells, piece) = analyse_block(alloc, module, &around, &mut notes)?;
     let Notes { mut diags, .. } = notes;
     put_in_order(&mut diags);
-    Ok(Analysis { diags, cells, uses })
+    if diags.is_empty() {
+        let code = procedure_code(alloc, &around, &module.tree, piece)?;
+        return Ok(Analysis::Sound(cells, code));
+    }
+    Ok(Analysis::Faulty(diags))
 }

@@ -18,7 +18,7 @@ const CLOSING_DIFFERS: u8 = 21;
 
 pub const OTHER_MODULE: u8 = 31;
 
-pub const UNKNOWN_NAME: u8 = 40;
+const UNKNOWN_NAME: u8 = 40;
 
 const USED_BEFORE: u8 = 41;
 
@@ -38,6 +38,8 @@ const NOT_A_VARIABLE: u8 = 48;
 
 const WRONG_OPERANDS: u8 = 49;
 
+const NOT_ASSIGNABLE: u8 = 50;
+
 const NO_SUCH_FIELD: u8 = 51;
 
 const NOT_AN_ARRAY: u8 = 52;
@@ -50,11 +52,19 @@ const WRONG_COUNT: u8 = 55;
 
 const WRONG_ARGUMENT: u8 = 56;
 
+const NOT_BOOLEAN: u8 = 57;
+
 const WRONG_LABEL: u8 = 58;
+
+const EXIT_OUTSIDE_LOOP: u8 = 59;
+
+const WRONG_RETURN: u8 = 60;
 
 const WRONG_INDEX: u8 = 61;
 
 pub const TOO_MANY_CELLS: u8 = 62;
+
+const NOT_A_CONTROL_VARIABLE: u8 = 63;
 
 const NOT_A_PROCEDURE_VALUE: u8 = 66;
 
@@ -90,15 +100,20 @@ pub fn text_of(code: u8) -> &'static str
         OUT_OF_RANGE => "value out of range",
         NOT_A_VARIABLE => "not a variable",
         WRONG_OPERANDS => "wrong operand types",
+        NOT_ASSIGNABLE => "not assignable",
         NO_SUCH_FIELD => "no such field",
         NOT_AN_ARRAY => "not an array",
         NOT_A_POINTER => "not a pointer",
         NOT_A_PROCEDURE => "not a procedure",
         WRONG_COUNT => "wrong number of arguments",
         WRONG_ARGUMENT => "wrong argument",
+        NOT_BOOLEAN => "not BOOLEAN",
         WRONG_LABEL => "wrong or repeated label",
+        EXIT_OUTSIDE_LOOP => "EXIT outside LOOP",
+        WRONG_RETURN => "wrong RETURN",
         WRONG_INDEX => "wrong index or set base",
         TOO_MANY_CELLS => "too many cells",
+        NOT_A_CONTROL_VARIABLE => "not a control variable",
         NOT_A_PROCEDURE_VALUE => "not a procedure value",
         NOT_A_RECORD => "not a record",
         _ => "result not scalar",

@@ -6,7 +6,6 @@
 #![tactic(auto)]
 
 mod analysis;
-mod code;
 mod command;
 mod diagnostic;
 mod laws;
@@ -14,10 +13,9 @@ mod listing;
 mod module;
 mod object;
 mod ordering;
-mod plain;
 mod status;
 mod top;
 mod verdict;
 
-pub use laws::{diagnostics_have_lines, one_outcome, refusals_have_lines};
+pub use laws::{diagnostics_have_lines, objects_are_valid, one_outcome, refusals_have_lines};
 pub use top::m2c;

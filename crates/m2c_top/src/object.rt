@@ -1,23 +1,55 @@
 //! The bytes of an object.
-ghost use Rattle.std.specs.Prelude.{◌≡◌, ◌++◌, ◌<◌, ◌≤◌, ◌^◌, length, IfOk, OnOk};
-ghost use Rattle.m2c_top.specs.Object.{counted as spec_counted, body_entry, object_of as spec_object};
+ghost use Rattle.std.specs.Prelude.{◌≡◌, ◌++◌, IfOk, OnOk};
+ghost use Rattle.stmt_sem.specs.ProcedureCodes.{code_view};
+ghost use Rattle.m2c_top.specs.Object.{number as spec_number, counted as spec_counted, frame_entry, procedure_entry, object_of as spec_object};
 
-use crate::code::push_number;
-use m2_base::Memory;
+use m2_base::{Memory, ProcCode};
 use std::alloc::Global;
 
-/// The object of a module with these cells, whose body reaches that height and has this code.
+/// Puts a number's four bytes at the end.
+fn push_number(bytes: &mut Vec<u8>, number: u32) -> Result<(), Memory>
+    ensures { OnOk result (bytes.new.items ≡ bytes.old.items ++ spec_number number) }
+{
+    bytes.extend_from_slice(&number.to_le_bytes())?;
+    Ok(())
+}
+
+/// The length of the bytes, and the bytes. More of them than numbers find no memory.
+fn push_counted(bytes: &mut Vec<u8>, counted: &[u8]) -> Result<(), Memory>
+    ensures { OnOk result (bytes.new.items ≡ bytes.old.items ++ spec_counted counted.now) }
+{
+    let Ok(length) = u32::try_from(counted.len()) else {
+        return Err(Memory);
+    };
+    push_number(bytes, length)?;
+    bytes.extend_from_slice(counted)?;
+    Ok(())
+}
+
+/// Outer, params, result, locals and high.
+fn push_frame(bytes: &mut Vec<u8>, code: &ProcCode) -> Result<(), Memory>
+    ensures { OnOk result (bytes.new.items ≡ bytes.old.items ++ frame_entry (code_view code.now)) }
+{
+    push_number(bytes, code.outer)?;
+    push_number(bytes, code.params)?;
+    push_number(bytes, code.result)?;
+    push_number(bytes, code.locals)?;
+    push_number(bytes, code.high)
+}
+
+/// The one procedure, with its data and its code.
+fn push_procedure(bytes: &mut Vec<u8>, code: &ProcCode) -> Result<(), Memory>
+    ensures { OnOk result (bytes.new.items ≡ bytes.old.items ++ procedure_entry (code_view code.now)) }
+{
+    push_frame(bytes, code)?;
+    push_counted(bytes, &code.bytes)?;
+    push_counted(bytes, &code.code)
+}
+
+/// The object of a module with these cells and this code.
 #[tactic(auto, unfolding(crate::specs::Object::object_of))]
-pub fn object_of(
-    alloc: Global,
-    name: &[u8],
-    cells: u32,
-    high: u32,
-    code: &[u8],
-) -> Result<Vec<u8>, Memory>
-    requires name { length name.now < 2 ^ 32 }
-    requires code { length code.now < 2 ^ 32 }
-    ensures { IfOk result (λ bytes. bytes.items ≡ spec_object name.now cells high code.now) }
+pub fn object_of(alloc: Global, name: &[u8], cells: u32, code: &ProcCode) -> Result<Vec<u8>, Memory>
+    ensures { IfOk result (λ bytes. bytes.items ≡ spec_object name.now cells (code_view code.now)) }
 {
     let mut bytes = b"M2OB".to_vec(alloc)?;
     push_number(&mut bytes, 1)?;
@@ -27,30 +59,6 @@ pub fn object_of(
     push_number(&mut bytes, 0)?;
     push_number(&mut bytes, 0)?;
     push_number(&mut bytes, 1)?;
-    push_body(&mut bytes, high, code)?;
+    push_procedure(&mut bytes, code)?;
     Ok(bytes)
-}
-
-/// The length of the bytes, and the bytes.
-fn push_counted(bytes: &mut Vec<u8>, counted: &[u8]) -> Result<(), Memory>
-    requires { length counted.now < 2 ^ 32 }
-    ensures { OnOk result (bytes.new.items ≡ bytes.old.items ++ spec_counted counted.now) }
-{
-    push_number(bytes, counted.len() as u32)?;
-    bytes.extend_from_slice(counted)?;
-    Ok(())
-}
-
-/// The one procedure: outer, params, result, locals, high, data and code.
-fn push_body(bytes: &mut Vec<u8>, high: u32, code: &[u8]) -> Result<(), Memory>
-    requires { length code.now < 2 ^ 32 }
-    ensures { OnOk result (bytes.new.items ≡ bytes.old.items ++ body_entry high code.now) }
-{
-    push_number(bytes, 0)?;
-    push_number(bytes, 0)?;
-    push_number(bytes, 0)?;
-    push_number(bytes, 0)?;
-    push_number(bytes, high)?;
-    push_counted(bytes, &[])?;
-    push_counted(bytes, code)
 }

@@ -5,28 +5,26 @@ ghost use Rattle.m2_io.specs.Files.{Files, front_of, with_file, HasPart};
 ghost use Rattle.m2_io.specs.Written.{with_bytes, WritesPart};
 ghost use Rattle.m2c_top.specs.Ending.{ended_as};
 ghost use Rattle.m2c_top.specs.Command.{is_name, IsNoCommand};
-ghost use Rattle.m2c_top.specs.Code.{cells_of};
 ghost use Rattle.m2c_top.specs.Delivery.{Answered, Delivered, PrintsFront, PrintsListing, PutsFront, PutsObject};
 ghost use Rattle.m2c_top.specs.Held.{IsHeld, held};
 ghost use Rattle.m2c_top.specs.Limits.{limit_text};
 ghost use Rattle.m2c_top.specs.Listing.{listing as spec_listing};
-ghost use Rattle.m2c_top.specs.Object.{object_bytes};
+ghost use Rattle.stmt_sem.specs.ProcedureCodes.{code_view};
+ghost use Rattle.m2c_top.specs.Object.{object_of as spec_object};
 ghost use Rattle.m2c_top.specs.Outcome.{AsksToCompile, Commands, line, text_name, object_name, Compiles, Gives, LacksText, HasTooMuchText, HasDiagnostics, HasSoundText, HasOtherText, Leaves, PrintsPart, PutsPart, KeepsButObject};
 ghost use Rattle.m2c_top.specs.Statuses.{status_number, IsFault, IsStatus, IsAnswer, Exactly};
-ghost use Rattle.m2c_top.specs.Modules.{Module as SpecModule, cells_in, tables_of};
-ghost use Rattle.m2c_top.specs.Uses.{body_uses};
+ghost use Rattle.m2c_top.specs.Modules.{Module as SpecModule};
 ghost use Rattle.m2c_top.specs.Verdicts.{decision_of, HoldsModule};
 ghost use Rattle.m2c_top.specs.declared.verdict.Limit.{Limit as SpecLimit};
 
 use crate::analysis::{Analysis, analyse};
-use crate::code::{body_code, body_high};
 use crate::command::module_to_compile;
 use crate::listing::listing;
 use crate::module::Module;
 use crate::object::object_of;
 use crate::status::Status;
 use crate::verdict::{Limit, MOST_BYTES, Verdict, decide};
-use m2_base::{Diag, Memory, Token};
+use m2_base::{Diag, Memory, ProcCode, Token};
 use m2_io::{Gate, Shelf, ShelfError, Sink, SinkError, Source, write_all};
 use std::alloc::{AllocError, Global};
 
@@ -88,50 +86,21 @@ fn read_text<H: Shelf>(alloc: Global, name: &str, shelf: &mut H) -> Result<Optio
     }
 }
 
-/// The object of a module with these cells, whose statements use variables with those, in text order.
-fn object_for(
-    alloc: Global,
-    name: &str,
-    source: &Module,
-    cells: u32,
-    uses: &[u32],
-) -> Result<Vec<u8>, Memory>
-    requires name { length name.now ≤ 64 }
-    requires held { IsHeld source.now }
-    requires cells { cells ≡ cells_in (held source.now) }
-    requires uses { uses.now ≡ cells_of (tables_of (held source.now)) (body_uses source.now.body.items) }
-    ensures { IfOk result (λ bytes. bytes.items ≡ object_bytes name.now (held source.now)) }
-{
-    let body = source.body.as_slice();
-    let code = body_code(alloc, uses, body)?;
-    object_of(
-        alloc,
-        name.as_bytes(),
-        cells,
-        body_high(body),
-        code.as_slice(),
-    )
-}
-
-/// Puts the module's object on the shelf.
+/// Puts the object of a module with these cells and this code on the shelf.
 fn write_object<H: Shelf>(
     alloc: Global,
     name: &str,
-    source: &Module,
-    found: &Analysis,
+    cells: u32,
+    code: &ProcCode,
     shelf: &mut H,
 ) -> Result<(), Stop>
-    requires name { IsTrue (is_name name.now) }
-    requires held { IsHeld source.now }
-    requires cells { found.now.cells ≡ cells_in (held source.now) }
-    requires uses { found.now.uses.items ≡ cells_of (tables_of (held source.now)) (body_uses source.now.body.items) }
-    ensures ok { OnOk result (H.holds shelf.new ≡ with_file (H.holds shelf.old) (object_name name.now) (object_bytes name.now (held source.now))) }
-    ensures part { IsErrOf result Stop.Write → HasPart (H.holds shelf.old) (object_name name.now) (object_bytes name.now (held source.now)) (H.holds shelf.new) }
+    ensures ok { OnOk result (H.holds shelf.new ≡ with_file (H.holds shelf.old) (object_name name.now) (spec_object name.now cells (code_view code.now))) }
+    ensures part { IsErrOf result Stop.Write → HasPart (H.holds shelf.old) (object_name name.now) (spec_object name.now cells (code_view code.now)) (H.holds shelf.new) }
     ensures memory { IsErrOf result Stop.Memory → H.holds shelf.new ≡ H.holds shelf.old }
     ensures write { IsErrOf result Stop.Write → Rose (H.put_faults shelf.old) (H.put_faults shelf.new) }
     ensures no_read { IsErrOf result Stop.Read → ⊥ }
 {
-    let object = object_for(alloc, name, source, found.cells, found.uses.as_slice())?;
+    let object = object_of(alloc, name.as_bytes(), cells, code)?;
     let target = format!(in alloc; "{name}.m2o")?;
     match shelf.put(alloc, target.as_str(), object.as_slice()) {
         Ok(()) => Ok(()),
@@ -176,15 +145,17 @@ fn deliver<H: Shelf, P: Sink>(
     ensures no_read { IsErrOf result Stop.Read → ⊥ }
     ensures write { IsErrOf result Stop.Write → Rose (H.put_faults shelf.old) (H.put_faults shelf.new) ⊎ Rose (P.faults print.old) (P.faults print.new) }
 {
-    let found = analyse(alloc, source)?;
-    let diags = found.diags.as_slice();
-    if diags.is_empty() {
-        write_object(alloc, name, source, &found, shelf)?;
-        return Ok(Status::Done);
+    match analyse(alloc, source)? {
+        Analysis::Sound(cells, code) => {
+            write_object(alloc, name, cells, &code, shelf)?;
+            Ok(Status::Done)
+        }
+        Analysis::Faulty(diags) => {
+            let tokens = source.texts.main().tokens.as_slice();
+            print_listing(alloc, name, tokens, diags.as_slice(), print)?;
+            Ok(Status::Diagnosed)
+        }
     }
-    let tokens = source.texts.main().tokens.as_slice();
-    print_listing(alloc, name, tokens, diags, print)?;
-    Ok(Status::Diagnosed)
 }
 
 /// Prints the line that goes with the status.

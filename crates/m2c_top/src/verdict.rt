@@ -1,19 +1,19 @@
 //! What is decided of a main text: a limit that it passes, a form that isn't built yet, what it is refused for, or the module
 //! that is compiled.
-ghost use Rattle.std.specs.Prelude.{◌≡◌, ◌≤◌, length, vec_len, IfOk, IfSome, MatchOption, IsTrue, Ok};
+ghost use Rattle.std.specs.Prelude.{◌≡◌, ◌≤◌, length, vec_len, IfOk, IfSome, MatchOption, IsTrue};
 ghost use Rattle.m2_base.specs.Tokens.{AreTokens};
 ghost use Rattle.m2_base.specs.Units.{IsUnit};
 ghost use Rattle.m2_base.specs.Views.{stream_view};
 ghost use Rattle.m2_lex.specs.Faults.{HasTooMany};
 ghost use Rattle.m2_lex.specs.LoneTexts.{one_text};
 ghost use Rattle.m2_parse.specs.Fitting.{names_fit};
-ghost use Rattle.m2c_top.specs.Decisions.{Answers, Decides, IsBuilt, NamesOther, decision_for, begins_with as spec_begins_with, has_unbuilt as spec_has_unbuilt, is_of as spec_is_of, is_unbuilt as spec_is_unbuilt, other_name_at};
+ghost use Rattle.m2c_top.specs.Decisions.{Decides, IsBuilt, NamesOther, decision_for, module_of as spec_module, begins_with as spec_begins_with, has_unbuilt as spec_has_unbuilt, is_of as spec_is_of, is_unbuilt as spec_is_unbuilt, other_name_at};
 ghost use Rattle.m2c_top.specs.Names.{is_named as spec_named, number_of as spec_number};
-ghost use Rattle.m2c_top.specs.Verdicts.{decision_of, HoldsModule, IsModuleOrNot};
+ghost use Rattle.m2c_top.specs.Held.{CanBeHeld, IsHeld, held};
+ghost use Rattle.m2c_top.specs.Verdicts.{decision_of, HoldsModule};
 
 use crate::diagnostic::{OTHER_MODULE, diag_at};
 use crate::module::Module;
-use crate::plain::body_of;
 use m2_base::{
     Diag, Ident, Memory, Names, Stream, StreamFault, StreamKind, Text, Texts, Token, TokenKind,
 };
@@ -129,7 +129,7 @@ fn decide_built(
         return Ok(Verdict::Refused(tokens, diag_at(at, OTHER_MODULE)));
     }
     match parse_stream(alloc, tokens.as_slice(), 0, StreamKind::Main) {
-        Ok(tree) => module_or_not(alloc, text, names, tokens, tree),
+        Ok(tree) => Ok(Verdict::ToCompile(module_of(alloc, names, tokens, tree)?)),
         Err(ParseFault::Fault(fault)) => Ok(verdict_for(tokens, fault)),
         Err(ParseFault::Memory) => Err(Memory),
     }
@@ -182,25 +182,19 @@ fn verdict_for(tokens: Vec<Token>, fault: StreamFault) -> Verdict
     }
 }
 
-/// The module of a text with this tree, or a body that isn't compiled yet.
-fn module_or_not(
+/// The module of a text with this tree.
+fn module_of(
     alloc: Global,
-    text: &[u8],
     names: Names,
     tokens: Vec<Token>,
     tree: Stream,
-) -> Result<Verdict, Memory>
-    requires built { IsBuilt text.now (record { names = names; tokens = tokens.items }) }
-    requires spelled { Answers tokens.items (Ok (stream_view tree)) }
-    ensures decision { IfOk result (λ verdict. IsModuleOrNot text.now (record { names = names; tokens = tokens.items }) (stream_view tree) (decision_of verdict)) }
-    ensures held { IfOk result HoldsModule }
+) -> Result<Module, Memory>
+    requires { CanBeHeld (record { names = names; tokens = tokens.items }) (stream_view tree) }
+    ensures module { IfOk result (λ made. held made ≡ spec_module (record { names = names; tokens = tokens.items }) (stream_view tree)) }
+    ensures held { IfOk result (λ made. IsHeld made) }
 {
-    let Some(body) = body_of(alloc, text, tokens.as_slice(), &tree)? else {
-        return Ok(Verdict::NotBuilt);
-    };
-    let _countable = names.count();
     let texts = unit_of(alloc, names, number_of(tree.name), tokens)?;
-    Ok(Verdict::ToCompile(Module { texts, tree, body }))
+    Ok(Module { texts, tree })
 }
 
 /// The number of a module's name.

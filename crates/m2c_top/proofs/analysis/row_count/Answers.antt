@@ -1,4 +1,4 @@
-use Rattle.std.proofs.Common.{◌≡◌, ◌∙◌, ap, sym}
+use Rattle.std.proofs.Common.{◌∙◌, ap, sym}
 use Rattle.m2_base.specs.Statics.Layouts.{Layout}
 use Rattle.m2c_top.proofs.RowCounts.{last_first}
 use Rattle.m2c_top.proofs.analysis.row_count.Goals as goal

@@ -1,13 +1,11 @@
-use Rattle.std.proofs.Common.{◌≡◌, ◌⊎◌, inl, inr, ℕ, ◌==◌, ◌<◌, Bool, true, false, ◌&&◌, refl, sym, ap, subst, ◌∙◌, arith}
-use Rattle.std.proofs.lemmas.Bool.{false≢true}
+use Rattle.std.proofs.Common.{◌≡◌, inl, inr, ℕ, true, sym, ap, ◌∙◌, arith}
 use Rattle.std.proofs.lemmas.List.Filters.{dedup_is}
 use Rattle.std.specs.Cmp.{nat_cmp_is}
 use Rattle.std.specs.Ordering.{is_lt, nat_cmp, ordering_then}
 use Rattle.std.specs.declared.cmp.Ordering.{Ordering}
 use Rattle.std.specs.declared.cmp.Ordering.TheVariants.{Less, Equal}
-use Rattle.m2_base.specs.declared.notes.Diag.{Diag}
 use Rattle.m2c_top.proofs.OneOrder.{AreTests, put_in_order}
-use Rattle.m2c_top.proofs.Orders.{Before, Lower, same_self, same_by_fields}
+use Rattle.m2c_top.proofs.Orders.{Lower, same_by_fields}
 use Rattle.m2_base.specs.contracts.notes.DiagOrd as ord
 use Rattle.m2_base.specs.contracts.notes.DiagPartialEq as eq
 use Rattle.m2c_top.proofs.ordering.put_in_order.Goals as goal

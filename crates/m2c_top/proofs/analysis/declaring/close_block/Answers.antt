@@ -1,4 +1,4 @@
-use Rattle.std.proofs.Common.{◌≡◌, ◌∙◌, ◌++◌, List, ap}
+use Rattle.std.proofs.Common.{◌∙◌, ◌++◌, List, ap}
 use Rattle.m2_base.specs.declared.notes.Diag.{Diag}
 use Rattle.m2c_top.proofs.WholeBlocks.{all_noted}
 use Rattle.m2c_top.proofs.analysis.declaring.close_block.Goals as goal

@@ -1,4 +1,4 @@
-use Rattle.std.proofs.Common.{◌≡◌, ◌∙◌, ◌++◌, List, refl, sym, ap}
+use Rattle.std.proofs.Common.{◌∙◌, ◌++◌, List, refl, sym, ap}
 use Rattle.m2_base.specs.declared.notes.Diag.{Diag}
 use Rattle.m2c_top.proofs.ItemSteps.{at_declaration, item_declared, item_enters, item_noted, on_ok, where_ok}
 use Rattle.m2c_top.proofs.analysis.declaring.declare_item.Goals as goal
