@@ -1,13 +1,14 @@
 #!/usr/bin/env python3
 """Writes tables of command_tests: modules with what another compiler answers to them.
 
-usage: declaration_tables.py CASES.jsonl FOLDER NAME [ROWS]
+usage: declaration_tables.py CASES.jsonl FOLDER NAME [ROWS [BODIES]]
 
 A line of CASES.jsonl is a module: its name as `main`, its files, and under `first` its status, what is printed, and the bytes of
 the object in hexadecimal. A module is taken where all that is asked of it is what stands in its declarations: its text alone,
 no token IMPORT or IMPLEMENTATION or PROCEDURE before a name, and a body of empty statements, or a text that has a fault of its
-own, which alone is listed then. FOLDER is that of the tests (crates/command_tests/src/of_declarations); the files there are
-NAME_1 and so on, and each holds ROWS rows, 45 if left out.
+own, which alone is listed then. With BODIES the first so many modules with statements are taken in their place. FOLDER is that
+of the tests (crates/command_tests/src/of_declarations, or of_statements with BODIES); the files there are NAME_1 and so on, and
+each holds ROWS rows, 45 if left out.
 A row is one literal, since tables of tuples cost the check far more: the text, an empty line, and then what is listed, or
 the name of the object and its bytes. Run `rt fmt` in the crate afterwards.
 """
@@ -56,12 +57,22 @@ def has_empty_body(found):
     return "BEGIN" not in found or set(found[found.index("BEGIN") + 1:-3]) <= {";"}
 
 
-def is_taken(case):
-    if len(case["files"]) > 1:
-        return False
-    found = words(case["files"][case["main"] + ".mod"])
+def has_one_block(case):
+    return len(case["files"]) == 1 and is_alone(words(case["files"][case["main"] + ".mod"]))
+
+
+def has_declarations_alone(case):
+    """Whether all that is asked of a module of one block stands in its declarations, or a fault of its own is listed alone."""
     printed = case["first"]["printed"].split()
-    return is_alone(found) and (has_empty_body(found) or printed[1:2] and printed[1] in FAULTS)
+    return has_empty_body(words(case["files"][case["main"] + ".mod"])) or printed[1:2] and printed[1] in FAULTS
+
+
+def taken(cases, bodies):
+    """The modules of declarations alone, or so many with statements where their number is told."""
+    modules = list(filter(has_one_block, cases))
+    if bodies == 0:
+        return list(filter(has_declarations_alone, modules))
+    return [case for case in modules if not has_declarations_alone(case)][:bodies]
 
 
 def answer(case):
@@ -90,7 +101,7 @@ def row(case):
 
 
 def main():
-    tables.write(sys.argv[3], int(tables.word(4, 45)), list(filter(is_taken, tables.cases())),
+    tables.write(sys.argv[3], int(tables.word(4, 45)), taken(tables.cases(), int(tables.word(5, 0))),
                  "//! Modules %d to %d with what another compiler answers. Written by tools/declaration_tables.py.\n",
                  tables.TEXTS, row, tables.TEXTS_END)
 

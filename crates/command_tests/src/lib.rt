@@ -9,3 +9,5 @@ mod of_declarations;
 mod of_m2_io;
 #[cfg(test)]
 mod of_m2c_top;
+#[cfg(test)]
+mod of_statements;

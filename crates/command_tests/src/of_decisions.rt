@@ -80,29 +80,6 @@ fn decides_in_order(rt: HostRuntime) -> Result<(), Fail> {
             1,
             "A.mod:1:21: 13 number too large\n",
         ),
-        // A body with another statement than an empty one is compiled where the text is plain.
-        ("MODULE A; BEGIN RETURN END A.", 11, NOT_BUILT),
-        ("MODULE A; BEGIN ; RETURN ; END A.", 11, NOT_BUILT),
-        (
-            "MODULE A; VAR x: INTEGER; BEGIN x := (1) END A.",
-            11,
-            NOT_BUILT,
-        ),
-        (
-            "MODULE A; VAR x: CARDINAL; BEGIN x := 1 END A.",
-            11,
-            NOT_BUILT,
-        ),
-        (
-            "MODULE A; CONST c = 1; VAR x: INTEGER; BEGIN x := c END A.",
-            11,
-            NOT_BUILT,
-        ),
-        (
-            "MODULE A; TYPE VAR x: INTEGER; BEGIN x := 1 END A.",
-            11,
-            NOT_BUILT,
-        ),
     ];
     for (text, status, printed) in table {
         let found = compiled(alloc, text.as_bytes())?;
@@ -198,7 +175,7 @@ fn nested(alloc: Global, pairs: usize) -> Result<Vec<u8>, AllocError> {
 fn tells_limits(rt: HostRuntime) -> Result<(), Fail> {
     let alloc = rt.alloc();
     let deepest = compiled(alloc, nested(alloc, 98)?.as_slice())?;
-    assert_eq!(rt; deepest.0, 11);
+    assert_eq!(rt; deepest.0, 0);
     let deeper = compiled(alloc, nested(alloc, 99)?.as_slice())?;
     assert_eq!(rt; deeper.0, 7);
     assert!(rt; deeper.1.as_slice() == b"limit nesting 100\n".as_slice());

@@ -90,7 +90,7 @@ fn answer(alloc: Global, name: &str, left: Left) -> Result<String, Fail> {
 }
 
 /// Whether the texts have the answers of the table.
-fn agrees(rt: &impl Abort, alloc: Global, rows: &[&str]) -> Result<(), Fail> {
+pub fn agrees(rt: &impl Abort, alloc: Global, rows: &[&str]) -> Result<(), Fail> {
     for row in rows {
         let (text, expected) = row.rsplit_once("\n\n").ok_or("no answer")?;
         let (name, _) = expected.split_once('.').ok_or("no name")?;

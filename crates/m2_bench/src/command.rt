@@ -9,7 +9,7 @@ pub const USAGE: &str =
     "usage: m2_bench [lex KIND BYTES | cut PROCEDURES | parse SHAPE TOKENS | compile MODULE SIZE | read OBJECT BYTES | run LOOP TIMES], \
     where KIND is ordinary, names, digits, blanks or symbols, \
     SHAPE is statements, semicolons, operators, names, brackets or loops, \
-    MODULE is assignments, with SIZE in bytes, or declarations, with SIZE at most 80000 of them, \
+    MODULE is assignments, with SIZE in bytes, or declarations, statements or nested, with SIZE at most 80000, 100000 or 16000 of them, \
     OBJECT is flat, deep, long or short, \
     LOOP is add, index or call, \
     BYTES and TOKENS are at most 1048576, and of an object 67108864, PROCEDURES at most 16384, and TIMES at most 100000000";

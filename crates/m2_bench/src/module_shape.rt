@@ -12,6 +12,10 @@ pub enum ModuleShape {
     Assignments,
     /// Constants, types and variables in one scope, each with a name of its own. It is measured by its declarations.
     Declarations,
+    /// Assignments to one variable, one behind the other. It is measured by its statements.
+    Statements,
+    /// Loops within one another, as deep as loops can be with an assignment inside. It is measured by its statements.
+    Nested,
 }
 
 /// The most bytes of a text.
@@ -20,6 +24,15 @@ const MOST_BYTES: u32 = 1_048_576;
 /// The most declarations, of 12 bytes each.
 const MOST_DECLARATIONS: u32 = 80_000;
 
+/// The most statements of a body, of 8 bytes each.
+const MOST_STATEMENTS: u32 = 100_000;
+
+/// The most statements of a body of nested ones, of some 17 bytes each.
+const MOST_NESTED: u32 = 16_000;
+
+/// How many loops lie within one another round an assignment.
+const LOOPS: u32 = 98;
+
 /// The bytes of a module without variables.
 const FRAME_BYTES: u32 = 27;
 
@@ -27,12 +40,19 @@ const FRAME_BYTES: u32 = 27;
 const VARIABLE_BYTES: u32 = 43;
 
 impl ModuleShape {
-    pub const ALL: [ModuleShape; 2] = [ModuleShape::Assignments, ModuleShape::Declarations];
+    pub const ALL: [ModuleShape; 4] = [
+        ModuleShape::Assignments,
+        ModuleShape::Declarations,
+        ModuleShape::Statements,
+        ModuleShape::Nested,
+    ];
 
     fn name(self) -> &'static str {
         match self {
             ModuleShape::Assignments => "assignments",
             ModuleShape::Declarations => "declarations",
+            ModuleShape::Statements => "statements",
+            ModuleShape::Nested => "nested",
         }
     }
 
@@ -41,6 +61,8 @@ impl ModuleShape {
         match self {
             ModuleShape::Assignments => MOST_BYTES,
             ModuleShape::Declarations => MOST_DECLARATIONS,
+            ModuleShape::Statements => MOST_STATEMENTS,
+            ModuleShape::Nested => MOST_NESTED,
         }
     }
 
@@ -50,6 +72,8 @@ impl ModuleShape {
         match self {
             ModuleShape::Assignments => push_variables_with_assignments(&mut text, size)?,
             ModuleShape::Declarations => push_declarations(&mut text, size)?,
+            ModuleShape::Statements => push_statements(&mut text, size)?,
+            ModuleShape::Nested => push_nested(&mut text, size)?,
         }
         text.push_str("END A.\n")?;
         Ok(text)
@@ -101,6 +125,35 @@ fn push_section(
 ) -> Result<(), AllocError> {
     for number in 0..declarations {
         writeln!(text, "{letter}{number:05}{same};")?;
+    }
+    Ok(())
+}
+
+/// So many assignments to one variable.
+fn push_statements(text: &mut String, statements: u32) -> Result<(), AllocError> {
+    text.push_str("VAR x: INTEGER;\nBEGIN\n")?;
+    for _ in 0..statements {
+        text.push_str("x:=x+1;\n")?;
+    }
+    Ok(())
+}
+
+/// About so many statements: towers of loops within one another, each round an assignment.
+fn push_nested(text: &mut String, statements: u32) -> Result<(), AllocError> {
+    text.push_str("VAR x: INTEGER;\nBEGIN\n")?;
+    for _ in 0..statements / (LOOPS + 1) {
+        push_times(text, LOOPS, "WHILE x<9 DO ")?;
+        text.push_str("x:=x+1")?;
+        push_times(text, LOOPS, " END")?;
+        text.push_str(";\n")?;
+    }
+    Ok(())
+}
+
+/// The same so many times.
+fn push_times(text: &mut String, times: u32, same: &str) -> Result<(), AllocError> {
+    for _ in 0..times {
+        text.push_str(same)?;
     }
     Ok(())
 }
