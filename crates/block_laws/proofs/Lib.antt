@@ -13,4 +13,16 @@ pub mod Lone
 pub mod Named
 pub mod LoneUnits
 pub mod Units
+pub mod Chains
+pub mod Links
+pub mod BlocksAt
+pub mod WorldCells
+pub mod OwnCalls
+pub mod WorldCalls
+pub mod UnitWorlds
+pub mod ValidUnits
+pub mod Implemented
+pub mod NamedHeadings
+pub mod CodeIsValid
 pub mod StatementsRead
+pub mod MainBlocks

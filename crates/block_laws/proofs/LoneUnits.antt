@@ -82,7 +82,7 @@ none-in [] h stream f i = i
 none-in (x ∷ items) h stream f (inl e) = subst IsPlainItem (sym e) f.0
 none-in (x ∷ items) h stream f (inr i) = none-in items h stream f.1 i
 
-standard-of-lone : Each (λ r. IsOfLone 0 1 (row_meaning r)) standard_rows
+pub standard-of-lone : Each (λ r. IsOfLone 0 1 (row_meaning r)) standard_rows
 standard-of-lone = (tt, (tt, (tt, (tt, (tt, (tt, (tt, (tt, (tt, (tt, (tt, (tt, (tt, (tt, (tt, (tt, (tt, (tt, (tt, (tt, (tt, (tt, (tt, (tt, (tt, (tt, (tt, (tt, (tt, (tt, (tt, (tt, (tt, (tt, (tt, (tt, (tt, tt)))))))))))))))))))))))))))))))))))))
 
 row-of-lone : (Q : Heading → Place → Type 0) (source : Source) (tree : Stream) (notes : List HeadingNote) → Each IsPlainItem (items_of tree) → (m : RowMeaning)

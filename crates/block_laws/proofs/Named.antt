@@ -43,7 +43,7 @@ use Rattle.block_laws.proofs.Statements.{block-f, copy_instrs}
 
 -- ** The size of a block without diagnostics
 
-tail-none : {A : Type 0} (xs ys : List A) → xs ++ ys ≡ [] → ys ≡ []
+pub tail-none : {A : Type 0} (xs ys : List A) → xs ++ ys ≡ [] → ys ≡ []
 tail-none [] ys e = e
 tail-none (x ∷ xs) ys e = absurd cc
 
@@ -58,7 +58,7 @@ not_told c true None i f e = absurd cc
 not_told c true (Some j) i f e = absurd cc
 not_told c false name i f e = refl
 
-small : (c : Context) (b : BlockTree) (cells bytes : ℕ) (i : Ident) → block_name b.tree ≡ Some i → size_by c b cells bytes ≡ [] → (cells ≤ most_cells) × (bytes ≤ most_cells)
+pub small : (c : Context) (b : BlockTree) (cells bytes : ℕ) (i : Ident) → block_name b.tree ≡ Some i → size_by c b cells bytes ≡ [] → (cells ≤ most_cells) × (bytes ≤ most_cells)
 small c b cells bytes i named h =
     let t = neither (nat_lt most_cells cells) (nat_lt most_cells bytes) (not_told c (nat_lt most_cells cells || nat_lt most_cells bytes) (block_name b.tree) i named h) in
     (ltb-false most_cells cells t.0, ltb-false most_cells bytes t.1)
@@ -69,7 +69,7 @@ pub record HasRoom (e : BlockEffects) (r : Run) : Type 0 where
   pub cells : r.next.cell ≤ most_cells
   pub bytes : r.next.byte ≤ most_cells
 
-room : (c : Context) (b : BlockTree) (kind : StreamKind) (e : BlockEffects) (r : Run) (i : Ident) → HasCode kind → block_name b.tree ≡ Some i → first_cell kind e.cell ≤ r.next.cell → size_diags c b kind e r ≡ [] → HasRoom e r
+pub room : (c : Context) (b : BlockTree) (kind : StreamKind) (e : BlockEffects) (r : Run) (i : Ident) → HasCode kind → block_name b.tree ≡ Some i → first_cell kind e.cell ≤ r.next.cell → size_diags c b kind e r ≡ [] → HasRoom e r
 room c b Main e r i k named f h =
     let s = small c b (capped (e.cell + r.next.cell)) r.next.byte i named h in
     let x = s.0 in record { own = omega (arith, x); cells = omega (arith, x); bytes = s.1 }

@@ -36,7 +36,7 @@ by_test P false x y h k = k refl
 abbrev pub IsEntry : (seen : ℕ → Type 0) → Scene → Entry → Type 0
 IsEntry seen scene e = (row_meaning e.1 ≡ Broken) ⊎ (seen e.0.scope × (slice_get (rows_at scene.tables e.0.scope) e.0.ordinal ≡ Some e.1))
 
-named_at : (name : ℕ) (xs : List Row) (k : ℕ) (hit : ℕ × Row) → first_named name xs k ≡ Some hit → (j : ℕ) × (hit.0 ≡ k + j) × (slice_get xs j ≡ Some hit.1)
+pub named_at : (name : ℕ) (xs : List Row) (k : ℕ) (hit : ℕ × Row) → first_named name xs k ≡ Some hit → (j : ℕ) × (hit.0 ≡ k + j) × (slice_get xs j ≡ Some hit.1)
 named_at name [] k hit e = absurd (cc)
 named_at name (r ∷ xs) k hit e = by_name (r.name == name) (named_at name xs (k + 1) hit) e
   where

@@ -1,5 +1,5 @@
 //! Laws on the definitions, each the contract of a function that does nothing.
-ghost use Rattle.std.specs.Prelude.{◌≡◌, ℕ, ◌≤◌, List, [], ◌∷◌};
+ghost use Rattle.std.specs.Prelude.{◌≡◌, ℕ, ◌-◌, ◌≤◌, List, [], ◌∷◌};
 ghost use Rattle.ll_grammar.specs.Texts.{Spells};
 ghost use Rattle.code_form.specs.Modules.{World};
 ghost use Rattle.code_form.specs.Valid.{IsValidCode};
@@ -7,9 +7,11 @@ ghost use Rattle.m2_base.specs.declared.rows.Row.{Row};
 ghost use Rattle.m2_base.specs.Grammar.{grammar, levels, stream};
 ghost use Rattle.m2_base.specs.Lists.{Each};
 ghost use Rattle.m2_base.specs.Standard.{standard_rows};
-ghost use Rattle.m2_base.specs.Statics.Blocks.{BlockTree, UnitTrees, blocks_of, main_block};
+ghost use Rattle.m2_base.specs.Statics.Blocks.{BlockTree, UnitTrees, blocks_of, home_of, main_block};
+ghost use Rattle.m2_base.specs.Statics.UnitNotes.{complete_context};
 ghost use Rattle.m2_base.specs.Statics.UnitRows.{unit_rows};
-ghost use Rattle.m2_base.specs.Statics.ReadTrees.{IsReadToken};
+ghost use Rattle.m2_base.specs.Statics.ReadTrees.{IsReadItem, IsReadToken};
+ghost use Rattle.m2_base.specs.Statics.Items.{items_of};
 ghost use Rattle.m2_base.specs.StreamsOf.{stream_of};
 ghost use Rattle.m2_base.specs.Trees.{Stream};
 ghost use Rattle.m2_base.specs.declared.token.Token.{Token};
@@ -20,11 +22,15 @@ ghost use Rattle.stmt_sem.specs.BlockCode.{block_code, block_diags};
 ghost use Rattle.stmt_sem.specs.Lengths.{most_tokens};
 ghost use Rattle.stmt_sem.specs.Tokens.{block_tokens};
 ghost use Rattle.stmt_sem.specs.Places.{OthersInRange, block_steps};
+ghost use Rattle.block_laws.specs.Headings.{HasSoundHeadings};
 ghost use Rattle.block_laws.specs.Lone.{IsLone, IsLoneTree, lone_unit, lone_world};
 ghost use Rattle.block_laws.specs.Named.{BlockNamesThere, procedure_of};
 ghost use Rattle.block_laws.specs.ReadStatements.{AreReadStatements};
 ghost use Rattle.row_laws.specs.RowRanges.{BlockInRange, EachBlock, IsSoundUnit};
-ghost use Rattle.block_laws.specs.Sight.{IsInSight};
+ghost use Rattle.block_laws.specs.Sight.{IsInSight, Sees};
+ghost use Rattle.block_laws.specs.Worlds.{HasItsBlocks, unit_world};
+ghost use Rattle.block_laws.specs.MainBlocks.{IsMainBlock};
+ghost use Rattle.row_laws.specs.TextTrees.{AreOfTexts};
 
 /// The statements of a stream are as read, where the tokens are that spell its tree.
 pub fn statements_are_read()
@@ -60,4 +66,21 @@ pub fn lone_code_is_valid()
         let p = procedure_of (block_code source (standard_rows ∷ []) (unit_rows u) b) in
         IsSoundUnit names u → IsLoneTree tree → AreReadStatements names tree.body → block_tokens tree ≤ most_tokens
         → block_diags source (standard_rows ∷ []) (unit_rows u) b ≡ [] → IsValidCode (lone_world (declare_block source (standard_rows ∷ []) b).value.cell p) 0 p }
+{}
+
+/// The code of each block of a unit's main text is valid in the unit's world where no block has a diagnostic: the unit's trees
+/// are sound and read, and their blocks have their forms and their procedures. Asked beside is what else holds then: of an
+/// implementation module, that no parameter of the headings is in error; of each block, that its rows lead to scopes in sight.
+pub fn code_is_valid()
+    ensures { (names : List (List ℕ)) (u : UnitTrees) → IsSoundUnit names u → HasItsBlocks u → Each (λ b. AreReadStatements names b.tree.body) (blocks_of u) → Each (λ b. block_tokens b.tree ≤ most_tokens) (blocks_of u)
+        → EachBlock (λ before b. block_diags u.source before (unit_rows u) b ≡ []) u.source (standard_rows ∷ []) (blocks_of u)
+        → HasSoundHeadings u → Each (λ b. Each (IsReadItem names) (items_of b.tree)) (blocks_of u) → Each (λ b. home_of u ≤ b.block.scope → Sees (IsInSight b.block) (complete_context u.source (unit_rows u) b.block).scene) (blocks_of u)
+        → EachBlock (λ before b. home_of u ≤ b.block.scope → IsValidCode (unit_world u) (b.block.scope - home_of u) (procedure_of (block_code u.source before (unit_rows u) b))) u.source (standard_rows ∷ []) (blocks_of u) }
+{}
+
+/// Each block of a unit's main text has code and a name, and what its code copies first stands below its temporary cells. What any
+/// block sees leads to what it sees.
+pub fn main_blocks_are_coded()
+    ensures coded { (names : List (List ℕ)) (u : UnitTrees) → IsSoundUnit names u → AreOfTexts u → EachBlock (λ before b. home_of u ≤ b.block.scope → IsMainBlock u.source before b) u.source (standard_rows ∷ []) (blocks_of u) }
+    ensures sight { (names : List (List ℕ)) (u : UnitTrees) → IsSoundUnit names u → AreOfTexts u → EachBlock (λ before b. Sees (IsInSight b.block) (complete_context u.source (unit_rows u) b.block).scene) u.source (standard_rows ∷ []) (blocks_of u) }
 {}

@@ -1,5 +1,5 @@
 -- The rows of procedures have the numbers of the procedures that the block declares.
-use Rattle.std.specs.Prelude.{◌≡◌, ℕ, ◌+◌, ◌^◌, ◌<◌, ◌≤◌, ◌==◌, Bool, true, false, if◌then◌else◌, filter, List, [], ◌∷◌, ◌++◌, length, map, flat_map, slice_get, Option, Some, None}
+use Rattle.std.specs.Prelude.{◌≡◌, ℕ, ◌+◌, ◌^◌, ◌<◌, ◌≤◌, ◌==◌, Bool, true, false, if◌then◌else◌, filter, List, [], ◌∷◌, ◌++◌, length, flat_map, slice_get, Option, Some, None}
 use Rattle.std.proofs.Common.{ap, subst, sym, ◌∙◌, refl, inl, inr, arith}
 use Rattle.std.proofs.lemmas.List.{append-nil, append_assoc, length-append}
 use Rattle.m2_base.specs.Lists.{Each, IsIn}
@@ -9,13 +9,10 @@ use Rattle.m2_base.specs.declared.rows.Place.{Place}
 use Rattle.m2_base.specs.declared.rows.Row.{Row}
 use Rattle.m2_base.specs.declared.rows.RowMeaning.{RowMeaning}
 use Rattle.m2_base.specs.declared.rows.RowMeaning.TheVariants.{Proc, ProcType}
-use Rattle.m2_base.specs.declared.trees.Ident.{Ident}
-use Rattle.m2_base.specs.declared.trees.Qual.{Qual}
 use Rattle.m2_base.specs.declared.trees.declarations.StreamKind.{StreamKind}
 use Rattle.m2_base.specs.declared.trees.declarations.StreamKind.TheVariants.{Main, Definition, Procedure}
-use Rattle.m2_base.specs.declared.trees.types.Formal.{Formal}
 use Rattle.m2_base.specs.Standard.{is_standard}
-use Rattle.m2_base.specs.Trees.{TypeExpr, type_expr, TypeForm, named_type, enum_type, sub_type, array_type, record_type, set_type, pointer_type, proc_type, TypeExprs, no_types, more_types, FieldList, plain_fields, case_fields, FieldLists, no_fields, more_fields, variant_arm, VariantArms, no_variant_arms, more_variant_arms, Section, Heading}
+use Rattle.m2_base.specs.Trees.{Section, Heading}
 use Rattle.m2_base.specs.Statics.BlockRows.{declare_block, declare_items, at_item, context_of, scene_of, first_cell}
 use Rattle.m2_base.specs.Statics.Blocks.{BlockTree}
 use Rattle.m2_base.specs.Statics.Contexts.{Block, Context, Scene, Source}
@@ -27,8 +24,8 @@ use Rattle.m2_base.specs.Statics.Makes.{Makes, scene_with, with_rows, next_place
 use Rattle.m2_base.specs.Statics.ProcedureRows.{heading_note, is_proc, is_proc_meaning, parameter_cells, parameter_count, proc_number, proc_scope, result_cells, section_rows, sections_length}
 use Rattle.m2_base.specs.Statics.ProcedureTypes.{result_type}
 use Rattle.m2_base.specs.Statics.ShapedRows.{AreShaped, none_of, more_of}
-use Rattle.m2_base.specs.Statics.Shapes.{Shape, named, nameless, type_shapes, form_shapes, types_shapes, fields_shapes, field_shapes, arms_shapes, array_shapes, formal_shapes, open_shapes, tag_shapes, type_item_shapes, section_shapes, own_section_shapes}
-use Rattle.m2_base.proofs.ChainLaws.{each_append}
+use Rattle.m2_base.specs.Statics.Shapes.{Shape, named, type_shapes, type_item_shapes, section_shapes}
+use Rattle.m2_base.proofs.ChainLaws.{each_append, each_then}
 use Rattle.m2_base.proofs.ItemLaws.{item_of, sections_of}
 use Rattle.m2_base.proofs.NoRepeats.{scene_empty}
 use Rattle.m2_base.proofs.RowLaws.{place_of-number_of}
@@ -39,6 +36,7 @@ use Rattle.row_laws.specs.Procedures.{HasNumber, IsDeclared}
 use Rattle.row_laws.proofs.Numbers.{AllAgree}
 use Rattle.row_laws.proofs.Agreeing.{Ready, agree-left, agree-right, ready-left, ready-right, ready-then}
 use Rattle.row_laws.proofs.Closed.{IsClosed, closed_with}
+use Rattle.row_laws.proofs.PlainShapes.{ArePlain, IsPlainKind, mapped, otherwise, own_plain, plains, sections_plain, type_item_plain, type_plain}
 use Rattle.row_laws.proofs.Signatures.{IsRawType, Under, type_made_raw, under-left, under-right}
 
 -- ** Rows of other kinds
@@ -46,10 +44,6 @@ use Rattle.row_laws.proofs.Signatures.{IsRawType, Under, type_made_raw, under-le
 -- the meaning is no procedure's
 abbrev IsNone : RowMeaning → Type 0
 IsNone m = is_proc_meaning m ≡ false
-
-otherwise : {A : Type 0} (P : A → Type 0) (b : Bool) (x y : A) → b ≡ false → P y → P (if b then x else y)
-otherwise P true x y e h = absurd (cc)
-otherwise P false x y e h = h
 
 basic_none : (n : ℕ) → IsNone (basic_of n)
 basic_none n =
@@ -68,77 +62,13 @@ kind_none r e =
     (either IsNone (r.kind == opaque_kind) _ _ refl refl))))))))))))))))))
 
 -- no shape is a procedure's
-abbrev ArePlain : List Shape → Type 0
-ArePlain shapes = Each (λ (s : Shape). (s.kind == proc_kind) ≡ false) shapes
+abbrev AreNoProcs : List Shape → Type 0
+AreNoProcs shapes = Each (λ (s : Shape). (s.kind == proc_kind) ≡ false) shapes
 
-plains : (xs ys : List Shape) → ArePlain xs → ArePlain ys → ArePlain (xs ++ ys)
-plains xs ys h k = each_append (λ (s : Shape). (s.kind == proc_kind) ≡ false) xs ys h k
+no_procs : (shapes : List Shape) → ArePlain shapes → AreNoProcs shapes
+no_procs shapes h = each_then (λ (s : Shape). IsPlainKind s.kind) (λ (s : Shape). (s.kind == proc_kind) ≡ false) shapes (λ s k. k.0) h
 
-mapped : {A : Type 0} (f : A → Shape) (xs : List A) → ((x : A) → ((f x).kind == proc_kind) ≡ false) → ArePlain (map f xs)
-mapped f [] h = tt
-mapped f (x ∷ xs) h = (h x, mapped f xs h)
-
-open_plain : (is_open : Bool) (q : Qual) → ArePlain (open_shapes is_open q)
-open_plain true q = (refl, tt)
-open_plain false q = tt
-
-formals_plain : (formals : List Formal) → ArePlain (flat_map formal_shapes formals)
-formals_plain [] = tt
-formals_plain (f ∷ formals) = plains (formal_shapes f) _ (plains (open_shapes f.is_open f.of) _ (open_plain f.is_open f.of) (refl, tt)) (formals_plain formals)
-
-array_plain : (at : ℕ) (ts : TypeExprs) → ArePlain (array_shapes at ts)
-array_plain at no_types = tt
-array_plain at (more_types t ts) = (refl, array_plain at ts)
-
-tag_plain : (tag : Option Ident) → ArePlain (tag_shapes tag)
-tag_plain None = tt
-tag_plain (Some i) = (refl, tt)
-
-mutual
-  type_plain : (t : TypeExpr) → ArePlain (type_shapes t)
-  type_plain (type_expr at form) = form_plain at form
-
-  form_plain : (at : ℕ) (form : TypeForm) → ArePlain (form_shapes at form)
-  form_plain at (named_type q) = tt
-  form_plain at (enum_type idents) = (refl, mapped _ idents (λ i. refl))
-  form_plain at (sub_type base low high) = (refl, tt)
-  form_plain at (array_type index of) = plains (types_shapes index ++ type_shapes of) _ (plains (types_shapes index) _ (types_plain index) (type_plain of)) (array_plain at index)
-  form_plain at (record_type fields) = plains (fields_shapes fields) _ (fields_plain fields) (refl, tt)
-  form_plain at (set_type of) = plains (type_shapes of) _ (type_plain of) (refl, tt)
-  form_plain at (pointer_type of) = plains (type_shapes of) _ (type_plain of) (refl, tt)
-  form_plain at (proc_type formals result) = plains (flat_map formal_shapes formals) _ (formals_plain formals) (refl, tt)
-
-  types_plain : (ts : TypeExprs) → ArePlain (types_shapes ts)
-  types_plain no_types = tt
-  types_plain (more_types t ts) = plains (type_shapes t) _ (type_plain t) (types_plain ts)
-
-  fields_plain : (fs : FieldLists) → ArePlain (fields_shapes fs)
-  fields_plain no_fields = tt
-  fields_plain (more_fields f fs) = plains (field_shapes f) _ (field_plain f) (fields_plain fs)
-
-  field_plain : (f : FieldList) → ArePlain (field_shapes f)
-  field_plain (plain_fields idents t) = plains (type_shapes t) _ (type_plain t) (mapped _ idents (λ i. refl))
-  field_plain (case_fields tag of arms other) = plains (tag_shapes tag ++ arms_shapes arms) _ (plains (tag_shapes tag) _ (tag_plain tag) (arms_plain arms)) (fields_plain other)
-
-  arms_plain : (arms : VariantArms) → ArePlain (arms_shapes arms)
-  arms_plain no_variant_arms = tt
-  arms_plain (more_variant_arms (variant_arm ls fs) arms) = plains (fields_shapes fs) _ (fields_plain fs) (arms_plain arms)
-
-sections_plain : (sections : List Section) → ArePlain (flat_map section_shapes sections)
-sections_plain [] = tt
-sections_plain (s ∷ sections) =
-    plains (section_shapes s) _ (plains (open_shapes s.is_open s.of) _ (open_plain s.is_open s.of) (mapped (λ (i : Ident). nameless param_kind i.at) s.names (λ i. refl))) (sections_plain sections)
-
-own_plain : (sections : List Section) → ArePlain (flat_map own_section_shapes sections)
-own_plain [] = tt
-own_plain (s ∷ sections) =
-    plains (own_section_shapes s) _ (plains (open_shapes s.is_open s.of) _ (open_plain s.is_open s.of) (mapped (named var_kind) s.names (λ i. refl))) (own_plain sections)
-
-type_item_plain : (i : Ident) (t : Option TypeExpr) → ArePlain (type_item_shapes i t)
-type_item_plain i None = (refl, tt)
-type_item_plain i (Some t) = type_plain t
-
-shaped_none : (shapes : List Shape) (rows : List Row) → AreShaped shapes rows → ArePlain shapes → Each (λ r. IsNone (row_meaning r)) rows
+shaped_none : (shapes : List Shape) (rows : List Row) → AreShaped shapes rows → AreNoProcs shapes → Each (λ r. IsNone (row_meaning r)) rows
 shaped_none [] [] none_of h = tt
 shaped_none [] (r ∷ rows) is h = elim is [ ]
 shaped_none (s ∷ shapes) [] is h = elim is [ ]
@@ -273,7 +203,7 @@ module _ (names : ℕ) (final : Scene) where
       let raw = type_made_raw names final h c back left (under-left (made.rows ++ (t.rows ++ back)) [] under) closed (sections_count h.sections) in
       let typed : IsRawType final h (place_of (number_of t.value)) =
       subst (IsRawType final h) (sym (place_of-number_of t.value small)) (subst (λ s. IsRawType final h (next_of s)) (sym (with-none d.scene)) raw) in
-      let none = shaped_none _ made.rows (sections_of h.sections c own) (sections_plain h.sections) in
+      let none = shaped_none _ made.rows (sections_of h.sections c own) (no_procs _ (sections_plain h.sections)) in
       let none_type = result_none e h.name.at r (parameter_count h.sections) start in
       let row : Each P p.rows = named_each (IsDeclared Q kind c.scene.block notes items) f h.name.name h.name.at (Proc t.value number (proc_scope kind stream))
       (λ n. (h, stream, is_in, refl, number_is c kind h stream front more step, ap (λ (q : Place). q.scope) (place_of-number_of t.value small), typed)) in
@@ -296,7 +226,7 @@ module _ (names : ℕ) (final : Scene) where
   item_declared : (x : Item) (c : Context) (kind : StreamKind) (cell : ℕ) (items : List Item) (front more : List HeadingNote) → IsIn x items
       → Ready names c (declare c kind x cell).rows → Under c.scene (declare c kind x cell).rows final → IsClosed c.scene → IsInStep kind front (own_rows c) → Declared Q kind c.scene.block items front more (own_rows c) (declare c kind x cell)
   item_declared (heading_item h) c kind cell items front more is_in ready under closed step =
-      plain_declared Q kind c.scene.block items front more (own_rows c) _ refl (shaped_none _ _ (item_of (heading_item h) c kind cell) (own_plain h.sections)) step
+      plain_declared Q kind c.scene.block items front more (own_rows c) _ refl (shaped_none _ _ (item_of (heading_item h) c kind cell) (no_procs _ (own_plain h.sections))) step
   item_declared (import_item None i) c kind cell items front more is_in ready under closed step =
       plain_declared Q kind c.scene.block items front more (own_rows c) _ refl (shaped_none _ _ (item_of (import_item None i) c kind cell) (refl, tt)) step
   item_declared (import_item (Some m) i) c kind cell items front more is_in ready under closed step =
@@ -304,9 +234,9 @@ module _ (names : ℕ) (final : Scene) where
   item_declared (const_item i e) c kind cell items front more is_in ready under closed step =
       plain_declared Q kind c.scene.block items front more (own_rows c) _ refl (shaped_none _ _ (item_of (const_item i e) c kind cell) (refl, tt)) step
   item_declared (type_item i t) c kind cell items front more is_in ready under closed step =
-      plain_declared Q kind c.scene.block items front more (own_rows c) _ refl (shaped_none _ _ (item_of (type_item i t) c kind cell) (plains (type_item_shapes i t) _ (type_item_plain i t) (refl, tt))) step
+      plain_declared Q kind c.scene.block items front more (own_rows c) _ refl (shaped_none _ _ (item_of (type_item i t) c kind cell) (no_procs _ (plains (type_item_shapes i t) _ (type_item_plain i t) ((refl, refl, refl), tt)))) step
   item_declared (vars_item idents t) c kind cell items front more is_in ready under closed step =
-      plain_declared Q kind c.scene.block items front more (own_rows c) _ refl (shaped_none _ _ (item_of (vars_item idents t) c kind cell) (plains (type_shapes t) _ (type_plain t) (mapped (named var_kind) idents (λ i. refl)))) step
+      plain_declared Q kind c.scene.block items front more (own_rows c) _ refl (shaped_none _ _ (item_of (vars_item idents t) c kind cell) (no_procs _ (plains (type_shapes t) _ (type_plain t) (mapped (named var_kind) idents (λ i. (refl, refl, refl)))))) step
   item_declared (proc_item h stream) c kind cell items front more is_in ready under closed step = proc_declared h stream c kind cell items front more is_in ready under closed step
 
   items_declared : (xs : List Item) (c : Context) (kind : StreamKind) (i cell : ℕ) (items : List Item) (front : List HeadingNote) → ((x : Item) → IsIn x xs → IsIn x items)

@@ -14,5 +14,10 @@ pub mod Whole
 pub mod Units
 pub mod OwnCells
 pub mod Signatures
+pub mod PlainShapes
 pub mod Declared
-pub mod Lone
+pub mod Chains
+pub mod MadeBy
+pub mod SightUnits
+pub mod TreesOf
+pub mod DefinitionUnits

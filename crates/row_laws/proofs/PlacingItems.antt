@@ -213,26 +213,3 @@ module _ (names : ℕ) where
       by_heading None e r =
           (items_placed (xs ++ ys) c b.tree.kind 0 cell (each_append IsInner xs ys (imports_inner b.tree.imports) (decls_inner b.tree.decls)) r (first_cell_most (scene_of tables b.block) b.tree.kind b.block.own)).cells.more
       by_heading (Some h) e r = absurd (cc)
-
-  -- a block without a heading copies nothing
-  pub block_copies : (source : Source) (tables : List (List Row)) (b : BlockTree) → Ready names (context_of source tables b) (declare_block source tables b).rows → b.tree.heading ≡ None
-      → (declare_block source tables b).value.prologue ≡ []
-  unfolding declare_block
-  block_copies source tables b ready none = by_heading b.tree.heading none ready
-    where
-      c : Context
-      c = context_of source tables b
-
-      cell : ℕ
-      cell = first_cell (scene_of tables b.block) b.tree.kind b.block.own
-
-      xs : List Item
-      xs = flat_map import_items b.tree.imports
-
-      ys : List Item
-      ys = map decl_item b.tree.decls
-
-      by_heading : (o : Option Heading) → o ≡ None → Ready names c (declare_items c b.tree.kind 0 cell (heading_items o ++ xs ++ ys)).rows → (declare_items c b.tree.kind 0 cell (heading_items o ++ xs ++ ys)).value.prologue ≡ []
-      by_heading None e r =
-          (items_placed (xs ++ ys) c b.tree.kind 0 cell (each_append IsInner xs ys (imports_inner b.tree.imports) (decls_inner b.tree.decls)) r (first_cell_most (scene_of tables b.block) b.tree.kind b.block.own)).none
-      by_heading (Some h) e r = absurd (cc)

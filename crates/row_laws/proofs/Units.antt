@@ -43,7 +43,7 @@ use Rattle.row_laws.proofs.Closed.{IsClosed, IsNamed, agrees_named}
 use Rattle.row_laws.proofs.Later.{agree_each, agrees_later}
 use Rattle.row_laws.proofs.OwnCells.{block_counted}
 use Rattle.row_laws.proofs.Placing.{ArePlaced, IsCopyPlaced, IsPlaced, placed_more}
-use Rattle.row_laws.proofs.PlacingItems.{Placed, block_copies, block_more, block_placed}
+use Rattle.row_laws.proofs.PlacingItems.{Placed, block_more, block_placed}
 use Rattle.row_laws.proofs.Scenes.{block_agrees, block_ready, rows_above, rows_before}
 use Rattle.row_laws.proofs.Whole.{HasOffset, Whole, later_whole, operands, there_scope, whole-above, whole-length, whole-rows, whole_scene}
 
@@ -350,7 +350,7 @@ module _ (names : ℕ) (source : Source) (own : Option ℕ) (home : ℕ) (all : 
   -- what holds of a block
   abbrev pub Holds : List (List Row) → BlockTree → Type 0
   Holds before b = BlockInRange source before all b × CellsAreThere (declare_block source before b).rows (declare_block source before b).value × OwnCellsAreThere all b (declare_block source before b).value
-      × AreRawly before b × (b.tree.heading ≡ None → (declare_block source before b).value.prologue ≡ [])
+      × AreRawly before b
 
   -- the finished scopes before a block stay
   before_stays : (blocks : List BlockTree) (before : List (List Row)) (q : ℕ) → q < length before → rows_at (rows_from source before blocks) q ≡ rows_at before q
@@ -425,7 +425,6 @@ module _ (names : ℕ) (source : Source) (own : Option ℕ) (home : ℕ) (all : 
           block_cells (declare_block source before b) (block_placed names source before b ready),
           own_cells before b is fits.0 counts,
           block_declared names source before b is.ready.before ready (block_agrees names source before b is.ready is.own_before shut) shut,
-          block_copies names source before b ready,
         ),
         each_block blocks (before ++ made ∷ []) e (subst (λ n. AreConsecutive n blocks) one row.1) (omega (arith, next)) good.1 fits.1 headed.1
             (subst AreGood (ap (λ n. n + 1) same ∙ one) better) (subst AreCounted (ap (λ n. n + 1) same ∙ one) (more_counted before b is fits.0 headed.0 counts)),
@@ -535,7 +534,7 @@ few_from names source (b ∷ blocks) before good few =
         let e = ap length (get_or_past (before ++ (declare_block source before b).rows ∷ []) s [] (omega (arith, f, more))) in
         omega (arith, e)
 
-long_from : (source : Source) (blocks : List BlockTree) (before : List (List Row)) → length (rows_from source before blocks) ≡ length before + length blocks
+pub long_from : (source : Source) (blocks : List BlockTree) (before : List (List Row)) → length (rows_from source before blocks) ≡ length before + length blocks
 long_from source [] before = omega arith
 long_from source (b ∷ blocks) before =
     let f = length-append before ((declare_block source before b).rows ∷ []) in
@@ -611,8 +610,3 @@ unit_declared names u is =
     (λ ts b h. each_then _ (λ (r : Row). IsDeclared (IsSeenAs u b) b.tree.kind b.block (declare_block u.source ts b).value.headings (items_of b.tree) (row_meaning r)) (declare_block u.source ts b).rows
     (λ r. declared_then _ (IsSeenAs u b) b.tree.kind b.block (declare_block u.source ts b).value.headings (items_of b.tree) (row_meaning r)
     (λ g t at q later there k. q later.block (each_in _ (blocks_of u) later seen.1 there) k)) h) seen.0
-
-pub unit_copies : (names : List (List ℕ)) (u : UnitTrees) → IsSoundUnit names u
-    → EachBlock (λ before b. b.tree.heading ≡ None → (declare_block u.source before b).value.prologue ≡ []) u.source (standard_rows ∷ []) (blocks_of u)
-unit_copies names u is =
-    each_block_then _ (λ before b. b.tree.heading ≡ None → (declare_block u.source before b).value.prologue ≡ []) u.source (blocks_of u) (standard_rows ∷ []) (λ ts b h. h.4) (unit_holds names u is)

@@ -1,3 +1,5 @@
 pub mod RowRanges
 pub mod Procedures
-pub mod Lone
+pub mod Sight
+pub mod TextTrees
+pub mod Definitions

@@ -1,24 +1,23 @@
 //! Laws on the numbers of finished rows, each the contract of a function that does nothing.
-ghost use Rattle.std.specs.Prelude.{◌≡◌, ◌<◌, ◌^◌, ℕ, List, [], ◌∷◌, None, flat_map, length};
+ghost use Rattle.std.specs.Prelude.{ℕ, ◌<◌, List, [], ◌∷◌};
 ghost use Rattle.ll_grammar.specs.Texts.{Spells};
-ghost use Rattle.m2_base.specs.Finished.{lone_trees, main_tokens, source_of};
 ghost use Rattle.m2_base.specs.Grammar.{grammar, levels, stream};
-ghost use Rattle.m2_base.specs.Lists.{Each};
-ghost use Rattle.m2_base.specs.Statics.FormedRows.{IsSoundText};
-ghost use Rattle.m2_base.specs.Statics.Items.{items_of};
-ghost use Rattle.m2_base.specs.Statics.ReadTrees.{IsReadToken};
-ghost use Rattle.m2_base.specs.Statics.Shapes.{item_shapes};
-ghost use Rattle.m2_base.specs.StreamsOf.{stream_of};
-ghost use Rattle.m2_base.specs.Trees.{Stream};
-ghost use Rattle.m2_base.specs.declared.trees.declarations.StreamKind.TheVariants.{Main};
-ghost use Rattle.m2_base.specs.Units.{IsUnit, UnitTexts};
-ghost use Rattle.row_laws.specs.Lone.{AreOfLone, IsNoProcedure, lone_block, lone_declared, lone_scene};
 ghost use Rattle.m2_base.specs.Standard.{standard_rows};
 ghost use Rattle.m2_base.specs.Statics.BlockRows.{declare_block};
-ghost use Rattle.m2_base.specs.Statics.Blocks.{UnitTrees, blocks_of};
+ghost use Rattle.m2_base.specs.Statics.Blocks.{UnitTrees, blocks_of, home_of};
+ghost use Rattle.m2_base.specs.Lists.{Each};
+ghost use Rattle.m2_base.specs.Rows.{row_meaning};
+ghost use Rattle.row_laws.specs.Definitions.{IsAsNoted};
+ghost use Rattle.m2_base.specs.Statics.UnitNotes.{complete_context};
 ghost use Rattle.m2_base.specs.Statics.UnitRows.{unit_rows};
+ghost use Rattle.m2_base.specs.StreamsOf.{stream_of};
+ghost use Rattle.m2_base.specs.Trees.{Stream};
+ghost use Rattle.m2_base.specs.declared.token.Token.{Token};
+ghost use Rattle.m2_base.specs.declared.trees.declarations.StreamKind.{StreamKind as KindOfStream};
 ghost use Rattle.row_laws.specs.Procedures.{ProceduresAreDeclared};
 ghost use Rattle.row_laws.specs.RowRanges.{BlockInRange, CellsAreThere, EachBlock, IsSoundUnit, OwnCellsAreThere};
+ghost use Rattle.row_laws.specs.Sight.{LeadsInSight};
+ghost use Rattle.row_laws.specs.TextTrees.{AreOfTexts, IsTreeOf};
 
 /// The finished rows of a unit keep to the ranges of operands, and its blocks declare what does. The cells of a block's variables,
 /// of an implementation module's own definition too, and of what a procedure's body copies first are the block's, unless those
@@ -30,19 +29,24 @@ pub fn rows_are_in_range()
 {}
 
 /// Each row of a procedure in a block is that of a procedure which the block declares. In a definition its number is that of its
-/// heading's note; elsewhere it is the number of its scope less the module's. Its type has, in each block that sees it, the cells
-/// and the result of the procedure's heading.
+/// heading's note; elsewhere it is the number of its scope less the module's.
 pub fn procedures_are_declared()
     ensures { (names : List (List ℕ)) (u : UnitTrees) → IsSoundUnit names u → EachBlock (λ before b. ProceduresAreDeclared u b (declare_block u.source before b)) u.source (standard_rows ∷ []) (blocks_of u) }
 {}
 
-/// A unit of one text whose main module has no procedure is sound, where its tokens and its names' texts are; and then its only
-/// block copies nothing, none of the rows that it sees is a procedure's, and each variable among them is its own.
-pub fn lone_modules_have_their_rows()
-    ensures sound { (u : UnitTexts) (tree : Stream) → IsUnit u → u.order ≡ [] → IsSoundText (source_of u) → Spells grammar levels (stream Main) (stream_of Main) tree (main_tokens u) → Each (IsReadToken u.names) (main_tokens u) → length (flat_map item_shapes (items_of tree)) < 2 ^ 31 → IsSoundUnit u.names (lone_trees u tree) }
-    ensures heading { (u : UnitTexts) (tree : Stream) → Spells grammar levels (stream Main) (stream_of Main) tree (main_tokens u) → tree.heading ≡ None }
-    ensures block { (u : UnitTexts) (tree : Stream) → blocks_of (lone_trees u tree) ≡ lone_block u tree ∷ [] }
-    ensures copies { (u : UnitTexts) (tree : Stream) → IsSoundUnit u.names (lone_trees u tree) → tree.heading ≡ None → (lone_declared u tree).value.prologue ≡ [] }
-    ensures rows { (u : UnitTexts) (tree : Stream) → IsSoundUnit u.names (lone_trees u tree) → Each IsNoProcedure tree.decls → AreOfLone (lone_scene u tree) }
-    ensures cells { (u : UnitTexts) (tree : Stream) → IsSoundUnit u.names (lone_trees u tree) → CellsAreThere (lone_declared u tree).rows (lone_declared u tree).value }
+/// What a block sees leads to what it sees: in its statements every module and every alias leads to a scope of its chain or to one
+/// before its module's.
+pub fn sight_is_closed()
+    ensures { (names : List (List ℕ)) (u : UnitTrees) → IsSoundUnit names u → AreOfTexts u → EachBlock (λ before b. LeadsInSight (complete_context u.source (unit_rows u) b.block).scene) u.source (standard_rows ∷ []) (blocks_of u) }
+{}
+
+/// The tree of a stream is of its kind: a module's has a name and no heading, a procedure's has a heading and imports nothing.
+pub fn trees_are_of_their_kinds()
+    ensures { (kind : KindOfStream) (tree : Stream) (tokens : List Token) → Spells grammar levels (stream kind) (stream_of kind) tree tokens → IsTreeOf kind tree }
+{}
+
+/// Each row of a procedure in a definition module is that of a heading, whose note has the cells and the result that the procedure's
+/// type has in each block that sees it; the cells of its variables are there.
+pub fn definitions_are_as_noted()
+    ensures { (names : List (List ℕ)) (u : UnitTrees) → IsSoundUnit names u → AreOfTexts u → EachBlock (λ before d. d.block.scope < home_of u → Each (λ r. IsAsNoted u d (declare_block u.source before d).value (row_meaning r)) (declare_block u.source before d).rows) u.source (standard_rows ∷ []) (blocks_of u) }
 {}

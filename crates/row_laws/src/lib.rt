@@ -2,9 +2,12 @@
 //!
 //! The static rules of `m2_base` make the rows, and its law `rows_are_right` says that each is well formed: values, sizes
 //! and offsets have 32 bits. The laws here say what else holds of the numbers, by the scene that a row is read in
-//! (`specs/RowRanges`, `Procedures`, `Lone`).
+//! (`specs/RowRanges`, `Procedures`).
 #![tactic(auto)]
 
 mod laws;
 
-pub use laws::{lone_modules_have_their_rows, procedures_are_declared, rows_are_in_range};
+pub use laws::{
+    definitions_are_as_noted, procedures_are_declared, rows_are_in_range, sight_is_closed,
+    trees_are_of_their_kinds,
+};
