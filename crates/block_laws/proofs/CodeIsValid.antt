@@ -9,13 +9,14 @@ use Rattle.m2_base.specs.Statics.ReadTrees.{IsReadItem}
 use Rattle.m2_base.specs.Statics.UnitNotes.{complete_context}
 use Rattle.m2_base.specs.Statics.UnitRows.{unit_rows}
 use Rattle.row_laws.specs.RowRanges.{EachBlock, IsSoundUnit}
+use Rattle.row_laws.specs.UnitBlocks.{HasItsBlocks}
 use Rattle.stmt_sem.specs.BlockCode.{block_code, block_diags}
 use Rattle.stmt_sem.specs.Tokens.{block_tokens}
 use Rattle.block_laws.specs.Headings.{HasSoundHeadings}
 use Rattle.block_laws.specs.Named.{procedure_of}
 use Rattle.block_laws.specs.ReadStatements.{AreReadStatements}
 use Rattle.block_laws.specs.Sight.{IsInSight, Sees}
-use Rattle.block_laws.specs.Worlds.{HasItsBlocks, unit_world}
+use Rattle.block_laws.specs.Worlds.{unit_world}
 use Rattle.block_laws.proofs.BlocksAt.{unit_all}
 use Rattle.block_laws.proofs.Implemented.{implements}
 use Rattle.block_laws.proofs.Links.{in_each}

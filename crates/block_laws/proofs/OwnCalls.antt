@@ -25,9 +25,10 @@ use Rattle.m2_base.specs.declared.rows.Row.{Row}
 use Rattle.m2_base.specs.declared.trees.declarations.StreamKind.{StreamKind}
 use Rattle.m2_base.specs.declared.trees.declarations.StreamKind.TheVariants.{Definition, Main, Procedure as ProcedureStream}
 use Rattle.row_laws.specs.Procedures.{HasNumber, IsDeclared, IsSeenAs, IsTypeOf, cells_of_parameters}
+use Rattle.row_laws.specs.UnitBlocks.{HasItsForm, HasItsProcedures, IsProcedureIn}
 use Rattle.stmt_sem.specs.BlockCode.{outer_of as outer_number, params_of, results_of}
 use Rattle.block_laws.specs.Sight.{call_step}
-use Rattle.block_laws.specs.Worlds.{HasItsForm, HasItsProcedures, IsProcedureIn, callee_of}
+use Rattle.block_laws.specs.Worlds.{callee_of}
 use Rattle.block_laws.proofs.Chains.{Stands, blocks_stand}
 use Rattle.block_laws.proofs.Links.{Begins, HasProcedure, begins, in_each, unequal}
 use Rattle.block_laws.proofs.WorldCells.{Furnishes, HasImport, IsInMain, in_main}

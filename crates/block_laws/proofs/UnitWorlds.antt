@@ -32,11 +32,12 @@ use Rattle.m2_base.specs.declared.trees.declarations.StreamKind.TheVariants.{Def
 use Rattle.row_laws.proofs.Units.{unit_cells, unit_declared, unit_in_range, unit_own_cells, unit_whole}
 use Rattle.row_laws.specs.Procedures.{IsDeclared, IsSeenAs, ProceduresAreDeclared}
 use Rattle.row_laws.specs.RowRanges.{BlockInRange, CellsAreThere, EachBlock, IsBelow, IsSoundUnit, OwnCellsAreThere}
+use Rattle.row_laws.specs.UnitBlocks.{HasItsBlocks, HasItsForm}
 use Rattle.stmt_sem.specs.BlockCode.{block_code, block_diags, body_of, first_cell, first_spot, run_of, size_diags}
 use Rattle.stmt_sem.specs.Flows.{Run}
 use Rattle.block_laws.specs.Named.{HasCode, procedure_of}
 use Rattle.block_laws.specs.ReadStatements.{AreReadStatements}
-use Rattle.block_laws.specs.Worlds.{HasItsBlocks, HasItsForm, callee_of, import_over, of_blocks, unit_world, without_own}
+use Rattle.block_laws.specs.Worlds.{callee_of, import_over, of_blocks, unit_world, without_own}
 use Rattle.block_laws.proofs.BlocksAt.{at_before, at_behind, at_drop, at_take, before_of, in_at, scope_at, unit_each, unit_made, unit_over, unit_place}
 use Rattle.block_laws.proofs.InRange.{block-leads}
 use Rattle.block_laws.proofs.Links.{HasProcedure, in_each}

@@ -31,9 +31,9 @@ use Rattle.m2_base.specs.declared.trees.declarations.StreamKind.{StreamKind}
 use Rattle.m2_base.specs.declared.trees.declarations.StreamKind.TheVariants.{Definition, Main, Procedure as ProcedureStream}
 use Rattle.row_laws.proofs.Whole.{whole-rows}
 use Rattle.row_laws.specs.Procedures.{HasNumber, IsDeclared, IsSeenAs, IsTypeOf}
+use Rattle.row_laws.specs.UnitBlocks.{HasItsForm, HasItsProcedures}
 use Rattle.block_laws.specs.Lone.{IsOfLone}
 use Rattle.block_laws.specs.Sight.{IsInSight, call_step, value_instr}
-use Rattle.block_laws.specs.Worlds.{HasItsForm, HasItsProcedures}
 use Rattle.block_laws.proofs.Chains.{blocks_stand}
 use Rattle.block_laws.proofs.Links.{Begins, Reaches, begins, in_each, in_module}
 use Rattle.block_laws.proofs.Lone.{each-at}

@@ -28,9 +28,10 @@ ghost use Rattle.block_laws.specs.Named.{BlockNamesThere, procedure_of};
 ghost use Rattle.block_laws.specs.ReadStatements.{AreReadStatements};
 ghost use Rattle.row_laws.specs.RowRanges.{BlockInRange, EachBlock, IsSoundUnit};
 ghost use Rattle.block_laws.specs.Sight.{IsInSight, Sees};
-ghost use Rattle.block_laws.specs.Worlds.{HasItsBlocks, unit_world};
+ghost use Rattle.block_laws.specs.Worlds.{unit_world};
 ghost use Rattle.block_laws.specs.MainBlocks.{IsMainBlock};
 ghost use Rattle.row_laws.specs.TextTrees.{AreOfTexts};
+ghost use Rattle.row_laws.specs.UnitBlocks.{HasItsBlocks};
 
 /// The statements of a stream are as read, where the tokens are that spell its tree.
 pub fn statements_are_read()

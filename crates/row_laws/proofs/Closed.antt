@@ -1,8 +1,8 @@
 -- Scenes in which no type's name is an open array's, and what is found in them.
-use Rattle.std.specs.Prelude.{◌≡◌, ℕ, zero, suc, ◌+◌, ◌-◌, ◌*◌, ◌^◌, ◌<◌, ◌≤◌, ◌==◌, Bool, true, false, if◌then◌else◌, ◌⊎◌, List, [], ◌∷◌, ◌++◌, drop, length, nat_lt, slice_get, slice_index_or, Option, Some, None, unwrap_or}
+use Rattle.std.specs.Prelude.{◌≡◌, ℕ, zero, suc, ◌+◌, ◌*◌, ◌^◌, ◌<◌, ◌≤◌, ◌==◌, Bool, true, false, if◌then◌else◌, ◌⊎◌, List, [], ◌∷◌, ◌++◌, drop, length, nat_lt, slice_get, slice_index_or, Option, Some, None, unwrap_or}
 use Rattle.std.proofs.Common.{ap, subst, sym, ◌∙◌, refl, inl, inr, arith}
 use Rattle.std.proofs.lemmas.Bool.{cases_order}
-use Rattle.std.proofs.lemmas.List.{get_or_at, get_or_past, get_or-set_other, length-append}
+use Rattle.std.proofs.lemmas.List.{get_or_past, get_or-set_other}
 use Rattle.std.proofs.lemmas.Option.{get_or_from_slice_get, slice_get_cases, slice_get_within}
 use Rattle.m2_base.specs.Gives.{Gives, gives}
 use Rattle.m2_base.specs.Lists.{Each, WhereKept}
@@ -19,13 +19,13 @@ use Rattle.m2_base.specs.Tables.{first_named, found_or, lookup, rows_at}
 use Rattle.m2_base.specs.Statics.Assignable.{is_open_array, is_open_kind}
 use Rattle.m2_base.specs.Statics.Contexts.{Context, Scene, row_at}
 use Rattle.m2_base.specs.Statics.Lookup.{Entry, entry_at, entry_in, first_entry}
-use Rattle.m2_base.specs.Statics.Makes.{scene_with, with_rows}
+use Rattle.m2_base.specs.Statics.Makes.{scene_with}
 use Rattle.m2_base.specs.Statics.TypeNames.{member_of, qualified, type_by, type_of_entry, type_of_qual}
-use Rattle.m2_base.specs.Statics.Types.{meaning_at, unless_opaque, type_named, named_or, declared_as, opaque_as, stands_as, stands_for, kind_of}
-use Rattle.m2_base.specs.Statics.Uses.{followed, followed_by, bound, bound_or, stands_later, bound_outside, use_in_item, use_by_item, use_of}
+use Rattle.m2_base.specs.Statics.Types.{meaning_at, unless_opaque, type_named, named_or, declared_as, opaque_as, stands_as}
+use Rattle.m2_base.specs.Statics.Uses.{followed_by, bound, bound_or, stands_later, bound_outside, use_in_item, use_by_item, use_of}
 use Rattle.m2_base.proofs.NoRepeats.{some_is}
-use Rattle.m2_base.proofs.SceneLaws.{IsOpen, own_of, own-with}
-use Rattle.m2_base.proofs.Sound.{Sound, RowOk, IsThere, next_of}
+use Rattle.m2_base.proofs.SceneLaws.{own_of, own-with}
+use Rattle.m2_base.proofs.Sound.{Sound}
 use Rattle.m2_base.proofs.SoundTypes.{either}
 use Rattle.row_laws.proofs.Numbers.{Agrees, AllAgree}
 use Rattle.row_laws.proofs.Agreeing.{Ready}
@@ -176,14 +176,14 @@ closed_with names c rows ready agree closed s o r e = by_order (cases_order s c.
         by_part (inr h) = agrees_named (scene_with c.scene rows) (row_meaning r) (each_at (λ (x : Row). Agrees (scene_with c.scene rows) (row_meaning x)) rows (agree_each names c rows ready agree) h.0 r h.1)
     by_order (inr (inl less)) =
         let found : slice_get (rows_at c.scene.tables s) o ≡ Some r =
-            subst (λ (rs : List Row). slice_get rs o ≡ Some r) (get_or-set_other c.scene.tables c.scene.block.scope s (own_of c.scene ++ rows) [] (λ q. omega (arith, q, less))) e in
+        subst (λ (rs : List Row). slice_get rs o ≡ Some r) (get_or-set_other c.scene.tables c.scene.block.scope s (own_of c.scene ++ rows) [] (λ q. omega (arith, q, less))) e in
         let ok = ready.sound.scene.earlier s o r less found in
         let small = ok.0 in
         named_stays names c.scene rows ready.sound.scene (at_place s o) (omega (arith, small, less)) (row_meaning r) ok.1.formed.fits ok.1.small (closed s o r found)
     by_order (inr (inr more)) =
         let none : slice_get [] o ≡ Some r =
-            subst (λ (rs : List Row). slice_get rs o ≡ Some r)
-            (get_or-set_other c.scene.tables c.scene.block.scope s (own_of c.scene ++ rows) [] (λ q. omega (arith, q, more)) ∙ ready.sound.scene.above s more) e in
+        subst (λ (rs : List Row). slice_get rs o ≡ Some r)
+        (get_or-set_other c.scene.tables c.scene.block.scope s (own_of c.scene ++ rows) [] (λ q. omega (arith, q, more)) ∙ ready.sound.scene.above s more) e in
         absurd (cc)
 
 -- ** Types that stand for others

@@ -1,5 +1,5 @@
 -- A type expression is no open array.
-use Rattle.std.specs.Prelude.{◌≡◌, ℕ, ◌+◌, Bool, true, false, if◌then◌else◌, max, nat_lt, pos, List, [], ◌∷◌, ◌++◌, length, reverse, slice_index_or, Option, Some, None}
+use Rattle.std.specs.Prelude.{◌≡◌, ℕ, ◌+◌, false, max, nat_lt, pos, List, [], ◌∷◌, ◌++◌, length, reverse, slice_index_or, Option, Some, None}
 use Rattle.std.proofs.Common.{ap, subst, sym, ◌∙◌, refl}
 use Rattle.std.proofs.lemmas.List.{get_or_at}
 use Rattle.m2_base.specs.Gives.{Gives, gives}
@@ -24,7 +24,7 @@ use Rattle.m2_base.specs.Statics.TypeNames.{type_of_qual}
 use Rattle.m2_base.specs.Statics.TypeRows.{type_rows, form_rows, index_rows, fields_rows}
 use Rattle.m2_base.specs.Statics.Types.{meaning_at}
 use Rattle.m2_base.proofs.SceneLaws.{own_of, own-with, with-none, with-twice}
-use Rattle.m2_base.proofs.Sound.{Sound, next_of, sound-with}
+use Rattle.m2_base.proofs.Sound.{next_of, sound-with}
 use Rattle.m2_base.proofs.SoundTypes.{either}
 use Rattle.row_laws.proofs.Numbers.{AllAgree}
 use Rattle.row_laws.proofs.Agreeing.{Ready, ready-left, ready-right, ready-then, agree-left, agree-right}
@@ -116,7 +116,7 @@ module _ (names : ℕ) where
         let rest = ready-right is.rows (t.rows ++ arrays.rows) ready in
         let rest_agree = agree-right is.rows (t.rows ++ arrays.rows) agree in
         let elem = type_no_open of d (ready-left t.rows arrays.rows rest) (agree-left t.rows arrays.rows rest_agree)
-            (closed_with names c is.rows first (agree-left is.rows (t.rows ++ arrays.rows) agree) closed) in
+        (closed_with names c is.rows first (agree-left is.rows (t.rows ++ arrays.rows) agree) closed) in
         let all = arrays_no_open (reverse is.value) e at t.value (ready-right t.rows arrays.rows rest) elem in
         subst (λ s. IsNoOpen s arrays.value) (with-twice d.scene t.rows arrays.rows ∙ with-twice c.scene is.rows (t.rows ++ arrays.rows)) all
     form_no_open (record_type fs) c at ready agree closed =

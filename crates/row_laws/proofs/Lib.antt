@@ -21,3 +21,7 @@ pub mod MadeBy
 pub mod SightUnits
 pub mod TreesOf
 pub mod DefinitionUnits
+pub mod Joined
+pub mod Numbered
+pub mod InnerBlocks
+pub mod TextBlocks

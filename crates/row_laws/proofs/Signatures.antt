@@ -1,12 +1,12 @@
 -- The type of a procedure's row has the cells and the result of the procedure's heading.
-use Rattle.std.specs.Prelude.{◌≡◌, ℕ, zero, suc, ◌+◌, ◌-◌, ◌*◌, ◌^◌, ◌<◌, ◌≤◌, ◌==◌, Bool, true, false, if◌then◌else◌, drop, take, filter_map, is_some, flat_map, List, [], ◌∷◌, ◌++◌, length, Option, Some, None}
+use Rattle.std.specs.Prelude.{◌≡◌, ℕ, suc, ◌+◌, ◌-◌, ◌*◌, Bool, true, false, if◌then◌else◌, drop, take, filter_map, is_some, flat_map, List, [], ◌∷◌, ◌++◌, length, Option, Some, None}
 use Rattle.std.specs.List.{cons_option}
 use Rattle.std.proofs.Common.{ap, subst, sym, ◌∙◌, refl, arith}
 use Rattle.std.proofs.Math.Seq.{drop-append_seam, take-append_seam}
 use Rattle.std.proofs.lemmas.Bool.{eq-eqb}
-use Rattle.std.proofs.lemmas.List.{append-nil, append_assoc, length-append}
+use Rattle.std.proofs.lemmas.List.{append_assoc, length-append}
 use Rattle.std.proofs.lemmas.List.Elements.{filter_map-append}
-use Rattle.m2_base.specs.Gives.{Gives, gives}
+use Rattle.m2_base.specs.Gives.{Gives}
 use Rattle.m2_base.specs.Lists.{Each}
 use Rattle.m2_base.specs.Rows.{row_of, row_meaning, number_of, place_of}
 use Rattle.m2_base.specs.declared.rows.Place.{Place}
@@ -15,15 +15,13 @@ use Rattle.m2_base.specs.declared.rows.RowMeaning.{RowMeaning}
 use Rattle.m2_base.specs.declared.rows.RowMeaning.TheVariants.{OpenArray, Param, ProcType}
 use Rattle.m2_base.specs.declared.trees.Ident.{Ident}
 use Rattle.m2_base.specs.declared.trees.Qual.{Qual}
-use Rattle.m2_base.specs.declared.trees.declarations.StreamKind.{StreamKind}
-use Rattle.m2_base.specs.Standard.{broken}
 use Rattle.m2_base.specs.Trees.{Heading, Section}
 use Rattle.m2_base.specs.Tables.{rows_at}
 use Rattle.m2_base.specs.Statics.Assignable.{is_open_array, is_open_kind}
 use Rattle.m2_base.specs.Statics.Contexts.{Context, Scene}
 use Rattle.m2_base.specs.Statics.Makes.{scene_with, with_rows, next_place, makes_row}
 use Rattle.m2_base.specs.Statics.ProcedureRows.{param_rows, section_rows, section_cells, parameter_cells, parameter_count, sections_length}
-use Rattle.m2_base.specs.Statics.ProcedureTypes.{checked_result, is_structured, open_array_row, parameter_type, result_type}
+use Rattle.m2_base.specs.Statics.ProcedureTypes.{is_structured, open_array_row, parameter_type, result_type}
 use Rattle.m2_base.specs.Statics.Shapes.{section_shapes}
 use Rattle.m2_base.specs.Statics.TypeNames.{type_of_qual}
 use Rattle.m2_base.specs.Statics.TypeParts.{Parameter, parameter_of, parameters, parameters_by, result_of_type, rows_between}
@@ -33,17 +31,17 @@ use Rattle.m2_base.proofs.ChainLaws.{each_append}
 use Rattle.m2_base.proofs.ItemLaws.{sections_of}
 use Rattle.m2_base.proofs.LayoutLaws.{AreShaped-length}
 use Rattle.m2_base.proofs.RowLaws.{place_of-number_of}
-use Rattle.m2_base.proofs.SceneLaws.{IsOpen, own_of, own-with, open-with, with-none, with-twice}
+use Rattle.m2_base.proofs.SceneLaws.{own_of, own-with, with-none, with-twice}
 use Rattle.m2_base.proofs.Sound.{Sound, IsThere, next_of, sound-with, there-with}
 use Rattle.m2_base.proofs.SoundParts.{parameter_made}
 use Rattle.m2_base.proofs.SoundTypes.{either, qual_there}
 use Rattle.row_laws.specs.Procedures.{IsTypeOf, cells_of_parameters}
-use Rattle.row_laws.proofs.Agreeing.{Ready, agree-append, ready-left, ready-right, ready-then}
+use Rattle.row_laws.proofs.Agreeing.{Ready, ready-left, ready-right}
 use Rattle.row_laws.proofs.AgreeingItems.{params_agree}
 use Rattle.row_laws.proofs.AgreeingTypes.{parameter_agrees}
 use Rattle.row_laws.proofs.Closed.{IsClosed, closed_with, kind_closed, qual_closed}
 use Rattle.row_laws.proofs.ClosedTypes.{fresh_at}
-use Rattle.row_laws.proofs.Settled.{IsLater, row_stays}
+use Rattle.row_laws.proofs.Settled.{row_stays}
 
 -- ** Rows in a scene with more of them
 
@@ -157,9 +155,9 @@ sections_typed names final own (s ∷ sections) c ready under closed =
     let ps = filter_map (parameter_of own) params.rows in
     let qs = filter_map (parameter_of own) more.rows in
     let all : filter_map (parameter_of own) (typ.rows ++ (params.rows ++ more.rows)) ≡ ps ++ qs =
-        filter_map-append (parameter_of own) typ.rows (params.rows ++ more.rows)
-        ∙ ap (λ xs. xs ++ filter_map (parameter_of own) (params.rows ++ more.rows)) (open_none (with_rows c []) own s.of.first.at s.is_open (type_of_qual c s.of).value)
-        ∙ filter_map-append (parameter_of own) params.rows more.rows in
+    filter_map-append (parameter_of own) typ.rows (params.rows ++ more.rows)
+    ∙ ap (λ xs. xs ++ filter_map (parameter_of own) (params.rows ++ more.rows)) (open_none (with_rows c []) own s.of.first.at s.is_open (type_of_qual c s.of).value)
+    ∙ filter_map-append (parameter_of own) params.rows more.rows in
     let a = raw_append final ps qs in
     let m = one.many in
     let n = others.many in
@@ -198,9 +196,9 @@ proc_meaning at (Some r) k first = (Some (place_of (number_of r)), refl, refl)
 -- the rows of a procedure's heading in the scope round it, up to its type
 pub type_made_raw : (names : ℕ) (final : Scene) (h : Heading) (c : Context) (back : List Row)
     → (let made = section_rows c ((next_place c).ordinal + sections_length h.sections) h.sections in
-      let r = row_of 0 h.name.at (ProcType (result_type (with_rows c made.rows) h.result).value (parameter_count h.sections) (next_place c).ordinal) in
-      Ready names c (made.rows ++ r ∷ back) → Under c.scene (made.rows ++ r ∷ back) final → IsClosed c.scene → length (flat_map section_shapes h.sections) ≡ sections_length h.sections
-      → IsRawType final h (next_of (scene_with c.scene made.rows)))
+    let r = row_of 0 h.name.at (ProcType (result_type (with_rows c made.rows) h.result).value (parameter_count h.sections) (next_place c).ordinal) in
+    Ready names c (made.rows ++ r ∷ back) → Under c.scene (made.rows ++ r ∷ back) final → IsClosed c.scene → length (flat_map section_shapes h.sections) ≡ sections_length h.sections
+    → IsRawType final h (next_of (scene_with c.scene made.rows)))
 type_made_raw names final h c back ready under closed count =
     let start = (next_place c).ordinal in
     let own = start + sections_length h.sections in
@@ -227,12 +225,12 @@ type_made_raw names final h c back ready under closed count =
     let stays = remains c.scene final (made.rows ++ r ∷ back) under whole t there in
     let tail = under.tail in
     let final_rows : rows_at final.tables c.scene.block.scope ≡ own_of c.scene ++ (made.rows ++ (r ∷ (back ++ tail))) =
-        ap (λ s. rows_at s.tables c.scene.block.scope) under.same ∙ own-with c.scene ((made.rows ++ r ∷ back) ++ tail) ready.sound.scene.room
-        ∙ ap (λ xs. own_of c.scene ++ xs) (append_assoc made.rows (r ∷ back) tail) in
+    ap (λ s. rows_at s.tables c.scene.block.scope) under.same ∙ own-with c.scene ((made.rows ++ r ∷ back) ++ tail) ready.sound.scene.room
+    ∙ ap (λ xs. own_of c.scene ++ xs) (append_assoc made.rows (r ∷ back) tail) in
     let is_own : own ≡ t.ordinal = omega (arith, long, sum, many, count) in
     let at_end : t.ordinal ≡ length (own_of c.scene) + length made.rows = omega (arith, long, sum) in
     let rows : rows_between final t.scope start t.ordinal ≡ made.rows =
-        ap (λ xs. take (t.ordinal - start) (drop start xs)) final_rows ∙ between (own_of c.scene) made.rows (r ∷ (back ++ tail)) t.ordinal at_end in
+    ap (λ xs. take (t.ordinal - start) (drop start xs)) final_rows ∙ between (own_of c.scene) made.rows (r ∷ (back ++ tail)) t.ordinal at_end in
     record {
       first = start;
       many = parameter_count h.sections;
@@ -274,8 +272,8 @@ type_seen final later closed same h t rows raw =
     let kind : kind_of later t ≡ ProcType raw.result raw.many raw.first = ap (meaning_at later) stands ∙ meaning in
     let ps = filter_map (parameter_of t.ordinal) (rows_between final t.scope raw.first t.ordinal) in
     let params : parameters later t ≡ ps =
-        ap (λ p. parameters_by later p (kind_of later t)) stands ∙ ap (parameters_by later t) kind
-        ∙ ap (λ xs. filter_map (parameter_of t.ordinal) (take (t.ordinal - raw.first) (drop raw.first xs))) rows in
+    ap (λ p. parameters_by later p (kind_of later t)) stands ∙ ap (parameters_by later t) kind
+    ∙ ap (λ xs. filter_map (parameter_of t.ordinal) (take (t.ordinal - raw.first) (drop raw.first xs))) rows in
     record {
       cells = ap (cells_of_parameters later) params ∙ same_cells final later closed same ps raw.typed.there ∙ raw.typed.many;
       result = ap (λ m. is_some (parts.result_by m)) kind ∙ raw.some;

@@ -1,5 +1,5 @@
 -- The scene of a block's statements, over all finished rows.
-use Rattle.std.specs.Prelude.{◌≡◌, ◌≤ℤ◌, ◌-ℤ◌, ℕ, ◌+◌, ◌-◌, ◌*◌, ◌^◌, ◌<◌, ◌≤◌, true, false, ◌||◌, ◌⊎◌, ℤ, pos, negsuc, take, List, [], ◌∷◌, ◌++◌, length, slice_get, slice_index_or, Option, Some, None, unwrap_or}
+use Rattle.std.specs.Prelude.{◌≡◌, ◌≤ℤ◌, ◌-ℤ◌, ℕ, ◌+◌, ◌-◌, ◌^◌, ◌<◌, ◌≤◌, true, false, ◌||◌, ◌⊎◌, ℤ, pos, negsuc, take, List, [], ◌∷◌, ◌++◌, length, slice_get, slice_index_or, Option, Some, None, unwrap_or}
 use Rattle.std.proofs.Common.{ap, subst, sym, ◌∙◌, refl, inl, inr, arith}
 use Rattle.std.proofs.Math.Facts.{yes_leb}
 use Rattle.std.proofs.lemmas.Bool.{cases_order, ltb-true}
@@ -19,12 +19,10 @@ use Rattle.m2_base.specs.Statics.Contexts.{Block, Scene, Source, counting}
 use Rattle.m2_base.specs.Statics.FormedRows.{AreRight, IsFilled, IsSoundText}
 use Rattle.m2_base.specs.Statics.Ranges.{Range, range, count_of, count_to, cardinal_range, integer_range}
 use Rattle.m2_base.specs.Statics.Types.{is_broken, kind_of, meaning_at, range_by, range_of, stands_for}
-use Rattle.m2_base.proofs.SceneLaws.{own_of}
 use Rattle.m2_base.proofs.Sound.{Sound, RowOk, IsThere}
 use Rattle.m2_base.proofs.SoundParts.{most}
 use Rattle.row_laws.proofs.Numbers.{IsIndex, Agrees}
 use Rattle.row_laws.specs.RowRanges.{HasOperands, IsIndexRange}
-use Rattle.row_laws.proofs.Agreeing.{index_later}
 use Rattle.row_laws.proofs.Fitting.{IsInModule}
 use Rattle.row_laws.proofs.Settled.{IsLater, IsSameBehind}
 

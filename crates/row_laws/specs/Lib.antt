@@ -3,3 +3,4 @@ pub mod Procedures
 pub mod Sight
 pub mod TextTrees
 pub mod Definitions
+pub mod UnitBlocks

@@ -4,7 +4,6 @@ use Rattle.m2_base.specs.Lists.{Each, IsIn}
 use Rattle.m2_base.specs.Rows.{row_meaning}
 use Rattle.m2_base.specs.declared.outputs.HeadingNote.{HeadingNote}
 use Rattle.m2_base.specs.declared.rows.Place.{Place}
-use Rattle.m2_base.specs.declared.rows.Row.{Row}
 use Rattle.m2_base.specs.declared.rows.RowMeaning.{RowMeaning}
 use Rattle.m2_base.specs.declared.rows.RowMeaning.TheVariants.{Proc}
 use Rattle.m2_base.specs.declared.trees.declarations.StreamKind.{StreamKind}

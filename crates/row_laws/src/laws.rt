@@ -1,6 +1,7 @@
 //! Laws on the numbers of finished rows, each the contract of a function that does nothing.
 ghost use Rattle.std.specs.Prelude.{ℕ, ◌<◌, List, [], ◌∷◌};
 ghost use Rattle.ll_grammar.specs.Texts.{Spells};
+ghost use Rattle.m2_base.specs.Finished.{AreRead};
 ghost use Rattle.m2_base.specs.Grammar.{grammar, levels, stream};
 ghost use Rattle.m2_base.specs.Standard.{standard_rows};
 ghost use Rattle.m2_base.specs.Statics.BlockRows.{declare_block};
@@ -12,12 +13,14 @@ ghost use Rattle.m2_base.specs.Statics.UnitNotes.{complete_context};
 ghost use Rattle.m2_base.specs.Statics.UnitRows.{unit_rows};
 ghost use Rattle.m2_base.specs.StreamsOf.{stream_of};
 ghost use Rattle.m2_base.specs.Trees.{Stream};
+ghost use Rattle.m2_base.specs.Units.{UnitTexts};
 ghost use Rattle.m2_base.specs.declared.token.Token.{Token};
 ghost use Rattle.m2_base.specs.declared.trees.declarations.StreamKind.{StreamKind as KindOfStream};
 ghost use Rattle.row_laws.specs.Procedures.{ProceduresAreDeclared};
 ghost use Rattle.row_laws.specs.RowRanges.{BlockInRange, CellsAreThere, EachBlock, IsSoundUnit, OwnCellsAreThere};
 ghost use Rattle.row_laws.specs.Sight.{LeadsInSight};
 ghost use Rattle.row_laws.specs.TextTrees.{AreOfTexts, IsTreeOf};
+ghost use Rattle.row_laws.specs.UnitBlocks.{HasItsBlocks};
 
 /// The finished rows of a unit keep to the ranges of operands, and its blocks declare what does. The cells of a block's variables,
 /// of an implementation module's own definition too, and of what a procedure's body copies first are the block's, unless those
@@ -49,4 +52,11 @@ pub fn trees_are_of_their_kinds()
 /// type has in each block that sees it; the cells of its variables are there.
 pub fn definitions_are_as_noted()
     ensures { (names : List (List ℕ)) (u : UnitTrees) → IsSoundUnit names u → AreOfTexts u → EachBlock (λ before d. d.block.scope < home_of u → Each (λ r. IsAsNoted u d (declare_block u.source before d).value (row_meaning r)) (declare_block u.source before d).rows) u.source (standard_rows ∷ []) (blocks_of u) }
+{}
+
+/// The blocks of a unit of read texts have the forms of their kinds, and each procedure that is declared in a main block is a block
+/// of the unit. Its trees are of the kinds of their texts.
+pub fn blocks_have_their_forms()
+    ensures blocks { (texts : UnitTexts) (u : UnitTrees) → AreRead texts u → HasItsBlocks u }
+    ensures trees { (texts : UnitTexts) (u : UnitTrees) → AreRead texts u → AreOfTexts u }
 {}

@@ -8,6 +8,6 @@
 mod laws;
 
 pub use laws::{
-    definitions_are_as_noted, procedures_are_declared, rows_are_in_range, sight_is_closed,
-    trees_are_of_their_kinds,
+    blocks_have_their_forms, definitions_are_as_noted, procedures_are_declared, rows_are_in_range,
+    sight_is_closed, trees_are_of_their_kinds,
 };
