@@ -5,6 +5,7 @@ ghost use Rattle.code_form.specs.Modules.{World};
 ghost use Rattle.code_form.specs.Valid.{IsValidCode};
 ghost use Rattle.m2_base.specs.declared.rows.Row.{Row};
 ghost use Rattle.m2_base.specs.Grammar.{grammar, levels, stream};
+ghost use Rattle.m2_base.specs.Finished.{AreRead};
 ghost use Rattle.m2_base.specs.Lists.{Each};
 ghost use Rattle.m2_base.specs.Standard.{standard_rows};
 ghost use Rattle.m2_base.specs.Statics.Blocks.{BlockTree, UnitTrees, blocks_of, home_of, main_block};
@@ -14,6 +15,7 @@ ghost use Rattle.m2_base.specs.Statics.ReadTrees.{IsReadItem, IsReadToken};
 ghost use Rattle.m2_base.specs.Statics.Items.{items_of};
 ghost use Rattle.m2_base.specs.StreamsOf.{stream_of};
 ghost use Rattle.m2_base.specs.Trees.{Stream};
+ghost use Rattle.m2_base.specs.Units.{UnitTexts};
 ghost use Rattle.m2_base.specs.declared.token.Token.{Token};
 ghost use Rattle.m2_base.specs.declared.trees.declarations.StreamKind.{StreamKind as KindOfStream};
 ghost use Rattle.m2_base.specs.Statics.Contexts.{Source};
@@ -31,7 +33,6 @@ ghost use Rattle.block_laws.specs.Sight.{IsInSight, Sees};
 ghost use Rattle.block_laws.specs.Worlds.{unit_world};
 ghost use Rattle.block_laws.specs.MainBlocks.{IsMainBlock};
 ghost use Rattle.row_laws.specs.TextTrees.{AreOfTexts};
-ghost use Rattle.row_laws.specs.UnitBlocks.{HasItsBlocks};
 
 /// The statements of a stream are as read, where the tokens are that spell its tree.
 pub fn statements_are_read()
@@ -69,13 +70,13 @@ pub fn lone_code_is_valid()
         → block_diags source (standard_rows ∷ []) (unit_rows u) b ≡ [] → IsValidCode (lone_world (declare_block source (standard_rows ∷ []) b).value.cell p) 0 p }
 {}
 
-/// The code of each block of a unit's main text is valid in the unit's world where no block has a diagnostic: the unit's trees
-/// are sound and read, and their blocks have their forms and their procedures. Asked beside is what else holds then: of an
-/// implementation module, that no parameter of the headings is in error; of each block, that its rows lead to scopes in sight.
+/// The code of each block of a unit's main text is valid in the unit's world where no block has a diagnostic: the unit's texts are
+/// read, its trees are sound, and what they hold was read from tokens of a text within its limit. Of the headings of an implementation
+/// module and of its own definition it is asked that no parameter is in error.
 pub fn code_is_valid()
-    ensures { (names : List (List ℕ)) (u : UnitTrees) → IsSoundUnit names u → HasItsBlocks u → Each (λ b. AreReadStatements names b.tree.body) (blocks_of u) → Each (λ b. block_tokens b.tree ≤ most_tokens) (blocks_of u)
-        → EachBlock (λ before b. block_diags u.source before (unit_rows u) b ≡ []) u.source (standard_rows ∷ []) (blocks_of u)
-        → HasSoundHeadings u → Each (λ b. Each (IsReadItem names) (items_of b.tree)) (blocks_of u) → Each (λ b. home_of u ≤ b.block.scope → Sees (IsInSight b.block) (complete_context u.source (unit_rows u) b.block).scene) (blocks_of u)
+    ensures { (names : List (List ℕ)) (texts : UnitTexts) (u : UnitTrees) → IsSoundUnit names u → AreRead texts u → Each (λ b. AreReadStatements names b.tree.body) (blocks_of u) → Each (λ b. Each (IsReadItem names) (items_of b.tree)) (blocks_of u)
+        → Each (λ b. block_tokens b.tree ≤ most_tokens) (blocks_of u) → EachBlock (λ before b. block_diags u.source before (unit_rows u) b ≡ []) u.source (standard_rows ∷ []) (blocks_of u)
+        → HasSoundHeadings u
         → EachBlock (λ before b. home_of u ≤ b.block.scope → IsValidCode (unit_world u) (b.block.scope - home_of u) (procedure_of (block_code u.source before (unit_rows u) b))) u.source (standard_rows ∷ []) (blocks_of u) }
 {}
 
