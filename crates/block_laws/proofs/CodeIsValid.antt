@@ -17,7 +17,7 @@ use Rattle.row_laws.specs.RowRanges.{EachBlock, IsSoundUnit}
 use Rattle.row_laws.proofs.TextBlocks.{blocks_read, trees_read}
 use Rattle.stmt_sem.specs.BlockCode.{block_code, block_diags}
 use Rattle.stmt_sem.specs.Tokens.{block_tokens}
-use Rattle.block_laws.specs.Headings.{HasSoundHeadings}
+use Rattle.row_laws.specs.Headings.{HasSoundHeadings}
 use Rattle.block_laws.specs.Named.{procedure_of}
 use Rattle.block_laws.specs.ReadStatements.{AreReadStatements}
 use Rattle.block_laws.specs.Sight.{IsInSight, Sees}

@@ -30,7 +30,8 @@ use Rattle.m2_base.specs.declared.trees.Ident.{Ident}
 use Rattle.row_laws.proofs.Whole.{whole-rows}
 use Rattle.row_laws.specs.Procedures.{IsDeclared, IsSeenAs, IsTypeOf}
 use Rattle.stmt_sem.specs.BlockCode.{body_of, run_of, size_diags}
-use Rattle.block_laws.specs.Headings.{AreSoundFor, HasNamedHeadings, HasSoundHeadings, HasSoundParameters, IsNamedProcedure}
+use Rattle.block_laws.specs.Headings.{HasNamedHeadings, IsNamedProcedure}
+use Rattle.row_laws.specs.Headings.{AreSoundFor, HasSoundHeadings, HasSoundParameters}
 use Rattle.block_laws.proofs.BlocksAt.{unit_made}
 use Rattle.block_laws.proofs.Chains.{Stands, blocks_stand}
 use Rattle.block_laws.proofs.Links.{in_each}

@@ -25,3 +25,10 @@ pub mod Joined
 pub mod Numbered
 pub mod InnerBlocks
 pub mod TextBlocks
+pub mod ClearRows
+pub mod ClearNotes
+pub mod ClearOperations
+pub mod ClearConstants
+pub mod ClearTypes
+pub mod ClearItems
+pub mod ClearUnits

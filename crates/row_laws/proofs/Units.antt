@@ -585,7 +585,7 @@ unfolding unit_rows
 unit_seen names u is =
     all_seen (length names) u.source u.own (home_of u) (unit_rows u) (unit_whole names u is) (blocks_of u) refl is.scopes is.blocks (blocks_fit u) (unit_holds names u is)
 
-each_block_then : (P Q : List (List Row) → BlockTree → Type 0) (source : Source) (blocks : List BlockTree) (before : List (List Row)) → ((ts : List (List Row)) (b : BlockTree) → P ts b → Q ts b)
+pub each_block_then : (P Q : List (List Row) → BlockTree → Type 0) (source : Source) (blocks : List BlockTree) (before : List (List Row)) → ((ts : List (List Row)) (b : BlockTree) → P ts b → Q ts b)
     → EachBlock P source before blocks → EachBlock Q source before blocks
 each_block_then P Q source [] before f h = tt
 each_block_then P Q source (b ∷ blocks) before f h = (f before b h.0, each_block_then P Q source blocks (before ++ (declare_block source before b).rows ∷ []) f h.1)

@@ -4,3 +4,4 @@ pub mod Sight
 pub mod TextTrees
 pub mod Definitions
 pub mod UnitBlocks
+pub mod Headings

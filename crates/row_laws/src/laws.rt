@@ -1,5 +1,5 @@
 //! Laws on the numbers of finished rows, each the contract of a function that does nothing.
-ghost use Rattle.std.specs.Prelude.{ℕ, ◌<◌, List, [], ◌∷◌};
+ghost use Rattle.std.specs.Prelude.{◌≡◌, ℕ, ◌<◌, List, [], ◌∷◌};
 ghost use Rattle.ll_grammar.specs.Texts.{Spells};
 ghost use Rattle.m2_base.specs.Finished.{AreRead};
 ghost use Rattle.m2_base.specs.Grammar.{grammar, levels, stream};
@@ -9,6 +9,8 @@ ghost use Rattle.m2_base.specs.Statics.Blocks.{UnitTrees, blocks_of, home_of};
 ghost use Rattle.m2_base.specs.Lists.{Each};
 ghost use Rattle.m2_base.specs.Rows.{row_meaning};
 ghost use Rattle.row_laws.specs.Definitions.{IsAsNoted};
+ghost use Rattle.m2_base.specs.Statics.Items.{items_of};
+ghost use Rattle.m2_base.specs.Statics.ReadTrees.{IsReadItem};
 ghost use Rattle.m2_base.specs.Statics.UnitNotes.{complete_context};
 ghost use Rattle.m2_base.specs.Statics.UnitRows.{unit_rows};
 ghost use Rattle.m2_base.specs.StreamsOf.{stream_of};
@@ -16,6 +18,7 @@ ghost use Rattle.m2_base.specs.Trees.{Stream};
 ghost use Rattle.m2_base.specs.Units.{UnitTexts};
 ghost use Rattle.m2_base.specs.declared.token.Token.{Token};
 ghost use Rattle.m2_base.specs.declared.trees.declarations.StreamKind.{StreamKind as KindOfStream};
+ghost use Rattle.row_laws.specs.Headings.{HasSoundHeadings};
 ghost use Rattle.row_laws.specs.Procedures.{ProceduresAreDeclared};
 ghost use Rattle.row_laws.specs.RowRanges.{BlockInRange, CellsAreThere, EachBlock, IsSoundUnit, OwnCellsAreThere};
 ghost use Rattle.row_laws.specs.Sight.{LeadsInSight};
@@ -59,4 +62,10 @@ pub fn definitions_are_as_noted()
 pub fn blocks_have_their_forms()
     ensures blocks { (texts : UnitTexts) (u : UnitTrees) → AreRead texts u → HasItsBlocks u }
     ensures trees { (texts : UnitTexts) (u : UnitTrees) → AreRead texts u → AreOfTexts u }
+{}
+
+/// In a unit whose declarations have no diagnostic no parameter of the headings of an implementation module and of its own definition
+/// is in error, seen from the module's block. The names in the trees aren't empty: rows without a name are found by the empty one.
+pub fn headings_are_sound()
+    ensures { (names : List (List ℕ)) (u : UnitTrees) → IsSoundUnit names u → Each (λ b. Each (IsReadItem names) (items_of b.tree)) (blocks_of u) → EachBlock (λ before b. (declare_block u.source before b).diags ≡ []) u.source (standard_rows ∷ []) (blocks_of u) → HasSoundHeadings u }
 {}

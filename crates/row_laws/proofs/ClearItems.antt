@@ -1,0 +1,227 @@
+-- The rows of every item in a clear scene, where it has no diagnostic.
+use Rattle.std.specs.Prelude.{◌≡◌, ℕ, ◌+◌, ◌^◌, ◌<◌, ◌⊎◌, Bool, length, List, [], ◌∷◌, ◌++◌, Option, Some, None}
+use Rattle.std.proofs.Common.{ap, subst, sym, ◌∙◌, refl, inl, inr, arith}
+use Rattle.std.proofs.lemmas.Bool.{cases_order}
+use Rattle.std.proofs.lemmas.List.{length-append}
+use Rattle.m2_base.specs.Lists.{Each}
+use Rattle.m2_base.specs.Rows.{row_of, row_meaning}
+use Rattle.m2_base.specs.declared.rows.Mode.{Mode}
+use Rattle.m2_base.specs.declared.rows.Mode.TheVariants.{ByAddress, Open, Plain}
+use Rattle.m2_base.specs.declared.rows.Place.{Place}
+use Rattle.m2_base.specs.declared.rows.Row.{Row}
+use Rattle.m2_base.specs.declared.rows.RowMeaning.TheVariants.{Alias, Module, Opaque, Param, Proc, ProcType, TypeName, Var}
+use Rattle.m2_base.specs.declared.trees.Ident.{Ident}
+use Rattle.m2_base.specs.declared.trees.declarations.StreamKind.{StreamKind}
+use Rattle.m2_base.specs.Standard.{text_type}
+use Rattle.m2_base.specs.Tables.{rows_at}
+use Rattle.m2_base.specs.Trees.{Expr, Heading, Section, TypeExpr}
+use Rattle.m2_base.specs.Statics.BlockRows.{at_item, declare_items}
+use Rattle.m2_base.specs.Statics.Cells.{capped}
+use Rattle.m2_base.specs.Statics.Constants.{constant_of}
+use Rattle.m2_base.specs.Statics.Contexts.{Context, Scene, row_at, scope_of_module}
+use Rattle.m2_base.specs.Statics.Declarations.{declare}
+use Rattle.m2_base.specs.Statics.HeadingRows.{Placing, heading_rows, own_section_rows, own_sections_rows, parameter_row, parameter_rows, placing}
+use Rattle.m2_base.specs.Statics.ImportRows.{import_rows, place_or_broken}
+use Rattle.m2_base.specs.Statics.Items.{Item, const_item, heading_item, import_item, proc_item, type_item, vars_item}
+use Rattle.m2_base.specs.Statics.Lookup.{Entry}
+use Rattle.m2_base.specs.Statics.Makes.{Makes, makes_named, makes_row, next_place, scene_with, with_rows}
+use Rattle.m2_base.specs.Statics.NameRows.{const_meaning, const_rows, declared_type, type_name_rows, var_rows, vars_rows}
+use Rattle.m2_base.specs.Statics.ProcedureRows.{param_rows, parameter_cells, parameter_count, proc_number, proc_rows, proc_scope, section_rows, sections_length}
+use Rattle.m2_base.specs.Statics.ProcedureTypes.{is_structured, open_array_row, parameter_type, result_type}
+use Rattle.m2_base.specs.Statics.ReadTrees.{IsReadExpr, IsReadHeading, IsReadItem, IsReadSection, IsReadName, IsReadType, IsReadTypeOption}
+use Rattle.m2_base.specs.Statics.TypeNames.{type_of_qual}
+use Rattle.m2_base.specs.Statics.TypeRows.{type_rows}
+use Rattle.m2_base.specs.Statics.Types.{size_of}
+use Rattle.m2_base.specs.Statics.Uses.{use_of}
+use Rattle.m2_base.specs.declared.operands.Operand.{Operand}
+use Rattle.m2_base.specs.declared.operands.Operand.TheVariants.{Constant, StringConstant}
+use Rattle.m2_base.proofs.RowLaws.{place_of-number_of}
+use Rattle.m2_base.proofs.SceneLaws.{IsOpen, own_of, own-with, with-none}
+use Rattle.m2_base.proofs.SoundTypes.{either}
+use Rattle.row_laws.proofs.ClearRows.{HasClear, IsClear, IsClearScene, IsNamable, IsTarget, clear_again, other_rows, target_there}
+use Rattle.row_laws.proofs.ClearNotes.{IsEntry, MakesFine, chain, done, named_fine, only, qual_fine, row_fine, use_fine}
+use Rattle.row_laws.proofs.ClearConstants.{IsConstant, constant_fine}
+use Rattle.row_laws.proofs.ClearTypes.{IsAny, looked, open_fine, parameter_fine, type_fine}
+
+-- ** Constants, types and variables
+
+const_clear : (o : Option Operand) (n at : ℕ) → IsConstant o → HasClear (row_meaning (row_of n at (const_meaning o)))
+const_clear None n at h = absurd h
+const_clear (Some (Constant t v)) n at h = clear_again t h
+const_clear (Some (StringConstant m l)) n at h = clear_again text_type refl
+const_clear (Some o) n at h = absurd h
+
+const_namable : (tables : List (List Row)) (o : Option Operand) (n at : ℕ) → IsConstant o → IsNamable tables (row_meaning (row_of n at (const_meaning o)))
+const_namable tables None n at h = absurd h
+const_namable tables (Some (Constant t v)) n at h = tt
+const_namable tables (Some (StringConstant m l)) n at h = tt
+const_namable tables (Some o) n at h = absurd h
+
+const_fine : (names : List (List ℕ)) (c : Context) (i : Ident) (e : Expr) → IsClearScene c.scene → IsReadExpr names e → MakesFine IsAny c (const_rows c i e)
+const_fine names c i e clear read =
+    let o = (constant_of c e).value in
+    let d = with_rows c [] in
+    chain (only clear (constant_fine c clear names e read)) (λ more h. named_fine d i.name i.at (const_meaning o) more (const_clear o i.name i.at h) (const_namable d.scene.tables o i.name i.at h))
+
+declared_fine : (names : List (List ℕ)) (c : Context) (i : Ident) (t : Option TypeExpr) → IsClearScene c.scene → IsReadTypeOption names t → MakesFine IsClear c (declared_type c i t)
+declared_fine names c i None clear read = row_fine c i.at Opaque clear tt
+declared_fine names c i (Some t) clear read = type_fine names t c clear read
+
+type_name_fine : (names : List (List ℕ)) (c : Context) (i : Ident) (t : Option TypeExpr) → IsClearScene c.scene → IsReadTypeOption names t → MakesFine IsAny c (type_name_rows c i t)
+type_name_fine names c i t clear read =
+    let typ = declared_type c i t in
+    chain (declared_fine names c i t clear read) (λ more h. named_fine (with_rows c typ.rows) i.name i.at (TypeName typ.value) more (clear_again typ.value h) tt)
+
+-- a variable, whatever its mode
+variable_clear : (t : Place) (m : Mode) (o n at : ℕ) → IsClear t → HasClear (row_meaning (row_of n at (Var t m o)))
+variable_clear t m o n at h = clear_again t h
+
+variable_fine : (c : Context) (i : Ident) (t : Place) (m : Mode) (o : ℕ) → IsClearScene c.scene → IsClear t → MakesFine IsAny c (makes_named c i.name i.at (Var t m o))
+variable_fine c i t m o clear h = named_fine c i.name i.at (Var t m o) clear (variable_clear t m o i.name i.at h) tt
+
+variables_fine : (idents : List Ident) (c : Context) (t : Place) (cell : ℕ) → IsClearScene c.scene → IsClear t → MakesFine IsAny c (var_rows c t cell idents)
+variables_fine [] c t cell clear h = done clear tt
+variables_fine (i ∷ idents) c t cell clear h =
+    let row = makes_named c i.name i.at (Var t Plain cell) in
+    let d = with_rows c row.rows in
+    chain (variable_fine c i t Plain cell clear h) (λ more k. variables_fine idents d t (capped (cell + size_of d.scene t)) more h)
+
+vars_fine : (names : List (List ℕ)) (c : Context) (idents : List Ident) (t : TypeExpr) (cell : ℕ) → IsClearScene c.scene → IsReadType names t → MakesFine IsAny c (vars_rows c idents t cell)
+vars_fine names c idents t cell clear read =
+    let typ = type_rows c t in
+    chain (type_fine names t c clear read) (λ more h. variables_fine idents (with_rows c typ.rows) typ.value cell more h)
+
+-- ** Imports
+
+-- no scope has too many rows
+abbrev pub AreFew : List (List Row) → Type 0
+AreFew tables = (s : ℕ) → length (rows_at tables s) < 2 ^ 31
+
+alias_namable : (tables : List (List Row)) (o : Option Entry) (n at : ℕ) → AreFew tables → IsEntry tables o → IsNamable tables (row_meaning (row_of n at (Alias (place_or_broken o))))
+alias_namable tables None n at few h = absurd h
+alias_namable tables (Some e) n at few h =
+    let target : IsTarget (row_meaning (row_at tables e.0)) = subst (λ (r : Row). IsTarget (row_meaning r)) (sym h.stands) h.target in
+    let there = target_there tables e.0 target in
+    let small = few e.0.scope in
+    subst (λ p. IsTarget (row_meaning (row_at tables p))) (sym (place_of-number_of e.0 (omega (arith, there, small)))) target
+
+import_fine : (names : List (List ℕ)) (c : Context) (from : Option Ident) (i : Ident) → IsClearScene c.scene → AreFew c.scene.tables → IsReadName names i → MakesFine IsAny c (import_rows c from i)
+import_fine names c None i clear few read = named_fine c i.name i.at (Module (scope_of_module c.source i.name)) clear tt tt
+import_fine names c (Some m) i clear few read =
+    let within = Some (scope_of_module c.source m.name) in
+    let o = (use_of c within i.name i.at).value in
+    let row = row_of i.name i.at (Alias (place_or_broken o)) in
+    chain (only clear (use_fine c clear within i.name i.at read.some))
+    (λ more h. named_fine (with_rows c []) i.name i.at (Alias (place_or_broken o)) more tt
+    (subst (λ (s : Scene). IsNamable s.tables (row_meaning row)) (sym (with-none c.scene)) (alias_namable c.scene.tables o i.name i.at few h)))
+
+-- ** Headings
+
+parameter_row_fine : (c : Context) (s : Section) (elem t : Place) (f : Placing) (i : Ident) → IsClearScene c.scene → IsClear t → MakesFine IsAny c (parameter_row c s elem t f i)
+parameter_row_fine c s elem t f i clear h =
+    let P : Makes Placing → Type 0 = λ (x : Makes Placing). MakesFine IsAny c x in
+    either P s.is_open _ _ (chain (variable_fine c i t Open f.cell clear h) (λ more k. done more tt))
+    (either P s.by_ref _ _ (chain (variable_fine c i t ByAddress f.cell clear h) (λ more k. done more tt))
+    (either P (is_structured c t) _ _ (chain (variable_fine c i t Plain f.own clear h) (λ more k. done more tt)) (chain (variable_fine c i t Plain f.cell clear h) (λ more k. done more tt))))
+
+parameters_fine : (idents : List Ident) (c : Context) (s : Section) (elem t : Place) (f : Placing) → IsClearScene c.scene → IsClear t → MakesFine IsAny c (parameter_rows c s elem t f idents)
+parameters_fine [] c s elem t f clear h = done clear tt
+parameters_fine (i ∷ idents) c s elem t f clear h =
+    let row = parameter_row c s elem t f i in
+    chain (parameter_row_fine c s elem t f i clear h) (λ more k. parameters_fine idents (with_rows c row.rows) s elem t row.value more h)
+
+own_section_fine : (names : List (List ℕ)) (c : Context) (f : Placing) (s : Section) → IsClearScene c.scene → IsReadSection names s → MakesFine IsAny c (own_section_rows c f s)
+own_section_fine names c f s clear read =
+    let elem = (type_of_qual c s.of).value in
+    let d = with_rows c [] in
+    let typ = open_array_row d s.of.first.at s.is_open elem in
+    chain (only clear (qual_fine c clear names s.of read.of))
+    (λ one h. chain (open_fine d s.of.first.at s.is_open elem one h) (λ two k. parameters_fine s.names (with_rows d typ.rows) s elem typ.value f two k))
+
+own_sections_fine : (names : List (List ℕ)) (sections : List Section) (c : Context) (f : Placing) → IsClearScene c.scene → Each (IsReadSection names) sections → MakesFine IsAny c (own_sections_rows c f sections)
+own_sections_fine names [] c f clear read = done clear tt
+own_sections_fine names (s ∷ sections) c f clear read =
+    let made = own_section_rows c f s in
+    chain (own_section_fine names c f s clear read.0) (λ more k. own_sections_fine names sections (with_rows c made.rows) made.value more read.1)
+
+heading_fine : (names : List (List ℕ)) (c : Context) (h : Heading) → IsClearScene c.scene → IsReadHeading names h → MakesFine IsAny c (heading_rows c h)
+heading_fine names c h clear read =
+    let made = own_sections_rows c (placing 0 (capped (parameter_cells h.sections)) []) h.sections in
+    let d = with_rows c made.rows in
+    chain (own_sections_fine names h.sections c (placing 0 (capped (parameter_cells h.sections)) []) clear read.sections)
+    (λ one k. chain (looked d (result_type d h.result) one) (λ two j. done two tt))
+
+params_fine : (idents : List Ident) (c : Context) (own : ℕ) (by_ref : Bool) (t : Place) → IsClearScene c.scene → IsClear t → MakesFine IsAny c (param_rows c own by_ref t idents)
+params_fine [] c own by_ref t clear h = done clear tt
+params_fine (i ∷ idents) c own by_ref t clear h =
+    let row = makes_row c i.at (Param t by_ref own) in
+    chain (row_fine c i.at (Param t by_ref own) clear (clear_again t h)) (λ more k. params_fine idents (with_rows c row.rows) own by_ref t more h)
+
+sections_fine : (names : List (List ℕ)) (sections : List Section) (c : Context) (own : ℕ) → IsClearScene c.scene → Each (IsReadSection names) sections → MakesFine IsAny c (section_rows c own sections)
+sections_fine names [] c own clear read = done clear tt
+sections_fine names (s ∷ sections) c own clear read =
+    let typ = parameter_type c s.is_open s.of in
+    let d = with_rows c typ.rows in
+    let params = param_rows d own s.by_ref typ.value s.names in
+    chain (parameter_fine names c s.is_open s.of clear read.0.of)
+    (λ one h. chain (params_fine s.names d own s.by_ref typ.value one h) (λ two k. sections_fine names sections (with_rows d params.rows) own two read.1))
+
+proc_fine : (names : List (List ℕ)) (c : Context) (kind : StreamKind) (h : Heading) (stream : ℕ) → IsClearScene c.scene → IsReadHeading names h → MakesFine IsAny c (proc_rows c kind h stream)
+proc_fine names c kind h stream clear read =
+    let first = (next_place c).ordinal in
+    let made = section_rows c (first + sections_length h.sections) h.sections in
+    let d = with_rows c made.rows in
+    let r = (result_type d h.result).value in
+    let e = with_rows d [] in
+    let t = makes_row e h.name.at (ProcType r (parameter_count h.sections) first) in
+    chain (sections_fine names h.sections c (first + sections_length h.sections) clear read.sections)
+    (λ one k. chain (looked d (result_type d h.result) one)
+    (λ two j. chain (row_fine e h.name.at (ProcType r (parameter_count h.sections) first) two tt)
+    (λ three i. chain (named_fine (with_rows e t.rows) h.name.name h.name.at (Proc t.value (proc_number c kind stream) (proc_scope kind stream)) three tt tt) (λ four g. done four tt))))
+
+-- ** Items
+
+item_fine : (names : List (List ℕ)) (c : Context) (kind : StreamKind) (x : Item) (cell : ℕ) → IsClearScene c.scene → AreFew c.scene.tables → IsReadItem names x → MakesFine IsAny c (declare c kind x cell)
+item_fine names c kind (heading_item h) cell clear few read = heading_fine names c h clear read
+item_fine names c kind (import_item from i) cell clear few read = chain (import_fine names c from i clear few read.1) (λ more k. done more tt)
+item_fine names c kind (const_item i e) cell clear few read = chain (const_fine names c i e clear read.1) (λ more k. done more tt)
+item_fine names c kind (type_item i t) cell clear few read = chain (type_name_fine names c i t clear read.1) (λ more k. done more tt)
+item_fine names c kind (vars_item idents t) cell clear few read = chain (vars_fine names c idents t cell clear read.1) (λ more k. done more tt)
+item_fine names c kind (proc_item h stream) cell clear few read = chain (proc_fine names c kind h stream clear read.0) (λ more k. done more tt)
+
+-- the scopes of a scene have few rows, and its own also with these
+pub record HasSpace (scene : Scene) (rows : List Row) : Type 0 where
+  pub few : AreFew scene.tables
+  pub own : length (own_of scene) + length rows < 2 ^ 31
+
+space_right : (scene : Scene) (xs ys : List Row) → IsOpen scene → HasSpace scene (xs ++ ys) → HasSpace (scene_with scene xs) ys
+space_right scene xs ys o h =
+    let joined = length-append xs ys in
+    let made = ap length (own-with scene xs o) in
+    let longer = length-append (own_of scene) xs in
+    let own = h.own in
+    record { few = λ s. by_order s (cases_order s scene.block.scope); own = omega (arith, joined, made, longer, own) }
+  where
+    by_order : (s : ℕ) → (s ≡ scene.block.scope) ⊎ ((s < scene.block.scope) ⊎ (scene.block.scope < s)) → length (rows_at (scene_with scene xs).tables s) < 2 ^ 31
+    by_order s (inl same) =
+        let joined = length-append xs ys in
+        let longer = length-append (own_of scene) xs in
+        let own = h.own in
+        let made = ap length (ap (rows_at (scene_with scene xs).tables) same ∙ own-with scene xs o) in
+        omega (arith, joined, longer, own, made)
+    by_order s (inr (inl less)) = let few = h.few s in let e = ap length (other_rows scene xs s (λ q. omega (arith, q, less))) in omega (arith, few, e)
+    by_order s (inr (inr more)) = let few = h.few s in let e = ap length (other_rows scene xs s (λ q. omega (arith, q, more))) in omega (arith, few, e)
+
+space_left : (scene : Scene) (xs ys : List Row) → HasSpace scene (xs ++ ys) → HasSpace scene xs
+space_left scene xs ys h = let joined = length-append xs ys in let own = h.own in record { few = h.few; own = omega (arith, joined, own) }
+
+pub items_fine : (names : List (List ℕ)) (items : List Item) (c : Context) (kind : StreamKind) (i cell : ℕ) → IsClearScene c.scene → HasSpace c.scene (declare_items c kind i cell items).rows
+    → Each (IsReadItem names) items → MakesFine IsAny c (declare_items c kind i cell items)
+items_fine names [] c kind i cell clear space read = done clear tt
+items_fine names (x ∷ items) c kind i cell clear space read =
+    let a = at_item c i in
+    let m = declare a kind x cell in
+    let d = with_rows c m.rows in
+    let more = declare_items d kind (i + 1) m.value.cell items in
+    chain (item_fine names a kind x cell clear space.few read.0)
+    (λ one k. chain (items_fine names items d kind (i + 1) m.value.cell one (space_left d.scene more.rows [] (space_right c.scene m.rows (more.rows ++ []) clear.room space)) read.1) (λ two j. done two tt))

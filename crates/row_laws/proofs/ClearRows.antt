@@ -1,0 +1,294 @@
+-- Scenes in which no row has a type in error, and what is found in them.
+use Rattle.std.specs.Prelude.{◌≡◌, ◌≢◌, ℕ, zero, suc, ◌+◌, ◌-◌, ◌*◌, ◌/◌, ◌%◌, ◌^◌, ◌<◌, ◌≤◌, ◌==◌, Bool, true, false, if◌then◌else◌, ◌⊎◌, List, [], ◌∷◌, ◌++◌, length, map, nat_le, pos, slice_get, slice_index_or, Option, Some, None, unwrap_or}
+use Rattle.std.proofs.Common.{ap, subst, sym, ◌∙◌, refl, inl, inr, arith}
+use Rattle.std.proofs.lemmas.Bool.{and_from, and_parts, both_ways, cases_order, eq-eqb, eqb-true, leb-true}
+use Rattle.std.proofs.lemmas.List.{append-nil, get_or_append_left, get_or_past, get_or-append-add, get_or-set_other}
+use Rattle.std.proofs.lemmas.Option.{get_or_from_slice_get, slice_get_cases}
+use Rattle.m2_base.specs.Lists.{Each, WhereKept}
+use Rattle.m2_base.specs.Rows.{at_place, is_same_place, number_of, place_of, row_of, row_meaning}
+use Rattle.m2_base.specs.declared.rows.Place.{Place}
+use Rattle.m2_base.specs.declared.rows.Row.{Row}
+use Rattle.m2_base.specs.declared.rows.RowMeaning.{RowMeaning}
+use Rattle.m2_base.specs.declared.rows.RowMeaning.TheVariants.{Alias, Broken, Cardinal, Character, Const, Enum, Integer, Module, Nil, Opaque, OpenArray, Param, Proc, ProcType, Set, Standard, Subrange, Text, TypeName, Var, Whole}
+use Rattle.m2_base.specs.Standard.{bit_range, broken, cardinal, is_standard, named_rows, standard_meanings, standard_rows}
+use Rattle.m2_base.specs.Tables.{first_named, found_or, lookup, rows_at}
+use Rattle.m2_base.specs.Statics.Contexts.{Scene, row_at}
+use Rattle.m2_base.specs.Statics.Lookup.{Entry, entry_in}
+use Rattle.m2_base.specs.Statics.Makes.{scene_with}
+use Rattle.m2_base.specs.Statics.Types.{declared_as, is_broken, meaning_at, named_or, opaque_as, stands_as, stands_for, type_named, unless_opaque}
+use Rattle.m2_base.proofs.NoRepeats.{some_is}
+use Rattle.m2_base.proofs.SceneLaws.{IsOpen, open-with, own_of, own-with}
+use Rattle.m2_base.proofs.SoundTypes.{either}
+
+-- ** Types that aren't in error
+
+-- the type isn't that of parts in error
+abbrev pub IsClear : Place → Type 0
+IsClear t = is_same_place t broken ≡ false
+
+never_true : (b : Bool) → (b ≡ true → ⊥) → b ≡ false
+never_true true h = absurd (h refl)
+never_true false h = refl
+
+-- a number names the place of parts in error only if it is that place's
+low_number : (n s o : ℕ) → n ≡ s * 2 ^ 32 + o → n / 2 ^ 32 ≡ 0 → n % 2 ^ 32 ≡ 10 → (s ≡ 0) × (o ≡ 10)
+low_number n s o e h k = (omega (arith, e, h, k), omega (arith, e, h, k))
+
+-- a type is as clear as it is written in a row
+pub clear_again : (t : Place) → IsClear t → IsClear (place_of (number_of t))
+clear_again t h =
+    let n = t.scope * 2 ^ 32 + t.ordinal in
+    never_true (is_same_place (place_of (number_of t)) broken) (λ e.
+    let parts = and_parts (n / 2 ^ 32 == 0) (n % 2 ^ 32 == 10) e in
+    let is = low_number n t.scope t.ordinal refl (eqb-true (n / 2 ^ 32) 0 parts.0) (eqb-true (n % 2 ^ 32) 10 parts.1) in
+    both_ways (is_same_place t broken) h (and_from _ _ (eq-eqb t.scope 0 is.0) (eq-eqb t.ordinal 10 is.1)))
+
+-- a place of another scope than the standard one
+pub behind_clear : (s o : ℕ) → 0 < s → IsClear (at_place s o)
+behind_clear s o h =
+    never_true (is_same_place (at_place s o) broken) (λ e. let zero_is = eqb-true s 0 (and_parts (s == 0) (o == 10) e).0 in omega (arith, h, zero_is))
+
+-- ** Clear rows
+
+-- the types in a row that an analyser asks about aren't in error
+abbrev pub HasClear : RowMeaning → Type 0
+HasClear (Const t v l) = IsClear t
+HasClear (TypeName t) = IsClear t
+HasClear (Var t m o) = IsClear t
+HasClear (Param t v q) = IsClear t
+HasClear (OpenArray t) = IsClear t
+HasClear (Set t) = IsClear t
+HasClear other = Unit {0}
+
+-- what a name leads to in the end
+abbrev pub IsTarget : RowMeaning → Type 0
+IsTarget (Const t v l) = Unit {0}
+IsTarget (TypeName t) = Unit {0}
+IsTarget (Var t m o) = Unit {0}
+IsTarget (Proc t k s) = Unit {0}
+IsTarget (Module s) = Unit {0}
+IsTarget (Standard n) = Unit {0}
+IsTarget other = ⊥
+
+-- what has a name: an alias leads to what isn't one
+abbrev pub IsNamable : List (List Row) → RowMeaning → Type 0
+IsNamable tables (Alias p) = IsTarget (row_meaning (row_at tables p))
+IsNamable tables m = IsTarget m
+
+abbrev pub IsClearRow : List (List Row) → Row → Type 0
+IsClearRow tables r = HasClear (row_meaning r) × (r.name ≢ 0 → IsNamable tables (row_meaning r))
+
+-- all rows of these scopes are clear
+abbrev pub AreClear : List (List Row) → Type 0
+AreClear tables = (s o : ℕ) (r : Row) → slice_get (rows_at tables s) o ≡ Some r → IsClearRow tables r
+
+-- of all rows the types aren't in error
+abbrev pub HaveClear : List (List Row) → Type 0
+HaveClear tables = (s o : ℕ) (r : Row) → slice_get (rows_at tables s) o ≡ Some r → HasClear (row_meaning r)
+
+-- a scene whose rows are clear, and in which rows can be made
+pub record IsClearScene (scene : Scene) : Type 0 where
+  pub room : IsOpen scene
+  pub positive : 0 < scene.block.scope
+  pub standard : rows_at scene.tables 0 ≡ standard_rows
+  pub rows : AreClear scene.tables
+
+-- ** What is found
+
+named_at : (name : ℕ) (xs : List Row) (k : ℕ) (hit : ℕ × Row) → first_named name xs k ≡ Some hit → (j : ℕ) × (hit.0 ≡ k + j) × (slice_get xs j ≡ Some hit.1) × (hit.1.name ≡ name)
+named_at name [] k hit e = absurd (cc)
+named_at name (r ∷ xs) k hit e = by_test (r.name == name) refl (named_at name xs (k + 1) hit) e
+  where
+    by_test : (b : Bool) → (r.name == name) ≡ b → (first_named name xs (k + 1) ≡ Some hit → (j : ℕ) × (hit.0 ≡ k + 1 + j) × (slice_get xs j ≡ Some hit.1) × (hit.1.name ≡ name))
+        → (if b then Some (k, r) else first_named name xs (k + 1)) ≡ Some hit → (j : ℕ) × (hit.0 ≡ k + j) × (slice_get (r ∷ xs) j ≡ Some hit.1) × (hit.1.name ≡ name)
+    by_test true t rest h =
+        let e' : (k, r) ≡ hit = ap (λ (o : Option (ℕ × Row)). unwrap_or o (k, r)) h in
+        let f : k ≡ hit.0 = ap (λ (x : ℕ × Row). x.0) e' in
+        (0, omega (arith, f), ap (λ (x : ℕ × Row). Some x.1) e', ap (λ (x : ℕ × Row). x.1.name) (sym e') ∙ eqb-true r.name name t)
+    by_test false t rest h = let found = rest h in (suc found.0, (let f = found.1 in omega (arith, f)), found.2, found.3)
+
+-- an entry whose row has P and the name, and stands at its place
+pub record Found (P : Row → Type 0) (tables : List (List Row)) (name : ℕ) (e : Entry) : Type 0 where
+  pub holds : P e.1
+  pub named : e.1.name ≡ name
+  pub stands : row_at tables e.0 ≡ e.1
+
+module _ (P : Row → Type 0) (tables : List (List Row)) (all : (s o : ℕ) (r : Row) → slice_get (rows_at tables s) o ≡ Some r → P r) where
+  pub found_row : (chain : List ℕ) (name : ℕ) → WhereKept (lookup tables chain name) (Found P tables name)
+  found_row [] name = tt
+  found_row (s ∷ chain) name = by_hit (first_named name (rows_at tables s) 0) refl (found_row chain name)
+    where
+      by_hit : (o : Option (ℕ × Row)) → first_named name (rows_at tables s) 0 ≡ o → WhereKept (lookup tables chain name) (Found P tables name)
+          → WhereKept (found_or s o (lookup tables chain name)) (Found P tables name)
+      by_hit None e rest = rest
+      by_hit (Some hit) e rest =
+          let at = named_at name (rows_at tables s) 0 hit e in
+          let same : hit.0 ≡ at.0 = let h = at.1 in omega (arith, h) in
+          record {
+            holds = all s at.0 hit.1 at.2;
+            named = at.3;
+            stands = ap (λ n. slice_index_or (rows_at tables s) n (row_of 0 0 Broken)) same ∙ get_or_from_slice_get (rows_at tables s) at.0 hit.1 (row_of 0 0 Broken) at.2;
+          }
+
+  -- the row at a place, also where it is missing
+  pub row_of_place : P (row_of 0 0 Broken) → (p : Place) → P (row_at tables p)
+  row_of_place none p = by_case ((slice_get_cases (rows_at tables p.scope) p.ordinal).1)
+    where
+      by_case : ((x : Row) × (p.ordinal < length (rows_at tables p.scope)) × (slice_get (rows_at tables p.scope) p.ordinal ≡ Some x) × (slice_index_or (rows_at tables p.scope) p.ordinal x ≡ x))
+          ⊎ ((length (rows_at tables p.scope) ≤ p.ordinal) × (slice_get (rows_at tables p.scope) p.ordinal ≡ None))
+          → P (row_at tables p)
+      by_case (inl h) = subst P (sym (get_or_from_slice_get (rows_at tables p.scope) p.ordinal h.0 (row_of 0 0 Broken) h.2)) (all p.scope p.ordinal h.0 h.2)
+      by_case (inr h) = subst P (sym (get_or_past (rows_at tables p.scope) p.ordinal (row_of 0 0 Broken) h.0)) none
+
+pub have_clear : (tables : List (List Row)) → AreClear tables → HaveClear tables
+have_clear tables all s o r e = (all s o r e).0
+
+pub place_clear : (tables : List (List Row)) → HaveClear tables → (p : Place) → HasClear (row_meaning (row_at tables p))
+place_clear tables all p = row_of_place (λ r. HasClear (row_meaning r)) tables all tt p
+
+-- ** Types that stand for others
+
+module _ (scene : Scene) (all : HaveClear scene.tables) where
+  by_kind : (t u : Place) (m : RowMeaning) → IsClear t → IsClear u → IsClear (unless_opaque t u m)
+  by_kind t u Opaque h k = h
+  by_kind t u m h k = k
+
+  by_row : (t : Place) (m : RowMeaning) → IsClear t → HasClear m → IsClear (type_named scene t m)
+  by_row t (TypeName u) h k = by_kind t u (meaning_at scene u) h k
+  by_row t m h k = h
+
+  by_entry : (t : Place) (name : ℕ) (o : Option Entry) → IsClear t → WhereKept o (Found (λ r. HasClear (row_meaning r)) scene.tables name) → IsClear (named_or scene t o)
+  by_entry t name None h k = h
+  by_entry t name (Some e) h k = by_row t (row_meaning e.1) h k.holds
+
+  by_own : (t : Place) (o : Option ℕ) → IsClear t → IsClear (opaque_as scene t o)
+  by_own t None h = h
+  by_own t (Some own) h =
+      let name = (row_at scene.tables (at_place own (t.ordinal + 1))).name in
+      either IsClear (t.scope == own) (declared_as scene t name) t
+      (either IsClear (name == 0) t (named_or scene t (entry_in scene.tables scene.block.home name)) h
+      (by_entry t name (entry_in scene.tables scene.block.home name) h (found_row (λ (r : Row). HasClear (row_meaning r)) scene.tables all (scene.block.home ∷ []) name)))
+      h
+
+  by_meaning : (t : Place) (m : RowMeaning) → IsClear t → IsClear (stands_as scene t m)
+  by_meaning t Opaque h = by_own t scene.block.own h
+  by_meaning t m h = h
+
+  -- what stands for a type isn't in error either
+  pub stands_clear : (t : Place) → IsClear t → IsClear (stands_for scene t)
+  stands_clear t h = by_meaning t (meaning_at scene t) h
+
+  pub not_broken : (t : Place) → IsClear t → is_broken scene t ≡ false
+  not_broken t h = stands_clear t h
+
+-- ** More rows
+
+-- the scopes have more rows
+abbrev pub Extends : (old new : List (List Row)) → Type 0
+Extends old new = (s : ℕ) → (ys : List Row) × (rows_at new s ≡ rows_at old s ++ ys)
+
+pub target_stays : (old new : List (List Row)) → Extends old new → (p : Place) → IsTarget (row_meaning (row_at old p)) → IsTarget (row_meaning (row_at new p))
+target_stays old new more p h = by_case ((slice_get_cases (rows_at old p.scope) p.ordinal).1)
+  where
+    by_case : ((x : Row) × (p.ordinal < length (rows_at old p.scope)) × (slice_get (rows_at old p.scope) p.ordinal ≡ Some x) × (slice_index_or (rows_at old p.scope) p.ordinal x ≡ x))
+        ⊎ ((length (rows_at old p.scope) ≤ p.ordinal) × (slice_get (rows_at old p.scope) p.ordinal ≡ None))
+        → IsTarget (row_meaning (row_at new p))
+    by_case (inl x) =
+        let ys = more p.scope in
+        let same : row_at new p ≡ row_at old p =
+        ap (λ (rs : List Row). slice_index_or rs p.ordinal (row_of 0 0 Broken)) ys.1 ∙ get_or_append_left (rows_at old p.scope) ys.0 (row_of 0 0 Broken) p.ordinal x.1 in
+        subst (λ (r : Row). IsTarget (row_meaning r)) (sym same) h
+    by_case (inr x) = absurd (subst (λ (r : Row). IsTarget (row_meaning r)) (get_or_past (rows_at old p.scope) p.ordinal (row_of 0 0 Broken) x.0) h)
+
+-- a target is there
+pub target_there : (tables : List (List Row)) (p : Place) → IsTarget (row_meaning (row_at tables p)) → p.ordinal < length (rows_at tables p.scope)
+target_there tables p h = by_case ((slice_get_cases (rows_at tables p.scope) p.ordinal).1)
+  where
+    by_case : ((x : Row) × (p.ordinal < length (rows_at tables p.scope)) × (slice_get (rows_at tables p.scope) p.ordinal ≡ Some x) × (slice_index_or (rows_at tables p.scope) p.ordinal x ≡ x))
+        ⊎ ((length (rows_at tables p.scope) ≤ p.ordinal) × (slice_get (rows_at tables p.scope) p.ordinal ≡ None))
+        → p.ordinal < length (rows_at tables p.scope)
+    by_case (inl x) = x.1
+    by_case (inr x) = absurd (subst (λ (r : Row). IsTarget (row_meaning r)) (get_or_past (rows_at tables p.scope) p.ordinal (row_of 0 0 Broken) x.0) h)
+
+namable_stays : (old new : List (List Row)) → Extends old new → (m : RowMeaning) → IsNamable old m → IsNamable new m
+namable_stays old new more (Alias p) h = target_stays old new more p h
+namable_stays old new more m h = h
+
+pub row_stays_clear : (old new : List (List Row)) → Extends old new → (r : Row) → IsClearRow old r → IsClearRow new r
+row_stays_clear old new more r h = (h.0, λ some. namable_stays old new more (row_meaning r) (h.1 some))
+
+-- the same rows are as clear
+pub same_clear : (old new : List (List Row)) → ((s : ℕ) → rows_at new s ≡ rows_at old s) → AreClear old → AreClear new
+same_clear old new same all s o r e =
+    row_stays_clear old new (λ q. ([], same q ∙ sym (append-nil (rows_at old q)))) r (all s o r (subst (λ (rs : List Row). slice_get rs o ≡ Some r) (same s) e))
+
+pub other_rows : (scene : Scene) (xs : List Row) (s : ℕ) → (s ≡ scene.block.scope → ⊥) → rows_at (scene_with scene xs).tables s ≡ rows_at scene.tables s
+other_rows scene xs s h = get_or-set_other scene.tables scene.block.scope s (own_of scene ++ xs) [] h
+
+extends_with : (scene : Scene) (xs : List Row) → IsOpen scene → Extends scene.tables (scene_with scene xs).tables
+extends_with scene xs o s = by_order (cases_order s scene.block.scope)
+  where
+    by_order : (s ≡ scene.block.scope) ⊎ ((s < scene.block.scope) ⊎ (scene.block.scope < s)) → (ys : List Row) × (rows_at (scene_with scene xs).tables s ≡ rows_at scene.tables s ++ ys)
+    by_order (inl same) = (xs, subst (λ n. rows_at (scene_with scene xs).tables n ≡ rows_at scene.tables n ++ xs) (sym same) (own-with scene xs o))
+    by_order (inr (inl less)) = ([], other_rows scene xs s (λ e. omega (arith, e, less)) ∙ sym (append-nil (rows_at scene.tables s)))
+    by_order (inr (inr more)) = ([], other_rows scene xs s (λ e. omega (arith, e, more)) ∙ sym (append-nil (rows_at scene.tables s)))
+
+front_or_back : (own xs : List Row) (o : ℕ) (r : Row) → slice_get (own ++ xs) o ≡ Some r → (slice_get own o ≡ Some r) ⊎ ((k : ℕ) × (slice_get xs k ≡ Some r))
+front_or_back [] xs o r e = inr (o, e)
+front_or_back (y ∷ own) xs zero r e = inl e
+front_or_back (y ∷ own) xs (suc o) r e = front_or_back own xs o r e
+
+pub each_at : {A : Type 0} (P : A → Type 0) (xs : List A) → Each P xs → (k : ℕ) (x : A) → slice_get xs k ≡ Some x → P x
+each_at P [] h k x e = absurd (cc)
+each_at P (y ∷ xs) h zero x e = subst P (some_is y x e) h.0
+each_at P (y ∷ xs) h (suc k) x e = each_at P xs h.1 k x e
+
+-- clear rows in a clear scene make a clear scene
+pub clear_with : (scene : Scene) (xs : List Row) → IsClearScene scene → Each (IsClearRow scene.tables) xs → IsClearScene (scene_with scene xs)
+clear_with scene xs clear h =
+    record {
+      room = open-with scene xs clear.room;
+      positive = clear.positive;
+      standard = other_rows scene xs 0 (λ e. let p = clear.positive in omega (arith, e, p)) ∙ clear.standard;
+      rows = λ s o r e. row_stays_clear scene.tables (scene_with scene xs).tables (extends_with scene xs clear.room) r (by_order s o r (cases_order s scene.block.scope) e);
+    }
+  where
+    by_order : (s o : ℕ) (r : Row) → (s ≡ scene.block.scope) ⊎ ((s < scene.block.scope) ⊎ (scene.block.scope < s)) → slice_get (rows_at (scene_with scene xs).tables s) o ≡ Some r → IsClearRow scene.tables r
+    by_order s o r (inl same) e = by_part (front_or_back (own_of scene) xs o r (subst (λ (rs : List Row). slice_get rs o ≡ Some r) (ap (rows_at (scene_with scene xs).tables) same ∙ own-with scene xs clear.room) e))
+      where
+        by_part : (slice_get (own_of scene) o ≡ Some r) ⊎ ((k : ℕ) × (slice_get xs k ≡ Some r)) → IsClearRow scene.tables r
+        by_part (inl k) = clear.rows scene.block.scope o r k
+        by_part (inr k) = each_at (IsClearRow scene.tables) xs h k.0 r k.1
+    by_order s o r (inr (inl less)) e = clear.rows s o r (subst (λ (rs : List Row). slice_get rs o ≡ Some r) (other_rows scene xs s (λ q. omega (arith, q, less))) e)
+    by_order s o r (inr (inr more)) e = clear.rows s o r (subst (λ (rs : List Row). slice_get rs o ≡ Some r) (other_rows scene xs s (λ q. omega (arith, q, more))) e)
+
+-- ** Standard rows
+
+-- the rows of the standard scope are clear
+standard_each : (tables : List (List Row)) → Each (IsClearRow tables) standard_rows
+standard_each tables = ((tt, λ h. absurd (h refl)), ((tt, λ h. absurd (h refl)), ((tt, λ h. absurd (h refl)), ((tt, λ h. absurd (h refl)), ((tt, λ h. absurd (h refl)), ((refl, λ h. absurd (h refl)), ((tt, λ h. absurd (h refl)), ((tt, λ h. absurd (h refl)), ((tt, λ h. absurd (h refl)), ((tt, λ h. absurd (h refl)), ((tt, λ h. absurd (h refl)), ((refl, λ h. tt), ((refl, λ h. tt), ((refl, λ h. tt), ((refl, λ h. tt), ((refl, λ h. tt), ((refl, λ h. tt), ((refl, λ h. tt), ((refl, λ h. tt), ((refl, λ h. tt), ((tt, λ h. tt), ((tt, λ h. tt), ((tt, λ h. tt), ((tt, λ h. tt), ((tt, λ h. tt), ((tt, λ h. tt), ((tt, λ h. tt), ((tt, λ h. tt), ((tt, λ h. tt), ((tt, λ h. tt), ((tt, λ h. tt), ((tt, λ h. tt), ((tt, λ h. tt), ((tt, λ h. tt), ((tt, λ h. tt), ((tt, λ h. tt), ((tt, λ h. tt), tt)))))))))))))))))))))))))))))))))))))
+
+pub standard_clear : AreClear (standard_rows ∷ [])
+standard_clear zero o r e = each_at (IsClearRow (standard_rows ∷ [])) standard_rows (standard_each (standard_rows ∷ [])) o r e
+standard_clear (suc s) o r e = absurd (cc)
+
+each_index : {A : Type 0} (P : A → Type 0) (xs : List A) (d : A) → Each P xs → (k : ℕ) → k < length xs → P (slice_index_or xs k d)
+each_index P [] d h k l = absurd (omega (arith, l))
+each_index P (x ∷ xs) d h zero l = h.0
+each_index P (x ∷ xs) d h (suc k) l = each_index P xs d h.1 k (omega (arith, l))
+
+-- the rows of the standard names lead to something
+named_each : Each (λ (r : Row). IsTarget (row_meaning r)) (named_rows 1 standard_meanings)
+named_each = (tt, (tt, (tt, (tt, (tt, (tt, (tt, (tt, (tt, (tt, (tt, (tt, (tt, (tt, (tt, (tt, (tt, (tt, (tt, (tt, (tt, (tt, (tt, (tt, (tt, (tt, tt))))))))))))))))))))))))))
+
+pub standard_target : (name : ℕ) → is_standard name ≡ true → IsTarget (row_meaning (slice_index_or standard_rows (name + 10) (row_of 0 0 Broken)))
+standard_target name h =
+    let parts = and_parts (nat_le 1 name) (nat_le name 26) h in
+    let low = leb-true 1 name parts.0 in
+    let high = leb-true name 26 parts.1 in
+    let k = name - 1 in
+    let types = map (row_of 0 0) (Integer ∷ Cardinal ∷ Character ∷ Enum 2 ∷ Subrange cardinal (pos 0) (pos 31) ∷ Set bit_range ∷ ProcType None 0 6 ∷ Nil ∷ Text ∷ Whole ∷ Broken ∷ []) in
+    let same : name + 10 ≡ length types + k = omega (arith, low) in
+    subst (λ (r : Row). IsTarget (row_meaning r))
+    (sym (ap (λ n. slice_index_or standard_rows n (row_of 0 0 Broken)) same ∙ get_or-append-add types (named_rows 1 standard_meanings) k (row_of 0 0 Broken)))
+    (each_index (λ (r : Row). IsTarget (row_meaning r)) (named_rows 1 standard_meanings) (row_of 0 0 Broken) named_each k (omega (arith, low, high)))
