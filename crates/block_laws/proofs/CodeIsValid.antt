@@ -14,7 +14,10 @@ use Rattle.m2_base.specs.Statics.UnitRows.{unit_rows}
 use Rattle.m2_base.specs.Units.{UnitTexts}
 use Rattle.m2_base.specs.declared.rows.Row.{Row}
 use Rattle.row_laws.specs.RowRanges.{EachBlock, IsSoundUnit}
+use Rattle.row_laws.proofs.ClearNotes.{front_none}
+use Rattle.row_laws.proofs.ClearUnits.{unit_headings}
 use Rattle.row_laws.proofs.TextBlocks.{blocks_read, trees_read}
+use Rattle.row_laws.proofs.Units.{each_block_then}
 use Rattle.stmt_sem.specs.BlockCode.{block_code, block_diags}
 use Rattle.stmt_sem.specs.Tokens.{block_tokens}
 use Rattle.row_laws.specs.Headings.{HasSoundHeadings}
@@ -37,9 +40,11 @@ each-of P source before (b ∷ blocks) f = (f.0, each-of P source (before ++ (de
 
 pub code-valid : (names : List (List ℕ)) (texts : UnitTexts) (u : UnitTrees) → IsSoundUnit names u → AreRead texts u → Each (λ b. AreReadStatements names b.tree.body) (blocks_of u) → Each (λ b. Each (IsReadItem names) (items_of b.tree)) (blocks_of u)
     → Each (λ b. block_tokens b.tree ≤ 1048576) (blocks_of u) → EachBlock (λ before b. block_diags u.source before (unit_rows u) b ≡ []) u.source (standard_rows ∷ []) (blocks_of u)
-    → HasSoundHeadings u
     → EachBlock (λ before b. home_of u ≤ b.block.scope → IsValidCode (unit_world u) (b.block.scope - home_of u) (procedure_of (block_code u.source before (unit_rows u) b))) u.source (standard_rows ∷ []) (blocks_of u)
-code-valid names texts u sound told read items few none headings =
+code-valid names texts u sound told read items few none =
+    let headings : HasSoundHeadings u = unit_headings names u sound items
+        (each_block_then (λ before b. block_diags u.source before (unit_rows u) b ≡ []) (λ before b. (declare_block u.source before b).diags ≡ []) u.source (blocks_of u) (standard_rows ∷ [])
+        (λ before b e. front_none (declare_block u.source before b).diags _ e) none) in
     let is : IsClear names u = record { sound = sound; blocks = blocks_read texts u told; read = read; none = none } in
     let sight : Each (λ (b : BlockTree). Sees (IsInSight b.block) (complete_context u.source (unit_rows u) b.block).scene) (blocks_of u) =
         each-of (λ (b : BlockTree). Sees (IsInSight b.block) (complete_context u.source (unit_rows u) b.block).scene) u.source (standard_rows ∷ []) (blocks_of u) (blocks-see names u sound (trees_read texts u told)) in

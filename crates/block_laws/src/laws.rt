@@ -27,7 +27,6 @@ ghost use Rattle.stmt_sem.specs.Places.{OthersInRange, block_steps};
 ghost use Rattle.block_laws.specs.Lone.{IsLone, IsLoneTree, lone_unit, lone_world};
 ghost use Rattle.block_laws.specs.Named.{BlockNamesThere, procedure_of};
 ghost use Rattle.block_laws.specs.ReadStatements.{AreReadStatements};
-ghost use Rattle.row_laws.specs.Headings.{HasSoundHeadings};
 ghost use Rattle.row_laws.specs.RowRanges.{BlockInRange, EachBlock, IsSoundUnit};
 ghost use Rattle.block_laws.specs.Sight.{IsInSight, Sees};
 ghost use Rattle.block_laws.specs.Worlds.{unit_world};
@@ -71,12 +70,10 @@ pub fn lone_code_is_valid()
 {}
 
 /// The code of each block of a unit's main text is valid in the unit's world where no block has a diagnostic: the unit's texts are
-/// read, its trees are sound, and what they hold was read from tokens of a text within its limit. Of the headings of an implementation
-/// module and of its own definition it is asked that no parameter is in error.
+/// read, its trees are sound, and what they hold was read from tokens of a text within its limit.
 pub fn code_is_valid()
     ensures { (names : List (List ℕ)) (texts : UnitTexts) (u : UnitTrees) → IsSoundUnit names u → AreRead texts u → Each (λ b. AreReadStatements names b.tree.body) (blocks_of u) → Each (λ b. Each (IsReadItem names) (items_of b.tree)) (blocks_of u)
         → Each (λ b. block_tokens b.tree ≤ most_tokens) (blocks_of u) → EachBlock (λ before b. block_diags u.source before (unit_rows u) b ≡ []) u.source (standard_rows ∷ []) (blocks_of u)
-        → HasSoundHeadings u
         → EachBlock (λ before b. home_of u ≤ b.block.scope → IsValidCode (unit_world u) (b.block.scope - home_of u) (procedure_of (block_code u.source before (unit_rows u) b))) u.source (standard_rows ∷ []) (blocks_of u) }
 {}
 
