@@ -9,14 +9,15 @@ use Rattle.m2c_top.specs.Decisions.{Decision, limited, unbuilt, refused, to_comp
 use Rattle.m2c_top.specs.Delivery.{Says, Answered, PrintsFront, PutsFront}
 use Rattle.m2c_top.specs.Diagnostics.{diags_of}
 use Rattle.m2c_top.specs.Listing.{listing}
-use Rattle.m2c_top.specs.Object.{object_bytes}
-use Rattle.m2c_top.specs.Outcome.{Compiles, compiled, diagnosed, wrong, over_limit, not_built, IsDecided, text_name, object_name, Leaves, PrintsPart, KeepsButObject}
+use Rattle.m2c_top.specs.Object.{contents_of, object_bytes}
+use Rattle.m2c_top.specs.Outcome.{Compiles, compiled, diagnosed, wrong, over_limit, not_built, IsDecided, text_name, object_name, HasObject, Leaves, PrintsPart, KeepsButObject}
 use Rattle.m2c_top.specs.Statuses.{status_number, IsAnswer}
 use Rattle.m2c_top.specs.declared.status.Status.{Status}
-use Rattle.m2c_top.specs.declared.status.Status.TheVariants.{Done, Diagnosed}
+use Rattle.m2c_top.specs.declared.status.Status.TheVariants.{Done, Diagnosed, NotBuilt, OverLimit}
 use Rattle.m2c_top.specs.declared.top.Stop.{Stop}
 use Rattle.m2c_top.proofs.OneOutcome.{prints_part}
 use Rattle.m2c_top.proofs.Outcomes.{told, with_nothing}
+use Rattle.m2c_top.proofs.PutObjects.{put_object_is}
 
 -- an empty list is none
 pub is_none : (ds : List Diag) (count : ℕ) → (count == 0) ≡ true → count ≡ length ds → ds ≡ []
@@ -26,6 +27,10 @@ is_none (d ∷ ds) count empty same = let none : count ≡ 0 = (Decides-eqb coun
 -- a list that isn't empty is none
 pub not_empty : (xs ds : List Diag) → (length xs == 0) ≡ false → xs ≡ ds → ds ≢ []
 not_empty xs ds test same none = false≢true (sym test ∙ ap (λ (l : List Diag). length l == 0) (same ∙ none))
+
+-- a status with another number is another
+other_number : (status other : Status) → status ≡ Done → status ≡ other → (status_number other ≡ 0 → ⊥) → ⊥
+other_number status other done is apart = apart (ap status_number (sym is ∙ done))
 
 module _ (name : List ℕ) (holds after : Option Files) (old new : Option (List ℕ)) where
   status_answers : (d : Decision) (status : Status) → Answered name d status holds after old new → IsAnswer status
@@ -41,6 +46,18 @@ module _ (name : List ℕ) (holds after : Option Files) (old new : Option (List 
   status_keeps (refused tokens diag) status a other = a.files
   status_keeps (to_compile m) status (inl a) other = absurd (other a.status_is)
   status_keeps (to_compile m) status (inr a) other = a.files
+
+  -- the object is put where the status is 0
+  status_object : (d : Decision) (status : Status) → Answered name d status holds after old new → status ≡ Done → IfSome after (HasObject name)
+  status_object (limited limit) status a done = absurd (other_number status OverLimit done a.status_is (λ n. omega (arith, n)))
+  status_object unbuilt status a done = absurd (other_number status NotBuilt done a.status_is (λ n. omega (arith, n)))
+  status_object (refused tokens diag) status a done = absurd (other_number status Diagnosed done a.status_is (λ n. omega (arith, n)))
+  status_object (to_compile m) status (inl a) done = put_object_is name holds after (object_bytes name m) (contents_of name m) refl a.valid a.files
+  status_object (to_compile m) status (inr a) done = absurd (other_number status Diagnosed done a.status_is (λ n. omega (arith, n)))
+
+  pub answered_object : (d : Decision) (r : Result Status Stop) → IfOk r (λ status. Answered name d status holds after old new) → IfOk r (λ status. status ≡ Done → IfSome after (HasObject name))
+  answered_object d (Ok status) h = status_object d status h
+  answered_object d (Err stop) h = tt
 
   pub answered_answers : (d : Decision) (r : Result Status Stop) → IfOk r (λ status. Answered name d status holds after old new) → IfOk r IsAnswer
   answered_answers d (Ok status) h = status_answers d status h

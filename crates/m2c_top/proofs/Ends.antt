@@ -7,7 +7,7 @@ use Rattle.m2c_top.specs.Ending.{ended_as}
 use Rattle.m2c_top.specs.Outcome.{Gives, AsksToCompile, Commands, Leaves}
 use Rattle.m2c_top.specs.Statuses.{status_number, IsFault, IsStatus, IsAnswer, Exactly}
 use Rattle.m2c_top.specs.declared.status.Status.{Status}
-use Rattle.m2c_top.specs.declared.status.Status.TheVariants.{Done, NoCommand}
+use Rattle.m2c_top.specs.declared.status.Status.TheVariants.{Done, Diagnosed, NoCommand, NoText, ReadFault, WriteFault, NoMemory, OverLimit, NotBuilt}
 use Rattle.m2c_top.specs.declared.top.Stop.{Stop}
 use Rattle.m2c_top.specs.declared.top.Stop.TheVariants as stop
 use Rattle.m2c_top.proofs.Asking.{asks_none}
@@ -117,6 +117,24 @@ module _ (words : List (List ℕ)) where
   ends_by_writing P (Err stop.Read) well on_stop e = absurd (omega (arith, e))
   ends_by_writing P (Err stop.Write) well on_stop e = on_stop refl
   ends_by_writing P (Err stop.Memory) well on_stop e = absurd (omega (arith, e))
+
+-- 0 is the number of this status alone
+done_of : (status : Status) → status_number status ≡ 0 → status ≡ Done
+done_of Done e = refl
+done_of Diagnosed e = absurd (omega (arith, e))
+done_of NoCommand e = absurd (omega (arith, e))
+done_of NoText e = absurd (omega (arith, e))
+done_of ReadFault e = absurd (omega (arith, e))
+done_of WriteFault e = absurd (omega (arith, e))
+done_of NoMemory e = absurd (omega (arith, e))
+done_of OverLimit e = absurd (omega (arith, e))
+done_of NotBuilt e = absurd (omega (arith, e))
+
+pub ends_done : (P : Type 0) (r : Result Status Stop) → IfOk r (λ status. status ≡ Done → P) → number_of r ≡ 0 → P
+ends_done P (Ok status) done e = done (done_of status e)
+ends_done P (Err stop.Read) done e = absurd (omega (arith, e))
+ends_done P (Err stop.Write) done e = absurd (omega (arith, e))
+ends_done P (Err stop.Memory) done e = absurd (omega (arith, e))
 
 pub ends_keeping : (P : Type 0) (r : Result Status Stop) → IfOk r (λ status. (status ≡ Done → ⊥) → P) → (IsErrOf r stop.Read → P) → (IsErrOf r stop.Memory → P)
     → (number_of r ≡ 0 → ⊥) → (number_of r ≡ 5 → ⊥) → P

@@ -11,7 +11,6 @@ mod ItemSteps
 mod ItemsSoFar
 mod LoneTables
 mod MainStatements
-mod ObjectBytes
 mod Obeying
 mod OneDecision
 mod OneOrder
@@ -33,3 +32,4 @@ mod SoundNames
 mod LoneBlocks
 mod ObjectFields
 mod ValidObjects
+mod PutObjects

@@ -1,5 +1,5 @@
 -- What doing the words' command leaves.
-use Rattle.std.proofs.Common.{◌≡◌, ◌⊎◌, inl, inr, ℕ, List, Option, Result, Ok, Err, sym, ◌∙◌, subst, IfSome, IfOk, OnOk, OnErr}
+use Rattle.std.proofs.Common.{◌≡◌, ◌⊎◌, inl, inr, ℕ, List, Option, Result, Ok, Err, sym, ◌∙◌, ap, arith, subst, IfSome, IfOk, OnOk, OnErr}
 use Rattle.std.specs.Prelude.{IsErrOf, codes}
 use Rattle.m2_io.specs.Files.{Files}
 use Rattle.m2_io.specs.Written.{with_bytes, WritesPart}
@@ -7,7 +7,7 @@ use Rattle.m2c_top.specs.Command.{compile, Asks, IsNoCommand}
 use Rattle.m2c_top.specs.Outcome.{Gives, Compiles, AsksToCompile, Leaves, PrintsPart, PutsPart, KeepsButObject, line}
 use Rattle.m2c_top.specs.Statuses.{status_number, IsAnswer}
 use Rattle.m2c_top.specs.declared.status.Status.{Status}
-use Rattle.m2c_top.specs.declared.status.Status.TheVariants.{NoCommand}
+use Rattle.m2c_top.specs.declared.status.Status.TheVariants.{Done, NoCommand}
 use Rattle.m2c_top.specs.declared.top.Stop.{Stop}
 use Rattle.m2c_top.proofs.Ends.{IsWellEnded}
 use Rattle.m2c_top.proofs.Outcomes.{told}
@@ -46,6 +46,15 @@ module _ (words : List (List ℕ)) (holds after : Option Files) (old new : Optio
     pub usage_ends : (r : Result Status Stop) → IfOk r (λ status. status ≡ NoCommand) → IfOk r (IsWellEnded words)
     usage_ends (Ok status) is = inr (is, none)
     usage_ends (Err s) is = tt
+
+-- what holds where compiling is done
+pub compiling_done : (words : List (List ℕ)) (P : List ℕ → Type 0) (name : List ℕ) → Asks words (compile name) → (r : Result Status Stop) → IfOk r (λ status. status ≡ Done → P name) → IfOk r (λ status. status ≡ Done → AsksToCompile words P)
+compiling_done words P name asks (Ok status) h = λ done. (name, asks, h done)
+compiling_done words P name asks (Err s) h = tt
+
+pub usage_not_done : (P : Type 0) (r : Result Status Stop) → IfOk r (λ status. status ≡ NoCommand) → IfOk r (λ status. status ≡ Done → P)
+usage_not_done P (Ok status) is = λ done. absurd (let two : 2 ≡ 0 = ap status_number (sym is ∙ done) in omega (arith, two))
+usage_not_done P (Err s) is = tt
 
 -- what holds at every stop holds at this one
 pub on_stop : (P : Type 0) (r : Result Status Stop) (s : Stop) → OnErr r P → IsErrOf r s → P

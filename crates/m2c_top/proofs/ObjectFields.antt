@@ -4,16 +4,10 @@ use Rattle.std.proofs.Common.{refl, sym, ap, subst, arith}
 use Rattle.std.proofs.lemmas.Bool.{le-leb}
 use Rattle.std.proofs.lemmas.List.{append_assoc, append-nil}
 use Rattle.code_form.specs.Modules.{Procedure}
-use Rattle.stmt_sem.specs.BlockCode.{ProcedureCode}
-use Rattle.block_laws.specs.Named.{procedure_of}
-use Rattle.object_file.specs.Contents.{Contents, magic, u32, version, with_length}
+use Rattle.object_file.specs.Contents.{body_bytes, frame_bytes, lists_bytes, magic, object_bytes, opening_bytes, u32, version, with_length}
 use Rattle.object_file.specs.Formats.{Spells, many, ◌>>=◌}
-use Rattle.m2c_top.specs.Object.{object_of}
 use Rattle.object_file.specs.ObjectFormat.{as_exported, fields_format, format_with, is_count, is_identifier, is_outer, is_params, is_result, object_format, procedure_format}
-
--- an object of a module alone: without exports and imports, with one procedure
-abbrev pub lone_contents : (name : List ℕ) → (cells : ℕ) → Procedure → Contents
-lone_contents name cells p = record { name = name; cells = cells; own_cells = 0; exports = []; imports = []; procedures = p ∷ [] }
+use Rattle.m2c_top.specs.Object.{lone_contents}
 
 -- what is asked of its numbers and of the lengths
 pub record HasFields (name : List ℕ) (cells : ℕ) (p : Procedure) : Type 0 where
@@ -36,10 +30,10 @@ abbrev all_fields : (name : List ℕ) → (cells : ℕ) → Procedure → List �
 all_fields name cells p =
     magic ++ (version ++ (with_length name ++ (u32 cells ++ (u32 0 ++ (u32 0 ++ (u32 0 ++ (u32 1 ++ procedure_fields p)))))))
 
-put_group : (a b c d e f g h i j k l m n o : List ℕ)
-    → a ++ b ++ c ++ d ++ e ++ f ++ g ++ h ++ (i ++ j ++ k ++ l ++ m ++ n ++ o)
+in_groups : (a b c d e f g h i j k l m n o : List ℕ)
+    → ((a ++ b ++ c ++ d ++ e) ++ (f ++ [] ++ g ++ [] ++ h)) ++ (((i ++ j ++ k ++ l) ++ (m ++ n ++ o)) ++ [])
     ≡ a ++ (b ++ (c ++ (d ++ (e ++ (f ++ (g ++ (h ++ (i ++ (j ++ (k ++ (l ++ (m ++ (n ++ (o ++ []))))))))))))))
-put_group a b c d e f g h i j k l m n o = simp (append_assoc, append-nil)
+in_groups a b c d e f g h i j k l m n o = simp (append_assoc, append-nil)
 
 both_true : (a b : Bool) → a ≡ true → b ≡ true → (a && b) ≡ true
 both_true true b e f = f
@@ -117,12 +111,12 @@ spelled name cells p h =
       ),
     )
 
--- the bytes that are put are the fields of the object
-put_bytes : (name : List ℕ) (cells : ℕ) (code : ProcedureCode) → object_of name cells code ≡ all_fields name cells (procedure_of code)
-unfolding object_of
-put_bytes name cells code =
-    put_group magic version (with_length name) (u32 cells) (u32 0) (u32 0) (u32 0) (u32 1) (u32 code.outer) (u32 code.params) (u32 code.result) (u32 code.locals) (u32 code.high) (with_length code.bytes) (with_length code.code)
+-- the bytes of the object are its fields
+bytes_are : (name : List ℕ) (cells : ℕ) (p : Procedure) → object_bytes (lone_contents name cells p) ≡ all_fields name cells p
+unfolding opening_bytes lists_bytes frame_bytes body_bytes
+bytes_are name cells p =
+    in_groups magic version (with_length name) (u32 cells) (u32 0) (u32 0) (u32 0) (u32 1) (u32 p.outer) (u32 p.params) (u32 p.result) (u32 p.locals) (u32 p.high) (with_length p.bytes) (with_length p.code)
 
-pub put_spells : (name : List ℕ) (cells : ℕ) (code : ProcedureCode) → HasFields name cells (procedure_of code) → Spells object_format (object_of name cells code) (lone_contents name cells (procedure_of code)) []
-put_spells name cells code h =
-    subst (λ (bytes : List ℕ). Spells object_format bytes (lone_contents name cells (procedure_of code)) []) (sym (put_bytes name cells code)) (spelled name cells (procedure_of code) h)
+pub lone_spells : (name : List ℕ) (cells : ℕ) (p : Procedure) → HasFields name cells p → Spells object_format (object_bytes (lone_contents name cells p)) (lone_contents name cells p) []
+lone_spells name cells p h =
+    subst (λ (bytes : List ℕ). Spells object_format bytes (lone_contents name cells p) []) (sym (bytes_are name cells p)) (spelled name cells p h)

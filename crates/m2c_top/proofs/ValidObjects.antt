@@ -19,7 +19,7 @@ use Rattle.stmt_sem.specs.BlockCode.{params_of, results_of, size_diags, too_many
 use Rattle.stmt_sem.specs.Flows.{Run}
 use Rattle.stmt_sem.proofs.LengthLaw.{block-in_range}
 use Rattle.object_file.specs.ObjectFormat.{is_identifier}
-use Rattle.object_file.specs.Validity.{IsObject}
+use Rattle.object_file.specs.Validity.{IsValid}
 use Rattle.block_laws.specs.Lone.{lone_world}
 use Rattle.block_laws.specs.Named.{procedure_of}
 use Rattle.block_laws.specs.ReadStatements.{AreReadStatements}
@@ -30,12 +30,12 @@ use Rattle.m2c_top.specs.Diagnostics.{diags_of, noted_in}
 use Rattle.m2c_top.specs.Filled.{row_count}
 use Rattle.m2c_top.specs.Held.{IsHeld, held, main_tokens}
 use Rattle.m2c_top.specs.Modules.{Module, body_in, cells_in, code_in, context_in, declared_in, own_block, run_in, tables_of, trees_of}
-use Rattle.m2c_top.specs.Object.{contents_of, object_bytes}
+use Rattle.m2c_top.specs.Object.{contents_of}
 use Rattle.m2c_top.specs.Ordering.{comes_before, in_order, is_same, with_diag}
 use Rattle.m2c_top.specs.declared.module.Module.{Module as HeldModule}
 use Rattle.m2c_top.proofs.HeldTables.{heading_none}
 use Rattle.m2c_top.proofs.LoneBlocks.{in_range, lone_tree, sound_unit, tokens_few}
-use Rattle.m2c_top.proofs.ObjectFields.{HasFields, put_spells}
+use Rattle.m2c_top.proofs.ObjectFields.{HasFields, lone_spells}
 
 -- ** No diagnostics
 
@@ -134,6 +134,6 @@ module _ (m : HeldModule) (h : IsHeld m) (none : diags_of (held m) ≡ []) where
           code_short = let c = block-in_range (trees_of (held m)).source (standard_rows ∷ []) (tables_of (held m)) block (tokens_few m h) in omega (arith, c);
         }
 
-    pub object_valid : (name : List ℕ) → is_identifier name ≡ true → length name < 2 ^ 32 → (code_in (held m)).high < 2 ^ 32 → IsObject (object_bytes name (held m)) (contents_of name (held m))
+    pub object_valid : (name : List ℕ) → is_identifier name ≡ true → length name < 2 ^ 32 → (code_in (held m)).high < 2 ^ 32 → IsValid (contents_of name (held m))
     object_valid name is short high =
-        record { fields = put_spells name (cells_in (held m)) (code_in (held m)) (fields name is short high); code = (code_valid, tt) }
+        record { fields = lone_spells name (cells_in (held m)) (procedure_of (code_in (held m))) (fields name is short high); code = (code_valid, tt) }

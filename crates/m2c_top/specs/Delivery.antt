@@ -3,19 +3,21 @@
 use Rattle.std.specs.Prelude.{◌≡◌, ◌≢◌, ◌⊎◌, ℕ, List, [], ◌∷◌, Option, codes}
 use Rattle.m2_io.specs.Files.{Files, with_file, HasPart}
 use Rattle.m2_io.specs.Written.{with_bytes, WritesPart}
+use Rattle.object_file.specs.Validity.{IsValid}
 use Rattle.m2c_top.specs.Decisions.{Decision, limited, unbuilt, refused, to_compile}
 use Rattle.m2c_top.specs.Diagnostics.{diags_of}
 use Rattle.m2c_top.specs.Limits.{limit_text}
 use Rattle.m2c_top.specs.Listing.{listing}
-use Rattle.m2c_top.specs.Object.{object_bytes}
+use Rattle.m2c_top.specs.Object.{contents_of, object_bytes}
 use Rattle.m2c_top.specs.Outcome.{text_name, object_name, line}
 use Rattle.m2c_top.specs.Modules.{Module}
 use Rattle.m2c_top.specs.declared.status.Status.{Status}
 use Rattle.m2c_top.specs.declared.status.Status.TheVariants.{Done, Diagnosed, OverLimit, NotBuilt}
 
--- the object is put, and nothing printed
+-- the object is put, which is valid, and nothing printed
 pub record PutsAll (name : List ℕ) (m : Module) (status : Status) (holds after : Option Files) (old new : Option (List ℕ)) : Type 0 where
   pub sound : diags_of m ≡ []
+  pub valid : IsValid (contents_of name m)
   pub status_is : status ≡ Done
   pub files : after ≡ with_file holds (object_name name) (object_bytes name m)
   pub printed : new ≡ old

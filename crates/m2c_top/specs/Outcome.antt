@@ -5,6 +5,8 @@ use Rattle.m2_base.specs.declared.notes.Diag.{Diag}
 use Rattle.m2_base.specs.declared.token.Token.{Token}
 use Rattle.m2_io.specs.Files.{Files, with_file}
 use Rattle.m2_io.specs.Written.{with_bytes, WritesPart}
+use Rattle.object_file.specs.Contents.{Contents}
+use Rattle.object_file.specs.Validity.{IsObject}
 use Rattle.m2c_top.specs.Command.{Command, compile, Asks, IsNoCommand}
 use Rattle.m2c_top.specs.Decisions.{Decision, limited, unbuilt, refused, to_compile, Decides}
 use Rattle.m2c_top.specs.Diagnostics.{diags_of}
@@ -98,6 +100,14 @@ pub record Leaves (given : Outcome → Type 0) (status : ℕ) (files : Option Fi
 -- a front of what the definition prints
 abbrev pub PrintsPart : (Outcome → Type 0) → Option (List ℕ) → Option (List ℕ) → Type 0
 PrintsPart given old new = (outcome : Outcome) → given outcome → WritesPart old outcome.printed new
+
+-- the files have a valid object of this name
+pub record HasObject (name : List ℕ) (files : Files) : Type 0 where
+  pub bytes : List ℕ
+  pub object : Contents
+  pub has : get files (object_name name) ≡ Some bytes
+  pub named : object.name ≡ name
+  pub valid : IsObject bytes object
 
 -- the bytes are the object of the module's text
 abbrev pub IsObjectOf : List ℕ → Files → List ℕ → Type 0

@@ -1,6 +1,6 @@
 //! What the analysis of a module finds: its declarations are analysed item after item, and their rows entered into the module's
 //! scope; then its statements are analysed there, and their code is made.
-ghost use Rattle.std.specs.Prelude.{◌≡◌, ◌≤◌, ◌^◌, ◌+◌, ◌||◌, ◌∷◌, ◌++◌, [], nat_lt, IfOk, OnOk};
+ghost use Rattle.std.specs.Prelude.{◌≡◌, ◌<◌, ◌^◌, ◌+◌, ◌||◌, ◌∷◌, ◌++◌, [], nat_lt, IfOk, OnOk};
 ghost use Rattle.m2_base.specs.States.{IsSound};
 ghost use Rattle.m2_base.specs.Statics.Blocks.{BlockTree};
 ghost use Rattle.m2_base.specs.Statics.Cells.{capped, most_cells};
@@ -36,7 +36,7 @@ use stmt_sem::{block, procedure_code};
 const STANDARD_ROWS: u32 = 37;
 
 /// A block has at most so many rows.
-const MOST_ROWS: u32 = 2_147_483_648;
+const MOST_ROWS: u32 = 2_147_483_647;
 
 /// A module's variables and its temporary cells are at most so many, and so are the bytes of its data.
 const MOST_CELLS: u32 = 16_777_215;
@@ -67,7 +67,7 @@ fn around_main(alloc: Global) -> Result<Around, Memory>
 
 /// The number of rows of a block.
 fn row_count(layout: &Layout) -> Result<u32, Memory>
-    ensures few { IfOk result (λ count. count ≤ 2 ^ 31) }
+    ensures few { IfOk result (λ count. count < 2 ^ 31) }
     ensures count { IfOk result (λ count. (tree : Stream) → layout.now ≡ layout_of tree → count ≡ spec_count tree) }
 {
     match layout.firsts().last() {
@@ -156,6 +156,7 @@ fn analyse_block(
     requires held { IsHeld «module».now }
     requires around { around.now ≡ main_around }
     requires none { notes.old.diags.items ≡ [] }
+    ensures few { OnOk result (spec_count (held «module».now).tree < 2 ^ 31) }
     ensures noted { OnOk result (notes.new.diags.items ≡ noted_in (held «module».now)) }
     ensures cells { IfOk result (λ made. made.0 ≡ cells_in (held «module».now)) }
     ensures made { IfOk result (λ made. whole_in made.1 ≡ whole_of (run_in (held «module».now))) }

@@ -1,64 +1,36 @@
-//! The bytes of an object.
-ghost use Rattle.std.specs.Prelude.{◌≡◌, ◌++◌, IfOk, OnOk};
-ghost use Rattle.stmt_sem.specs.ProcedureCodes.{code_view};
-ghost use Rattle.m2c_top.specs.Object.{number as spec_number, counted as spec_counted, frame_entry, procedure_entry, object_of as spec_object};
+//! The object of a module.
+ghost use Rattle.std.specs.Prelude.{◌≡◌, IfOk};
+ghost use Rattle.object_file.specs.Contents.{object_bytes};
+ghost use Rattle.object_file.specs.Validity.{IsValid};
+ghost use Rattle.object_file.specs.Views.{contents_of, procedure_of};
+ghost use Rattle.m2c_top.specs.Object.{lone_contents};
 
 use m2_base::{Memory, ProcCode};
+use object_file::{Object, Parts, write_object};
 use std::alloc::Global;
 
-/// Puts a number's four bytes at the end.
-fn push_number(bytes: &mut Vec<u8>, number: u32) -> Result<(), Memory>
-    ensures { OnOk result (bytes.new.items ≡ bytes.old.items ++ spec_number number) }
+/// What the object of a module with these cells and this code says.
+fn parts_of(alloc: Global, name: &[u8], cells: u32, code: ProcCode) -> Result<Parts, Memory>
+    ensures { IfOk result (λ parts. contents_of parts ≡ lone_contents name.now cells (procedure_of code)) }
 {
-    bytes.extend_from_slice(&number.to_le_bytes())?;
-    Ok(())
+    let name = name.to_vec(alloc)?;
+    let procedures = vec![in alloc; code]?;
+    Ok(Parts {
+        name,
+        cells,
+        own_cells: 0,
+        exports: Vec::new(alloc),
+        imports: Vec::new(alloc),
+        procedures,
+    })
 }
 
-/// The length of the bytes, and the bytes. More of them than numbers find no memory.
-fn push_counted(bytes: &mut Vec<u8>, counted: &[u8]) -> Result<(), Memory>
-    ensures { OnOk result (bytes.new.items ≡ bytes.old.items ++ spec_counted counted.now) }
+/// The bytes of the object of a module with these cells and this code, which is valid.
+pub fn object_of(alloc: Global, name: &[u8], cells: u32, code: ProcCode) -> Result<Vec<u8>, Memory>
+    requires { IsValid (lone_contents name.now cells (procedure_of code)) }
+    ensures { IfOk result (λ bytes. bytes.items ≡ object_bytes (lone_contents name.now cells (procedure_of code))) }
 {
-    let Ok(length) = u32::try_from(counted.len()) else {
-        return Err(Memory);
-    };
-    push_number(bytes, length)?;
-    bytes.extend_from_slice(counted)?;
-    Ok(())
-}
-
-/// Outer, params, result, locals and high.
-fn push_frame(bytes: &mut Vec<u8>, code: &ProcCode) -> Result<(), Memory>
-    ensures { OnOk result (bytes.new.items ≡ bytes.old.items ++ frame_entry (code_view code.now)) }
-{
-    push_number(bytes, code.outer)?;
-    push_number(bytes, code.params)?;
-    push_number(bytes, code.result)?;
-    push_number(bytes, code.locals)?;
-    push_number(bytes, code.high)
-}
-
-/// The one procedure, with its data and its code.
-fn push_procedure(bytes: &mut Vec<u8>, code: &ProcCode) -> Result<(), Memory>
-    ensures { OnOk result (bytes.new.items ≡ bytes.old.items ++ procedure_entry (code_view code.now)) }
-{
-    push_frame(bytes, code)?;
-    push_counted(bytes, &code.bytes)?;
-    push_counted(bytes, &code.code)
-}
-
-/// The object of a module with these cells and this code.
-#[tactic(auto, unfolding(crate::specs::Object::object_of))]
-pub fn object_of(alloc: Global, name: &[u8], cells: u32, code: &ProcCode) -> Result<Vec<u8>, Memory>
-    ensures { IfOk result (λ bytes. bytes.items ≡ spec_object name.now cells (code_view code.now)) }
-{
-    let mut bytes = b"M2OB".to_vec(alloc)?;
-    push_number(&mut bytes, 1)?;
-    push_counted(&mut bytes, name)?;
-    push_number(&mut bytes, cells)?;
-    push_number(&mut bytes, 0)?;
-    push_number(&mut bytes, 0)?;
-    push_number(&mut bytes, 0)?;
-    push_number(&mut bytes, 1)?;
-    push_procedure(&mut bytes, code)?;
-    Ok(bytes)
+    let parts = parts_of(alloc, name, cells, code)?;
+    let object = Object::build(parts);
+    write_object(alloc, &object)
 }

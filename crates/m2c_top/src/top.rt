@@ -3,15 +3,17 @@ ghost use Rattle.std.specs.Prelude.{◌≡◌, ◌⊎◌, ◌≤◌, codes, IfEr
 ghost use Rattle.m2_io.specs.Causes.{Rose};
 ghost use Rattle.m2_io.specs.Files.{Files, front_of, with_file, HasPart};
 ghost use Rattle.m2_io.specs.Written.{with_bytes, WritesPart};
+ghost use Rattle.object_file.specs.Contents.{object_bytes};
+ghost use Rattle.object_file.specs.Validity.{IsValid};
+ghost use Rattle.object_file.specs.Views.{procedure_of};
 ghost use Rattle.m2c_top.specs.Ending.{ended_as};
 ghost use Rattle.m2c_top.specs.Command.{is_name, IsNoCommand};
 ghost use Rattle.m2c_top.specs.Delivery.{Answered, Delivered, PrintsFront, PrintsListing, PutsFront, PutsObject};
 ghost use Rattle.m2c_top.specs.Held.{IsHeld, held};
 ghost use Rattle.m2c_top.specs.Limits.{limit_text};
 ghost use Rattle.m2c_top.specs.Listing.{listing as spec_listing};
-ghost use Rattle.stmt_sem.specs.ProcedureCodes.{code_view};
-ghost use Rattle.m2c_top.specs.Object.{object_of as spec_object};
-ghost use Rattle.m2c_top.specs.Outcome.{AsksToCompile, Commands, line, text_name, object_name, Compiles, Gives, LacksText, HasTooMuchText, HasDiagnostics, HasSoundText, HasOtherText, Leaves, PrintsPart, PutsPart, KeepsButObject};
+ghost use Rattle.m2c_top.specs.Object.{lone_contents};
+ghost use Rattle.m2c_top.specs.Outcome.{AsksToCompile, Commands, line, text_name, object_name, Compiles, Gives, LacksText, HasTooMuchText, HasDiagnostics, HasSoundText, HasOtherText, HasObject, Leaves, PrintsPart, PutsPart, KeepsButObject};
 ghost use Rattle.m2c_top.specs.Statuses.{status_number, IsFault, IsStatus, IsAnswer, Exactly};
 ghost use Rattle.m2c_top.specs.Modules.{Module as SpecModule};
 ghost use Rattle.m2c_top.specs.Verdicts.{decision_of, HoldsModule};
@@ -86,16 +88,18 @@ fn read_text<H: Shelf>(alloc: Global, name: &str, shelf: &mut H) -> Result<Optio
     }
 }
 
-/// Puts the object of a module with these cells and this code on the shelf.
-fn write_object<H: Shelf>(
+/// Puts the object of a module with these cells and this code, which is valid, on the shelf.
+fn put_object<H: Shelf>(
     alloc: Global,
     name: &str,
     cells: u32,
-    code: &ProcCode,
+    code: ProcCode,
     shelf: &mut H,
-) -> Result<(), Stop>
-    ensures ok { OnOk result (H.holds shelf.new ≡ with_file (H.holds shelf.old) (object_name name.now) (spec_object name.now cells (code_view code.now))) }
-    ensures part { IsErrOf result Stop.Write → HasPart (H.holds shelf.old) (object_name name.now) (spec_object name.now cells (code_view code.now)) (H.holds shelf.new) }
+) -> Result<Status, Stop>
+    requires { IsValid (lone_contents name.now cells (procedure_of code)) }
+    ensures status { IfOk result (λ status. status ≡ Status.Done) }
+    ensures ok { OnOk result (H.holds shelf.new ≡ with_file (H.holds shelf.old) (object_name name.now) (object_bytes (lone_contents name.now cells (procedure_of code)))) }
+    ensures part { IsErrOf result Stop.Write → HasPart (H.holds shelf.old) (object_name name.now) (object_bytes (lone_contents name.now cells (procedure_of code))) (H.holds shelf.new) }
     ensures memory { IsErrOf result Stop.Memory → H.holds shelf.new ≡ H.holds shelf.old }
     ensures write { IsErrOf result Stop.Write → Rose (H.put_faults shelf.old) (H.put_faults shelf.new) }
     ensures no_read { IsErrOf result Stop.Read → ⊥ }
@@ -103,7 +107,7 @@ fn write_object<H: Shelf>(
     let object = object_of(alloc, name.as_bytes(), cells, code)?;
     let target = format!(in alloc; "{name}.m2o")?;
     match shelf.put(alloc, target.as_str(), object.as_slice()) {
-        Ok(()) => Ok(()),
+        Ok(()) => Ok(Status::Done),
         Err(ShelfError::Failed) => Err(Stop::Write),
         Err(ShelfError::Memory) => Err(Stop::Memory),
     }
@@ -146,10 +150,7 @@ fn deliver<H: Shelf, P: Sink>(
     ensures write { IsErrOf result Stop.Write → Rose (H.put_faults shelf.old) (H.put_faults shelf.new) ⊎ Rose (P.faults print.old) (P.faults print.new) }
 {
     match analyse(alloc, source)? {
-        Analysis::Sound(cells, code) => {
-            write_object(alloc, name, cells, &code, shelf)?;
-            Ok(Status::Done)
-        }
+        Analysis::Sound(cells, code) => put_object(alloc, name, cells, code, shelf),
         Analysis::Faulty(diags) => {
             let tokens = source.texts.main().tokens.as_slice();
             print_listing(alloc, name, tokens, diags.as_slice(), print)?;
@@ -224,6 +225,7 @@ fn compile<H: Shelf, P: Sink>(
     ensures prints { OnErr result (IfSome (H.holds shelf.old) (λ files.
         PrintsPart (Compiles name.now files) (P.written print.old) (P.written print.new))) }
     ensures answer { IfOk result IsAnswer }
+    ensures object { IfOk result (λ status. status ≡ Status.Done → IfSome (H.holds shelf.new) (HasObject name.now)) }
 
     // The files stay, but for the object where it is put, and a part of it where putting failed.
     ensures kept { IfOk result (λ status. (status ≡ Status.Done → ⊥) → H.holds shelf.new ≡ H.holds shelf.old) }
@@ -266,6 +268,7 @@ fn obey<H: Shelf, P: Sink>(
     ensures prints { OnErr result (IfSome (H.holds shelf.old) (λ files.
         PrintsPart (Gives (map string_bytes words.now) files) (P.written print.old) (P.written print.new))) }
     ensures status { IfOk result (λ status. (IsAnswer status × Commands (map string_bytes words.now)) ⊎ ((status ≡ Status.NoCommand) × IsNoCommand (map string_bytes words.now))) }
+    ensures object { IfOk result (λ status. status ≡ Status.Done → AsksToCompile (map string_bytes words.now) (λ name. IfSome (H.holds shelf.new) (HasObject name))) }
     ensures kept { IfOk result (λ status. (status ≡ Status.Done → ⊥) → H.holds shelf.new ≡ H.holds shelf.old) }
     ensures unread { IsErrOf result Stop.Read → H.holds shelf.new ≡ H.holds shelf.old }
     ensures memory { IsErrOf result Stop.Memory → H.holds shelf.new ≡ H.holds shelf.old }
@@ -306,6 +309,9 @@ pub fn m2c<R, H: Shelf, P: Sink, K: Source, G: Gate>(
     // Without a fault the status, the files and what is printed are the definition's.
     ensures leaves { IsFault result ⊎ IfSome (H.holds shelf.old) (λ files.
         Leaves (Gives (map string_bytes words.now) files) result (H.holds shelf.new) (P.written print.old) (P.written print.new)) }
+
+    // With 0 the shelf has a valid object of the module's name.
+    ensures object { result ≡ 0 → AsksToCompile (map string_bytes words.now) (λ name. IfSome (H.holds shelf.new) (HasObject name)) }
 
     // When each status comes.
     ensures no_command { Exactly result 2 (IsNoCommand (map string_bytes words.now)) }

@@ -19,6 +19,7 @@ returns-then-is_empty c =
     let listed : c.put_in_order.new.diags.items ≡ diags_of (held m) = c.put_in_order.ensures ∙ ap (λ (ds : List Diag). in_order ds) c.in_ok-cells.ensures.noted in
     record {
       none = sym listed ∙ is_none c.put_in_order.new.diags.items (vec_len c.put_in_order.new.diags) (sym c.is_empty.ensures ∙ c.if-is_empty.true) (omega (arith, c.put_in_order.new.diags.ok));
+      few = c.in_ok-cells.ensures.few;
       cells_are = c.in_ok-cells.ensures.cells;
       code_is = c.in_ok-code.ensures run c.in_ok-cells.ensures.made ∙ ap code_by c.in_ok-around.ensures;
     }

@@ -1,4 +1,4 @@
-use Rattle.std.proofs.Common.{refl, sym, ap, subst}
+use Rattle.std.proofs.Common.{◌<◌, ◌^◌, refl, sym, ap, subst}
 use Rattle.m2_base.specs.Views.{stream_view}
 use Rattle.scope_core.specs.PlainScopes.{Plain, state_of}
 use Rattle.stmt_sem.specs.Blocks.{Whole}
@@ -12,6 +12,11 @@ declare_block-requires-clause-begun c =
     let m = c.args.«module».now in
     subst (λ (p : Plain). HasDeclared (state_of p).frame m 0 at_first) (sym c.in_ok-scopes.ensures.started)
     (none_declared m m.texts c.in_ok-rows.rows refl (c.in_ok-rows.ensures.count (stream_view m.tree) c.in_ok-layout.ensures))
+
+pub returns-clause-few : goal.returns-clause-few
+returns-clause-few c =
+    let count = c.in_ok-rows.ensures.count (stream_view c.args.«module».now.tree) c.in_ok-layout.ensures in
+    subst (λ n. n < 2 ^ 31) count c.in_ok-rows.ensures.few
 
 pub returns-clause-noted : goal.returns-clause-noted
 returns-clause-noted c =

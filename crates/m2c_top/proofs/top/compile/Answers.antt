@@ -8,7 +8,7 @@ use Rattle.m2c_top.specs.Outcome.{Compiles, no_text, IsDecided, text_name, line,
 use Rattle.m2c_top.specs.declared.status.Status.TheVariants.{Done, NoText}
 use Rattle.m2c_top.specs.Statuses.{status_number}
 use Rattle.m2c_top.specs.Verdicts.{decision_of}
-use Rattle.m2c_top.proofs.Delivering.{answered_answers, answered_keeps, answered_leaves, answered_prints, answered_part}
+use Rattle.m2c_top.proofs.Delivering.{answered_answers, answered_object, answered_keeps, answered_leaves, answered_prints, answered_part}
 use Rattle.m2c_top.proofs.OneOutcome.{prints_part}
 use Rattle.m2c_top.proofs.Outcomes.{err_prints, leaves_told, prints_nothing, lacking, is_decided, no_text_line}
 use Rattle.m2c_top.proofs.top.compile.Goals as goal
@@ -76,6 +76,11 @@ returns-clause-prints g c =
 pub returns-clause-answer : goal.returns-clause-answer
 returns-clause-answer g c =
     answered_answers c.args.name.now (g.H.Shelf.holds c.read_text.new.shelf) (g.H.Shelf.holds c.answer.new.shelf) (g.P.Sink.written c.args.print.now) (g.P.Sink.written c.answer.new.print)
+    (decision_of c.in_ok-verdict.verdict) c.answer.result c.answer.ensures.answered
+
+pub returns-clause-object : goal.returns-clause-object
+returns-clause-object g c =
+    answered_object c.args.name.now (g.H.Shelf.holds c.read_text.new.shelf) (g.H.Shelf.holds c.answer.new.shelf) (g.P.Sink.written c.args.print.now) (g.P.Sink.written c.answer.new.print)
     (decision_of c.in_ok-verdict.verdict) c.answer.result c.answer.ensures.answered
 
 pub returns-clause-kept : goal.returns-clause-kept

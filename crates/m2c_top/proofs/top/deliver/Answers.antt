@@ -1,15 +1,54 @@
-use Rattle.std.proofs.Common.{◌≡◌, ◌∙◌, inr, ap, sym, subst, refl, List}
+use Rattle.std.proofs.Common.{◌≡◌, ◌<◌, ◌^◌, ◌∙◌, rules, inl, inr, ap, sym, subst, refl, List, OnOk}
+use Rattle.m2_io.specs.Files.{HasPart, with_file}
 use Rattle.m2_io.specs.Written.{with_bytes, WritesPart}
 use Rattle.m2_base.specs.Units.{TextOf}
 use Rattle.m2_base.specs.declared.notes.Diag.{Diag}
 use Rattle.m2_base.specs.declared.token.Token.{Token}
+use Rattle.object_file.specs.Contents.{Contents, object_bytes}
 use Rattle.m2c_top.specs.Diagnostics.{diags_of}
 use Rattle.m2c_top.specs.Held.{held, main_tokens}
 use Rattle.m2c_top.specs.Listing.{listing}
-use Rattle.m2c_top.specs.Outcome.{text_name}
+use Rattle.m2c_top.specs.Outcome.{object_name, text_name}
 use Rattle.m2c_top.proofs.TextUnit.{main_is}
 use Rattle.m2c_top.proofs.Outcomes.{on_err}
+use Rattle.m2c_top.proofs.PutObjects.{can_be_put, put_delivers, same_contents, sound_valid}
 use Rattle.m2c_top.proofs.top.deliver.Goals as goal
+
+-- the module's object is valid, and what is put is that
+pub put_object-requires : goal.put_object-requires
+put_object-requires g c =
+    let found = rw c.in-Sound.is at c.in_ok-cells.ensures in
+    let fits : c.in-Sound.code.high < 2 ^ 32 = search rules in
+    can_be_put c.args.name.now c.args.source.now c.in-Sound.cells c.in-Sound.code found c.requires.name c.requires.held fits
+
+pub returns-in-Sound-clause-delivered : goal.returns-in-Sound-clause-delivered
+returns-in-Sound-clause-delivered g c =
+    let name = c.args.name.now in
+    let m = c.args.source.now in
+    let before = g.H.Shelf.holds c.args.shelf.now in
+    let after = g.H.Shelf.holds c.put_object.new.shelf in
+    let found = rw c.in-Sound.is at c.in_ok-cells.ensures in
+    let same = same_contents name m c.in-Sound.cells c.in-Sound.code found in
+    let fits : c.in-Sound.code.high < 2 ^ 32 = search rules in
+    put_delivers name (held m) before after (g.P.Sink.written c.args.print.now) c.put_object.result found.none
+    (sound_valid name m c.in-Sound.cells c.in-Sound.code found c.requires.name c.requires.held fits) c.put_object.ensures.status
+    (subst (λ (o : Contents). OnOk c.put_object.result (after ≡ with_file before (object_name name) (object_bytes o))) same c.put_object.ensures.ok)
+
+pub returns-in-Sound-clause-prints : goal.returns-in-Sound-clause-prints
+returns-in-Sound-clause-prints g c = on_err c.put_object.result (inl refl)
+
+pub returns-in-Sound-clause-part : goal.returns-in-Sound-clause-part
+returns-in-Sound-clause-part g c stop =
+    let name = c.args.name.now in
+    let m = c.args.source.now in
+    let before = g.H.Shelf.holds c.args.shelf.now in
+    let after = g.H.Shelf.holds c.put_object.new.shelf in
+    let found = rw c.in-Sound.is at c.in_ok-cells.ensures in
+    let same = same_contents name m c.in-Sound.cells c.in-Sound.code found in
+    inr (found.none, subst (λ (o : Contents). HasPart before (object_name name) (object_bytes o) after) same (c.put_object.ensures.part stop))
+
+pub returns-in-Sound-clause-write : goal.returns-in-Sound-clause-write
+returns-in-Sound-clause-write g c stop = inl (c.put_object.ensures.write stop)
 
 pub returns-in_err-print_listing-in-Faulty-clause-prints : goal.returns-in_err-print_listing-in-Faulty-clause-prints
 returns-in_err-print_listing-in-Faulty-clause-prints g c =

@@ -2,12 +2,12 @@ use Rattle.std.proofs.Common.{◌≡◌, ◌⊎◌, ◌∙◌, ℕ, List, sym, a
 use Rattle.m2_io.specs.Causes.{Rose}
 use Rattle.m2_io.specs.Files.{Files}
 use Rattle.m2c_top.specs.Command.{IsNoCommand}
-use Rattle.m2c_top.specs.Outcome.{Gives, AsksToCompile, LacksText, HasSoundText, HasDiagnostics, HasTooMuchText, HasOtherText, Leaves, PrintsPart, PutsPart}
+use Rattle.m2c_top.specs.Outcome.{Gives, AsksToCompile, HasObject, LacksText, HasSoundText, HasDiagnostics, HasTooMuchText, HasOtherText, Leaves, PrintsPart, PutsPart}
 use Rattle.m2c_top.specs.Statuses.{status_number, IsFault, IsStatus, Exactly}
 use Rattle.m2c_top.specs.Modules.{Module}
 use Rattle.m2c_top.specs.declared.verdict.Limit.{Limit}
 use Rattle.m2c_top.proofs.Table.{RowOf, lacks_row, sound_row, diagnostics_row, limit_row, other_row}
-use Rattle.m2c_top.proofs.Ends.{number_of, ends_leaving, ends_exactly, ends_as_no_command, ends_with_status, ends_stopped, ends_by_reading, ends_by_writing, ends_keeping}
+use Rattle.m2c_top.proofs.Ends.{number_of, ends_done, ends_leaving, ends_exactly, ends_as_no_command, ends_with_status, ends_stopped, ends_by_reading, ends_by_writing, ends_keeping}
 use Rattle.m2c_top.proofs.top.m2c.Given as given
 use Rattle.m2c_top.proofs.top.m2c.Goals as goal
 
@@ -23,6 +23,10 @@ returns-clause-leaves g c =
     let new = g.P.Sink.written c.obey.new.print in
     let words = map string_bytes c.args.words.now in
     subst (λ n. IsFault n ⊎ IfSome holds (λ files. Leaves (Gives words files) n after old new)) (sym (numbered g c)) (ends_leaving words holds after old new c.obey.result c.obey.ensures.leaves)
+
+pub returns-clause-object : goal.returns-clause-object
+returns-clause-object g c zero =
+    ends_done (AsksToCompile (map string_bytes c.args.words.now) (λ name. IfSome (g.H.Shelf.holds c.obey.new.shelf) (HasObject name))) c.obey.result c.obey.ensures.object (sym (numbered g c) ∙ zero)
 
 pub returns-clause-no_command : goal.returns-clause-no_command
 returns-clause-no_command g c =

@@ -1,6 +1,7 @@
-use Rattle.std.proofs.Common.{inr, refl, map, string_bytes}
-use Rattle.m2c_top.proofs.Obeying.{compiling_leaves, compiling_prints, compiling_ends, compiling_keeps, usage_leaves, usage_prints, usage_ends, on_stop}
+use Rattle.std.proofs.Common.{inr, refl, map, string_bytes, IfSome}
+use Rattle.m2c_top.proofs.Obeying.{compiling_leaves, compiling_prints, compiling_ends, compiling_done, compiling_keeps, usage_leaves, usage_prints, usage_ends, usage_not_done, on_stop}
 use Rattle.m2_io.specs.Causes.{Rose}
+use Rattle.m2c_top.specs.Outcome.{AsksToCompile, HasObject}
 use Rattle.m2c_top.specs.declared.top.Stop.TheVariants.{Write}
 use Rattle.m2c_top.proofs.top.obey.Goals as goal
 
@@ -18,6 +19,10 @@ pub returns-in-Some-clause-status : goal.returns-in-Some-clause-status
 returns-in-Some-clause-status g c =
     compiling_ends (map string_bytes c.args.words.now) (g.H.Shelf.holds c.args.shelf.now) (g.H.Shelf.holds c.compile.new.shelf) (g.P.Sink.written c.args.print.now) (g.P.Sink.written c.compile.new.print)
     c.in-Some.name.now c.in-Some.ensures c.compile.result c.compile.ensures.answer
+
+pub returns-in-Some-clause-object : goal.returns-in-Some-clause-object
+returns-in-Some-clause-object g c =
+    compiling_done (map string_bytes c.args.words.now) (λ name. IfSome (g.H.Shelf.holds c.compile.new.shelf) (HasObject name)) c.in-Some.name.now c.in-Some.ensures c.compile.result c.compile.ensures.object
 
 pub returns-in-Some-clause-kept : goal.returns-in-Some-clause-kept
 returns-in-Some-clause-kept g c = c.compile.ensures.kept
@@ -53,6 +58,10 @@ pub returns-in-None-clause-status : goal.returns-in-None-clause-status
 returns-in-None-clause-status g c =
     usage_ends (map string_bytes c.args.words.now) (g.H.Shelf.holds c.args.shelf.now) (g.H.Shelf.holds c.args.shelf.now) (g.P.Sink.written c.args.print.now) (g.P.Sink.written c.print_usage.new.print)
     c.in-None.ensures c.print_usage.result c.print_usage.ensures.ok
+
+pub returns-in-None-clause-object : goal.returns-in-None-clause-object
+returns-in-None-clause-object g c =
+    usage_not_done (AsksToCompile (map string_bytes c.args.words.now) (λ name. IfSome (g.H.Shelf.holds c.args.shelf.now) (HasObject name))) c.print_usage.result c.print_usage.ensures.ok
 
 pub returns-in-None-clause-write : goal.returns-in-None-clause-write
 returns-in-None-clause-write g c stop = inr (on_stop (Rose (g.P.Sink.faults c.args.print.now) (g.P.Sink.faults c.print_usage.new.print)) c.print_usage.result Write c.print_usage.ensures.write stop)
