@@ -6,6 +6,7 @@ use Rattle.m2_base.specs.Lists.{Each}
 use Rattle.m2_base.specs.Standard.{standard_rows}
 use Rattle.m2_base.specs.Statics.BlockRows.{declare_block}
 use Rattle.m2_base.specs.Statics.Blocks.{BlockTree, UnitTrees, blocks_of, home_of}
+use Rattle.m2_base.specs.Statics.Closing.{closing_diags}
 use Rattle.m2_base.specs.Statics.Contexts.{Source}
 use Rattle.m2_base.specs.Statics.Items.{items_of}
 use Rattle.m2_base.specs.Statics.ReadTrees.{IsReadItem}
@@ -18,7 +19,7 @@ use Rattle.row_laws.proofs.ClearNotes.{front_none}
 use Rattle.row_laws.proofs.ClearUnits.{unit_headings}
 use Rattle.row_laws.proofs.TextBlocks.{blocks_read, trees_read}
 use Rattle.row_laws.proofs.Units.{each_block_then}
-use Rattle.stmt_sem.specs.BlockCode.{block_code, block_diags}
+use Rattle.stmt_sem.specs.BlockCode.{block_code, block_diags, body_of, run_of, size_diags}
 use Rattle.stmt_sem.specs.Tokens.{block_tokens}
 use Rattle.row_laws.specs.Headings.{HasSoundHeadings}
 use Rattle.block_laws.specs.Named.{procedure_of}
@@ -38,13 +39,22 @@ each-of : (P : BlockTree → Type 0) (source : Source) (before : List (List Row)
 each-of P source before [] f = tt
 each-of P source before (b ∷ blocks) f = (f.0, each-of P source (before ++ (declare_block source before b).rows ∷ []) blocks f.1)
 
+-- a block without a diagnostic has none in its declarations
+declared-none : (source : Source) (before all : List (List Row)) (b : BlockTree) → block_diags source before all b ≡ [] → (declare_block source before b).diags ≡ []
+declared-none source before all b e =
+    let c = complete_context source all b.block in
+    let d = declare_block source before b in
+    let body = body_of c b in
+    let size = size_diags c b b.tree.kind d.value (run_of b d.value body.value) in
+    front_none d.diags (closing_diags c b.tree) (front_none (d.diags ++ closing_diags c b.tree) body.diags (front_none (d.diags ++ closing_diags c b.tree ++ body.diags) size e))
+
 pub code-valid : (names : List (List ℕ)) (texts : UnitTexts) (u : UnitTrees) → IsSoundUnit names u → AreRead texts u → Each (λ b. AreReadStatements names b.tree.body) (blocks_of u) → Each (λ b. Each (IsReadItem names) (items_of b.tree)) (blocks_of u)
     → Each (λ b. block_tokens b.tree ≤ 1048576) (blocks_of u) → EachBlock (λ before b. block_diags u.source before (unit_rows u) b ≡ []) u.source (standard_rows ∷ []) (blocks_of u)
     → EachBlock (λ before b. home_of u ≤ b.block.scope → IsValidCode (unit_world u) (b.block.scope - home_of u) (procedure_of (block_code u.source before (unit_rows u) b))) u.source (standard_rows ∷ []) (blocks_of u)
 code-valid names texts u sound told read items few none =
     let headings : HasSoundHeadings u = unit_headings names u sound items
         (each_block_then (λ before b. block_diags u.source before (unit_rows u) b ≡ []) (λ before b. (declare_block u.source before b).diags ≡ []) u.source (blocks_of u) (standard_rows ∷ [])
-        (λ before b e. front_none (declare_block u.source before b).diags _ e) none) in
+        (λ before b e. declared-none u.source before (unit_rows u) b e) none) in
     let is : IsClear names u = record { sound = sound; blocks = blocks_read texts u told; read = read; none = none } in
     let sight : Each (λ (b : BlockTree). Sees (IsInSight b.block) (complete_context u.source (unit_rows u) b.block).scene) (blocks_of u) =
         each-of (λ (b : BlockTree). Sees (IsInSight b.block) (complete_context u.source (unit_rows u) b.block).scene) u.source (standard_rows ∷ []) (blocks_of u) (blocks-see names u sound (trees_read texts u told)) in
