@@ -1,8 +1,8 @@
 -- The blocks of a unit by their scopes: what holds of each, its rows, and what is made of it.
-use Rattle.std.specs.Prelude.{◌≡◌, refl, ℕ, zero, suc, ◌+◌, ◌-◌, ◌<◌, ◌≤◌, ◌⊎◌, List, [], ◌∷◌, ◌++◌, drop, length, slice_get, slice_index_or, take, Option, Some, None}
+use Rattle.std.specs.Prelude.{◌≡◌, refl, ℕ, zero, suc, ◌+◌, ◌-◌, ◌<◌, ◌≤◌, List, [], ◌∷◌, ◌++◌, drop, length, slice_get, take, Some}
 use Rattle.std.proofs.Common.{ap, subst, sym, ◌∙◌, inl, inr, arith}
 use Rattle.std.proofs.lemmas.List.{length-append, get_or_append_left, get_or_at}
-use Rattle.m2_base.specs.Lists.{Each, IsIn}
+use Rattle.m2_base.specs.Lists.{IsIn}
 use Rattle.m2_base.specs.Standard.{standard_rows}
 use Rattle.m2_base.specs.Statics.BlockRows.{declare_block}
 use Rattle.m2_base.specs.Statics.Blocks.{BlockTree, UnitTrees, blocks_of}

@@ -1,18 +1,13 @@
 -- The blocks of a main text stand one in another: a chain leads from each of them out to the module, and static links lead so too.
-use Rattle.std.specs.Prelude.{◌≡◌, refl, ℕ, zero, suc, ◌+◌, ◌-◌, ◌<◌, ◌≤◌, ◌==◌, ◌⊎◌, Bool, true, false, cond, nat_lt, not, if◌then◌else◌, List, [], ◌∷◌, ◌++◌, find, length, option_map, position, slice_get, slice_index, slice_index_or, unwrap_or, Option, Some, None}
+use Rattle.std.specs.Prelude.{◌≡◌, refl, ℕ, ◌+◌, ◌-◌, ◌<◌, ◌≤◌, ◌==◌, ◌⊎◌, Bool, true, false, nat_lt, not, if◌then◌else◌, List, [], ◌∷◌, ◌++◌, length, position, unwrap_or, Option, Some, None}
 use Rattle.std.specs.List.{list_any, position_or_len, prefix_len}
-use Rattle.std.proofs.Common.{ap, subst, sym, ◌∙◌, inl, inr, arith}
-use Rattle.std.proofs.lemmas.Bool.{cases_order, eq-eqb, eqb-true, eqb-false, lt-ltb, le-ltb}
+use Rattle.std.proofs.Common.{ap, sym, ◌∙◌, inl, inr, arith}
+use Rattle.std.proofs.lemmas.Bool.{cases_order, lt-ltb, le-ltb}
 use Rattle.m2_base.proofs.ChainLaws.{each_append, each_found, each_then}
 use Rattle.m2_base.specs.Lists.{Each, IsIn, WhereKept}
 use Rattle.m2_base.specs.Statics.Blocks.{BlockTree, UnitTrees, blocks_of, blocks_of_main, declares, definition_blocks, encloser, home_of, main_block, main_blocks, procedure_block, with_own}
-use Rattle.m2_base.specs.Statics.Contexts.{Block, DefinitionModule, level_of}
+use Rattle.m2_base.specs.Statics.Contexts.{Block, DefinitionModule}
 use Rattle.m2_base.specs.Trees.{Stream}
-use Rattle.code_form.specs.Modules.{Procedure, World}
-use Rattle.code_form.specs.Valid.{linked, outer_of, outer_or}
-use Rattle.expr_sem.specs.ProcedureNames.{is_own, is_own_definition}
-use Rattle.expr_sem.specs.Variables.{links_out}
-use Rattle.stmt_sem.specs.BlockCode.{outer_of as outer_number}
 
 -- ** Levels
 

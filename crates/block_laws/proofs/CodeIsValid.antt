@@ -53,11 +53,11 @@ pub code-valid : (names : List (List ℕ)) (texts : UnitTexts) (u : UnitTrees) �
     → EachBlock (λ before b. home_of u ≤ b.block.scope → IsValidCode (unit_world u) (b.block.scope - home_of u) (procedure_of (block_code u.source before (unit_rows u) b))) u.source (standard_rows ∷ []) (blocks_of u)
 code-valid names texts u sound told read items few none =
     let headings : HasSoundHeadings u = unit_headings names u sound items
-        (each_block_then (λ before b. block_diags u.source before (unit_rows u) b ≡ []) (λ before b. (declare_block u.source before b).diags ≡ []) u.source (blocks_of u) (standard_rows ∷ [])
-        (λ before b e. declared-none u.source before (unit_rows u) b e) none) in
+    (each_block_then (λ before b. block_diags u.source before (unit_rows u) b ≡ []) (λ before b. (declare_block u.source before b).diags ≡ []) u.source (blocks_of u) (standard_rows ∷ [])
+    (λ before b e. declared-none u.source before (unit_rows u) b e) none) in
     let is : IsClear names u = record { sound = sound; blocks = blocks_read texts u told; read = read; none = none } in
     let sight : Each (λ (b : BlockTree). Sees (IsInSight b.block) (complete_context u.source (unit_rows u) b.block).scene) (blocks_of u) =
-        each-of (λ (b : BlockTree). Sees (IsInSight b.block) (complete_context u.source (unit_rows u) b.block).scene) u.source (standard_rows ∷ []) (blocks_of u) (blocks-see names u sound (trees_read texts u told)) in
+    each-of (λ (b : BlockTree). Sees (IsInSight b.block) (complete_context u.source (unit_rows u) b.block).scene) u.source (standard_rows ∷ []) (blocks_of u) (blocks-see names u sound (trees_read texts u told)) in
     unit_all u sound.scopes (λ before b. home_of u ≤ b.block.scope → IsValidCode (unit_world u) (b.block.scope - home_of u) (procedure_of (block_code u.source before (unit_rows u) b)))
     (λ b i behind. block-valid-in-unit names u is (implements names u is headings b i behind (headings-named names u is items b i behind)) b i behind
     (in_each (λ (c : BlockTree). Sees (IsInSight c.block) (complete_context u.source (unit_rows u) c.block).scene) (blocks_of u) b sight i)

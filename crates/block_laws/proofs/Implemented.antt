@@ -1,12 +1,12 @@
 -- The headings of an own definition are procedures of the module that take and leave the same, where the module's block has no
 -- diagnostic.
-use Rattle.std.specs.Prelude.{◌≡◌, refl, ℕ, zero, suc, ◌+◌, ◌<◌, ◌≤◌, ◌==◌, ◌&&◌, ◌⊎◌, Bool, true, false, is_some, if◌then◌else◌, List, [], ◌∷◌, ◌++◌, slice_get, unwrap_or, Option, Some, None}
+use Rattle.std.specs.Prelude.{◌≡◌, refl, ℕ, zero, suc, ◌+◌, ◌<◌, ◌≤◌, ◌==◌, ◌&&◌, Bool, true, false, is_some, if◌then◌else◌, List, [], ◌∷◌, ◌++◌, slice_get, unwrap_or, Option, Some, None}
 use Rattle.std.proofs.Common.{ap, subst, sym, ◌∙◌, inl, inr, arith}
 use Rattle.std.proofs.lemmas.Bool.{eq-eqb, eqb-true}
 use Rattle.expr_sem.specs.Calls.{cells_of, cells_of_all, result_cells}
 use Rattle.m2_base.specs.Lists.{Each, IsIn, WhereKept}
 use Rattle.m2_base.specs.Rows.{at_place, row_meaning}
-use Rattle.m2_base.specs.Statics.Assignable.{is_open_array, is_open_kind}
+use Rattle.m2_base.specs.Statics.Assignable.{is_open_kind}
 use Rattle.m2_base.specs.Statics.Blocks.{BlockTree, UnitTrees, blocks_of, home_of}
 use Rattle.m2_base.specs.Statics.Closing.{Implemented, block_name, closing_diags, heading_name, all_implemented, differing, differs_at, has_missing, implementation_diags, implemented, implements_heading, is_implemented, is_missing, name_diags, own_diags, procedure_implements}
 use Rattle.m2_base.specs.Statics.Contexts.{Context, Scene, diag}

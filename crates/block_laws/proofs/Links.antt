@@ -1,10 +1,9 @@
 -- Static links lead from a block's procedure to those of the blocks round it.
-use Rattle.std.specs.Prelude.{◌≡◌, refl, ℕ, zero, suc, ◌+◌, ◌-◌, ◌<◌, ◌≤◌, ◌==◌, ◌||◌, ◌⊎◌, Bool, true, false, if◌then◌else◌, List, [], ◌∷◌, slice_get, slice_index, Option, Some, None}
+use Rattle.std.specs.Prelude.{◌≡◌, refl, ℕ, zero, suc, ◌+◌, ◌-◌, ◌<◌, ◌≤◌, ◌==◌, ◌⊎◌, Bool, true, false, if◌then◌else◌, List, [], ◌∷◌, slice_get, slice_index, Option, Some, None}
 use Rattle.std.proofs.Common.{ap, subst, sym, ◌∙◌, inl, inr, arith}
-use Rattle.std.proofs.lemmas.Bool.{eq-eqb, eqb-true, eqb-false}
+use Rattle.std.proofs.lemmas.Bool.{eqb-true, eqb-false}
 use Rattle.code_form.specs.Modules.{Procedure, World}
 use Rattle.code_form.specs.Valid.{linked, outer_of, outer_or}
-use Rattle.expr_sem.specs.ProcedureNames.{is_own_definition}
 use Rattle.expr_sem.specs.Variables.{links_out}
 use Rattle.m2_base.specs.Lists.{Each, IsIn}
 use Rattle.m2_base.specs.Rows.{row_meaning}
@@ -14,7 +13,7 @@ use Rattle.m2_base.specs.Tables.{rows_at}
 use Rattle.m2_base.specs.declared.rows.Row.{Row}
 use Rattle.row_laws.specs.RowRanges.{IsBelow}
 use Rattle.stmt_sem.specs.BlockCode.{outer_of as outer_number, params_of, results_of}
-use Rattle.block_laws.proofs.Chains.{IsInner, IsModuleBlock, Stands, blocks_stand, first_behind, first_here, level_by}
+use Rattle.block_laws.proofs.Chains.{IsInner, Stands, blocks_stand, first_behind, first_here, level_by}
 
 -- the procedure that a world has of a block of the main text, and that its cells are those of the rows
 pub record HasProcedure (w : World) (home : ℕ) (all : List (List Row)) (b : BlockTree) : Type 0 where

@@ -1,37 +1,31 @@
 -- Each block of a main text has code and a name, and what each block sees leads to what it sees.
-use Rattle.std.specs.Prelude.{◌≡◌, refl, ℕ, ◌+◌, ◌≤◌, ◌<◌, List, [], ◌∷◌, ◌++◌, map, flat_map, Option, Some, None}
+use Rattle.std.specs.Prelude.{◌≡◌, refl, ℕ, ◌+◌, ◌≤◌, List, [], ◌∷◌, ◌++◌, map, flat_map, Option, None}
 use Rattle.std.proofs.Common.{ap, subst, sym, ◌∙◌, inl, inr, arith}
 use Rattle.m2_base.specs.Lists.{Each}
-use Rattle.m2_base.specs.Rows.{row_meaning}
-use Rattle.m2_base.specs.declared.rows.Place.{Place}
 use Rattle.m2_base.specs.declared.rows.Row.{Row}
-use Rattle.m2_base.specs.declared.rows.RowMeaning.TheVariants.{Alias, Module}
 use Rattle.m2_base.specs.declared.trees.Ident.{Ident}
 use Rattle.m2_base.specs.declared.trees.declarations.StreamKind.{StreamKind}
-use Rattle.m2_base.specs.declared.trees.declarations.StreamKind.TheVariants.{Main, Procedure}
 use Rattle.m2_base.specs.Standard.{standard_rows}
 use Rattle.m2_base.specs.Trees.{Decl, Heading, Import, Stream, const_decl, proc_decl, type_decl, vars_decl}
 use Rattle.m2_base.specs.Statics.BlockRows.{declare_block, declare_items}
 use Rattle.m2_base.specs.Statics.Blocks.{BlockTree, UnitTrees, blocks_of, home_of}
-use Rattle.m2_base.specs.Statics.Cells.{most_cells}
-use Rattle.m2_base.specs.Statics.Closing.{block_name, heading_name}
+use Rattle.m2_base.specs.Statics.Closing.{heading_name}
 use Rattle.m2_base.specs.Statics.Contexts.{Context, Scene, Source}
 use Rattle.m2_base.specs.Statics.Declarations.{declare}
-use Rattle.m2_base.specs.Statics.Effects.{BlockEffects}
 use Rattle.m2_base.specs.Statics.Items.{Item, const_item, decl_item, heading_item, heading_items, import_item, import_items, items_of, proc_item, type_item, vars_item}
 use Rattle.m2_base.specs.Statics.UnitNotes.{complete_context}
 use Rattle.m2_base.specs.Statics.UnitRows.{unit_rows}
-use Rattle.m2_base.proofs.ChainLaws.{each_append, each_then}
+use Rattle.m2_base.proofs.ChainLaws.{each_append}
 use Rattle.row_laws.specs.RowRanges.{CellsAreThere, EachBlock, IsCopyBelow, IsSoundUnit}
 use Rattle.row_laws.specs.Sight.{LeadsInSight, LeadsTo}
-use Rattle.row_laws.specs.TextTrees.{AreOfTexts, HasTree, IsTreeOf}
+use Rattle.row_laws.specs.TextTrees.{AreOfTexts, HasTree}
 use Rattle.row_laws.proofs.Chains.{IsChained, blocks_chained}
 use Rattle.row_laws.proofs.SightUnits.{unit_sight}
 use Rattle.row_laws.proofs.Units.{unit_cells}
 use Rattle.stmt_sem.specs.BlockCode.{first_cell}
 use Rattle.block_laws.specs.MainBlocks.{IsMainBlock}
 use Rattle.block_laws.specs.Named.{HasCode}
-use Rattle.block_laws.specs.Sight.{IsDeclared, IsInSight, Sees}
+use Rattle.block_laws.specs.Sight.{IsInSight, Sees}
 
 -- ** A module copies nothing first
 

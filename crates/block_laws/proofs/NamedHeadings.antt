@@ -10,23 +10,22 @@ use Rattle.m2_base.specs.Standard.{is_standard}
 use Rattle.m2_base.specs.Statics.BlockRows.{at_item, context_of, declare_block, declare_items, first_cell, scene_of}
 use Rattle.m2_base.specs.Statics.Blocks.{BlockTree, UnitTrees, blocks_of, home_of}
 use Rattle.m2_base.specs.Statics.Closing.{closing_diags}
-use Rattle.m2_base.specs.Statics.Contexts.{Context, Scene, Source, diag}
+use Rattle.m2_base.specs.Statics.Contexts.{Context, Source, diag}
 use Rattle.m2_base.specs.Statics.Declarations.{declare}
 use Rattle.m2_base.specs.Statics.Diagnostics.{declared_twice, standard_declared}
 use Rattle.m2_base.specs.Statics.Items.{Item, const_item, heading_item, import_item, items_of, proc_item, type_item, vars_item}
 use Rattle.m2_base.specs.Statics.Lookup.{has_name}
-use Rattle.m2_base.specs.Statics.Makes.{Makes, makes_named, makes_row, next_place, one_row, with_rows}
+use Rattle.m2_base.specs.Statics.Makes.{makes_named, makes_row, next_place, one_row, with_rows}
 use Rattle.m2_base.specs.Statics.ProcedureRows.{parameter_count, proc_number, proc_scope, section_rows, sections_length}
 use Rattle.m2_base.specs.Statics.ProcedureTypes.{result_type}
 use Rattle.m2_base.specs.Statics.ReadTrees.{IsReadItem}
 use Rattle.m2_base.specs.Statics.ShapedRows.{AreShaped, none_of, more_of}
-use Rattle.m2_base.specs.Statics.Shapes.{Shape, array_shapes, arms_shapes, field_shapes, fields_shapes, form_shapes, formal_shapes, item_shapes, open_shapes, own_section_shapes, section_shapes, tag_shapes, type_item_shapes, type_shapes, types_shapes}
+use Rattle.m2_base.specs.Statics.Shapes.{Shape, array_shapes, arms_shapes, field_shapes, fields_shapes, form_shapes, formal_shapes, open_shapes, own_section_shapes, section_shapes, tag_shapes, type_item_shapes, type_shapes, types_shapes}
 use Rattle.m2_base.specs.Statics.UnitNotes.{complete_context}
 use Rattle.m2_base.specs.Statics.UnitRows.{unit_rows}
 use Rattle.m2_base.specs.Tables.{rows_at}
 use Rattle.m2_base.specs.Trees.{TypeExpr, type_expr, TypeForm, named_type, enum_type, sub_type, array_type, record_type, set_type, pointer_type, proc_type, TypeExprs, no_types, more_types, FieldList, plain_fields, case_fields, FieldLists, no_fields, more_fields, variant_arm, VariantArms, no_variant_arms, more_variant_arms, Heading, Section}
 use Rattle.m2_base.specs.declared.notes.Diag.{Diag}
-use Rattle.m2_base.specs.declared.rows.Place.{Place}
 use Rattle.m2_base.specs.declared.rows.Row.{Row}
 use Rattle.m2_base.specs.declared.rows.RowMeaning.TheVariants.{Proc, ProcType}
 use Rattle.m2_base.specs.declared.rows.RowMeaning.{RowMeaning}

@@ -1,7 +1,7 @@
 -- The procedures that rows declare are there, in a world that has the unit's procedures, imports and cells.
-use Rattle.std.specs.Prelude.{◌≡◌, refl, ℕ, zero, suc, ◌+◌, ◌-◌, ◌<◌, ◌≤◌, ◌==◌, ◌&&◌, ◌⊎◌, Bool, true, false, nat_le, nat_lt, is_some, if◌then◌else◌, List, [], ◌∷◌, length, map, option_map, slice_get, slice_index, Option, Some, None}
-use Rattle.std.proofs.Common.{ap, subst, sym, ◌∙◌, inl, inr, arith}
-use Rattle.std.proofs.lemmas.Bool.{cases_order, eq-eqb, eqb-false, le-leb, lt-ltb}
+use Rattle.std.specs.Prelude.{◌≡◌, refl, ℕ, zero, suc, ◌+◌, ◌-◌, ◌<◌, ◌≤◌, ◌==◌, ◌&&◌, ◌⊎◌, Bool, true, nat_le, nat_lt, is_some, if◌then◌else◌, List, [], ◌∷◌, length, map, option_map, slice_get, slice_index, Option, Some, None}
+use Rattle.std.proofs.Common.{ap, sym, ◌∙◌, inl, inr, arith}
+use Rattle.std.proofs.lemmas.Bool.{cases_order, eq-eqb, le-leb, lt-ltb}
 use Rattle.std.proofs.lemmas.Option.{slice_get-map, slice_get_within}
 use Rattle.code_form.specs.Heights.{Callee, Step, step_among}
 use Rattle.code_form.specs.Modules.{Import, Procedure, World}
@@ -9,29 +9,26 @@ use Rattle.code_form.specs.Valid.{callees_of, can_call, has_heading, heading_or,
 use Rattle.code_form.specs.declared.instr.Instr.TheVariants.{Call, CallX}
 use Rattle.code_form.specs.declared.instr.Instr.{Instr}
 use Rattle.expr_sem.specs.Calls.{cells_of_all, result_cells}
-use Rattle.m2_base.specs.Lists.{Each, IsIn}
+use Rattle.m2_base.specs.Lists.{IsIn}
 use Rattle.m2_base.specs.Statics.Assignable.{is_open_array}
 use Rattle.m2_base.specs.Statics.Blocks.{BlockTree, UnitTrees, blocks_of, home_of}
-use Rattle.m2_base.specs.Statics.Contexts.{Block, Scene}
+use Rattle.m2_base.specs.Statics.Contexts.{Scene}
 use Rattle.m2_base.specs.Statics.Items.{items_of, proc_item}
 use Rattle.m2_base.specs.Statics.ProcedureRows.{parameter_cells, result_cells as cells_of_result}
 use Rattle.m2_base.specs.Statics.TypeParts.{Parameter, parameters, result_of_type}
-use Rattle.m2_base.specs.Statics.UnitRows.{unit_rows}
 use Rattle.m2_base.specs.Trees.{Heading}
 use Rattle.m2_base.specs.declared.trees.Qual.{Qual}
 use Rattle.m2_base.specs.declared.outputs.HeadingNote.{HeadingNote}
 use Rattle.m2_base.specs.declared.rows.Place.{Place}
 use Rattle.m2_base.specs.declared.rows.Row.{Row}
-use Rattle.m2_base.specs.declared.trees.declarations.StreamKind.{StreamKind}
-use Rattle.m2_base.specs.declared.trees.declarations.StreamKind.TheVariants.{Definition, Main, Procedure as ProcedureStream}
-use Rattle.row_laws.specs.Procedures.{HasNumber, IsDeclared, IsSeenAs, IsTypeOf, cells_of_parameters}
-use Rattle.row_laws.specs.UnitBlocks.{HasItsForm, HasItsProcedures, IsProcedureIn}
-use Rattle.stmt_sem.specs.BlockCode.{outer_of as outer_number, params_of, results_of}
+use Rattle.row_laws.specs.Procedures.{IsTypeOf, cells_of_parameters}
+use Rattle.row_laws.specs.UnitBlocks.{HasItsProcedures, IsProcedureIn}
+use Rattle.stmt_sem.specs.BlockCode.{params_of, results_of}
 use Rattle.block_laws.specs.Sight.{call_step}
 use Rattle.block_laws.specs.Worlds.{callee_of}
-use Rattle.block_laws.proofs.Chains.{Stands, blocks_stand}
-use Rattle.block_laws.proofs.Links.{Begins, HasProcedure, begins, in_each, unequal}
-use Rattle.block_laws.proofs.WorldCells.{Furnishes, HasImport, IsInMain, in_main}
+use Rattle.block_laws.proofs.Chains.{blocks_stand}
+use Rattle.block_laws.proofs.Links.{begins, in_each, unequal}
+use Rattle.block_laws.proofs.WorldCells.{Furnishes, in_main}
 
 -- ** What a call takes and leaves
 

@@ -1,10 +1,10 @@
 -- A unit's world has the procedures, the imports and the cells of its blocks.
-use Rattle.std.specs.Prelude.{◌≡◌, refl, ℕ, zero, suc, ◌+◌, ◌-◌, ◌<◌, ◌≤◌, ◌==◌, ◌⊎◌, Bool, nat_lt, if◌then◌else◌, List, [], ◌∷◌, ◌++◌, drop, length, map, slice_get, slice_index_or, take, Option, Some, None}
+use Rattle.std.specs.Prelude.{◌≡◌, refl, ℕ, zero, suc, ◌+◌, ◌-◌, ◌<◌, ◌≤◌, ◌⊎◌, Bool, if◌then◌else◌, List, [], ◌∷◌, ◌++◌, drop, length, map, slice_get, slice_index_or, take, Option, Some, None}
 use Rattle.std.proofs.Common.{ap, subst, sym, ◌∙◌, inl, inr, arith}
 use Rattle.std.proofs.lemmas.Bool.{cases_order, le-ltb, lt-ltb}
 use Rattle.std.proofs.lemmas.List.{length-append}
 use Rattle.std.proofs.lemmas.Option.{get_or_from_slice_get, slice_get_cases, slice_get_within}
-use Rattle.code_form.specs.Modules.{Import, Procedure, World}
+use Rattle.code_form.specs.Modules.{Import, World}
 use Rattle.code_form.specs.Valid.{import_of}
 use Rattle.expr_sem.specs.ProcedureNames.{import_number_beside}
 use Rattle.m2_base.proofs.ChainLaws.{each_then}
@@ -28,12 +28,11 @@ use Rattle.m2_base.specs.declared.rows.Row.{Row}
 use Rattle.m2_base.specs.declared.rows.RowMeaning.TheVariants.{Var}
 use Rattle.m2_base.specs.declared.rows.RowMeaning.{RowMeaning}
 use Rattle.m2_base.specs.declared.trees.declarations.StreamKind.{StreamKind}
-use Rattle.m2_base.specs.declared.trees.declarations.StreamKind.TheVariants.{Definition, Main, Procedure as ProcedureStream}
 use Rattle.row_laws.proofs.Units.{unit_cells, unit_declared, unit_in_range, unit_own_cells, unit_whole}
 use Rattle.row_laws.specs.Procedures.{IsDeclared, IsSeenAs, ProceduresAreDeclared}
 use Rattle.row_laws.specs.RowRanges.{BlockInRange, CellsAreThere, EachBlock, IsBelow, IsSoundUnit, OwnCellsAreThere}
 use Rattle.row_laws.specs.UnitBlocks.{HasItsBlocks, HasItsForm}
-use Rattle.stmt_sem.specs.BlockCode.{block_code, block_diags, body_of, first_cell, first_spot, run_of, size_diags}
+use Rattle.stmt_sem.specs.BlockCode.{block_code, block_diags, body_of, first_cell, run_of, size_diags}
 use Rattle.stmt_sem.specs.Flows.{Run}
 use Rattle.block_laws.specs.Named.{HasCode, procedure_of}
 use Rattle.block_laws.specs.ReadStatements.{AreReadStatements}

@@ -1,21 +1,19 @@
 -- The code of each block of a unit is valid where no block has a diagnostic.
-use Rattle.std.specs.Prelude.{◌≡◌, refl, ℕ, ◌+◌, ◌-◌, ◌<◌, ◌≤◌, ◌==◌, ◌⊎◌, Bool, true, List, [], ◌∷◌, ◌++◌, flat_map, map, slice_get, Option, Some, None}
+use Rattle.std.specs.Prelude.{◌≡◌, refl, ℕ, ◌+◌, ◌-◌, ◌<◌, ◌≤◌, ◌⊎◌, true, List, [], ◌∷◌, ◌++◌, flat_map, map, slice_get, Option, Some, None}
 use Rattle.std.proofs.Common.{ap, subst, sym, ◌∙◌, inl, inr, arith}
 use Rattle.std.proofs.lemmas.Bool.{cases_order}
-use Rattle.code_form.specs.Modules.{Procedure, World}
+use Rattle.code_form.specs.Modules.{Procedure}
 use Rattle.code_form.specs.Valid.{IsValidCode, names_what_is_there}
 use Rattle.expr_sem.specs.Variables.{cell_instr}
 use Rattle.m2_base.proofs.ChainLaws.{each_append}
 use Rattle.m2_base.specs.Lists.{Each, IsIn}
-use Rattle.m2_base.specs.Rows.{row_meaning}
-use Rattle.m2_base.specs.Standard.{standard_rows}
 use Rattle.m2_base.specs.Statics.BlockRows.{context_of, declare_block, declare_items, first_cell as cell_before, scene_of}
 use Rattle.m2_base.specs.Statics.Blocks.{BlockTree, UnitTrees, blocks_of, home_of}
 use Rattle.m2_base.specs.Statics.Cells.{most_cells}
 use Rattle.m2_base.specs.Statics.Contexts.{Context, Scene, Source}
 use Rattle.m2_base.specs.Statics.Declarations.{declare}
 use Rattle.m2_base.specs.Statics.Effects.{BlockEffects, ParamCopy}
-use Rattle.m2_base.specs.Statics.Items.{Item, const_item, decl_item, heading_item, heading_items, import_item, import_items, items_of, proc_item, type_item, vars_item}
+use Rattle.m2_base.specs.Statics.Items.{Item, const_item, decl_item, heading_item, heading_items, import_item, import_items, proc_item, type_item, vars_item}
 use Rattle.m2_base.specs.Statics.UnitNotes.{complete_context}
 use Rattle.m2_base.specs.Statics.UnitRows.{unit_rows}
 use Rattle.m2_base.specs.Tables.{rows_at}
@@ -27,17 +25,15 @@ use Rattle.m2_base.specs.declared.rows.Row.{Row}
 use Rattle.m2_base.specs.declared.rows.RowMeaning.TheVariants.{Proc, Var}
 use Rattle.m2_base.specs.declared.rows.RowMeaning.{RowMeaning}
 use Rattle.m2_base.specs.declared.trees.declarations.StreamKind.{StreamKind}
-use Rattle.m2_base.specs.declared.trees.declarations.StreamKind.TheVariants.{Main, Procedure as ProcedureStream}
 use Rattle.row_laws.proofs.PlacingItems.{IsInner, decls_inner, imports_inner}
 use Rattle.row_laws.proofs.Whole.{whole-rows}
-use Rattle.row_laws.specs.RowRanges.{EachBlock, IsBelow, IsCopyBelow}
+use Rattle.row_laws.specs.RowRanges.{IsBelow, IsCopyBelow}
 use Rattle.stmt_sem.specs.BlockCode.{block_code, first_cell}
 use Rattle.stmt_sem.specs.Tokens.{block_tokens}
 use Rattle.block_laws.specs.Named.{BlockNamesThere, procedure_of}
 use Rattle.block_laws.specs.Sight.{IsDeclared, IsInSight, RowsNameThere, Sees}
 use Rattle.block_laws.specs.Worlds.{unit_world}
-use Rattle.block_laws.proofs.BlocksAt.{before_of, unit_all}
-use Rattle.block_laws.proofs.Links.{in_each}
+use Rattle.block_laws.proofs.BlocksAt.{before_of}
 use Rattle.block_laws.proofs.Named.{block-code-valid}
 use Rattle.block_laws.proofs.UnitWorlds.{IsClear, cells, coded, declares, form, furnishes, has_procedure, made, notes_of, ranges, reads, told}
 use Rattle.block_laws.proofs.WorldCalls.{AreImplemented, Declares, HasTarget, call-there, sight-low, target-there, value-there}

@@ -1,10 +1,10 @@
 -- The procedures that a block's code names are there, and calls of them take and leave what their types say.
-use Rattle.std.specs.Prelude.{◌≡◌, refl, ℕ, zero, suc, ◌+◌, ◌-◌, ◌<◌, ◌≤◌, ◌==◌, ◌&&◌, ◌||◌, ◌⊎◌, not, Bool, true, false, if◌then◌else◌, List, [], ◌∷◌, drop, length, map, slice_get, unwrap_or, Option, Some, None}
+use Rattle.std.specs.Prelude.{◌≡◌, refl, ℕ, zero, suc, ◌+◌, ◌-◌, ◌<◌, ◌≤◌, ◌==◌, ◌&&◌, ◌||◌, ◌⊎◌, not, Bool, true, false, if◌then◌else◌, List, ◌∷◌, drop, length, slice_get, unwrap_or, Option, Some, None}
 use Rattle.std.proofs.Common.{ap, subst, sym, ◌∙◌, inl, inr, arith}
-use Rattle.std.proofs.lemmas.Bool.{cases_order, eq-eqb, eqb-true, eqb-false}
+use Rattle.std.proofs.lemmas.Bool.{cases_order, eq-eqb, eqb-true}
 use Rattle.code_form.specs.Heights.{step_among}
 use Rattle.code_form.specs.Modules.{Procedure, World}
-use Rattle.code_form.specs.Valid.{callees_of, has_heading, import_of, linked, names_what_is_there}
+use Rattle.code_form.specs.Valid.{callees_of, has_heading, linked, names_what_is_there}
 use Rattle.code_form.specs.declared.instr.Instr.TheVariants.{Call, CallX, Proc as ProcValue}
 use Rattle.code_form.specs.declared.instr.Instr.{Instr}
 use Rattle.expr_sem.specs.Calls.{call_instr, cells_of_all, links_to, result_cells}
@@ -14,7 +14,7 @@ use Rattle.m2_base.proofs.ChainLaws.{chains_down}
 use Rattle.m2_base.specs.Lists.{Each, IsIn, WhereKept}
 use Rattle.m2_base.specs.Rows.{at_place, row_meaning}
 use Rattle.m2_base.specs.Statics.Blocks.{BlockTree, GoesDown, UnitTrees, blocks_of, home_of}
-use Rattle.m2_base.specs.Statics.Contexts.{Block, Scene, level_of}
+use Rattle.m2_base.specs.Statics.Contexts.{Scene, level_of}
 use Rattle.m2_base.specs.Statics.Items.{items_of, proc_item}
 use Rattle.m2_base.specs.Statics.Lookup.{Entry, entry_in}
 use Rattle.m2_base.specs.Statics.TypeParts.{parameters, result_of_type}
@@ -26,20 +26,19 @@ use Rattle.m2_base.specs.declared.outputs.HeadingNote.{HeadingNote}
 use Rattle.m2_base.specs.declared.rows.Place.{Place}
 use Rattle.m2_base.specs.declared.rows.Row.{Row}
 use Rattle.m2_base.specs.declared.rows.RowMeaning.TheVariants.{Proc}
-use Rattle.m2_base.specs.declared.rows.RowMeaning.{RowMeaning}
 use Rattle.m2_base.specs.declared.trees.declarations.StreamKind.{StreamKind}
-use Rattle.m2_base.specs.declared.trees.declarations.StreamKind.TheVariants.{Definition, Main, Procedure as ProcedureStream}
+use Rattle.m2_base.specs.declared.trees.declarations.StreamKind.TheVariants.{Definition}
 use Rattle.row_laws.proofs.Whole.{whole-rows}
 use Rattle.row_laws.specs.Procedures.{HasNumber, IsDeclared, IsSeenAs, IsTypeOf}
 use Rattle.row_laws.specs.UnitBlocks.{HasItsForm, HasItsProcedures}
 use Rattle.block_laws.specs.Lone.{IsOfLone}
 use Rattle.block_laws.specs.Sight.{IsInSight, call_step, value_instr}
 use Rattle.block_laws.proofs.Chains.{blocks_stand}
-use Rattle.block_laws.proofs.Links.{Begins, Reaches, begins, in_each, in_module}
+use Rattle.block_laws.proofs.Links.{begins, in_each, in_module}
 use Rattle.block_laws.proofs.Lone.{each-at}
 use Rattle.block_laws.proofs.LoneUnits.{standard-of-lone}
 use Rattle.block_laws.proofs.OwnCalls.{IsCallable, LinksTo, callable, import-heading, import-step, import-value, own-call, own-step, own-value, step_is}
-use Rattle.block_laws.proofs.WorldCells.{Furnishes, HasImport, IsInMain, in_main, not_own, own_is, reached}
+use Rattle.block_laws.proofs.WorldCells.{Furnishes, in_main, own_is, reached}
 
 -- The module has a procedure of this name, with a type whose parameters and result have the cells of this one's, for each block of
 -- the main text.

@@ -1,9 +1,9 @@
 -- The cells that a block's code names are there, in a world that has the unit's procedures, imports and cells.
-use Rattle.std.specs.Prelude.{◌≡◌, refl, ℕ, zero, suc, ◌+◌, ◌-◌, ◌<◌, ◌≤◌, ◌==◌, ◌||◌, ◌⊎◌, Bool, true, false, nat_lt, if◌then◌else◌, List, [], ◌∷◌, map, slice_get, Option, Some, None}
+use Rattle.std.specs.Prelude.{◌≡◌, refl, ℕ, zero, suc, ◌-◌, ◌<◌, ◌≤◌, ◌==◌, ◌||◌, ◌⊎◌, Bool, true, false, nat_lt, if◌then◌else◌, List, map, slice_get, Option, Some, None}
 use Rattle.std.proofs.Common.{ap, subst, sym, ◌∙◌, inl, inr, arith}
-use Rattle.std.proofs.lemmas.Bool.{cases_order, eq-eqb, eqb-true, eqb-false, lt-ltb}
+use Rattle.std.proofs.lemmas.Bool.{eq-eqb, eqb-true, eqb-false, lt-ltb}
 use Rattle.code_form.specs.Modules.{Import, Procedure, World}
-use Rattle.code_form.specs.Valid.{has_cell, has_local, import_of, linked, names_what_is_there, when_there}
+use Rattle.code_form.specs.Valid.{has_cell, has_local, import_of, names_what_is_there, when_there}
 use Rattle.code_form.specs.declared.instr.Instr.TheVariants.{Global, Local}
 use Rattle.expr_sem.specs.ProcedureNames.{import_number, import_number_beside, is_own, is_own_definition}
 use Rattle.expr_sem.specs.Variables.{cell_instr, links_out}
@@ -15,12 +15,11 @@ use Rattle.m2_base.specs.Statics.Contexts.{Block, level_of}
 use Rattle.m2_base.specs.Tables.{rows_at}
 use Rattle.m2_base.specs.declared.outputs.HeadingNote.{HeadingNote}
 use Rattle.m2_base.specs.declared.rows.Row.{Row}
-use Rattle.m2_base.specs.declared.rows.RowMeaning.{RowMeaning}
 use Rattle.row_laws.specs.RowRanges.{IsBelow}
 use Rattle.block_laws.specs.Sight.{IsInSight}
 use Rattle.block_laws.specs.Worlds.{callee_of}
-use Rattle.block_laws.proofs.Chains.{IsInner, IsModuleBlock, Stands, blocks_stand}
-use Rattle.block_laws.proofs.Links.{HasProcedure, Reaches, in_each, in_module, reach, unequal}
+use Rattle.block_laws.proofs.Chains.{Stands, blocks_stand}
+use Rattle.block_laws.proofs.Links.{HasProcedure, Reaches, in_each, in_module, reach}
 use Rattle.block_laws.proofs.Lone.{each-at}
 
 -- the import that a world has of the definition module with this scope: its cells are those of the rows, its headings the noted ones

@@ -1,5 +1,5 @@
 -- What a block of a main text has by its tree.
-use Rattle.std.specs.Prelude.{◌≡◌, ℕ, ◌≤◌, List, Some}
+use Rattle.std.specs.Prelude.{◌≡◌, ◌≤◌, List, Some}
 use Rattle.m2_base.specs.Lists.{Each}
 use Rattle.m2_base.specs.declared.rows.Row.{Row}
 use Rattle.m2_base.specs.Statics.BlockRows.{declare_block}

@@ -1,7 +1,7 @@
 -- The world of a unit: what the code of its main text can name.
 use Rattle.std.specs.Prelude.{ℕ, ◌-◌, List, [], ◌∷◌, ◌++◌, drop, length, map, slice_index_or, take, Option, Some, None}
 use Rattle.code_form.specs.Heights.{Callee}
-use Rattle.code_form.specs.Modules.{Import, Procedure, World}
+use Rattle.code_form.specs.Modules.{Import, World}
 use Rattle.m2_base.specs.Standard.{standard_rows}
 use Rattle.m2_base.specs.Statics.BlockRows.{declare_block}
 use Rattle.m2_base.specs.Statics.Blocks.{BlockTree, UnitTrees, blocks_of}
