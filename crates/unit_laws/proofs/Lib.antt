@@ -1,0 +1,10 @@
+pub mod Counting
+pub mod TextTokens
+pub mod StreamTokens
+pub mod SpelledTrees
+pub mod SoundUnits
+pub mod ExpressionTokens
+pub mod StatementTokens
+pub mod ShortBlocks
+pub mod TextFronts
+pub mod ImportScopes
