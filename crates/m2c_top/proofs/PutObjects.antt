@@ -1,5 +1,5 @@
 -- The object that is put is valid.
-use Rattle.std.specs.Prelude.{◌≡◌, ℕ, ◌^◌, ◌<◌, ◌≤◌, ◌&&◌, ◌||◌, true, not, nat_le, is_some, List, [], ◌∷◌, ◌++◌, Option, Some, None, Result, Ok, Err, IfOk, IfSome, OnOk, codes, length}
+use Rattle.std.specs.Prelude.{◌≡◌, ℕ, ◌^◌, ◌<◌, ◌&&◌, ◌||◌, true, not, nat_le, is_some, List, [], ◌∷◌, Option, Some, None, Result, Ok, Err, IfOk, IfSome, OnOk, codes, length}
 use Rattle.std.specs.Cmp.{eq_by_cmp_equiv}
 use Rattle.std.specs.Cmp.Lexicographic.{nat_list_cmp_total}
 use Rattle.std.specs.FinMap.{get, get-insert, insert}
@@ -20,7 +20,7 @@ use Rattle.m2c_top.specs.Command.{is_name, is_identifier as is_identifier_word}
 use Rattle.m2c_top.specs.Delivery.{Delivered}
 use Rattle.m2c_top.specs.Diagnostics.{diags_of}
 use Rattle.m2c_top.specs.Held.{IsHeld, held}
-use Rattle.m2c_top.specs.Modules.{Module, code_in}
+use Rattle.m2c_top.specs.Modules.{Module}
 use Rattle.m2c_top.specs.Object.{contents_of, lone_contents, object_bytes}
 use Rattle.m2c_top.specs.Outcome.{HasObject, object_name}
 use Rattle.m2c_top.specs.declared.module.Module.{Module as HeldModule}
