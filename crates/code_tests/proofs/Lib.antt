@@ -1,0 +1,6 @@
+mod Declarations
+mod EnteredRows
+mod MadeFragments
+mod ProcedureRows
+mod ReadSamples
+mod Samples
