@@ -31,7 +31,6 @@ use Rattle.m2_base.specs.declared.sites.Site.{Site}
 use Rattle.m2_base.specs.declared.trees.declarations.Decl.{Decl as HeldDecl}
 use Rattle.m2_base.specs.declared.trees.declarations.Stream.{Stream as HeldStream}
 use Rattle.m2_base.proofs.Kept.{Each-append, Each-map}
-use Rattle.type_rules.specs.Sites.{SuitsSite}
 use Rattle.scope_core.specs.PlainScopes.{Plain, started, state_of}
 use Rattle.decl_sem.specs.ImportedModules.{IsFromBefore}
 use Rattle.decl_sem.specs.Items.{IsAtItem}

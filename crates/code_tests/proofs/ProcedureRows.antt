@@ -1,7 +1,7 @@
 -- The rows of procedures are those of their kind.
 use Rattle.std.specs.Prelude.{◌≡◌, ℕ, ◌==◌, Bool, true, false, if◌then◌else◌}
 use Rattle.std.proofs.Common.{refl, sym, ◌∙◌, arith}
-use Rattle.m2_base.specs.Rows.{basic_of, natural, row_meaning}
+use Rattle.m2_base.specs.Rows.{basic_of, natural}
 use Rattle.m2_base.specs.Statics.ProcedureRows.{is_proc, is_proc_meaning}
 use Rattle.m2_base.specs.declared.rows.Row.{Row}
 use Rattle.m2_base.specs.declared.rows.RowMeaning.{RowMeaning}

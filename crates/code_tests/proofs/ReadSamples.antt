@@ -4,8 +4,7 @@ use Rattle.std.specs.List.{slice_get}
 use Rattle.m2_base.specs.Finished.{main_tokens, tokens_in}
 use Rattle.m2_base.specs.Lists.{Each}
 use Rattle.m2_base.specs.Names.{standard_names, with_name}
-use Rattle.m2_base.specs.Statics.Items.{decl_item, heading_items, import_items, items_of}
-use Rattle.m2_base.specs.Statics.ReadTrees.{IsReadExpr, IsReadItem, IsReadToken}
+use Rattle.m2_base.specs.Statics.ReadTrees.{IsReadToken}
 use Rattle.m2_base.specs.Trees.{Stream}
 use Rattle.m2_base.specs.Units.{IsIdentifier, IsUnit, TextOf, UnitTexts}
 use Rattle.m2_base.specs.declared.kind.TokenKind.TheVariants.{Bad}

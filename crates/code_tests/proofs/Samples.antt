@@ -1,10 +1,10 @@
 -- A unit whose text begins with a fault has no finished rows, so that any scopes suit it.
-use Rattle.std.proofs.Common.{List, ◌≡◌, ◌∙◌, ℕ, zero, suc, ◌<◌, ◌≤◌, ◌-◌, ◌^◌, true, false, [], ◌∷◌, length, drop, Some, None, refl, sym, ap, subst, arith}
+use Rattle.std.proofs.Common.{List, ◌≡◌, ◌∙◌, ℕ, zero, suc, ◌<◌, ◌≤◌, true, false, [], ◌∷◌, length, drop, None, refl, sym, ap, subst, arith}
 use Rattle.std.proofs.lemmas.Bool.{true≢false}
 use Rattle.ll_grammar.specs.Derivations.{Derives, Tree, of_empty, of_left, of_right, of_then, of_token, tokens}
 use Rattle.ll_grammar.specs.Grammar.{sub}
 use Rattle.ll_grammar.specs.LookAhead.{member}
-use Rattle.m2_base.specs.Finished.{IsFinished, main_tokens}
+use Rattle.m2_base.specs.Finished.{IsFinished}
 use Rattle.m2_base.specs.Grammar.{grammar, main}
 use Rattle.m2_base.specs.KindNumbers.{kind_number}
 use Rattle.m2_base.specs.Lists.{Each, IsPrefixOf}

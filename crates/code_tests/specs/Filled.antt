@@ -1,5 +1,5 @@
 -- The scopes of a sample, when a block's scope has all its rows.
-use Rattle.std.specs.Prelude.{◌≡◌, ℕ, zero, suc, ◌-◌, ◌+◌, ◌<◌, ◌≤◌, Bool, true, false, List, [], ◌∷◌, ◌++◌, pos, Some, None, filter, flat_map, length, map, take}
+use Rattle.std.specs.Prelude.{◌≡◌, ℕ, zero, suc, ◌-◌, ◌+◌, ◌<◌, ◌≤◌, Bool, true, false, List, [], ◌∷◌, pos, Some, None, filter, flat_map, length, map, take}
 use Rattle.m2_base.specs.Lists.{Each}
 use Rattle.m2_base.specs.Rows.{at_place, row_meaning, row_of}
 use Rattle.m2_base.specs.Standard.{boolean, cardinal, character, integer}

@@ -1,4 +1,4 @@
-use Rattle.std.proofs.Common.{◌∙◌, refl}
+use Rattle.std.proofs.Common.{◌∙◌}
 use Rattle.code_tests.proofs.Samples.{full_kept, site_full, withs_full}
 use Rattle.code_tests.proofs.answering.asked.Goals as goal
 

@@ -1,4 +1,4 @@
-use Rattle.std.proofs.Common.{◌≡◌, ◌∙◌, false}
+use Rattle.std.proofs.Common.{◌∙◌, false}
 use Rattle.code_tests.specs.Filled.{IsAt, variable_rows}
 use Rattle.code_tests.proofs.EnteredRows.{entered, enters, functions_follow, variables_follow}
 use Rattle.code_tests.proofs.entering.fill_first.Goals as goal

@@ -1,4 +1,4 @@
-use Rattle.std.proofs.Common.{◌≡◌, ◌∙◌, ◌++◌, false, lit<}
+use Rattle.std.proofs.Common.{◌∙◌, false, lit<}
 use Rattle.code_tests.specs.Filled.{IsAt, inner_rows}
 use Rattle.code_tests.proofs.EnteredRows.{completed, completes, entered, enters, inner_follow, moves}
 use Rattle.code_tests.proofs.entering.fill_inner.Goals as goal

@@ -1,4 +1,4 @@
-use Rattle.std.proofs.Common.{◌≡◌, ◌∙◌, ◌++◌, false}
+use Rattle.std.proofs.Common.{◌∙◌, ◌++◌, false}
 use Rattle.code_tests.specs.Filled.{IsAt, function_rows, string_rows, variable_rows}
 use Rattle.code_tests.proofs.EnteredRows.{completed, completes, entered, enters, strings_follow}
 use Rattle.code_tests.proofs.entering.fill_module.Goals as goal

@@ -1,4 +1,4 @@
-use Rattle.std.proofs.Common.{◌≡◌, ◌∙◌, ◌++◌, false, lit<}
+use Rattle.std.proofs.Common.{◌∙◌, false, lit<}
 use Rattle.code_tests.specs.Filled.{IsAt, outer_rows}
 use Rattle.code_tests.proofs.EnteredRows.{completed, completes, entered, enters, moves, outer_follow}
 use Rattle.code_tests.proofs.entering.fill_outer.Goals as goal

@@ -1,4 +1,4 @@
-use Rattle.std.proofs.Common.{◌≡◌, ◌∙◌, ◌≤◌, ap, arith, drop, length, rules, sym}
+use Rattle.std.proofs.Common.{◌≡◌, ◌∙◌, ◌≤◌, ap, drop, length, rules, sym}
 use Rattle.code_tests.specs.Samples.{first_kind}
 use Rattle.code_tests.proofs.ReadSamples.{sample_read}
 use Rattle.code_tests.proofs.reading.read.Goals as goal
