@@ -34,7 +34,7 @@ STATEMENTS = [(kind, re.compile(r"\s*(?:%s)" % form, re.S)) for kind, form in [
     ("with", r"WITH\b\s*(.*?)\s*\bDO\b"),
     ("call", r"(?:INC|DEC|INCL|EXCL|NEW|DISPOSE|HALT)\b" + TEXT + "*"),
     ("assignment", r"(?!FOR\b)([A-Za-z_][^:;]*?)\s*:=\s*(" + TEXT + r"*?)\s*(?=;|\||\b(?:END|ELSE|ELSIF|UNTIL)\b|\Z)")]]
-LONGEST, WIDTH = 600, 92
+LONGEST = 600
 
 
 def instructions(code):
@@ -127,23 +127,12 @@ def chosen(candidates, count):
     return sorted(taken, key=lambda row: (row[1], len(row[3])))
 
 
-def pieces(line):
-    """A line of the table as parts of a literal that aren't too long: none begins with a blank, which the literal would lose."""
-    line = line.replace("\\", "\\\\").replace('"', '\\"')
-    while len(line) > WIDTH:
-        blank = re.compile(r".* (?=[^ ])").match(line, 0, WIDTH + 1)
-        end = blank.end() if blank else WIDTH
-        yield line[:end]
-        line = line[end:]
-    yield line
-
-
 def row(found):
     declarations, kind, part, code, answer = found
     lines = ("%s\nCONST %s = %s;\nEND M.\n\n%s" % (declarations.strip(), kind, part, answer)).split("\n")
     assert all(" " <= c <= "~" for line in lines for c in line)
     lines = [line.strip(" ") for line in lines]
-    return '    "%s",\n' % "\\n\\\n     ".join("\\\n     ".join(pieces(line)) for line in lines)
+    return tables.literal(lines)
 
 
 def main():

@@ -24,7 +24,6 @@ FAULTS = ["10", "11", "12", "13", "20", "31"]
 TOKEN = re.compile(r"""'[^'\n]*'|"[^"\n]*"|[A-Za-z_][A-Za-z_0-9]*|[0-9][0-9A-F]*H?|:=|\.\.|\S""")
 OUTSIDE = re.compile(r"""'[^'\n]*'|"[^"\n]*"|\(\*|[\s\S]""")
 INSIDE = re.compile(r"\(\*|\*\)|[\s\S]")
-WIDTH = 92
 
 
 def without_comments(text):
@@ -82,22 +81,11 @@ def answer(case):
     return first["printed"].rstrip("\n") or "%s.m2o %s" % (case["main"], first["object"])
 
 
-def pieces(line):
-    """A line of the table as parts of a literal that aren't too long: none begins with a blank, which the literal would lose."""
-    line = line.replace("\\", "\\\\").replace('"', '\\"')
-    while len(line) > WIDTH:
-        blank = re.compile(r".* (?=[^ ])").match(line, 0, WIDTH + 1)
-        end = blank.end() if blank else WIDTH
-        yield line[:end]
-        line = line[end:]
-    yield line
-
-
 def row(case):
     lines = (case["files"][case["main"] + ".mod"] + "\n\n" + answer(case)).split("\n")
     assert all(" " <= c <= "~" for line in lines for c in line)
     assert not any(line.startswith(" ") for line in lines)
-    return '    "%s",\n' % "\\n\\\n     ".join("\\\n     ".join(pieces(line)) for line in lines)
+    return tables.literal(lines)
 
 
 def main():

@@ -1,6 +1,10 @@
 """Writes the rows of a table into files, as the other tools give them."""
 import json
+import re
 import sys
+
+# a line of a literal has at most so many bytes
+WIDTH = 92
 
 # a table of texts, each row one literal
 TEXTS = "\nconst TEXTS: [&str; %d] = [\n"
@@ -15,6 +19,22 @@ def cases():
 def word(number, otherwise):
     """A word of the command that may be left out."""
     return sys.argv[number] if len(sys.argv) > number else otherwise
+
+
+def pieces(line):
+    """A line of the table as parts of a literal that aren't too long: none begins with a blank, which the literal would lose."""
+    line = line.replace("\\", "\\\\").replace('"', '\\"')
+    while len(line) > WIDTH:
+        blank = re.compile(r".* (?=[^ ])").match(line, 0, WIDTH + 1)
+        end = blank.end() if blank else WIDTH
+        yield line[:end]
+        line = line[end:]
+    yield line
+
+
+def literal(lines):
+    """A row that is one literal of these lines."""
+    return '    "%s",\n' % "\\n\\\n     ".join("\\\n     ".join(pieces(line)) for line in lines)
 
 
 def write(name, count, cases, about, head, row, end="];\n"):
