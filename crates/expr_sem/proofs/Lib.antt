@@ -38,3 +38,9 @@ pub mod DesignatorLengths
 pub mod CallLengths
 pub mod LengthLaw
 pub mod NoReturns
+pub mod RefusedSteps
+pub mod RefusedOperands
+pub mod RefusedValues
+pub mod RefusedProcedures
+pub mod RefusedCalls
+pub mod RefusedLaw

@@ -370,7 +370,7 @@ not_bad scene o code high g b = refl
 unbroken-moves : (c : Context) (x : Coded) → Valued c.scene x → is_in_error_operand x.operand ≡ false → Moves 0 (value_code c x) 1
 unbroken-moves c x v b = value-moves c x v (not_bad c.scene x.operand x.code x.high v.0 b)
 
-worse-broken : (o : Operand) → worse o InError ≡ InError
+pub worse-broken : (o : Operand) → worse o InError ≡ InError
 worse-broken InError = refl
 worse-broken o = refl
 

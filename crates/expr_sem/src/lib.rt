@@ -86,7 +86,10 @@ pub use evaluations::{address, value};
 pub use expressions::{call_alone, designated, value_of};
 pub use fitting::fitted_code;
 pub use fragments::{Connective, Form, Fragment, Fragments, Node};
-pub use laws::{code_is_short, errors_have_no_code, heights_are_right, operands_are_known};
+pub use laws::{
+    code_is_short, diagnostics_leave_nothing, errors_have_no_code, heights_are_right,
+    operands_are_known,
+};
 pub use operators::{made, one_coded, side_of, two_coded};
 pub use pieces::{Piece, With, append};
 pub use record_fields::field_of_withs;
