@@ -1,21 +1,30 @@
 -- A value or an address that is appended to a piece.
-use Rattle.std.proofs.Common.{◌≡◌, ◌∙◌, List, Option, Some, None, Result, Ok, Err, ap, sym, subst, refl}
-use Rattle.std.specs.Prelude.{option_map}
+use Rattle.std.proofs.Common.{◌≡◌, ◌∙◌, ◌++◌, [], List, Option, Some, None, Result, Ok, Err, ap, sym, subst, refl}
+use Rattle.std.proofs.lemmas.List.{append-nil}
+use Rattle.std.specs.Prelude.{option_map, slice_index_or}
 use Rattle.std.specs.Option.{IfSome}
 use Rattle.m2_base.specs.Asks.{IfKnown, IfWaits}
+use Rattle.m2_base.specs.Finished.{IsFinished}
 use Rattle.m2_base.specs.Gives.{Gives}
+use Rattle.m2_base.specs.Rows.{row_meaning, row_of}
 use Rattle.m2_base.specs.States.{Frame, State}
 use Rattle.m2_base.specs.Statics.Contexts.{Context}
 use Rattle.m2_base.specs.declared.memory.Memory.{Memory}
+use Rattle.m2_base.specs.declared.notes.Diag.{Diag}
 use Rattle.m2_base.specs.declared.notes.Notes.{Notes}
 use Rattle.m2_base.specs.declared.operands.Operand.{Operand}
 use Rattle.m2_base.specs.declared.operands.Operand.TheVariants.{InError}
 use Rattle.m2_base.specs.declared.replies.Ask.{Ask}
 use Rattle.m2_base.specs.declared.replies.Ask.TheVariants.{DontKnowYet, Known}
 use Rattle.m2_base.specs.declared.replies.Head.{Head}
+use Rattle.m2_base.specs.declared.rows.Row.{Row}
+use Rattle.m2_base.specs.declared.rows.RowMeaning.TheVariants.{Broken}
 use Rattle.m2_base.specs.declared.sites.Site.{Site}
-use Rattle.type_rules.specs.Sites.{context_of}
+use Rattle.type_rules.proofs.Counting.{counted_below}
+use Rattle.type_rules.specs.Scenes.{Hand}
+use Rattle.type_rules.specs.Sites.{SuitsSite, context_of}
 use Rattle.const_eval.specs.Sites.{IsOperand}
+use Rattle.expr_sem.proofs.RefusedSteps.{BrokenIsThere, Erred, QuietOr, quiet, wrong}
 use Rattle.expr_sem.specs.Coded as code
 use Rattle.expr_sem.specs.Codings.{Coding}
 use Rattle.expr_sem.specs.Evaluations.{Evaluates, IsEvaluated, KeepsPiece, evaluated, evaluated_in, evaluation, operand_of, unless_in_error}
@@ -63,20 +72,34 @@ code_appended : (from to : Piece) (ws : List With) (ns : List Node) (x : Option 
 code_appended from to ws ns None o p e h = tt
 code_appended from to ws ns (Some x) o p e h = subst (λ (q : Part). Appended from to ws q) (evaluated_code o p (x.0, part ns x.1) e) h
 
+-- the type of parts in error has its row
+broken_there : (f : Frame) (made : Hand) (s : Site) → SuitsSite f s → IsFinished f.setting.texts made.finished → BrokenIsThere (context_of f made s)
+broken_there f made s suits told =
+    let agrees = suits.around.told made.finished told in
+    ap (λ (rows : List Row). row_meaning (slice_index_or rows 10 (row_of 0 0 Broken))) (counted_below f made 0 agrees suits.around.inner ∙ agrees.standard)
+
+-- what comes out was refused nowhere
+nothing_noted : (x y : Notes) (ns : List Node) (v : Option (Operand × Fragment)) (g : Gives code.Coded) (p : Part) → evaluated_in ns v ≡ evaluated g.value.operand p
+    → y.diags.items ≡ x.diags.items ++ (g.diags ++ []) → QuietOr Erred g → IfSome (operand_of v) (λ q. y.diags.items ≡ x.diags.items)
+nothing_noted x y ns None g p e noted q = tt
+nothing_noted x y ns (Some z) g p e noted (quiet n) = noted ∙ ap (λ (ds : List Diag). x.diags.items ++ (ds ++ [])) n ∙ append-nil x.diags.items
+nothing_noted x y ns (Some z) g p e noted (wrong w) = absurd (some_none (e ∙ sym (error_evaluated g.value.operand p w)))
+
 module _ {a b : State} {x y : Notes} {ns ms : List Node} {s : Site} {worth : Context → code.Coded → Part} {given : Context → Gives code.Coded} (from to : Piece) (ws : List With) where
   -- after want of memory the piece is as before
   pub evaluates_none : {m : Memory} {T V : Type 0} {P : Frame → List Node → T → Type 0} {as_p : List Node → T → V} {g : Context → Gives V} → Coding a b x y ns ms s (Err m) P as_p g → (n : Memory) → IsAsBefore from to → Evaluates a b x y from to ws s (Err n) worth given
-  evaluates_none p n kept = record { works = p.works; waits = tt; kept = kept; told = λ made in_hand told of_site. tt; appended = λ made in_hand told of_site. tt; there = tt }
+  evaluates_none p n kept = record { works = p.works; waits = tt; kept = kept; told = λ made in_hand told of_site. tt; unrefused = λ made in_hand told of_site. tt; appended = λ made in_hand told of_site. tt; there = tt }
 
   -- and so it is where the operand isn't known yet
   pub evaluates_later : {h : Head} {T V : Type 0} {P : Frame → List Node → T → Type 0} {as_p : List Node → T → V} {g : Context → Gives V} → Coding a b x y ns ms s (Ok (DontKnowYet h)) P as_p g → IsAsBefore from to → Evaluates a b x y from to ws s (Ok (DontKnowYet h)) worth given
-  evaluates_later p kept = record { works = p.works; waits = p.waits; kept = kept; told = λ made in_hand told of_site. tt; appended = λ made in_hand told of_site. tt; there = tt }
+  evaluates_later p kept = record { works = p.works; waits = p.waits; kept = kept; told = λ made in_hand told of_site. tt; unrefused = λ made in_hand told of_site. tt; appended = λ made in_hand told of_site. tt; there = tt }
 
-  -- what is evaluated is appended
-  pub evaluates : {v : Option (Operand × Fragment)} (answer : Result (Ask (Option Operand)) Memory) → Coding a b x y ns ms s (Ok (Known v)) IsEvaluated evaluated_in (λ c. evaluation (given c) (worth c))
+  -- what is evaluated is appended; it was refused nowhere
+  pub evaluates : {v : Option (Operand × Fragment)} (answer : Result (Ask (Option Operand)) Memory) → SuitsSite a.frame s → Coding a b x y ns ms s (Ok (Known v)) IsEvaluated evaluated_in (λ c. evaluation (given c) (worth c))
+      → ((c : Context) → BrokenIsThere c → QuietOr Erred (given c))
       → KeepsPiece answer from to → IfKnown answer (λ o. o ≡ operand_of v) → IfKnown answer (λ o. IfSome v (λ z. Appended from to ws (part ms z.1))) → IfWaits answer (λ h. ⊥)
       → Evaluates a b x y from to ws s answer worth given
-  evaluates {v} (Ok (Known o)) p kept is code waits =
+  evaluates {v} (Ok (Known o)) suits p refused kept is code waits =
       record {
         works = p.works;
         waits = tt;
@@ -89,14 +112,19 @@ module _ {a b : State} {x y : Notes} {ns ms : List Node} {s : Site} {worth : Con
               diags = h.diags;
               answers = h.answers;
             };
+        unrefused = λ made in_hand t of_site.
+            let c = context_of a.frame made s in
+            let h = p.told made in_hand t of_site in
+            subst (λ (u : Option Operand). IfSome u (λ q. y.diags.items ≡ x.diags.items)) (sym is)
+            (nothing_noted x y ms v (given c) (worth c (given c).value) h.value_is h.diags (refused c (broken_there a.frame made s suits t)));
         appended = λ made in_hand t of_site.
             let c = context_of a.frame made s in
             subst (λ (u : Option Operand). IfSome u (λ q. Appended from to ws (worth c (given c).value))) (sym is)
             (code_appended from to ws ms v (given c).value.operand (worth c (given c).value) (p.told made in_hand t of_site).value_is code);
         there = subst (λ (u : Option Operand). IfSome u (λ q. IsOperand a.frame q)) (sym is) (operand_there a.frame ms v p.there);
       }
-  evaluates (Ok (DontKnowYet h)) p kept is code waits = absurd waits
-  evaluates (Err m) p kept is code waits = record { works = p.works; waits = tt; kept = kept; told = λ made in_hand told of_site. tt; appended = λ made in_hand told of_site. tt; there = tt }
+  evaluates (Ok (DontKnowYet h)) suits p refused kept is code waits = absurd waits
+  evaluates (Err m) suits p refused kept is code waits = record { works = p.works; waits = tt; kept = kept; told = λ made in_hand told of_site. tt; unrefused = λ made in_hand told of_site. tt; appended = λ made in_hand told of_site. tt; there = tt }
 
 -- the piece is as it was
 pub same_piece : (p : Piece) → IsAsBefore p p

@@ -238,7 +238,7 @@ module _ (c : Context) (h : BrokenIsThere c) (withs : List Place) where
         (indexed-error first at (select_element c first at (expr_at e) v x).value es)
         (indexed-quiet first at (select_element c first at (expr_at e) v x).value es))
 
-  value-quiet : (e : Expr) → QuietCoded (value c withs e)
+  pub value-quiet : (e : Expr) → QuietCoded (value c withs e)
   value-quiet e =
       let x : Gives Coded = expression c withs e in
       quiet-then Erred Erred x (as_value c (expr_at e)) (expression-quiet e) (as_value-error c (expr_at e) x.value) (as_value-quiet c (expr_at e) x.value)

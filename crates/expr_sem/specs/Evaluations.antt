@@ -1,5 +1,5 @@
 -- What a value or an address leaves that is appended to a piece of a block's code.
-use Rattle.std.specs.Prelude.{List, Option, Some, None, Result, Ok}
+use Rattle.std.specs.Prelude.{◌≡◌, List, Option, Some, None, Result, Ok}
 use Rattle.std.specs.Option.{IfSome}
 use Rattle.m2_base.specs.Asks.{IfKnown, IfWaits}
 use Rattle.m2_base.specs.Gives.{Adds, Gives, and_then, gives}
@@ -58,14 +58,15 @@ KeepsPiece other before after = IsAsBefore before after
 
 -- Previous notes stay, and each answer noted was found by a search. The scope that the answer waits for is incomplete, and
 -- before the own one. Where the texts are told, with rows of the site's item in hand, a known answer is the operand that the
--- definition gives, or none where that is in error; what is noted is the definition's; and the piece has grown by this code
--- of what it gives. Unless an operand is known, the piece has what it had before.
+-- definition gives, or none where that is in error; what is noted is the definition's; no operand comes out where a diagnostic
+-- is noted; and the piece has grown by this code of what it gives. Unless an operand is known, the piece has what it had before.
 pub record Evaluates (old new : State) (before after : Notes) (from to : Piece) (ws : List With) (s : Site) (answer : Result (Ask (Option Operand)) Memory) (worth : Context → code.Coded → Part) (given : Context → Gives code.Coded) : Type 0 where
   pub works : Works old new before after
   pub waits : IfWaits answer (λ h. Waits old new h)
   pub kept : KeepsPiece answer from to
   pub told : WhereTold old.frame (λ made. AreOfSite s made → let c = context_of old.frame made s in
       IfKnown answer (λ o. Adds before after (and_then (given c) (λ x. gives (unless_in_error x.operand))) o))
+  pub unrefused : WhereTold old.frame (λ made. AreOfSite s made → IfKnown answer (λ o. IfSome o (λ p. after.diags.items ≡ before.diags.items)))
   pub appended : WhereTold old.frame (λ made. AreOfSite s made → let c = context_of old.frame made s in
       IfKnown answer (λ o. IfSome o (λ p. Appended from to ws (worth c (given c).value))))
   pub there : IfKnown answer (λ o. IfSome o (λ p. IsOperand old.frame p))
