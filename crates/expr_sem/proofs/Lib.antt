@@ -44,3 +44,12 @@ pub mod RefusedValues
 pub mod RefusedProcedures
 pub mod RefusedCalls
 pub mod RefusedLaw
+pub mod Noted
+pub mod WholeRows
+pub mod WholeNames
+pub mod WholeOperands
+pub mod WholeFunctions
+pub mod WholeValues
+pub mod WholeCalls
+pub mod WholeProcedures
+pub mod Causes

@@ -38,3 +38,4 @@ pub mod ExpressionParts
 pub mod Evaluations
 pub mod Tokens
 pub mod Lengths
+pub mod Whole

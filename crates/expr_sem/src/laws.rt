@@ -1,8 +1,9 @@
 //! Laws on the definitions, each the contract of a function that does nothing.
-ghost use Rattle.std.specs.Prelude.{◌≡◌, false, List, [], ◌+◌};
+ghost use Rattle.std.specs.Prelude.{◌≡◌, false, true, ℕ, List, [], ◌+◌};
 ghost use Rattle.m2_base.specs.Standard.{broken};
 ghost use Rattle.m2_base.specs.Statics.Contexts.{Context};
 ghost use Rattle.m2_base.specs.Statics.Operands.{is_bad};
+ghost use Rattle.m2_base.specs.Statics.ReadTrees.{AreReadExprs, IsReadDesignator, IsReadExpr};
 ghost use Rattle.m2_base.specs.Statics.Types.{meaning_at};
 ghost use Rattle.m2_base.specs.Trees.{Designator, Expr, Exprs};
 ghost use Rattle.m2_base.specs.declared.rows.Place.{Place};
@@ -14,6 +15,7 @@ ghost use Rattle.expr_sem.specs.Heights.{IsAddressed, Moves};
 ghost use Rattle.expr_sem.specs.Lengths.{IsShortFor};
 ghost use Rattle.expr_sem.specs.Parts.{none};
 ghost use Rattle.expr_sem.specs.Tokens.{designator_tokens, expr_tokens, exprs_tokens};
+ghost use Rattle.expr_sem.specs.Whole.{AreWhole};
 
 /// Wherever it stands, the code of a value leaves one operand more, and that of a variable its address; a call as a statement
 /// leaves the height as it was. None takes what was there before, and its jumps stay in the code.
@@ -52,4 +54,13 @@ pub fn diagnostics_leave_nothing()
     ensures values { (c : Context) (withs : List Place) (e : Expr) → meaning_at c.scene broken ≡ Broken → is_bad (value c withs e).value.operand ≡ false → (value c withs e).diags ≡ [] }
     ensures designators { (c : Context) (withs : List Place) (d : Designator) → meaning_at c.scene broken ≡ Broken → is_bad (designated c withs d).value.operand ≡ false → (designated c withs d).diags ≡ [] }
     ensures calls { (c : Context) (withs : List Place) (d : Designator) (args : Exprs) → meaning_at c.scene broken ≡ Broken → is_bad (call_alone c withs d args).value.operand ≡ false → (call_alone c withs d args).diags ≡ [] }
+{}
+
+/// What is in error was refused, where no row in sight has a part in error. The names in the trees aren't empty: rows without a
+/// name are found by the empty one.
+pub fn errors_have_a_cause()
+    ensures expressions { (names : List (List ℕ)) (c : Context) (withs : List Place) (e : Expr) → AreWhole c.scene → IsReadExpr names e → is_bad (expression c withs e).value.operand ≡ true → (expression c withs e).diags ≡ [] → ⊥ }
+    ensures values { (names : List (List ℕ)) (c : Context) (withs : List Place) (e : Expr) → AreWhole c.scene → IsReadExpr names e → is_bad (value c withs e).value.operand ≡ true → (value c withs e).diags ≡ [] → ⊥ }
+    ensures designators { (names : List (List ℕ)) (c : Context) (withs : List Place) (d : Designator) → AreWhole c.scene → IsReadDesignator names d → is_bad (designated c withs d).value.operand ≡ true → (designated c withs d).diags ≡ [] → ⊥ }
+    ensures calls { (names : List (List ℕ)) (c : Context) (withs : List Place) (d : Designator) (args : Exprs) → AreWhole c.scene → IsReadDesignator names d → AreReadExprs names args → is_bad (call_alone c withs d args).value.operand ≡ true → (call_alone c withs d args).diags ≡ [] → ⊥ }
 {}

@@ -87,8 +87,8 @@ pub use expressions::{call_alone, designated, value_of};
 pub use fitting::fitted_code;
 pub use fragments::{Connective, Form, Fragment, Fragments, Node};
 pub use laws::{
-    code_is_short, diagnostics_leave_nothing, errors_have_no_code, heights_are_right,
-    operands_are_known,
+    code_is_short, diagnostics_leave_nothing, errors_have_a_cause, errors_have_no_code,
+    heights_are_right, operands_are_known,
 };
 pub use operators::{made, one_coded, side_of, two_coded};
 pub use pieces::{Piece, With, append};
