@@ -18,9 +18,9 @@ use code_form::Instr;
 use expr_sem::{
     Coded, Connective, Fragment, Fragments, Piece, Refusal, With, answered, append, append_all,
     as_variable, assigned_to, capped_sum, cells_of, characters, code_is_short,
-    diagnostics_leave_nothing, entry_coded, errors_have_no_code, field_of_withs, fitted_code,
-    heights_are_right, instr_behind, is_structured, operands_are_known, pair, push_instr, refused,
-    side_of, value_code, value_of,
+    diagnostics_leave_nothing, entry_coded, errors_have_a_cause, errors_have_no_code,
+    field_of_withs, fitted_code, heights_are_right, instr_behind, is_structured,
+    operands_are_known, pair, push_instr, refused, side_of, value_code, value_of,
 };
 use m2_base::{Ask, Expr, Memory, Notes, Operand, Place, Site};
 use scope_core::PlainScopes;
@@ -349,6 +349,7 @@ fn fragments_are_appended(rt: HostRuntime) -> Result<(), Fail> {
 fn laws_hold() {
     code_is_short();
     diagnostics_leave_nothing();
+    errors_have_a_cause();
     errors_have_no_code();
     heights_are_right();
     operands_are_known();

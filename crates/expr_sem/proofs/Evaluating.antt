@@ -1,14 +1,15 @@
 -- A value or an address that is appended to a piece.
 use Rattle.std.proofs.Common.{◌≡◌, ◌∙◌, ◌++◌, [], List, Option, Some, None, Result, Ok, Err, ap, sym, subst, refl}
-use Rattle.std.proofs.lemmas.List.{append-nil}
-use Rattle.std.specs.Prelude.{option_map, slice_index_or}
-use Rattle.std.specs.Option.{IfSome}
+use Rattle.std.proofs.lemmas.List.{append-nil, append_cancel_left}
+use Rattle.std.specs.Prelude.{option_map, slice_index_or, true}
+use Rattle.std.specs.Option.{IfNone, IfSome}
 use Rattle.m2_base.specs.Asks.{IfKnown, IfWaits}
 use Rattle.m2_base.specs.Finished.{IsFinished}
 use Rattle.m2_base.specs.Gives.{Gives}
 use Rattle.m2_base.specs.Rows.{row_meaning, row_of}
 use Rattle.m2_base.specs.States.{Frame, State}
 use Rattle.m2_base.specs.Statics.Contexts.{Context}
+use Rattle.m2_base.specs.Statics.Operands.{is_bad}
 use Rattle.m2_base.specs.declared.memory.Memory.{Memory}
 use Rattle.m2_base.specs.declared.notes.Diag.{Diag}
 use Rattle.m2_base.specs.declared.notes.Notes.{Notes}
@@ -31,6 +32,7 @@ use Rattle.expr_sem.specs.Evaluations.{Evaluates, IsEvaluated, KeepsPiece, evalu
 use Rattle.expr_sem.specs.Fragments.{AreSound, Grows, IsIn, part}
 use Rattle.expr_sem.specs.Parts.{Part}
 use Rattle.expr_sem.specs.Pieces.{Appended, IsAsBefore}
+use Rattle.expr_sem.specs.Whole.{AreWhole}
 use Rattle.expr_sem.specs.declared.fragments.Fragment.{Fragment}
 use Rattle.expr_sem.specs.declared.fragments.Node.{Node}
 use Rattle.expr_sem.specs.declared.pieces.Piece.{Piece}
@@ -85,21 +87,33 @@ nothing_noted x y ns None g p e noted q = tt
 nothing_noted x y ns (Some z) g p e noted (quiet n) = noted ∙ ap (λ (ds : List Diag). x.diags.items ++ (ds ++ [])) n ∙ append-nil x.diags.items
 nothing_noted x y ns (Some z) g p e noted (wrong w) = absurd (some_none (e ∙ sym (error_evaluated g.value.operand p w)))
 
+in_error_alone : (o : Operand) (p : Part) → None ≡ evaluated o p → is_bad o ≡ true
+in_error_alone InError p e = refl
+in_error_alone o p e = absurd (some_none (sym e))
+
+-- what doesn't come out was refused
+something_noted : (x y : Notes) (ns : List Node) (v : Option (Operand × Fragment)) (g : Gives code.Coded) (p : Part) → evaluated_in ns v ≡ evaluated g.value.operand p
+    → y.diags.items ≡ x.diags.items ++ (g.diags ++ []) → (is_bad g.value.operand ≡ true → g.diags ≡ [] → ⊥) → IfNone (operand_of v) (y.diags.items ≡ x.diags.items → ⊥)
+something_noted x y ns None g p e noted cause = λ same.
+    cause (in_error_alone g.value.operand p e)
+    (sym (append-nil g.diags) ∙ append_cancel_left x.diags.items (g.diags ++ []) [] (sym noted ∙ same ∙ sym (append-nil x.diags.items)))
+something_noted x y ns (Some z) g p e noted cause = tt
+
 module _ {a b : State} {x y : Notes} {ns ms : List Node} {s : Site} {worth : Context → code.Coded → Part} {given : Context → Gives code.Coded} (from to : Piece) (ws : List With) where
   -- after want of memory the piece is as before
   pub evaluates_none : {m : Memory} {T V : Type 0} {P : Frame → List Node → T → Type 0} {as_p : List Node → T → V} {g : Context → Gives V} → Coding a b x y ns ms s (Err m) P as_p g → (n : Memory) → IsAsBefore from to → Evaluates a b x y from to ws s (Err n) worth given
-  evaluates_none p n kept = record { works = p.works; waits = tt; kept = kept; told = λ made in_hand told of_site. tt; unrefused = λ made in_hand told of_site. tt; appended = λ made in_hand told of_site. tt; there = tt }
+  evaluates_none p n kept = record { works = p.works; waits = tt; kept = kept; told = λ made in_hand told of_site. tt; unrefused = λ made in_hand told of_site. tt; caused = λ made in_hand told of_site whole. tt; appended = λ made in_hand told of_site. tt; there = tt }
 
   -- and so it is where the operand isn't known yet
   pub evaluates_later : {h : Head} {T V : Type 0} {P : Frame → List Node → T → Type 0} {as_p : List Node → T → V} {g : Context → Gives V} → Coding a b x y ns ms s (Ok (DontKnowYet h)) P as_p g → IsAsBefore from to → Evaluates a b x y from to ws s (Ok (DontKnowYet h)) worth given
-  evaluates_later p kept = record { works = p.works; waits = p.waits; kept = kept; told = λ made in_hand told of_site. tt; unrefused = λ made in_hand told of_site. tt; appended = λ made in_hand told of_site. tt; there = tt }
+  evaluates_later p kept = record { works = p.works; waits = p.waits; kept = kept; told = λ made in_hand told of_site. tt; unrefused = λ made in_hand told of_site. tt; caused = λ made in_hand told of_site whole. tt; appended = λ made in_hand told of_site. tt; there = tt }
 
-  -- what is evaluated is appended; it was refused nowhere
+  -- what is evaluated is appended; it was refused nowhere, and what isn't has a cause
   pub evaluates : {v : Option (Operand × Fragment)} (answer : Result (Ask (Option Operand)) Memory) → SuitsSite a.frame s → Coding a b x y ns ms s (Ok (Known v)) IsEvaluated evaluated_in (λ c. evaluation (given c) (worth c))
-      → ((c : Context) → BrokenIsThere c → QuietOr Erred (given c))
+      → ((c : Context) → BrokenIsThere c → QuietOr Erred (given c)) → ((c : Context) → AreWhole c.scene → is_bad (given c).value.operand ≡ true → (given c).diags ≡ [] → ⊥)
       → KeepsPiece answer from to → IfKnown answer (λ o. o ≡ operand_of v) → IfKnown answer (λ o. IfSome v (λ z. Appended from to ws (part ms z.1))) → IfWaits answer (λ h. ⊥)
       → Evaluates a b x y from to ws s answer worth given
-  evaluates {v} (Ok (Known o)) suits p refused kept is code waits =
+  evaluates {v} (Ok (Known o)) suits p refused cause kept is code waits =
       record {
         works = p.works;
         waits = tt;
@@ -117,14 +131,19 @@ module _ {a b : State} {x y : Notes} {ns ms : List Node} {s : Site} {worth : Con
             let h = p.told made in_hand t of_site in
             subst (λ (u : Option Operand). IfSome u (λ q. y.diags.items ≡ x.diags.items)) (sym is)
             (nothing_noted x y ms v (given c) (worth c (given c).value) h.value_is h.diags (refused c (broken_there a.frame made s suits t)));
+        caused = λ made in_hand t of_site whole.
+            let c = context_of a.frame made s in
+            let h = p.told made in_hand t of_site in
+            subst (λ (u : Option Operand). IfNone u (y.diags.items ≡ x.diags.items → ⊥)) (sym is)
+            (something_noted x y ms v (given c) (worth c (given c).value) h.value_is h.diags (cause c whole));
         appended = λ made in_hand t of_site.
             let c = context_of a.frame made s in
             subst (λ (u : Option Operand). IfSome u (λ q. Appended from to ws (worth c (given c).value))) (sym is)
             (code_appended from to ws ms v (given c).value.operand (worth c (given c).value) (p.told made in_hand t of_site).value_is code);
         there = subst (λ (u : Option Operand). IfSome u (λ q. IsOperand a.frame q)) (sym is) (operand_there a.frame ms v p.there);
       }
-  evaluates (Ok (DontKnowYet h)) suits p refused kept is code waits = absurd waits
-  evaluates (Err m) suits p refused kept is code waits = record { works = p.works; waits = tt; kept = kept; told = λ made in_hand told of_site. tt; unrefused = λ made in_hand told of_site. tt; appended = λ made in_hand told of_site. tt; there = tt }
+  evaluates (Ok (DontKnowYet h)) suits p refused cause kept is code waits = absurd waits
+  evaluates (Err m) suits p refused cause kept is code waits = record { works = p.works; waits = tt; kept = kept; told = λ made in_hand told of_site. tt; unrefused = λ made in_hand told of_site. tt; caused = λ made in_hand told of_site whole. tt; appended = λ made in_hand told of_site. tt; there = tt }
 
 -- the piece is as it was
 pub same_piece : (p : Piece) → IsAsBefore p p

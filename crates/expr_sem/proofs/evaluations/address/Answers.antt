@@ -1,5 +1,6 @@
 use Rattle.m2_base.specs.Views.{designator_view}
 use Rattle.expr_sem.specs.Codings.{with_types}
+use Rattle.expr_sem.proofs.Causes.{designator-refused}
 use Rattle.expr_sem.proofs.RefusedLaw.{designated-quiet}
 use Rattle.expr_sem.proofs.Evaluating.{evaluated_there, evaluates, evaluates_later, evaluates_none, same_piece, sound_from_none}
 use Rattle.expr_sem.proofs.evaluations.address.Goals as goal
@@ -19,4 +20,5 @@ appended-requires-clause-there g c = evaluated_there _ _ _ (rw c.in-Known.is at 
 pub returns : goal.returns
 returns g c =
     evaluates c.args.piece.now c.appended.new.piece c.args.withs.now c.appended.result c.requires.suits (rw c.in-Known.is at c.in-Ok.ensures)
-    (λ k broken. designated-quiet k broken (with_types c.args.withs.now) (designator_view c.args.of.now)) c.appended.ensures.kept c.appended.ensures.operand c.appended.ensures.code c.appended.ensures.known
+    (λ k broken. designated-quiet k broken (with_types c.args.withs.now) (designator_view c.args.of.now))
+    (λ k whole. designator-refused c.args.site.now.texts.now.names k (with_types c.args.withs.now) (designator_view c.args.of.now) whole c.requires.read) c.appended.ensures.kept c.appended.ensures.operand c.appended.ensures.code c.appended.ensures.known
