@@ -2,6 +2,7 @@ pub mod Checks
 pub mod Filling
 pub mod Flying
 pub mod Fronts
+pub mod Indexing
 pub mod KeptTables
 pub mod Runs
 pub mod Searching

@@ -1,7 +1,9 @@
 -- a run that has happened in part
-use Rattle.std.proofs.Common.{◌≡◌, ℕ, List, [], ◌∷◌, ◌++◌, refl, sym, ◌∙◌, ap, subst, arith, append_assoc}
-use Rattle.m2_base.specs.Tables.{Table, table_at, one_thread}
+use Rattle.std.proofs.Common.{◌≡◌, ℕ, ◌<◌, ◌≤◌, ◌+◌, ◌^◌, List, [], ◌∷◌, ◌++◌, length, refl, sym, ◌∙◌, ap, subst, arith, append_assoc, length-append, get_or-set_same}
+use Rattle.m2_base.specs.declared.rows.Row.{Row}
+use Rattle.m2_base.specs.Tables.{Table, table_at, one_thread, no_rows}
 use Rattle.scope_core.specs.declared.event.Event.{Event}
+use Rattle.scope_core.specs.Kept.{longer, with_rows}
 use Rattle.scope_core.specs.Events.{after, after_all, IsRun, AreCountable, Stays}
 use Rattle.scope_core.proofs.Settling.{IsGrown, IsGrown-trans, after_grows, one_thread_stays, run_grows, grown_rows}
 
@@ -48,3 +50,11 @@ pub part_countable : (before tables : List Table) (whole rest left : List Event)
 part_countable before tables whole rest left e part is =
     let p : Part before tables whole (e ∷ left) = subst (λ r. Part before tables whole r) is part in
     countable_before (after tables e) left p.run.1 p.countable
+
+-- rows that are entered have ordinals
+pub enter_countable : (tables : List Table) (s : ℕ) (rows : List Row) → s < length tables → AreCountable (with_rows tables s rows) → length (table_at tables s).rows + length rows ≤ 2 ^ 32
+enter_countable tables s rows within countable =
+    let t = longer (table_at tables s) rows in
+    let at : table_at (with_rows tables s rows) s ≡ t = get_or-set_same tables s t no_rows within in
+    let few = subst (λ (u : Table). length u.rows < 2 ^ 32) at (countable s) in
+    omega (arith, few, length-append (table_at tables s).rows rows)

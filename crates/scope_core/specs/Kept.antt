@@ -1,23 +1,37 @@
 -- What the code keeps of a scope, and how it changes.
-use Rattle.std.specs.Prelude.{ℕ, true, List, ◌++◌, map, slice_set, vec_capacity}
+use Rattle.std.specs.Prelude.{◌≡◌, ℕ, true, List, ◌++◌, Option, map, slice_set}
+use Rattle.std.specs.Option.{option_map}
 use Rattle.m2_base.specs.declared.rows.Row.{Row}
-use Rattle.m2_base.specs.Tables.{Table, table_at}
-use Rattle.scope_core.specs.declared.kept.Kept.{Kept}
+use Rattle.m2_base.specs.Tables.{Table, table_at, first_named}
 
-abbrev pub table_of : Kept → Table
-table_of k = record { rows = k.rows.items; complete = k.complete }
+-- a scope's table, and for how many rows there is room
+pub record Shelf : Type 0 where
+  pub table : Table
+  pub room : ℕ
 
-abbrev pub tables_in : List Kept → List Table
-tables_in kept = map table_of kept
+-- each name leads to the ordinal of its first row
+abbrev pub IsIndexOf : (ℕ → Option ℕ) → List Row → Type 0
+IsIndexOf index rows = (name : ℕ) → index name ≡ option_map (λ hit. hit.0) (first_named name rows 0)
+
+abbrev pub tables_in : List Shelf → List Table
+tables_in kept = map (λ k. k.table) kept
 
 -- for how many rows each scope has room
-abbrev pub rooms_in : List Kept → List ℕ
-rooms_in kept = map (λ k. vec_capacity k.rows) kept
+abbrev pub rooms_in : List Shelf → List ℕ
+rooms_in kept = map (λ k. k.room) kept
+
+-- a table with more rows
+abbrev pub longer : Table → List Row → Table
+longer t rows = record { rows = t.rows ++ rows; complete = t.complete }
+
+-- a table, marked as complete
+abbrev pub marked : Table → Table
+marked t = record { rows = t.rows; complete = true }
 
 -- rows are added to a scope
 abbrev pub with_rows : List Table → ℕ → List Row → List Table
-with_rows tables s rows = slice_set tables s (record { rows = (table_at tables s).rows ++ rows; complete = (table_at tables s).complete })
+with_rows tables s rows = slice_set tables s (longer (table_at tables s) rows)
 
 -- a scope is marked as complete
 abbrev pub completed : List Table → ℕ → List Table
-completed tables s = slice_set tables s (record { rows = (table_at tables s).rows; complete = true })
+completed tables s = slice_set tables s (marked (table_at tables s))

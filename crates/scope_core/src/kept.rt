@@ -1,33 +1,144 @@
 //! What the code keeps of each scope.
-ghost use Rattle.std.specs.Prelude.{◌≡◌, ℕ, ◌+◌, ◌-◌, ◌<◌, ◌≤◌, ◌^◌, length, slice_index, slice_index_or, OnOk, OnErr, IsOk, IfOk, replicate};
+ghost use Rattle.std.specs.Prelude.{◌≡◌, ℕ, ◌+◌, ◌-◌, ◌<◌, ◌≤◌, ◌^◌, ◌==◌, [], ◌∷◌, length, nat_eq, slice_get, slice_index, OnOk, OnErr, IsOk, IfOk, replicate, if◌then◌else◌};
+ghost use Rattle.std.specs.Option.{option_or};
+ghost use Rattle.indexmap.specs.IndexMap.{get, spare};
 ghost use Rattle.m2_base.specs.Lists.{Each};
 ghost use Rattle.m2_base.specs.Tables.{first_named, head_of, one_thread, table_at, no_rows};
 ghost use Rattle.m2_base.specs.Standard.{standard_rows as spec_rows};
 ghost use Rattle.scope_core.specs.PlainScopes.{first_tables};
 ghost use Rattle.scope_core.specs.Heads.{row_at};
-ghost use Rattle.scope_core.specs.Kept.{table_of, tables_in, rooms_in, with_rows, completed};
+ghost use Rattle.scope_core.specs.Kept.{tables_in, rooms_in, longer, marked, with_rows, completed};
 
+use indexmap::IndexMap;
 use m2_base::{Ask, Head, Memory, Place, Reply, Row, standard_rows};
 use std::alloc::{AllocError, Global};
+use std::marker::Model;
 
-/// The rows of a scope and its mark.
+/// The rows of a scope and its mark, with an index, so that a search doesn't scan the rows.
 #[derive(Drop)]
 pub struct Kept {
-    pub rows: Vec<Row>,
-    pub complete: bool,
+    rows: Vec<Row>,
+    complete: bool,
+    /// The ordinal of the first row of each name.
+    index: IndexMap<u32, u32>,
+}
+
+impl Model for Kept {
+    ghost use Rattle.std.specs.Prelude.{◌+◌, length, min, nat_eq, vec_capacity};
+    ghost use Rattle.indexmap.specs.IndexMap.{get, spare};
+    ghost use Rattle.scope_core.specs.Kept.{Shelf, IsIndexOf};
+
+    ghost Value = { Shelf };
+
+    ghost view = { λ k. record { table = record { rows = k.rows.items; complete = k.complete }; room = min (vec_capacity k.rows) (length k.rows.items + spare k.index) } };
+
+    ghost invariant = { λ k. IsIndexOf (get nat_eq k.index) k.rows.items };
 }
 
 impl Kept {
+    /// No rows yet, and room for so many.
+    pub fn with_room(alloc: Global, size: usize) -> Result<Kept, AllocError>
+        ensures table { IfOk result (λ kept. kept.table ≡ no_rows) }
+        ensures room { IfOk result (λ kept. size ≤ kept.room) }
+    {
+        let rows = Vec::with_capacity(alloc, size)?;
+        let index = IndexMap::with_capacity(alloc, size)?;
+        Ok(Kept {
+            rows,
+            complete: false,
+            index,
+        })
+    }
+
     /// What it shows now, as the scope of this number.
     fn head(&self, scope: u32) -> Head
-        requires { length self.now.rows.items < 2 ^ 32 }
-        ensures { result ≡ head_of scope (table_of self.now) }
+        requires { length self.now.table.rows < 2 ^ 32 }
+        ensures { result ≡ head_of scope self.now.table }
     {
         Head {
             scope,
             count: self.rows.len() as u32,
             complete: self.complete,
         }
+    }
+
+    /// Whether there will be no more rows.
+    fn is_complete(&self) -> bool
+        ensures { result ≡ self.now.table.complete }
+    {
+        self.complete
+    }
+
+    /// The row of this ordinal.
+    fn row(&self, ordinal: u32) -> Option<Row>
+        ensures { result ≡ slice_get self.now.table.rows ordinal }
+    {
+        self.rows.get(ordinal as usize).copied()
+    }
+
+    /// The first row under a name, with its ordinal.
+    fn first_named(&self, name: u32) -> Option<(u32, Row)>
+        ensures { result ≡ first_named name self.now.table.rows 0 }
+    {
+        let ordinal = self.index.get(&name).copied()?;
+        Some((ordinal, self.rows[ordinal as usize]))
+    }
+
+    /// Makes room for so many more rows.
+    fn reserve(&mut self, more: usize) -> Result<(), AllocError>
+        ensures table { self.new.table ≡ self.old.table }
+        ensures room { self.old.room ≤ self.new.room }
+        ensures ok { OnOk result (length self.old.table.rows + more ≤ self.new.room) }
+        ensures succeeds { length self.old.table.rows + more ≤ self.old.room → IsOk result }
+    {
+        self.rows.reserve(more)?;
+        self.index.reserve(more)
+    }
+
+    /// Adds a row, which there is room for.
+    fn put(&mut self, row: Row)
+        requires room { length self.old.table.rows < self.old.room }
+        requires countable { length self.old.table.rows < 2 ^ 32 }
+        ensures table { self.new.table ≡ longer self.old.table (row ∷ []) }
+        ensures room { self.old.room ≤ self.new.room }
+    {
+        let ordinal = self.rows.len() as u32;
+        self.rows.push(row).unwrap();
+        note_first(&mut self.index, row.name, ordinal);
+    }
+
+    /// Adds rows. Where memory runs out, it adds none.
+    fn add(&mut self, rows: &[Row]) -> Result<(), AllocError>
+        requires { length self.old.table.rows + length rows.now ≤ 2 ^ 32 }
+        ensures ok { OnOk result (self.new.table ≡ longer self.old.table rows.now) }
+        ensures err { OnErr result (self.new.table ≡ self.old.table) }
+        ensures room { self.old.room ≤ self.new.room }
+        ensures succeeds { length self.old.table.rows + length rows.now ≤ self.old.room → IsOk result }
+    {
+        self.reserve(rows.len())?;
+        for row in rows {
+            self.put(*row);
+        }
+        Ok(())
+    }
+
+    /// Marks it as complete.
+    fn close(&mut self)
+        ensures table { self.new.table ≡ marked self.old.table }
+        ensures room { self.new.room ≡ self.old.room }
+    {
+        self.complete = true;
+    }
+}
+
+/// Puts an ordinal under a name that has none yet.
+fn note_first(index: &mut IndexMap<u32, u32>, name: u32, ordinal: u32)
+    requires { 0 < spare index.old }
+    ensures noted { (x : ℕ) → get nat_eq index.new x ≡ option_or (get nat_eq index.old x) (if name == x then Some ordinal else None) }
+    ensures room { spare index.old ≤ spare index.new + 1 }
+{
+    if !index.contains_key(&name) {
+        index.insert(name, ordinal).unwrap();
     }
 }
 
@@ -38,18 +149,16 @@ fn kept_rooms(alloc: Global, sizes: &[u32]) -> Result<Vec<Kept>, Memory>
 {
     let mut kept = Vec::with_capacity(alloc, sizes.len())?;
     for size in sizes {
-        let rows = Vec::with_capacity(alloc, *size as usize)?;
-        kept.push(Kept {
-            rows,
-            complete: false,
-        })?;
+        let scope = Kept::with_room(alloc, *size as usize)?;
+        kept.push(scope)?;
     }
     Ok(kept)
 }
 
 /// Fills scope 0 and marks it as complete.
 fn fill_first(kept: &mut [Kept]) -> Result<(), AllocError>
-    requires { 0 < length kept.old }
+    requires inside { 0 < length kept.old }
+    requires empty { (table_at (tables_in kept.old) 0).rows ≡ [] }
     ensures tables { OnOk result (tables_in kept.new ≡ completed (with_rows (tables_in kept.old) 0 spec_rows) 0) }
     ensures rooms { (s : ℕ) → slice_index (rooms_in kept.old) s ≤ slice_index (rooms_in kept.new) s }
 {
@@ -69,19 +178,6 @@ pub fn standard_tables(alloc: Global, sizes: &[u32]) -> Result<Vec<Kept>, Memory
     Ok(kept)
 }
 
-/// The first row under a name, with its ordinal.
-fn first_named(rows: &[Row], name: u32) -> Option<(u32, Row)>
-    requires { length rows.now < 2 ^ 32 }
-    ensures { result ≡ first_named name rows.now 0 }
-{
-    for (ordinal, row) in rows.iter().enumerate() {
-        if row.name == name {
-            return Some((ordinal as u32, *row));
-        }
-    }
-    None
-}
-
 /// What one thread answers.
 pub fn reply_in(kept: &[Kept], chain: &[u32], name: u32) -> Reply
     requires exist { Each (λ s. s < length kept.now) chain.now }
@@ -90,27 +186,27 @@ pub fn reply_in(kept: &[Kept], chain: &[u32], name: u32) -> Reply
 {
     for s in chain {
         let table = &kept[*s as usize];
-        if let Some((ordinal, row)) = first_named(&table.rows, name) {
+        if let Some((ordinal, row)) = table.first_named(name) {
             let place = Place { scope: *s, ordinal };
             return Reply::Found(place, row);
         }
-        if !table.complete {
+        if !table.is_complete() {
             return Reply::DontKnowYet(table.head(*s));
         }
     }
     Reply::Absent
 }
 
-/// Adds rows to a scope.
+/// Adds rows to a scope. Where memory runs out, it adds none.
 pub fn add_rows(kept: &mut [Kept], scope: usize, rows: &[Row]) -> Result<(), AllocError>
-    requires { scope < length kept.old }
+    requires inside { scope < length kept.old }
+    requires countable { length (table_at (tables_in kept.old) scope).rows + length rows.now ≤ 2 ^ 32 }
     ensures ok { OnOk result (tables_in kept.new ≡ with_rows (tables_in kept.old) scope rows.now) }
     ensures err { OnErr result (tables_in kept.new ≡ tables_in kept.old) }
     ensures rooms { (k : ℕ) → slice_index (rooms_in kept.old) k ≤ slice_index (rooms_in kept.new) k }
     ensures succeeds { length (table_at (tables_in kept.old) scope).rows + length rows.now ≤ slice_index (rooms_in kept.old) scope → IsOk result }
 {
-    kept[scope].rows.extend_from_slice(rows)?;
-    Ok(())
+    kept[scope].add(rows)
 }
 
 /// Marks a scope as complete.
@@ -119,7 +215,7 @@ pub fn close(kept: &mut [Kept], scope: usize)
     ensures tables { tables_in kept.new ≡ completed (tables_in kept.old) scope }
     ensures rooms { rooms_in kept.new ≡ rooms_in kept.old }
 {
-    kept[scope].complete = true;
+    kept[scope].close();
 }
 
 /// The row at a place.
@@ -129,10 +225,10 @@ pub fn row_in(kept: &[Kept], place: Place) -> Ask<Option<Row>>
     ensures { result ≡ row_at (tables_in kept.now) place }
 {
     let table = &kept[place.scope as usize];
-    match table.rows.get(place.ordinal as usize) {
-        Some(row) => Ask::Known(Some(*row)),
+    match table.row(place.ordinal) {
+        Some(row) => Ask::Known(Some(row)),
         None => {
-            if table.complete {
+            if table.is_complete() {
                 Ask::Known(None)
             } else {
                 Ask::DontKnowYet(table.head(place.scope))

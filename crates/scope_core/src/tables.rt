@@ -35,10 +35,8 @@ impl Tables {
     {
         let mut list = Vec::with_capacity(alloc, scopes as usize)?;
         for _ in 0..scopes {
-            list.push(Kept {
-                rows: Vec::new(alloc),
-                complete: false,
-            })?;
+            let scope = Kept::with_room(alloc, 0)?;
+            list.push(scope)?;
         }
         Ok(Tables { list })
     }

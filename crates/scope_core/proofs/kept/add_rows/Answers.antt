@@ -1,21 +1,14 @@
-use Rattle.std.proofs.Common.{refl}
-use Rattle.std.proofs.lemmas.Result.{err_from_is_err_and}
-use Rattle.scope_core.proofs.KeptTables.{same_kept, add_kept, rooms_grow}
+use Rattle.std.proofs.lemmas.Result.{on_ok_weaker, on_err_weaker}
+use Rattle.scope_core.proofs.KeptTables.{add_kept, rooms_grow, set_kept_same}
 use Rattle.scope_core.proofs.kept.add_rows.Goals as goal
-
-pub returns-in_err-extend_from_slice-clause-err : goal.returns-in_err-extend_from_slice-clause-err
-returns-in_err-extend_from_slice-clause-err c =
-    let p = err_from_is_err_and c.from_residual.result c.from_residual.ensures.1 in
-    rw p.1 (same_kept c.args.kept.now c.args.scope _ c.index-kept-scope.result c.requires c.in_err-extend_from_slice.ensures.items refl)
-
-pub returns-in_err-extend_from_slice-clause-rooms : goal.returns-in_err-extend_from_slice-clause-rooms
-returns-in_err-extend_from_slice-clause-rooms c =
-    rooms_grow c.args.kept.now c.args.scope _ c.index-kept-scope.result c.requires c.extend_from_slice.ensures.capacity
 
 pub returns-clause-ok : goal.returns-clause-ok
 returns-clause-ok c =
-    add_kept c.args.kept.now c.args.scope _ c.index-kept-scope.result c.args.rows.now c.requires c.in_ok-extend_from_slice.ensures.items refl
+    on_ok_weaker c.add.result (add_kept c.args.kept.now c.args.scope c.add.new.self c.index-kept-scope.result c.args.rows.now c.requires.inside) c.add.ensures.ok
+
+pub returns-clause-err : goal.returns-clause-err
+returns-clause-err c =
+    on_err_weaker c.add.result (set_kept_same c.args.kept.now c.args.scope c.add.new.self c.index-kept-scope.result c.requires.inside) c.add.ensures.err
 
 pub returns-clause-rooms : goal.returns-clause-rooms
-returns-clause-rooms c =
-    rooms_grow c.args.kept.now c.args.scope _ c.index-kept-scope.result c.requires c.extend_from_slice.ensures.capacity
+returns-clause-rooms c = rooms_grow c.args.kept.now c.args.scope _ c.index-kept-scope.result c.requires.inside c.add.ensures.room
