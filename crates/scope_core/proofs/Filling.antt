@@ -16,7 +16,7 @@ use Rattle.m2_base.specs.Tables.{Table, table_at, rows_at, no_rows, head_of}
 use Rattle.m2_base.specs.States.{Setting, Frame, IsLater, mark_of}
 use Rattle.m2_base.specs.Scopes.{CanEnter, Entered, CanComplete, Completed}
 use Rattle.m2_base.proofs.Kept.{IsPrefixOf-refl, IsLater-refl}
-use Rattle.scope_core.specs.Kept.{Shelf, tables_in, rooms_in, with_rows, completed}
+use Rattle.scope_core.specs.Kept.{TableWithRoom, tables_in, rooms_in, with_rows, completed}
 use Rattle.scope_core.specs.PlainScopes.{Plain, state_of, IsBegun, IsSoundly, IsHoused, filled, closed, first_tables, standard_table, started}
 
 -- what holds of each table and of the new one holds of each afterwards
@@ -127,7 +127,7 @@ pub put_back : (tables : List Table) (s : ℕ) → set (set tables s no_rows) s 
 put_back tables s = set-set tables s no_rows (table_at tables s) ∙ set-get_or tables s no_rows
 
 -- a whole list that was lent and written
-pub lent_whole : (n : ℕ) (kept new : List Shelf) → n ≡ length kept → length new ≡ length kept → take n (new ++ drop (length new) kept) ≡ new
+pub lent_whole : (n : ℕ) (kept new : List TableWithRoom) → n ≡ length kept → length new ≡ length kept → take n (new ++ drop (length new) kept) ≡ new
 lent_whole n kept new size same = grind (arith, common_steps)
 
 -- rooms that have grown have the areas
@@ -140,7 +140,7 @@ roomy p q rooms new housed sound same grow =
     }
 
 -- tables and rooms of what a lent vector of tables became
-housed_lent : (p q : Plain) (kept lent new : List Shelf) (n : ℕ) → IsHoused p (rooms_in kept) → IsSoundly q → q.texts ≡ p.texts → q.areas ≡ p.areas → q.fills ≡ p.fills → lent ≡ kept → n ≡ length kept → length new ≡ length lent → tables_in new ≡ q.tables → ((k : ℕ) → get_or (rooms_in lent) k 0 ≤ get_or (rooms_in new) k 0) → IsHoused (record { texts = p.texts; tables = tables_in (take n (new ++ drop (length new) kept)); areas = p.areas; fills = p.fills }) (rooms_in (take n (new ++ drop (length new) kept)))
+housed_lent : (p q : Plain) (kept lent new : List TableWithRoom) (n : ℕ) → IsHoused p (rooms_in kept) → IsSoundly q → q.texts ≡ p.texts → q.areas ≡ p.areas → q.fills ≡ p.fills → lent ≡ kept → n ≡ length kept → length new ≡ length lent → tables_in new ≡ q.tables → ((k : ℕ) → get_or (rooms_in lent) k 0 ≤ get_or (rooms_in new) k 0) → IsHoused (record { texts = p.texts; tables = tables_in (take n (new ++ drop (length new) kept)); areas = p.areas; fills = p.fills }) (rooms_in (take n (new ++ drop (length new) kept)))
 housed_lent p q kept lent new n housed sound texts areas fills is size same tables grow =
     let whole : take n (new ++ drop (length new) kept) ≡ new = lent_whole n kept new size (same ∙ ap length is) in
     let q_is : q ≡ record { texts = p.texts; tables = tables_in new; areas = p.areas; fills = p.fills } =
@@ -153,12 +153,12 @@ housed_lent p q kept lent new n housed sound texts areas fills is size same tabl
     subst (λ l. IsHoused (record { texts = p.texts; tables = tables_in l; areas = p.areas; fills = p.fills }) (rooms_in l)) (sym whole)
     (subst (λ r. IsHoused r (rooms_in new)) q_is made)
 
-pub put_housed : (p : Plain) (rows : List Row) (kept lent new : List Shelf) (n : ℕ) → IsHoused p (rooms_in kept) → p.tables ≡ tables_in kept → CanEnter (state_of p) rows → lent ≡ kept → n ≡ length kept → length new ≡ length lent → tables_in new ≡ with_rows (tables_in lent) p.fills rows → ((k : ℕ) → get_or (rooms_in lent) k 0 ≤ get_or (rooms_in new) k 0) → IsHoused (record { texts = p.texts; tables = tables_in (take n (new ++ drop (length new) kept)); areas = p.areas; fills = p.fills }) (rooms_in (take n (new ++ drop (length new) kept)))
+pub put_housed : (p : Plain) (rows : List Row) (kept lent new : List TableWithRoom) (n : ℕ) → IsHoused p (rooms_in kept) → p.tables ≡ tables_in kept → CanEnter (state_of p) rows → lent ≡ kept → n ≡ length kept → length new ≡ length lent → tables_in new ≡ with_rows (tables_in lent) p.fills rows → ((k : ℕ) → get_or (rooms_in lent) k 0 ≤ get_or (rooms_in new) k 0) → IsHoused (record { texts = p.texts; tables = tables_in (take n (new ++ drop (length new) kept)); areas = p.areas; fills = p.fills }) (rooms_in (take n (new ++ drop (length new) kept)))
 put_housed p rows kept lent new n housed held can is size same tables grow =
     housed_lent p (filled p rows) kept lent new n housed (filled_sound p rows housed.narrow housed.sound can) refl refl refl is size same
     (tables ∙ ap (λ t. with_rows t p.fills rows) (ap tables_in is ∙ sym held)) grow
 
-pub finish_housed : (p : Plain) (kept lent new : List Shelf) (n : ℕ) → IsHoused p (rooms_in kept) → p.tables ≡ tables_in kept → CanComplete (state_of p) → lent ≡ kept → n ≡ length kept → length new ≡ length lent → tables_in new ≡ completed (tables_in lent) p.fills → rooms_in new ≡ rooms_in lent → IsHoused (record { texts = p.texts; tables = tables_in (take n (new ++ drop (length new) kept)); areas = p.areas; fills = p.fills }) (rooms_in (take n (new ++ drop (length new) kept)))
+pub finish_housed : (p : Plain) (kept lent new : List TableWithRoom) (n : ℕ) → IsHoused p (rooms_in kept) → p.tables ≡ tables_in kept → CanComplete (state_of p) → lent ≡ kept → n ≡ length kept → length new ≡ length lent → tables_in new ≡ completed (tables_in lent) p.fills → rooms_in new ≡ rooms_in lent → IsHoused (record { texts = p.texts; tables = tables_in (take n (new ++ drop (length new) kept)); areas = p.areas; fills = p.fills }) (rooms_in (take n (new ++ drop (length new) kept)))
 finish_housed p kept lent new n housed held can is size same tables rooms =
     housed_lent p (closed p) kept lent new n housed (closed_sound p housed.sound can) refl refl refl is size same
     (tables ∙ ap (λ t. completed t p.fills) (ap tables_in is ∙ sym held)) (λ k. let e : get_or (rooms_in new) k 0 ≡ get_or (rooms_in lent) k 0 = ap (λ l. get_or l k 0) rooms in omega (arith, e))
@@ -207,7 +207,7 @@ started_tables (n ∷ sizes) tables several is = rw is (go sizes)
     go : (sizes : List ℕ) → completed (with_rows (replicate (length (n ∷ sizes)) no_rows) 0 standard_rows) 0 ≡ first_tables (length (n ∷ sizes) - 1)
     go sizes = let same : length (n ∷ sizes) - 1 ≡ length sizes = omega arith in rw same refl
 
-pub started_housed : (texts : UnitTexts) (sizes : List ℕ) (kept : List Shelf) → IsUnit texts → 2 ≤ length sizes → ((s : ℕ) → get_or sizes s 0 < 2 ^ 32) → tables_in kept ≡ first_tables (length sizes - 1) → ((s : ℕ) → get_or sizes s 0 ≤ get_or (rooms_in kept) s 0) → IsHoused (record { texts = texts; tables = tables_in kept; areas = sizes; fills = 1 }) (rooms_in kept)
+pub started_housed : (texts : UnitTexts) (sizes : List ℕ) (kept : List TableWithRoom) → IsUnit texts → 2 ≤ length sizes → ((s : ℕ) → get_or sizes s 0 < 2 ^ 32) → tables_in kept ≡ first_tables (length sizes - 1) → ((s : ℕ) → get_or sizes s 0 ≤ get_or (rooms_in kept) s 0) → IsHoused (record { texts = texts; tables = tables_in kept; areas = sizes; fills = 1 }) (rooms_in kept)
 started_housed texts sizes kept unit several narrow tables rooms =
     subst (λ t. IsHoused (record { texts = texts; tables = t; areas = sizes; fills = 1 }) (rooms_in kept)) (sym tables)
     (record { sound = started_sound texts sizes unit several; room = rooms; narrow = narrow })

@@ -5,7 +5,7 @@ use Rattle.m2_base.specs.declared.rows.Row.{Row}
 use Rattle.m2_base.specs.Tables.{Table, table_at, first_named}
 
 -- a scope's table, and for how many rows there is room
-pub record Shelf : Type 0 where
+pub record TableWithRoom : Type 0 where
   pub table : Table
   pub room : ℕ
 
@@ -13,11 +13,11 @@ pub record Shelf : Type 0 where
 abbrev pub IsIndexOf : (ℕ → Option ℕ) → List Row → Type 0
 IsIndexOf index rows = (name : ℕ) → index name ≡ option_map (λ hit. hit.0) (first_named name rows 0)
 
-abbrev pub tables_in : List Shelf → List Table
+abbrev pub tables_in : List TableWithRoom → List Table
 tables_in kept = map (λ k. k.table) kept
 
 -- for how many rows each scope has room
-abbrev pub rooms_in : List Shelf → List ℕ
+abbrev pub rooms_in : List TableWithRoom → List ℕ
 rooms_in kept = map (λ k. k.room) kept
 
 -- a table with more rows

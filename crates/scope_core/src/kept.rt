@@ -26,9 +26,9 @@ pub struct Kept {
 impl Model for Kept {
     ghost use Rattle.std.specs.Prelude.{◌+◌, length, min, nat_eq, vec_capacity};
     ghost use Rattle.indexmap.specs.IndexMap.{get, spare};
-    ghost use Rattle.scope_core.specs.Kept.{Shelf, IsIndexOf};
+    ghost use Rattle.scope_core.specs.Kept.{TableWithRoom, IsIndexOf};
 
-    ghost Value = { Shelf };
+    ghost Value = { TableWithRoom };
 
     ghost view = { λ k. record { table = record { rows = k.rows.items; complete = k.complete }; room = min (vec_capacity k.rows) (length k.rows.items + spare k.index) } };
 

@@ -1,7 +1,7 @@
 use Rattle.std.proofs.Common.{Some, nat_eq, ap, sym, ◌∙◌, arith}
 use Rattle.indexmap.specs.IndexMap.{get}
 use Rattle.m2_base.specs.Tables.{first_named}
-use Rattle.scope_core.specs.Kept.{Shelf}
+use Rattle.scope_core.specs.Kept.{TableWithRoom}
 use Rattle.scope_core.proofs.Indexing.{indexed_row, indexed_within}
 use Rattle.scope_core.proofs.kept.Kept.first_named.Goals as goal
 
@@ -16,4 +16,4 @@ returns c =
     ap (λ r. Some (c.in_ok-ordinal.ordinal, r)) c.index.ensures
     ∙ indexed_row (get nat_eq c.self.inside.index) c.self.inside.rows.items c.args.name c.in_ok-ordinal.ordinal c.index.result.now c.self.invariant
     (sym c.get.ensures.value ∙ sym c.copied.ensures ∙ c.in_ok-ordinal.was)
-    ∙ ap (λ (k : Shelf). first_named c.args.name k.table.rows 0) c.self.view_is
+    ∙ ap (λ (k : TableWithRoom). first_named c.args.name k.table.rows 0) c.self.view_is
