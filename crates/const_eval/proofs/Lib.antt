@@ -9,6 +9,9 @@ pub mod Judging
 pub mod Operating
 pub mod PartsGiven
 pub mod ReadParts
+pub mod RefusedSteps
+pub mod RefusedOperands
+pub mod RefusedConstants
 pub mod Refusals
 pub mod Sequences
 pub mod SetElements

@@ -1,6 +1,7 @@
 //! The constant that an expression stands for.
 ghost use Rattle.std.specs.Prelude.{◌≡◌};
 ghost use Rattle.std.specs.Option.{IfSome};
+ghost use Rattle.m2_base.specs.Asks.{IfKnown};
 ghost use Rattle.m2_base.specs.Rows.{is_same_place};
 ghost use Rattle.m2_base.specs.Standard.{text_type};
 ghost use Rattle.m2_base.specs.States.{State};
@@ -10,7 +11,8 @@ ghost use Rattle.const_eval.specs.Analyses.{Analysed};
 ghost use Rattle.const_eval.specs.NamedTexts.{IsNamedText};
 ghost use Rattle.m2_base.specs.Statics.ReadTrees.{IsReadExpr};
 ghost use Rattle.const_eval.specs.Sites.{IsOperand};
-ghost use Rattle.type_rules.specs.Sites.{SuitsSite};
+ghost use Rattle.type_rules.specs.Scenes.{WhereTold};
+ghost use Rattle.type_rules.specs.Sites.{AreOfSite, SuitsSite};
 
 use crate::calls::fault_noted;
 use crate::expressions::value_in;
@@ -60,7 +62,8 @@ pub fn constant<S: Scopes>(
 ) -> Result<Ask<Option<Operand>>, Memory>
     requires suits { SuitsSite (S.state scopes.old).frame site.now }
     requires read { IsReadExpr site.now.texts.now.names (expr_view e.now) }
-    ensures { Analysed (S.state scopes.old) (S.state scopes.new) notes.old notes.new site.now result (λ f constant. IfSome constant (λ operand. IsOperand f operand × IsNamedText f operand)) (λ c. constant_of c (expr_view e.now)) }
+    ensures analysed { Analysed (S.state scopes.old) (S.state scopes.new) notes.old notes.new site.now result (λ f constant. IfSome constant (λ operand. IsOperand f operand × IsNamedText f operand)) (λ c. constant_of c (expr_view e.now)) }
+    ensures unrefused { WhereTold (S.state scopes.old).frame (λ made. AreOfSite site.now made → IfKnown result (λ o. IfSome o (λ p. notes.new.diags.items ≡ notes.old.diags.items))) }
 {
     let operand = analysed!(value_in(scopes, site, e, notes));
     constant_or_refused(site, e.at, operand, notes)

@@ -46,6 +46,7 @@ mod expressions;
 mod extremes;
 mod faults;
 mod functions;
+mod laws;
 mod membership;
 mod names;
 mod noting;
@@ -69,6 +70,7 @@ pub use faults::{Fault, FaultKind};
 pub use functions::{
     abs_of, cap_of, char_of_string, chr_of, odd_of, ord_of, ordinal_type_argument, val_of,
 };
+pub use laws::diagnostics_leave_nothing;
 pub use names::{is_in_error, name_operand, operand_of};
 pub use noting::{note, note_type};
 pub use operands::{Argument, char_or_same, constant_value, is_bad};

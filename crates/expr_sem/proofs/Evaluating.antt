@@ -1,12 +1,10 @@
 -- A value or an address that is appended to a piece.
 use Rattle.std.proofs.Common.{◌≡◌, ◌∙◌, ◌++◌, [], List, Option, Some, None, Result, Ok, Err, ap, sym, subst, refl}
 use Rattle.std.proofs.lemmas.List.{append-nil, append_cancel_left}
-use Rattle.std.specs.Prelude.{option_map, slice_index_or, true}
+use Rattle.std.specs.Prelude.{option_map, true}
 use Rattle.std.specs.Option.{IfNone, IfSome}
 use Rattle.m2_base.specs.Asks.{IfKnown, IfWaits}
-use Rattle.m2_base.specs.Finished.{IsFinished}
 use Rattle.m2_base.specs.Gives.{Gives}
-use Rattle.m2_base.specs.Rows.{row_meaning, row_of}
 use Rattle.m2_base.specs.States.{Frame, State}
 use Rattle.m2_base.specs.Statics.Contexts.{Context}
 use Rattle.m2_base.specs.Statics.Operands.{is_bad}
@@ -18,14 +16,11 @@ use Rattle.m2_base.specs.declared.operands.Operand.TheVariants.{InError}
 use Rattle.m2_base.specs.declared.replies.Ask.{Ask}
 use Rattle.m2_base.specs.declared.replies.Ask.TheVariants.{DontKnowYet, Known}
 use Rattle.m2_base.specs.declared.replies.Head.{Head}
-use Rattle.m2_base.specs.declared.rows.Row.{Row}
-use Rattle.m2_base.specs.declared.rows.RowMeaning.TheVariants.{Broken}
 use Rattle.m2_base.specs.declared.sites.Site.{Site}
-use Rattle.type_rules.proofs.Counting.{counted_below}
-use Rattle.type_rules.specs.Scenes.{Hand}
 use Rattle.type_rules.specs.Sites.{SuitsSite, context_of}
 use Rattle.const_eval.specs.Sites.{IsOperand}
-use Rattle.expr_sem.proofs.RefusedSteps.{BrokenIsThere, Erred, QuietOr, quiet, wrong}
+use Rattle.const_eval.proofs.RefusedSteps.{BrokenIsThere, QuietOr, broken-told, quiet, wrong}
+use Rattle.expr_sem.proofs.RefusedValues.{Erred}
 use Rattle.expr_sem.specs.Coded as code
 use Rattle.expr_sem.specs.Codings.{Coding}
 use Rattle.expr_sem.specs.Evaluations.{Evaluates, IsEvaluated, KeepsPiece, evaluated, evaluated_in, evaluation, operand_of, unless_in_error}
@@ -73,12 +68,6 @@ code_appended : (from to : Piece) (ws : List With) (ns : List Node) (x : Option 
     → IfSome x (λ y. Appended from to ws (part ns y.1)) → IfSome (operand_of x) (λ u. Appended from to ws p)
 code_appended from to ws ns None o p e h = tt
 code_appended from to ws ns (Some x) o p e h = subst (λ (q : Part). Appended from to ws q) (evaluated_code o p (x.0, part ns x.1) e) h
-
--- the type of parts in error has its row
-broken_there : (f : Frame) (made : Hand) (s : Site) → SuitsSite f s → IsFinished f.setting.texts made.finished → BrokenIsThere (context_of f made s)
-broken_there f made s suits told =
-    let agrees = suits.around.told made.finished told in
-    ap (λ (rows : List Row). row_meaning (slice_index_or rows 10 (row_of 0 0 Broken))) (counted_below f made 0 agrees suits.around.inner ∙ agrees.standard)
 
 -- what comes out was refused nowhere
 nothing_noted : (x y : Notes) (ns : List Node) (v : Option (Operand × Fragment)) (g : Gives code.Coded) (p : Part) → evaluated_in ns v ≡ evaluated g.value.operand p
@@ -130,7 +119,7 @@ module _ {a b : State} {x y : Notes} {ns ms : List Node} {s : Site} {worth : Con
             let c = context_of a.frame made s in
             let h = p.told made in_hand t of_site in
             subst (λ (u : Option Operand). IfSome u (λ q. y.diags.items ≡ x.diags.items)) (sym is)
-            (nothing_noted x y ms v (given c) (worth c (given c).value) h.value_is h.diags (refused c (broken_there a.frame made s suits t)));
+            (nothing_noted x y ms v (given c) (worth c (given c).value) h.value_is h.diags (refused c (broken-told a.frame made s suits t)));
         caused = λ made in_hand t of_site whole.
             let c = context_of a.frame made s in
             let h = p.told made in_hand t of_site in

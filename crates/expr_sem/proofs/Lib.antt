@@ -38,8 +38,6 @@ pub mod DesignatorLengths
 pub mod CallLengths
 pub mod LengthLaw
 pub mod NoReturns
-pub mod RefusedSteps
-pub mod RefusedOperands
 pub mod RefusedValues
 pub mod RefusedProcedures
 pub mod RefusedCalls

@@ -1,5 +1,5 @@
 -- Arguments and calls: where one notes a diagnostic, nothing is passed or called, and so it is where an argument is in error.
-use Rattle.std.specs.Prelude.{refl, ℕ, ◌==◌, Bool, true, false, List, length, Option, Some, None, is_some}
+use Rattle.std.specs.Prelude.{◌≡◌, refl, ℕ, ◌==◌, Bool, true, false, List, length, Option, Some, None, is_some}
 use Rattle.std.proofs.Common.{subst, sym}
 use Rattle.m2_base.specs.Gives.{Gives, and_then, gives}
 use Rattle.m2_base.specs.Statics.Builtins.{builtin_of}
@@ -14,14 +14,18 @@ use Rattle.m2_base.specs.declared.rows.Place.{Place}
 use Rattle.m2_base.specs.declared.rows.RowMeaning.TheVariants.{Array, OpenArray}
 use Rattle.m2_base.specs.declared.rows.RowMeaning.{RowMeaning}
 use Rattle.code_form.specs.declared.instr.Instr.{Instr}
-use Rattle.expr_sem.proofs.RefusedSteps.{Erred, IsMissing, IsNoCall, QuietOr, of-erred, of-error, quiet, quiet-if, quiet-then, tests, wrong}
-use Rattle.expr_sem.proofs.RefusedValues.{QuietCoded, as_value-error, as_value-quiet, assigned-quiet}
+use Rattle.const_eval.proofs.RefusedSteps.{IsMissing, QuietOr, of-error, quiet, quiet-if, quiet-then, tests, wrong}
+use Rattle.expr_sem.proofs.RefusedValues.{Erred, QuietCoded, as_value-error, as_value-quiet, assigned-quiet, of-erred}
 use Rattle.expr_sem.specs.Arguments.{address_by, after_argument, alike, argument, array_argument, by_address, by_mode, by_value, checked_mode, open_argument, string_argument, value_argument, value_argument_by}
 use Rattle.expr_sem.specs.Calls.{Called, allowed, call_coded, called, called_by, no_call, procedure_call, standard_call}
 use Rattle.expr_sem.specs.Coded.{Coded}
 use Rattle.expr_sem.specs.Expressions.{by_called}
 use Rattle.expr_sem.specs.Parts.{Part}
 use Rattle.expr_sem.specs.Values.{as_value, assigned_to}
+
+-- nothing is called
+abbrev pub IsNoCall : Called → Type 0
+IsNoCall what = what ≡ no_call
 
 abbrev pub QuietPassed : Gives (Option Part) → Type 0
 QuietPassed g = QuietOr IsMissing g

@@ -10,11 +10,11 @@ use Rattle.m2_base.specs.Statics.TypeParts.{Parameter}
 use Rattle.m2_base.specs.Trees.{Designator, Expr, ExprForm, Exprs, Label, Labels, Next, Nexts, Selector, Selectors, call_form, char_form, deref_selector, designator, designator_at, expr, expr_at, field_selector, index_selector, many_form, more_exprs, more_labels, more_nexts, more_selectors, name_form, next, no_exprs, no_labels, no_nexts, no_selectors, number_form, one_form, one_label, range_label, set_form, string_form, typed_set_form}
 use Rattle.m2_base.specs.declared.builtins.Builtin.{Builtin}
 use Rattle.m2_base.specs.declared.rows.Place.{Place}
-use Rattle.expr_sem.proofs.RefusedSteps.{AreErred, BrokenIsThere, Erred, IsMissing, IsNoCall, IsUntyped, QuietOr, no-broken_set, of-error, quiet, quiet-then, quiet-unless, wrong}
-use Rattle.expr_sem.proofs.RefusedOperands.{set_type-quiet}
-use Rattle.expr_sem.proofs.RefusedValues.{QuietCoded, add_element-error, add_element-set, add_range-high, add_range-low, add_range-set, as_value-error, as_value-quiet, element-error, element-quiet, name-quiet, one-error, one-quiet, select_element-error, select_element-index, select_element-quiet, select_field-error, select_field-quiet, select_target-error, select_target-quiet, set-error, two-first, two-quiet, two-second}
+use Rattle.const_eval.proofs.RefusedSteps.{BrokenIsThere, IsMissing, IsUntyped, QuietOr, no-broken_set, of-error, quiet, quiet-then, quiet-unless, wrong}
+use Rattle.const_eval.proofs.RefusedOperands.{set_type-quiet}
+use Rattle.expr_sem.proofs.RefusedValues.{AreErred, Erred, QuietCoded, add_element-error, add_element-set, add_range-high, add_range-low, add_range-set, as_value-error, as_value-quiet, element-error, element-quiet, name-quiet, one-error, one-quiet, select_element-error, select_element-index, select_element-quiet, select_field-error, select_field-quiet, select_target-error, select_target-quiet, set-error, two-first, two-quiet, two-second}
 use Rattle.expr_sem.proofs.RefusedProcedures.{first-error, first-quiet, one_argument-error, one_argument-quiet, two_arguments-first, two_arguments-quiet, two_arguments-second}
-use Rattle.expr_sem.proofs.RefusedCalls.{QuietPassed, after-first, after-second, argument-error, argument-quiet, by_called-none, by_called-quiet, called-error, called-quiet}
+use Rattle.expr_sem.proofs.RefusedCalls.{IsNoCall, QuietPassed, after-first, after-second, argument-error, argument-quiet, by_called-none, by_called-quiet, called-error, called-quiet}
 use Rattle.expr_sem.specs.Arguments.{after_argument, argument}
 use Rattle.expr_sem.specs.Calls.{Called, called}
 use Rattle.expr_sem.specs.Coded.{Coded}

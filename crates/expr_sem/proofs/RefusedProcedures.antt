@@ -16,9 +16,9 @@ use Rattle.m2_base.specs.declared.operands.Operand.{Operand}
 use Rattle.m2_base.specs.declared.rows.Place.{Place}
 use Rattle.m2_base.specs.declared.rows.RowMeaning.TheVariants.{Array, OpenArray}
 use Rattle.m2_base.specs.declared.rows.RowMeaning.{RowMeaning}
-use Rattle.expr_sem.proofs.RefusedSteps.{BrokenIsThere, Erred, IsError, QuietOr, of-erred, of-error, of-second, quiet, quiet-if, quiet-then, tests, wrong}
-use Rattle.expr_sem.proofs.RefusedOperands.{abs-quiet, cap-quiet, chr-quiet, max-error, max-quiet, min-error, min-quiet, odd-quiet, ord-quiet, size-quiet, val-error, val-quiet, val-untyped}
-use Rattle.expr_sem.proofs.RefusedValues.{QuietCoded, as_value-error, as_value-quiet, in_range-quiet, made-error, made-quiet}
+use Rattle.const_eval.proofs.RefusedSteps.{BrokenIsThere, IsError, QuietOr, of-error, of-second, quiet, quiet-if, quiet-then, tests, wrong}
+use Rattle.const_eval.proofs.RefusedOperands.{abs-quiet, cap-quiet, chr-quiet, max-error, max-quiet, min-error, min-quiet, odd-quiet, ord-quiet, size-quiet, val-error, val-quiet, val-untyped}
+use Rattle.expr_sem.proofs.RefusedValues.{Erred, QuietCoded, as_value-error, as_value-quiet, in_range-quiet, made-error, made-quiet, of-erred}
 use Rattle.expr_sem.specs.Coded.{Coded, bare, in_error}
 use Rattle.expr_sem.specs.Fitting.{fitted_code}
 use Rattle.expr_sem.specs.Operators.{made}

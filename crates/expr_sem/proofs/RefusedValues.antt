@@ -1,6 +1,6 @@
 -- Values, designators, operators and sets: where a rule notes a diagnostic, what it gives is in error, and so is what it makes of
 -- an error.
-use Rattle.std.specs.Prelude.{refl, ℕ, List, Option, Some, None}
+use Rattle.std.specs.Prelude.{◌≡◌, refl, ℕ, List, Option, Some, None}
 use Rattle.std.proofs.Common.{subst, sym}
 use Rattle.m2_base.specs.Gives.{Gives, and_then, gives}
 use Rattle.m2_base.specs.Standard.{cardinal}
@@ -22,8 +22,9 @@ use Rattle.m2_base.specs.declared.rows.RowMeaning.TheVariants.{Array, OpenArray,
 use Rattle.m2_base.specs.declared.rows.RowMeaning.{RowMeaning}
 use Rattle.m2_base.specs.declared.trees.Ident.{Ident}
 use Rattle.m2_base.specs.declared.trees.operators.Operator.{Operator}
-use Rattle.expr_sem.proofs.RefusedSteps.{AreErred, Erred, IsError, IsMissing, QuietOr, of-erred, of-error, quiet, quiet-then, tests, wrong}
-use Rattle.expr_sem.proofs.RefusedOperands.{apply-quiet, element_of-quiet, operate-quiet, operate-second, use-quiet, with_error-high, with_error-low}
+use Rattle.const_eval.proofs.RefusedSteps.{IsError, IsMissing, QuietOr, of-error, quiet, quiet-then, tests, wrong}
+use Rattle.const_eval.proofs.RefusedOperands.{apply-quiet, element_of-quiet, operate-quiet, operate-second, use-quiet, with_error-high, with_error-low}
+use Rattle.expr_sem.proofs.ValueHeights.{with_operand}
 use Rattle.expr_sem.specs.Coded.{Coded, value_code, with_char}
 use Rattle.expr_sem.specs.Elements.{element_of_array, element_of_open, of_array, of_pointer, select_element, select_element_by, select_target, select_target_by}
 use Rattle.expr_sem.specs.Operators.{made, one_coded, one_instr, operation_code, two_coded}
@@ -32,6 +33,18 @@ use Rattle.expr_sem.specs.RecordFields.{field_or_use, found_field, name_coded, o
 use Rattle.expr_sem.specs.SetElements.{Elements, add_element, add_range, element_as, element_coded, set_by, set_coded}
 use Rattle.expr_sem.specs.Values.{as_value, as_value_by, assigned_to, in_range, in_range_by}
 use Rattle.expr_sem.specs.Variables.{entry_coded}
+
+-- the operand is in error
+abbrev pub Erred : Coded → Type 0
+Erred x = x.operand ≡ InError
+
+-- so are the elements of a set
+abbrev pub AreErred : Elements → Type 0
+AreErred es = es.set ≡ InError
+
+-- what holds of an error with any code holds of an operand in error with its code
+pub of-erred : (P : Coded → Type 0) (x : Coded) → Erred x → ((code high : Part) → P (with_operand InError code high)) → P x
+of-erred P x e p = subst (λ o. P (with_operand o x.code x.high)) (sym e) (p x.code x.high)
 
 -- the rule gives what is wrong only where it notes something
 abbrev pub QuietCoded : Gives Coded → Type 0

@@ -370,10 +370,6 @@ not_bad scene o code high g b = refl
 unbroken-moves : (c : Context) (x : Coded) → Valued c.scene x → is_in_error_operand x.operand ≡ false → Moves 0 (value_code c x) 1
 unbroken-moves c x v b = value-moves c x v (not_bad c.scene x.operand x.code x.high v.0 b)
 
-pub worse-broken : (o : Operand) → worse o InError ≡ InError
-worse-broken InError = refl
-worse-broken o = refl
-
 -- where one is broken, so is the set
 with_broken_low : (b h : Operand) → is_in_error_operand (with_elements b InError h) ≡ true
 with_broken_low InError h = refl

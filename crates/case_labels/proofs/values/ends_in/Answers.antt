@@ -26,10 +26,10 @@ constant-requires-in-Some-clause-read g c =
     high_read c.args.site.now.texts.now.names (expr_view (out-Label c.args.label.now).low) (expr_view c.in-Some.high) (rw (ap (option_map expr_view) c.in-Some.is) at (label_read c.args.site.now.texts.now.names c.args.label.now c.requires.read))
 
 pub returns-in-DontKnowYet-asked : goal.returns-in-DontKnowYet-asked
-returns-in-DontKnowYet-asked g c = waiting_after (rw c.in-Known.is at c.in-Ok.ensures) (rw c.in-DontKnowYet-asked.is at c.in-Ok-constant.ensures)
+returns-in-DontKnowYet-asked g c = waiting_after (rw c.in-Known.is at c.in-Ok.ensures.analysed) (rw c.in-DontKnowYet-asked.is at c.in-Ok-constant.ensures.analysed)
 
 pub returns-in-Err-constant : goal.returns-in-Err-constant
-returns-in-Err-constant g c = failed_after (rw c.in-Known.is at c.in-Ok.ensures) c.in-Err-constant.ensures _
+returns-in-Err-constant g c = failed_after (rw c.in-Known.is at c.in-Ok.ensures.analysed) c.in-Err-constant.ensures.analysed _
 
 pub returns-in-Known-asked : goal.returns-in-Known-asked
 returns-in-Known-asked g c =
@@ -38,8 +38,8 @@ returns-in-Known-asked g c =
     let w = c.in-Known-asked.value in
     let low = expr_view (out-Label c.args.label.now).low in
     let high = expr_view c.in-Some.high in
-    let one = rw c.in-Known.is at c.in-Ok.ensures in
-    let two = rw c.in-Known-asked.is at c.in-Ok-constant.ensures in
+    let one = rw c.in-Known.is at c.in-Ok.ensures.analysed in
+    let two = rw c.in-Known-asked.is at c.in-Ok-constant.ensures.analysed in
     let first = stays_after (λ (f : Frame). IfSome v (λ x. IsOperand f x)) two (operand_end _ v (stands_after one)) in
     let last = value_everywhere b c.constant-in-Some.new.notes c.args.site.now (v, w) MayEnd (λ k. gives (v, w)) (first, operand_end b.frame w (stands_after two)) (λ k. refl) in
     described (Ok (Known (v, w)))
@@ -52,7 +52,7 @@ returns-in-None g c =
     let b = g.S.Scopes.state c.constant.new.scopes in
     let v = c.in-Known.value in
     let low = expr_view (out-Label c.args.label.now).low in
-    let one = rw c.in-Known.is at c.in-Ok.ensures in
+    let one = rw c.in-Known.is at c.in-Ok.ensures.analysed in
     let stands = operand_end b.frame v (stands_after one) in
     let last = value_everywhere b c.constant.new.notes c.args.site.now (v, v) MayEnd (λ k. gives (v, v)) (stands, stands) (λ k. refl) in
     described (Ok (Known (v, v))) (and_after (λ k. constant_of k low) (λ x k. gives (x, x)) (Ok (Known (v, v))) one last)

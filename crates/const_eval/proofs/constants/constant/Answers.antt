@@ -6,20 +6,30 @@ use Rattle.m2_base.specs.Views.{expr_view}
 use Rattle.const_eval.specs.Parts.{value_in}
 use Rattle.const_eval.proofs.Analysing.{and_after, and_then_assoc, described, failed, waiting}
 use Rattle.const_eval.proofs.ReadParts.{at_seen}
+use Rattle.const_eval.proofs.RefusedConstants.{unrefused}
 use Rattle.const_eval.proofs.Sequences.{stands_after}
 use Rattle.const_eval.proofs.constants.constant.Goals as goal
 
-pub returns-in-DontKnowYet : goal.returns-in-DontKnowYet
-returns-in-DontKnowYet g c = waiting (rw c.in-DontKnowYet.is at c.in-Ok.ensures)
+pub returns-in-DontKnowYet-clause-analysed : goal.returns-in-DontKnowYet-clause-analysed
+returns-in-DontKnowYet-clause-analysed g c = waiting (rw c.in-DontKnowYet.is at c.in-Ok.ensures)
 
-pub returns-in-Err : goal.returns-in-Err
-returns-in-Err g c = failed c.in-Err.ensures _
+pub returns-in-DontKnowYet-clause-unrefused : goal.returns-in-DontKnowYet-clause-unrefused
+returns-in-DontKnowYet-clause-unrefused g c made in_hand told of_site = tt
 
-pub returns : goal.returns
-returns g c =
+pub returns-in-Err-clause-analysed : goal.returns-in-Err-clause-analysed
+returns-in-Err-clause-analysed g c = failed c.in-Err.ensures _
+
+pub returns-in-Err-clause-unrefused : goal.returns-in-Err-clause-unrefused
+returns-in-Err-clause-unrefused g c made in_hand told of_site = tt
+
+pub returns-clause-analysed : goal.returns-clause-analysed
+returns-clause-analysed g c =
     let one = rw c.in-Known.is at c.in-Ok.ensures in
     let tree = expr_view c.args.e.now in
     let two = c.constant_or_refused.ensures (g.S.Scopes.state c.value_in.new.scopes) (stands_after one) in
     described c.constant_or_refused.result (and_after (λ k. value_in k tree) (λ v k. constant_or_refused k c.args.e.now.at v) c.constant_or_refused.result one two)
     (λ k. ap (λ (at : ℕ). and_then (value_in k tree) (λ v. constant_or_refused k at v)) (sym (at_seen c.args.e.now))
     ∙ and_then_assoc (operand_in k tree) (λ o. value_wanted k (expr_at tree) o) (λ v. constant_or_refused k (expr_at tree) v))
+
+pub returns-clause-unrefused : goal.returns-clause-unrefused
+returns-clause-unrefused g c = unrefused (expr_view c.args.e.now) c.constant_or_refused.result c.requires.suits (returns-clause-analysed g c)

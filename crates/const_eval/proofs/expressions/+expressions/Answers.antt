@@ -1,4 +1,4 @@
-use Rattle.std.proofs.Common.{◌∙◌, [], ℕ, List, None, Ok, Some, ap, arith, map, refl, rules, sym, to_z, w64}
+use Rattle.std.proofs.Common.{◌∙◌, [], ℕ, None, Ok, Some, ap, arith, map, refl, rules, sym, to_z, w64}
 use denote.Param.Weighed.{most}
 use Rattle.std.specs.Prelude.{option_map}
 use Rattle.m2_base.specs.Gives.{and_then, gives}
@@ -11,7 +11,6 @@ use Rattle.m2_base.specs.Trees.{designator_at, expr_at, exprs, label_with, label
 use Rattle.m2_base.specs.Views.{designator_view, expr_view, label_view, next_view, selector_view}
 use Rattle.m2_base.specs.declared.operands.Operand.TheVariants.{Constant}
 use Rattle.m2_base.specs.declared.replies.Ask.TheVariants.{Known}
-use Rattle.m2_base.specs.declared.rows.Row.{Row}
 use Rattle.m2_base.specs.declared.trees.expressions.Expr.{size-Expr}
 use Rattle.m2_base.specs.declared.trees.expressions.ExprForm.TheVariants.{Set}
 use Rattle.m2_base.specs.declared.trees.expressions.Label.{out-Label, size-Label}

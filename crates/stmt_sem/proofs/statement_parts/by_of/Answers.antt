@@ -18,15 +18,15 @@ returns-in-None g c nodes =
     (λ k. ap (λ (v : Option Expr). by_of (stand_in k c.args.stand.now) (option_map expr_view v)) (sym c.in-None.is))
 
 pub returns-in-DontKnowYet : goal.returns-in-DontKnowYet
-returns-in-DontKnowYet g c nodes = unknown (of_analysed nodes _ (rw c.in-DontKnowYet.is at c.in-Ok.ensures))
+returns-in-DontKnowYet g c nodes = unknown (of_analysed nodes _ (rw c.in-DontKnowYet.is at c.in-Ok.ensures.analysed))
 
 pub returns-in-Err : goal.returns-in-Err
-returns-in-Err g c nodes = unmade (of_analysed nodes _ c.in-Err.ensures) _
+returns-in-Err g c nodes = unmade (of_analysed nodes _ c.in-Err.ensures.analysed) _
 
 pub returns-in-Known : goal.returns-in-Known
 returns-in-Known g c nodes =
     let e = c.in-Some.e in
     described c.by_constant.result
-    (coding_after (λ k. constant_of k (expr_view e)) (λ o k. by_constant k e.at o) c.by_constant.result (of_analysed nodes _ (rw c.in-Known.is at c.in-Ok.ensures)) (c.by_constant.ensures nodes))
+    (coding_after (λ k. constant_of k (expr_view e)) (λ o k. by_constant k e.at o) c.by_constant.result (of_analysed nodes _ (rw c.in-Known.is at c.in-Ok.ensures.analysed)) (c.by_constant.ensures nodes))
     (λ k. ap (λ (at : ℕ). and_then (constant_of k (expr_view e)) (λ o. by_constant k at o)) (sym (at_seen e))
     ∙ ap (λ (v : Option Expr). by_of (stand_in k c.args.stand.now) (option_map expr_view v)) (sym c.in-Some.is))

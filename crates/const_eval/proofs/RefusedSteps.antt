@@ -1,9 +1,11 @@
 -- Rules that note nothing, or whose value is wrong: what they become one after another, and by a test.
-use Rattle.std.specs.Prelude.{◌≡◌, ◌++◌, [], pos, Bool, true, false, ◌||◌, if◌then◌else◌, Option, None}
+use Rattle.std.specs.Prelude.{◌≡◌, ◌++◌, List, [], pos, Bool, true, false, ◌||◌, if◌then◌else◌, Option, None, slice_index_or}
 use Rattle.std.proofs.Common.{◌∙◌, ap, subst, sym}
+use Rattle.m2_base.specs.Finished.{IsFinished}
 use Rattle.m2_base.specs.Gives.{Gives, and_then}
-use Rattle.m2_base.specs.Rows.{is_same_place}
+use Rattle.m2_base.specs.Rows.{is_same_place, row_meaning, row_of}
 use Rattle.m2_base.specs.Standard.{broken}
+use Rattle.m2_base.specs.States.{Frame}
 use Rattle.m2_base.specs.Statics.Contexts.{Context}
 use Rattle.m2_base.specs.Statics.Operands.{is_bad}
 use Rattle.m2_base.specs.Statics.Sets.{no_elements, set_base_by}
@@ -11,12 +13,13 @@ use Rattle.m2_base.specs.Statics.Types.{is_broken, kind_of, meaning_at, range_by
 use Rattle.m2_base.specs.declared.operands.Operand.TheVariants.{Constant, InError}
 use Rattle.m2_base.specs.declared.operands.Operand.{Operand}
 use Rattle.m2_base.specs.declared.rows.Place.{Place}
+use Rattle.m2_base.specs.declared.rows.Row.{Row}
 use Rattle.m2_base.specs.declared.rows.RowMeaning.TheVariants.{Broken}
-use Rattle.expr_sem.proofs.ValueHeights.{both_ways, with_operand}
-use Rattle.expr_sem.specs.Calls.{Called, no_call}
-use Rattle.expr_sem.specs.Coded.{Coded}
-use Rattle.expr_sem.specs.Parts.{Part}
-use Rattle.expr_sem.specs.SetElements.{Elements}
+use Rattle.m2_base.specs.declared.sites.Site.{Site}
+use Rattle.m2_base.proofs.SoundTypes.{either}
+use Rattle.type_rules.proofs.Counting.{counted_below}
+use Rattle.type_rules.specs.Scenes.{Hand}
+use Rattle.type_rules.specs.Sites.{SuitsSite, context_of}
 
 -- nothing is noted, or the value is wrong
 pub data QuietOr {A : Type 0} (Wrong : A → Type 0) (g : Gives A) : Type 0 where
@@ -37,7 +40,7 @@ quiet-then V W a f (wrong v) kept q = wrong (kept v)
 
 -- by a test
 pub quiet-if : {A : Type 0} (W : A → Type 0) (t : Bool) (a b : Gives A) → QuietOr W a → QuietOr W b → QuietOr W (if t then a else b)
-quiet-if W t a b p q = both_ways (QuietOr W) t a b p q
+quiet-if W t a b p q = either (QuietOr W) t a b p q
 
 -- a rule that is one step with a test in it
 pub ruleset tests = (quiet-if, quiet, wrong)
@@ -47,17 +50,8 @@ pub ruleset tests = (quiet-if, quiet, wrong)
 abbrev pub IsError : Operand → Type 0
 IsError o = o ≡ InError
 
-abbrev pub Erred : Coded → Type 0
-Erred x = x.operand ≡ InError
-
 abbrev pub IsMissing : {A : Type 0} → Option A → Type 0
 IsMissing o = o ≡ None
-
-abbrev pub IsNoCall : Called → Type 0
-IsNoCall what = what ≡ no_call
-
-abbrev pub AreErred : Elements → Type 0
-AreErred es = es.set ≡ InError
 
 abbrev pub IsUntyped : Place → Type 0
 IsUntyped t = t ≡ broken
@@ -65,10 +59,6 @@ IsUntyped t = t ≡ broken
 -- what holds of an error holds of an operand in error
 pub of-error : (P : Operand → Type 0) (o : Operand) → IsError o → P InError → P o
 of-error P o e p = subst P (sym e) p
-
--- the same, of an operand with its code
-pub of-erred : (P : Coded → Type 0) (x : Coded) → Erred x → ((code high : Part) → P (with_operand InError code high)) → P x
-of-erred P x e p = subst (λ o. P (with_operand o x.code x.high)) (sym e) (p x.code x.high)
 
 -- a test for parts in error goes the same way where the second is one
 pub of-second : {A : Type 0} (P : A → Type 0) (b : Bool) (o : Operand) (s t : A) → IsError o → P s → P (if b || is_bad o then s else t)
@@ -83,6 +73,12 @@ of-second P b o s t e p = of-error (λ q. P (if b || is_bad q then s else t)) o 
 -- its row is where it belongs
 abbrev pub BrokenIsThere : Context → Type 0
 BrokenIsThere c = meaning_at c.scene broken ≡ Broken
+
+-- so it is where the texts are told
+pub broken-told : (f : Frame) (made : Hand) (s : Site) → SuitsSite f s → IsFinished f.setting.texts made.finished → BrokenIsThere (context_of f made s)
+broken-told f made s suits told =
+    let agrees = suits.around.told made.finished told in
+    ap (λ (rows : List Row). row_meaning (slice_index_or rows 10 (row_of 0 0 Broken))) (counted_below f made 0 agrees suits.around.inner ∙ agrees.standard)
 
 broken-stands : (c : Context) → BrokenIsThere c → stands_for c.scene broken ≡ broken
 broken-stands c h = ap (stands_as c.scene broken) h

@@ -24,8 +24,13 @@ use Rattle.m2_base.specs.declared.rows.RowMeaning.{RowMeaning}
 use Rattle.m2_base.specs.declared.sites.Named.{Named}
 use Rattle.m2_base.specs.declared.trees.operators.Operator.TheVariants.{And, In, Not, Or}
 use Rattle.m2_base.specs.declared.trees.operators.Operator.{Operator}
-use Rattle.expr_sem.proofs.RefusedSteps.{BrokenIsThere, IsError, IsMissing, IsUntyped, QuietOr, broken-is, broken-range, of-error, of-second, quiet, quiet-if, quiet-then, tests, wrong}
-use Rattle.expr_sem.proofs.ValueHeights.{both_ways, worse-broken}
+use Rattle.const_eval.proofs.RefusedSteps.{BrokenIsThere, IsError, IsMissing, IsUntyped, QuietOr, broken-is, broken-range, of-error, of-second, quiet, quiet-if, quiet-then, tests, wrong}
+use Rattle.m2_base.proofs.SoundTypes.{either}
+
+-- what is made of an error beside another operand is in error
+pub worse-broken : (o : Operand) → worse o InError ≡ InError
+worse-broken InError = refl
+worse-broken o = refl
 
 -- an error comes out
 abbrev IsGiven : Gives Operand → Type 0
@@ -71,7 +76,7 @@ module _ (c : Context) where
 
   ordinal_type-untyped : (at : ℕ) (t : Place) → IsUntyped t → IsUntyped (ordinal_type c at t).value
   ordinal_type-untyped at t e =
-      both_ways (λ (g : Gives Place). IsUntyped g.value) (not (is_broken c.scene t) && is_none (range_of c.scene t)) (refuse c at wrong_argument broken) (gives t) refl e
+      either (λ (g : Gives Place). IsUntyped g.value) (not (is_broken c.scene t) && is_none (range_of c.scene t)) (refuse c at wrong_argument broken) (gives t) refl e
 
   ordinal-quiet : (at : ℕ) (o : Operand) → QuietOr IsUntyped (ordinal_type_argument c at o)
   ordinal-quiet at o =
@@ -135,7 +140,7 @@ module _ (c : Context) where
   val_as-quiet at t o = search (tests, converted-quiet)
 
   val_as-error : (at : ℕ) (t : Place) → IsError (val_as c at t InError).value
-  val_as-error at t = both_ways IsGiven (is_broken c.scene t) (gives InError) (converted c at t InError) refl refl
+  val_as-error at t = either IsGiven (is_broken c.scene t) (gives InError) (converted c at t InError) refl refl
 
   val_as-untyped : BrokenIsThere c → (at : ℕ) (t : Place) (o : Operand) → IsUntyped t → IsError (val_as c at t o).value
   val_as-untyped h at t o e = ap (λ (b : Bool). (if b then gives InError else converted c at t o).value) (ap (is_broken c.scene) e ∙ broken-is c h)
@@ -216,15 +221,15 @@ module _ (c : Context) where
   number-first : (op : Operator) (op_at : ℕ) (x y : Operand) → IsError x → IsError (number_operation c op op_at x y).value
   number-first op op_at x y e =
       of-error (λ z. IsGiven (number_operation c op op_at z y)) x e
-      (both_ways IsGiven (is_arithmetic op) (gives InError) (if is_relation op then gives InError else wrong_operands c op_at) refl
-      (both_ways IsGiven (is_relation op) (gives InError) (wrong_operands c op_at) refl refl))
+      (either IsGiven (is_arithmetic op) (gives InError) (if is_relation op then gives InError else wrong_operands c op_at) refl
+      (either IsGiven (is_relation op) (gives InError) (wrong_operands c op_at) refl refl))
 
   number-second : (op : Operator) (op_at : ℕ) (x y : Operand) → IsError y → IsError (number_operation c op op_at x y).value
   number-second op op_at x y e =
       let k : FoldKind = number_kind (base_type c x) in
-      both_ways IsGiven (is_arithmetic op) (gives_result c op_at k op (number_type k) x y)
+      either IsGiven (is_arithmetic op) (gives_result c op_at k op (number_type k) x y)
       (if is_relation op then gives_result c op_at k op boolean x y else wrong_operands c op_at) (result-second op_at k op (number_type k) x y e)
-      (both_ways IsGiven (is_relation op) (gives_result c op_at k op boolean x y) (wrong_operands c op_at) (result-second op_at k op boolean x y e) refl)
+      (either IsGiven (is_relation op) (gives_result c op_at k op boolean x y) (wrong_operands c op_at) (result-second op_at k op boolean x y e) refl)
 
   as_number-quiet : (at : ℕ) (t : Place) (o : Operand) → QuietOr IsError (as_number c at t o)
   as_number-quiet at t (Constant u v) = search tests
