@@ -167,9 +167,7 @@ fn high_of<S: Scopes>(
 /// The ordinal of a place has 32 bits.
 pub fn has_small_ordinal(place: Place)
     ensures { place.ordinal < 2 ^ 32 }
-{
-    let _ordinal = place.ordinal;
-}
+{}
 
 /// HIGH of an argument that was a variable, or is in error.
 fn high_of_variable<S: Scopes>(
