@@ -348,6 +348,7 @@ fn fragments_are_appended(rt: HostRuntime) -> Result<(), Fail> {
 #[test]
 fn laws_hold() {
     code_is_short();
+    const_eval::diagnostics_leave_nothing();
     diagnostics_leave_nothing();
     errors_have_a_cause();
     errors_have_no_code();
