@@ -149,7 +149,7 @@ each_append' : {A : Type 0} (P : A → Type 0) (xs ys : List A) → Each P xs �
 each_append' P [] ys h k = k
 each_append' P (x ∷ xs) ys h k = (h.0, each_append' P xs ys h.1 k)
 
-each_reverse : {A : Type 0} (P : A → Type 0) (xs : List A) → Each P xs → Each P (reverse xs)
+pub each_reverse : {A : Type 0} (P : A → Type 0) (xs : List A) → Each P xs → Each P (reverse xs)
 each_reverse P [] h = tt
 each_reverse P (x ∷ xs) h =
     subst (Each P) (sym (reverse-append (x ∷ []) xs)) (each_append' P (reverse xs) (x ∷ []) (each_reverse P xs h.1) (h.0, tt))

@@ -1,5 +1,5 @@
 -- The rows of every item in a clear scene, where it has no diagnostic.
-use Rattle.std.specs.Prelude.{◌≡◌, ℕ, ◌+◌, ◌^◌, ◌<◌, ◌⊎◌, Bool, length, List, [], ◌∷◌, ◌++◌, Option, Some, None}
+use Rattle.std.specs.Prelude.{◌≡◌, ℕ, ◌+◌, ◌^◌, ◌<◌, ◌⊎◌, Bool, flat_map, map, length, List, [], ◌∷◌, ◌++◌, Option, Some, None}
 use Rattle.std.proofs.Common.{ap, subst, sym, ◌∙◌, refl, inl, inr, arith}
 use Rattle.std.proofs.lemmas.Bool.{cases_order}
 use Rattle.std.proofs.lemmas.List.{length-append}
@@ -14,7 +14,7 @@ use Rattle.m2_base.specs.declared.trees.Ident.{Ident}
 use Rattle.m2_base.specs.declared.trees.declarations.StreamKind.{StreamKind}
 use Rattle.m2_base.specs.Standard.{text_type}
 use Rattle.m2_base.specs.Tables.{rows_at}
-use Rattle.m2_base.specs.Trees.{Expr, Heading, Section, TypeExpr}
+use Rattle.m2_base.specs.Trees.{Decl, Expr, Heading, Section, Stream, TypeExpr}
 use Rattle.m2_base.specs.Statics.BlockRows.{at_item, declare_items}
 use Rattle.m2_base.specs.Statics.Cells.{capped}
 use Rattle.m2_base.specs.Statics.Constants.{constant_of}
@@ -22,7 +22,7 @@ use Rattle.m2_base.specs.Statics.Contexts.{Context, Scene, row_at, scope_of_modu
 use Rattle.m2_base.specs.Statics.Declarations.{declare}
 use Rattle.m2_base.specs.Statics.HeadingRows.{Placing, heading_rows, own_section_rows, own_sections_rows, parameter_row, parameter_rows, placing}
 use Rattle.m2_base.specs.Statics.ImportRows.{import_rows, place_or_broken}
-use Rattle.m2_base.specs.Statics.Items.{Item, const_item, heading_item, import_item, proc_item, type_item, vars_item}
+use Rattle.m2_base.specs.Statics.Items.{decl_item, heading_items, import_items, items_of, Item, const_item, heading_item, import_item, proc_item, type_item, vars_item}
 use Rattle.m2_base.specs.Statics.Lookup.{Entry}
 use Rattle.m2_base.specs.Statics.Makes.{Makes, makes_named, makes_row, next_place, scene_with, with_rows}
 use Rattle.m2_base.specs.Statics.NameRows.{const_meaning, const_rows, declared_type, type_name_rows, var_rows, vars_rows}
@@ -38,10 +38,15 @@ use Rattle.m2_base.specs.declared.operands.Operand.TheVariants.{Constant, String
 use Rattle.m2_base.proofs.RowLaws.{place_of-number_of}
 use Rattle.m2_base.proofs.SceneLaws.{IsOpen, own_of, own-with, with-none}
 use Rattle.m2_base.proofs.SoundTypes.{either}
-use Rattle.row_laws.proofs.ClearRows.{HasClear, IsClear, IsClearScene, IsNamable, IsTarget, clear_again, other_rows, target_there}
+use Rattle.row_laws.specs.Clear.{IsNamedTarget, LeadsOn, HasClear, IsClear, IsNamable, IsTarget}
+use Rattle.row_laws.proofs.ClearRows.{IsClearScene, clear_again, other_rows, target_there}
 use Rattle.row_laws.proofs.ClearNotes.{IsEntry, MakesFine, chain, done, named_fine, only, qual_fine, row_fine, use_fine}
 use Rattle.row_laws.proofs.ClearConstants.{IsConstant, constant_fine}
-use Rattle.row_laws.proofs.ClearTypes.{IsAny, looked, open_fine, parameter_fine, type_fine}
+use Rattle.row_laws.proofs.ClearTypes.{IsAny, looked, open_fine, parameter_fine, result_again, result_fine, type_fine}
+use Rattle.row_laws.proofs.ClearTargets.{HasImports, imports_with}
+use Rattle.row_laws.proofs.ClearImports.{IsFront, Waits, all_made, first_waits, fronts, waits_with}
+use Rattle.m2_base.proofs.ItemLaws.{item_of}
+use Rattle.m2_base.specs.Statics.Layouts.{layout_of}
 
 -- ** Constants, types and variables
 
@@ -51,33 +56,39 @@ const_clear (Some (Constant t v)) n at h = clear_again t h
 const_clear (Some (StringConstant m l)) n at h = clear_again text_type refl
 const_clear (Some o) n at h = absurd h
 
-const_namable : (tables : List (List Row)) (o : Option Operand) (n at : ℕ) → IsConstant o → IsNamable tables (row_meaning (row_of n at (const_meaning o)))
-const_namable tables None n at h = absurd h
-const_namable tables (Some (Constant t v)) n at h = tt
-const_namable tables (Some (StringConstant m l)) n at h = tt
-const_namable tables (Some o) n at h = absurd h
+const_namable : (o : Option Operand) (n at : ℕ) → IsConstant o → IsNamable (row_meaning (row_of n at (const_meaning o)))
+const_namable None n at h = absurd h
+const_namable (Some (Constant t v)) n at h = tt
+const_namable (Some (StringConstant m l)) n at h = tt
+const_namable (Some o) n at h = absurd h
+
+const_leads : (tables : List (List Row)) (o : Option Operand) (n at : ℕ) → IsConstant o → LeadsOn tables (row_meaning (row_of n at (const_meaning o)))
+const_leads tables None n at h = absurd h
+const_leads tables (Some (Constant t v)) n at h = tt
+const_leads tables (Some (StringConstant m l)) n at h = tt
+const_leads tables (Some o) n at h = absurd h
 
 const_fine : (names : List (List ℕ)) (c : Context) (i : Ident) (e : Expr) → IsClearScene c.scene → IsReadExpr names e → MakesFine IsAny c (const_rows c i e)
 const_fine names c i e clear read =
     let o = (constant_of c e).value in
     let d = with_rows c [] in
-    chain (only clear (constant_fine c clear names e read)) (λ more h. named_fine d i.name i.at (const_meaning o) more (const_clear o i.name i.at h) (const_namable d.scene.tables o i.name i.at h))
+    chain (only clear (constant_fine c clear names e read)) (λ more h. named_fine d i.name i.at (const_meaning o) more (const_clear o i.name i.at h) (const_leads d.scene.tables o i.name i.at h) (const_namable o i.name i.at h))
 
-declared_fine : (names : List (List ℕ)) (c : Context) (i : Ident) (t : Option TypeExpr) → IsClearScene c.scene → IsReadTypeOption names t → MakesFine IsClear c (declared_type c i t)
-declared_fine names c i None clear read = row_fine c i.at Opaque clear tt
-declared_fine names c i (Some t) clear read = type_fine names t c clear read
+declared_fine : (names : List (List ℕ)) (c : Context) (i : Ident) (t : Option TypeExpr) → IsClearScene c.scene → HasImports c → IsReadTypeOption names t → MakesFine IsClear c (declared_type c i t)
+declared_fine names c i None clear imports read = row_fine c i.at Opaque clear tt tt
+declared_fine names c i (Some t) clear imports read = type_fine names t c clear imports read
 
-type_name_fine : (names : List (List ℕ)) (c : Context) (i : Ident) (t : Option TypeExpr) → IsClearScene c.scene → IsReadTypeOption names t → MakesFine IsAny c (type_name_rows c i t)
-type_name_fine names c i t clear read =
+type_name_fine : (names : List (List ℕ)) (c : Context) (i : Ident) (t : Option TypeExpr) → IsClearScene c.scene → HasImports c → IsReadTypeOption names t → MakesFine IsAny c (type_name_rows c i t)
+type_name_fine names c i t clear imports read =
     let typ = declared_type c i t in
-    chain (declared_fine names c i t clear read) (λ more h. named_fine (with_rows c typ.rows) i.name i.at (TypeName typ.value) more (clear_again typ.value h) tt)
+    chain (declared_fine names c i t clear imports read) (λ more h. named_fine (with_rows c typ.rows) i.name i.at (TypeName typ.value) more (clear_again typ.value h) tt tt)
 
 -- a variable, whatever its mode
 variable_clear : (t : Place) (m : Mode) (o n at : ℕ) → IsClear t → HasClear (row_meaning (row_of n at (Var t m o)))
 variable_clear t m o n at h = clear_again t h
 
 variable_fine : (c : Context) (i : Ident) (t : Place) (m : Mode) (o : ℕ) → IsClearScene c.scene → IsClear t → MakesFine IsAny c (makes_named c i.name i.at (Var t m o))
-variable_fine c i t m o clear h = named_fine c i.name i.at (Var t m o) clear (variable_clear t m o i.name i.at h) tt
+variable_fine c i t m o clear h = named_fine c i.name i.at (Var t m o) clear (variable_clear t m o i.name i.at h) tt tt
 
 variables_fine : (idents : List Ident) (c : Context) (t : Place) (cell : ℕ) → IsClearScene c.scene → IsClear t → MakesFine IsAny c (var_rows c t cell idents)
 variables_fine [] c t cell clear h = done clear tt
@@ -86,10 +97,10 @@ variables_fine (i ∷ idents) c t cell clear h =
     let d = with_rows c row.rows in
     chain (variable_fine c i t Plain cell clear h) (λ more k. variables_fine idents d t (capped (cell + size_of d.scene t)) more h)
 
-vars_fine : (names : List (List ℕ)) (c : Context) (idents : List Ident) (t : TypeExpr) (cell : ℕ) → IsClearScene c.scene → IsReadType names t → MakesFine IsAny c (vars_rows c idents t cell)
-vars_fine names c idents t cell clear read =
+vars_fine : (names : List (List ℕ)) (c : Context) (idents : List Ident) (t : TypeExpr) (cell : ℕ) → IsClearScene c.scene → HasImports c → IsReadType names t → MakesFine IsAny c (vars_rows c idents t cell)
+vars_fine names c idents t cell clear imports read =
     let typ = type_rows c t in
-    chain (type_fine names t c clear read) (λ more h. variables_fine idents (with_rows c typ.rows) typ.value cell more h)
+    chain (type_fine names t c clear imports read) (λ more h. variables_fine idents (with_rows c typ.rows) typ.value cell more h)
 
 -- ** Imports
 
@@ -97,23 +108,23 @@ vars_fine names c idents t cell clear read =
 abbrev pub AreFew : List (List Row) → Type 0
 AreFew tables = (s : ℕ) → length (rows_at tables s) < 2 ^ 31
 
-alias_namable : (tables : List (List Row)) (o : Option Entry) (n at : ℕ) → AreFew tables → IsEntry tables o → IsNamable tables (row_meaning (row_of n at (Alias (place_or_broken o))))
-alias_namable tables None n at few h = absurd h
-alias_namable tables (Some e) n at few h =
-    let target : IsTarget (row_meaning (row_at tables e.0)) = subst (λ (r : Row). IsTarget (row_meaning r)) (sym h.stands) h.target in
-    let there = target_there tables e.0 target in
+alias_leads : (tables : List (List Row)) (o : Option Entry) (n at : ℕ) → AreFew tables → IsEntry tables o → LeadsOn tables (row_meaning (row_of n at (Alias (place_or_broken o))))
+alias_leads tables None n at few h = absurd h
+alias_leads tables (Some e) n at few h =
+    let target : IsNamedTarget (row_at tables e.0) = subst IsNamedTarget (sym h.stands) (h.named, h.target) in
+    let there = target_there tables e.0 target.1 in
     let small = few e.0.scope in
-    subst (λ p. IsTarget (row_meaning (row_at tables p))) (sym (place_of-number_of e.0 (omega (arith, there, small)))) target
+    subst (λ p. IsNamedTarget (row_at tables p)) (sym (place_of-number_of e.0 (omega (arith, there, small)))) target
 
 import_fine : (names : List (List ℕ)) (c : Context) (from : Option Ident) (i : Ident) → IsClearScene c.scene → AreFew c.scene.tables → IsReadName names i → MakesFine IsAny c (import_rows c from i)
-import_fine names c None i clear few read = named_fine c i.name i.at (Module (scope_of_module c.source i.name)) clear tt tt
+import_fine names c None i clear few read = named_fine c i.name i.at (Module (scope_of_module c.source i.name)) clear tt tt tt
 import_fine names c (Some m) i clear few read =
     let within = Some (scope_of_module c.source m.name) in
     let o = (use_of c within i.name i.at).value in
     let row = row_of i.name i.at (Alias (place_or_broken o)) in
     chain (only clear (use_fine c clear within i.name i.at read.some))
     (λ more h. named_fine (with_rows c []) i.name i.at (Alias (place_or_broken o)) more tt
-    (subst (λ (s : Scene). IsNamable s.tables (row_meaning row)) (sym (with-none c.scene)) (alias_namable c.scene.tables o i.name i.at few h)))
+    (subst (λ (s : Scene). LeadsOn s.tables (row_meaning row)) (sym (with-none c.scene)) (alias_leads c.scene.tables o i.name i.at few h)) tt)
 
 -- ** Headings
 
@@ -155,7 +166,7 @@ params_fine : (idents : List Ident) (c : Context) (own : ℕ) (by_ref : Bool) (t
 params_fine [] c own by_ref t clear h = done clear tt
 params_fine (i ∷ idents) c own by_ref t clear h =
     let row = makes_row c i.at (Param t by_ref own) in
-    chain (row_fine c i.at (Param t by_ref own) clear (clear_again t h)) (λ more k. params_fine idents (with_rows c row.rows) own by_ref t more h)
+    chain (row_fine c i.at (Param t by_ref own) clear (clear_again t h) tt) (λ more k. params_fine idents (with_rows c row.rows) own by_ref t more h)
 
 sections_fine : (names : List (List ℕ)) (sections : List Section) (c : Context) (own : ℕ) → IsClearScene c.scene → Each (IsReadSection names) sections → MakesFine IsAny c (section_rows c own sections)
 sections_fine names [] c own clear read = done clear tt
@@ -175,19 +186,30 @@ proc_fine names c kind h stream clear read =
     let e = with_rows d [] in
     let t = makes_row e h.name.at (ProcType r (parameter_count h.sections) first) in
     chain (sections_fine names h.sections c (first + sections_length h.sections) clear read.sections)
-    (λ one k. chain (looked d (result_type d h.result) one)
-    (λ two j. chain (row_fine e h.name.at (ProcType r (parameter_count h.sections) first) two tt)
-    (λ three i. chain (named_fine (with_rows e t.rows) h.name.name h.name.at (Proc t.value (proc_number c kind stream) (proc_scope kind stream)) three tt tt) (λ four g. done four tt))))
+    (λ one k. chain (only one (result_fine names d h.result one read.result))
+    (λ two j. chain (row_fine e h.name.at (ProcType r (parameter_count h.sections) first) two (result_again r j) tt)
+    (λ three i. chain (named_fine (with_rows e t.rows) h.name.name h.name.at (Proc t.value (proc_number c kind stream) (proc_scope kind stream)) three tt tt tt) (λ four g. done four tt))))
 
 -- ** Items
 
-item_fine : (names : List (List ℕ)) (c : Context) (kind : StreamKind) (x : Item) (cell : ℕ) → IsClearScene c.scene → AreFew c.scene.tables → IsReadItem names x → MakesFine IsAny c (declare c kind x cell)
-item_fine names c kind (heading_item h) cell clear few read = heading_fine names c h clear read
-item_fine names c kind (import_item from i) cell clear few read = chain (import_fine names c from i clear few read.1) (λ more k. done more tt)
-item_fine names c kind (const_item i e) cell clear few read = chain (const_fine names c i e clear read.1) (λ more k. done more tt)
-item_fine names c kind (type_item i t) cell clear few read = chain (type_name_fine names c i t clear read.1) (λ more k. done more tt)
-item_fine names c kind (vars_item idents t) cell clear few read = chain (vars_fine names c idents t cell clear read.1) (λ more k. done more tt)
-item_fine names c kind (proc_item h stream) cell clear few read = chain (proc_fine names c kind h stream clear read.0) (λ more k. done more tt)
+-- what each item wants of the imports before it: a heading and an import want nothing
+abbrev pub Wants : Context → Item → Type 0
+Wants c (heading_item h) = Unit {0}
+Wants c (import_item from i) = Unit {0}
+Wants c other = HasImports c
+
+wants_less : (c : Context) (x : Item) → HasImports c → Wants c x
+wants_less c (heading_item h) k = tt
+wants_less c (import_item from i) k = tt
+wants_less c x k = k
+
+item_fine : (names : List (List ℕ)) (c : Context) (kind : StreamKind) (x : Item) (cell : ℕ) → IsClearScene c.scene → AreFew c.scene.tables → Wants c x → IsReadItem names x → MakesFine IsAny c (declare c kind x cell)
+item_fine names c kind (heading_item h) cell clear few imports read = heading_fine names c h clear read
+item_fine names c kind (import_item from i) cell clear few imports read = chain (import_fine names c from i clear few read.1) (λ more k. done more tt)
+item_fine names c kind (const_item i e) cell clear few imports read = chain (const_fine names c i e clear read.1) (λ more k. done more tt)
+item_fine names c kind (type_item i t) cell clear few imports read = chain (type_name_fine names c i t clear imports read.1) (λ more k. done more tt)
+item_fine names c kind (vars_item idents t) cell clear few imports read = chain (vars_fine names c idents t cell clear imports read.1) (λ more k. done more tt)
+item_fine names c kind (proc_item h stream) cell clear few imports read = chain (proc_fine names c kind h stream clear read.0) (λ more k. done more tt)
 
 -- the scopes of a scene have few rows, and its own also with these
 pub record HasSpace (scene : Scene) (rows : List Row) : Type 0 where
@@ -215,13 +237,43 @@ space_right scene xs ys o h =
 space_left : (scene : Scene) (xs ys : List Row) → HasSpace scene (xs ++ ys) → HasSpace scene xs
 space_left scene xs ys h = let joined = length-append xs ys in let own = h.own in record { few = h.few; own = omega (arith, joined, own) }
 
-pub items_fine : (names : List (List ℕ)) (items : List Item) (c : Context) (kind : StreamKind) (i cell : ℕ) → IsClearScene c.scene → HasSpace c.scene (declare_items c kind i cell items).rows
-    → Each (IsReadItem names) items → MakesFine IsAny c (declare_items c kind i cell items)
-items_fine names [] c kind i cell clear space read = done clear tt
-items_fine names (x ∷ items) c kind i cell clear space read =
+-- an item, and then the items behind it
+step : (names : List (List ℕ)) (x : Item) (items : List Item) (c : Context) (kind : StreamKind) (i cell : ℕ) → IsClearScene c.scene → HasSpace c.scene (declare_items c kind i cell (x ∷ items)).rows → Wants (at_item c i) x
+    → IsReadItem names x
+    → ((d : Context) (next : ℕ) → d ≡ with_rows c (declare (at_item c i) kind x cell).rows → IsClearScene d.scene → HasSpace d.scene (declare_items d kind (i + 1) next items).rows → MakesFine IsAny d (declare_items d kind (i + 1) next items))
+    → MakesFine IsAny c (declare_items c kind i cell (x ∷ items))
+step names x items c kind i cell clear space wants read rest =
     let a = at_item c i in
     let m = declare a kind x cell in
     let d = with_rows c m.rows in
     let more = declare_items d kind (i + 1) m.value.cell items in
-    chain (item_fine names a kind x cell clear space.few read.0)
-    (λ one k. chain (items_fine names items d kind (i + 1) m.value.cell one (space_left d.scene more.rows [] (space_right c.scene m.rows (more.rows ++ []) clear.room space)) read.1) (λ two j. done two tt))
+    chain (item_fine names a kind x cell clear space.few wants read)
+    (λ one k. chain (rest d m.value.cell refl one (space_left d.scene more.rows [] (space_right c.scene m.rows (more.rows ++ []) clear.room space))) (λ two j. done two tt))
+
+-- the declarations, where each import is made
+decls_fine : (names : List (List ℕ)) (items : List Item) (c : Context) (kind : StreamKind) (i cell : ℕ) → IsClearScene c.scene → HasImports c → HasSpace c.scene (declare_items c kind i cell items).rows
+    → Each (IsReadItem names) items → MakesFine IsAny c (declare_items c kind i cell items)
+decls_fine names [] c kind i cell clear imports space read = done clear tt
+decls_fine names (x ∷ items) c kind i cell clear imports space read =
+    step names x items c kind i cell clear space (wants_less (at_item c i) x imports) read.0
+    (λ d next is one room. decls_fine names items d kind (i + 1) next one
+    (subst HasImports (sym is) (imports_with c (declare (at_item c i) kind x cell).rows clear imports)) room read.1)
+
+fronts_fine : (names : List (List ℕ)) (front : List Item) (ds : List Decl) (c : Context) (kind : StreamKind) (i cell : ℕ) → IsClearScene c.scene → Each IsFront front → Waits c i (front ++ map decl_item ds)
+    → HasSpace c.scene (declare_items c kind i cell (front ++ map decl_item ds)).rows → Each (IsReadItem names) (front ++ map decl_item ds) → MakesFine IsAny c (declare_items c kind i cell (front ++ map decl_item ds))
+fronts_fine names [] ds c kind i cell clear fronts waits space read = decls_fine names (map decl_item ds) c kind i cell clear (all_made c i ds waits) space read
+fronts_fine names (x ∷ front) ds c kind i cell clear fronts waits space read =
+    step names x (front ++ map decl_item ds) c kind i cell clear space (wants_none (at_item c i) x fronts.0) read.0
+    (λ d next is one room. fronts_fine names front ds d kind (i + 1) next one fronts.1
+    (subst (λ (e : Context). Waits e (i + 1) (front ++ map decl_item ds)) (sym is) (waits_with c x (front ++ map decl_item ds) i _ clear.room (item_of x (at_item c i) kind cell) waits)) room read.1)
+  where
+    wants_none : (c : Context) (x : Item) → IsFront x → Wants c x
+    wants_none c (heading_item h) k = tt
+    wants_none c (import_item from i) k = tt
+    wants_none c x k = absurd k
+
+-- the items of a block, none of whose rows is made yet
+pub items_fine : (names : List (List ℕ)) (tree : Stream) (c : Context) (kind : StreamKind) (cell : ℕ) → c.layout ≡ (layout_of tree).names → own_of c.scene ≡ [] → IsClearScene c.scene
+    → HasSpace c.scene (declare_items c kind 0 cell (items_of tree)).rows → Each (IsReadItem names) (items_of tree) → MakesFine IsAny c (declare_items c kind 0 cell (items_of tree))
+items_fine names tree c kind cell layout none clear space read =
+    fronts_fine names (heading_items tree.heading ++ flat_map import_items tree.imports) tree.decls c kind 0 cell clear (fronts tree.heading tree.imports) (first_waits c (items_of tree) layout none) space read

@@ -23,7 +23,8 @@ use Rattle.m2_base.specs.Statics.Uses.{bound, bound_or, bound_outside, followed_
 use Rattle.m2_base.specs.declared.notes.Diag.{Diag}
 use Rattle.m2_base.proofs.SceneLaws.{with-none, with-twice}
 use Rattle.m2_base.proofs.SoundTypes.{either}
-use Rattle.row_laws.proofs.ClearRows.{Found, HasClear, IsClear, IsClearRow, IsClearScene, IsNamable, IsTarget, behind_clear, clear_with, found_row, have_clear, place_clear, standard_target}
+use Rattle.row_laws.specs.Clear.{IsNamedTarget, LeadsOn, HasClear, IsClear, IsClearRow, IsNamable, IsTarget}
+use Rattle.row_laws.proofs.ClearRows.{Found, IsClearScene, behind_clear, clear_with, found_row, have_clear, place_clear, standard_target}
 
 -- of two values one, by what the test says
 pub either_by : {A : Type 0} (P : A → Type 0) (b : Bool) (x y : A) → (b ≡ true → P x) → (b ≡ false → P y) → P (if b then x else y)
@@ -100,25 +101,26 @@ pub next_clear : (c : Context) → IsClearScene c.scene → IsClear (next_place 
 next_clear c clear = behind_clear c.scene.block.scope _ clear.positive
 
 -- a row without a name
-pub row_fine : (c : Context) (at : ℕ) (m : RowMeaning) → IsClearScene c.scene → HasClear (row_meaning (row_of 0 at m)) → MakesFine IsClear c (makes_row c at m)
-row_fine c at m clear h = one_row_fine c.scene (row_of 0 at m) clear (h, λ some. absurd (some refl)) (next_clear c clear)
+pub row_fine : (c : Context) (at : ℕ) (m : RowMeaning) → IsClearScene c.scene → HasClear (row_meaning (row_of 0 at m)) → LeadsOn c.scene.tables (row_meaning (row_of 0 at m)) → MakesFine IsClear c (makes_row c at m)
+row_fine c at m clear h leads = one_row_fine c.scene (row_of 0 at m) clear (h, leads, λ some. absurd (some refl)) (next_clear c clear)
 
 row_refused : {T : Type 0} {P : T → Type 0} {scene : Scene} {rows : List Row} {d : Diag} {v : T} → Leaves P scene rows (d ∷ []) v
 row_refused = record { clear = λ e. absurd (cc); value = λ e. absurd (cc) }
 
 -- a row with a name
-pub named_fine : (c : Context) (name at : ℕ) (m : RowMeaning) → IsClearScene c.scene → HasClear (row_meaning (row_of name at m)) → IsNamable c.scene.tables (row_meaning (row_of name at m))
+pub named_fine : (c : Context) (name at : ℕ) (m : RowMeaning) → IsClearScene c.scene → HasClear (row_meaning (row_of name at m)) → LeadsOn c.scene.tables (row_meaning (row_of name at m)) → IsNamable (row_meaning (row_of name at m))
     → MakesFine (λ p. Unit {0}) c (makes_named c name at m)
-named_fine c name at m clear h k =
+named_fine c name at m clear h leads k =
     either (λ (x : Makes Place). MakesFine (λ p. Unit {0}) c x) (is_standard name) _ _ row_refused
     (either (λ (x : Makes Place). MakesFine (λ p. Unit {0}) c x) (has_name c.scene.tables c.scene.block.scope name) _ _ row_refused
-    (one_row_fine c.scene (row_of name at m) clear (h, λ some. k) tt))
+    (one_row_fine c.scene (row_of name at m) clear (h, leads, λ some. k) tt))
 
 -- ** Names
 
--- an entry whose row leads to something, and stands at its place
+-- an entry whose row has a name and leads to something, and stands at its place
 pub record IsGiven (tables : List (List Row)) (e : Entry) : Type 0 where
   pub clear : HasClear (row_meaning e.1)
+  pub named : e.1.name ≢ 0
   pub target : IsTarget (row_meaning e.1)
   pub stands : row_at tables e.0 ≡ e.1
 
@@ -137,12 +139,16 @@ module _ (c : Context) (clear : IsClearScene c.scene) where
   found_clear : (chain : List ℕ) (name : ℕ) → WhereFound c.scene.tables name (lookup c.scene.tables chain name)
   found_clear chain name = found_row (IsClearRow c.scene.tables) c.scene.tables clear.rows chain name
 
-  followed_given : (e : Entry) (m : RowMeaning) → row_meaning e.1 ≡ m → HasClear (row_meaning e.1) → row_at c.scene.tables e.0 ≡ e.1 → IsNamable c.scene.tables m → IsGiven c.scene.tables (followed_by c.scene e m)
-  followed_given e (Alias p) same h stands k = record { clear = place_clear c.scene.tables (have_clear c.scene.tables clear.rows) p; target = k; stands = refl }
-  followed_given e m same h stands k = record { clear = h; target = subst IsTarget (sym same) k; stands = stands }
+  followed_given : (e : Entry) (m : RowMeaning) → row_meaning e.1 ≡ m → HasClear (row_meaning e.1) → row_at c.scene.tables e.0 ≡ e.1 → LeadsOn c.scene.tables m → e.1.name ≢ 0 → IsNamable m
+      → IsGiven c.scene.tables (followed_by c.scene e m)
+  followed_given e (Alias p) same h stands leads some k =
+      record { clear = place_clear c.scene.tables (have_clear c.scene.tables clear.rows) p; named = leads.0; target = leads.1; stands = refl }
+  followed_given e m same h stands leads some k = record { clear = h; named = some; target = subst IsTarget (sym same) k; stands = stands }
 
   bound_fine : (name at : ℕ) (e : Entry) → name ≢ 0 → IsFoundEntry c.scene.tables name e → GivesFine (IsEntry c.scene.tables) (bound c name at e)
-  bound_fine name at e some h = given (followed_given e (row_meaning e.1) refl h.holds.0 h.stands (h.holds.1 (λ none. some (sym h.named ∙ none))))
+  bound_fine name at e some h =
+      let some_name : e.1.name ≢ 0 = λ none. some (sym h.named ∙ none) in
+      given (followed_given e (row_meaning e.1) refl h.holds.0 h.stands h.holds.1 some_name (h.holds.2 some_name))
 
   bound_or_fine : (code name at : ℕ) (o : Option Entry) → name ≢ 0 → WhereFound c.scene.tables name o → GivesFine (IsEntry c.scene.tables) (bound_or c code name at o)
   bound_or_fine code name at None some h = refused
@@ -167,7 +173,8 @@ module _ (c : Context) (clear : IsClearScene c.scene) where
   standard_given name e =
       record {
         clear = place_clear c.scene.tables (have_clear c.scene.tables clear.rows) (standard_place name);
-        target = subst (λ (rs : List Row). IsTarget (row_meaning (row_at (rs ∷ []) (standard_place name)))) (sym clear.standard) (standard_target name e);
+        named = (subst (λ (rs : List Row). IsNamedTarget (row_at (rs ∷ []) (standard_place name))) (sym clear.standard) (standard_target name e)).0;
+        target = (subst (λ (rs : List Row). IsNamedTarget (row_at (rs ∷ []) (standard_place name))) (sym clear.standard) (standard_target name e)).1;
         stands = refl;
       }
 

@@ -16,17 +16,14 @@ use Rattle.m2_base.specs.Statics.Contexts.{Scene, row_at}
 use Rattle.m2_base.specs.Statics.Lookup.{Entry, entry_in}
 use Rattle.m2_base.specs.Statics.Makes.{scene_with}
 use Rattle.m2_base.specs.Statics.Types.{declared_as, is_broken, meaning_at, named_or, opaque_as, stands_as, stands_for, type_named, unless_opaque}
+use Rattle.row_laws.specs.Clear.{AreClear, HasClear, IsClear, IsClearRow, IsNamable, IsNamedTarget, IsTarget, LeadsOn}
 use Rattle.m2_base.proofs.NoRepeats.{some_is}
 use Rattle.m2_base.proofs.SceneLaws.{IsOpen, open-with, own_of, own-with}
 use Rattle.m2_base.proofs.SoundTypes.{either}
 
 -- ** Types that aren't in error
 
--- the type isn't that of parts in error
-abbrev pub IsClear : Place → Type 0
-IsClear t = is_same_place t broken ≡ false
-
-never_true : (b : Bool) → (b ≡ true → ⊥) → b ≡ false
+pub never_true : (b : Bool) → (b ≡ true → ⊥) → b ≡ false
 never_true true h = absurd (h refl)
 never_true false h = refl
 
@@ -49,38 +46,6 @@ behind_clear s o h =
     never_true (is_same_place (at_place s o) broken) (λ e. let zero_is = eqb-true s 0 (and_parts (s == 0) (o == 10) e).0 in omega (arith, h, zero_is))
 
 -- ** Clear rows
-
--- the types in a row that an analyser asks about aren't in error
-abbrev pub HasClear : RowMeaning → Type 0
-HasClear (Const t v l) = IsClear t
-HasClear (TypeName t) = IsClear t
-HasClear (Var t m o) = IsClear t
-HasClear (Param t v q) = IsClear t
-HasClear (OpenArray t) = IsClear t
-HasClear (Set t) = IsClear t
-HasClear other = Unit {0}
-
--- what a name leads to in the end
-abbrev pub IsTarget : RowMeaning → Type 0
-IsTarget (Const t v l) = Unit {0}
-IsTarget (TypeName t) = Unit {0}
-IsTarget (Var t m o) = Unit {0}
-IsTarget (Proc t k s) = Unit {0}
-IsTarget (Module s) = Unit {0}
-IsTarget (Standard n) = Unit {0}
-IsTarget other = ⊥
-
--- what has a name: an alias leads to what isn't one
-abbrev pub IsNamable : List (List Row) → RowMeaning → Type 0
-IsNamable tables (Alias p) = IsTarget (row_meaning (row_at tables p))
-IsNamable tables m = IsTarget m
-
-abbrev pub IsClearRow : List (List Row) → Row → Type 0
-IsClearRow tables r = HasClear (row_meaning r) × (r.name ≢ 0 → IsNamable tables (row_meaning r))
-
--- all rows of these scopes are clear
-abbrev pub AreClear : List (List Row) → Type 0
-AreClear tables = (s o : ℕ) (r : Row) → slice_get (rows_at tables s) o ≡ Some r → IsClearRow tables r
 
 -- of all rows the types aren't in error
 abbrev pub HaveClear : List (List Row) → Type 0
@@ -187,18 +152,11 @@ module _ (scene : Scene) (all : HaveClear scene.tables) where
 abbrev pub Extends : (old new : List (List Row)) → Type 0
 Extends old new = (s : ℕ) → (ys : List Row) × (rows_at new s ≡ rows_at old s ++ ys)
 
-pub target_stays : (old new : List (List Row)) → Extends old new → (p : Place) → IsTarget (row_meaning (row_at old p)) → IsTarget (row_meaning (row_at new p))
-target_stays old new more p h = by_case ((slice_get_cases (rows_at old p.scope) p.ordinal).1)
-  where
-    by_case : ((x : Row) × (p.ordinal < length (rows_at old p.scope)) × (slice_get (rows_at old p.scope) p.ordinal ≡ Some x) × (slice_index_or (rows_at old p.scope) p.ordinal x ≡ x))
-        ⊎ ((length (rows_at old p.scope) ≤ p.ordinal) × (slice_get (rows_at old p.scope) p.ordinal ≡ None))
-        → IsTarget (row_meaning (row_at new p))
-    by_case (inl x) =
-        let ys = more p.scope in
-        let same : row_at new p ≡ row_at old p =
-        ap (λ (rs : List Row). slice_index_or rs p.ordinal (row_of 0 0 Broken)) ys.1 ∙ get_or_append_left (rows_at old p.scope) ys.0 (row_of 0 0 Broken) p.ordinal x.1 in
-        subst (λ (r : Row). IsTarget (row_meaning r)) (sym same) h
-    by_case (inr x) = absurd (subst (λ (r : Row). IsTarget (row_meaning r)) (get_or_past (rows_at old p.scope) p.ordinal (row_of 0 0 Broken) x.0) h)
+-- a row that is there stays
+pub row_stays : (old new : List (List Row)) → Extends old new → (p : Place) → p.ordinal < length (rows_at old p.scope) → row_at new p ≡ row_at old p
+row_stays old new more p there =
+    let ys = more p.scope in
+    ap (λ (rs : List Row). slice_index_or rs p.ordinal (row_of 0 0 Broken)) ys.1 ∙ get_or_append_left (rows_at old p.scope) ys.0 (row_of 0 0 Broken) p.ordinal there
 
 -- a target is there
 pub target_there : (tables : List (List Row)) (p : Place) → IsTarget (row_meaning (row_at tables p)) → p.ordinal < length (rows_at tables p.scope)
@@ -210,12 +168,12 @@ target_there tables p h = by_case ((slice_get_cases (rows_at tables p.scope) p.o
     by_case (inl x) = x.1
     by_case (inr x) = absurd (subst (λ (r : Row). IsTarget (row_meaning r)) (get_or_past (rows_at tables p.scope) p.ordinal (row_of 0 0 Broken) x.0) h)
 
-namable_stays : (old new : List (List Row)) → Extends old new → (m : RowMeaning) → IsNamable old m → IsNamable new m
-namable_stays old new more (Alias p) h = target_stays old new more p h
-namable_stays old new more m h = h
+leads_stay : (old new : List (List Row)) → Extends old new → (m : RowMeaning) → LeadsOn old m → LeadsOn new m
+leads_stay old new more (Alias p) h = subst IsNamedTarget (sym (row_stays old new more p (target_there old p h.1))) h
+leads_stay old new more m h = tt
 
 pub row_stays_clear : (old new : List (List Row)) → Extends old new → (r : Row) → IsClearRow old r → IsClearRow new r
-row_stays_clear old new more r h = (h.0, λ some. namable_stays old new more (row_meaning r) (h.1 some))
+row_stays_clear old new more r h = (h.0, leads_stay old new more (row_meaning r) h.1, h.2)
 
 -- the same rows are as clear
 pub same_clear : (old new : List (List Row)) → ((s : ℕ) → rows_at new s ≡ rows_at old s) → AreClear old → AreClear new
@@ -266,7 +224,7 @@ clear_with scene xs clear h =
 
 -- the rows of the standard scope are clear
 standard_each : (tables : List (List Row)) → Each (IsClearRow tables) standard_rows
-standard_each tables = ((tt, λ h. absurd (h refl)), ((tt, λ h. absurd (h refl)), ((tt, λ h. absurd (h refl)), ((tt, λ h. absurd (h refl)), ((tt, λ h. absurd (h refl)), ((refl, λ h. absurd (h refl)), ((tt, λ h. absurd (h refl)), ((tt, λ h. absurd (h refl)), ((tt, λ h. absurd (h refl)), ((tt, λ h. absurd (h refl)), ((tt, λ h. absurd (h refl)), ((refl, λ h. tt), ((refl, λ h. tt), ((refl, λ h. tt), ((refl, λ h. tt), ((refl, λ h. tt), ((refl, λ h. tt), ((refl, λ h. tt), ((refl, λ h. tt), ((refl, λ h. tt), ((tt, λ h. tt), ((tt, λ h. tt), ((tt, λ h. tt), ((tt, λ h. tt), ((tt, λ h. tt), ((tt, λ h. tt), ((tt, λ h. tt), ((tt, λ h. tt), ((tt, λ h. tt), ((tt, λ h. tt), ((tt, λ h. tt), ((tt, λ h. tt), ((tt, λ h. tt), ((tt, λ h. tt), ((tt, λ h. tt), ((tt, λ h. tt), ((tt, λ h. tt), tt)))))))))))))))))))))))))))))))))))))
+standard_each tables = ((tt, tt, λ h. absurd (h refl)), ((tt, tt, λ h. absurd (h refl)), ((tt, tt, λ h. absurd (h refl)), ((tt, tt, λ h. absurd (h refl)), ((tt, tt, λ h. absurd (h refl)), ((refl, tt, λ h. absurd (h refl)), ((tt, tt, λ h. absurd (h refl)), ((tt, tt, λ h. absurd (h refl)), ((tt, tt, λ h. absurd (h refl)), ((tt, tt, λ h. absurd (h refl)), ((tt, tt, λ h. absurd (h refl)), ((refl, tt, λ h. tt), ((refl, tt, λ h. tt), ((refl, tt, λ h. tt), ((refl, tt, λ h. tt), ((refl, tt, λ h. tt), ((refl, tt, λ h. tt), ((refl, tt, λ h. tt), ((refl, tt, λ h. tt), ((refl, tt, λ h. tt), ((tt, tt, λ h. tt), ((tt, tt, λ h. tt), ((tt, tt, λ h. tt), ((tt, tt, λ h. tt), ((tt, tt, λ h. tt), ((tt, tt, λ h. tt), ((tt, tt, λ h. tt), ((tt, tt, λ h. tt), ((tt, tt, λ h. tt), ((tt, tt, λ h. tt), ((tt, tt, λ h. tt), ((tt, tt, λ h. tt), ((tt, tt, λ h. tt), ((tt, tt, λ h. tt), ((tt, tt, λ h. tt), ((tt, tt, λ h. tt), ((tt, tt, λ h. tt), tt)))))))))))))))))))))))))))))))))))))
 
 pub standard_clear : AreClear (standard_rows ∷ [])
 standard_clear zero o r e = each_at (IsClearRow (standard_rows ∷ [])) standard_rows (standard_each (standard_rows ∷ [])) o r e
@@ -281,14 +239,22 @@ each_index P (x ∷ xs) d h (suc k) l = each_index P xs d h.1 k (omega (arith, l
 named_each : Each (λ (r : Row). IsTarget (row_meaning r)) (named_rows 1 standard_meanings)
 named_each = (tt, (tt, (tt, (tt, (tt, (tt, (tt, (tt, (tt, (tt, (tt, (tt, (tt, (tt, (tt, (tt, (tt, (tt, (tt, (tt, (tt, (tt, (tt, (tt, (tt, (tt, tt))))))))))))))))))))))))))
 
-pub standard_target : (name : ℕ) → is_standard name ≡ true → IsTarget (row_meaning (slice_index_or standard_rows (name + 10) (row_of 0 0 Broken)))
-standard_target name h =
+-- and have names
+named_above : (n : ℕ) (ms : List RowMeaning) → 0 < n → Each (λ (r : Row). r.name ≢ 0) (named_rows n ms)
+named_above n [] h = tt
+named_above n (m ∷ ms) h = (λ (e : n ≡ 0). omega (arith, h, e), named_above (n + 1) ms (omega (arith, h)))
+
+standard_row : (P : Row → Type 0) → Each P (named_rows 1 standard_meanings) → (name : ℕ) → is_standard name ≡ true → P (slice_index_or standard_rows (name + 10) (row_of 0 0 Broken))
+standard_row P all name h =
     let parts = and_parts (nat_le 1 name) (nat_le name 26) h in
     let low = leb-true 1 name parts.0 in
     let high = leb-true name 26 parts.1 in
     let k = name - 1 in
     let types = map (row_of 0 0) (Integer ∷ Cardinal ∷ Character ∷ Enum 2 ∷ Subrange cardinal (pos 0) (pos 31) ∷ Set bit_range ∷ ProcType None 0 6 ∷ Nil ∷ Text ∷ Whole ∷ Broken ∷ []) in
     let same : name + 10 ≡ length types + k = omega (arith, low) in
-    subst (λ (r : Row). IsTarget (row_meaning r))
-    (sym (ap (λ n. slice_index_or standard_rows n (row_of 0 0 Broken)) same ∙ get_or-append-add types (named_rows 1 standard_meanings) k (row_of 0 0 Broken)))
-    (each_index (λ (r : Row). IsTarget (row_meaning r)) (named_rows 1 standard_meanings) (row_of 0 0 Broken) named_each k (omega (arith, low, high)))
+    subst P (sym (ap (λ n. slice_index_or standard_rows n (row_of 0 0 Broken)) same ∙ get_or-append-add types (named_rows 1 standard_meanings) k (row_of 0 0 Broken)))
+    (each_index P (named_rows 1 standard_meanings) (row_of 0 0 Broken) all k (omega (arith, low, high)))
+
+pub standard_target : (name : ℕ) → is_standard name ≡ true → IsNamedTarget (slice_index_or standard_rows (name + 10) (row_of 0 0 Broken))
+standard_target name h =
+    (standard_row (λ (r : Row). r.name ≢ 0) (named_above 1 standard_meanings (omega arith)) name h, standard_row (λ (r : Row). IsTarget (row_meaning r)) named_each name h)

@@ -4,7 +4,7 @@ use Rattle.std.specs.List.{cons_option}
 use Rattle.std.proofs.Common.{ap, subst, sym, ◌∙◌, refl, inl, inr, arith}
 use Rattle.std.proofs.lemmas.Bool.{cases_order}
 use Rattle.std.proofs.lemmas.List.{length-append, get_or_append_left, get_or_at, get_or_past}
-use Rattle.m2_base.specs.Lists.{Each, WhereKept}
+use Rattle.m2_base.specs.Lists.{Each, IsIn, WhereKept}
 use Rattle.m2_base.specs.Rows.{row_meaning}
 use Rattle.m2_base.specs.declared.rows.Place.{Place}
 use Rattle.m2_base.specs.declared.rows.Row.{Row}
@@ -21,6 +21,7 @@ use Rattle.m2_base.specs.Statics.Makes.{scene_with}
 use Rattle.m2_base.specs.Statics.ReadTrees.{IsReadItem}
 use Rattle.m2_base.specs.Statics.TypeParts.{Parameter, parameter_by, parameter_of, parameters_by, rows_between}
 use Rattle.m2_base.specs.Statics.Types.{is_broken, kind_of, stands_for}
+use Rattle.m2_base.specs.Statics.UnitNotes.{complete_context}
 use Rattle.m2_base.specs.Statics.UnitRows.{rows_from, unit_rows}
 use Rattle.m2_base.proofs.ChainLaws.{each_append}
 use Rattle.m2_base.proofs.LayoutLaws.{AreShaped-length, block_shaped}
@@ -28,8 +29,12 @@ use Rattle.m2_base.proofs.NoRepeats.{scene_empty, scene_open}
 use Rattle.m2_base.proofs.SceneLaws.{own-with}
 use Rattle.row_laws.specs.Headings.{AreSoundFor, HasSoundHeadings, HasSoundParameters}
 use Rattle.row_laws.specs.RowRanges.{EachBlock, IsSoundUnit}
-use Rattle.row_laws.proofs.ClearRows.{AreClear, HasClear, HaveClear, IsClearScene, each_at, have_clear, not_broken, other_rows, same_clear, standard_clear}
+use Rattle.row_laws.specs.Clear.{AreClear, HasClear}
+use Rattle.row_laws.proofs.ClearRows.{HaveClear, IsClearScene, each_at, have_clear, not_broken, other_rows, same_clear, standard_clear}
 use Rattle.row_laws.proofs.ClearItems.{AreFew, HasSpace, items_fine}
+use Rattle.row_laws.proofs.MadeBy.{stays}
+use Rattle.row_laws.proofs.Units.{long_from}
+use Rattle.row_laws.proofs.Whole.{whole-above, whole-rows, whole_scene}
 use Rattle.row_laws.proofs.Scenes.{rows_above, rows_before}
 
 -- ** Blocks
@@ -81,7 +86,8 @@ block_fine : (names : List (List ℕ)) (source : Source) (before : List (List Ro
     → Each (IsReadItem names) (items_of b.tree) → (declare_block source before b).diags ≡ [] → IsClearScene (scene_with (scene_of before b.block) (declare_block source before b).rows)
 unfolding declare_block
 block_fine names source before b is space read none =
-    (items_fine names (items_of b.tree) (context_of source before b) b.tree.kind 0 (first_cell (scene_of before b.block) b.tree.kind b.block.own) (scene_clear before b is) space read).clear none
+    let at = is.scope in
+    (items_fine names b.tree (context_of source before b) b.tree.kind (first_cell (scene_of before b.block) b.tree.kind b.block.own) refl (scene_empty before b.block (omega (arith, at))) (scene_clear before b is) space read).clear none
 
 -- the scopes behind a block
 behind_same : (before : List (List Row)) (b : BlockTree) (made : List Row) → b.block.scope ≡ length before → (s : ℕ) → rows_at (before ++ made ∷ []) s ≡ rows_at (scene_with (scene_of before b.block) made).tables s
@@ -115,37 +121,60 @@ few_behind before made few many s = by_order (cases_order s (length before))
 
 -- ** Units
 
-all_clear : (names : List (List ℕ)) (count : ℕ) (source : Source) (blocks : List BlockTree) (before : List (List Row)) → AreConsecutive (length before) blocks → 0 < length before → rows_at before 0 ≡ standard_rows
-    → AreClear before → AreFew before → Each (IsSoundBlock count source) blocks → Each (λ b. Each (IsReadItem names) (items_of b.tree)) blocks → EachBlock (λ ts b. (declare_block source ts b).diags ≡ []) source before blocks
-    → AreClear (rows_from source before blocks)
-all_clear names count source [] before row positive standard clear few sound read none = clear
-all_clear names count source (b ∷ blocks) before row positive standard clear few sound read none =
+-- what a block sees in the end are its own rows, and those before
+seen_same : (all before : List (List Row)) (made : List Row) (b : Block) → b.scope ≡ length before → length before < length all → ((s : ℕ) → s < length (before ++ made ∷ []) → rows_at all s ≡ rows_at (before ++ made ∷ []) s)
+    → (s : ℕ) → rows_at (whole_scene all b).tables s ≡ rows_at (before ++ made ∷ []) s
+seen_same all before made b at there stay s = by_order (cases_order s b.scope)
+  where
+    long : length (before ++ made ∷ []) ≡ length before + 1
+    long = let e = length-append before (made ∷ []) in omega (arith, e)
+
+    by_order : (s ≡ b.scope) ⊎ ((s < b.scope) ⊎ (b.scope < s)) → rows_at (whole_scene all b).tables s ≡ rows_at (before ++ made ∷ []) s
+    by_order (inl same) = whole-rows all b s (omega (arith, at, there)) (omega (arith, same)) ∙ stay s (omega (arith, long, at, same))
+    by_order (inr (inl less)) = whole-rows all b s (omega (arith, at, there)) (omega (arith, less)) ∙ stay s (omega (arith, long, at, less))
+    by_order (inr (inr more)) = whole-above all b s (omega (arith, at, there)) more ∙ sym (get_or_past (before ++ made ∷ []) s [] (omega (arith, long, at, more)))
+
+-- what a block of the unit sees in the end is clear
+abbrev SeesClear : Source → (all : List (List Row)) → BlockTree → Type 0
+SeesClear source all b = AreClear (complete_context source all b.block).scene.tables
+
+all_clear : (names : List (List ℕ)) (count : ℕ) (source : Source) (all : List (List Row)) (blocks : List BlockTree) (before : List (List Row)) → rows_from source before blocks ≡ all → AreConsecutive (length before) blocks → 0 < length before
+    → rows_at before 0 ≡ standard_rows → AreClear before → AreFew before → Each (IsSoundBlock count source) blocks → Each (λ b. Each (IsReadItem names) (items_of b.tree)) blocks
+    → EachBlock (λ ts b. (declare_block source ts b).diags ≡ []) source before blocks → EachBlock (λ ts b. SeesClear source all b) source before blocks
+all_clear names count source all [] before e row positive standard clear few sound read none = tt
+all_clear names count source all (b ∷ blocks) before e row positive standard clear few sound read none =
     let made = (declare_block source before b).rows in
     let next = length-append before (made ∷ []) in
     let one : length before + 1 ≡ length (before ++ made ∷ []) = omega (arith, next) in
     let is : IsBehind before b = record { scope = row.0; positive = positive; standard = standard; clear = clear; few = few } in
     let scene = block_fine names source before b is (block_space count source before b is sound.0) read.0 none.0 in
-    let same = behind_same before b made row.0 in
-    all_clear names count source blocks (before ++ made ∷ []) (subst (λ n. AreConsecutive n blocks) one row.1) (omega (arith, next)) (get_or_append_left before (made ∷ []) [] 0 positive ∙ standard)
-    (same_clear (scene_with (scene_of before b.block) made).tables (before ++ made ∷ []) same scene.rows)
-    (few_behind before made few (block_few count source before b sound.0)) sound.1 read.1 none.1
+    let more : AreClear (before ++ made ∷ []) = same_clear (scene_with (scene_of before b.block) made).tables (before ++ made ∷ []) (behind_same before b made row.0) scene.rows in
+    let long = long_from source (b ∷ blocks) before in
+    let whole = ap length e in
+    let seen = seen_same all before made b.block row.0 (omega (arith, long, whole)) (λ s h. sym (ap (λ (ts : List (List Row)). rows_at ts s) e) ∙ stays source blocks (before ++ made ∷ []) s h) in (
+      same_clear (before ++ made ∷ []) (whole_scene all b.block).tables seen more,
+      all_clear names count source all blocks (before ++ made ∷ []) e (subst (λ n. AreConsecutive n blocks) one row.1) (omega (arith, next)) (get_or_append_left before (made ∷ []) [] 0 positive ∙ standard) more
+          (few_behind before made few (block_few count source before b sound.0)) sound.1 read.1 none.1,
+    )
 
 standard_few : AreFew (standard_rows ∷ [])
 standard_few zero = omega arith
 standard_few (suc s) = omega arith
 
-unit_clear : (names : List (List ℕ)) (u : UnitTrees) → IsSoundUnit names u → Each (λ b. Each (IsReadItem names) (items_of b.tree)) (blocks_of u)
-    → EachBlock (λ before b. (declare_block u.source before b).diags ≡ []) u.source (standard_rows ∷ []) (blocks_of u) → HaveClear (unit_rows u)
+pub unit_clear : (names : List (List ℕ)) (u : UnitTrees) → IsSoundUnit names u → Each (λ b. Each (IsReadItem names) (items_of b.tree)) (blocks_of u)
+    → EachBlock (λ before b. (declare_block u.source before b).diags ≡ []) u.source (standard_rows ∷ []) (blocks_of u)
+    → EachBlock (λ before b. AreClear (complete_context u.source (unit_rows u) b.block).scene.tables) u.source (standard_rows ∷ []) (blocks_of u)
 unfolding unit_rows
 unit_clear names u is read none =
-    have_clear (rows_from u.source (standard_rows ∷ []) (blocks_of u))
-    (all_clear names (length names) u.source (blocks_of u) (standard_rows ∷ []) is.scopes (omega arith) refl standard_clear standard_few is.blocks read none)
+    all_clear names (length names) u.source (unit_rows u) (blocks_of u) (standard_rows ∷ []) refl is.scopes (omega arith) refl standard_clear standard_few is.blocks read none
+
+-- what holds of each block, whatever stands before it, holds of one of them
+in_blocks : (P : BlockTree → Type 0) (source : Source) (blocks : List BlockTree) (before : List (List Row)) → EachBlock (λ ts b. P b) source before blocks → (b : BlockTree) → IsIn b blocks → P b
+in_blocks P source [] before h b i = absurd i
+in_blocks P source (x ∷ blocks) before h b (inl e) = subst P (sym e) h.0
+in_blocks P source (x ∷ blocks) before h b (inr i) = in_blocks P source blocks (before ++ (declare_block source before x).rows ∷ []) h.1 b i
 
 -- ** Headings
-
--- each row of each scope
-abbrev AllClear : List (List Row) → Type 0
-AllClear tables = Each (λ rows. Each (λ (r : Row). HasClear (row_meaning r)) rows) tables
 
 each_from : {A : Type 0} (P : A → Type 0) (xs : List A) → ((k : ℕ) (x : A) → slice_get xs k ≡ Some x → P x) → Each P xs
 each_from P [] f = tt
@@ -160,26 +189,6 @@ each_drop : {A : Type 0} (P : A → Type 0) (n : ℕ) (xs : List A) → Each P x
 each_drop P zero xs h = h
 each_drop P (suc n) [] h = tt
 each_drop P (suc n) (x ∷ xs) h = each_drop P n xs h.1
-
-each_table : (tables : List (List Row)) → HaveClear tables → AllClear tables
-each_table [] h = tt
-each_table (rows ∷ tables) h = (each_from (λ (r : Row). HasClear (row_meaning r)) rows (h 0), each_table tables (λ s. h (suc s)))
-
-scope_clear : (tables : List (List Row)) → AllClear tables → (s : ℕ) → Each (λ (r : Row). HasClear (row_meaning r)) (rows_at tables s)
-scope_clear [] h s = tt
-scope_clear (rows ∷ tables) h zero = h.0
-scope_clear (rows ∷ tables) h (suc s) = scope_clear tables h.1 s
-
-table_clear : (tables : List (List Row)) → AllClear tables → HaveClear tables
-table_clear tables h s o r e = each_at (λ (x : Row). HasClear (row_meaning x)) (rows_at tables s) (scope_clear tables h s) o r e
-
--- what a block of the unit sees in the end is clear
-counted_clear : (all : List (List Row)) (b : Block) → HaveClear all → HaveClear (counting all b (rows_at all b.scope)).tables
-counted_clear all b h =
-    let each = each_table all h in
-    table_clear (take b.scope all ++ rows_at all b.scope ∷ [])
-    (each_append (λ (rows : List Row). Each (λ (r : Row). HasClear (row_meaning r)) rows) (take b.scope all) (rows_at all b.scope ∷ [])
-    (each_take (λ (rows : List Row). Each (λ (r : Row). HasClear (row_meaning r)) rows) b.scope all each) (scope_clear all each b.scope, tt))
 
 module _ (scene : Scene) (clear : HaveClear scene.tables) where
   abbrev IsSound : Parameter → Type 0
@@ -221,8 +230,10 @@ module _ (scene : Scene) (clear : HaveClear scene.tables) where
   all_sound [] = tt
   all_sound (r ∷ rows) = (row_sound (row_meaning r), all_sound rows)
 
-scope_sound : (u : UnitTrees) → HaveClear (unit_rows u) → (s : ℕ) → AreSoundFor u s
-scope_sound u clear s b there home = all_sound (counting (unit_rows u) b.block (rows_at (unit_rows u) b.block.scope)) (counted_clear (unit_rows u) b.block clear) (rows_at (unit_rows u) s)
+scope_sound : (u : UnitTrees) → EachBlock (λ before b. AreClear (complete_context u.source (unit_rows u) b.block).scene.tables) u.source (standard_rows ∷ []) (blocks_of u) → (s : ℕ) → AreSoundFor u s
+scope_sound u clear s b there home =
+    let scene = (complete_context u.source (unit_rows u) b.block).scene in
+    all_sound scene (have_clear scene.tables (in_blocks (λ (q : BlockTree). AreClear (complete_context u.source (unit_rows u) q.block).scene.tables) u.source (blocks_of u) (standard_rows ∷ []) clear b there)) (rows_at (unit_rows u) s)
 
 pub unit_headings : (names : List (List ℕ)) (u : UnitTrees) → IsSoundUnit names u → Each (λ b. Each (IsReadItem names) (items_of b.tree)) (blocks_of u)
     → EachBlock (λ before b. (declare_block u.source before b).diags ≡ []) u.source (standard_rows ∷ []) (blocks_of u) → HasSoundHeadings u

@@ -29,6 +29,8 @@ pub mod ClearRows
 pub mod ClearNotes
 pub mod ClearOperations
 pub mod ClearConstants
+pub mod ClearTargets
 pub mod ClearTypes
+pub mod ClearImports
 pub mod ClearItems
 pub mod ClearUnits

@@ -124,7 +124,7 @@ kind_leads r m a =
     (either LeadsNowhere (r.kind == opaque_kind) _ _ tt tt))))))))))))))))))
 
 -- no shape is a module's or an alias's
-abbrev AreOwn : List Shape → Type 0
+abbrev pub AreOwn : List Shape → Type 0
 AreOwn shapes = Each (λ (s : Shape). ((s.kind == module_kind) ≡ false) × ((s.kind == alias_kind) ≡ false)) shapes
 
 own_append : (xs ys : List Shape) → AreOwn xs → AreOwn ys → AreOwn (xs ++ ys)
@@ -133,7 +133,7 @@ own_append xs ys h k = each_append (λ (s : Shape). ((s.kind == module_kind) ≡
 plain_own : (shapes : List Shape) → ArePlain shapes → AreOwn shapes
 plain_own shapes h = each_then (λ (s : Shape). IsPlainKind s.kind) (λ (s : Shape). ((s.kind == module_kind) ≡ false) × ((s.kind == alias_kind) ≡ false)) shapes (λ s k. (k.1, k.2)) h
 
-decl_own : (d : Decl) → AreOwn (item_shapes (decl_item d))
+pub decl_own : (d : Decl) → AreOwn (item_shapes (decl_item d))
 decl_own (const_decl name value) = ((refl, refl), tt)
 decl_own (type_decl name t) = own_append (type_item_shapes name t) _ (plain_own _ (type_item_plain name t)) ((refl, refl), tt)
 decl_own (vars_decl idents t) = own_append (type_shapes t) _ (plain_own _ (type_plain t)) (plain_own _ (mapped (named var_kind) idents (λ i. (refl, refl, refl))))

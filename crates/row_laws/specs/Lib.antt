@@ -5,3 +5,4 @@ pub mod TextTrees
 pub mod Definitions
 pub mod UnitBlocks
 pub mod Headings
+pub mod Clear

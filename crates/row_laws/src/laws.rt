@@ -18,6 +18,7 @@ ghost use Rattle.m2_base.specs.Trees.{Stream};
 ghost use Rattle.m2_base.specs.Units.{UnitTexts};
 ghost use Rattle.m2_base.specs.declared.token.Token.{Token};
 ghost use Rattle.m2_base.specs.declared.trees.declarations.StreamKind.{StreamKind as KindOfStream};
+ghost use Rattle.row_laws.specs.Clear.{AreClear};
 ghost use Rattle.row_laws.specs.Headings.{HasSoundHeadings};
 ghost use Rattle.row_laws.specs.Procedures.{ProceduresAreDeclared};
 ghost use Rattle.row_laws.specs.RowRanges.{BlockInRange, CellsAreThere, EachBlock, IsSoundUnit, OwnCellsAreThere};
@@ -68,4 +69,10 @@ pub fn blocks_have_their_forms()
 /// is in error, seen from the module's block. The names in the trees aren't empty: rows without a name are found by the empty one.
 pub fn headings_are_sound()
     ensures { (names : List (List ℕ)) (u : UnitTrees) → IsSoundUnit names u → Each (λ b. Each (IsReadItem names) (items_of b.tree)) (blocks_of u) → EachBlock (λ before b. (declare_block u.source before b).diags ≡ []) u.source (standard_rows ∷ []) (blocks_of u) → HasSoundHeadings u }
+{}
+
+/// In a unit whose declarations have no diagnostic all rows in sight of a block are clear: no part of them is in error, and each name
+/// leads to something.
+pub fn rows_are_clear()
+    ensures { (names : List (List ℕ)) (u : UnitTrees) → IsSoundUnit names u → Each (λ b. Each (IsReadItem names) (items_of b.tree)) (blocks_of u) → EachBlock (λ before b. (declare_block u.source before b).diags ≡ []) u.source (standard_rows ∷ []) (blocks_of u) → EachBlock (λ before b. AreClear (complete_context u.source (unit_rows u) b.block).scene.tables) u.source (standard_rows ∷ []) (blocks_of u) }
 {}
