@@ -40,7 +40,7 @@ each-of P source before [] f = tt
 each-of P source before (b ∷ blocks) f = (f.0, each-of P source (before ++ (declare_block source before b).rows ∷ []) blocks f.1)
 
 -- a block without a diagnostic has none in its declarations
-declared-none : (source : Source) (before all : List (List Row)) (b : BlockTree) → block_diags source before all b ≡ [] → (declare_block source before b).diags ≡ []
+pub declared-none : (source : Source) (before all : List (List Row)) (b : BlockTree) → block_diags source before all b ≡ [] → (declare_block source before b).diags ≡ []
 declared-none source before all b e =
     let c = complete_context source all b.block in
     let d = declare_block source before b in
@@ -55,10 +55,10 @@ code-valid names texts u sound told read items few none =
     let headings : HasSoundHeadings u = unit_headings names u sound items
     (each_block_then (λ before b. block_diags u.source before (unit_rows u) b ≡ []) (λ before b. (declare_block u.source before b).diags ≡ []) u.source (blocks_of u) (standard_rows ∷ [])
     (λ before b e. declared-none u.source before (unit_rows u) b e) none) in
-    let is : IsClear names u = record { sound = sound; blocks = blocks_read texts u told; read = read; none = none } in
+    let is : IsClear names u = record { sound = sound; blocks = blocks_read texts u told; none = none } in
     let sight : Each (λ (b : BlockTree). Sees (IsInSight b.block) (complete_context u.source (unit_rows u) b.block).scene) (blocks_of u) =
     each-of (λ (b : BlockTree). Sees (IsInSight b.block) (complete_context u.source (unit_rows u) b.block).scene) u.source (standard_rows ∷ []) (blocks_of u) (blocks-see names u sound (trees_read texts u told)) in
     unit_all u sound.scopes (λ before b. home_of u ≤ b.block.scope → IsValidCode (unit_world u) (b.block.scope - home_of u) (procedure_of (block_code u.source before (unit_rows u) b)))
-    (λ b i behind. block-valid-in-unit names u is (implements names u is headings b i behind (headings-named names u is items b i behind)) b i behind
+    (λ b i behind. block-valid-in-unit names u is read (implements names u is headings b i behind (headings-named names u is items b i behind)) b i behind
     (in_each (λ (c : BlockTree). Sees (IsInSight c.block) (complete_context u.source (unit_rows u) c.block).scene) (blocks_of u) b sight i)
     (in_each (λ (c : BlockTree). block_tokens c.tree ≤ 1048576) (blocks_of u) b few i))

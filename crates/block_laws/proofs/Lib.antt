@@ -26,3 +26,4 @@ pub mod NamedHeadings
 pub mod CodeIsValid
 pub mod StatementsRead
 pub mod MainBlocks
+pub mod WholeRows

@@ -97,7 +97,6 @@ notes_of u s = slice_index_or (of_blocks (λ before b. (declare_block u.source b
 pub record IsClear (names : List (List ℕ)) (u : UnitTrees) : Type 0 where
   pub sound : IsSoundUnit names u
   pub blocks : HasItsBlocks u
-  pub read : Each (λ b. AreReadStatements names b.tree.body) (blocks_of u)
   pub none : EachBlock (λ before b. block_diags u.source before (unit_rows u) b ≡ []) u.source (standard_rows ∷ []) (blocks_of u)
 
 module _ (names : List (List ℕ)) (u : UnitTrees) (is : IsClear names u) where
@@ -119,9 +118,6 @@ module _ (names : List (List ℕ)) (u : UnitTrees) (is : IsClear names u) where
   pub told : (b : BlockTree) → IsIn b (blocks_of u) → block_diags u.source (before_of u b) (unit_rows u) b ≡ []
   told b i = unit_each u is.sound.scopes (λ before c. block_diags u.source before (unit_rows u) c ≡ []) is.none b i
 
-  pub reads : (b : BlockTree) → IsIn b (blocks_of u) → AreReadStatements names b.tree.body
-  reads b i = in_each (λ c. AreReadStatements names c.tree.body) (blocks_of u) b is.read i
-
   pub cells : (b : BlockTree) → IsIn b (blocks_of u) → CellsAreThere (made b).rows (made b).value
   cells b i = unit_each u is.sound.scopes (λ before c. CellsAreThere (declare_block u.source before c).rows (declare_block u.source before c).value) (unit_cells names u is.sound) b i
 
@@ -142,12 +138,6 @@ module _ (names : List (List ℕ)) (u : UnitTrees) (is : IsClear names u) where
       by_order (inr (inl e)) = absurd (omega (arith, e, behind))
       by_order (inr (inr e)) = subst HasCode (sym ((form b i).procedure e)) tt
 
-  leads : (b : BlockTree) → IsIn b (blocks_of u) → first_cell b.tree.kind (made b).value.cell ≤ (run b).next.cell
-  leads b i = (block-leads names u.source (before_of u b) (unit_rows u) b (ranges b i) (reads b i)).cells
-
-  pub has_room : (b : BlockTree) → IsIn b (blocks_of u) → home_of u ≤ b.block.scope → HasRoom (made b).value (run b)
-  has_room b i behind = room (context b) b b.tree.kind (made b).value (run b) (form b i).name (coded b i behind) (form b i).named (leads b i) (sized b i)
-
   -- ** Procedures
 
   pub has_procedure : (b : BlockTree) → IsIn b (blocks_of u) → home_of u ≤ b.block.scope → slice_get (unit_world u).procedures (b.block.scope - home_of u) ≡ Some (procedure_of (block_code u.source (before_of u b) (unit_rows u) b))
@@ -157,45 +147,6 @@ module _ (names : List (List ℕ)) (u : UnitTrees) (is : IsClear names u) where
       at_drop (length u.definitions) (of_blocks (λ before c. procedure_of (block_code u.source before (unit_rows u) c)) u) (b.block.scope - home_of u)
       ∙ ap (slice_get (of_blocks (λ before c. procedure_of (block_code u.source before (unit_rows u) c)) u)) place
       ∙ unit_over u is.sound.scopes (λ before c. procedure_of (block_code u.source before (unit_rows u) c)) b i
-
-  frame : (b : BlockTree) → IsIn b (blocks_of u) → home_of u < b.block.scope → Each (λ r. IsBelow (run b).next.cell (row_meaning r)) (rows_at (unit_rows u) b.block.scope)
-  frame b i far =
-      let first : first_cell b.tree.kind (made b).value.cell ≡ (made b).value.cell = ap (λ (k : StreamKind). first_cell k (made b).value.cell) ((form b i).procedure far) in
-      let more = leads b i in
-      subst (Each (λ (r : Row). IsBelow (run b).next.cell (row_meaning r))) (sym (unit_made u is.sound.scopes b i))
-      (rows_more (made b).value.cell (run b).next.cell (made b).rows (omega (arith, first, more)) ((cells b i).variables (has_room b i (omega (arith, far))).own))
-
-  procedure : (b : BlockTree) → IsIn b (blocks_of u) → home_of u ≤ b.block.scope → HasProcedure (unit_world u) (home_of u) (unit_rows u) b
-  procedure b i behind = record {
-    p = procedure_of (block_code u.source (before_of u b) (unit_rows u) b);
-    there = has_procedure b i behind;
-    outer = refl;
-    params = refl;
-    result = refl;
-    cells = λ far. frame b i far;
-  }
-
-  -- ** The module's cells
-
-  module_cells : (b : BlockTree) → IsIn b (blocks_of u) → b.block.scope ≡ home_of u → (unit_world u).cells ≡ (made b).value.cell
-  module_cells b i e =
-      let place : length u.definitions ≡ b.block.scope - 1 = omega (arith, e) in
-      ap (λ (n : ℕ). slice_index_or (of_blocks (λ before c. (declare_block u.source before c).value.cell) u) n 0) place
-      ∙ get_or_from_slice_get (of_blocks (λ before c. (declare_block u.source before c).value.cell) u) (b.block.scope - 1) (made b).value.cell 0
-      (unit_over u is.sound.scopes (λ before c. (declare_block u.source before c).value.cell) b i)
-
-  global : (b : BlockTree) → IsIn b (blocks_of u) → b.block.scope ≡ home_of u → Each (λ r. IsBelow (unit_world u).cells (row_meaning r)) (rows_at (unit_rows u) (home_of u))
-  global b i e =
-      let first = module_cells b i e in
-      subst (λ (s : ℕ). Each (λ (r : Row). IsBelow (unit_world u).cells (row_meaning r)) (rows_at (unit_rows u) s)) e
-      (subst (Each (λ (r : Row). IsBelow (unit_world u).cells (row_meaning r))) (sym (unit_made u is.sound.scopes b i))
-      (rows_more (made b).value.cell (unit_world u).cells (made b).rows (omega (arith, first)) ((cells b i).variables (has_room b i (omega (arith, e))).own)))
-
-  own_global : (b : BlockTree) → IsIn b (blocks_of u) → b.block.scope ≡ home_of u → b.block.own ≡ u.own → (s : ℕ) → u.own ≡ Some s → Each (λ r. IsBelow (unit_world u).cells (row_meaning r)) (rows_at (unit_rows u) s)
-  own_global b i e own s f =
-      let first = module_cells b i e in
-      let there = own_cells b i s ((form b i).module_kind e) ((form b i).module_heading e) (own ∙ f) in
-      rows_more (made b).value.cell (unit_world u).cells (rows_at (unit_rows u) s) (omega (arith, first)) (there.variables (has_room b i (omega (arith, e))).own)
 
   -- ** Imports
 
@@ -261,17 +212,68 @@ module _ (names : List (List ℕ)) (u : UnitTrees) (is : IsClear names u) where
     implemented = implemented;
   }
 
-  pub furnishes : (b : BlockTree) → IsIn b (blocks_of u) → home_of u ≤ b.block.scope → Furnishes u (unit_world u) (unit_rows u) (notes_of u)
-  furnishes b i behind =
-      let home = earlier b i (home_of u) (omega arith) behind in
-      let own = (in_main u home.0 home.1 (let same = home.2 in omega (arith, same))).own in
-      record {
-        standard = (unit_whole names u is.sound).standard;
-        procedures = λ q j far. procedure q j far;
-        cells = global home.0 home.1 home.2;
-        own_cells = λ s e. own_global home.0 home.1 home.2 own s e;
-        imports = λ s positive low other.
-            let q = earlier b i s positive (omega (arith, low, behind)) in
-            let same = q.2 in
-            subst (λ (z : ℕ). HasImport (unit_world u) u.own (unit_rows u) (notes_of u z) z) same (import q.0 q.1 (omega (arith, same, low)) (λ e. other (e ∙ ap (λ (z : ℕ). Some z) same)));
-      }
+  -- ** Where the statements are read
+
+  module _ (read : Each (λ b. AreReadStatements names b.tree.body) (blocks_of u)) where
+    pub reads : (b : BlockTree) → IsIn b (blocks_of u) → AreReadStatements names b.tree.body
+    reads b i = in_each (λ c. AreReadStatements names c.tree.body) (blocks_of u) b read i
+
+    leads : (b : BlockTree) → IsIn b (blocks_of u) → first_cell b.tree.kind (made b).value.cell ≤ (run b).next.cell
+    leads b i = (block-leads names u.source (before_of u b) (unit_rows u) b (ranges b i) (reads b i)).cells
+
+    pub has_room : (b : BlockTree) → IsIn b (blocks_of u) → home_of u ≤ b.block.scope → HasRoom (made b).value (run b)
+    has_room b i behind = room (context b) b b.tree.kind (made b).value (run b) (form b i).name (coded b i behind) (form b i).named (leads b i) (sized b i)
+
+    frame : (b : BlockTree) → IsIn b (blocks_of u) → home_of u < b.block.scope → Each (λ r. IsBelow (run b).next.cell (row_meaning r)) (rows_at (unit_rows u) b.block.scope)
+    frame b i far =
+        let first : first_cell b.tree.kind (made b).value.cell ≡ (made b).value.cell = ap (λ (k : StreamKind). first_cell k (made b).value.cell) ((form b i).procedure far) in
+        let more = leads b i in
+        subst (Each (λ (r : Row). IsBelow (run b).next.cell (row_meaning r))) (sym (unit_made u is.sound.scopes b i))
+        (rows_more (made b).value.cell (run b).next.cell (made b).rows (omega (arith, first, more)) ((cells b i).variables (has_room b i (omega (arith, far))).own))
+
+    procedure : (b : BlockTree) → IsIn b (blocks_of u) → home_of u ≤ b.block.scope → HasProcedure (unit_world u) (home_of u) (unit_rows u) b
+    procedure b i behind = record {
+      p = procedure_of (block_code u.source (before_of u b) (unit_rows u) b);
+      there = has_procedure b i behind;
+      outer = refl;
+      params = refl;
+      result = refl;
+      cells = λ far. frame b i far;
+    }
+
+    -- ** The module's cells
+
+    module_cells : (b : BlockTree) → IsIn b (blocks_of u) → b.block.scope ≡ home_of u → (unit_world u).cells ≡ (made b).value.cell
+    module_cells b i e =
+        let place : length u.definitions ≡ b.block.scope - 1 = omega (arith, e) in
+        ap (λ (n : ℕ). slice_index_or (of_blocks (λ before c. (declare_block u.source before c).value.cell) u) n 0) place
+        ∙ get_or_from_slice_get (of_blocks (λ before c. (declare_block u.source before c).value.cell) u) (b.block.scope - 1) (made b).value.cell 0
+        (unit_over u is.sound.scopes (λ before c. (declare_block u.source before c).value.cell) b i)
+
+    global : (b : BlockTree) → IsIn b (blocks_of u) → b.block.scope ≡ home_of u → Each (λ r. IsBelow (unit_world u).cells (row_meaning r)) (rows_at (unit_rows u) (home_of u))
+    global b i e =
+        let first = module_cells b i e in
+        subst (λ (s : ℕ). Each (λ (r : Row). IsBelow (unit_world u).cells (row_meaning r)) (rows_at (unit_rows u) s)) e
+        (subst (Each (λ (r : Row). IsBelow (unit_world u).cells (row_meaning r))) (sym (unit_made u is.sound.scopes b i))
+        (rows_more (made b).value.cell (unit_world u).cells (made b).rows (omega (arith, first)) ((cells b i).variables (has_room b i (omega (arith, e))).own)))
+
+    own_global : (b : BlockTree) → IsIn b (blocks_of u) → b.block.scope ≡ home_of u → b.block.own ≡ u.own → (s : ℕ) → u.own ≡ Some s → Each (λ r. IsBelow (unit_world u).cells (row_meaning r)) (rows_at (unit_rows u) s)
+    own_global b i e own s f =
+        let first = module_cells b i e in
+        let there = own_cells b i s ((form b i).module_kind e) ((form b i).module_heading e) (own ∙ f) in
+        rows_more (made b).value.cell (unit_world u).cells (rows_at (unit_rows u) s) (omega (arith, first)) (there.variables (has_room b i (omega (arith, e))).own)
+
+    pub furnishes : (b : BlockTree) → IsIn b (blocks_of u) → home_of u ≤ b.block.scope → Furnishes u (unit_world u) (unit_rows u) (notes_of u)
+    furnishes b i behind =
+        let home = earlier b i (home_of u) (omega arith) behind in
+        let own = (in_main u home.0 home.1 (let same = home.2 in omega (arith, same))).own in
+        record {
+          standard = (unit_whole names u is.sound).standard;
+          procedures = λ q j far. procedure q j far;
+          cells = global home.0 home.1 home.2;
+          own_cells = λ s e. own_global home.0 home.1 home.2 own s e;
+          imports = λ s positive low other.
+              let q = earlier b i s positive (omega (arith, low, behind)) in
+              let same = q.2 in
+              subst (λ (z : ℕ). HasImport (unit_world u) u.own (unit_rows u) (notes_of u z) z) same (import q.0 q.1 (omega (arith, same, low)) (λ e. other (e ∙ ap (λ (z : ℕ). Some z) same)));
+        }

@@ -32,6 +32,7 @@ use Rattle.stmt_sem.specs.BlockCode.{block_code, first_cell}
 use Rattle.stmt_sem.specs.Tokens.{block_tokens}
 use Rattle.block_laws.specs.Named.{BlockNamesThere, procedure_of}
 use Rattle.block_laws.specs.Sight.{IsDeclared, IsInSight, RowsNameThere, Sees}
+use Rattle.block_laws.specs.ReadStatements.{AreReadStatements}
 use Rattle.block_laws.specs.Worlds.{unit_world}
 use Rattle.block_laws.proofs.BlocksAt.{before_of}
 use Rattle.block_laws.proofs.Named.{block-code-valid}
@@ -82,7 +83,7 @@ first_below t Open o n h = omega (arith, h)
 first_below t Plain o n h = h
 first_below t ByAddress o n h = h
 
-module _ (names : List (List ℕ)) (u : UnitTrees) (is : IsClear names u) (implemented : AreImplemented u) (b : BlockTree) (i : IsIn b (blocks_of u)) (behind : home_of u ≤ b.block.scope)
+module _ (names : List (List ℕ)) (u : UnitTrees) (is : IsClear names u) (read : Each (λ b. AreReadStatements names b.tree.body) (blocks_of u)) (implemented : AreImplemented u) (b : BlockTree) (i : IsIn b (blocks_of u)) (behind : home_of u ≤ b.block.scope)
     (sees : Sees (IsInSight b.block) (complete_context u.source (unit_rows u) b.block).scene) where
   abbrev scene : Scene
   scene = (complete_context u.source (unit_rows u) b.block).scene
@@ -94,7 +95,7 @@ module _ (names : List (List ℕ)) (u : UnitTrees) (is : IsClear names u) (imple
   known = declares names u is implemented
 
   has : Furnishes u (unit_world u) (unit_rows u) (notes_of u)
-  has = furnishes names u is b i behind
+  has = furnishes names u is read b i behind
 
   row_here : (name : ℕ) (m : RowMeaning) (d : IsDeclared (IsInSight b.block) scene name m) → slice_get (rows_at (unit_rows u) d.place.scope) d.place.ordinal ≡ Some d.row
   row_here name m d =
@@ -146,4 +147,4 @@ module _ (names : List (List ℕ)) (u : UnitTrees) (is : IsClear names u) (imple
   pub block-valid-in-unit : block_tokens b.tree ≤ 1048576 → IsValidCode (unit_world u) (b.block.scope - home_of u) p
   block-valid-in-unit few =
       block-code-valid (IsInSight b.block) names u.source (before_of u b) (unit_rows u) b (unit_world u) (b.block.scope - home_of u) names-there
-      (ranges names u is b i) (reads names u is b i) few (told names u is b i)
+      (ranges names u is b i) (reads names u is read b i) few (told names u is b i)

@@ -3,6 +3,7 @@ ghost use Rattle.std.specs.Prelude.{◌≡◌, ℕ, ◌-◌, ◌≤◌, List, []
 ghost use Rattle.ll_grammar.specs.Texts.{Spells};
 ghost use Rattle.code_form.specs.Modules.{World};
 ghost use Rattle.code_form.specs.Valid.{IsValidCode};
+ghost use Rattle.expr_sem.specs.Whole.{AreWhole};
 ghost use Rattle.m2_base.specs.declared.rows.Row.{Row};
 ghost use Rattle.m2_base.specs.Grammar.{grammar, levels, stream};
 ghost use Rattle.m2_base.specs.Finished.{AreRead};
@@ -82,4 +83,12 @@ pub fn code_is_valid()
 pub fn main_blocks_are_coded()
     ensures coded { (names : List (List ℕ)) (u : UnitTrees) → IsSoundUnit names u → AreOfTexts u → EachBlock (λ before b. home_of u ≤ b.block.scope → IsMainBlock u.source before b) u.source (standard_rows ∷ []) (blocks_of u) }
     ensures sight { (names : List (List ℕ)) (u : UnitTrees) → IsSoundUnit names u → AreOfTexts u → EachBlock (λ before b. Sees (IsInSight b.block) (complete_context u.source (unit_rows u) b.block).scene) u.source (standard_rows ∷ []) (blocks_of u) }
+{}
+
+/// In a unit in which no block has a diagnostic no row in sight of a block has a part in error: so what is in error in its statements
+/// was refused there (`expr_sem`'s law on causes), and no code is lost without a word.
+pub fn rows_are_whole()
+    ensures { (names : List (List ℕ)) (texts : UnitTexts) (u : UnitTrees) → IsSoundUnit names u → AreRead texts u → Each (λ b. Each (IsReadItem names) (items_of b.tree)) (blocks_of u)
+        → EachBlock (λ before b. block_diags u.source before (unit_rows u) b ≡ []) u.source (standard_rows ∷ []) (blocks_of u)
+        → EachBlock (λ before b. AreWhole (complete_context u.source (unit_rows u) b.block).scene) u.source (standard_rows ∷ []) (blocks_of u) }
 {}

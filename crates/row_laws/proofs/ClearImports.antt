@@ -13,7 +13,7 @@ use Rattle.m2_base.specs.Statics.Contexts.{Context}
 use Rattle.m2_base.specs.Statics.Items.{Item, decl_item, heading_item, heading_items, import_item, import_items}
 use Rattle.m2_base.specs.Statics.Layouts.{names_from, names_of_item}
 use Rattle.m2_base.specs.Statics.Makes.{scene_with, with_rows}
-use Rattle.m2_base.specs.Statics.ShapedRows.{AreShaped, more_of, none_of}
+use Rattle.m2_base.specs.Statics.ShapedRows.{AreShaped, more_of}
 use Rattle.m2_base.specs.Statics.Shapes.{Shape, item_shapes}
 use Rattle.m2_base.proofs.ChainLaws.{each_append, each_then}
 use Rattle.m2_base.proofs.LayoutLaws.{AreShaped-length}

@@ -38,7 +38,7 @@ use Rattle.m2_base.specs.declared.operands.Operand.TheVariants.{Constant, String
 use Rattle.m2_base.proofs.RowLaws.{place_of-number_of}
 use Rattle.m2_base.proofs.SceneLaws.{IsOpen, own_of, own-with, with-none}
 use Rattle.m2_base.proofs.SoundTypes.{either}
-use Rattle.row_laws.specs.Clear.{IsNamedTarget, LeadsOn, HasClear, IsClear, IsNamable, IsTarget}
+use Rattle.row_laws.specs.Clear.{IsNamedTarget, LeadsOn, HasClear, IsClear, IsNamable}
 use Rattle.row_laws.proofs.ClearRows.{IsClearScene, clear_again, other_rows, target_there}
 use Rattle.row_laws.proofs.ClearNotes.{IsEntry, MakesFine, chain, done, named_fine, only, qual_fine, row_fine, use_fine}
 use Rattle.row_laws.proofs.ClearConstants.{IsConstant, constant_fine}

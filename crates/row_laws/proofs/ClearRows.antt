@@ -9,14 +9,14 @@ use Rattle.m2_base.specs.Rows.{at_place, is_same_place, number_of, place_of, row
 use Rattle.m2_base.specs.declared.rows.Place.{Place}
 use Rattle.m2_base.specs.declared.rows.Row.{Row}
 use Rattle.m2_base.specs.declared.rows.RowMeaning.{RowMeaning}
-use Rattle.m2_base.specs.declared.rows.RowMeaning.TheVariants.{Alias, Broken, Cardinal, Character, Const, Enum, Integer, Module, Nil, Opaque, OpenArray, Param, Proc, ProcType, Set, Standard, Subrange, Text, TypeName, Var, Whole}
+use Rattle.m2_base.specs.declared.rows.RowMeaning.TheVariants.{Alias, Broken, Cardinal, Character, Enum, Integer, Nil, Opaque, ProcType, Set, Subrange, Text, TypeName, Whole}
 use Rattle.m2_base.specs.Standard.{bit_range, broken, cardinal, is_standard, named_rows, standard_meanings, standard_rows}
 use Rattle.m2_base.specs.Tables.{first_named, found_or, lookup, rows_at}
 use Rattle.m2_base.specs.Statics.Contexts.{Scene, row_at}
 use Rattle.m2_base.specs.Statics.Lookup.{Entry, entry_in}
 use Rattle.m2_base.specs.Statics.Makes.{scene_with}
 use Rattle.m2_base.specs.Statics.Types.{declared_as, is_broken, meaning_at, named_or, opaque_as, stands_as, stands_for, type_named, unless_opaque}
-use Rattle.row_laws.specs.Clear.{AreClear, HasClear, IsClear, IsClearRow, IsNamable, IsNamedTarget, IsTarget, LeadsOn}
+use Rattle.row_laws.specs.Clear.{AreClear, HasClear, IsClear, IsClearRow, IsNamedTarget, IsTarget, LeadsOn}
 use Rattle.m2_base.proofs.NoRepeats.{some_is}
 use Rattle.m2_base.proofs.SceneLaws.{IsOpen, open-with, own_of, own-with}
 use Rattle.m2_base.proofs.SoundTypes.{either}

@@ -1,8 +1,7 @@
 -- What a pointer type points to in a clear scene, where that has no diagnostic: a name of the block may be declared later, but what
 -- it imports is there.
-use Rattle.std.specs.Prelude.{◌≡◌, ℕ, zero, suc, ◌+◌, ◌<◌, ◌==◌, Bool, true, false, if◌then◌else◌, List, [], ◌∷◌, ◌++◌, is_none, not, ◌&&◌, slice_get, slice_index_or, Option, Some, None}
-use Rattle.std.proofs.Common.{ap, subst, sym, ◌∙◌, refl, arith}
-use Rattle.std.proofs.lemmas.Bool.{eqb-true}
+use Rattle.std.specs.Prelude.{◌≡◌, ℕ, zero, suc, ◌==◌, true, List, [], ◌∷◌, ◌++◌, slice_get, slice_index_or, Option, Some, None}
+use Rattle.std.proofs.Common.{ap, subst, sym, ◌∙◌, refl}
 use Rattle.std.proofs.lemmas.Option.{get_or_from_slice_get}
 use Rattle.m2_base.specs.Gives.{Gives, gives}
 use Rattle.m2_base.specs.Lists.{Each, WhereKept}

@@ -14,7 +14,7 @@ use Rattle.m2_base.specs.Standard.{standard_rows}
 use Rattle.m2_base.specs.Tables.{rows_at}
 use Rattle.m2_base.specs.Statics.BlockRows.{context_of, declare_block, first_cell, scene_of}
 use Rattle.m2_base.specs.Statics.Blocks.{BlockTree, UnitTrees, blocks_of, home_of}
-use Rattle.m2_base.specs.Statics.Contexts.{Block, Scene, Source, counting}
+use Rattle.m2_base.specs.Statics.Contexts.{Block, Scene, Source}
 use Rattle.m2_base.specs.Statics.FormedRows.{AreConsecutive, IsSoundBlock}
 use Rattle.m2_base.specs.Statics.Items.{items_of}
 use Rattle.m2_base.specs.Statics.Makes.{scene_with}
@@ -23,14 +23,13 @@ use Rattle.m2_base.specs.Statics.TypeParts.{Parameter, parameter_by, parameter_o
 use Rattle.m2_base.specs.Statics.Types.{is_broken, kind_of, stands_for}
 use Rattle.m2_base.specs.Statics.UnitNotes.{complete_context}
 use Rattle.m2_base.specs.Statics.UnitRows.{rows_from, unit_rows}
-use Rattle.m2_base.proofs.ChainLaws.{each_append}
 use Rattle.m2_base.proofs.LayoutLaws.{AreShaped-length, block_shaped}
 use Rattle.m2_base.proofs.NoRepeats.{scene_empty, scene_open}
 use Rattle.m2_base.proofs.SceneLaws.{own-with}
 use Rattle.row_laws.specs.Headings.{AreSoundFor, HasSoundHeadings, HasSoundParameters}
 use Rattle.row_laws.specs.RowRanges.{EachBlock, IsSoundUnit}
 use Rattle.row_laws.specs.Clear.{AreClear, HasClear}
-use Rattle.row_laws.proofs.ClearRows.{HaveClear, IsClearScene, each_at, have_clear, not_broken, other_rows, same_clear, standard_clear}
+use Rattle.row_laws.proofs.ClearRows.{HaveClear, IsClearScene, have_clear, not_broken, other_rows, same_clear, standard_clear}
 use Rattle.row_laws.proofs.ClearItems.{AreFew, HasSpace, items_fine}
 use Rattle.row_laws.proofs.MadeBy.{stays}
 use Rattle.row_laws.proofs.Units.{long_from}
