@@ -5,7 +5,7 @@ use Rattle.m2_base.specs.Gives.{Gives, gives, and_then, Adds}
 use Rattle.m2_base.specs.Lists.{IsPrefixOf, IsIn, Each, Grows}
 use Rattle.m2_base.specs.Rows.{Row, Place}
 use Rattle.m2_base.specs.Scopes.{Searched, looks_of, Entered, Completed}
-use Rattle.m2_base.specs.States.{State, Frame, IsSound, Look, Mark, IsLater, Keeps, Turns, Works, Waits, IsAmong, texts_of, fills_of}
+use Rattle.m2_base.specs.States.{State, Frame, Setting, IsSound, Look, Mark, IsLater, Keeps, Turns, Works, Waits, IsAmong, texts_of, fills_of}
 use Rattle.m2_base.specs.Units.{UnitTexts}
 use Rattle.m2_base.specs.declared.notes.Answer.{Answer}
 use Rattle.m2_base.specs.declared.notes.Notes.{Notes}
@@ -48,10 +48,18 @@ Grows-trans (Some a) (Some b) (Some c) m n p q = q ∙ ap (λ t. t ++ n) p ∙ a
 -- ** Heads that are seen
 
 pub IsLater-refl : (m : Mark) → IsLater m m
-IsLater-refl m = record { count = omega arith; complete = λ h. h }
+IsLater-refl m = record { count = omega arith; complete = λ h. refl }
 
 pub IsLater-trans : {m n k : Mark} → IsLater m n → IsLater n k → IsLater m k
-IsLater-trans a b = record { count = omega (arith, a.count, b.count); complete = λ h. b.complete (a.complete h) }
+IsLater-trans {m} {n} {k} a b =
+    record {
+      count = omega (arith, a.count, b.count);
+      complete = λ h. let e : n ≡ m = a.complete h in b.complete (ap (λ x. x.complete) e ∙ h) ∙ e;
+    }
+
+-- what was complete stays so
+pub stays_complete : {m n : Mark} → IsLater m n → m.complete ≡ true → n.complete ≡ true
+stays_complete later done = ap (λ mark. mark.complete) (later.complete done) ∙ done
 
 -- ** Calls that only search
 
@@ -177,6 +185,16 @@ pub Turns-completed : {a b : State} → Completed a b → Turns a b
 Turns-completed {a} {b} e =
     record { setting = ap (λ (f : Frame). f.setting) e.frame; seen = e.seen; looks = []; grows = subst (λ l. Grows a.looks [] l) (sym e.looks) (Grows-refl a.looks) }
 
+-- a call that waits, after any others
+pub Waits_turned : {a b c : State} {h : Head} → Turns a b → Waits b c h → Waits a c h
+Waits_turned {a} {b} {c} {h} t w =
+    record {
+      smaller = subst (λ (s : Setting). h.scope < s.fills) t.setting w.smaller;
+      incomplete = w.incomplete;
+      from = IsLater-trans (t.seen h.scope) w.from;
+      upto = w.upto;
+    }
+
 -- ** What definitions give
 
 pub Adds-refl : {T : Type 0} (n : Notes) (v : T) → Adds n n (gives v) v
@@ -197,21 +215,21 @@ Adds-and_then {A} {B} {x} {y} {z} a f {u} {v} p q =
 pub IsSound-keeps : {a b : State} {looks : List Look} → Keeps a b looks → IsSound a → IsSound b
 IsSound-keeps {a} {b} k s =
     record {
-      zero_seen = (k.seen 0).complete s.zero_seen;
-      own_seen = subst (λ (f : Frame). f.closed ≡ true → (b.seen f.setting.fills).complete ≡ true) (sym k.frame) (λ h. (k.seen (fills_of a)).complete (s.own_seen h));
+      zero_seen = stays_complete (k.seen 0) s.zero_seen;
+      own_seen = subst (λ (f : Frame). f.closed ≡ true → (b.seen f.setting.fills).complete ≡ true) (sym k.frame) (λ h. stays_complete (k.seen (fills_of a)) (s.own_seen h));
     }
 
 pub IsSound-entered : {a b : State} {rows : List Row} → Entered a b rows → IsSound a → IsSound b
 IsSound-entered {a} {b} e s =
     record {
-      zero_seen = (e.seen 0).complete s.zero_seen;
-      own_seen = subst (λ (f : Frame). f.closed ≡ true → (b.seen f.setting.fills).complete ≡ true) (sym e.frame) (λ h. (e.seen (fills_of a)).complete (s.own_seen h));
+      zero_seen = stays_complete (e.seen 0) s.zero_seen;
+      own_seen = subst (λ (f : Frame). f.closed ≡ true → (b.seen f.setting.fills).complete ≡ true) (sym e.frame) (λ h. stays_complete (e.seen (fills_of a)) (s.own_seen h));
     }
 
 pub IsSound-completed : {a b : State} → Completed a b → IsSound a → IsSound b
 IsSound-completed {a} {b} e s =
     record {
-      zero_seen = (e.seen 0).complete s.zero_seen;
+      zero_seen = stays_complete (e.seen 0) s.zero_seen;
       own_seen = subst (λ (f : Frame). f.closed ≡ true → (b.seen f.setting.fills).complete ≡ true) (sym e.frame) (λ h. ap (λ m. m.complete) e.head);
     }
 

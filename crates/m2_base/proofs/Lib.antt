@@ -29,6 +29,7 @@ pub mod SoundConstants
 pub mod SoundFunctions
 pub mod SoundItems
 pub mod SoundMade
+pub mod SoundNames
 pub mod SoundOperands
 pub mod SoundOperations
 pub mod SoundParts

@@ -1,10 +1,10 @@
 -- The calls of Scopes: when each may be made, and what it leaves and answers.
-use Rattle.std.specs.Prelude.{◌≡◌, ◌≢◌, ◌⊎◌, ℕ, ◌+◌, ◌<◌, ◌≤◌, true, false, List, [], ◌∷◌, ◌++◌, Option, Some, None, length, slice_get, slice_index}
+use Rattle.std.specs.Prelude.{◌≡◌, ◌≢◌, ◌⊎◌, ℕ, ◌+◌, ◌<◌, ◌≤◌, true, false, List, [], ◌∷◌, ◌++◌, Option, Some, None, length, map, slice_get, slice_index}
 use Rattle.m2_base.specs.Finished.{WhereFinished}
 use Rattle.m2_base.specs.Lists.{IsPrefixOf, IsIn, Each, WhereKept, HasNoRepeats}
 use Rattle.m2_base.specs.Rows.{Row, Place, at_place, IsWellFormed}
 use Rattle.m2_base.specs.States.{State, Look, IsLater, Keeps, mark_of, texts_of, fills_of, areas_of, others_of, tables_of}
-use Rattle.m2_base.specs.Tables.{Lacks, Settles, lookup, one_thread, reply_of_heads, rows_at}
+use Rattle.m2_base.specs.Tables.{Lacks, Settles, lookup, one_thread, one_thread_row, reply_of_heads, rows_at}
 use Rattle.m2_base.specs.declared.replies.Ask.{Ask}
 use Rattle.m2_base.specs.declared.replies.Ask.TheVariants.{Known, DontKnowYet as Waiting}
 use Rattle.m2_base.specs.declared.replies.Head.{Head}
@@ -78,15 +78,15 @@ Replied old new chain name (Found p r) = IsFound new chain name p r
 Replied old new chain name Absent = IsAbsent new chain name
 Replied old new chain name (DontKnowYet h) = IsUnknown old new chain name h
 
--- A search loads `heads`, each in this call, and its reply comes from the last. Where the unit has finished rows, the reply is
--- that of those which these heads show, and Found and Absent are those of all. Where nobody else changes the tables, it is what
--- one thread answers.
+-- A search loads `heads`, each in this call, and its reply comes from the last; it sees nothing of other scopes. Where the unit
+-- has finished rows, the reply is that of those which these heads show, and Found and Absent are those of all. Where nobody else
+-- changes the tables, it is what one thread answers.
 pub record Searched (old new : State) (at : ℕ) (chain : List ℕ) (name : ℕ) (reply : Reply) : Type 0 where
   pub heads : List Head
   pub taken : IsTaken chain heads reply
   pub loaded : Each (IsLoaded old new) heads
   pub keeps : Keeps old new (looks_of at name chain heads reply)
-  pub elsewhere : (s : ℕ) → (IsIn s chain → ⊥) → new.seen s ≡ old.seen s
+  pub elsewhere : (s : ℕ) → (IsIn s (map (λ h. h.scope) heads) → ⊥) → new.seen s ≡ old.seen s
   pub says : Replied old new chain name reply
   pub lawful : WhereFinished (texts_of old) (λ tables. reply ≡ reply_of_heads tables heads name)
   pub settled : WhereFinished (texts_of old) (λ tables. Settles reply (lookup tables chain name))
@@ -119,10 +119,12 @@ Fetches old new p (Known (Some r)) = IsFetched old new p r
 Fetches old new p (Known None) = IsPast old new p
 Fetches old new p (Waiting h) = IsNotYet old new p h
 
+-- A fetch loads the head of its scope alone. Where nobody else changes the tables, it gives what one thread answers.
 pub record Fetched (old new : State) (p : Place) (answer : Ask (Option Row)) : Type 0 where
   pub keeps : Keeps old new []
   pub elsewhere : (s : ℕ) → s ≢ p.scope → new.seen s ≡ old.seen s
   pub says : Fetches old new p answer
+  pub alone : WhereKept (others_of old) (λ others. answer ≡ one_thread_row (tables_of old others) p)
 
 -- ** Enter and complete
 

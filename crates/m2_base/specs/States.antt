@@ -63,10 +63,10 @@ others_of st = st.frame.setting.others
 abbrev pub tables_of : State → List Table → List Table
 tables_of st others = slice_set others (fills_of st) (record { rows = st.frame.entered; complete = st.frame.closed })
 
--- a head that can be loaded after another of the same scope
+-- a head that can be loaded after another of the same scope: it has no fewer rows, and after a complete one it is that one
 pub record IsLater (m n : Mark) : Type 0 where
   pub count : m.count ≤ n.count
-  pub complete : m.complete ≡ true → n.complete ≡ true
+  pub complete : m.complete ≡ true → n ≡ m
 
 -- what every value keeps
 pub record IsSound (st : State) : Type 0 where

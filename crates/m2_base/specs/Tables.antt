@@ -1,6 +1,8 @@
 -- Tables, and what one thread answers over them.
-use Rattle.std.specs.Prelude.{◌≡◌, ℕ, ◌+◌, ◌==◌, Bool, false, List, [], ◌∷◌, Option, Some, None, length, take, slice_index_or, if◌then◌else◌}
+use Rattle.std.specs.Prelude.{◌≡◌, ℕ, ◌+◌, ◌==◌, Bool, false, List, [], ◌∷◌, Option, Some, None, length, take, slice_get, slice_index_or, if◌then◌else◌}
 use Rattle.m2_base.specs.Rows.{Row, Place, at_place}
+use Rattle.m2_base.specs.declared.replies.Ask.{Ask}
+use Rattle.m2_base.specs.declared.replies.Ask.TheVariants.{Known, DontKnowYet as Waiting}
 use Rattle.m2_base.specs.declared.replies.Head.{Head}
 use Rattle.m2_base.specs.declared.replies.Reply.{Reply}
 use Rattle.m2_base.specs.declared.replies.Reply.TheVariants.{Found, Absent, DontKnowYet}
@@ -50,6 +52,15 @@ abbrev pub one_thread : List Table → (chain : List ℕ) → (name : ℕ) → R
 one_thread tables [] name = Absent
 one_thread tables (s ∷ chain) name =
     reply_or (head_of s (table_at tables s)) (first_named name (table_at tables s).rows 0) (one_thread tables chain name)
+
+-- the row that stands at a place of a scope, or why there is none
+abbrev pub fetched_or : ℕ → Table → Option Row → Ask (Option Row)
+fetched_or s t (Some r) = Known (Some r)
+fetched_or s t None = if t.complete then Known None else Waiting (head_of s t)
+
+-- what one thread answers of a place
+abbrev pub one_thread_row : List Table → Place → Ask (Option Row)
+one_thread_row tables p = fetched_or p.scope (table_at tables p.scope) (slice_get (table_at tables p.scope).rows p.ordinal)
 
 -- what the finished rows answer of which these heads tell how many are shown
 abbrev pub reply_of_heads : List (List Row) → List Head → (name : ℕ) → Reply

@@ -29,6 +29,11 @@ pub record IsIdentifier (bytes : List ℕ) : Type 0 where
   pub one : IsTrue (is_lexeme bytes)
   pub spells : meaning_of bytes ≡ name bytes
 
+-- a text that a number may stand for: a name, or what stands between the quotes of a string
+pub record IsSpelling (text : List ℕ) : Type 0 where
+  pub short : length text ≤ 1048576
+  pub bytes : Each (λ byte. byte < 256) text
+
 -- a name that a token or a text may have
 pub record IsNumbered (names : List (List ℕ)) (number : ℕ) : Type 0 where
   pub there : number < length names
@@ -94,6 +99,7 @@ IsOwn texts (Some k) = IsDefinition texts k
 pub record IsUnit (u : UnitTexts) : Type 0 where
   pub standard : IsPrefixOf standard_names u.names
   pub countable : length u.names < 2 ^ 32
+  pub spelled : Each IsSpelling u.names
   pub main : HasOneMain u.list
   pub few : length u.list ≤ 257
   pub tokens : sum_by (λ t. length t.tokens) u.list ≤ 4194304
@@ -116,10 +122,10 @@ pub record IsTextOf (u : UnitTexts) (name k : ℕ) : Type 0 where
   pub definition : IsDefinition u.list k
   pub named : (t : TextOf) → slice_get u.list k ≡ Some t → t.name ≡ name
 
--- k stands in the order, and before n if that stands there
+-- k stands in the order, and n doesn't stand up to it: k comes before n, and is another
 abbrev pub StandsBefore : List ℕ → ℕ → ℕ → Type 0
 StandsBefore [] k n = ⊥
-StandsBefore (x ∷ order) k n = (x ≡ k) ⊎ ((x ≢ n) × StandsBefore order k n)
+StandsBefore (x ∷ order) k n = (x ≢ n) × ((x ≡ k) ⊎ StandsBefore order k n)
 
 -- the own definition of text 0 is told exactly where its front is an implementation's and has a name
 abbrev pub IsOwnBy : UnitTexts → Front → Option ℕ → Type 0
@@ -128,7 +134,7 @@ IsOwnBy u front None = front.implementation ≡ true → front.name ≡ None
 
 -- Nothing is left out of a unit, by what the fronts of its texts say: each module that a front names is there, no front
 -- has a name other than its text's, the own definition is told where there is one, and each definition text comes after
--- those that it imports.
+-- those that it imports, so that none imports itself.
 pub record IsWholeBy (front : TextOf → Front) (u : UnitTexts) : Type 0 where
   pub imported : (n : ℕ) (t : TextOf) → slice_get u.list n ≡ Some t → Each (λ name. (k : ℕ) × IsTextOf u name k) (front t).imports
   pub named : Each (λ t. (name : ℕ) → (front t).name ≡ Some name → name ≡ t.name) u.list

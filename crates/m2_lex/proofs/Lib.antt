@@ -6,4 +6,5 @@ mod LongestRuns
 mod LongestStrings
 mod LongestSymbols
 pub mod ReadTokens
+pub mod SpelledNames
 pub mod TextUnit

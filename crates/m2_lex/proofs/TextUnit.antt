@@ -16,13 +16,14 @@ use Rattle.m2_base.specs.Names.{standard_names, number_in, with_name}
 use Rattle.m2_base.specs.Positions.{Position, first_position, after_bytes}
 use Rattle.m2_base.specs.Runs.{is_run_and}
 use Rattle.m2_base.specs.Tokens.{AreTokens, IsToken, Means, placed_from, names_in}
-use Rattle.m2_base.specs.Units.{IsUnit, IsNamed, IsNumbered, IsIdentifier, HasValue, IsInner, AreNumbered}
+use Rattle.m2_base.specs.Units.{IsSpelling, IsUnit, IsNamed, IsNumbered, IsIdentifier, HasValue, IsInner, AreNumbered}
 use Rattle.m2_base.specs.declared.kind.TokenKind.{TokenKind}
 use Rattle.m2_base.specs.declared.kind.TokenKind.TheVariants as kind
 use Rattle.m2_base.specs.declared.token.Token.{Token}
 use Rattle.m2_base.proofs.Kept.{IsPrefixOf-trans}
 use Rattle.m2_base.proofs.Numbers.{number_in-below, number_in-with_names, slice_get-number_in, with_name-grows, with_names-grows}
 use Rattle.m2_lex.specs.LoneTexts.{IsLoneText, one_text}
+use Rattle.m2_lex.proofs.SpelledNames.{spelled_after, spelled_with, standard_spelled}
 
 -- ** What a lexeme can stand for
 
@@ -212,11 +213,12 @@ module _ (old names : List (List ℕ)) (text : List ℕ) (tokens : List Token) (
       let grown = with_names-grows old (names_in are.lexemes) in
       IsPrefixOf-trans standard (record { rest = grown.0; joined = sym grown.1 ∙ sym are.names })
 
-  pub text_unit : (main : ℕ) → IsPrefixOf standard_names old → IsNamed names main → length tokens ≤ 1048576 → length names < 2 ^ 32 → IsUnit (one_text names main tokens)
-  text_unit main standard named few countable =
+  pub text_unit : (main : ℕ) → IsPrefixOf standard_names old → Each IsSpelling names → IsNamed names main → length tokens ≤ 1048576 → length names < 2 ^ 32 → IsUnit (one_text names main tokens)
+  text_unit main standard spelled named few countable =
       record {
         standard = names_grow standard;
         countable = countable;
+        spelled = spelled;
         main = (refl, tt);
         few = omega arith;
         tokens = omega (arith, few);
@@ -251,9 +253,11 @@ module _ (file text : List ℕ) (names : List (List ℕ)) (number : ℕ) (tokens
   still_numbered =
       ap (λ all. number_in all file) are.names ∙ number_in-with_names (with_name standard_names file) (names_in are.lexemes) file number numbered
 
-  pub lone_unit : IsIdentifier file → length file ≤ 1048576 → length text ≤ 1048576 → length tokens ≤ 1048576 → length names < 2 ^ 32 → IsUnit (one_text names number tokens)
-  lone_unit spelled short_name short few countable =
+  pub lone_unit : IsIdentifier file → length file ≤ 1048576 → length text ≤ 1048576 → ((i : ℕ) → get_or file i 0 < 256) → ((i : ℕ) → get_or text i 0 < 256) → length tokens ≤ 1048576 → length names < 2 ^ 32
+      → IsUnit (one_text names number tokens)
+  lone_unit spelled short_name short file_bytes text_bytes few countable =
       text_unit (with_name standard_names file) names text tokens are short number (standard_with file)
+      (spelled_after (with_name standard_names file) names text tokens (spelled_with standard_names file standard_spelled short_name file_bytes) short text_bytes are)
       (record { numbered = numbered_at names file number still_numbered short_name; spelled = subst IsIdentifier (sym (text_at names file number still_numbered)) spelled })
       few countable
 

@@ -28,7 +28,6 @@ mod Words
 mod BlockTokens
 mod ExpressionTokens
 mod NoProcedures
-mod SoundNames
 mod LoneBlocks
 mod ObjectFields
 mod ValidObjects

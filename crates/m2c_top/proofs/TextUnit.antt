@@ -12,7 +12,7 @@ use Rattle.m2_base.specs.Statics.FormedRows.{IsSoundText}
 use Rattle.m2_base.specs.Statics.ReadTrees.{IsReadToken}
 use Rattle.m2_base.specs.StreamsOf.{stream_of}
 use Rattle.m2_base.specs.Trees.{Stream}
-use Rattle.m2_base.specs.Units.{HasValue, IsNamed, IsUnit, TextOf, UnitTexts}
+use Rattle.m2_base.specs.Units.{HasValue, IsNamed, IsSpelling, IsUnit, TextOf, UnitTexts}
 use Rattle.m2_base.specs.Views.{stream_view}
 use Rattle.m2_base.specs.declared.kind.TokenKind.{TokenKind}
 use Rattle.m2_base.specs.declared.kind.TokenKind.TheVariants as kind
@@ -20,15 +20,16 @@ use Rattle.m2_base.specs.declared.token.Token.{Token}
 use Rattle.m2_base.specs.declared.trees.declarations.StreamKind.TheVariants.{Main}
 use Rattle.m2_base.proofs.Kept.{IsPrefixOf-refl}
 use Rattle.m2_base.proofs.ReadExpressions.{kind_is}
+use Rattle.m2_base.proofs.SoundNames.{names_sound}
 use Rattle.m2_lex.specs.LoneTexts.{one_text}
 use Rattle.m2_lex.proofs.ReadTokens.{tokens_read}
+use Rattle.m2_lex.proofs.SpelledNames.{spelled_after, standard_spelled}
 use Rattle.m2_lex.proofs.TextUnit.{text_listed, text_unit}
 use Rattle.m2c_top.specs.Decisions.{HasTokens, IsBuilt, Lexed, has_unbuilt}
 use Rattle.m2c_top.specs.Held.{CanBeHeld, IsHeld, main_tokens}
 use Rattle.m2c_top.specs.Modules.{lone_unit}
 use Rattle.m2c_top.specs.Names.{number_of}
 use Rattle.m2c_top.specs.declared.module.Module.{Module}
-use Rattle.m2c_top.proofs.SoundNames.{names_sound}
 
 some_is : (x y : TextOf) → Some x ≡ Some y → x ≡ y
 some_is x y e = cc
@@ -70,21 +71,25 @@ module _ (names : List (List ℕ)) where
   spelled_named tree ts s h =
       subst (λ (t : Stream). IsNamed names (number_of t.name)) s.gives (tree_named s.sentence.derives (subst (Each HasItsValue) (sym s.sentence.spells) h))
 
+-- the names of a text of bytes
+names_spelled : (text : List ℕ) (u : Lexed) → HasTokens text u → ((i : ℕ) → get_or text i 0 < 256) → Each IsSpelling u.names
+names_spelled text u has bytes = spelled_after standard_names u.names text u.tokens standard_spelled has.short bytes has.are_tokens
+
 -- the unit of a text whose tree is this
 pub unit_is : (text : List ℕ) (u : Lexed) (tree : Stream) → HasTokens text u → Spells grammar levels (stream Main) (stream_of Main) tree u.tokens → length u.names < 2 ^ 32
-    → IsUnit (one_text u.names (number_of tree.name) u.tokens)
-unit_is text u tree has s countable =
+    → ((i : ℕ) → get_or text i 0 < 256) → IsUnit (one_text u.names (number_of tree.name) u.tokens)
+unit_is text u tree has s countable bytes =
     let named = spelled_named u.names tree u.tokens s (text_listed standard_names u.names text u.tokens has.are_tokens has.short).1 in
-    text_unit standard_names u.names text u.tokens has.are_tokens has.short (number_of tree.name) (IsPrefixOf-refl standard_names) named has.few countable
+    text_unit standard_names u.names text u.tokens has.are_tokens has.short (number_of tree.name) (IsPrefixOf-refl standard_names) (names_spelled text u has bytes) named has.few countable
 
 -- a text whose forms are built, and which has this tree, can be held
 pub can_hold : (text : List ℕ) (u : Lexed) (tree : Stream) → IsBuilt text u → Spells grammar levels (stream Main) (stream_of Main) tree u.tokens → length u.names < 2 ^ 32
     → ((i : ℕ) → get_or text i 0 < 256) → CanBeHeld u tree
 can_hold text u tree built spelled countable bytes =
     record {
-      unit = unit_is text u tree built.has_tokens spelled countable;
+      unit = unit_is text u tree built.has_tokens spelled countable bytes;
       read = tokens_read standard_names u.names text u.tokens (IsPrefixOf-refl standard_names) built.has_tokens.short built.has_tokens.are_tokens;
-      sound = names_sound u.names text u.tokens built.has_tokens.short bytes built.has_tokens.are_tokens (lone_unit u.names tree).source refl;
+      sound = names_sound (lone_unit u.names tree).source (names_spelled text u built.has_tokens bytes);
       built = built.built;
       spelled = spelled;
     }

@@ -102,7 +102,7 @@ filled_entered p rows sound can =
       frame = frame_is _ _ _ _ (changed_setting p t) (ap (λ u. u.rows) at) (ap (λ u. u.complete) at);
       looks = refl;
       seen = set_each (λ k u. IsLater (mark_of (head_of k (table_at p.tables k))) (mark_of (head_of k u))) p.tables p.fills t within (λ k. IsLater-refl _)
-          (record { count = omega (arith, length-append (table_at p.tables p.fills).rows rows); complete = λ h. h });
+          (record { count = omega (arith, length-append (table_at p.tables p.fills).rows rows); complete = λ h. absurd (false≢true (sym can.open_yet ∙ h)) });
       head = ap (λ b. record { count = length (table_at (set p.tables p.fills t) p.fills).rows; complete = b }) (ap (λ u. u.complete) at ∙ can.open_yet);
       elsewhere = λ s other. ap (λ u. record { count = length u.rows; complete = u.complete }) (get_or-set_other p.tables p.fills s t no_rows other);
     }
@@ -117,7 +117,7 @@ closed_completed p sound =
       frame = frame_is _ _ _ _ (changed_setting p t) (ap (λ u. u.rows) at) (ap (λ u. u.complete) at);
       looks = refl;
       seen = set_each (λ k u. IsLater (mark_of (head_of k (table_at p.tables k))) (mark_of (head_of k u))) p.tables p.fills t within (λ k. IsLater-refl _)
-          (record { count = omega arith; complete = λ h. refl });
+          (record { count = omega arith; complete = λ h. ap (λ b. record { count = length (table_at p.tables p.fills).rows; complete = b }) (sym h) });
       head = ap (λ b. record { count = length (table_at (set p.tables p.fills t) p.fills).rows; complete = b }) (ap (λ u. u.complete) at);
       elsewhere = λ s other. ap (λ u. record { count = length u.rows; complete = u.complete }) (get_or-set_other p.tables p.fills s t no_rows other);
     }

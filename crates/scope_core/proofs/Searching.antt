@@ -13,10 +13,10 @@ use Rattle.m2_base.specs.declared.replies.Ask.TheVariants.{Known, DontKnowYet as
 use Rattle.m2_base.specs.Finished.{WhereFinished}
 use Rattle.m2_base.specs.Rows.{at_place}
 use Rattle.m2_base.specs.Lists.{Each}
-use Rattle.m2_base.specs.Tables.{table_at, rows_at, head_of, first_named, one_thread, reply_or, Lacks}
+use Rattle.m2_base.specs.Tables.{table_at, rows_at, head_of, fetched_or, first_named, one_thread, one_thread_row, reply_or, Lacks}
 use Rattle.m2_base.specs.Scopes.{IsLoaded, IsTaken, EndsAt, IsShown, StopsAt, Replied, Searched, Fetches, Fetched}
 use Rattle.m2_base.proofs.Kept.{IsLater-refl, Keeps-refl}
-use Rattle.scope_core.specs.Heads.{heads_of, heads_after, row_at, fetched_or}
+use Rattle.scope_core.specs.Heads.{heads_of, heads_after}
 use Rattle.scope_core.specs.PlainScopes.{Plain, state_of, IsSoundly}
 use Rattle.scope_core.proofs.Settling.{one_thread_settles, lawful_heads}
 use Rattle.scope_core.proofs.Filling.{put_back}
@@ -169,7 +169,12 @@ fetches p q None sound e = go (table_at p.tables q.scope).complete refl
     go false still = record { on = refl; short = past; stops = stops_at p q.scope still }
 
 -- a fetch
-pub fetched : (p : Plain) (q : Place) (answer : Ask (Option Row)) → IsSoundly p → answer ≡ row_at p.tables q → Fetched (state_of p) (state_of p) q answer
+pub fetched : (p : Plain) (q : Place) (answer : Ask (Option Row)) → IsSoundly p → answer ≡ one_thread_row p.tables q → Fetched (state_of p) (state_of p) q answer
 fetched p q answer sound is =
     subst (Fetched (state_of p) (state_of p) q) (sym is)
-    (record { keeps = Keeps-refl _; elsewhere = λ s other. refl; says = fetches p q (slice_get (table_at p.tables q.scope).rows q.ordinal) sound refl })
+    (record {
+      keeps = Keeps-refl _;
+      elsewhere = λ s other. refl;
+      says = fetches p q (slice_get (table_at p.tables q.scope).rows q.ordinal) sound refl;
+      alone = ap (λ t. one_thread_row t q) (sym (put_back p.tables p.fills));
+    })

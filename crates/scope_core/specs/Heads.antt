@@ -1,10 +1,7 @@
--- The heads that a search in tables comes to, and the rows at places.
-use Rattle.std.specs.Prelude.{ℕ, List, [], ◌∷◌, slice_get, Option, Some, None, if◌then◌else◌}
+-- The heads that a search in tables comes to.
+use Rattle.std.specs.Prelude.{ℕ, List, [], ◌∷◌, Option, Some, None, if◌then◌else◌}
 use Rattle.m2_base.specs.declared.rows.Row.{Row}
-use Rattle.m2_base.specs.declared.rows.Place.{Place}
 use Rattle.m2_base.specs.Tables.{Table, table_at, head_of, first_named}
-use Rattle.m2_base.specs.declared.replies.Ask.{Ask}
-use Rattle.m2_base.specs.declared.replies.Ask.TheVariants.{Known, DontKnowYet}
 use Rattle.m2_base.specs.declared.replies.Head.{Head}
 
 -- the heads that come after a scope's own
@@ -17,11 +14,3 @@ abbrev pub heads_of : List Table → (chain : List ℕ) → (name : ℕ) → Lis
 heads_of tables [] name = []
 heads_of tables (s ∷ chain) name =
     head_of s (table_at tables s) ∷ heads_after (table_at tables s) (first_named name (table_at tables s).rows 0) (heads_of tables chain name)
-
-abbrev pub fetched_or : ℕ → Table → Option Row → Ask (Option Row)
-fetched_or s t (Some r) = Known (Some r)
-fetched_or s t None = if t.complete then Known None else DontKnowYet (head_of s t)
-
--- the row at a place, or why there is none
-abbrev pub row_at : List Table → Place → Ask (Option Row)
-row_at tables p = fetched_or p.scope (table_at tables p.scope) (slice_get (table_at tables p.scope).rows p.ordinal)

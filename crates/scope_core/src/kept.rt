@@ -6,7 +6,7 @@ ghost use Rattle.m2_base.specs.Lists.{Each};
 ghost use Rattle.m2_base.specs.Tables.{first_named, head_of, one_thread, table_at, no_rows};
 ghost use Rattle.m2_base.specs.Standard.{standard_rows as spec_rows};
 ghost use Rattle.scope_core.specs.PlainScopes.{first_tables};
-ghost use Rattle.scope_core.specs.Heads.{row_at};
+ghost use Rattle.m2_base.specs.Tables.{one_thread_row};
 ghost use Rattle.scope_core.specs.Kept.{tables_in, rooms_in, longer, marked, with_rows, completed};
 
 use indexmap::IndexMap;
@@ -222,7 +222,7 @@ pub fn close(kept: &mut [Kept], scope: usize)
 pub fn row_in(kept: &[Kept], place: Place) -> Ask<Option<Row>>
     requires exist { place.scope < length kept.now }
     requires fit { (s : ℕ) → length (table_at (tables_in kept.now) s).rows < 2 ^ 32 }
-    ensures { result ≡ row_at (tables_in kept.now) place }
+    ensures { result ≡ one_thread_row (tables_in kept.now) place }
 {
     let table = &kept[place.scope as usize];
     match table.row(place.ordinal) {

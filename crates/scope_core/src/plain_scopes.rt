@@ -5,7 +5,7 @@ ghost use Rattle.m2_base.specs.Scopes.{CanEnter, CanComplete};
 ghost use Rattle.m2_base.specs.States.{IsSound, areas_of, fills_of};
 ghost use Rattle.m2_base.specs.Tables.{one_thread};
 ghost use Rattle.scope_core.specs.Fronts.{ShowsFront};
-ghost use Rattle.scope_core.specs.Heads.{row_at};
+ghost use Rattle.m2_base.specs.Tables.{one_thread_row};
 ghost use Rattle.scope_core.specs.PlainScopes.{state_of, filled, closed, moved, started, IsSoundly};
 
 use crate::kept::{Kept, add_rows, close, reply_in, row_in, standard_tables};
@@ -85,7 +85,7 @@ impl<'u> PlainScopes<'u> {
     fn row(&self, place: Place) -> Ask<Option<Row>>
         requires { place.scope < length self.now.areas }
         ensures sound { IsSoundly self.now }
-        ensures row { result ≡ row_at self.now.tables place }
+        ensures row { result ≡ one_thread_row self.now.tables place }
     {
         row_in(&self.tables, place)
     }

@@ -1,5 +1,5 @@
 -- What the rows of a block need so that all are well formed, and what else then holds of them.
-use Rattle.std.specs.Prelude.{◌≡◌, ℕ, ◌+◌, ◌^◌, ◌<◌, ◌≤◌, List, [], ◌∷◌, length, flat_map, slice_get, Some, None}
+use Rattle.std.specs.Prelude.{◌≡◌, ℕ, ◌+◌, ◌^◌, ◌<◌, ◌≤◌, List, [], ◌∷◌, length, flat_map, slice_get, Option, Some, None}
 use Rattle.m2_base.specs.Lists.{Each}
 use Rattle.m2_base.specs.Rows.{Row, Place, at_place, row_meaning, RowMeaning, Array, Record, IsWellFormed, HasSmallOrdinals}
 use Rattle.m2_base.specs.Standard.{standard_rows}
@@ -10,6 +10,7 @@ use Rattle.m2_base.specs.Statics.Operands.{first_of, string_length}
 use Rattle.m2_base.specs.Statics.Shapes.{item_shapes}
 use Rattle.m2_base.specs.Statics.SoundTrees.{IsSoundItem}
 use Rattle.m2_base.specs.Tables.{rows_at}
+use Rattle.m2_base.specs.declared.trees.Ident.{Ident}
 
 -- an array and a record have at least one cell
 abbrev pub IsFilled : RowMeaning → Type 0
@@ -23,9 +24,14 @@ pub record IsRight (names : ℕ) (p : Place) (r : Row) : Type 0 where
   pub small : HasSmallOrdinals (row_meaning r)
   pub cells : IsFilled (row_meaning r)
 
--- an imported module has a scope before the block's
+-- the module of an import: the one after FROM, or the name itself
+abbrev pub imported_module : (from : Option Ident) → Ident → Ident
+imported_module None i = i
+imported_module (Some m) i = m
+
+-- a module that is imported, or from which a name is, has a scope before the block's
 abbrev pub IsImportedBefore : Source → (scope : ℕ) → Item → Type 0
-IsImportedBefore source s (import_item None i) = scope_of_module source i.name < s
+IsImportedBefore source s (import_item from i) = scope_of_module source (imported_module from i).name < s
 IsImportedBefore source s other = Unit {0}
 
 -- A block over finished scopes: those before it are there and their rows are right, scope 0 is the standard one, the block

@@ -27,7 +27,7 @@ new-requires-3 c =
     let are : AreTokens (with_name standard_names name) names text tokens = subst (λ all. AreTokens all names text tokens) is c.in_ok-tokens.ensures.tokens in
     let countable : length names < 2 ^ 32 = omega (arith, c.count-countable.ensures) in
     let few : length tokens ≤ 1048576 = omega (arith, c.in_ok-tokens.tokens.ok.0, c.in_ok-tokens.ensures.most) in
-    let unit = lone_unit name text names number tokens numbered are c.requires.named c.requires.short_name c.requires.short few countable in
+    let unit = lone_unit name text names number tokens numbered are c.requires.named c.requires.short_name c.requires.short (λ i. omega (arith, c.type_inv.name i)) (λ i. omega (arith, c.type_inv.text i)) few countable in
     subst (λ (list : List TextOf). IsUnit (unit_of names list c.new-2.result.items None)) (sym c.in_ok-list.ensures.items)
     (subst (λ order. IsUnit (unit_of names (record { name = number; definition = false; tokens = tokens } ∷ []) order None)) (sym c.new-2.ensures.items) unit)
 

@@ -1,4 +1,4 @@
--- The names of a text's unit are short, and of bytes.
+-- The names that a text brings may be spelled so: they are short, and of bytes.
 use Rattle.std.specs.Prelude.{◌≡◌, ℕ, zero, suc, ◌+◌, ◌<◌, ◌≤◌, ◌^◌, Bool, true, false, ◌&&◌, nat_le, nat_lt, if◌then◌else◌, List, [], ◌∷◌, ◌++◌, Option, Some, None, codes, is_some, length, min, slice_index_or, take}
 use Rattle.std.proofs.Common.{refl, ap, subst, ◌∙◌, arith, get_or}
 use Rattle.std.specs.List.{list_all, list_any, prefix_len, take_while}
@@ -9,13 +9,12 @@ use Rattle.m2_base.specs.Comments.{behind_comment, opens_comment}
 use Rattle.m2_base.specs.Kinds.{kind_in, reserved_words, symbols}
 use Rattle.m2_base.specs.Letters.{is_blank, is_digit, is_hexadecimal_digit, is_letter, is_octal_digit, is_quote, stays_in}
 use Rattle.m2_base.specs.Lexemes.{AreLexemes}
+use Rattle.m2_base.specs.Lists.{Each}
 use Rattle.m2_base.specs.Meanings.{Meaning, bad, character, character_of, fixed_or, meaning_of, name, number, number_of, numeral_meaning, string, value_in}
 use Rattle.m2_base.specs.Names.{standard_names, with_name, with_names}
 use Rattle.m2_base.specs.Runs.{is_run_and}
-use Rattle.m2_base.specs.Statics.Contexts.{Source}
-use Rattle.m2_base.specs.Statics.FormedRows.{IsSoundText}
-use Rattle.m2_base.specs.Statics.Operands.{characters_of, first_of}
 use Rattle.m2_base.specs.Tokens.{AreTokens, names_in, names_of}
+use Rattle.m2_base.specs.Units.{IsSpelling}
 use Rattle.m2_base.specs.declared.kind.TokenKind.{TokenKind}
 use Rattle.m2_base.specs.declared.token.Token.{Token}
 
@@ -45,27 +44,28 @@ bytes_behind (x ∷ xs) ys h = bytes_behind xs ys (and_parts (is_byte x) (are_by
 
 -- ** Names
 
--- a name that is short, and begins with a byte
+-- a text that is short, and of bytes
 abbrev is_sound_name : List ℕ → Bool
-is_sound_name text = nat_le (length text) 1048576 && is_byte (first_of text)
+is_sound_name text = nat_le (length text) 1048576 && are_bytes text
 
 abbrev are_sound : List (List ℕ) → Bool
 are_sound names = list_all is_sound_name names
 
-first_byte : (n : ℕ) (bytes : List ℕ) → are_bytes bytes ≡ true → is_byte (first_of (take n bytes)) ≡ true
-first_byte zero bytes h = refl
-first_byte (suc n) [] h = refl
-first_byte (suc n) (b ∷ bytes) h = (and_parts (is_byte b) (are_bytes bytes) h).0
+first_bytes : (n : ℕ) (bytes : List ℕ) → are_bytes bytes ≡ true → are_bytes (take n bytes) ≡ true
+first_bytes zero bytes h = refl
+first_bytes (suc n) [] h = refl
+first_bytes (suc n) (b ∷ bytes) h =
+    let p = and_parts (is_byte b) (are_bytes bytes) h in both_true (is_byte b) (are_bytes (take n bytes)) p.0 (first_bytes n bytes p.1)
 
 -- what is read of the front of some bytes
 front_sound : (n : ℕ) (bytes : List ℕ) → length bytes ≤ 1048576 → are_bytes bytes ≡ true → is_sound_name (take n bytes) ≡ true
 front_sound n bytes short h =
     let l : length (take n bytes) ≡ min n (length bytes) = length-take n bytes in
-    both_true (nat_le (length (take n bytes)) 1048576) (is_byte (first_of (take n bytes))) (le-leb (length (take n bytes)) 1048576 (omega (arith, l, short))) (first_byte n bytes h)
+    both_true (nat_le (length (take n bytes)) 1048576) (are_bytes (take n bytes)) (le-leb (length (take n bytes)) 1048576 (omega (arith, l, short))) (first_bytes n bytes h)
 
 name_sound : (b : ℕ) (bytes : List ℕ) → length (b ∷ bytes) ≤ 1048576 → are_bytes (b ∷ bytes) ≡ true → is_sound_name (b ∷ bytes) ≡ true
 name_sound b bytes short h =
-    both_true (nat_le (length (b ∷ bytes)) 1048576) (is_byte b) (le-leb (length (b ∷ bytes)) 1048576 short) (and_parts (is_byte b) (are_bytes bytes) h).0
+    both_true (nat_le (length (b ∷ bytes)) 1048576) (are_bytes (b ∷ bytes)) (le-leb (length (b ∷ bytes)) 1048576 short) h
 
 one_sound : (text : List ℕ) → is_sound_name text ≡ true → are_sound (text ∷ []) ≡ true
 one_sound text h = both_true (is_sound_name text) true h refl
@@ -139,23 +139,45 @@ standard_sound : are_sound standard_names ≡ true
 unfolding standard_names
 standard_sound = refl
 
-name_at : (names : List (List ℕ)) (n : ℕ) → are_sound names ≡ true → is_sound_name (slice_index_or names n []) ≡ true
-name_at [] n h = refl
-name_at (x ∷ names) zero h = (and_parts (is_sound_name x) (are_sound names) h).0
-name_at (x ∷ names) (suc n) h = name_at names n (and_parts (is_sound_name x) (are_sound names) h).1
+-- ** As facts
 
-length_of : (text : List ℕ) → length text ≤ 1048576 → length (characters_of text) < 2 ^ 32
-length_of [] h = omega arith
-length_of (b ∷ text) h = omega (arith, h)
+bytes_each : (bytes : List ℕ) → are_bytes bytes ≡ true → Each (λ byte. byte < 256) bytes
+bytes_each [] h = tt
+bytes_each (b ∷ bytes) h = let p = and_parts (is_byte b) (are_bytes bytes) h in (ltb-true b 256 p.0, bytes_each bytes p.1)
 
--- the unit of a text of bytes has sound texts of names
-pub names_sound : (names : List (List ℕ)) (text : List ℕ) (tokens : List Token) → length text ≤ 1048576 → ((i : ℕ) → get_or text i 0 < 256) → AreTokens standard_names names text tokens
-    → (source : Source) → source.spellings ≡ names → IsSoundText source
-names_sound names text tokens short bytes are source same =
-    let all : are_sound names ≡ true =
-    ap are_sound are.names ∙ all_with_sound (names_in are.lexemes) standard_names standard_sound (lexemes_sound text are.lexemes short (all_bytes text bytes) are.split) in
-    let each : (n : ℕ) → is_sound_name (slice_index_or source.spellings n []) ≡ true = λ n. name_at source.spellings n (ap are_sound same ∙ all) in
-    record {
-      short = λ n. let t = slice_index_or source.spellings n [] in length_of t (leb-true (length t) 1048576 (and_parts (nat_le (length t) 1048576) (is_byte (first_of t)) (each n)).0);
-      bytes = λ n. let t = slice_index_or source.spellings n [] in ltb-true (first_of t) 256 (and_parts (nat_le (length t) 1048576) (is_byte (first_of t)) (each n)).1;
-    }
+spelling : (text : List ℕ) → is_sound_name text ≡ true → IsSpelling text
+spelling text h =
+    let p = and_parts (nat_le (length text) 1048576) (are_bytes text) h in record { short = leb-true (length text) 1048576 p.0; bytes = bytes_each text p.1 }
+
+spellings : (names : List (List ℕ)) → are_sound names ≡ true → Each IsSpelling names
+spellings [] h = tt
+spellings (x ∷ names) h = let p = and_parts (is_sound_name x) (are_sound names) h in (spelling x p.0, spellings names p.1)
+
+each_bytes : (bytes : List ℕ) → Each (λ byte. byte < 256) bytes → are_bytes bytes ≡ true
+each_bytes [] h = refl
+each_bytes (b ∷ bytes) h = both_true (is_byte b) (are_bytes bytes) (lt-ltb b 256 h.0) (each_bytes bytes h.1)
+
+sound_spelling : (text : List ℕ) → IsSpelling text → is_sound_name text ≡ true
+sound_spelling text h =
+    both_true (nat_le (length text) 1048576) (are_bytes text) (le-leb (length text) 1048576 h.short) (each_bytes text h.bytes)
+
+sound_spellings : (names : List (List ℕ)) → Each IsSpelling names → are_sound names ≡ true
+sound_spellings [] h = refl
+sound_spellings (x ∷ names) h = both_true (is_sound_name x) (are_sound names) (sound_spelling x h.0) (sound_spellings names h.1)
+
+-- the names that every unit begins with
+pub standard_spelled : Each IsSpelling standard_names
+standard_spelled = spellings standard_names standard_sound
+
+-- with one more name
+pub spelled_with : (names : List (List ℕ)) (text : List ℕ) → Each IsSpelling names → length text ≤ 1048576 → ((i : ℕ) → get_or text i 0 < 256) → Each IsSpelling (with_name names text)
+spelled_with names text h short bytes =
+    let sound : is_sound_name text ≡ true = both_true (nat_le (length text) 1048576) (are_bytes text) (le-leb (length text) 1048576 short) (all_bytes text bytes) in
+    spellings (with_name names text) (with_sound names text (sound_spellings names h) sound)
+
+-- with those of a text of bytes
+pub spelled_after : (old new : List (List ℕ)) (text : List ℕ) (tokens : List Token) → Each IsSpelling old → length text ≤ 1048576 → ((i : ℕ) → get_or text i 0 < 256) → AreTokens old new text tokens
+    → Each IsSpelling new
+spelled_after old new text tokens h short bytes are =
+    let lexemes : are_sound (names_in are.lexemes) ≡ true = lexemes_sound text are.lexemes short (all_bytes text bytes) are.split in
+    spellings new (ap are_sound are.names ∙ all_with_sound (names_in are.lexemes) old (sound_spellings old h) lexemes)
