@@ -1,5 +1,5 @@
 -- What can be wrong with a text: the code of each diagnostic, and what a listing says of it.
-use Rattle.std.specs.Prelude.{ℕ, ◌==◌, List, [], ◌∷◌, Option, codes, find}
+use Rattle.std.specs.Prelude.{ℕ, ◌==◌, List, [], ◌∷◌, Option, Some, None, codes, find}
 use Rattle.m2_base.specs.declared.diagnostic.Diagnostic.{Diagnostic}
 use Rattle.m2_base.specs.declared.diagnostic.Diagnostic.TheVariants.{CharacterNotAllowed, CommentNotClosed, StringNotClosed, NumberTooLarge, UnexpectedToken, ClosingNameDiffers, NoDefinitionText, OtherModuleName, CircularImports, UnknownName, UsedBefore, DeclaredTwice, StandardDeclared, NotDeclaredThere, NotAType, NotAConstant, OutOfRange, NotAVariable, WrongOperands, NotAssignable, NoSuchField, NotAnArray, NotAPointer, NotAProcedure, WrongCount, WrongArgument, NotBoolean, WrongLabel, ExitOutsideLoop, WrongReturn, WrongIndex, TooManyCells, NotAControlVariable, NotImplemented, HeadingDiffers, NotAProcedureValue, NotARecord, ResultNotScalar, TooManyConstants}
 
@@ -129,6 +129,14 @@ diagnostics =
     ∷ TooManyConstants
     ∷ []
 
--- the diagnostic of a code
-abbrev pub diagnostic_of : (code : ℕ) → Option Diagnostic
+-- the diagnostic of a code; none of any other number
+unfoldable pub diagnostic_of : (code : ℕ) → Option Diagnostic
 diagnostic_of code = find (λ d. code_of d == code) diagnostics
+
+abbrev pub text_or : Option Diagnostic → List ℕ
+text_or None = []
+text_or (Some d) = text_of d
+
+-- what a listing says of a code
+abbrev pub text_of_code : (code : ℕ) → List ℕ
+text_of_code code = text_or (diagnostic_of code)

@@ -100,6 +100,7 @@ impl Diagnostic {
     }
 
     /// The diagnostic of a code; None of any other number.
+    #[tactic(auto, unfolding(crate::specs::Diagnostics::diagnostic_of))]
     pub fn of_code(code: u8) -> Option<Diagnostic>
         ensures { result ≡ diagnostic_of code }
     {
