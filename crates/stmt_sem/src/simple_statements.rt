@@ -23,7 +23,7 @@ use crate::flows::{Code, Flow, Flows};
 use crate::refusals::noted;
 use crate::stands::Stand;
 use crate::statement_parts::{assigned, called, returned};
-use m2_base::{Ask, Designator, Diagnostic, Expr, Memory, Notes, Scopes, Site, analysed};
+use m2_base::{Ask, Designator, Diagnostic, Expr, Memory, Notes, Scopes, Site};
 
 /// An assignment.
 pub fn assign_statement<S: Scopes>(
