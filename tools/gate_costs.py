@@ -1,10 +1,10 @@
 #!/usr/bin/env python3
-"""Shows what the gate costs: the processor seconds of each crate's proof, edits and tests, or those of one crate's functions.
+"""Shows what the gate costs: the processor seconds of each crate's proof, edits and tests, or of a crate's functions.
 
 usage: gate_costs.py                 runs `rt ci` at the top, and then shows a table of the crates
        gate_costs.py -- COMMAND..    the same of another command, as `rt ci --anew`, `rt ci m2_io` or `.ci/run`
-       gate_costs.py NAME [COUNT]    checks the crate from nothing at one job, and then shows the 20 functions, or COUNT,
-                                     that cost most
+       gate_costs.py NAME [COUNT]    checks the crate from nothing at one job, and then shows the 20 functions, or
+                                     COUNT, that cost most
 
 A crate's columns are what was spent on
 
@@ -17,14 +17,15 @@ A crate's columns are what was spent on
   GB        the most memory that one of its commands held, with what it started
 
 Nothing of the kit is changed: each half second /proc tells which commands of rattle run below the command, for which
-crate and in which folder, and what they have used so far, with all that they started. What a command uses after the last
-look at it is missing in its row, half a second at most of each; the line 'not seen' has it for all, since the system
-tells the whole at the end. `rt ci` proves only what it hasn't kept, so a table is of a whole gate after `rt ci --anew`
-or on a machine that kept nothing.
+crate and in which folder, and what they have used so far, with all that they started. What a command uses after the
+last look at it is missing in its row, half a second at most of each; the line 'not seen' has it for all, since the
+system tells the whole at the end. `rt ci` proves only what it hasn't kept, so a table is of a whole gate after `rt ci
+--anew` or on a machine that kept nothing.
 
-A function's cost goes by the files that a check keeps of it: the processor time from the file before to the file itself.
-The first file of each batch of functions (the check's lines 'so far:') also has that batch's start. A definition or a
-lemma has a line of its own. The libraries below the crate are built first, and the checkout stays as it is.
+A function's cost goes by the files that a check keeps of it: the processor time from the file before to the file
+itself. The first file of each batch of functions (the check's lines 'so far:') also has that batch's start. A
+definition or a lemma has a line of its own. The libraries below the crate are built first, and the checkout stays as
+it is.
 """
 import collections
 import os
@@ -148,7 +149,7 @@ class Costs:
 
 
 def watch(command, **how):
-    """Runs a command to its end. Gives its costs, its status, and the seconds that it took, of the clock and of processors."""
+    """Runs a command. Gives its costs, its status, and the seconds that it took, of the clock and of processors."""
     costs, began = Costs(), time.time()
     process = subprocess.Popen(command, **how)
     # (Ctrl-C reaches the command too; the table is shown all the same)

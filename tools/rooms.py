@@ -2,8 +2,8 @@
 
 rt lets one command at a time into a crate of a checkout and all crates below it. So commands that are to run side by
 side, or that are to leave the checkout as it is, get a room each: a copy of the crates' texts, with links to the
-libraries in their out/. What is made in a room fits the checkout, since rt knows a library by what it was made of, and
-not by where it lies.
+libraries in their out/. What is made in a room fits the checkout, since rt knows a library by what it was made of,
+and not by where it lies.
 """
 import contextlib
 import fcntl
@@ -153,7 +153,7 @@ class Rooms:
 
     def recover(self):
         """Gives back what a run that was killed left."""
-        for name in ROWS:
+        for name in ROWS if os.path.isdir(self.folder) and os.stat(self.folder).st_uid == os.geteuid() else ():
             if os.path.isdir(self.out(name)):
                 self.give_back(name)
 
