@@ -13,6 +13,7 @@ and status 70. Ctrl-C ends all checks and keeps what they proved.
 import ctypes
 import os
 import re
+import shutil
 import signal
 import subprocess
 import sys
@@ -28,6 +29,8 @@ MOST_JOBS = 4
 LONG = 300
 # A crate that was built before ends within so many seconds, without a line.
 QUICK = 5
+# What all crates keep in their out/ on disk.
+DISK = 10 * GB
 LOGS = f"{rooms.ROOT}/out/prove"
 FAILED = 70
 # The death of its parent ends a child by this signal (prctl).
@@ -208,7 +211,12 @@ def main():
     names = [*rooms.below(goal), goal]
     for it in (signal.SIGINT, signal.SIGTERM, signal.SIGHUP):
         signal.signal(it, stop)
+    if not shutil.which("rt"):
+        sys.exit("m2c: there is no rt on the path, which proves and builds the program: it comes with the kit")
     os.makedirs(LOGS, exist_ok=True)
+    left = shutil.disk_usage(LOGS).free
+    if left < DISK:
+        say(f"note: {left // GB} GB of disk are left, and a start from nothing takes about {DISK // GB}")
     shelf = rooms.Rooms("prove")
     with rooms.held(names):
         shelf.recover()
