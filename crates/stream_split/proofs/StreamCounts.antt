@@ -10,9 +10,9 @@ use Rattle.stream_split.specs.declared.sorts.Sort.{Sort}
 use Rattle.stream_split.specs.declared.sorts.Sort.TheVariants.{Stop, Semicolon}
 use Rattle.stream_split.specs.declared.cutter.Mode.{Mode}
 use Rattle.stream_split.specs.declared.streams.StreamTokens.{StreamTokens}
-use Rattle.stream_split.specs.Cut.{Enclosed, Event, State, state, heading, start, next, heading_opens, opens_by, events, opened, sort}
+use Rattle.stream_split.specs.Cut.{Enclosed, Event, State, state, heading, start, next, heading_opens, opens_by, events, opened, pick, sort}
 use Rattle.stream_split.specs.Procedures.{HasStream}
-use Rattle.stream_split.specs.Streams.{StreamOf, definition_stream, definition_streams, main_number, main_streams, main_tokens, procedure_streams, streams_of, tokens_in}
+use Rattle.stream_split.specs.Streams.{StreamOf, definition_stream, definition_streams, main_number, main_streams, main_tokens, module_stream, procedure_streams, streams_of, tokens_in}
 use Rattle.stream_split.specs.Views.{stream_view}
 use Rattle.m2_base.specs.Finished.{tokens_of}
 use Rattle.m2_base.specs.Trees.{Stream}
@@ -161,6 +161,18 @@ definition_at u k n g = on 1 u.order k g ∙ ap (λ i. Some (definition_stream i
     on j [] i g = cc
     on j (x ∷ order) zero g = let same : x ≡ n = cc in let here : j ≡ j + 0 = omega arith in λ i. Some (definition_stream (here i) (same i) (tokens_of u (same i)))
     on j (x ∷ order) (suc i) g = let next_is : suc j + i ≡ j + suc i = omega arith in on (suc j) order i g ∙ ap (λ m. Some (definition_stream m n (tokens_of u n))) next_is
+
+-- behind them that of the main module
+pub module_at : (u : UnitTexts) (s : StreamOf) → slice_get (streams_of u) (length u.order) ≡ Some s → s ≡ module_stream (main_number u) s.tokens
+module_at u s g =
+    let m : ℕ = main_number u in
+    let defs : List StreamOf = definition_streams 1 u.list u.order in
+    let first : StreamOf = module_stream m (pick m (events (start m) (main_tokens u))) in
+    let l = definitions_length 1 u.list u.order in
+    let place : length u.order ≡ length defs + 0 = omega (arith, l) in
+    let there : slice_get (streams_of u) (length u.order) ≡ Some first = ap (slice_get (streams_of u)) place ∙ got_behind defs (main_streams m (main_tokens u)) 0 in
+    let same : first ≡ s = (let e = sym there ∙ g in cc) in
+    sym same ∙ ap (λ (x : StreamOf). module_stream m x.tokens) same
 
 -- ** Rows
 

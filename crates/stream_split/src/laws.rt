@@ -24,7 +24,7 @@ ghost use Rattle.stream_split.specs.Fronts.{AreFronts};
 ghost use Rattle.stream_split.specs.Procedures.{HasProcedure, HasStream};
 ghost use Rattle.stream_split.specs.Rooms.{rows_of, rows_of_scopes};
 ghost use Rattle.stream_split.specs.Sizes.{sizes_of};
-ghost use Rattle.stream_split.specs.Streams.{StreamOf, definition_stream, main_number, main_streams, main_tokens, streams_of};
+ghost use Rattle.stream_split.specs.Streams.{StreamOf, definition_stream, main_number, main_streams, main_tokens, module_stream, streams_of};
 ghost use Rattle.stream_split.specs.Surroundings.{AreTreesOf, IsSurrounded, surroundings_of};
 
 /// A main text has the trees that its streams have, stream by stream, and has them where each stream has one. Where it has a
@@ -51,6 +51,7 @@ pub fn definition_streams_agree_with_the_text()
 pub fn streams_have_their_places()
     ensures numbers { (u : UnitTexts) (k : ℕ) (s : StreamOf) → slice_get (streams_of u) k ≡ Some s → s.stream ≡ k + 1 }
     ensures definitions { (u : UnitTexts) (k n : ℕ) → slice_get u.order k ≡ Some n → slice_get (streams_of u) k ≡ Some (definition_stream (k + 1) n (tokens_of u n)) }
+    ensures main { (u : UnitTexts) (s : StreamOf) → slice_get (streams_of u) (length u.order) ≡ Some s → s ≡ module_stream (main_number u) s.tokens }
     ensures count { (u : UnitTexts) → IsUnit u → length (streams_of u) ≡ main_number u + length (procedures_of (main_tokens u)) }
     ensures procedures { (u : UnitTexts) (k : ℕ) (p : Begun) → IsUnit u → slice_get (procedures_of (main_tokens u)) k ≡ Some p → HasStream (streams_of u) (main_number u + k) (main_number u + k + 1) p }
     ensures streams { (u : UnitTexts) (k : ℕ) (s : StreamOf) → IsUnit u → slice_get (streams_of u) (main_number u + k) ≡ Some s → HasProcedure (procedures_of (main_tokens u)) k (main_number u + k + 1) s }
