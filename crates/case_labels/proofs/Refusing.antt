@@ -1,6 +1,7 @@
 -- What is noted of labels.
 use Rattle.std.proofs.Common.{◌≡◌, ◌∙◌, ℕ, Ok, Err, refl, sym}
 use Rattle.std.proofs.lemmas.List.{append-nil}
+use Rattle.m2_base.specs.Noting.{IsRefused}
 use Rattle.m2_base.specs.Gives.{Gives}
 use Rattle.m2_base.specs.Lists.{IsPrefixOf}
 use Rattle.m2_base.specs.States.{Frame, State}
@@ -10,7 +11,6 @@ use Rattle.m2_base.specs.declared.notes.Notes.{Notes}
 use Rattle.m2_base.specs.declared.replies.Ask.TheVariants.{Known}
 use Rattle.m2_base.specs.declared.sites.Site.{Site}
 use Rattle.m2_base.proofs.Kept.{Works-notes}
-use Rattle.type_rules.specs.Sites.{IsRefused}
 use Rattle.const_eval.specs.Analyses.{Analysed}
 
 -- a diagnostic is noted in the site's text

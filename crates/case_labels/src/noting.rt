@@ -1,14 +1,11 @@
 //! A label that is wrong is noted.
 ghost use Rattle.std.specs.Prelude.{◌≡◌, [], ◌∷◌, ◌++◌, if◌then◌else◌, IfOk};
+ghost use Rattle.m2_base.specs.Noting.{IsRefused};
 ghost use Rattle.m2_base.specs.Lists.{IsPrefixOf};
 ghost use Rattle.m2_base.specs.Statics.Diagnostics.{wrong_label};
 ghost use Rattle.case_labels.specs.Labels.{label_fault};
-ghost use Rattle.type_rules.specs.Sites.{IsRefused};
 
-use m2_base::{Diag, Memory, Notes, Site};
-
-/// The code of a label that doesn't go with the type, or that is covered already.
-const WRONG_LABEL: u8 = 58;
+use m2_base::{Diagnostic, Memory, Notes, Site, put};
 
 /// Notes a label that is wrong, in the site's text.
 pub(crate) fn refuse(site: &Site, at: u32, notes: &mut Notes) -> Result<(), Memory>
@@ -16,13 +13,7 @@ pub(crate) fn refuse(site: &Site, at: u32, notes: &mut Notes) -> Result<(), Memo
     ensures diags { IsPrefixOf notes.old.diags.items notes.new.diags.items }
     ensures answers { notes.new.answers.items ≡ notes.old.answers.items }
 {
-    let text = site.around.text;
-    notes.diags.push(Diag {
-        text,
-        at,
-        code: WRONG_LABEL,
-    })?;
-    Ok(())
+    notes.refuse(site.around.text, at, Diagnostic::WrongLabel)
 }
 
 /// Notes a label, if it is wrong.

@@ -1,6 +1,7 @@
 -- Analyses one after another.
 use Rattle.std.proofs.Common.{◌≡◌, ◌∙◌, ◌++◌, ◌∷◌, [], ℕ, Result, Ok, Err, ap, sym, subst, refl, append_assoc}
 use Rattle.std.specs.Result.{IfOk}
+use Rattle.m2_base.specs.Diagnostics.{code_of}
 use Rattle.m2_base.specs.Asks.{IfKnown, IfWaits}
 use Rattle.m2_base.specs.Gives.{Adds, Gives, and_then, gives}
 use Rattle.m2_base.specs.Lists.{IsPrefixOf}
@@ -21,7 +22,7 @@ use Rattle.type_rules.specs.Scenes.{Hand, IsThere, WhereTold}
 use Rattle.type_rules.specs.Sites.{AreOfSite, context_of}
 use Rattle.type_rules.proofs.Compatibles.{told_later}
 use Rattle.const_eval.specs.Analyses.{Analysed}
-use Rattle.const_eval.specs.Judgements.{code_of, judged, judged_or}
+use Rattle.const_eval.specs.Judgements.{judged, judged_or}
 use Rattle.const_eval.specs.Sites.{IsOperand}
 use Rattle.const_eval.specs.declared.faults.Fault.{Fault}
 

@@ -1,6 +1,7 @@
 -- Two numbers of which one is refused.
 use Rattle.std.proofs.Common.{◌≡◌, ◌∙◌, ℕ, Bool, true, false, [], ◌∷◌, Option, Some, None, Ok, Err, refl, sym, ap, if◌then◌else◌}
 use Rattle.std.specs.Prelude.{◌&&◌, ◌||◌, unwrap_or}
+use Rattle.m2_base.specs.Diagnostics.{code_of}
 use Rattle.m2_base.specs.Gives.{Gives, and_then, gives}
 use Rattle.m2_base.specs.Rows.{is_same_place}
 use Rattle.m2_base.specs.declared.rows.Place.{Place}
@@ -19,7 +20,7 @@ use Rattle.m2_base.specs.declared.operands.FoldKind.{FoldKind}
 use Rattle.m2_base.specs.declared.operands.Operand.{Operand}
 use Rattle.m2_base.specs.declared.operands.Operand.TheVariants.{Constant, InError}
 use Rattle.m2_base.proofs.TypeLaws.{same_place-is}
-use Rattle.const_eval.specs.Judgements.{code_of, judged}
+use Rattle.const_eval.specs.Judgements.{judged}
 use Rattle.const_eval.specs.declared.faults.Fault.{Fault}
 
 result_bad : (c : Context) (at : ℕ) (k : FoldKind) (op : Operator) (t : Place) (x y : Operand) → is_bad x || is_bad y ≡ true → gives_result c at k op t x y ≡ gives InError

@@ -1,6 +1,7 @@
 -- Arguments that are types, and what is refused there.
 use Rattle.std.proofs.Common.{◌≡◌, ◌∙◌, ℕ, ℤ, Bool, true, false, Result, Err, refl, sym, ap, if◌then◌else◌}
 use Rattle.std.specs.Prelude.{◌&&◌, is_none, not}
+use Rattle.m2_base.specs.Diagnostics.{code_of}
 use Rattle.m2_base.specs.Finished.{IsFinished}
 use Rattle.m2_base.specs.Gives.{Gives, and_then, gives}
 use Rattle.m2_base.specs.Rows.{is_same_place}
@@ -20,7 +21,7 @@ use Rattle.m2_base.specs.declared.sites.Site.{Site}
 use Rattle.type_rules.specs.Asks.{WhereKnown}
 use Rattle.type_rules.specs.Scenes.{Hand}
 use Rattle.type_rules.specs.Sites.{SuitsSite, context_of}
-use Rattle.const_eval.specs.Judgements.{code_of, judged, judged_or}
+use Rattle.const_eval.specs.Judgements.{judged, judged_or}
 use Rattle.const_eval.specs.declared.faults.Fault.{Fault}
 use Rattle.const_eval.proofs.Standard.{broken_range, broken_stands}
 

@@ -1,5 +1,6 @@
 //! Calls of standard functions in constants.
 ghost use Rattle.std.specs.Prelude.{◌≡◌, IfOk, List, map};
+ghost use Rattle.m2_base.specs.Diagnostics.{code_of};
 ghost use Rattle.m2_base.specs.Gives.{and_then};
 ghost use Rattle.m2_base.specs.States.{State, Waits};
 ghost use Rattle.m2_base.specs.Statics.Constants.{call_of as spec_call, value_wanted as spec_value_wanted};
@@ -8,7 +9,7 @@ ghost use Rattle.m2_base.specs.Statics.Functions.{ordinal_argument as spec_ordin
 ghost use Rattle.m2_base.specs.declared.operands.Operand.TheVariants as operands;
 ghost use Rattle.const_eval.specs.Analyses.{Analysed};
 ghost use Rattle.const_eval.specs.Calls.{IsSummary, argument, call_kind as spec_kind, call_with as spec_call_with, called, of_type as spec_of_type, of_value as spec_of_value, with_one, with_two};
-ghost use Rattle.const_eval.specs.Judgements.{code_of, judged};
+ghost use Rattle.const_eval.specs.Judgements.{judged};
 ghost use Rattle.const_eval.specs.Sites.{AreArguments, IsCall, IsOperand};
 ghost use Rattle.const_eval.specs.declared.calls.Call.TheVariants as calls;
 ghost use Rattle.type_rules.specs.Asks.{Reads, WhereKnown, WhereWaiting};
@@ -17,12 +18,15 @@ ghost use Rattle.type_rules.specs.Sites.{SuitsSite, context_of};
 
 use crate::arguments::{Arguments, Shape};
 use crate::extremes::{Extreme, extreme_of, size_value};
-use crate::faults::{Fault, FaultKind};
+use crate::faults::Fault;
 use crate::functions::{abs_of, cap_of, chr_of, odd_of, ord_of, ordinal_type_argument, val_of};
 use crate::noting::{note, note_type};
 use crate::operands::Argument;
 use crate::values::value_wanted;
-use m2_base::{Ask, Builtin, Memory, Notes, Operand, Place, Scopes, Site, standard_procedure};
+use m2_base::{
+    Ask, Builtin, Diagnostic, Memory, Notes, Operand, Place, Scopes, Site, analysed,
+    standard_procedure,
+};
 
 /// A function of a value.
 #[derive(Clone, Copy)]
@@ -291,7 +295,7 @@ fn call_of_type_and_value<S: Scopes>(
 pub(crate) fn fault_noted(
     site: &Site,
     at: u32,
-    kind: FaultKind,
+    kind: Diagnostic,
     notes: &mut Notes,
 ) -> Result<Ask<Operand>, Memory>
     ensures { (now : State) → Analysed now now notes.old notes.new site.now result IsOperand (λ c. refuse c at (code_of kind) operands.InError) }
@@ -319,7 +323,7 @@ fn builtin_call<S: Scopes>(
         }
         Call::OfTypeAndValue(of, arg) => call_of_type_and_value(scopes, site, of, arg, notes),
         Call::OfNone => Ok(Ask::Known(args.no_constant())),
-        Call::WrongCount => fault_noted(site, at, FaultKind::WrongCount, notes),
+        Call::WrongCount => fault_noted(site, at, Diagnostic::WrongCount, notes),
     }
 }
 
@@ -341,7 +345,7 @@ pub(crate) fn call_with<S: Scopes>(
             let call = call_kind(standard_procedure(name), args.shape);
             builtin_call(scopes, site, at, args, call, notes)
         }
-        Operand::ModuleName(_) => fault_noted(site, at, FaultKind::NotAVariable, notes),
+        Operand::ModuleName(_) => fault_noted(site, at, Diagnostic::NotAVariable, notes),
         Operand::InError => Ok(Ask::Known(Operand::InError)),
         _ => Ok(Ask::Known(args.no_constant())),
     }

@@ -16,8 +16,7 @@ ghost use Rattle.type_rules.specs.Sites.{AreOfSite, SuitsSite};
 
 use crate::calls::fault_noted;
 use crate::expressions::value_in;
-use crate::faults::FaultKind;
-use m2_base::{Ask, Expr, Memory, Notes, Operand, Place, Scopes, Site};
+use m2_base::{Ask, Diagnostic, Expr, Memory, Notes, Operand, Place, Scopes, Site, analysed};
 use type_rules::TEXT;
 
 /// Whether a type is that of strings.
@@ -47,7 +46,7 @@ fn constant_or_refused(
         Operand::StringConstant(..) => Ok(Ask::Known(Some(operand))),
         Operand::InError => Ok(Ask::Known(None)),
         _ => {
-            let _in_error = analysed!(fault_noted(site, at, FaultKind::NotAConstant, notes));
+            let _in_error = analysed!(fault_noted(site, at, Diagnostic::NotAConstant, notes));
             Ok(Ask::Known(None))
         }
     }

@@ -16,9 +16,9 @@ ghost use Rattle.type_rules.specs.Asks.{Reads, WhereKnown, WhereWaiting};
 ghost use Rattle.type_rules.specs.Scenes.{IsThere, WhereTold};
 ghost use Rattle.type_rules.specs.Sites.{SuitsSite, context_of};
 
-use crate::faults::{Fault, FaultKind};
+use crate::faults::Fault;
 use crate::functions::ordinal_type_argument;
-use m2_base::{Ask, Operand, Place, Scopes, Site};
+use m2_base::{Ask, Diagnostic, Operand, Place, Scopes, Site, known};
 use type_rules::{CARDINAL, is_open_array, range_of, size_of};
 
 /// An end of a range.

@@ -18,13 +18,13 @@ ghost use Rattle.type_rules.specs.Asks.{Reads, WhereKnown, WhereWaiting};
 ghost use Rattle.type_rules.specs.Scenes.{IsThere, WhereTold};
 ghost use Rattle.type_rules.specs.Sites.{SuitsSite, context_of};
 
-use crate::faults::{Fault, FaultKind};
+use crate::faults::Fault;
 use crate::numbers::{number_kind, number_type};
 use crate::operands::{char_or_same, is_bad};
 use crate::operators::is_number;
 use crate::pairs::{is_ordinal, is_within};
 use crate::structures::is_broken;
-use m2_base::{Ask, Operand, Place, Scopes, Site};
+use m2_base::{Ask, Diagnostic, GREATEST_INTEGER, Operand, Place, Scopes, Site, known};
 use type_rules::{BOOLEAN, BROKEN, CARDINAL, CHARACTER, INTEGER, base_of, operand_type, range_of};
 
 /// An argument under a condition, or what is refused otherwise.
@@ -224,7 +224,7 @@ fn absolute(at: u32, of: Place, x: Operand) -> Result<Operand, Fault>
     match x {
         Operand::Constant(_, value) => {
             let value = value.abs();
-            if of == INTEGER && value > 2_147_483_647 {
+            if of == INTEGER && value > GREATEST_INTEGER {
                 return fault!(at, OutOfRange);
             }
             Ok(Operand::Constant(of, value))

@@ -6,35 +6,12 @@
 //! the answer is the definition's, `waits` of which scope it isn't known yet, `reads` what stays as before.
 #![tactic(auto)]
 
-/// The value of an answer, or the end of the function where it isn't known yet.
-macro_rules! known {
-    ($asked:expr) => {
-        match $asked {
-            Ask::Known(value) => value,
-            Ask::DontKnowYet(head) => return Ask::DontKnowYet(head),
-        }
-    };
-}
-
-/// The value of an analysis, or the end of the function where it isn't known yet or memory is wanted.
-macro_rules! analysed {
-    ($asked:expr) => {
-        match $asked {
-            Ok(asked) => match asked {
-                Ask::Known(value) => value,
-                Ask::DontKnowYet(head) => return Ok(Ask::DontKnowYet(head)),
-            },
-            Err(memory) => return Err(memory),
-        }
-    };
-}
-
 /// A judgement that something is wrong at a token.
 macro_rules! fault {
     ($at:expr, $kind:ident) => {
         Err(Fault {
             at: $at,
-            kind: FaultKind::$kind,
+            kind: Diagnostic::$kind,
         })
     };
 }
@@ -66,7 +43,7 @@ pub use calls::{
 };
 pub use constants::constant;
 pub use extremes::{Extreme, extreme_of, size_value};
-pub use faults::{Fault, FaultKind};
+pub use faults::Fault;
 pub use functions::{
     abs_of, cap_of, char_of_string, chr_of, odd_of, ord_of, ordinal_type_argument, val_of,
 };

@@ -13,12 +13,12 @@ ghost use Rattle.type_rules.specs.Asks.{Reads, WhereKnown, WhereWaiting};
 ghost use Rattle.type_rules.specs.Scenes.{IsThere, WhereTold};
 ghost use Rattle.type_rules.specs.Sites.{SuitsSite, context_of};
 
-use crate::faults::{Fault, FaultKind};
+use crate::faults::Fault;
 use crate::numbers::member_of_set;
 use crate::operands::Argument;
 use crate::pairs::{as_number, compatible_pair, is_ordinal};
 use crate::structures::{is_broken, set_row};
-use m2_base::{Ask, Operand, Place, Scopes, Site};
+use m2_base::{Ask, Diagnostic, Operand, Place, Scopes, Site, known};
 use type_rules::{base_of, operand_type};
 
 /// An operand under a condition.

@@ -1,5 +1,6 @@
 //! A fault becomes a diagnostic.
 ghost use Rattle.std.specs.Prelude.{◌≡◌, ◌++◌, ◌∷◌, [], IfOk, OnErr};
+ghost use Rattle.m2_base.specs.Diagnostics.{code_of};
 ghost use Rattle.m2_base.specs.Asks.{IfKnown, IfWaits};
 ghost use Rattle.m2_base.specs.Gives.{Adds, Gives};
 ghost use Rattle.m2_base.specs.Lists.{IsPrefixOf};
@@ -8,13 +9,13 @@ ghost use Rattle.m2_base.specs.States.{Frame};
 ghost use Rattle.m2_base.specs.Statics.Contexts.{Context};
 ghost use Rattle.m2_base.specs.declared.replies.Ask.TheVariants as asks;
 ghost use Rattle.m2_base.specs.declared.rows.Place.{Place as Spot};
-ghost use Rattle.const_eval.specs.Judgements.{code_of, judged, judged_or};
+ghost use Rattle.const_eval.specs.Judgements.{judged, judged_or};
 ghost use Rattle.const_eval.specs.Sites.{IsOperand};
 ghost use Rattle.type_rules.specs.Asks.{WhereKnown};
 ghost use Rattle.type_rules.specs.Scenes.{IsThere};
 
 use crate::faults::Fault;
-use m2_base::{Ask, Diag, Memory, Notes, Operand, Place};
+use m2_base::{Ask, Memory, Notes, Operand, Place};
 use type_rules::BROKEN;
 
 /// Notes a fault in this text.
@@ -23,12 +24,7 @@ fn refuse(text: u32, fault: Fault, notes: &mut Notes) -> Result<(), Memory>
     ensures noted { IfOk result (λ _. notes.new.diags.items ≡ notes.old.diags.items ++ record { text = text; at = fault.at; code = code_of fault.kind } ∷ []) }
     ensures kept { OnErr result (notes.new.diags.items ≡ notes.old.diags.items) }
 {
-    notes.diags.push(Diag {
-        text,
-        at: fault.at,
-        code: fault.kind.code(),
-    })?;
-    Ok(())
+    notes.refuse(text, fault.at, fault.kind)
 }
 
 /// A judgement's operand, where it is known. A fault is noted in this text, and the operand is in error.

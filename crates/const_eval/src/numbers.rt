@@ -14,17 +14,13 @@ ghost use Rattle.const_eval.specs.Judgements.{judged};
 ghost use Rattle.const_eval.specs.Sites.{IsOperand};
 ghost use Rattle.type_rules.specs.Scenes.{IsThere};
 
-use crate::faults::{Fault, FaultKind};
+use crate::faults::Fault;
 use crate::operands::{constant_value, is_bad};
-use m2_base::{FoldKind, Operand, Operator, Place};
+use m2_base::{
+    Diagnostic, FoldKind, GREATEST_CARDINAL, GREATEST_ELEMENT, GREATEST_INTEGER, LEAST_INTEGER,
+    Operand, Operator, Place,
+};
 use type_rules::{BOOLEAN, CARDINAL, INTEGER, WHOLE, fold, operand_type};
-
-/// The least number, INTEGER or whole.
-const LEAST: i64 = -2_147_483_648;
-
-const GREATEST_INTEGER: i64 = 2_147_483_647;
-
-const GREATEST_WHOLE: i64 = 4_294_967_295;
 
 /// Whether an operator gives a number of two numbers.
 pub(crate) fn is_arithmetic(operator: Operator) -> bool
@@ -239,8 +235,22 @@ pub(crate) fn applied(
     match operator {
         Operator::Not if base == BOOLEAN => Ok(negated(operand)),
         Operator::Not => fault!(at, WrongOperands),
-        _ if base == INTEGER => with_sign(at, operator, INTEGER, LEAST, GREATEST_INTEGER, operand),
-        _ if base == WHOLE => with_sign(at, operator, WHOLE, LEAST, GREATEST_WHOLE, operand),
+        _ if base == INTEGER => with_sign(
+            at,
+            operator,
+            INTEGER,
+            LEAST_INTEGER,
+            GREATEST_INTEGER,
+            operand,
+        ),
+        _ if base == WHOLE => with_sign(
+            at,
+            operator,
+            WHOLE,
+            LEAST_INTEGER,
+            GREATEST_CARDINAL,
+            operand,
+        ),
         _ => fault!(at, WrongOperands),
     }
 }
@@ -249,7 +259,7 @@ pub(crate) fn applied(
 fn is_member(value: i64, bits: i64) -> bool
     ensures { result ≡ spec_is_member value bits }
 {
-    0 <= value && value <= 31 && 0 <= bits && bits >> value & 1 == 1
+    0 <= value && value <= GREATEST_ELEMENT && 0 <= bits && bits >> value & 1 == 1
 }
 
 /// Whether an element is in a set.

@@ -17,14 +17,14 @@ ghost use Rattle.type_rules.specs.Asks.{Reads, WhereKnown, WhereWaiting};
 ghost use Rattle.type_rules.specs.Scenes.{IsThere, WhereTold};
 ghost use Rattle.type_rules.specs.Sites.{SuitsSite, context_of};
 
-use crate::faults::{Fault, FaultKind};
+use crate::faults::Fault;
 use crate::membership::membership;
 use crate::numbers::{
     applied, combined, is_arithmetic, is_equality, is_relation, number_operation, set_operation,
 };
 use crate::operands::{Argument, is_bad, is_procedure, worse};
 use crate::pairs::{are_sets_alike, as_number, compatible_pair};
-use m2_base::{Ask, FoldKind, Operand, Operator, Place, Scopes, Site};
+use m2_base::{Ask, Diagnostic, FoldKind, Operand, Operator, Place, Scopes, Site, known};
 use type_rules::{
     BOOLEAN, WHOLE, base_of, bases_of, is_integer_or_cardinal, is_pointer, operand_type, range_of,
 };

@@ -8,7 +8,7 @@ ghost use Rattle.const_eval.specs.Sites.{IsOperand, IsSmallConstant};
 ghost use Rattle.type_rules.specs.Scenes.{IsThere};
 
 use crate::operands::worse;
-use m2_base::{Operand, Place};
+use m2_base::{GREATEST_ELEMENT, Operand, Place};
 
 /// A number that isn't negative; of a negative one 0.
 fn natural(number: i64) -> u64
@@ -21,7 +21,7 @@ fn natural(number: i64) -> u64
 fn span(low: u64, high: u64) -> u64
     ensures { result ≡ spec_span low high }
 {
-    if low <= high && high <= 31 {
+    if low <= high && high <= GREATEST_ELEMENT as u64 {
         (1_u64 << (high + 1)).saturating_sub(1 << low)
     } else {
         0

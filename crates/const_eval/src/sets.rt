@@ -17,11 +17,11 @@ ghost use Rattle.type_rules.specs.Asks.{Reads, WhereKnown, WhereWaiting};
 ghost use Rattle.type_rules.specs.Scenes.{IsThere, WhereTold};
 ghost use Rattle.type_rules.specs.Sites.{SuitsSite, context_of};
 
-use crate::faults::{Fault, FaultKind};
+use crate::faults::Fault;
 use crate::operands::{is_bad, is_procedure};
 use crate::pairs::{compatible_pair, is_within};
 use crate::structures::{is_broken, set_row};
-use m2_base::{Ask, Operand, Place, Scopes, Site};
+use m2_base::{Ask, Diagnostic, Operand, Place, Scopes, Site, known};
 use type_rules::{BROKEN, range_of};
 
 /// The type of a set's row, or what is refused where a type has none.

@@ -6,8 +6,8 @@ ghost use Rattle.m2_base.specs.Statics.Contexts.{Context};
 ghost use Rattle.const_eval.specs.Judgements.{judged};
 ghost use Rattle.const_eval.specs.Sites.{IsOperand};
 
-use crate::faults::{Fault, FaultKind};
-use m2_base::Operand;
+use crate::faults::Fault;
+use m2_base::{Diagnostic, Operand};
 
 /// A variable is no constant.
 pub fn in_constant(operand: Operand) -> Operand

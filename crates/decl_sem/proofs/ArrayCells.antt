@@ -2,6 +2,7 @@
 use Rattle.std.specs.Prelude.{◌≡◌, ℕ, ◌*◌, ◌<◌, ◌≤◌, ◌^◌, Bool, true, false, if◌then◌else◌, List, [], ◌∷◌, length, max, min, nat_lt}
 use Rattle.std.proofs.Common.{refl, sym, ap, ◌∙◌, subst, arith, Ok, Err, Result}
 use Rattle.std.proofs.lemmas.List.{append-nil}
+use Rattle.m2_base.specs.Noting.{IsRefused}
 use Rattle.m2_base.specs.Gives.{gives}
 use Rattle.m2_base.specs.Lists.{IsPrefixOf}
 use Rattle.m2_base.specs.Rows.{array_kind}
@@ -25,7 +26,7 @@ use Rattle.m2_base.specs.declared.rows.RowMeaning.TheVariants.{Array}
 use Rattle.m2_base.specs.declared.sites.Site.{Site}
 use Rattle.type_rules.specs.Asks.{Reads, WhereKnown, WhereWaiting}
 use Rattle.type_rules.specs.Scenes.{IsSaid, IsStood, scene_of}
-use Rattle.type_rules.specs.Sites.{IsRefused, context_of}
+use Rattle.type_rules.specs.Sites.{context_of}
 use Rattle.decl_sem.specs.ArrayRows.{array_row}
 use Rattle.decl_sem.specs.Making.{next_ordinal}
 use Rattle.decl_sem.specs.Pieces.{Declares, IsAny, IsBehind, IsMaking, IsNewMeaning, WhereMaking}

@@ -2,6 +2,7 @@
 use Rattle.std.specs.Prelude.{◌≡◌, ℕ, ℤ, [], ◌∷◌, ◌++◌, Option, None, Some, option_map, unwrap_or}
 use Rattle.std.proofs.Common.{sym, ap, ◌∙◌, refl}
 use Rattle.std.proofs.lemmas.List.{append-nil}
+use Rattle.m2_base.specs.Noting.{IsRefused}
 use Rattle.m2_base.specs.Gives.{Adds}
 use Rattle.m2_base.specs.Statics.Contexts.{Context, refuse}
 use Rattle.m2_base.specs.Statics.Operands.{constant_of_operand, operand_type}
@@ -10,7 +11,6 @@ use Rattle.m2_base.specs.Statics.Types.{base_of, stands_for}
 use Rattle.m2_base.specs.declared.notes.Notes.{Notes}
 use Rattle.m2_base.specs.declared.operands.Operand.{Operand}
 use Rattle.m2_base.specs.declared.rows.Place.{Place}
-use Rattle.type_rules.specs.Sites.{IsRefused}
 use Rattle.decl_sem.specs.Bounds.{IsEndOf, chosen}
 use Rattle.decl_sem.specs.Making.{diag_in}
 use Rattle.decl_sem.specs.declared.bounds.End.{End}

@@ -1,6 +1,7 @@
 -- Types that are kept or refused.
 use Rattle.std.specs.Prelude.{◌≡◌, ℕ, Bool, true, false, if◌then◌else◌, List, []}
 use Rattle.std.proofs.Common.{refl, sym, ap, subst, arith, Ok, Err}
+use Rattle.m2_base.specs.Noting.{IsRefused}
 use Rattle.m2_base.specs.Gives.{Gives, gives}
 use Rattle.m2_base.specs.Lists.{IsPrefixOf}
 use Rattle.m2_base.specs.Standard.{broken}
@@ -14,7 +15,7 @@ use Rattle.m2_base.specs.declared.notes.Notes.{Notes}
 use Rattle.m2_base.specs.declared.replies.Ask.TheVariants.{Known}
 use Rattle.m2_base.specs.declared.rows.Place.{Place}
 use Rattle.m2_base.specs.declared.sites.Site.{Site}
-use Rattle.type_rules.specs.Sites.{IsRefused, context_of}
+use Rattle.type_rules.specs.Sites.{context_of}
 use Rattle.decl_sem.specs.Making.{next_ordinal}
 use Rattle.decl_sem.specs.Pieces.{Declares, IsBehind, IsMaking}
 use Rattle.decl_sem.specs.declared.making.Made.{Made}

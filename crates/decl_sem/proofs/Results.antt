@@ -1,6 +1,7 @@
 -- The results of procedure types.
 use Rattle.std.specs.Prelude.{◌≡◌, ℕ, Bool, true, false, if◌then◌else◌, [], Option, Some}
 use Rattle.std.proofs.Common.{refl, sym, ap, subst, Ok, Result}
+use Rattle.m2_base.specs.Noting.{IsRefused}
 use Rattle.m2_base.specs.Gives.{Gives, and_then, gives}
 use Rattle.m2_base.specs.Lists.{IsPrefixOf}
 use Rattle.m2_base.specs.Standard.{broken}
@@ -17,7 +18,7 @@ use Rattle.m2_base.specs.declared.replies.Ask.TheVariants.{Known}
 use Rattle.m2_base.specs.declared.rows.Place.{Place}
 use Rattle.m2_base.specs.declared.sites.Site.{Site}
 use Rattle.m2_base.specs.declared.trees.Qual.{Qual}
-use Rattle.type_rules.specs.Sites.{IsRefused, context_of}
+use Rattle.type_rules.specs.Sites.{context_of}
 use Rattle.decl_sem.specs.Making.{next_ordinal}
 use Rattle.decl_sem.specs.Pieces.{Declares, IsBehind, IsMaking, IsOptionBehind}
 use Rattle.decl_sem.specs.declared.making.Made.{Made}

@@ -1,6 +1,7 @@
 -- The type of a tag.
 use Rattle.std.specs.Prelude.{◌≡◌, ℕ, ◌<◌, ◌^◌, Bool, true, false, if◌then◌else◌, [], Result, Ok}
 use Rattle.std.proofs.Common.{refl, sym, ap, subst}
+use Rattle.m2_base.specs.Noting.{IsRefused}
 use Rattle.m2_base.specs.Gives.{Gives, and_then, gives}
 use Rattle.m2_base.specs.Lists.{IsPrefixOf}
 use Rattle.m2_base.specs.Standard.{broken}
@@ -18,7 +19,7 @@ use Rattle.m2_base.specs.declared.rows.Place.{Place}
 use Rattle.m2_base.specs.declared.sites.Site.{Site}
 use Rattle.m2_base.specs.declared.trees.Qual.{Qual}
 use Rattle.type_rules.specs.Scenes.{IsThere}
-use Rattle.type_rules.specs.Sites.{IsRefused, context_of}
+use Rattle.type_rules.specs.Sites.{context_of}
 use Rattle.decl_sem.specs.Making.{next_ordinal}
 use Rattle.decl_sem.specs.Pieces.{Declares, IsMaking}
 use Rattle.decl_sem.specs.Records.{IsTagType}

@@ -2,6 +2,7 @@
 use Rattle.std.specs.Prelude.{◌≡◌, ℕ, ◌<◌, ◌^◌}
 use Rattle.std.proofs.Common.{refl, sym, ap, ◌∙◌, subst, arith, Ok, Err, Result}
 use Rattle.std.proofs.lemmas.List.{append-nil}
+use Rattle.m2_base.specs.Noting.{IsRefused}
 use Rattle.m2_base.specs.Gives.{Gives}
 use Rattle.m2_base.specs.Lists.{IsPrefixOf}
 use Rattle.m2_base.specs.Rows.{IsBefore}
@@ -17,7 +18,6 @@ use Rattle.m2_base.specs.declared.sites.Around.{Around}
 use Rattle.m2_base.specs.declared.sites.Site.{Site}
 use Rattle.m2_base.proofs.Kept.{Works-notes}
 use Rattle.type_rules.specs.Scenes.{IsThere, Suits}
-use Rattle.type_rules.specs.Sites.{IsRefused}
 use Rattle.const_eval.specs.Analyses.{Analysed}
 use Rattle.const_eval.proofs.TypesThere.{standard_there}
 

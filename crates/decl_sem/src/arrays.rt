@@ -18,14 +18,16 @@ ghost use Rattle.decl_sem.specs.Stood.{IsOfSomeRow, elements_by as spec_elements
 
 use crate::cells::{capped, fit};
 use crate::making::{Made, put_plain};
-use crate::sets::{keep_or_refuse, range_by};
+use crate::sets::keep_or_refuse;
 use crate::standing::stand_in;
 use crate::variables::cells_of;
-use m2_base::{Ask, Memory, Place, RowMeaning, Scopes, Site};
-use type_rules::BROKEN;
+use m2_base::{
+    Ask, MOST_CELLS, Memory, Place, RowMeaning, Scopes, Site, analysed, asked, known, put,
+};
+use type_rules::{BROKEN, range_by};
 
 /// An index type has at most so many values.
-const MOST_VALUES: u64 = 16_777_215;
+const MOST_VALUES: u64 = MOST_CELLS as u64;
 
 /// The number of values of a range.
 fn count_of(low: i64, high: i64) -> u64
@@ -123,7 +125,7 @@ pub(crate) fn checked_index<S: Scopes>(
     requires there { IsBehind (S.state scopes.old).frame (next_ordinal made.old) of }
     ensures { Declares (S.state scopes.old) (S.state scopes.new) made.old made.new site.now result [] IsBehind (λ c. only_gives (spec_index c at of)) }
 {
-    let stood = ask!(stand_in(scopes, site, made, of));
+    let stood = asked!(stand_in(scopes, site, made, of));
     let keep = may_be_index(stood);
     let index = put!(keep_or_refuse(site, at, keep, of, made));
     Ok(Ask::Known(index))
@@ -143,7 +145,7 @@ fn put_array<S: Scopes>(
     requires of { IsBehind (S.state scopes.old).frame (next_ordinal made.old) of }
     ensures { Declares (S.state scopes.old) (S.state scopes.new) made.old made.new site.now result (nameless array_kind at ∷ []) IsBehind (λ c. array_row c at index of) }
 {
-    let size = ask!(array_cells(scopes, site, made, index, of));
+    let size = asked!(array_cells(scopes, site, made, index, of));
     let array = put!(put_plain(site, made, at, RowMeaning::Array(index, of, size)));
     let kept = put!(fit(site, at, size, array, made));
     Ok(Ask::Known(kept))
@@ -165,7 +167,7 @@ pub(crate) fn put_arrays<S: Scopes>(
 {
     let mut array = of;
     for index in indexes.iter().rev() {
-        array = made!(put_array(scopes, site, at, *index, array, made));
+        array = analysed!(put_array(scopes, site, at, *index, array, made));
     }
     Ok(Ask::Known(array))
 }

@@ -21,13 +21,8 @@ ghost use Rattle.decl_sem.specs.Bounds.{AreBounds, IsChoice, IsEnd, IsEndOf, IsV
 
 use crate::names::refuse;
 use const_eval::is_within;
-use m2_base::{Memory, Notes, Place, Site};
+use m2_base::{Diagnostic, Memory, Notes, Place, Site, put};
 use type_rules::{BROKEN, CARDINAL, INTEGER, WHOLE, is_integer_or_cardinal};
-
-/// The codes of a bound that is out of range, and of bounds that don't fit each other or the base.
-const OUT_OF_RANGE: u8 = 47;
-
-const WRONG_OPERANDS: u8 = 49;
 
 /// A base and its bounds.
 #[derive(Clone, Copy)]
@@ -212,8 +207,8 @@ fn note_both(site: &Site, low_at: u32, high_at: u32, notes: &mut Notes) -> Resul
     ensures diags { IsPrefixOf notes.old.diags.items notes.new.diags.items }
     ensures noted { IfOk result (λ _. notes.new.diags.items ≡ (notes.old.diags.items ++ diag_in site.now.around.now.text low_at out_of_range ∷ []) ++ diag_in site.now.around.now.text high_at out_of_range ∷ []) }
 {
-    put!(refuse(site, low_at, OUT_OF_RANGE, notes));
-    refuse(site, high_at, OUT_OF_RANGE, notes)
+    put!(refuse(site, low_at, Diagnostic::OutOfRange, notes));
+    refuse(site, high_at, Diagnostic::OutOfRange, notes)
 }
 
 /// The bounds, where they are right; what is wrong is noted.
@@ -231,10 +226,10 @@ pub(crate) fn note_verdict(
 {
     match verdict {
         Verdict::Right(bounds) => return Ok(Some(bounds)),
-        Verdict::LowOutside => put!(refuse(site, low_at, OUT_OF_RANGE, notes)),
-        Verdict::HighOutside => put!(refuse(site, high_at, OUT_OF_RANGE, notes)),
+        Verdict::LowOutside => put!(refuse(site, low_at, Diagnostic::OutOfRange, notes)),
+        Verdict::HighOutside => put!(refuse(site, high_at, Diagnostic::OutOfRange, notes)),
         Verdict::BothOutside => put!(note_both(site, low_at, high_at, notes)),
-        Verdict::Wrong => put!(refuse(site, high_at, WRONG_OPERANDS, notes)),
+        Verdict::Wrong => put!(refuse(site, high_at, Diagnostic::WrongOperands, notes)),
         Verdict::Nothing => (),
     }
     Ok(None)

@@ -8,14 +8,11 @@ ghost use Rattle.decl_sem.specs.Pieces.{Declares, IsBehind, IsMaking, known_of};
 
 use crate::making::Made;
 use crate::names::refuse;
-use m2_base::{Memory, Place, Site};
+use m2_base::{Diagnostic, MOST_CELLS, Memory, Place, Site, put};
 use type_rules::BROKEN;
 
 /// One more than a type or a block may have.
-pub(crate) const TOO_MANY: u32 = 16_777_216;
-
-/// The code of a type of too many cells.
-const TOO_MANY_CELLS: u8 = 62;
+pub(crate) const TOO_MANY: u32 = MOST_CELLS + 1;
 
 /// What would be more than too many is counted as too many.
 pub(crate) fn capped(cells: u64) -> u32
@@ -41,6 +38,6 @@ pub(crate) fn fit(
     if size < TOO_MANY {
         return Ok(of);
     }
-    put!(refuse(site, at, TOO_MANY_CELLS, &mut made.notes));
+    put!(refuse(site, at, Diagnostic::TooManyCells, &mut made.notes));
     Ok(BROKEN)
 }

@@ -6,11 +6,8 @@ ghost use Rattle.m2_base.specs.Statics.Contexts.{Context};
 ghost use Rattle.m2_base.specs.Views.{stream_view};
 ghost use Rattle.decl_sem.specs.Closing.{IsCheckedAlone, IsOfBlock};
 
-use m2_base::{Ask, Diag, Ident, Memory, Notes, Scopes, Site, Stream};
+use m2_base::{Ask, Diag, Diagnostic, Ident, Memory, Notes, Scopes, Site, Stream};
 use std::alloc::Global;
-
-/// The code of a closing name that isn't the block's.
-const CLOSING_NAME_DIFFERS: u8 = 21;
 
 /// The name of a block: its procedure's, or its module's.
 fn block_name(stream: &Stream) -> Option<Ident>
@@ -36,7 +33,7 @@ fn check_name(
     };
     if name.name != close.name {
         let at = close.at;
-        let code = CLOSING_NAME_DIFFERS;
+        let code = Diagnostic::ClosingNameDiffers.code();
         diags.push(Diag { text, at, code })?;
     }
     Ok(())

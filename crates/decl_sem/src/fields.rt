@@ -25,14 +25,11 @@ use crate::putting::plain_row;
 use crate::sets::range_by;
 use crate::standing::stand_in;
 use crate::variables::cells_of;
-use m2_base::{Ask, Ident, Memory, Notes, Place, Qual, RowMeaning, Scopes, Site};
+use m2_base::{
+    Ask, Diagnostic, Ident, Memory, Notes, Place, Qual, RowMeaning, Scopes, Site, analysed, asked,
+    put,
+};
 use type_rules::BROKEN;
-
-/// The code of a field whose name the record has already.
-const DECLARED_TWICE: u8 = 42;
-
-/// The code of a tag whose type isn't ordinal.
-const WRONG_OPERANDS: u8 = 49;
 
 /// Notes a second field of a name.
 fn note_second(site: &Site, at: u32, second: bool, notes: &mut Notes) -> Result<(), Memory>
@@ -41,7 +38,7 @@ fn note_second(site: &Site, at: u32, second: bool, notes: &mut Notes) -> Result<
     ensures answers { notes.new.answers.items ≡ notes.old.answers.items }
 {
     if second {
-        put!(refuse(site, at, DECLARED_TWICE, notes));
+        put!(refuse(site, at, Diagnostic::DeclaredTwice, notes));
     }
     Ok(())
 }
@@ -139,7 +136,7 @@ fn keep_tag(site: &Site, at: u32, wrong: bool, of: Place, made: &mut Made) -> Re
     ensures { (a : State) → IsMaking a.frame site.now made.old [] → IsTagType a.frame (next_ordinal made.old) of → Declares a a made.old made.new site.now (known_of result) [] IsTagType (λ c. only_gives (if wrong then refuses c at wrong_operands broken else gives of)) }
 {
     if wrong {
-        put!(refuse(site, at, WRONG_OPERANDS, &mut made.notes));
+        put!(refuse(site, at, Diagnostic::WrongOperands, &mut made.notes));
         return Ok(BROKEN);
     }
     Ok(of)
@@ -157,7 +154,7 @@ fn checked_tag<S: Scopes>(
     requires there { IsTagType (S.state scopes.old).frame (next_ordinal made.old) of }
     ensures { Declares (S.state scopes.old) (S.state scopes.new) made.old made.new site.now result [] IsTagType (λ c. only_gives (spec_checked c at of)) }
 {
-    let stood = ask!(stand_in(scopes, site, made, of));
+    let stood = asked!(stand_in(scopes, site, made, of));
     let wrong = is_no_tag(stood);
     let tag = put!(keep_tag(site, at, wrong, of, made));
     Ok(Ask::Known(tag))
@@ -174,7 +171,7 @@ fn named_tag<S: Scopes>(
     requires read { IsReadQual site.now.texts.now.names qual }
     ensures { Declares (S.state scopes.old) (S.state scopes.new) made.old made.new site.now result [] IsTagType (λ c. only_gives (spec_type_of c qual)) }
 {
-    let named = made!(type_of_qual(scopes, site, qual, &mut made.notes));
+    let named = analysed!(type_of_qual(scopes, site, qual, &mut made.notes));
     let of = small_place(named);
     Ok(Ask::Known(of))
 }
@@ -190,7 +187,7 @@ pub(crate) fn tag_in<S: Scopes>(
     requires read { IsReadQual site.now.texts.now.names qual }
     ensures { Declares (S.state scopes.old) (S.state scopes.new) made.old made.new site.now result [] IsTagType (λ c. only_gives (tag_type c qual)) }
 {
-    let of = made!(named_tag(scopes, site, qual, made));
+    let of = analysed!(named_tag(scopes, site, qual, made));
     checked_tag(scopes, site, qual.first.at, of, made)
 }
 

@@ -12,7 +12,7 @@ ghost use Rattle.m2_base.specs.Statics.ReadTrees.{AreReadFormals, IsReadQual};
 
 use crate::making::{Made, put_plain};
 use crate::types::name_in;
-use m2_base::{Ask, Formal, Memory, Place, Qual, RowMeaning, Scopes, Site};
+use m2_base::{Ask, Formal, Memory, Place, Qual, RowMeaning, Scopes, Site, analysed, put};
 
 /// An open array has a row of its own.
 fn open_in(
@@ -46,7 +46,7 @@ fn parameter_type<S: Scopes>(
     requires read { IsReadQual site.now.texts.now.names qual }
     ensures { Declares (S.state scopes.old) (S.state scopes.new) made.old made.new site.now result (open_shapes is_open qual) IsBehind (λ c. spec_type c is_open qual) }
 {
-    let of = made!(name_in(scopes, site, qual, made));
+    let of = analysed!(name_in(scopes, site, qual, made));
     let typ = put!(open_in(site, made, qual, is_open, of));
     Ok(Ask::Known(typ))
 }
@@ -63,7 +63,7 @@ pub(crate) fn formal_in<S: Scopes>(
     requires read { IsReadQual site.now.texts.now.names formal.now.of }
     ensures { Declares (S.state scopes.old) (S.state scopes.new) made.old made.new site.now result (formal_shapes formal.now) IsBehind (λ c. make_then c (spec_type c formal.now.is_open formal.now.of) (λ d t. makes_row d formal.now.of.first.at (meanings.Param t formal.now.by_ref own))) }
 {
-    let of = made!(parameter_type(scopes, site, formal.of, formal.is_open, made));
+    let of = analysed!(parameter_type(scopes, site, formal.of, formal.is_open, made));
     let meaning = RowMeaning::Param(of, formal.by_ref, own);
     let row = put!(put_plain(site, made, formal.of.first.at, meaning));
     Ok(Ask::Known(row))
@@ -82,7 +82,7 @@ pub(crate) fn formals_in<S: Scopes>(
     ensures { Declares (S.state scopes.old) (S.state scopes.new) made.old made.new site.now result (flat_map formal_shapes formals.now) IsAny (λ c. formal_rows c own formals.now) }
 {
     for formal in formals {
-        made!(formal_in(scopes, site, own, formal, made));
+        analysed!(formal_in(scopes, site, own, formal, made));
     }
     Ok(Ask::Known(()))
 }

@@ -8,49 +8,6 @@
 //! (`own_headings`).
 #![tactic(auto)]
 
-/// The value of a piece that asks nothing, or the end of the function at want of memory.
-macro_rules! put {
-    ($made:expr) => {
-        match $made {
-            Ok(value) => value,
-            Err(memory) => return Err(memory),
-        }
-    };
-}
-
-/// The value of a question, or the end of the function where it isn't known yet.
-macro_rules! known {
-    ($asked:expr) => {
-        match $asked {
-            Ask::Known(value) => value,
-            Ask::DontKnowYet(head) => return Ask::DontKnowYet(head),
-        }
-    };
-}
-
-/// The value of a question, or the end of a piece where it isn't known yet.
-macro_rules! ask {
-    ($asked:expr) => {
-        match $asked {
-            Ask::Known(value) => value,
-            Ask::DontKnowYet(head) => return Ok(Ask::DontKnowYet(head)),
-        }
-    };
-}
-
-/// The value of a piece, or the end of the function where it isn't known yet or memory is wanted.
-macro_rules! made {
-    ($piece:expr) => {
-        match $piece {
-            Ok(asked) => match asked {
-                Ask::Known(value) => value,
-                Ask::DontKnowYet(head) => return Ok(Ask::DontKnowYet(head)),
-            },
-            Err(memory) => return Err(memory),
-        }
-    };
-}
-
 mod arrays;
 mod bounds;
 mod cells;

@@ -15,12 +15,7 @@ ghost use Rattle.decl_sem.specs.LaidRows.{is_of, kept_name as spec_kept_name};
 ghost use Rattle.decl_sem.specs.Making.{IsInHand, IsNext, MakesAll, name_refusals, next_ordinal};
 
 use crate::made_rows::{FieldKey, MadeRows, field_key};
-use m2_base::{Diag, Ident, Layout, Memory, Notes, Place, Row, RowMeaning, Site, write_row};
-
-/// The codes of a name that the block declares twice, and of a standard name that is declared.
-const DECLARED_TWICE: u8 = 42;
-
-const STANDARD_DECLARED: u8 = 43;
+use m2_base::{Diagnostic, Ident, Layout, Memory, Notes, Place, Row, RowMeaning, Site, write_row};
 
 /// What is made of the item in hand so far.
 #[derive(Drop)]
@@ -70,15 +65,14 @@ fn kept_name(
     ensures unchanged { OnErr result (notes.new.diags.items ≡ notes.old.diags.items) }
     ensures answers { notes.new.answers.items ≡ notes.old.answers.items }
 {
-    let code = if is_standard(name) {
-        STANDARD_DECLARED
+    let diagnostic = if is_standard(name) {
+        Diagnostic::StandardDeclared
     } else if is_first(site.layout, ordinal, name) {
         return Ok(name);
     } else {
-        DECLARED_TWICE
+        Diagnostic::DeclaredTwice
     };
-    let text = site.around.text;
-    notes.diags.push(Diag { text, at, code })?;
+    notes.refuse(site.around.text, at, diagnostic)?;
     Ok(0)
 }
 

@@ -1,6 +1,8 @@
 //! The type that a name leads to.
 ghost use Rattle.std.specs.Prelude.{◌≡◌, ◌≢◌, ◌<◌, ◌^◌, ℕ, Some, IfOk};
 ghost use Rattle.std.specs.Option.{IfSome};
+ghost use Rattle.m2_base.specs.Noting.{IsRefused};
+ghost use Rattle.m2_base.specs.Diagnostics.{code_of};
 ghost use Rattle.m2_base.specs.Lists.{IsPrefixOf};
 ghost use Rattle.m2_base.specs.Rows.{Fits, HasSmallNumbers, row_meaning};
 ghost use Rattle.m2_base.specs.States.{Frame, State};
@@ -14,15 +16,13 @@ ghost use Rattle.decl_sem.specs.Pieces.{known_of};
 ghost use Rattle.m2_base.specs.Statics.ReadTrees.{IsReadQual};
 ghost use Rattle.decl_sem.specs.TypeUses.{IsScopeBefore, member_by, type_or};
 ghost use Rattle.type_rules.specs.Scenes.{IsRowOf, IsThere, Suits};
-ghost use Rattle.type_rules.specs.Sites.{IsRefused, SuitsSite};
+ghost use Rattle.type_rules.specs.Sites.{SuitsSite};
 
 use m2_base::{
-    Ask, Diag, Ident, Memory, Notes, Place, Qual, Row, RowMeaning, Scopes, Site, read_row,
+    Ask, Diagnostic, Ident, Memory, Notes, Place, Qual, Row, RowMeaning, Scopes, Site, analysed,
+    put, read_row,
 };
 use type_rules::{BROKEN, use_name};
-
-/// The code of a name that is no type's.
-pub(crate) const NOT_A_TYPE: u8 = 45;
 
 /// A row with its place.
 type Entry = (Place, Row);
@@ -37,14 +37,17 @@ enum Qualifier {
 }
 
 /// Notes a diagnostic in the site's text.
-pub(crate) fn refuse(site: &Site, at: u32, code: u8, notes: &mut Notes) -> Result<(), Memory>
-    ensures noted { IfOk result (λ _. IsRefused notes.old notes.new site.now.around.now.text at code) }
+pub(crate) fn refuse(
+    site: &Site,
+    at: u32,
+    diagnostic: Diagnostic,
+    notes: &mut Notes,
+) -> Result<(), Memory>
+    ensures noted { IfOk result (λ _. IsRefused notes.old notes.new site.now.around.now.text at (code_of diagnostic)) }
     ensures diags { IsPrefixOf notes.old.diags.items notes.new.diags.items }
     ensures answers { notes.new.answers.items ≡ notes.old.answers.items }
 {
-    let text = site.around.text;
-    notes.diags.push(Diag { text, at, code })?;
-    Ok(())
+    notes.refuse(site.around.text, at, diagnostic)
 }
 
 /// The type in the row of a type's name, and that of what is in error; anything else is no type.
@@ -101,7 +104,7 @@ fn type_of_entry(
     match type_in_row(read_row(&entry.1)) {
         Some(of) => Ok(of),
         None => {
-            put!(refuse(site, at, NOT_A_TYPE, notes));
+            put!(refuse(site, at, Diagnostic::NotAType, notes));
             Ok(BROKEN)
         }
     }
@@ -127,7 +130,7 @@ fn member_of<S: Scopes>(
         }
         Qualifier::Wrong => Ok(Ask::Known(None)),
         Qualifier::NoModule => {
-            put!(refuse(site, at, NOT_A_TYPE, notes));
+            put!(refuse(site, at, Diagnostic::NotAType, notes));
             Ok(Ask::Known(None))
         }
     }
@@ -167,7 +170,7 @@ fn entry_of_qual<S: Scopes>(
     requires read { IsReadQual site.now.texts.now.names qual }
     ensures { Analysed (S.state scopes.old) (S.state scopes.new) notes.old notes.new site.now result (λ f found. IfSome found (λ e. IsRowOf f e.0 e.1)) (λ c. spec_entry c qual) }
 {
-    let first = made!(use_name(scopes, site, None, qual.first.name, qual.first.at, notes));
+    let first = analysed!(use_name(scopes, site, None, qual.first.name, qual.first.at, notes));
     qualified(scopes, site, qual.first.at, qual.second, first, notes)
 }
 
@@ -182,7 +185,7 @@ pub(crate) fn type_of_qual<S: Scopes>(
     requires read { IsReadQual site.now.texts.now.names qual }
     ensures { Analysed (S.state scopes.old) (S.state scopes.new) notes.old notes.new site.now result IsThere (λ c. spec_type_of c qual) }
 {
-    let entry = made!(entry_of_qual(scopes, site, qual, notes));
+    let entry = analysed!(entry_of_qual(scopes, site, qual, notes));
     let of = put!(type_of_entry(site, qual.first.at, entry, notes));
     Ok(Ask::Known(of))
 }

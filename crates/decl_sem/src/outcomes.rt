@@ -16,11 +16,10 @@ use crate::making::{Made, put_plain};
 use crate::names::refuse;
 use crate::standing::stand_in;
 use crate::types::name_in;
-use m2_base::{Ask, Memory, Place, Qual, RowMeaning, Scopes, Site};
+use m2_base::{
+    Ask, Diagnostic, Memory, Place, Qual, RowMeaning, Scopes, Site, analysed, asked, put,
+};
 use type_rules::BROKEN;
-
-/// The code of a result that is an array or a record.
-const RESULT_NOT_SCALAR: u8 = 68;
 
 /// Whether a row is an array's or a record's.
 pub(crate) fn is_structured(meaning: RowMeaning) -> bool
@@ -40,7 +39,7 @@ fn scalar_or_refuse(
     ensures { (a : State) → IsMaking a.frame site.now made.old [] → IsBehind a.frame (next_ordinal made.old) of → Declares a a made.old made.new site.now (known_of result) [] IsOptionBehind (λ c. only_gives (if structured then refuses c at result_not_scalar (Some broken) else gives (Some of))) }
 {
     if structured {
-        put!(refuse(site, at, RESULT_NOT_SCALAR, &mut made.notes));
+        put!(refuse(site, at, Diagnostic::ResultNotScalar, &mut made.notes));
         return Ok(Some(BROKEN));
     }
     Ok(Some(of))
@@ -58,7 +57,7 @@ fn checked_result<S: Scopes>(
     requires there { IsBehind (S.state scopes.old).frame (next_ordinal made.old) of }
     ensures { Declares (S.state scopes.old) (S.state scopes.new) made.old made.new site.now result [] IsOptionBehind (λ c. only_gives (spec_checked c at of)) }
 {
-    let stood = ask!(stand_in(scopes, site, made, of));
+    let stood = asked!(stand_in(scopes, site, made, of));
     let structured = is_structured(stood.1);
     let scalar = put!(scalar_or_refuse(site, at, structured, of, made));
     Ok(Ask::Known(scalar))
@@ -78,6 +77,6 @@ pub(crate) fn result_in<S: Scopes>(
     let Some(qual) = qual else {
         return Ok(Ask::Known(None));
     };
-    let of = made!(name_in(scopes, site, qual, made));
+    let of = analysed!(name_in(scopes, site, qual, made));
     checked_result(scopes, site, qual.first.at, of, made)
 }

@@ -19,7 +19,7 @@ use crate::own_parameters::parameters_in;
 use crate::placings::Placing;
 use crate::section_rows::put_open;
 use crate::types::name_in;
-use m2_base::{Ask, Heading, Memory, Place, Qual, Scopes, Section, Site};
+use m2_base::{Ask, Heading, Memory, Place, Qual, Scopes, Section, Site, analysed, put};
 use std::alloc::Global;
 
 /// The parameters of a section, after the name of their type.
@@ -78,7 +78,7 @@ fn sections_in<S: Scopes>(
 {
     let mut next = from;
     for section in sections {
-        next = made!(section_in(scopes, site, made, section, next));
+        next = analysed!(section_in(scopes, site, made, section, next));
     }
     Ok(Ask::Known(next))
 }
@@ -117,6 +117,6 @@ pub(crate) fn heading_rows<S: Scopes>(
 {
     let sizes = put!(heading_sizes(&heading.sections));
     let first = Placing::new(alloc, capped(sizes.cells as u64));
-    let behind = made!(sections_in(scopes, site, made, &heading.sections, first));
+    let behind = analysed!(sections_in(scopes, site, made, &heading.sections, first));
     effect_in(scopes, site, made, heading.result, behind)
 }

@@ -16,7 +16,7 @@ use crate::outcomes::is_structured;
 use crate::placings::Placing;
 use crate::putting::name_row;
 use crate::standing::stand_in;
-use m2_base::{Ask, Ident, Memory, Mode, Place, RowMeaning, Scopes, Section, Site};
+use m2_base::{Ask, Ident, Memory, Mode, Place, RowMeaning, Scopes, Section, Site, analysed};
 
 /// The cells of a type by what its row says.
 fn cells_by(meaning: RowMeaning) -> u32
@@ -257,7 +257,7 @@ pub(crate) fn parameters_in<S: Scopes>(
 {
     let mut next = from;
     for name in names {
-        next = made!(parameter_in(scopes, site, made, section, elem, of, next, *name));
+        next = analysed!(parameter_in(scopes, site, made, section, elem, of, next, *name));
     }
     Ok(Ask::Known(next))
 }

@@ -14,7 +14,7 @@ ghost use Rattle.m2_base.specs.Statics.ReadTrees.{AreReadFormals, IsReadQualOpti
 use crate::formals::formals_in;
 use crate::making::{Made, next_row, put_plain};
 use crate::outcomes::result_in;
-use m2_base::{Ask, Formal, Memory, Place, Qual, RowMeaning, Scopes, Site};
+use m2_base::{Ask, Formal, Memory, Place, Qual, RowMeaning, Scopes, Site, analysed, put};
 
 /// The number of rows of a parameter.
 fn rows_of_formal(formal: &Formal) -> u32
@@ -53,7 +53,7 @@ pub(crate) fn proc_row<S: Scopes>(
     requires first { first ≤ next_ordinal made.old }
     ensures { Declares (S.state scopes.old) (S.state scopes.new) made.old made.new site.now result (nameless proc_type_kind at ∷ []) IsBehind (λ c. make_then c (only_gives (result_type c qual)) (λ e r. makes_row e at (meanings.ProcType r count first))) }
 {
-    let of = made!(result_in(scopes, site, qual, made));
+    let of = analysed!(result_in(scopes, site, qual, made));
     let meaning = RowMeaning::ProcType(of, count, first);
     let row = put!(put_plain(site, made, at, meaning));
     Ok(Ask::Known(row))
@@ -78,6 +78,6 @@ pub(crate) fn proc_in<S: Scopes>(
     let Some(own) = own_after(first, formals) else {
         return Err(Memory);
     };
-    made!(formals_in(scopes, site, own, formals, made));
+    analysed!(formals_in(scopes, site, own, formals, made));
     proc_row(scopes, site, at, first, count, qual, made)
 }

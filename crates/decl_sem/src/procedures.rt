@@ -19,6 +19,7 @@ use crate::putting::name_row;
 use crate::section_rows::sections_rows;
 use m2_base::{
     Ask, Heading, HeadingNote, Ident, Memory, Place, RowMeaning, Scopes, Site, StreamKind,
+    analysed, put,
 };
 
 /// The named row of a procedure of this type.
@@ -90,7 +91,7 @@ pub(crate) fn proc_rows<S: Scopes>(
     let Some(own) = first.checked_add(sizes.rows) else {
         return Err(Memory);
     };
-    made!(sections_rows(scopes, site, made, own, &heading.sections));
+    analysed!(sections_rows(scopes, site, made, own, &heading.sections));
     match typed_proc(
         scopes,
         site,

@@ -17,7 +17,7 @@ use crate::cells::fit;
 use crate::fields::{put_tag, tag_in};
 use crate::making::{Made, put_plain};
 use case_labels::{Covered, case_labels};
-use m2_base::{Ask, Ident, Label, Memory, Place, Qual, RowMeaning, Scopes, Site};
+use m2_base::{Ask, Ident, Label, Memory, Place, Qual, RowMeaning, Scopes, Site, analysed, put};
 use std::alloc::Global;
 
 /// Where the variants behind a tag stand: the ordinal of their record's row, the offset at which each begins, and the type of
@@ -46,7 +46,7 @@ pub(crate) fn begin_variants<S: Scopes>(
     requires read { IsReadQual site.now.texts.now.names of }
     ensures { Declares (S.state scopes.old) (S.state scopes.new) made.old made.new site.now result (tag_shapes tag) (AreVariantsOf own) (λ c. tag_made c own offset tag of) }
 {
-    let typ = made!(tag_in(scopes, site, of, made));
+    let typ = analysed!(tag_in(scopes, site, of, made));
     let begin = put!(put_tag(scopes, site, made, own, typ, offset, tag));
     Ok(Ask::Known(Variants {
         own,
@@ -70,7 +70,7 @@ pub(crate) fn labels_in<S: Scopes>(
     requires read { AreReadLabels site.now.texts.now.names (plain_labels (map label_view labels.now)) }
     ensures { Declares (S.state scopes.old) (S.state scopes.new) made.old made.new site.now result [] IsAny (λ c. only_gives (covered_of (labels_of c of covered (plain_labels (map label_view labels.now))))) }
 {
-    let found = made!(case_labels(alloc, scopes, site, of, covered, labels, &mut made.notes));
+    let found = analysed!(case_labels(alloc, scopes, site, of, covered, labels, &mut made.notes));
     Ok(Ask::Known(found.covered))
 }
 

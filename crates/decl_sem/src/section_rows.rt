@@ -15,7 +15,7 @@ ghost use Rattle.m2_base.specs.Statics.ReadTrees.{IsReadQual};
 use crate::making::Made;
 use crate::names::type_of_qual;
 use crate::putting::{plain_row, small_place};
-use m2_base::{Ask, Ident, Memory, Place, Qual, RowMeaning, Scopes, Section, Site};
+use m2_base::{Ask, Ident, Memory, Place, Qual, RowMeaning, Scopes, Section, Site, analysed};
 
 /// Parameters of one type, of the procedure type whose row has this ordinal.
 pub(crate) fn put_parameters<S: Scopes>(
@@ -122,7 +122,7 @@ pub(crate) fn sections_rows<S: Scopes>(
     ensures { Declares (S.state scopes.old) (S.state scopes.new) made.old made.new site.now result (flat_map section_shapes (map section_view sections.now)) IsAny (λ c. spec_sections c own (map section_view sections.now)) }
 {
     for section in sections {
-        made!(section_in(scopes, site, made, own, section));
+        analysed!(section_in(scopes, site, made, own, section));
     }
     Ok(Ask::Known(()))
 }

@@ -21,33 +21,18 @@ ghost use Rattle.decl_sem.specs.Stood.{may_be_base as spec_may_be_base};
 use crate::making::{Made, put_plain};
 use crate::names::refuse;
 use crate::standing::stand_in;
-use m2_base::{Ask, Memory, Place, RowMeaning, Scopes, Site};
-use type_rules::BROKEN;
-
-/// The code of an index type or a base that isn't ordinal, or has too many values.
-const WRONG_INDEX: u8 = 61;
-
-/// The least and the greatest value of an ordinal type, by what its row says.
-pub(crate) fn range_by(meaning: RowMeaning) -> Option<(i64, i64)>
-    ensures ends { option_map (λ ends. range ends.0 ends.1) result ≡ spec_range meaning }
-    ensures values { (names : ℕ) (p : Spot) → Fits names p meaning → IfSome result (λ ends. IsValue ends.0 × IsValue ends.1) }
-{
-    match meaning {
-        RowMeaning::Integer => Some((-2_147_483_648, 2_147_483_647)),
-        RowMeaning::Cardinal => Some((0, 4_294_967_295)),
-        RowMeaning::Character => Some((0, 255)),
-        RowMeaning::Enum(count) => Some((0, count.saturating_sub(1) as i64)),
-        RowMeaning::Subrange(_, low, high) => Some((low, high)),
-        _ => None,
-    }
-}
+use m2_base::{
+    Ask, Diagnostic, GREATEST_ELEMENT, Memory, Place, RowMeaning, Scopes, Site, analysed, asked,
+    put,
+};
+use type_rules::{BROKEN, range_by};
 
 /// Whether a range lies within that of a set's elements.
 fn is_set_range(ends: Option<(i64, i64)>) -> bool
     ensures { result ≡ spec_is_set_range (option_map (λ ends. range ends.0 ends.1) ends) }
 {
     match ends {
-        Some((low, high)) => 0 <= low && high <= 31,
+        Some((low, high)) => 0 <= low && high <= GREATEST_ELEMENT,
         None => false,
     }
 }
@@ -73,7 +58,7 @@ pub(crate) fn keep_or_refuse(
     if keep {
         return Ok(of);
     }
-    put!(refuse(site, at, WRONG_INDEX, &mut made.notes));
+    put!(refuse(site, at, Diagnostic::WrongIndex, &mut made.notes));
     Ok(BROKEN)
 }
 
@@ -89,7 +74,7 @@ fn checked_base<S: Scopes>(
     requires there { IsBehind (S.state scopes.old).frame (next_ordinal made.old) of }
     ensures { Declares (S.state scopes.old) (S.state scopes.new) made.old made.new site.now result [] IsBehind (λ c. only_gives (spec_base c at of)) }
 {
-    let stood = ask!(stand_in(scopes, site, made, of));
+    let stood = asked!(stand_in(scopes, site, made, of));
     let keep = may_be_base(stood);
     let base = put!(keep_or_refuse(site, at, keep, of, made));
     Ok(Ask::Known(base))
@@ -108,7 +93,7 @@ pub(crate) fn make_set<S: Scopes>(
     requires there { IsBehind (S.state scopes.old).frame (next_ordinal made.old) of }
     ensures { Declares (S.state scopes.old) (S.state scopes.new) made.old made.new site.now result (nameless set_kind at ∷ []) IsBehind (λ c. make_then c (only_gives (spec_base c base_at of)) (λ e base. makes_row e at (meanings.Set base))) }
 {
-    let base = made!(checked_base(scopes, site, base_at, of, made));
+    let base = analysed!(checked_base(scopes, site, base_at, of, made));
     let set = put!(put_plain(site, made, at, RowMeaning::Set(base)));
     Ok(Ask::Known(set))
 }

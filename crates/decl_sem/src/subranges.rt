@@ -26,7 +26,10 @@ use crate::making::Made;
 use crate::names::{small_place, type_of_qual};
 use crate::putting::plain_row;
 use const_eval::{char_of_string, constant, constant_value, is_ordinal};
-use m2_base::{Ask, Expr, Memory, Notes, Operand, Place, Qual, RowMeaning, Scopes, Site};
+use m2_base::{
+    Ask, Expr, Memory, Notes, Operand, Place, Qual, RowMeaning, Scopes, Site, analysed, asked,
+    known, put,
+};
 use type_rules::{BROKEN, base_of, operand_type, range_of, stand};
 
 /// What the named base stands for, if one is named.
@@ -175,7 +178,7 @@ fn of_constants<S: Scopes>(
     requires high { IsOperand (S.state scopes.old).frame high }
     ensures { Analysed (S.state scopes.old) (S.state scopes.new) notes.old notes.new site.now result (λ f given. IfSome given (λ bounds. AreBounds f bounds)) (λ c. kept (spec_of c base low_at high_at (Some low) (Some high))) }
 {
-    let verdict = ask!(verdict_of(scopes, site, base, low, high));
+    let verdict = asked!(verdict_of(scopes, site, base, low, high));
     let bounds = put!(note_verdict(site, low_at, high_at, verdict, notes));
     Ok(Ask::Known(bounds))
 }
@@ -221,7 +224,7 @@ fn with_high<S: Scopes>(
     requires read { IsReadExpr site.now.texts.now.names (expr_view high.now) }
     ensures { Analysed (S.state scopes.old) (S.state scopes.new) notes.old notes.new site.now result (λ f given. IfSome given (λ bounds. AreBounds f bounds)) (λ c. kept (and_then (constant_of c (expr_view high.now)) (λ y. spec_of c base low_at high.now.at low y))) }
 {
-    let last = made!(constant(scopes, site, high, notes));
+    let last = analysed!(constant(scopes, site, high, notes));
     of_bounds(scopes, site, base, low_at, low, high.at, last, notes)
 }
 
@@ -240,7 +243,7 @@ fn with_low<S: Scopes>(
     requires high { IsReadExpr site.now.texts.now.names (expr_view high.now) }
     ensures { Analysed (S.state scopes.old) (S.state scopes.new) notes.old notes.new site.now result (λ f given. IfSome given (λ bounds. AreBounds f bounds)) (λ c. kept (and_then (constant_of c (expr_view low.now)) (λ x. and_then (constant_of c (expr_view high.now)) (λ y. spec_of c base low.now.at high.now.at x y)))) }
 {
-    let first = made!(constant(scopes, site, low, notes));
+    let first = analysed!(constant(scopes, site, low, notes));
     with_high(scopes, site, base, low.at, first, high, notes)
 }
 
@@ -258,7 +261,7 @@ fn named_base<S: Scopes>(
     let Some(qual) = base else {
         return Ok(Ask::Known(None));
     };
-    let of = made!(type_of_qual(scopes, site, qual, notes));
+    let of = analysed!(type_of_qual(scopes, site, qual, notes));
     Ok(Ask::Known(Some(of)))
 }
 
@@ -277,7 +280,7 @@ fn bounds_in<S: Scopes>(
     requires high { IsReadExpr site.now.texts.now.names (expr_view high.now) }
     ensures { Analysed (S.state scopes.old) (S.state scopes.new) notes.old notes.new site.now result (λ f given. IfSome given (λ bounds. AreBounds f bounds)) (λ c. kept (spec_subrange c base (expr_view low.now) (expr_view high.now))) }
 {
-    let named = made!(named_base(scopes, site, base, notes));
+    let named = analysed!(named_base(scopes, site, base, notes));
     with_low(scopes, site, named, low, high, notes)
 }
 
@@ -342,7 +345,7 @@ pub(crate) fn subrange_in<S: Scopes>(
     requires high { IsReadExpr site.now.texts.now.names (expr_view high.now) }
     ensures { Declares (S.state scopes.old) (S.state scopes.new) made.old made.new site.now result (form_shapes at (sub_type base (expr_view low.now) (expr_view high.now))) IsBehind (λ c. form_rows c at (sub_type base (expr_view low.now) (expr_view high.now))) }
 {
-    let bounds = made!(bounds_in(scopes, site, base, low, high, &mut made.notes));
+    let bounds = analysed!(bounds_in(scopes, site, base, low, high, &mut made.notes));
     let of = put!(put_subrange(scopes, site, at, bounds, made));
     Ok(Ask::Known(of))
 }

@@ -25,11 +25,11 @@ ghost use Rattle.decl_sem.specs.TypeUses.{type_or};
 
 use crate::kinds::{ALIAS, TYPE_NAME};
 use crate::making::{Made, is_standard};
-use crate::names::{NOT_A_TYPE, refuse, small_place};
+use crate::names::{refuse, small_place};
 use crate::putting::plain_row;
 use m2_base::{
-    Ask, Ident, Memory, Named, Notes, Place, Qual, Row, RowMeaning, Scopes, Site, TypeExpr,
-    TypeForm, read_row,
+    Ask, Diagnostic, Ident, Memory, Named, Notes, Place, Qual, Row, RowMeaning, Scopes, Site,
+    TypeExpr, TypeForm, analysed, asked, known, put, read_row,
 };
 use type_rules::{BROKEN, follow, row_at};
 
@@ -135,7 +135,7 @@ fn target_of_entry(site: &Site, at: u32, entry: Entry, notes: &mut Notes) -> Res
     match imported_target(place, read_row(&entry.1)) {
         Some(of) => Ok(of),
         None => {
-            put!(refuse(site, at, NOT_A_TYPE, notes));
+            put!(refuse(site, at, Diagnostic::NotAType, notes));
             Ok(BROKEN)
         }
     }
@@ -153,7 +153,7 @@ fn alias_target<S: Scopes>(
     requires there { IsThere (S.state scopes.old).frame place }
     ensures { Analysed (S.state scopes.old) (S.state scopes.new) notes.old notes.new site.now result IsTarget (λ c. entry_target c at (followed c.scene (entry_at c.scene place))) }
 {
-    let entry = ask!(aliased(scopes, site, place));
+    let entry = asked!(aliased(scopes, site, place));
     let of = put!(target_of_entry(site, at, entry, notes));
     Ok(Ask::Known(of))
 }
@@ -162,7 +162,7 @@ fn alias_target<S: Scopes>(
 fn refused_target(site: &Site, at: u32, notes: &mut Notes) -> Result<Place, Memory>
     ensures { (a : State) → SuitsSite a.frame site.now → Analysed a a notes.old notes.new site.now (known_of result) IsTarget (λ c. refuses c at not_a_type broken) }
 {
-    put!(refuse(site, at, NOT_A_TYPE, notes));
+    put!(refuse(site, at, Diagnostic::NotAType, notes));
     Ok(BROKEN)
 }
 
@@ -233,7 +233,7 @@ pub(crate) fn target_in<S: Scopes>(
     let Some((at, named)) = laid_target(site, typ) else {
         return Ok(Ask::Known(None));
     };
-    let of = made!(layout_target(scopes, site, made.first, at, named, &mut made.notes));
+    let of = analysed!(layout_target(scopes, site, made.first, at, named, &mut made.notes));
     Ok(Ask::Known(Some(of)))
 }
 

@@ -24,7 +24,10 @@ use crate::shapes::count_fields;
 use crate::subranges::subrange_in;
 use crate::targets::{pointer_row, target_in};
 use case_labels::Covered;
-use m2_base::{Ask, FieldList, Memory, Place, Qual, Scopes, Site, TypeExpr, TypeForm, VariantArm};
+use m2_base::{
+    Ask, FieldList, Memory, Place, Qual, Scopes, Site, TypeExpr, TypeForm, VariantArm, analysed,
+    put,
+};
 use std::alloc::Global;
 
 /// The type that a name leads to. It makes no row.
@@ -38,7 +41,7 @@ pub(crate) fn name_in<S: Scopes>(
     requires read { IsReadQual site.now.texts.now.names qual }
     ensures { Declares (S.state scopes.old) (S.state scopes.new) made.old made.new site.now result [] IsBehind (λ c. only_gives (spec_type_of c qual)) }
 {
-    let named = made!(type_of_qual(scopes, site, qual, &mut made.notes));
+    let named = analysed!(type_of_qual(scopes, site, qual, &mut made.notes));
     let of = small_place(named);
     Ok(Ask::Known(of))
 }
@@ -66,13 +69,13 @@ pub(crate) fn type_in<S: Scopes>(
             subrange_in(scopes, site, typ.at, *base, low, high, made)
         }
         TypeForm::Set(of) => {
-            let base = made!(type_in(alloc, scopes, site, of, made));
+            let base = analysed!(type_in(alloc, scopes, site, of, made));
             make_set(scopes, site, typ.at, of.at, base, made)
         }
-        TypeForm::Pointer(of) => match made!(target_in(scopes, site, of, made)) {
+        TypeForm::Pointer(of) => match analysed!(target_in(scopes, site, of, made)) {
             Some(target) => pointer_row(scopes, site, typ.at, target, made),
             None => {
-                let target = made!(type_in(alloc, scopes, site, of, made));
+                let target = analysed!(type_in(alloc, scopes, site, of, made));
                 pointer_row(scopes, site, typ.at, target, made)
             }
         },
@@ -98,7 +101,7 @@ fn index_in<S: Scopes>(
     requires read { IsReadType site.now.texts.now.names (type_view typ.now) }
     ensures { Declares (S.state scopes.old) (S.state scopes.new) made.old made.new site.now result (type_shapes (type_view typ.now)) IsBehind (λ c. index_row c (type_view typ.now)) }
 {
-    let of = made!(type_in(alloc, scopes, site, typ, made));
+    let of = analysed!(type_in(alloc, scopes, site, typ, made));
     checked_index(scopes, site, typ.at, of, made)
 }
 
@@ -117,7 +120,7 @@ fn indexes_in<S: Scopes>(
 {
     let mut indexes = Vec::new(alloc);
     for typ in types {
-        let index = made!(index_in(alloc, scopes, site, typ, made));
+        let index = analysed!(index_in(alloc, scopes, site, typ, made));
         indexes.push(index)?;
     }
     Ok(Ask::Known(indexes))
@@ -139,8 +142,8 @@ fn array_in<S: Scopes>(
     requires of { IsReadType site.now.texts.now.names (type_view of.now) }
     ensures { Declares (S.state scopes.old) (S.state scopes.new) made.old made.new site.now result (form_shapes at (array_type (type_exprs (map type_view index.now)) (type_view of.now))) IsBehind (λ c. form_rows c at (array_type (type_exprs (map type_view index.now)) (type_view of.now))) }
 {
-    let indexes = made!(indexes_in(alloc, scopes, site, index, made));
-    let elem = made!(type_in(alloc, scopes, site, of, made));
+    let indexes = analysed!(indexes_in(alloc, scopes, site, index, made));
+    let elem = analysed!(type_in(alloc, scopes, site, of, made));
     put_arrays(scopes, site, at, &indexes, elem, made)
 }
 
@@ -161,7 +164,7 @@ fn record_in<S: Scopes>(
     let first = next_row(made);
     let rows = put!(count_fields(alloc, fields));
     let own = first + rows as u32;
-    let end = made!(fields_in(alloc, scopes, site, own, 0, fields, made));
+    let end = analysed!(fields_in(alloc, scopes, site, own, 0, fields, made));
     let row = put!(put_record(site, at, first, end, made));
     Ok(Ask::Known(row))
 }
@@ -186,7 +189,7 @@ fn fields_in<S: Scopes>(
 {
     let mut end = offset;
     for list in fields {
-        end = made!(field_list_in(alloc, scopes, site, own, end, list, made));
+        end = analysed!(field_list_in(alloc, scopes, site, own, end, list, made));
     }
     Ok(Ask::Known(end))
 }
@@ -210,7 +213,7 @@ fn field_list_in<S: Scopes>(
 {
     match list {
         FieldList::Plain { names, typ } => {
-            let of = made!(type_in(alloc, scopes, site, typ, made));
+            let of = analysed!(type_in(alloc, scopes, site, typ, made));
             put_fields(scopes, site, made, own, of, offset, names)
         }
         FieldList::Cases {
@@ -219,7 +222,7 @@ fn field_list_in<S: Scopes>(
             arms,
             other,
         } => {
-            let variants = made!(begin_variants(scopes, site, own, offset, *tag, *of, made));
+            let variants = analysed!(begin_variants(scopes, site, own, offset, *tag, *of, made));
             variants_in(alloc, scopes, site, variants, arms, other, made)
         }
     }
@@ -244,8 +247,8 @@ fn variants_in<S: Scopes>(
     ensures { Declares (S.state scopes.old) (S.state scopes.new) made.old made.new site.now result (behind_tag_shapes (variant_arms (map variant_arm_view arms.now)) (field_lists (map field_list_view other.now))) IsOffset (λ c. behind_tag_rows c variants (variant_arms (map variant_arm_view arms.now)) (field_lists (map field_list_view other.now))) }
 {
     let Variants { own, offset, .. } = variants;
-    let end = made!(arms_in(alloc, scopes, site, variants, arms, made));
-    let last = made!(fields_in(alloc, scopes, site, own, offset, other, made));
+    let end = analysed!(arms_in(alloc, scopes, site, variants, arms, made));
+    let last = analysed!(fields_in(alloc, scopes, site, own, offset, other, made));
     Ok(Ask::Known(end.max(last)))
 }
 
@@ -269,8 +272,8 @@ fn arms_in<S: Scopes>(
     let mut covered = Covered::new(alloc);
     let mut end = offset;
     for arm in arms {
-        covered = made!(labels_in(alloc, scopes, site, tag, covered, &arm.labels, made));
-        let after = made!(fields_in(alloc, scopes, site, own, offset, &arm.fields, made));
+        covered = analysed!(labels_in(alloc, scopes, site, tag, covered, &arm.labels, made));
+        let after = analysed!(fields_in(alloc, scopes, site, own, offset, &arm.fields, made));
         end = end.max(after);
     }
     Ok(Ask::Known(end))

@@ -20,7 +20,6 @@ pub mod Kinds
 pub mod ValueFunctions
 pub mod Pieces
 pub mod Stacks
-pub mod Refusals
 pub mod Targets
 pub mod Takings
 pub mod RangeChecks

@@ -14,7 +14,7 @@ ghost use Rattle.expr_sem.specs.Codings.{Coding, IsCoded, IsFragment, coded_in};
 ghost use Rattle.expr_sem.specs.Fragments.{IsMade, part};
 ghost use Rattle.expr_sem.specs.Kinds.{IsKindHere};
 ghost use Rattle.expr_sem.specs.Parts.{plain, text as spec_text, ◌⨟◌};
-ghost use Rattle.expr_sem.specs.Refusals.{code_of};
+ghost use Rattle.m2_base.specs.Diagnostics.{code_of};
 ghost use Rattle.expr_sem.specs.StandardFunctions.{high_code as spec_high};
 ghost use Rattle.expr_sem.specs.Values.{as_value as spec_as_value};
 ghost use Rattle.expr_sem.specs.declared.arguments.ElementFit.TheVariants.{Broken};
@@ -28,12 +28,15 @@ use crate::chains::instr_behind;
 use crate::coded::{Coded, Placed};
 use crate::fitting::fitted_code;
 use crate::fragments::{Fragment, Fragments};
-use crate::refusals::{Refusal, refused};
+use crate::refusals::refused;
 use crate::standard_functions::{has_small_ordinal, high_code};
 use crate::values::{as_value, assigned_to, characters, string_value};
 use code_form::Instr;
 use const_eval::{is_bad, is_broken, is_in_error};
-use m2_base::{Around, Ask, Memory, Notes, Operand, Place, RowMeaning, Scopes, Site};
+use m2_base::{
+    Around, Ask, Diagnostic, Memory, Notes, Operand, Place, RowMeaning, Scopes, Site, analysed,
+    known,
+};
 use type_rules::{CHARACTER, same, size_of, stand};
 
 /// A parameter: its type, and whether it is a VAR parameter.
@@ -135,7 +138,7 @@ fn by_value<S: Scopes>(
     requires x { IsCoded (S.state scopes.old).frame fragments.old.nodes.items x }
     ensures { Coding (S.state scopes.old) (S.state scopes.new) notes.old notes.new fragments.old.nodes.items fragments.new.nodes.items site.now result IsArgument argument_in (λ c. spec_value c of at (coded_in fragments.old.nodes.items x)) }
 {
-    let refusal = Refusal::NotAssignable;
+    let refusal = Diagnostic::NotAssignable;
     let taken = analysed!(assigned_to(scopes, site, of, at, refusal, x, notes));
     value_argument(scopes, site, of, taken, fragments)
 }
@@ -144,7 +147,7 @@ fn by_value<S: Scopes>(
 fn refused_argument(
     site: &Site,
     at: u32,
-    refusal: Refusal,
+    refusal: Diagnostic,
     notes: &mut Notes,
 ) -> Result<Ask<Option<Fragment>>, Memory>
     ensures { (state : State) (nodes : List Node) → Coding state state notes.old notes.new nodes nodes site.now result IsArgument argument_in (λ c. spec_refuse c at (code_of refusal) None) }
@@ -172,7 +175,7 @@ fn by_address<S: Scopes>(
     };
     match same(scopes, site.around, of, variable) {
         Ask::Known(true) => Ok(Ask::Known(Some(x.code))),
-        Ask::Known(false) => refused_argument(site, at, Refusal::WrongArgument, notes),
+        Ask::Known(false) => refused_argument(site, at, Diagnostic::WrongArgument, notes),
         Ask::DontKnowYet(head) => Ok(Ask::DontKnowYet(head)),
     }
 }
@@ -290,7 +293,7 @@ fn fitting_argument<S: Scopes>(
     match fit {
         ElementFit::Broken => Ok(Ask::Known(None)),
         ElementFit::Alike => passed(array_passed(scopes, site, x.coded, kind, fragments)),
-        ElementFit::Other => refused_argument(site, x.at, Refusal::WrongArgument, notes),
+        ElementFit::Other => refused_argument(site, x.at, Diagnostic::WrongArgument, notes),
     }
 }
 
@@ -379,7 +382,7 @@ fn string_argument<S: Scopes>(
 {
     match same(scopes, site.around, want, CHARACTER) {
         Ask::Known(true) => { passed(answered(string_passed(site, string.0, string.1, fragments))) }
-        Ask::Known(false) => refused_argument(site, at, Refusal::WrongArgument, notes),
+        Ask::Known(false) => refused_argument(site, at, Diagnostic::WrongArgument, notes),
         Ask::DontKnowYet(head) => Ok(Ask::DontKnowYet(head)),
     }
 }
@@ -404,7 +407,7 @@ fn open_argument<S: Scopes>(
             string_argument(scopes, site, want, x.at, string, fragments, notes)
         }
         Operand::Variable(of) => { variable_argument(scopes, site, want, x, of, fragments, notes) }
-        _ => refused_argument(site, x.at, Refusal::WrongArgument, notes),
+        _ => refused_argument(site, x.at, Diagnostic::WrongArgument, notes),
     }
 }
 
@@ -498,7 +501,7 @@ fn taken_mode<S: Scopes>(
     ensures { Coding (S.state scopes.old) (S.state scopes.new) notes.old notes.new fragments.old.nodes.items fragments.new.nodes.items site.now result IsArgument argument_in (λ c. spec_taken_mode c (parameter_view p) x.at (coded_in fragments.old.nodes.items x.coded)) }
 {
     if refuses(p, x.coded.operand) {
-        refused_argument(site, x.at, Refusal::NotAVariable, notes)
+        refused_argument(site, x.at, Diagnostic::NotAVariable, notes)
     } else {
         by_mode(scopes, site, p, x, fragments, notes)
     }

@@ -18,7 +18,7 @@ ghost use Rattle.expr_sem.specs.Codings.{Coding, IsCoded, IsFragment, coded_in};
 ghost use Rattle.expr_sem.specs.Fragments.{IsIn, IsMade, part};
 ghost use Rattle.expr_sem.specs.Parts.{Part, call as spec_call, plain, ◌⨟◌};
 ghost use Rattle.expr_sem.specs.ProcedureNames.{target_of_procedure as spec_target};
-ghost use Rattle.expr_sem.specs.Refusals.{code_of};
+ghost use Rattle.m2_base.specs.Diagnostics.{code_of};
 ghost use Rattle.expr_sem.specs.Signatures.{IsSignature};
 ghost use Rattle.expr_sem.specs.Targets.{target_view};
 ghost use Rattle.expr_sem.specs.declared.fragments.Node.{Node};
@@ -33,7 +33,7 @@ use crate::coded::Coded;
 use crate::fragments::{Fragment, Fragments};
 use crate::levels::level_of;
 use crate::procedure_names::{Target, import_of_target, is_foreign, target_of_procedure};
-use crate::refusals::{Refusal, refused};
+use crate::refusals::refused;
 use crate::signatures::{Signature, cells_of_all, result_cells, signature_by, signature_of};
 use crate::standard_procedures::{is_function, takes_count};
 use crate::steps::Step;
@@ -42,7 +42,8 @@ use crate::variables::links_out;
 use code_form::Instr;
 use const_eval::is_broken;
 use m2_base::{
-    Around, Ask, Builtin, Memory, Notes, Operand, Place, Scopes, Site, standard_procedure,
+    Around, Ask, Builtin, Diagnostic, Memory, Notes, Operand, Place, Scopes, Site, analysed,
+    standard_procedure,
 };
 use type_rules::{Form, form_of};
 
@@ -78,7 +79,7 @@ struct Wording {
 fn refused_call(
     site: &Site,
     at: u32,
-    refusal: Refusal,
+    refusal: Diagnostic,
     notes: &mut Notes,
 ) -> Result<Ask<Callable>, Memory>
     ensures { (state : State) (nodes : List Node) → Coding state state notes.old notes.new nodes nodes site.now result IsCallable called_in (λ c. spec_refuse c at (code_of refusal) no_call) }
@@ -110,10 +111,10 @@ fn allowed(
         if is_count {
             Ok(Ask::Known(what))
         } else {
-            refused_call(site, call.at, Refusal::WrongCount, notes)
+            refused_call(site, call.at, Diagnostic::WrongCount, notes)
         }
     } else {
-        refused_call(site, call.at, Refusal::NotAProcedure, notes)
+        refused_call(site, call.at, Diagnostic::NotAProcedure, notes)
     }
 }
 
@@ -307,7 +308,7 @@ fn called_variable<S: Scopes>(
         Ask::Known(Some(form)) => {
             called_by_form(scopes, site, call, form, code, fragments, notes)
         }
-        Ask::Known(None) => refused_call(site, call.at, Refusal::NotAProcedure, notes),
+        Ask::Known(None) => refused_call(site, call.at, Diagnostic::NotAProcedure, notes),
         Ask::DontKnowYet(head) => Ok(Ask::DontKnowYet(head)),
     }
 }
@@ -333,9 +334,9 @@ fn called_by_operand<S: Scopes>(
         Operand::Variable(of) => {
             called_variable(scopes, site, call, of, x.code, fragments, notes)
         }
-        Operand::ModuleName(_) => refused_call(site, call.at, Refusal::NotAVariable, notes),
+        Operand::ModuleName(_) => refused_call(site, call.at, Diagnostic::NotAVariable, notes),
         Operand::InError => Ok(Ask::Known(Callable::Nothing)),
-        _ => refused_call(site, call.at, Refusal::NotAProcedure, notes),
+        _ => refused_call(site, call.at, Diagnostic::NotAProcedure, notes),
     }
 }
 

@@ -28,11 +28,14 @@ use crate::addressed::variable_at;
 use crate::chains::{applied, pair};
 use crate::coded::{Coded, Placed};
 use crate::fragments::{Fragment, Fragments};
-use crate::refusals::{Refusal, refused};
+use crate::refusals::refused;
 use crate::values::{assigned_to, value_code};
 use code_form::Instr;
 use const_eval::{is_bad, is_broken};
-use m2_base::{Around, Ask, Memory, Notes, Operand, Place, RowMeaning, Scopes, Site, read_row};
+use m2_base::{
+    Around, Ask, Diagnostic, Memory, Notes, Operand, Place, RowMeaning, Scopes, Site, analysed,
+    asked, known, read_row,
+};
 use type_rules::{CARDINAL, range_of, row_at, size_of, stand};
 
 /// The type that a pointer's row leads to: where that names a row of a type's name, the type of this.
@@ -104,7 +107,7 @@ fn of_pointer<S: Scopes>(
     let (_, meaning) = asked!(stand(scopes, site.around, of));
     match meaning {
         RowMeaning::Pointer(to) => pointed(scopes, site, to, code, fragments),
-        _ => refused(site, at, Refusal::NotAPointer, notes),
+        _ => refused(site, at, Diagnostic::NotAPointer, notes),
     }
 }
 
@@ -126,7 +129,7 @@ pub fn select_target<S: Scopes>(
         Operand::Variable(of) => of_pointer(scopes, site, at, of, x.code, fragments, notes),
         Operand::InError => Ok(Ask::Known(Coded::in_error())),
         Operand::NotConstant => Ok(Ask::Known(Coded::in_error())),
-        _ => refused(site, first, Refusal::NotAVariable, notes),
+        _ => refused(site, first, Diagnostic::NotAVariable, notes),
     }
 }
 
@@ -385,7 +388,7 @@ fn array_element<S: Scopes>(
     requires x { IsCoded (S.state scopes.old).frame fragments.old.nodes.items x }
     ensures { Coding (S.state scopes.old) (S.state scopes.new) notes.old notes.new fragments.old.nodes.items fragments.new.nodes.items site.now result IsCoded coded_in (λ c. and_then (spec_assigned c indices index.at not_assignable (coded_in fragments.old.nodes.items index.coded)) (spec_of_array c (coded_in fragments.old.nodes.items x) indices of)) }
 {
-    let refusal = Refusal::NotAssignable;
+    let refusal = Diagnostic::NotAssignable;
     let taken = analysed!(assigned_to(
         scopes,
         site,
@@ -415,7 +418,7 @@ fn open_element<S: Scopes>(
     requires x { IsCoded (S.state scopes.old).frame fragments.old.nodes.items x }
     ensures { Coding (S.state scopes.old) (S.state scopes.new) notes.old notes.new fragments.old.nodes.items fragments.new.nodes.items site.now result IsCoded coded_in (λ c. and_then (spec_assigned c cardinal index.at not_assignable (coded_in fragments.old.nodes.items index.coded)) (spec_of_open c (coded_in fragments.old.nodes.items x) of)) }
 {
-    let refusal = Refusal::NotAssignable;
+    let refusal = Diagnostic::NotAssignable;
     let taken = analysed!(assigned_to(
         scopes,
         site,
@@ -453,7 +456,7 @@ fn of_array<S: Scopes>(
         RowMeaning::OpenArray(elements) => {
             open_element(scopes, site, elements, index, x, fragments, notes)
         }
-        _ => refused(site, at, Refusal::NotAnArray, notes),
+        _ => refused(site, at, Diagnostic::NotAnArray, notes),
     }
 }
 
@@ -477,6 +480,6 @@ pub fn select_element<S: Scopes>(
         Operand::Variable(of) => of_array(scopes, site, at, of, index, x, fragments, notes),
         Operand::InError => Ok(Ask::Known(Coded::in_error())),
         Operand::NotConstant => Ok(Ask::Known(Coded::in_error())),
-        _ => refused(site, first, Refusal::NotAVariable, notes),
+        _ => refused(site, first, Diagnostic::NotAVariable, notes),
     }
 }

@@ -8,39 +8,6 @@
 //! them, which make fragments (the record `Coding`, `specs/Codings`).
 #![tactic(auto)]
 
-/// The value of an answer, or the end of the function where it isn't known yet.
-macro_rules! known {
-    ($asked:expr) => {
-        match $asked {
-            Ask::Known(value) => value,
-            Ask::DontKnowYet(head) => return Ask::DontKnowYet(head),
-        }
-    };
-}
-
-/// The value of an analysis, or the end of the function where it isn't known yet or memory is wanted.
-macro_rules! analysed {
-    ($asked:expr) => {
-        match $asked {
-            Ok(asked) => match asked {
-                Ask::Known(value) => value,
-                Ask::DontKnowYet(head) => return Ok(Ask::DontKnowYet(head)),
-            },
-            Err(memory) => return Err(memory),
-        }
-    };
-}
-
-/// The value of an answer within an analysis, or the end of the function where it isn't known yet.
-macro_rules! asked {
-    ($asked:expr) => {
-        match $asked {
-            Ask::Known(value) => value,
-            Ask::DontKnowYet(head) => return Ok(Ask::DontKnowYet(head)),
-        }
-    };
-}
-
 mod addressed;
 mod answers;
 mod appending;
@@ -93,7 +60,7 @@ pub use laws::{
 pub use operators::{made, one_coded, side_of, two_coded};
 pub use pieces::{Piece, With, append};
 pub use record_fields::field_of_withs;
-pub use refusals::{Refusal, refused};
+pub use refusals::refused;
 pub use set_elements::{Elements, add_element, add_range, element_coded, set_coded, set_start};
 pub use steps::Step;
 pub use values::{assigned_to, characters, is_structured, value_code};

@@ -25,12 +25,13 @@ use crate::addressed::variable_at;
 use crate::coded::Coded;
 use crate::fragments::{Fragment, Fragments};
 use crate::pieces::With;
-use crate::refusals::{Refusal, refused};
+use crate::refusals::refused;
 use crate::variables::entry_coded;
 use code_form::Instr;
 use const_eval::is_broken;
 use m2_base::{
-    Around, Ask, Ident, Memory, Notes, Operand, Place, Row, RowMeaning, Scopes, Site, read_row,
+    Around, Ask, Diagnostic, Ident, Memory, Notes, Operand, Place, Row, RowMeaning, Scopes, Site,
+    analysed, asked, known, read_row,
 };
 use type_rules::{field_of, stand, use_name};
 
@@ -217,7 +218,7 @@ fn found_field<S: Scopes>(
 {
     match asked!(field_of(scopes, site.around, of, ident.name)) {
         Some(field) => field_coded(scopes, site, field, code, fragments),
-        None => refused(site, ident.at, Refusal::NoSuchField, notes),
+        None => refused(site, ident.at, Diagnostic::NoSuchField, notes),
     }
 }
 
@@ -240,7 +241,7 @@ fn of_record<S: Scopes>(
     let (_, meaning) = asked!(stand(scopes, site.around, of));
     match meaning {
         RowMeaning::Record(..) => found_field(scopes, site, of, ident, code, fragments, notes),
-        _ => refused(site, at, Refusal::NotARecord, notes),
+        _ => refused(site, at, Diagnostic::NotARecord, notes),
     }
 }
 
@@ -269,6 +270,6 @@ pub fn select_field<S: Scopes>(
         }
         Operand::InError => Ok(Ask::Known(Coded::in_error())),
         Operand::NotConstant => Ok(Ask::Known(Coded::in_error())),
-        _ => refused(site, first, Refusal::NotAVariable, notes),
+        _ => refused(site, first, Diagnostic::NotAVariable, notes),
     }
 }

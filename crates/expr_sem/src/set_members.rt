@@ -25,12 +25,14 @@ ghost use Rattle.type_rules.specs.Sites.{SuitsSite};
 use crate::coded::Coded;
 use crate::fitting::fitted_code;
 use crate::fragments::Fragments;
-use crate::refusals::{Refusal, refused};
+use crate::refusals::refused;
 use crate::updates::{Change, NO_VALUE, either_bad, updated};
 use crate::values::{as_value, in_range};
 use code_form::Instr;
 use const_eval::{compatible_pair, is_broken, set_base};
-use m2_base::{Ask, Builtin, Memory, Notes, Operand, Place, Scopes, Site};
+use m2_base::{
+    Ask, Builtin, Diagnostic, Memory, Notes, Operand, Place, Scopes, Site, analysed, asked,
+};
 use type_rules::operand_type;
 
 /// An element as it is taken beside a value of the set's base, or what is refused where they aren't compatible.
@@ -50,7 +52,7 @@ fn member_or_refused<S: Scopes>(
 {
     match pair {
         Some((operand, _)) => in_range(scopes, site, at, base, v.taken(operand), notes),
-        None => refused(site, at, Refusal::WrongArgument, notes),
+        None => refused(site, at, Diagnostic::WrongArgument, notes),
     }
 }
 

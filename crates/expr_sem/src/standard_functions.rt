@@ -30,12 +30,15 @@ use crate::coded::{Coded, Placed};
 use crate::elements::high_or_none;
 use crate::fragments::{Fragment, Fragments};
 use crate::operators::made;
-use crate::refusals::{Refusal, refused};
+use crate::refusals::refused;
 use crate::value_functions::{Rule, on_value};
 use crate::variable_arguments::as_variable;
 use code_form::Instr;
 use const_eval::{Argument, TypeFunction, ValueFunction, is_bad, is_broken, of_type_noted};
-use m2_base::{Ask, Builtin, Memory, Notes, Operand, Place, RowMeaning, Scopes, Site};
+use m2_base::{
+    Ask, Builtin, Diagnostic, Memory, Notes, Operand, Place, RowMeaning, Scopes, Site, analysed,
+    asked,
+};
 use type_rules::{CARDINAL, operand_type, range_of, size_of, stand};
 
 /// How far a range reaches above its low end.
@@ -160,7 +163,7 @@ fn high_of<S: Scopes>(
     match kind {
         RowMeaning::Array(index, _, _) => high_of_array(scopes, site, x, index, kind, fragments),
         RowMeaning::OpenArray(_) => high_computed(scopes, site, x, kind, fragments),
-        _ => refused(site, at, Refusal::WrongArgument, notes),
+        _ => refused(site, at, Diagnostic::WrongArgument, notes),
     }
 }
 

@@ -20,10 +20,12 @@ ghost use Rattle.type_rules.specs.Sites.{SuitsSite, context_of};
 
 use crate::coded::Coded;
 use crate::fragments::Fragments;
-use crate::refusals::{Refusal, refused};
+use crate::refusals::refused;
 use crate::updates::either_bad;
 use crate::values::{as_value, in_range};
-use m2_base::{Around, Ask, Memory, Notes, Operand, Place, Scopes, Site};
+use m2_base::{
+    Around, Ask, Diagnostic, Memory, Notes, Operand, Place, Scopes, Site, analysed, asked, known,
+};
 use type_rules::{CARDINAL, WHOLE, base_of, is_integer_or_cardinal, operand_type};
 
 /// A base that is a type of numbers, or else CARDINAL.
@@ -105,7 +107,7 @@ fn number_or_refused<S: Scopes>(
     if holds {
         in_range(scopes, site, at, want, n, notes)
     } else {
-        refused(site, at, Refusal::WrongArgument, notes)
+        refused(site, at, Diagnostic::WrongArgument, notes)
     }
 }
 

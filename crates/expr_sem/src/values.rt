@@ -12,7 +12,7 @@ ghost use Rattle.expr_sem.specs.Coded.{characters as spec_characters, is_structu
 ghost use Rattle.expr_sem.specs.Codings.{Coding, IsCoded, IsFragment, coded_in};
 ghost use Rattle.expr_sem.specs.Fragments.{IsIn, IsMade, part};
 ghost use Rattle.expr_sem.specs.Parts.{text as spec_text};
-ghost use Rattle.expr_sem.specs.Refusals.{code_of};
+ghost use Rattle.m2_base.specs.Diagnostics.{code_of};
 ghost use Rattle.expr_sem.specs.Values.{as_value as spec_as_value, assigned_to as spec_assigned_to, in_range as spec_in_range, in_range_by as spec_in_range_by};
 ghost use Rattle.expr_sem.specs.declared.fragments.Node.{Node};
 ghost use Rattle.type_rules.specs.Asks.{Reads, WhereKnown, WhereWaiting};
@@ -25,11 +25,13 @@ use crate::coded::Coded;
 use crate::fragments::{Fragment, Fragments};
 use crate::levels::level_of;
 use crate::procedure_names::procedure_code;
-use crate::refusals::{Refusal, refused};
+use crate::refusals::refused;
 use crate::takings::{Taking, taking_of};
 use code_form::Instr;
 use const_eval::is_within;
-use m2_base::{Around, Ask, Memory, Notes, Operand, Place, RowMeaning, Scopes, Site, Texts};
+use m2_base::{
+    Around, Ask, Diagnostic, Memory, Notes, Operand, Place, RowMeaning, Scopes, Site, Texts, known,
+};
 use type_rules::{range_of, stand};
 
 /// The characters of a string with these bytes.
@@ -134,14 +136,14 @@ pub fn as_value(site: &Site, at: u32, x: Coded, notes: &mut Notes) -> Result<Ask
     ensures { (state : State) (nodes : List Node) → IsCoded state.frame nodes x → Coding state state notes.old notes.new nodes nodes site.now result IsCoded coded_in (λ c. spec_as_value c at (coded_in nodes x)) }
 {
     match x.operand {
-        Operand::NamedType(_) => refused(site, at, Refusal::NotAVariable, notes),
-        Operand::ModuleName(_) => refused(site, at, Refusal::NotAVariable, notes),
-        Operand::StandardProcedure(_) => refused(site, at, Refusal::NotAProcedureValue, notes),
+        Operand::NamedType(_) => refused(site, at, Diagnostic::NotAVariable, notes),
+        Operand::ModuleName(_) => refused(site, at, Diagnostic::NotAVariable, notes),
+        Operand::StandardProcedure(_) => refused(site, at, Diagnostic::NotAProcedureValue, notes),
         Operand::Procedure(_, of, _, _) => {
             if level_of(site.around, of.scope) == 0 {
                 Ok(Ask::Known(x))
             } else {
-                refused(site, at, Refusal::NotAProcedureValue, notes)
+                refused(site, at, Diagnostic::NotAProcedureValue, notes)
             }
         }
         _ => Ok(Ask::Known(x)),
@@ -163,7 +165,7 @@ fn within(
             if is_within(ends, value) {
                 Ok(Ask::Known(x))
             } else {
-                refused(site, at, Refusal::OutOfRange, notes)
+                refused(site, at, Diagnostic::OutOfRange, notes)
             }
         }
         _ => Ok(Ask::Known(x)),
@@ -196,7 +198,7 @@ pub fn assigned_to<S: Scopes>(
     site: &Site,
     to: Place,
     at: u32,
-    refusal: Refusal,
+    refusal: Diagnostic,
     x: Coded,
     notes: &mut Notes,
 ) -> Result<Ask<Coded>, Memory>

@@ -17,9 +17,12 @@ ghost use Rattle.type_rules.specs.Sites.{SuitsSite, context_of};
 
 use crate::coded::Coded;
 use crate::fragments::Fragments;
-use crate::refusals::{Refusal, refused};
+use crate::refusals::refused;
 use const_eval::is_bad;
-use m2_base::{Ask, Memory, Notes, Operand, Place, RowMeaning, Scopes, Site};
+use m2_base::{
+    Ask, Diagnostic, Memory, Notes, Operand, Place, RowMeaning, Scopes, Site, analysed, asked,
+    known,
+};
 use type_rules::{operand_type, range_of, stand};
 
 /// Which type a variable is to have.
@@ -38,7 +41,7 @@ pub fn as_variable(site: &Site, at: u32, x: Coded, notes: &mut Notes) -> Result<
         Operand::Variable(_) => Ok(Ask::Known(x)),
         Operand::InError => Ok(Ask::Known(Coded::in_error())),
         Operand::NotConstant => Ok(Ask::Known(Coded::in_error())),
-        _ => refused(site, at, Refusal::NotAVariable, notes),
+        _ => refused(site, at, Diagnostic::NotAVariable, notes),
     }
 }
 
@@ -78,7 +81,7 @@ fn wanted_or_refused(
     if holds {
         Ok(Ask::Known(x))
     } else {
-        refused(site, at, Refusal::WrongArgument, notes)
+        refused(site, at, Diagnostic::WrongArgument, notes)
     }
 }
 

@@ -1,5 +1,6 @@
 pub mod Asks
 pub mod Comments
+pub mod Diagnostics
 pub mod ExpressionsOf
 pub mod FaultsOf
 pub mod Finished
@@ -13,6 +14,7 @@ pub mod Lexemes
 pub mod Lists
 pub mod Meanings
 pub mod Names
+pub mod Noting
 pub mod Operators
 pub mod Positions
 pub mod Rows

@@ -7,6 +7,7 @@ pub use Rattle.m2_base.specs.declared.rows.Mode.{Mode}
 pub use Rattle.m2_base.specs.declared.rows.Mode.TheVariants.{Plain, ByAddress, Open}
 pub use Rattle.m2_base.specs.declared.rows.RowMeaning.{RowMeaning}
 pub use Rattle.m2_base.specs.declared.rows.RowMeaning.TheVariants.{Const, TypeName, Var, Proc, Module, Alias, Field, Param, Standard, Broken, Integer, Cardinal, Character, Nil, Text, Whole, Enum, Subrange, Array, OpenArray, Record, Set, Pointer, ProcType, Opaque}
+use Rattle.m2_base.specs.declared.limits.TheConstants.{GREATEST_CARDINAL, LEAST_INTEGER}
 
 -- the place of a scope's row
 abbrev pub at_place : ℕ → ℕ → Place
@@ -204,7 +205,7 @@ IsBefore p q = p.scope * 2 ^ 32 + p.ordinal < q.scope * 2 ^ 32 + q.ordinal
 
 -- a constant's value, a low or a high
 abbrev pub IsValue : ℤ → Type 0
-IsValue z = (negsuc 2147483647 ≤ℤ z) × (z ≤ℤ pos 4294967295)
+IsValue z = (LEAST_INTEGER ≤ℤ z) × (z ≤ℤ GREATEST_CARDINAL)
 
 -- a number that a row has room for
 abbrev pub IsSmall : ℕ → Type 0

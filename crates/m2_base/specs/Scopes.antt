@@ -10,12 +10,13 @@ use Rattle.m2_base.specs.declared.replies.Ask.TheVariants.{Known, DontKnowYet as
 use Rattle.m2_base.specs.declared.replies.Head.{Head}
 use Rattle.m2_base.specs.declared.replies.Reply.{Reply}
 use Rattle.m2_base.specs.declared.replies.Reply.TheVariants.{Found, Absent, DontKnowYet}
+use Rattle.m2_base.specs.declared.limits.TheConstants.{LONGEST_CHAIN}
 
 -- ** Search
 
 -- The chain is short, its scopes exist, and the name is one.
 pub record CanSearch (st : State) (chain : List ℕ) (name : ℕ) : Type 0 where
-  pub short : length chain ≤ 18
+  pub short : length chain ≤ LONGEST_CHAIN
   pub exist : Each (λ s. s < length (areas_of st)) chain
   pub named : name ≢ 0
 

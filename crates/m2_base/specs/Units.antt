@@ -7,6 +7,7 @@ use Rattle.m2_base.specs.Names.{standard_names}
 use Rattle.m2_base.specs.declared.kind.TokenKind.{TokenKind}
 use Rattle.m2_base.specs.declared.kind.TokenKind.TheVariants.{EndOfText, Identifier, Number, Character, «String», Bad, Cut, StreamEnd}
 use Rattle.m2_base.specs.declared.token.Token.{Token}
+use Rattle.m2_base.specs.declared.limits.TheConstants.{MOST_TEXT_BYTES, MOST_TEXTS, MOST_TOKENS, MOST_UNIT_TOKENS}
 
 pub record TextOf : Type 0 where
   pub name : ℕ
@@ -31,13 +32,13 @@ pub record IsIdentifier (bytes : List ℕ) : Type 0 where
 
 -- a text that a number may stand for: a name, or what stands between the quotes of a string
 pub record IsSpelling (text : List ℕ) : Type 0 where
-  pub short : length text ≤ 1048576
+  pub short : length text ≤ MOST_TEXT_BYTES
   pub bytes : Each (λ byte. byte < 256) text
 
 -- a name that a token or a text may have
 pub record IsNumbered (names : List (List ℕ)) (number : ℕ) : Type 0 where
   pub there : number < length names
-  pub short : length (slice_index_or names number []) ≤ 1048576
+  pub short : length (slice_index_or names number []) ≤ MOST_TEXT_BYTES
 
 -- the name of an identifier
 pub record IsNamed (names : List (List ℕ)) (number : ℕ) : Type 0 where
@@ -68,7 +69,7 @@ AreNumbered at (token ∷ next ∷ tokens) = IsInner token.kind × (token.at ≡
 
 pub record IsText (names : List (List ℕ)) (t : TextOf) : Type 0 where
   pub named : IsNamed names t.name
-  pub count : length t.tokens ≤ 1048576
+  pub count : length t.tokens ≤ MOST_TOKENS
   pub numbered : AreNumbered 0 t.tokens
   pub values : Each (λ token. HasValue names token.kind token.value) t.tokens
 
@@ -101,8 +102,8 @@ pub record IsUnit (u : UnitTexts) : Type 0 where
   pub countable : length u.names < 2 ^ 32
   pub spelled : Each IsSpelling u.names
   pub main : HasOneMain u.list
-  pub few : length u.list ≤ 257
-  pub tokens : sum_by (λ t. length t.tokens) u.list ≤ 4194304
+  pub few : length u.list ≤ MOST_TEXTS
+  pub tokens : sum_by (λ t. length t.tokens) u.list ≤ MOST_UNIT_TOKENS
   pub texts : Each (IsText u.names) u.list
   pub differ : AllDiffer (map (λ t. t.name) (definitions_of u.list))
   pub ordered : Each (IsDefinition u.list) u.order

@@ -9,14 +9,17 @@
 #![tactic(auto)]
 
 mod builtins;
+mod diagnostic;
 mod kind;
 mod laws;
 mod letters;
+mod limits;
 mod memory;
 mod names;
 mod notes;
 mod operands;
 mod outputs;
+mod passing;
 mod replies;
 mod rows;
 mod scopes;
@@ -28,11 +31,17 @@ mod token;
 mod trees;
 
 pub use builtins::{Builtin, standard_procedure};
+pub use diagnostic::Diagnostic;
 pub use kind::{TokenKind, reserved_kind, symbol_kind};
 pub use laws::one_list_of_tokens;
 pub use letters::{
     goes_on, is_blank, is_digit, is_hexadecimal_digit, is_letter, is_octal_digit, is_quote,
     stays_in,
+};
+pub use limits::{
+    DEEPEST_LEVEL, GREATEST_CARDINAL, GREATEST_CHARACTER, GREATEST_ELEMENT, GREATEST_INTEGER,
+    LEAST_INTEGER, LONGEST_CHAIN, MOST_CELLS, MOST_NESTED, MOST_PROCEDURES, MOST_TEXT_BYTES,
+    MOST_TEXTS, MOST_TOKENS, MOST_UNIT_TOKENS, STANDARD_ROWS,
 };
 pub use memory::Memory;
 pub use names::Names;

@@ -1,6 +1,10 @@
 //! What the analysis of a text notes.
-ghost use Rattle.std.specs.Prelude.{◌≡◌, []};
+ghost use Rattle.std.specs.Prelude.{◌≡◌, [], IfOk, OnErr};
+ghost use Rattle.m2_base.specs.Diagnostics.{code_of};
+ghost use Rattle.m2_base.specs.Noting.{IsRefused};
 
+use crate::diagnostic::Diagnostic;
+use crate::memory::Memory;
 use crate::rows::{Place, Row};
 use std::alloc::Global;
 
@@ -38,5 +42,19 @@ impl Notes {
             diags: Vec::new(alloc),
             answers: Vec::new(alloc),
         }
+    }
+
+    /// Notes that this is wrong at a token of a text.
+    pub fn refuse(&mut self, text: u32, at: u32, diagnostic: Diagnostic) -> Result<(), Memory>
+        ensures noted { IfOk result (λ _. IsRefused self.old self.new text at (code_of diagnostic)) }
+        ensures kept { OnErr result (self.new.diags.items ≡ self.old.diags.items) }
+        ensures answers { self.new.answers.items ≡ self.old.answers.items }
+    {
+        self.diags.push(Diag {
+            text,
+            at,
+            code: diagnostic.code(),
+        })?;
+        Ok(())
     }
 }

@@ -1,5 +1,7 @@
 -- One thing is decided of a text.
 use Rattle.std.proofs.Common.{◌≡◌, ℕ, ◌<◌, ◌≤◌, Bool, true, false, List, Option, Some, None, Result, Ok, Err, length, refl, sym, ◌∙◌, ap, subst, arith}
+use Rattle.m2_base.specs.Diagnostics.{code_of}
+use Rattle.m2_base.specs.declared.diagnostic.Diagnostic.TheVariants.{OtherModuleName}
 use Rattle.m2_base.specs.FaultsOf.{fault_in}
 use Rattle.m2_base.specs.Grammar.{grammar, levels, stream}
 use Rattle.m2_base.specs.Names.{standard_names}
@@ -13,7 +15,7 @@ use Rattle.m2_base.proofs.OneList.{one_list_of_names, one_list_of_tokens}
 use Rattle.ll_grammar.proofs.OneAnswer.{has_one_answer}
 use Rattle.m2_lex.specs.Faults.{HasTooMany}
 use Rattle.m2_parse.proofs.FrontLaws.{one_front}
-use Rattle.m2c_top.specs.Codes.{diag_at, other_module}
+use Rattle.m2c_top.specs.MainText.{diag_at}
 use Rattle.m2c_top.specs.Decisions.{Decision, limited, unbuilt, refused, to_compile, Lexed, HasTokens, has_unbuilt, other_name_at, NamesOther, Answers, decision_for, Decides, too_long, too_many_tokens, other_form, other_name, faulty, module_of, module_text}
 use Rattle.m2c_top.specs.declared.verdict.Limit.TheVariants.{TextBytes, Tokens}
 use Rattle.m2c_top.proofs.TokenCounts.{too_many}
@@ -69,11 +71,11 @@ module _ (name text : List ℕ) where
   one_of_named u d e (tree t a) (tree s b) = ap (λ (x : Stream). to_compile (module_of u x)) (ok_same t s (one_answer u.tokens (Ok t) (Ok s) a b))
 
   data OfBuilt (u : Lexed) : Decision → Type 0 where
-    other : (at : ℕ) → NamesOther name u (Some at) → OfBuilt u (refused u.tokens (diag_at at other_module))
+    other : (at : ℕ) → NamesOther name u (Some at) → OfBuilt u (refused u.tokens (diag_at at (code_of OtherModuleName)))
     this : (d : Decision) → NamesOther name u None → OfNamed u d → OfBuilt u d
 
   one_of_built : (u : Lexed) (d e : Decision) → OfBuilt u d → OfBuilt u e → d ≡ e
-  one_of_built u d e (other i a) (other j b) = ap (λ at. refused u.tokens (diag_at at other_module)) (some_same i j (one_place name u (Some i) (Some j) a b))
+  one_of_built u d e (other i a) (other j b) = ap (λ at. refused u.tokens (diag_at at (code_of OtherModuleName))) (some_same i j (one_place name u (Some i) (Some j) a b))
   one_of_built u d e (other i a) (this c b h) = absurd (some_none i (one_place name u (Some i) None a b))
   one_of_built u d e (this c b h) (other i a) = absurd (some_none i (one_place name u (Some i) None a b))
   one_of_built u d e (this x a h) (this y b k) = one_of_named u d e h k

@@ -2,6 +2,8 @@
 -- a text of which none before it does.
 use Rattle.std.specs.Prelude.{◌≡◌, ℕ, ◌<◌, ◌≤◌, ◌==◌, Bool, true, false, ◌&&◌, ◌||◌, if◌then◌else◌, List, [], ◌∷◌, Option, Some, None, Result, Ok, Err, length}
 use Rattle.ll_grammar.specs.Texts.{IsAnswer}
+use Rattle.m2_base.specs.Diagnostics.{code_of}
+use Rattle.m2_base.specs.declared.diagnostic.Diagnostic.TheVariants.{OtherModuleName}
 use Rattle.m2_base.specs.FaultsOf.{fault_in}
 use Rattle.m2_base.specs.Fronts.{Front, IsFront}
 use Rattle.m2_base.specs.Grammar.{grammar, levels, stream}
@@ -19,7 +21,7 @@ use Rattle.m2_base.specs.declared.token.Token.{Token}
 use Rattle.m2_base.specs.declared.trees.Ident.{Ident}
 use Rattle.m2_base.specs.declared.trees.declarations.StreamKind.TheVariants.{Main}
 use Rattle.m2_lex.specs.Faults.{HasTooMany}
-use Rattle.m2c_top.specs.Codes.{diag_at, other_module}
+use Rattle.m2c_top.specs.MainText.{diag_at}
 use Rattle.m2c_top.specs.Modules.{Module}
 use Rattle.m2c_top.specs.Names.{is_named}
 use Rattle.m2c_top.specs.declared.verdict.Limit.{Limit}
@@ -102,7 +104,7 @@ pub data Decides (name text : List ℕ) : Decision → Type 0 where
   too_long : 1048576 < length text → Decides name text (limited TextBytes)
   too_many_tokens : length text ≤ 1048576 → HasTooMany text → Decides name text (limited Tokens)
   other_form : (u : Lexed) → HasTokens text u → has_unbuilt u.tokens ≡ true → Decides name text unbuilt
-  other_name : (u : Lexed) (at : ℕ) → IsBuilt text u → NamesOther name u (Some at) → Decides name text (refused u.tokens (diag_at at other_module))
+  other_name : (u : Lexed) (at : ℕ) → IsBuilt text u → NamesOther name u (Some at) → Decides name text (refused u.tokens (diag_at at (code_of OtherModuleName)))
   faulty : (u : Lexed) (fault : StreamFault) → IsBuilt text u → NamesOther name u None → Answers u.tokens (Err fault)
       → Decides name text (decision_for u.tokens fault)
   module_text : (u : Lexed) (tree : Stream) → IsBuilt text u → NamesOther name u None → Answers u.tokens (Ok tree) → Decides name text (to_compile (module_of u tree))

@@ -1,5 +1,4 @@
 pub mod Analyses
-pub mod Codes
 pub mod Command
 pub mod Decisions
 pub mod Delivery
@@ -9,6 +8,7 @@ pub mod Filled
 pub mod Held
 pub mod Limits
 pub mod Listing
+pub mod MainText
 pub mod Modules
 pub mod Names
 pub mod Object

@@ -3,13 +3,13 @@ use Rattle.std.specs.Prelude.{ℕ, List, [], ◌++◌, Option, Some, None, slice
 use Rattle.std.specs.List.{flat_map}
 use Rattle.m2_base.specs.declared.notes.Diag.{Diag}
 use Rattle.m2_base.specs.declared.token.Token.{Token}
-use Rattle.m2c_top.specs.Codes.{text_of}
+use Rattle.m2_base.specs.Diagnostics.{text_of_code}
 
 abbrev pub place_text : (file : List ℕ) (line column : ℕ) → List ℕ
 place_text file line column = file ++ codes ":" ++ decimal line ++ codes ":" ++ decimal column ++ codes ": "
 
 abbrev pub code_text : (code : ℕ) → List ℕ
-code_text code = decimal code ++ codes " " ++ text_of code ++ codes "\n"
+code_text code = decimal code ++ codes " " ++ text_of_code code ++ codes "\n"
 
 -- each diagnostic of a text is at one of its tokens
 abbrev pub line_at : (file : List ℕ) → Option Token → (code : ℕ) → List ℕ

@@ -20,26 +20,21 @@ ghost use Rattle.m2c_top.specs.Modules.{body_in, cells_in, run_in};
 mod declaring;
 
 use crate::analysis::declaring::{Block, declare_block};
-use crate::diagnostic::{TOO_MANY_CELLS, diag_at};
+use crate::diagnostic::diag_at;
 use crate::module::Module;
 use crate::ordering::put_in_order;
 use decl_sem::{Effect, layout};
 use expr_sem::Piece;
 use m2_base::{
-    Around, Ask, Chain, Diag, Ident, Layout, Memory, Notes, ProcCode, Scopes, Site, Texts,
+    Around, Ask, Chain, Diag, Diagnostic, Ident, Layout, MOST_CELLS, Memory, Notes, ProcCode,
+    STANDARD_ROWS, Scopes, Site, Texts,
 };
 use scope_core::PlainScopes;
 use std::alloc::Global;
 use stmt_sem::{block, procedure_code};
 
-/// The number of standard rows.
-const STANDARD_ROWS: u32 = 37;
-
 /// A block has at most so many rows.
 const MOST_ROWS: u32 = 2_147_483_647;
-
-/// A module's variables and its temporary cells are at most so many, and so are the bytes of its data.
-const MOST_CELLS: u32 = 16_777_215;
 
 /// What the analysis of a module finds.
 #[derive(Drop)]
@@ -81,7 +76,7 @@ fn scopes_for<'u>(alloc: Global, texts: &'u Texts, rows: u32) -> Result<PlainSco
     ensures started { IfOk result (λ scopes. scopes ≡ started texts.now (37 ∷ rows ∷ [])) }
     ensures sound { IfOk result (λ scopes. IsSound (state_of scopes)) }
 {
-    PlainScopes::new(alloc, texts, &[STANDARD_ROWS, rows])
+    PlainScopes::new(alloc, texts, &[STANDARD_ROWS as u32, rows])
 }
 
 /// What the module's statements and its end make. Its declarations left it so many cells.
@@ -141,7 +136,7 @@ fn note_size(
         return Ok(());
     };
     if is_too_much(cells, piece) {
-        diags.push(diag_at(name.at, TOO_MANY_CELLS))?;
+        diags.push(diag_at(name.at, Diagnostic::TooManyCells))?;
     }
     Ok(())
 }

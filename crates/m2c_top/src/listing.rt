@@ -2,8 +2,7 @@
 ghost use Rattle.std.specs.Prelude.{◌≡◌, ◌++◌, slice_get, decimal, IfOk, OnOk};
 ghost use Rattle.m2c_top.specs.Listing.{place_text, code_text, line_at, listing as spec_listing};
 
-use crate::diagnostic::text_of;
-use m2_base::{Diag, Memory, Token};
+use m2_base::{Diag, Diagnostic, Memory, Token};
 use std::alloc::Global;
 
 /// A line for each diagnostic at these tokens of the file.
@@ -65,7 +64,9 @@ fn push_code(alloc: Global, listing: &mut Vec<u8>, code: u8) -> Result<(), Memor
 {
     push_number(alloc, listing, code as u32)?;
     listing.extend_from_slice(b" ")?;
-    listing.extend_from_slice(text_of(code).as_bytes())?;
+    if let Some(diagnostic) = Diagnostic::of_code(code) {
+        listing.extend_from_slice(diagnostic.text().as_bytes())?;
+    }
     listing.extend_from_slice(b"\n")?;
     Ok(())
 }

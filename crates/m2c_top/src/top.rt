@@ -25,8 +25,8 @@ use crate::listing::listing;
 use crate::module::Module;
 use crate::object::object_of;
 use crate::status::Status;
-use crate::verdict::{Limit, MOST_BYTES, Verdict, decide};
-use m2_base::{Diag, Memory, ProcCode, Token};
+use crate::verdict::{Limit, Verdict, decide};
+use m2_base::{Diag, MOST_TEXT_BYTES, Memory, ProcCode, Token};
 use m2_io::{Gate, Shelf, ShelfError, Sink, SinkError, Source, write_all};
 use std::alloc::{AllocError, Global};
 
@@ -81,7 +81,7 @@ fn read_text<H: Shelf>(alloc: Global, name: &str, shelf: &mut H) -> Result<Optio
     ensures no_write { IsErrOf result Stop.Write → ⊥ }
 {
     let text = format!(in alloc; "{name}.mod")?;
-    match shelf.get(alloc, text.as_str(), MOST_BYTES + 1) {
+    match shelf.get(alloc, text.as_str(), MOST_TEXT_BYTES + 1) {
         Ok(found) => Ok(found),
         Err(ShelfError::Failed) => Err(Stop::Read),
         Err(ShelfError::Memory) => Err(Stop::Memory),

@@ -12,17 +12,15 @@ ghost use Rattle.m2c_top.specs.Names.{is_named as spec_named, number_of as spec_
 ghost use Rattle.m2c_top.specs.Held.{CanBeHeld, IsHeld, held};
 ghost use Rattle.m2c_top.specs.Verdicts.{decision_of, HoldsModule};
 
-use crate::diagnostic::{OTHER_MODULE, diag_at};
+use crate::diagnostic::diag_at;
 use crate::module::Module;
 use m2_base::{
-    Diag, Ident, Memory, Names, Stream, StreamFault, StreamKind, Text, Texts, Token, TokenKind,
+    Diag, Diagnostic, Ident, MOST_TEXT_BYTES, Memory, Names, Stream, StreamFault, StreamKind, Text,
+    Texts, Token, TokenKind,
 };
 use m2_lex::{LexFault, lex};
 use m2_parse::{ParseFault, front, parse_stream};
 use std::alloc::Global;
-
-/// The most bytes of a text.
-pub const MOST_BYTES: usize = 1_048_576;
 
 /// A quantity that has a limit.
 #[derive(Clone, Copy, Debug, PartialEq, Eq)]
@@ -47,7 +45,7 @@ pub fn decide(alloc: Global, name: &[u8], text: &[u8]) -> Result<Verdict, Memory
     ensures decides { IfOk result (λ verdict. Decides name.now text.now (decision_of verdict)) }
     ensures held { IfOk result HoldsModule }
 {
-    if text.len() > MOST_BYTES {
+    if text.len() > MOST_TEXT_BYTES {
         return Ok(Verdict::Limited(Limit::TextBytes));
     }
     let mut names = Names::new(alloc)?;
@@ -126,7 +124,7 @@ fn decide_built(
 {
     let _countable = names.count();
     if let Some(at) = other_name(alloc, name, &names, tokens.as_slice())? {
-        return Ok(Verdict::Refused(tokens, diag_at(at, OTHER_MODULE)));
+        return Ok(Verdict::Refused(tokens, diag_at(at, Diagnostic::OtherModuleName)));
     }
     match parse_stream(alloc, tokens.as_slice(), 0, StreamKind::Main) {
         Ok(tree) => Ok(Verdict::ToCompile(module_of(alloc, names, tokens, tree)?)),

@@ -10,7 +10,6 @@ pub mod BlockCode
 pub mod Heights
 pub mod Tokens
 pub mod Lengths
-pub mod Refusals
 pub mod Plain
 pub mod LoopParts
 pub mod FlowNodes

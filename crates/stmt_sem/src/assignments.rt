@@ -21,10 +21,10 @@ ghost use Rattle.stmt_sem.specs.Assignments.{assignment as spec_assignment, code
 use code_form::Instr;
 use const_eval::is_bad;
 use expr_sem::{
-    Coded, Fragment, Fragments, Refusal, answered, assigned_to, cells_of, characters, fitted_code,
-    instr_behind, is_structured, value_code,
+    Coded, Diagnostic, Fragment, Fragments, answered, assigned_to, cells_of, characters,
+    fitted_code, instr_behind, is_structured, value_code,
 };
-use m2_base::{Ask, Memory, Notes, Operand, Place, Scopes, Site};
+use m2_base::{Ask, Diagnostic, Memory, Notes, Operand, Place, Scopes, Site, analysed, asked};
 use type_rules::operand_type;
 
 /// A value stored by this instruction behind the address of its variable.
@@ -243,7 +243,7 @@ fn assigned<S: Scopes>(
     ensures { Coding (S.state scopes.old) (S.state scopes.new) notes.old notes.new fragments.old.nodes.items fragments.new.nodes.items site.now result IsFragment part (λ c. and_then (spec_assigned c (spec_type to.operand) at not_assignable (coded_in fragments.old.nodes.items x)) (λ v. gives (spec_store c (coded_in fragments.old.nodes.items to) v))) }
 {
     let of = operand_type(&to.operand);
-    let refusal = Refusal::NotAssignable;
+    let refusal = Diagnostic::NotAssignable;
     let value = analysed!(assigned_to(scopes, site, of, at, refusal, x, notes));
     store_code(scopes, site, to, value, fragments)
 }

@@ -13,7 +13,7 @@ use crate::block_pieces::{append_ending, append_piece, begun};
 use crate::top_statements::state;
 use decl_sem::Effect;
 use expr_sem::Piece;
-use m2_base::{Ask, Memory, Notes, Place, Scopes, Site, Stream};
+use m2_base::{Ask, Memory, Notes, Place, Scopes, Site, Stream, analysed};
 use std::alloc::Global;
 
 /// Puts notes behind others.

@@ -16,12 +16,12 @@ ghost use Rattle.type_rules.specs.Sites.{SuitsSite};
 ghost use Rattle.stmt_sem.specs.Cases.{no_case as spec_none, selector_type as spec_type, selector_value as spec_value};
 ghost use Rattle.stmt_sem.specs.Plain.{IsType, itself};
 
-use crate::refusals::{Refusal, refused_type};
+use crate::refusals::refused_type;
 use crate::tests::false_code;
 use code_form::Instr;
 use const_eval::{is_bad, is_ordinal};
 use expr_sem::{Coded, Fragment, Fragments, answered, value_code};
-use m2_base::{Ask, Memory, Notes, Place, Scopes, Site};
+use m2_base::{Ask, Diagnostic, Memory, Notes, Place, Scopes, Site, asked};
 use type_rules::{BROKEN, operand_type};
 
 /// The type of an ordinal selector, or what is refused otherwise.
@@ -37,7 +37,7 @@ fn type_or_refused(
     if holds {
         Ok(Ask::Known(of))
     } else {
-        refused_type(site, at, Refusal::WrongOperands, notes)
+        refused_type(site, at, Diagnostic::WrongOperands, notes)
     }
 }
 

@@ -17,11 +17,11 @@ ghost use Rattle.type_rules.specs.Scenes.{IsRowOf, IsThere, Suits, WhereTold, sc
 ghost use Rattle.type_rules.specs.Sites.{SuitsSite};
 ghost use Rattle.stmt_sem.specs.Counting.{can_control as spec_can, control_variable as spec_variable, controls as spec_controls, controls_with as spec_with};
 
-use crate::refusals::{Refusal, refused_operand};
+use crate::refusals::refused_operand;
 use expr_sem::{Coded, Fragments, With, entry_coded, field_of_withs};
 use m2_base::{
-    Around, Ask, Ident, Memory, Mode, Notes, Operand, Place, Row, RowMeaning, Scopes, Site,
-    read_row,
+    Around, Ask, Diagnostic, Ident, Memory, Mode, Notes, Operand, Place, Row, RowMeaning, Scopes,
+    Site, analysed, asked, known, read_row,
 };
 use type_rules::{range_of, use_name};
 
@@ -70,7 +70,7 @@ fn control_or_refused(
     if holds {
         Ok(Ask::Known(x))
     } else {
-        refused_operand(site, at, Refusal::NotAControlVariable, notes)
+        refused_operand(site, at, Diagnostic::NotAControlVariable, notes)
     }
 }
 
@@ -107,7 +107,7 @@ fn controls_with<S: Scopes>(
     match x.operand {
         Operand::InError => Ok(Ask::Known(Coded::in_error())),
         Operand::Variable(_) => variable_checked(scopes, site, at, entry, x, notes),
-        _ => refused_operand(site, at, Refusal::NotAVariable, notes),
+        _ => refused_operand(site, at, Diagnostic::NotAVariable, notes),
     }
 }
 
@@ -178,7 +178,7 @@ pub fn control_variable<S: Scopes>(
     ensures { Coding (S.state scopes.old) (S.state scopes.new) notes.old notes.new fragments.old.nodes.items fragments.new.nodes.items site.now result IsCoded coded_in (λ c. spec_variable c (with_types withs.now) ident) }
 {
     match asked!(field_of_withs(scopes, site.around, withs, ident.name)) {
-        Some(_) => refused_operand(site, ident.at, Refusal::NotAControlVariable, notes),
+        Some(_) => refused_operand(site, ident.at, Diagnostic::NotAControlVariable, notes),
         None => variable_named(scopes, site, ident, fragments, notes),
     }
 }

@@ -25,13 +25,15 @@ ghost use Rattle.stmt_sem.specs.LoopParts.{AreEnds, AreParts, IsOptionIn, ends_i
 ghost use Rattle.stmt_sem.specs.Plain.{IsStep, itself};
 
 use crate::assignments::store_code;
-use crate::refusals::{Refusal, refused_step};
+use crate::refusals::refused_step;
 use code_form::Instr;
 use const_eval::is_bad;
 use expr_sem::{
     Coded, Fragment, Fragments, answered, assigned_to, fitted_code, instr_behind, pair, side_of,
 };
-use m2_base::{Around, Ask, Memory, Notes, Operand, Place, Scopes, Site};
+use m2_base::{
+    Around, Ask, Diagnostic, Memory, Notes, Operand, Place, Scopes, Site, analysed, asked, known,
+};
 use type_rules::{WHOLE, base_of, is_integer_or_cardinal, operand_type};
 
 /// The parts of the code of a FOR that are known before its temporary cell is. What is in error is missing.
@@ -64,7 +66,7 @@ pub fn bound_value<S: Scopes>(
     if is_bad(x.operand) {
         return Ok(Ask::Known(Coded::in_error()));
     }
-    let refusal = expr_sem::Refusal::NotAssignable;
+    let refusal = Diagnostic::NotAssignable;
     assigned_to(
         scopes,
         site,
@@ -114,7 +116,7 @@ fn step_or_refused(
     ensures { (state : State) (nodes : List Node) → Coding state state notes.old notes.new nodes nodes site.now result IsStep itself (λ c. if is_zero value then refuse c at out_of_range None else gives (Some value)) }
 {
     if is_nothing(value) {
-        refused_step(site, at, Refusal::OutOfRange, notes)
+        refused_step(site, at, Diagnostic::OutOfRange, notes)
     } else {
         Ok(Ask::Known(Some(value)))
     }
@@ -133,7 +135,7 @@ fn number_or_refused(
     if holds {
         step_or_refused(site, at, value, notes)
     } else {
-        refused_step(site, at, Refusal::WrongOperands, notes)
+        refused_step(site, at, Diagnostic::WrongOperands, notes)
     }
 }
 
@@ -168,7 +170,7 @@ fn step_of<S: Scopes>(
 {
     match operand {
         Operand::Constant(of, value) => step_of_type(scopes, site, at, of, value, notes),
-        _ => refused_step(site, at, Refusal::WrongOperands, notes),
+        _ => refused_step(site, at, Diagnostic::WrongOperands, notes),
     }
 }
 

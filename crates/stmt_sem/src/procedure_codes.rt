@@ -15,20 +15,17 @@ ghost use Rattle.type_rules.specs.Scenes.{block_of};
 
 use code_form::{Instr, encode};
 use expr_sem::{Piece, Step};
-use m2_base::{Around, Heading, Memory, ProcCode, Section, Stream};
+use m2_base::{
+    Around, GREATEST_CARDINAL, Heading, LEAST_INTEGER, Memory, ProcCode, Section, Stream,
+};
 use std::alloc::Global;
-
-/// The values that an instruction can have.
-const LEAST: i64 = -2_147_483_648;
-
-const GREATEST: i64 = 4_294_967_295;
 
 /// Whether a value can be an operand.
 fn is_value(value: i64) -> bool
     ensures low { result ≡ true → negsuc 2147483647 ≤ℤ value }
     ensures high { result ≡ true → value ≤ℤ pos 4294967295 }
 {
-    LEAST <= value && value <= GREATEST
+    LEAST_INTEGER <= value && value <= GREATEST_CARDINAL
 }
 
 /// Whether all operands are in their ranges.

@@ -14,11 +14,11 @@ ghost use Rattle.type_rules.specs.Scenes.{IsThere};
 ghost use Rattle.type_rules.specs.Sites.{SuitsSite};
 ghost use Rattle.stmt_sem.specs.Returns.{return_alone as spec_alone, return_code as spec_return, return_value as spec_value, returned as spec_returned};
 
-use crate::refusals::{Refusal, refused_code};
+use crate::refusals::refused_code;
 use code_form::Instr;
 use const_eval::is_bad;
 use expr_sem::{Coded, Fragment, Fragments, Step, answered, assigned_to, fitted_code};
-use m2_base::{Ask, Memory, Notes, Place, Scopes, Site};
+use m2_base::{Ask, Diagnostic, Memory, Notes, Place, Scopes, Site, analysed};
 
 /// The end of a procedure that has no result.
 pub fn return_code(fragments: &mut Fragments) -> Result<Fragment, Memory>
@@ -92,7 +92,7 @@ pub fn return_alone(
 {
     match of {
         None => answered(return_code(fragments)),
-        Some(_) => refused_code(site, at, Refusal::WrongReturn, notes),
+        Some(_) => refused_code(site, at, Diagnostic::WrongReturn, notes),
     }
 }
 
@@ -111,7 +111,7 @@ fn return_of_type<S: Scopes>(
     requires x { IsCoded (S.state scopes.old).frame fragments.old.nodes.items x }
     ensures { Coding (S.state scopes.old) (S.state scopes.new) notes.old notes.new fragments.old.nodes.items fragments.new.nodes.items site.now result IsFragment part (λ c. and_then (spec_assigned c of x_at not_assignable (coded_in fragments.old.nodes.items x)) (λ v. gives (spec_returned c of v))) }
 {
-    let refusal = expr_sem::Refusal::NotAssignable;
+    let refusal = Diagnostic::NotAssignable;
     let value = analysed!(assigned_to(scopes, site, of, x_at, refusal, x, notes));
     returned(scopes, site, of, value, fragments)
 }
@@ -133,7 +133,7 @@ pub fn return_value<S: Scopes>(
     ensures { Coding (S.state scopes.old) (S.state scopes.new) notes.old notes.new fragments.old.nodes.items fragments.new.nodes.items site.now result IsFragment part (λ c. spec_value c at of x_at (coded_in fragments.old.nodes.items x)) }
 {
     match of {
-        None => refused_code(site, at, Refusal::WrongReturn, notes),
+        None => refused_code(site, at, Diagnostic::WrongReturn, notes),
         Some(of) => return_of_type(scopes, site, of, x_at, x, fragments, notes),
     }
 }

@@ -20,10 +20,10 @@ ghost use Rattle.stmt_sem.specs.Statements.{exit_of, form_flow};
 use crate::cases::no_case;
 use crate::flow_parts::answered;
 use crate::flows::{Code, Flow, Flows};
-use crate::refusals::{Refusal, noted};
+use crate::refusals::noted;
 use crate::stands::Stand;
 use crate::statement_parts::{assigned, called, returned};
-use m2_base::{Ask, Designator, Expr, Memory, Notes, Scopes, Site};
+use m2_base::{Ask, Designator, Diagnostic, Expr, Memory, Notes, Scopes, Site, analysed};
 
 /// An assignment.
 pub fn assign_statement<S: Scopes>(
@@ -102,7 +102,7 @@ pub fn exit_statement(
     if stand.looped {
         return answered(flows.exit());
     }
-    noted(site, at, Refusal::ExitOutsideLoop, notes)?;
+    noted(site, at, Diagnostic::ExitOutsideLoop, notes)?;
     Ok(Ask::Known(Flow::Nothing))
 }
 

@@ -24,7 +24,7 @@ use crate::tests::test_code;
 use crate::withs::record_variable;
 use const_eval::constant;
 use expr_sem::{Coded, Fragment, Fragments, as_variable, call_alone, designated, value_of};
-use m2_base::{Ask, Designator, Expr, Ident, Memory, Notes, Place, Scopes, Site};
+use m2_base::{Ask, Designator, Expr, Ident, Memory, Notes, Place, Scopes, Site, analysed};
 
 /// What a FOR has between its variable and its statements.
 #[derive(Clone, Copy)]

@@ -28,7 +28,7 @@ use const_eval::is_bad;
 use expr_sem::{Coded, Fragment};
 use m2_base::{
     Ask, CaseArm, Designator, Expr, Ident, IfArm, Memory, Notes, Place, Scopes, Site, Statement,
-    StmtForm,
+    StmtForm, analysed,
 };
 use type_rules::operand_type;
 

@@ -14,11 +14,13 @@ ghost use Rattle.type_rules.specs.Scenes.{WhereTold};
 ghost use Rattle.type_rules.specs.Sites.{SuitsSite, context_of};
 ghost use Rattle.stmt_sem.specs.Tests.{false_code as spec_false, test_code as spec_test};
 
-use crate::refusals::{Refusal, refused_code};
+use crate::refusals::refused_code;
 use code_form::Instr;
 use const_eval::is_bad;
 use expr_sem::{Coded, Fragment, Fragments, answered, value_code};
-use m2_base::{Ask, Memory, Notes, Operand, Place, Scopes, Site};
+use m2_base::{
+    Ask, Diagnostic, Memory, Notes, Operand, Place, Scopes, Site, analysed, asked, known,
+};
 use type_rules::{BOOLEAN, base_of, operand_type};
 
 /// FALSE.
@@ -51,7 +53,7 @@ fn refused_test(
 ) -> Result<Ask<Fragment>, Memory>
     ensures { (state : State) → Coding state state notes.old notes.new fragments.old.nodes.items fragments.new.nodes.items site.now result IsFragment part (λ c. refuse c at not_boolean spec_false) }
 {
-    let _none = analysed!(refused_code(site, at, Refusal::NotBoolean, notes));
+    let _none = analysed!(refused_code(site, at, Diagnostic::NotBoolean, notes));
     answered(false_code(fragments))
 }
 

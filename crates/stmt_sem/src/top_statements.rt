@@ -16,7 +16,7 @@ use crate::flows::{Flow, Flows};
 use crate::stands::Stand;
 use crate::statements::statement;
 use expr_sem::Piece;
-use m2_base::{Ask, Memory, Notes, Place, Scopes, Site, Stream};
+use m2_base::{Ask, Memory, Notes, Place, Scopes, Site, Stream, analysed};
 use std::alloc::Global;
 
 /// What one statement of a body makes, and what it notes.

@@ -15,8 +15,10 @@ ghost use Rattle.type_rules.specs.Sites.{SuitsSite};
 ghost use Rattle.stmt_sem.specs.Withs.{is_record as spec_record, record_variable as spec_variable};
 
 use const_eval::is_bad;
-use expr_sem::{Coded, Refusal, refused};
-use m2_base::{Around, Ask, Memory, Notes, Place, RowMeaning, Scopes, Site};
+use expr_sem::{Coded, refused};
+use m2_base::{
+    Around, Ask, Diagnostic, Memory, Notes, Place, RowMeaning, Scopes, Site, asked, known,
+};
 use type_rules::{operand_type, stand};
 
 /// Whether a type is a record.
@@ -46,7 +48,7 @@ fn record_or_refused(
     if holds {
         Ok(Ask::Known(x))
     } else {
-        refused(site, at, Refusal::NotARecord, notes)
+        refused(site, at, Diagnostic::NotARecord, notes)
     }
 }
 

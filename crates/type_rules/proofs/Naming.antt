@@ -3,6 +3,7 @@ use Rattle.std.proofs.Common.{◌≡◌, ◌≢◌, ◌∙◌, ℕ, ◌<◌, ◌
 use Rattle.std.proofs.lemmas.Bool.{lt-ltb}
 use Rattle.std.proofs.lemmas.List.{append-nil}
 use Rattle.std.specs.Result.{IfOk}
+use Rattle.m2_base.specs.Noting.{IsRefused}
 use Rattle.m2_base.specs.Asks.{IfKnown}
 use Rattle.m2_base.specs.Gives.{Adds, and_then, gives_answer}
 use Rattle.m2_base.specs.Lists.{IsIn}
@@ -19,7 +20,7 @@ use Rattle.m2_base.specs.declared.replies.Ask.TheVariants.{Known, DontKnowYet}
 use Rattle.m2_base.specs.declared.sites.Named.{Named}
 use Rattle.m2_base.specs.declared.sites.Site.{Site}
 use Rattle.type_rules.specs.Scenes.{Hand, WhereTold, hand, rows_of, scene_of}
-use Rattle.type_rules.specs.Sites.{AreOfItem, AreOfSite, IsRefused, SuitsSite, context_of}
+use Rattle.type_rules.specs.Sites.{AreOfItem, AreOfSite, SuitsSite, context_of}
 use Rattle.type_rules.proofs.Binding.{below_not, rest_of}
 
 -- the scopes outside are others

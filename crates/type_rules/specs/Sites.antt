@@ -66,10 +66,6 @@ pub record IsLookFor (at name : ℕ) (chain : List ℕ) (reply : Reply) (look : 
   pub chain_is : look.chain ≡ chain
   pub replied : look.reply ≡ reply
 
--- a diagnostic is noted
-abbrev pub IsRefused : Notes → Notes → (text at code : ℕ) → Type 0
-IsRefused before after text at code = after.diags.items ≡ before.diags.items ++ record { text = text; at = at; code = code } ∷ []
-
 -- the row is an alias of a place of this scope
 abbrev pub LeadsTo : Row → (scope : ℕ) → Type 0
 LeadsTo r scope = (p : Place) × (row_meaning r ≡ Alias p) × (scope ≡ p.scope)

@@ -3,13 +3,7 @@ ghost use Rattle.std.specs.Prelude.{◌≡◌};
 ghost use Rattle.m2_base.specs.Statics.Folding.{fold as spec_fold, fold_number as spec_number, fold_bits as spec_bits, fold_ordinals as spec_ordinals, fold_by_kind as spec_by_kind, is_relation as spec_relation, low_bits as spec_low, truth, where_in};
 ghost use Rattle.m2_base.specs.Statics.Ranges.{range};
 
-use m2_base::{FoldKind, Operator};
-
-const LEAST_INTEGER: i64 = -2_147_483_648;
-
-const GREATEST_INTEGER: i64 = 2_147_483_647;
-
-const GREATEST_CARDINAL: i64 = 4_294_967_295;
+use m2_base::{FoldKind, GREATEST_CARDINAL, GREATEST_INTEGER, LEAST_INTEGER, Operator};
 
 /// The value of an operator on two constants of a kind: none where it is outside the range, or where the divisor isn't
 /// positive.

@@ -7,16 +7,6 @@
 //! another kind counts as that of a part in error, in every unit.
 #![tactic(auto)]
 
-/// The value of an answer, or the end of the function where it isn't known yet.
-macro_rules! known {
-    ($asked:expr) => {
-        match $asked {
-            Ask::Known(value) => value,
-            Ask::DontKnowYet(head) => return Ask::DontKnowYet(head),
-        }
-    };
-}
-
 mod assigning;
 mod compatibility;
 mod finding;
@@ -41,7 +31,7 @@ pub use operands::{
     BITSET, BOOLEAN, BROKEN, CARDINAL, CHARACTER, INTEGER, NIL, TEXT, WHOLE,
     is_integer_or_cardinal, is_one_char, is_string, operand_type,
 };
-pub use ordinals::{base_of, range_of};
+pub use ordinals::{base_of, range_by, range_of};
 pub use rows::row_at;
 pub use sameness::same;
 pub use sizes::size_of;

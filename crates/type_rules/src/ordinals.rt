@@ -10,7 +10,10 @@ ghost use Rattle.type_rules.specs.Asks.{Reads, WhereKnown, WhereWaiting};
 ghost use Rattle.type_rules.specs.Scenes.{Suits, IsThere, scene_of, WhereTold};
 
 use crate::standing::stand;
-use m2_base::{Around, Ask, Place, RowMeaning, Scopes};
+use m2_base::{
+    Around, Ask, GREATEST_CARDINAL, GREATEST_CHARACTER, GREATEST_INTEGER, LEAST_INTEGER, Place,
+    RowMeaning, Scopes, known,
+};
 
 /// The base of a subrange; any other type is its own base.
 #[tactic(auto, using(crate::proofs::Reading::reading))]
@@ -31,14 +34,14 @@ pub fn base_of<S: Scopes>(scopes: &mut S, around: &Around, of: Place) -> Ask<Pla
 }
 
 /// The least and the greatest value of an ordinal type, by what its row says.
-fn range_by(meaning: RowMeaning) -> Option<(i64, i64)>
+pub fn range_by(meaning: RowMeaning) -> Option<(i64, i64)>
     ensures ends { option_map (λ ends. range ends.0 ends.1) result ≡ spec_by meaning }
     ensures values { (names : ℕ) (p : Spot) → Fits names p meaning → IfSome result (λ ends. IsValue ends.0 × IsValue ends.1) }
 {
     match meaning {
-        RowMeaning::Integer => Some((-2_147_483_648, 2_147_483_647)),
-        RowMeaning::Cardinal => Some((0, 4_294_967_295)),
-        RowMeaning::Character => Some((0, 255)),
+        RowMeaning::Integer => Some((LEAST_INTEGER, GREATEST_INTEGER)),
+        RowMeaning::Cardinal => Some((0, GREATEST_CARDINAL)),
+        RowMeaning::Character => Some((0, GREATEST_CHARACTER)),
         RowMeaning::Enum(count) => Some((0, count.saturating_sub(1) as i64)),
         RowMeaning::Subrange(_, low, high) => Some((low, high)),
         _ => None,

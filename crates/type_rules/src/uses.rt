@@ -2,45 +2,31 @@
 ghost use Rattle.std.specs.Prelude.{◌≡◌, ◌≢◌, ◌+◌, ◌<◌, ◌∷◌, ◌++◌, ◌==◌, ◌&&◌, ◌⊎◌, [], drop, length, nat_lt, slice_get, IfOk, OnErr, MatchOption, true};
 ghost use Rattle.std.specs.Option.{IfSome};
 ghost use Rattle.m2_base.specs.Asks.{IfKnown, IfWaits};
+ghost use Rattle.m2_base.specs.Diagnostics.{code_of};
 ghost use Rattle.m2_base.specs.Gives.{Adds};
 ghost use Rattle.m2_base.specs.Lists.{IsIn, WhereKept};
+ghost use Rattle.m2_base.specs.Noting.{IsRefused};
 ghost use Rattle.m2_base.specs.Standard.{is_standard as spec_is_standard};
 ghost use Rattle.m2_base.specs.States.{Works, Waits, fills_of};
 ghost use Rattle.m2_base.specs.Statics.Contexts.{text_of_scope as spec_text};
+ghost use Rattle.m2_base.specs.Statics.Diagnostics.{used_before};
 ghost use Rattle.m2_base.specs.Statics.Lookup.{entry_at, first_entry};
 ghost use Rattle.m2_base.specs.Statics.Uses.{answer_of, followed, bound_or as spec_bound_or, bound_outside as spec_bound_outside, use_in_item as spec_use_in_item, use_of as spec_use_of};
 ghost use Rattle.m2_base.specs.Standard.{standard_place, standard_rows as spec_rows};
 ghost use Rattle.m2_base.specs.Tables.{Lacks, lookup};
 ghost use Rattle.type_rules.specs.Asks.{Reads, WhereKnown, WhereWaiting};
 ghost use Rattle.type_rules.specs.Scenes.{Suits, IsRowOf, rows_of, scene_of, WhereTold};
-ghost use Rattle.type_rules.specs.Sites.{AreOfItem, AreOfSite, SuitsSite, CanLook, context_of, source_of, IsRefused, IsAskedIn, LeadsTo, chain_of, chain_in_item};
+ghost use Rattle.type_rules.specs.Sites.{AreOfItem, AreOfSite, SuitsSite, CanLook, context_of, source_of, IsAskedIn, LeadsTo, chain_of, chain_in_item};
 
 use crate::looking::look_up;
 use crate::rows::row_at;
 use m2_base::{
-    Answer, Around, Ask, Diag, Memory, Notes, Place, Row, RowMeaning, Scopes, Site, Texts,
-    read_row, standard_rows,
+    Answer, Around, Ask, Diagnostic, Memory, Notes, Place, Row, RowMeaning, Scopes, Site, Texts,
+    known, read_row, standard_rows,
 };
-
-/// The codes of a name that isn't declared, one that is declared later, and one that its module lacks.
-const UNKNOWN_NAME: u8 = 40;
-
-const USED_BEFORE: u8 = 41;
-
-const NOT_DECLARED_THERE: u8 = 44;
 
 /// A row with its place.
 type Entry = (Place, Row);
-
-/// Notes a diagnostic.
-fn refuse(notes: &mut Notes, text: u32, at: u32, code: u8) -> Result<(), Memory>
-    ensures noted { IfOk result (λ _. IsRefused notes.old notes.new text at code) }
-    ensures kept { OnErr result (notes.new.diags.items ≡ notes.old.diags.items) }
-    ensures answers { notes.new.answers.items ≡ notes.old.answers.items }
-{
-    notes.diags.push(Diag { text, at, code })?;
-    Ok(())
-}
 
 /// Notes an answer.
 fn answer(notes: &mut Notes, name: u32, at: u32, entry: &Entry) -> Result<(), Memory>
@@ -128,7 +114,7 @@ fn bound_or<S: Scopes>(
     scopes: &mut S,
     site: &Site,
     chain: &[u32],
-    code: u8,
+    diagnostic: Diagnostic,
     name: u32,
     at: u32,
     notes: &mut Notes,
@@ -141,14 +127,14 @@ fn bound_or<S: Scopes>(
     ensures asked { IfWaits result (λ head. IsAskedIn (S.state scopes.new) notes.new at name chain.now head) }
     ensures told { WhereTold (S.state scopes.old).frame (λ made.
         (IsIn (fills_of (S.state scopes.old)) chain.now → Lacks made.rows name) →
-        IfKnown result (λ entry. Adds notes.old notes.new (spec_bound_or (context_of (S.state scopes.old).frame made site.now) code name at (lookup (rows_of (S.state scopes.old).frame made) chain.now name)) entry)) }
+        IfKnown result (λ entry. Adds notes.old notes.new (spec_bound_or (context_of (S.state scopes.old).frame made site.now) (code_of diagnostic) name at (lookup (rows_of (S.state scopes.old).frame made) chain.now name)) entry)) }
     ensures none { IfKnown result (λ entry. MatchOption entry (length notes.new.diags.items ≡ length notes.old.diags.items + 1) (λ _. notes.new.diags.items ≡ notes.old.diags.items)) }
     ensures row { IfKnown result (λ entry. IfSome entry (λ entry. IsRowOf (S.state scopes.old).frame entry.0 entry.1)) }
 {
     match look_up(scopes, site.around, chain, name, at) {
         Ask::Known(Some(entry)) => bind(scopes, site.around, name, at, entry, notes),
         Ask::Known(None) => {
-            refuse(notes, site.around.text, at, code)?;
+            notes.refuse(site.around.text, at, diagnostic)?;
             Ok(Ask::Known(None))
         }
         Ask::DontKnowYet(head) => Ok(Ask::DontKnowYet(head)),
@@ -171,12 +157,12 @@ fn refuse_later(
     entry: &Entry,
 ) -> Result<(), Memory>
     ensures noted { IfOk result (λ _. notes.new.answers.items ≡ notes.old.answers.items ++ answer_of name at entry.now ∷ []) }
-    ensures refused { IfOk result (λ _. IsRefused notes.old notes.new text at USED_BEFORE) }
+    ensures refused { IfOk result (λ _. IsRefused notes.old notes.new text at used_before) }
     ensures answers { (notes.new.answers.items ≡ notes.old.answers.items ++ answer_of name at entry.now ∷ []) ⊎ (notes.new.answers.items ≡ notes.old.answers.items) }
     ensures kept { OnErr result (notes.new.diags.items ≡ notes.old.diags.items) }
 {
     answer(notes, name, at, entry)?;
-    refuse(notes, text, at, USED_BEFORE)
+    notes.refuse(text, at, Diagnostic::UsedBefore)
 }
 
 /// What a name from outside the block stands for in a declaration: it must stand before in the text.
@@ -207,7 +193,7 @@ fn bound_outside<S: Scopes>(
             bind(scopes, site.around, name, at, entry, notes)
         }
         Ask::Known(None) => {
-            refuse(notes, site.around.text, at, UNKNOWN_NAME)?;
+            notes.refuse(site.around.text, at, Diagnostic::UnknownName)?;
             Ok(Ask::Known(None))
         }
         Ask::DontKnowYet(head) => Ok(Ask::DontKnowYet(head)),
@@ -238,10 +224,10 @@ fn use_in_item<S: Scopes>(
     match site.layout.first(name) {
         Some(named) if named.item < item => {
             let own = [site.around.scope];
-            bound_or(scopes, site, &own, UNKNOWN_NAME, name, at, notes)
+            bound_or(scopes, site, &own, Diagnostic::UnknownName, name, at, notes)
         }
         Some(_) => {
-            refuse(notes, site.around.text, at, USED_BEFORE)?;
+            notes.refuse(site.around.text, at, Diagnostic::UsedBefore)?;
             Ok(Ask::Known(None))
         }
         None => bound_outside(scopes, site, name, at, notes),
@@ -292,7 +278,15 @@ pub fn use_name<S: Scopes>(
 {
     if let Some(scope) = within {
         let module = [scope];
-        return bound_or(scopes, site, &module, NOT_DECLARED_THERE, name, at, notes);
+        return bound_or(
+            scopes,
+            site,
+            &module,
+            Diagnostic::NotDeclaredThere,
+            name,
+            at,
+            notes,
+        );
     }
     if is_standard(name) {
         return Ok(Ask::Known(Some(standard_entry(name))));
@@ -301,7 +295,15 @@ pub fn use_name<S: Scopes>(
         Some(item) => use_in_item(scopes, site, item, name, at, notes),
         None => {
             let chain = site.around.chain.scopes();
-            bound_or(scopes, site, chain, UNKNOWN_NAME, name, at, notes)
+            bound_or(
+                scopes,
+                site,
+                chain,
+                Diagnostic::UnknownName,
+                name,
+                at,
+                notes,
+            )
         }
     }
 }

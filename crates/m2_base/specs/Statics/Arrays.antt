@@ -9,6 +9,7 @@ use Rattle.m2_base.specs.Statics.Diagnostics.{wrong_index}
 use Rattle.m2_base.specs.Statics.Makes.{Makes, make_then, makes, makes_row, only_gives}
 use Rattle.m2_base.specs.Statics.Ranges.{Range, count_of}
 use Rattle.m2_base.specs.Statics.Types.{is_broken, range_of, size_of}
+use Rattle.m2_base.specs.declared.limits.TheConstants.{GREATEST_ELEMENT}
 
 -- a range that an index type may have: at most 16,777,215 values
 abbrev pub is_index_range : Option Range → Bool
@@ -23,7 +24,7 @@ checked_index c at t =
 -- a range that the base of a set may have: within 0..31
 abbrev pub is_set_range : Option Range → Bool
 is_set_range None = false
-is_set_range (Some r) = int_le (pos 0) r.low && int_le r.high (pos 31)
+is_set_range (Some r) = int_le (pos 0) r.low && int_le r.high GREATEST_ELEMENT
 
 -- a set's base is ordinal, within 0..31
 abbrev pub checked_base : Context → (at : ℕ) → Place → Gives Place

@@ -4,6 +4,7 @@ use Rattle.std.specs.Prelude.{ℕ, zero, suc, ◌+◌, ◌-◌, ◌==◌, Bool, 
 use Rattle.m2_base.specs.declared.kind.TokenKind.{TokenKind}
 use Rattle.m2_base.specs.declared.kind.TokenKind.TheVariants.{Identifier, Case, End, For, If, Loop, Procedure, Record, While, With, Semicolon, LeftParenthesis, RightParenthesis}
 use Rattle.m2_base.specs.declared.token.Token.{Token}
+use Rattle.m2_base.specs.declared.limits.TheConstants.{DEEPEST_LEVEL, MOST_PROCEDURES}
 
 -- Where a token stands: in a block; in the heading of a procedure, behind so many open brackets; or behind the END that
 -- closes a procedure's block, where its name and a semicolon come.
@@ -90,11 +91,11 @@ pub data BlockLimit : Type 0 where
 
 -- a main text has at most so many procedures
 abbrev pub most_procedures : ℕ
-most_procedures = 16384
+most_procedures = MOST_PROCEDURES
 
 -- a procedure has at most this level
 abbrev pub deepest_level : ℕ
-deepest_level = 16
+deepest_level = DEEPEST_LEVEL
 
 -- The first procedure that passes a limit, of those after the first n. Where both are passed, it is that on their
 -- number.

@@ -17,6 +17,7 @@ use Rattle.m2_base.specs.declared.operands.FoldKind.{FoldKind}
 use Rattle.m2_base.specs.declared.operands.Operand.TheVariants.{Computed, Constant, InError}
 use Rattle.m2_base.specs.declared.operands.Operand.{Operand}
 use Rattle.m2_base.specs.declared.trees.operators.Operator.TheVariants.{And, Equal, GreaterEqual, In, LessEqual, Minus, Not, Or, Plus, Slash, Times, Unequal}
+use Rattle.m2_base.specs.declared.limits.TheConstants.{GREATEST_ELEMENT}
 
 -- union, difference, intersection and symmetric difference
 abbrev pub makes_set : Operator → Bool
@@ -136,7 +137,7 @@ on_alike c op op_at x x_at y y_at =
 
 -- whether an element is in a set of constants
 abbrev pub is_member : ℤ → ℤ → Bool
-is_member v bits = is_in (record { low = pos 0; high = pos 31 }) v && (natural bits / 2 ^ natural v % 2 == 1)
+is_member v bits = is_in (record { low = pos 0; high = GREATEST_ELEMENT }) v && (natural bits / 2 ^ natural v % 2 == 1)
 
 -- whether an element is in a set
 abbrev pub member_of_set : Operand → Operand → Operand

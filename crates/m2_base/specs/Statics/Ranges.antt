@@ -1,5 +1,6 @@
 -- Ranges of whole numbers: the values of a type.
 use Rattle.std.specs.Prelude.{Bool, None, Option, Some, int_le, negsuc, pos, true, ℕ, ℤ, ◌+◌, ◌&&◌, ◌-ℤ◌}
+use Rattle.m2_base.specs.declared.limits.TheConstants.{GREATEST_CARDINAL, GREATEST_INTEGER, LEAST_INTEGER}
 
 -- the values from low to high, both with them
 pub record Range : Type 0 where
@@ -12,15 +13,15 @@ range low high = record { low = low; high = high }
 
 -- the values of INTEGER
 abbrev pub integer_range : Range
-integer_range = range (negsuc 2147483647) (pos 2147483647)
+integer_range = range LEAST_INTEGER GREATEST_INTEGER
 
 -- the values of CARDINAL
 abbrev pub cardinal_range : Range
-cardinal_range = range (pos 0) (pos 4294967295)
+cardinal_range = range (pos 0) GREATEST_CARDINAL
 
 -- the values of whole constants
 abbrev pub whole_range : Range
-whole_range = range (negsuc 2147483647) (pos 4294967295)
+whole_range = range LEAST_INTEGER GREATEST_CARDINAL
 
 -- the value is in the range
 abbrev pub is_in : Range → ℤ → Bool

@@ -5,6 +5,7 @@ use Rattle.m2_base.specs.Standard.{broken}
 use Rattle.m2_base.specs.Statics.Contexts.{Scene, row_at}
 use Rattle.m2_base.specs.Statics.Lookup.{Entry, entry_in}
 use Rattle.m2_base.specs.Statics.Ranges.{Range, cardinal_range, integer_range, range}
+use Rattle.m2_base.specs.declared.limits.TheConstants.{GREATEST_CHARACTER}
 
 -- the meaning of a type's row
 abbrev pub meaning_at : Scene → Place → RowMeaning
@@ -71,7 +72,7 @@ base_of scene t = base_by (stands_for scene t) (kind_of scene t)
 abbrev pub range_by : RowMeaning → Option Range
 range_by Integer = Some integer_range
 range_by Cardinal = Some cardinal_range
-range_by Character = Some (range (pos 0) (pos 255))
+range_by Character = Some (range (pos 0) GREATEST_CHARACTER)
 range_by (Enum n) = Some (range (pos 0) (pos (n - 1)))
 range_by (Subrange b low high) = Some (range low high)
 range_by other = None

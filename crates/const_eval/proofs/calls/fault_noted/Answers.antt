@@ -1,9 +1,9 @@
 use Rattle.std.proofs.Common.{Err, refl}
+use Rattle.m2_base.specs.Diagnostics.{code_of}
 use Rattle.m2_base.specs.Statics.Contexts.{refuse}
 use Rattle.m2_base.specs.declared.operands.Operand.TheVariants.{InError}
 use Rattle.m2_base.specs.declared.replies.Ask.TheVariants.{Known}
 use Rattle.type_rules.proofs.Reading.{Reads-refl}
-use Rattle.const_eval.specs.Judgements.{code_of}
 use Rattle.const_eval.proofs.Analysing.{noted_operand}
 use Rattle.const_eval.proofs.calls.fault_noted.Goals as goal
 

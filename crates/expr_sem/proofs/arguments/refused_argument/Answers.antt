@@ -4,7 +4,7 @@ use Rattle.m2_base.specs.Statics.Contexts.{refuse}
 use Rattle.m2_base.specs.declared.replies.Ask.TheVariants.{Known}
 use Rattle.expr_sem.specs.ArgumentFits.{IsArgument, argument_in}
 use Rattle.expr_sem.specs.Coded.{in_error}
-use Rattle.expr_sem.specs.Refusals.{code_of}
+use Rattle.m2_base.specs.Diagnostics.{code_of}
 use Rattle.expr_sem.proofs.Operating.{coding_after, unknown, unmade, value_alone}
 use Rattle.expr_sem.proofs.arguments.refused_argument.Goals as goal
 

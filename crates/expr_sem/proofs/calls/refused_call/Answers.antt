@@ -5,7 +5,7 @@ use Rattle.m2_base.specs.declared.replies.Ask.TheVariants.{Known}
 use Rattle.expr_sem.specs.Callees.{IsCallable, called_in}
 use Rattle.expr_sem.specs.Calls.{no_call}
 use Rattle.expr_sem.specs.Coded.{in_error}
-use Rattle.expr_sem.specs.Refusals.{code_of}
+use Rattle.m2_base.specs.Diagnostics.{code_of}
 use Rattle.expr_sem.specs.declared.calls.Callable.TheVariants.{Nothing}
 use Rattle.expr_sem.proofs.Operating.{coding_after, unknown, unmade, value_alone}
 use Rattle.expr_sem.proofs.calls.refused_call.Goals as goal

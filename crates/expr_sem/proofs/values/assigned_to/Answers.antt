@@ -5,7 +5,7 @@ use Rattle.const_eval.specs.Sites.{IsOperand}
 use Rattle.expr_sem.specs.Coded as code
 use Rattle.expr_sem.specs.Coded.{in_error}
 use Rattle.expr_sem.specs.Codings.{IsCoded, coded_in}
-use Rattle.expr_sem.specs.Refusals.{code_of}
+use Rattle.m2_base.specs.Diagnostics.{code_of}
 use Rattle.expr_sem.specs.Takings.{IsTaking}
 use Rattle.expr_sem.specs.Values.{in_range}
 use Rattle.expr_sem.specs.declared.takings.Taking.{Taking}

@@ -5,7 +5,7 @@ use Rattle.expr_sem.specs.Fragments.{part}
 use Rattle.expr_sem.specs.Parts.{none}
 use Rattle.expr_sem.specs.declared.fragments.Fragment.TheVariants.{Nothing}
 use Rattle.expr_sem.proofs.Refusing.{not_noted, refused_here}
-use Rattle.stmt_sem.specs.Refusals.{code_of}
+use Rattle.m2_base.specs.Diagnostics.{code_of}
 use Rattle.stmt_sem.proofs.refusals.refused_code.Goals as goal
 
 pub returns-in_err-noted : goal.returns-in_err-noted

@@ -2,7 +2,7 @@ use Rattle.std.proofs.Common.{None, refl}
 use Rattle.m2_base.specs.Statics.Contexts.{refuse}
 use Rattle.expr_sem.proofs.Refusing.{not_noted, refused_here}
 use Rattle.stmt_sem.specs.Plain.{IsStep, itself}
-use Rattle.stmt_sem.specs.Refusals.{code_of}
+use Rattle.m2_base.specs.Diagnostics.{code_of}
 use Rattle.stmt_sem.proofs.refusals.refused_step.Goals as goal
 
 pub returns-in_err-noted : goal.returns-in_err-noted
