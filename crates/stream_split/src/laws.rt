@@ -5,7 +5,7 @@ ghost use Rattle.m2_base.specs.declared.outputs.StreamFault.{StreamFault};
 ghost use Rattle.m2_base.specs.declared.token.Token.{Token};
 ghost use Rattle.m2_base.specs.declared.rows.Row.{Row};
 ghost use Rattle.m2_base.specs.Finished.{AreRead, IsFinished, source_of, tokens_of};
-ghost use Rattle.m2_base.specs.Statics.BlockLimits.{Begun, limit_of, procedures_of};
+ghost use Rattle.m2_base.specs.Statics.BlockLimits.{Begun, deepest_level, limit_of, procedures_of};
 ghost use Rattle.m2_base.specs.Statics.BlockRows.{declare_block};
 ghost use Rattle.m2_base.specs.Statics.Blocks.{BlockTree, UnitTrees, blocks_of};
 ghost use Rattle.m2_base.specs.Statics.Contexts.{Source};
@@ -56,7 +56,7 @@ pub fn streams_have_their_places()
     ensures procedures { (u : UnitTexts) (k : ℕ) (p : Begun) → IsUnit u → slice_get (procedures_of (main_tokens u)) k ≡ Some p → HasStream (streams_of u) (main_number u + k) (main_number u + k + 1) p }
     ensures streams { (u : UnitTexts) (k : ℕ) (s : StreamOf) → IsUnit u → slice_get (streams_of u) (main_number u + k) ≡ Some s → HasProcedure (procedures_of (main_tokens u)) k (main_number u + k + 1) s }
     ensures surrounded { (u : UnitTexts) (k : ℕ) (s : StreamOf) → IsUnit u → slice_get (streams_of u) k ≡ Some s → IsSurrounded s (block_of (main_number u) (own_scope u) (streams_of u) s) }
-    ensures levels { (u : UnitTexts) (k : ℕ) (s : StreamOf) → IsUnit u → limit_of (main_tokens u) ≡ None → slice_get (streams_of u) k ≡ Some s → s.level ≤ 16 }
+    ensures levels { (u : UnitTexts) (k : ℕ) (s : StreamOf) → IsUnit u → limit_of (main_tokens u) ≡ None → slice_get (streams_of u) k ≡ Some s → s.level ≤ deepest_level }
 {}
 
 /// No scope has more rows than `sizes` says: a block has at most a row for each token of its stream, by its layout, and no
