@@ -1,6 +1,5 @@
 -- The streams of a main text, and the text.
-use Rattle.std.proofs.Common.{◌≡◌, ℕ, zero, suc, Bool, true, false, true≢false, List, [], ◌∷◌, ◌++◌, refl, sym, ap, ◌∙◌, subst, append_assoc, ◌⊎◌, inl, inr, ⊎_elim, ◌==◌, eqb-true, cond, map, length, length-append, ◌<◌, ◌≤◌, ◌+◌, arith, All, Option, Some, None}
-use Rattle.std.proofs.lemmas.List.{append-nil}
+use Rattle.std.proofs.Common.{◌≡◌, ℕ, zero, suc, Bool, true, false, List, [], ◌∷◌, ◌++◌, refl, sym, ap, ◌∙◌, subst, append_assoc, ◌⊎◌, inl, inr, ◌==◌, eqb-true, cond, map, length, length-append, ◌<◌, ◌≤◌, ◌+◌, arith, All, None}
 use Rattle.std.proofs.lemmas.List.Elements.{All-head, All-tail, All-cons, All-nil}
 use Rattle.std.specs.List.{AllZip}
 use Rattle.m2_base.specs.declared.kind.TokenKind.{TokenKind}
@@ -9,24 +8,21 @@ use Rattle.m2_base.specs.declared.kind.TokenKind.TheVariants.{EndOfText, Impleme
 use Rattle.m2_base.specs.declared.outputs.StreamFault.{StreamFault}
 use Rattle.m2_base.specs.declared.outputs.StreamFault.TheVariants as faults
 use Rattle.m2_base.specs.declared.token.Token.{Token}
-use Rattle.m2_base.specs.declared.trees.declarations.StreamKind.{StreamKind}
 use Rattle.m2_base.specs.declared.trees.declarations.StreamKind.TheVariants as streams
 use Rattle.m2_base.specs.FaultsOf.{fault_in, code_of}
 use Rattle.m2_base.specs.Grammar.{grammar, levels, main, imported, block as block_rule, a, ident, procedure_cut, stream as stream_rule_of}
 use Rattle.m2_base.specs.Lists.{IsIn, Each}
-use Rattle.m2_base.specs.StatementsOf.{place}
-use Rattle.m2_base.specs.StreamsOf.{main_of, stream_of}
 use Rattle.m2_base.specs.Trees.{Stream}
 use Rattle.m2_base.specs.Units.{AreNumbered, IsInner}
 use Rattle.m2_base.specs.WholeTexts.{main_blocks, SpellsMain, IsFirstInMain}
 use Rattle.ll_grammar.specs.Grammar.{Rule, many, sub, then, one, optional, Grammar}
-use Rattle.ll_grammar.specs.Derivations.{Tree, leaf, both, tokens, Derives, of_token, of_then, over}
+use Rattle.ll_grammar.specs.Derivations.{Tree, tokens, Derives, of_token, of_then, over}
 use Rattle.ll_grammar.specs.Sentences.{Fault, Syntax, TooDeep, SameHead, Faulty}
 use Rattle.stream_split.specs.declared.sorts.Sort.{Sort}
 use Rattle.stream_split.specs.declared.sorts.Sort.TheVariants.{Stop, Word, Procedure, Opener, Closer, Left, Right, Semicolon, Other}
 use Rattle.stream_split.specs.declared.cutter.Mode.{Mode}
 use Rattle.stream_split.specs.Agreement.{SpellsStream, SpellsStreams, IsFaultOf, IsFirstOfStreams, fault_at}
-use Rattle.stream_split.specs.Cut.{sort, State, state, Phase, amid, seen, heading, two_left, one_left, ended, start, next, after, events, opened, opens_by, heading_opens, heading_next, out_of, unless_stop, Event, Enclosed, to, pick}
+use Rattle.stream_split.specs.Cut.{sort, State, state, amid, seen, heading, two_left, one_left, ended, start, next, after, events, opened, opens_by, heading_opens, heading_next, out_of, unless_stop, Event, Enclosed, to, pick}
 use Rattle.stream_split.specs.Streams.{StreamOf, procedure_streams, procedure_stream, module_stream, main_streams}
 use Rattle.stream_split.proofs.Picks.{same_number, pick_append}
 use Rattle.stream_split.proofs.Parts.{stream_rule, streams_after, own, parts, sends, spread}
@@ -38,7 +34,7 @@ use Rattle.stream_split.proofs.First.{Ended, NotBefore, FirstOfStreams, first_fa
 use Rattle.stream_split.proofs.Checked.{cuttable, main_text, front, same_grammar}
 use Rattle.stream_split.proofs.Closings.{streams_close}
 use Rattle.stream_split.proofs.EndFaults.{none_at_end}
-use Rattle.stream_split.proofs.Rotations.{chain, inward, outward, faulty_by}
+use Rattle.stream_split.proofs.Rotations.{inward, outward, faulty_by}
 use Rattle.stream_split.proofs.TreesAgree.{procedure_of_stream, same_blocks}
 
 abbrev W : Grammar Token

@@ -1,9 +1,8 @@
 -- The blocks of a unit are surrounded as its streams say.
-use Rattle.std.proofs.Common.{◌≡◌, ℕ, zero, suc, Bool, true, false, List, [], ◌∷◌, ◌++◌, refl, sym, ap, ◌∙◌, subst, cond, append_assoc, true≢false, ◌==◌, if◌then◌else◌, length, length-append, ◌+◌, ◌<◌, ◌≤◌, arith, find, map, slice_get, Option, Some, None, ◌||◌}
+use Rattle.std.proofs.Common.{◌≡◌, ℕ, zero, suc, Bool, true, false, List, [], ◌∷◌, ◌++◌, refl, sym, ap, ◌∙◌, subst, cond, append_assoc, ◌==◌, length, length-append, ◌+◌, ◌<◌, ◌≤◌, arith, find, map, slice_get, Option, Some, None, ◌||◌}
 use Rattle.std.proofs.lemmas.List.{append-nil}
 use Rattle.std.specs.List.{list_any}
 use Rattle.m2_base.specs.declared.token.Token.{Token}
-use Rattle.m2_base.specs.declared.trees.declarations.StreamKind.TheVariants.{Main, Definition, Procedure}
 use Rattle.m2_base.specs.ExpressionsOf.{ident_of}
 use Rattle.m2_base.specs.Grammar.{main}
 use Rattle.m2_base.specs.Statics.Blocks.{BlockTree, UnitTrees, blocks_of, blocks_of_main, declares, definition_blocks, encloser, home_of, main_block, main_blocks, procedure_block, with_own}
@@ -15,10 +14,10 @@ use Rattle.m2_base.specs.Units.{TextOf, UnitTexts}
 use Rattle.m2_base.specs.WholeTexts.{blocks_after, block_from, procedures_from, SpellsMain}
 use Rattle.m2_base.specs.WholeTexts as whole
 use Rattle.ll_grammar.specs.Derivations.{Tree, nothing, leaf, both, left, right, last, more, inner, part, tokens, Derives, of_empty, of_token, of_then, of_left, of_right, of_last, of_more, of_deep, of_sub}
-use Rattle.ll_grammar.specs.Grammar.{Rule, many, sub, then, one, Grammar}
+use Rattle.ll_grammar.specs.Grammar.{Rule, sub, Grammar}
 use Rattle.stream_split.specs.Chains.{outer_of, outer_in, chain_from, block_of, own_scope}
 use Rattle.stream_split.specs.Cut.{Enclosed, Event, start, events, opened}
-use Rattle.stream_split.specs.Streams.{StreamOf, procedure_stream, procedure_streams, module_stream, main_streams, definition_streams, streams_of, main_number, main_tokens}
+use Rattle.stream_split.specs.Streams.{StreamOf, procedure_streams, main_streams, definition_streams, streams_of, main_number, main_tokens}
 use Rattle.stream_split.specs.Surroundings.{AreTreesOf, surroundings_of}
 use Rattle.stream_split.proofs.Agree.{regroup}
 use Rattle.stream_split.proofs.Checked.{cuttable, main_text, same_grammar}
@@ -309,7 +308,7 @@ definitions_agree home own streams s (d ∷ ds) (t ∷ trees) texts (k ∷ order
       ap (λ z. t ∷ z) (ap (λ z. map (λ b. b.tree) (definition_blocks z ds trees)) next ∙ i.1),
     )
 
-got_behind : (xs ys : List StreamOf) (j : ℕ) → slice_get (xs ++ ys) (length xs + j) ≡ slice_get ys j
+pub got_behind : (xs ys : List StreamOf) (j : ℕ) → slice_get (xs ++ ys) (length xs + j) ≡ slice_get ys j
 got_behind [] ys j = let e : 0 + j ≡ j = omega arith in ap (slice_get ys) e
 got_behind (x ∷ xs) ys j = let e : suc (length xs) + j ≡ suc (length xs + j) = omega arith in ap (slice_get (x ∷ (xs ++ ys))) e ∙ got_behind xs ys j
 

@@ -1,13 +1,12 @@
 -- The grammar of main texts can be cut.
-use Rattle.std.proofs.Common.{◌≡◌, ℕ, zero, suc, Bool, true, false, refl, ◌==◌, map}
+use Rattle.std.proofs.Common.{◌≡◌, ℕ, zero, suc, true, false, refl, ◌==◌, map}
 use Rattle.m2_base.specs.declared.kind.TokenKind.TheVariants.{Implementation, Module, Semicolon, Period}
-use Rattle.m2_base.specs.declared.token.Token.{Token}
 use Rattle.m2_base.specs.Grammar.{grammar, rule, follows, parameters, declaration, body as body_rule, imported, block as block_rule, a, ident, number_of_token}
 use Rattle.m2_base.specs.KindNumbers.{kind_number, all_kinds, sample}
-use Rattle.ll_grammar.specs.Grammar.{Rule, many, sub, then, one, ◌⨾◌, optional, Grammar}
-use Rattle.ll_grammar.specs.LookAhead.{passes, firsts, member, IsLL1, IsRoot}
+use Rattle.ll_grammar.specs.Grammar.{Rule, many, sub, then, ◌⨾◌, optional}
+use Rattle.ll_grammar.specs.LookAhead.{passes, firsts, member}
 use Rattle.stream_split.proofs.Numbers.{sort_of_number}
-use Rattle.stream_split.proofs.Flow.{flow, head_flow, plain, Cuttable, head, block, whole, grammar_of}
+use Rattle.stream_split.proofs.Flow.{flow, head_flow, plain, Cuttable, whole, grammar_of}
 use Rattle.stream_split.proofs.First.{MainText}
 
 pub levels_of : (n : ℕ) → flow false (rule (suc n)) 0 false (λ d s. d == 0) ≡ true

@@ -1,15 +1,14 @@
 -- Each stream of a text ends with the end of the text, or with that of a procedure.
-use Rattle.std.proofs.Common.{◌≡◌, ℕ, zero, suc, Bool, true, false, true≢false, List, [], ◌∷◌, ◌++◌, refl, sym, ap, ◌∙◌, subst, append_assoc, ◌⊎◌, inl, inr, ⊎_elim, ◌==◌, ◌||◌, eqb-true, cond, ◌<◌, ◌≤◌, arith, All}
+use Rattle.std.proofs.Common.{◌≡◌, ℕ, zero, suc, Bool, true, false, true≢false, List, [], ◌∷◌, ◌++◌, refl, sym, ap, ◌∙◌, subst, append_assoc, ◌⊎◌, inl, inr, ◌==◌, ◌||◌, eqb-true, cond, ◌<◌, ◌≤◌, arith}
 use Rattle.std.proofs.lemmas.List.{append-nil}
-use Rattle.std.proofs.lemmas.List.Elements.{All-nil}
 use Rattle.m2_base.specs.declared.kind.TokenKind.{TokenKind}
 use Rattle.m2_base.specs.declared.kind.TokenKind.TheVariants as kinds
 use Rattle.m2_base.specs.declared.token.Token.{Token}
 use Rattle.stream_split.specs.declared.sorts.Sort.{Sort}
-use Rattle.stream_split.specs.declared.sorts.Sort.TheVariants.{Stop, Word, Procedure, Opener, Closer, Left, Right, Semicolon, Other}
+use Rattle.stream_split.specs.declared.sorts.Sort.TheVariants.{Stop, Word, Closer, Semicolon}
 use Rattle.stream_split.specs.declared.cutter.Mode.{Mode}
 use Rattle.stream_split.specs.declared.cutter.Mode.TheVariants.{Free, Body}
-use Rattle.stream_split.specs.Cut.{sort, Phase, amid, seen, heading, two_left, one_left, ended, State, state, start, next, next_by, goes, goes_by, after, events, Event, to, pick, all_end, cut_at, end_at, amid_next, seen_next, heading_next, heading_goes, unless_stop, out_of}
+use Rattle.stream_split.specs.Cut.{sort, Phase, amid, seen, heading, two_left, one_left, ended, State, state, start, next, goes, after, events, to, pick, all_end, cut_at, end_at, amid_next, seen_next, heading_next, heading_goes, unless_stop, out_of}
 use Rattle.stream_split.proofs.Picks.{pick_append, pick_own, pick_other}
 use Rattle.stream_split.proofs.Future.{count, phase}
 use Rattle.stream_split.proofs.First.{Ended, after_end}

@@ -1,14 +1,14 @@
 -- Which procedures the blocks of a main text declare, by its derivation.
-use Rattle.std.proofs.Common.{◌≡◌, ℕ, zero, suc, Bool, true, false, List, [], ◌∷◌, ◌++◌, refl, sym, ap, ◌∙◌, subst, cond, ◌&&◌, ◌||◌, true≢false, ◌==◌, if◌then◌else◌, length, ◌+◌, ◌<◌, ◌≤◌, arith, find, Option, Some, None}
+use Rattle.std.proofs.Common.{◌≡◌, ℕ, suc, Bool, true, false, List, [], ◌∷◌, ◌++◌, refl, sym, ap, ◌∙◌, ◌||◌, true≢false, ◌==◌, ◌<◌, ◌≤◌, arith}
 use Rattle.std.specs.List.{list_any}
 use Rattle.m2_base.specs.declared.token.Token.{Token}
 use Rattle.m2_base.specs.Grammar.{declaration, block as block_rule, constant, type_declaration, variables}
-use Rattle.m2_base.specs.Statics.Blocks.{BlockTree, declares, encloser}
-use Rattle.m2_base.specs.StreamsOf.{constants_of, type_declarations_of, all_variables_of, declaration_of, heading_of, procedure_tree}
+use Rattle.m2_base.specs.Statics.Blocks.{declares}
+use Rattle.m2_base.specs.StreamsOf.{constants_of, type_declarations_of, all_variables_of}
 use Rattle.m2_base.specs.Trees.{Decl}
 use Rattle.m2_base.specs.WholeTexts.{blocks_after, declaration_from, declarations_from, block_from}
 use Rattle.ll_grammar.proofs.KindSets.{and_l, and_r}
-use Rattle.ll_grammar.specs.Derivations.{Tree, nothing, leaf, both, left, right, last, more, inner, part, tokens, Derives, of_empty, of_token, of_then, of_left, of_right, of_last, of_more, of_deep, of_sub}
+use Rattle.ll_grammar.specs.Derivations.{Tree, nothing, leaf, both, left, right, last, more, inner, part, Derives, of_empty, of_token, of_then, of_left, of_right, of_last, of_more, of_deep, of_sub}
 use Rattle.ll_grammar.specs.Grammar.{Rule, many, sub, Grammar}
 use Rattle.stream_split.proofs.Checked.{cuttable}
 use Rattle.stream_split.proofs.Flow.{grammar_of, plain}

@@ -1,8 +1,6 @@
 -- The streams of definition texts, one after another.
-use Rattle.std.proofs.Common.{◌≡◌, ℕ, zero, suc, List, [], ◌∷◌, ◌++◌, refl, sym, ap, ◌∙◌, length, ◌<◌, ◌+◌, arith, get_or, take, map, slice_get, slice_index_or, Option, Some, None}
+use Rattle.std.proofs.Common.{◌≡◌, ℕ, zero, suc, List, [], ◌∷◌, ◌++◌, refl, sym, ap, ◌∙◌, length, ◌<◌, ◌+◌, arith, get_or, take, map, slice_get}
 use Rattle.std.proofs.Math.Seq.{take-suc}
-use Rattle.m2_base.specs.declared.token.Token.{Token}
-use Rattle.m2_base.specs.declared.trees.declarations.StreamKind.TheVariants.{Definition}
 use Rattle.m2_base.specs.Units.{TextOf}
 use Rattle.stream_split.specs.declared.streams.StreamTokens.{StreamTokens}
 use Rattle.stream_split.specs.Streams.{StreamOf, definition_streams, definition_stream, tokens_in}

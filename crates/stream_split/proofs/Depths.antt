@@ -1,20 +1,9 @@
 -- Depth in a text and in its streams.
-use Rattle.std.proofs.Common.{◌≡◌, ℕ, zero, suc, Bool, true, false, List, [], ◌∷◌, ◌++◌, refl, sym, ap, ◌∙◌, subst, ◌&&◌, ◌||◌, not, true≢false, append_assoc, ◌⊎◌, inl, inr, ⊎_elim, ◌==◌, eqb-true, cond, map, length, ◌<◌, ◌≤◌, ◌+◌, arith, All, Option, Some, None}
-use Rattle.std.proofs.lemmas.List.{append-nil}
-use Rattle.std.proofs.lemmas.List.Elements.{All-head, All-tail, All-append, All-nil, All-cons}
-use Rattle.std.proofs.lemmas.Grind.{common_steps}
-use Rattle.m2_base.specs.declared.kind.TokenKind.{TokenKind}
-use Rattle.m2_base.specs.declared.kind.TokenKind.TheVariants as kinds
+use Rattle.std.proofs.Common.{◌≡◌, ℕ, suc, [], ◌∷◌, refl, All, None}
+use Rattle.std.proofs.lemmas.List.Elements.{All-append, All-nil, All-cons}
 use Rattle.m2_base.specs.declared.token.Token.{Token}
-use Rattle.m2_base.specs.Grammar.{number_of_token}
-use Rattle.m2_base.specs.KindNumbers.{kind_number, all_kinds, sample}
-use Rattle.ll_grammar.specs.Grammar.{Rule, empty, token, then, or, many, deep, sub, Grammar, one}
-use Rattle.ll_grammar.specs.Derivations.{Tree, nothing, leaf, both, left, right, last, more, inner, part, tokens, Derives, of_empty, of_token, of_then, of_left, of_right, of_last, of_more, of_deep, of_sub, over, first_of}
-use Rattle.ll_grammar.specs.LookAhead.{member}
-use Rattle.stream_split.specs.declared.sorts.Sort.{Sort}
-use Rattle.stream_split.specs.declared.sorts.Sort.TheVariants.{Stop, Word, Procedure, Opener, Closer, Left, Right, Semicolon, Other}
-use Rattle.stream_split.specs.declared.cutter.Mode.{Mode}
-use Rattle.stream_split.specs.declared.cutter.Mode.TheVariants.{Free, Body}
+use Rattle.ll_grammar.specs.Grammar.{Rule, Grammar}
+use Rattle.ll_grammar.specs.Derivations.{Tree, tokens, Derives, of_empty, of_token, of_then, of_left, of_right, of_last, of_more, of_deep, of_sub, over}
 use Rattle.ll_grammar.proofs.Nesting.{first_none}
 use Rattle.ll_grammar.proofs.Soundness.{none_both}
 use Rattle.stream_split.proofs.Flow.{Cuttable, grammar_of}

@@ -1,5 +1,5 @@
 -- Where the procedures of a main text are declared, by its derivation.
-use Rattle.std.proofs.Common.{◌≡◌, ℕ, zero, suc, Bool, true, false, List, [], ◌∷◌, ◌++◌, refl, sym, ap, ◌∙◌, subst, ◌&&◌, ◌||◌, not, true≢false, eqb-true, ◌==◌, length, ◌+◌, arith}
+use Rattle.std.proofs.Common.{◌≡◌, ℕ, zero, suc, Bool, true, false, List, [], ◌∷◌, ◌++◌, refl, sym, ap, ◌∙◌, subst, ◌&&◌, ◌||◌, not, true≢false, eqb-true, ◌==◌, length, ◌+◌}
 use Rattle.std.proofs.lemmas.List.{append-nil}
 use Rattle.m2_base.specs.declared.token.Token.{Token}
 use Rattle.m2_base.specs.KindNumbers.{kind_number}
@@ -10,9 +10,9 @@ use Rattle.ll_grammar.specs.LookAhead.{member}
 use Rattle.stream_split.specs.declared.cutter.Mode.{Mode}
 use Rattle.stream_split.specs.declared.cutter.Mode.TheVariants.{Free, Body}
 use Rattle.stream_split.specs.declared.sorts.Sort.{Sort}
-use Rattle.stream_split.specs.declared.sorts.Sort.TheVariants.{Stop, Word, Procedure, Opener, Closer, Left, Right, Semicolon, Other}
-use Rattle.stream_split.specs.Cut.{sort, Phase, amid, seen, heading, two_left, one_left, ended, State, state, start, next_by, after, Enclosed, enclosed, heading_opens, opens_by, opened}
-use Rattle.stream_split.proofs.Flow.{every_mem, step, no_more, head_step, head_flow, flow, raise, Fits, fits_amid, fits_seen, Tops, plain, Cuttable, grammar_of, heads_of, fits_more, fits_wider, fits_low, seen_procedure, seen_closer, is_word, is_procedure, is_closer, is_semi, again_stay, one_is, flows}
+use Rattle.stream_split.specs.declared.sorts.Sort.TheVariants.{Stop, Word, Procedure, Closer, Semicolon}
+use Rattle.stream_split.specs.Cut.{sort, Phase, amid, seen, heading, two_left, one_left, State, state, start, next_by, after, Enclosed, enclosed, heading_opens, opens_by, opened}
+use Rattle.stream_split.proofs.Flow.{every_mem, no_more, head_step, head_flow, flow, raise, Fits, fits_amid, fits_seen, Tops, plain, Cuttable, grammar_of, heads_of, fits_more, fits_wider, fits_low, seen_procedure, seen_closer, is_word, is_procedure, is_closer, is_semi, again_stay, one_is, flows}
 use Rattle.stream_split.proofs.First.{MainText}
 use Rattle.stream_split.proofs.Numbers.{sort_of_number, sort_is}
 use Rattle.stream_split.proofs.Parts.{streams_after}

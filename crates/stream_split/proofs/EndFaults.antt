@@ -1,14 +1,11 @@
 -- No stream is refused behind its last token.
-use Rattle.std.proofs.Common.{◌≡◌, ℕ, zero, suc, Bool, true, false, true≢false, List, [], ◌∷◌, ◌++◌, refl, sym, ap, ◌∙◌, subst, append_assoc, ◌⊎◌, inl, inr, ⊎_elim, ◌==◌, ◌&&◌, not, cond, eqb-true, All}
+use Rattle.std.proofs.Common.{◌≡◌, ℕ, zero, suc, Bool, true, false, true≢false, List, [], ◌∷◌, ◌++◌, refl, sym, ap, ◌∙◌, subst, append_assoc, inl, inr, ◌==◌, ◌&&◌, not, cond, All}
 use Rattle.std.proofs.lemmas.List.{append-nil}
 use Rattle.std.proofs.lemmas.List.Elements.{All-head, All-tail, All-append, All-nil, All-cons}
-use Rattle.m2_base.specs.declared.kind.TokenKind.{TokenKind}
-use Rattle.m2_base.specs.declared.kind.TokenKind.TheVariants as kinds
 use Rattle.m2_base.specs.declared.token.Token.{Token}
 use Rattle.m2_base.specs.KindNumbers.{kind_number}
 use Rattle.ll_grammar.specs.Grammar.{Rule, empty, token, then, or, many, deep, sub, one, Grammar}
-use Rattle.ll_grammar.specs.Derivations.{Tree, leaf, both, tokens, Derives, of_empty, of_token, of_then, of_left, of_right, of_last, of_more, of_deep, of_sub, over}
-use Rattle.ll_grammar.specs.LookAhead.{member}
+use Rattle.ll_grammar.specs.Derivations.{Tree, tokens, Derives, of_empty, of_token, of_then, of_left, of_right, of_last, of_more, of_deep, of_sub}
 use Rattle.ll_grammar.specs.Sentences.{Fault, Syntax, TooDeep, Begins, Faulty, Refusal}
 use Rattle.ll_grammar.proofs.Beginnings.{begins_self}
 use Rattle.ll_grammar.proofs.KindSets.{and_l, and_r}

@@ -1,44 +1,40 @@
 -- The first fault of a text is the first of its streams' faults.
-use Rattle.std.proofs.Common.{◌≡◌, ℕ, zero, suc, Bool, true, false, List, [], ◌∷◌, ◌++◌, refl, sym, ap, ◌∙◌, subst, ◌&&◌, ◌||◌, not, true≢false, append_assoc, ◌⊎◌, inl, inr, ⊎_elim, ◌==◌, eqb-true, cond, map, length, ◌<◌, ◌≤◌, ◌+◌, arith, length-append, All, Option, Some, None}
+use Rattle.std.proofs.Common.{◌≡◌, ℕ, zero, suc, Bool, true, false, List, [], ◌∷◌, ◌++◌, refl, sym, ap, ◌∙◌, subst, true≢false, append_assoc, ◌⊎◌, inl, inr, ⊎_elim, ◌==◌, eqb-true, cond, length, ◌<◌, ◌≤◌, ◌+◌, arith, All, None}
 use Rattle.std.proofs.lemmas.List.{append-nil}
-use Rattle.std.proofs.lemmas.List.Elements.{All-head, All-tail, All-append, All-nil, All-cons}
-use Rattle.std.proofs.lemmas.Grind.{common_steps}
+use Rattle.std.proofs.lemmas.List.Elements.{All-head, All-tail, All-nil}
 use Rattle.m2_base.specs.declared.kind.TokenKind.{TokenKind}
 use Rattle.m2_base.specs.declared.kind.TokenKind.TheVariants as kinds
 use Rattle.m2_base.specs.declared.token.Token.{Token}
-use Rattle.m2_base.specs.Grammar.{number_of_token}
-use Rattle.m2_base.specs.KindNumbers.{kind_number, all_kinds, sample}
-use Rattle.ll_grammar.specs.Grammar.{Rule, empty, token, then, or, many, deep, sub, Grammar, one}
-use Rattle.ll_grammar.specs.Derivations.{Tree, nothing, leaf, both, left, right, last, more, inner, part, tokens, Derives, of_empty, of_token, of_then, of_left, of_right, of_last, of_more, of_deep, of_sub, over, first_of}
+use Rattle.m2_base.specs.KindNumbers.{kind_number}
+use Rattle.ll_grammar.specs.Grammar.{Rule, then, Grammar, one}
+use Rattle.ll_grammar.specs.Derivations.{Tree, leaf, both, tokens, Derives, of_token, of_then, over}
 use Rattle.ll_grammar.specs.LookAhead.{member}
 use Rattle.stream_split.specs.declared.sorts.Sort.{Sort}
 use Rattle.stream_split.specs.declared.sorts.Sort.TheVariants.{Stop, Word, Procedure, Opener, Closer, Left, Right, Semicolon, Other}
 use Rattle.stream_split.specs.declared.cutter.Mode.{Mode}
-use Rattle.stream_split.specs.declared.cutter.Mode.TheVariants.{Free, Body}
+use Rattle.stream_split.specs.declared.cutter.Mode.TheVariants.{Free}
 use Rattle.ll_grammar.specs.LookAhead.{firsts, complete, IsLL1, IsRoot}
-use Rattle.ll_grammar.specs.Reading.{Accepts, accept_empty, accept_token, accept_then, accept_left, accept_right, accept_last, accept_more, accept_deep, accept_sub, Refuses, refuse_token, refuse_then, refuse_later, refuse_left, refuse_right, refuse_many, refuse_more, refuse_deep, refuse_sub, refuse_limit, refuse_none, Answer, accepted, refused}
-use Rattle.ll_grammar.specs.Sentences.{Fault, Syntax, TooDeep, SameHead, Begins, Kept, Beginning, Refusal, Faulty}
-use Rattle.ll_grammar.proofs.Beginnings.{starts_same, same_front, same_refl}
-use Rattle.ll_grammar.proofs.KindSets.{and_l, and_r}
-use Rattle.ll_grammar.proofs.Rests.{accepts_rest, refuses_rest}
-use Rattle.ll_grammar.proofs.Soundness.{accepts_derives, accepts_within}
+use Rattle.ll_grammar.specs.Reading.{Accepts, accept_token, accept_then, Refuses, refuse_token, refuse_then, refuse_later, Answer, accepted, refused}
+use Rattle.ll_grammar.specs.Sentences.{Fault, Syntax, TooDeep, SameHead, Begins, Kept, Beginning, Faulty}
+use Rattle.ll_grammar.proofs.Rests.{refuses_rest}
+use Rattle.ll_grammar.proofs.Soundness.{accepts_derives}
 use Rattle.ll_grammar.proofs.Checks.{root_complete}
 use Rattle.ll_grammar.proofs.Decided.{is_total, whole_sentence}
-use Rattle.ll_grammar.proofs.Nesting.{first_some, deep_token, DeepToken}
-use Rattle.ll_grammar.proofs.OneFault.{none_some, some_is, not_before, one_fault, no_fault, fault_of}
+use Rattle.ll_grammar.proofs.Nesting.{first_some, deep_token}
+use Rattle.ll_grammar.proofs.OneFault.{none_some, not_before, one_fault, no_fault, fault_of}
 use Rattle.ll_grammar.proofs.Productive.{some_tree}
 use Rattle.ll_grammar.proofs.Viable.{reaches, kept_nil, kept_front, kept_back}
 use Rattle.stream_split.specs.Cut.{sort, Phase, amid, seen, heading, two_left, one_left, ended, State, state, start, next, next_by, goes, goes_by, after, events, Event, to, pick, heading_goes, heading_next}
 use Rattle.stream_split.proofs.Runs.{after_append, events_append}
 use Rattle.stream_split.proofs.Picks.{same_number, pick_append, pick_own, pick_other}
 use Rattle.stream_split.proofs.Parts.{stream_rule, streams_after, own, parts, sends, spread}
-use Rattle.stream_split.proofs.Flow.{Cuttable, head, block, whole, grammar_of, procedure_rule, flow, Fits, fits_amid, fits_seen, Runs, runs_then, runs_one, flows, is_stop}
+use Rattle.stream_split.proofs.Flow.{Cuttable, head, block, grammar_of, procedure_rule, flow, Fits, fits_amid, fits_seen, Runs, runs_then, runs_one, flows, is_stop}
 use Rattle.stream_split.proofs.Told.{told, counted, own_of, parts_of, own_pick, pick_low}
 use Rattle.stream_split.proofs.OwnRests.{own_accepts}
-use Rattle.stream_split.proofs.Refusals.{Tip, Stops, Here, Inside, stops, tip_fits}
+use Rattle.stream_split.proofs.Refusals.{Tip, stops, tip_fits}
 use Rattle.stream_split.proofs.Depths.{shallow}
-use Rattle.stream_split.proofs.Keeping.{keeps, kept_less, AllKept, all_kept}
-use Rattle.stream_split.proofs.Future.{Numbered, count, goes_new, well_next, InHeading, Well, well, well_after, count_next, current, phase, around, new, Fresh, HeadingGets, Begins_with, heading_gets}
+use Rattle.stream_split.proofs.Keeping.{keeps, kept_less, AllKept}
+use Rattle.stream_split.proofs.Future.{Numbered, count, goes_new, well_next, InHeading, Well, well, well_after, count_next, phase, around, new, HeadingGets, heading_gets}
 
 -- a main text, with what it has for this grammar
 pub record MainText (G : Cuttable) : Type 0 where

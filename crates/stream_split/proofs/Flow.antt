@@ -1,20 +1,18 @@
 -- What the cut does along a sentence of the unsplit text.
-use Rattle.std.proofs.Common.{◌≡◌, ℕ, zero, suc, Bool, true, false, List, [], ◌∷◌, ◌++◌, refl, sym, ap, ◌∙◌, subst, ◌&&◌, ◌||◌, not, true≢false, append_assoc, ◌⊎◌, inl, inr, ⊎_elim, ◌==◌, eqb-true, cond, map}
+use Rattle.std.proofs.Common.{◌≡◌, ℕ, zero, suc, Bool, true, false, List, [], ◌∷◌, ◌++◌, refl, sym, ap, ◌∙◌, subst, ◌&&◌, ◌||◌, not, true≢false, append_assoc, ⊎_elim, ◌==◌, eqb-true, map}
 use Rattle.std.proofs.lemmas.List.{append-nil}
-use Rattle.m2_base.specs.declared.kind.TokenKind.{TokenKind}
-use Rattle.m2_base.specs.declared.kind.TokenKind.TheVariants as kinds
 use Rattle.m2_base.specs.declared.token.Token.{Token}
 use Rattle.m2_base.specs.Grammar.{number_of_token}
 use Rattle.m2_base.specs.KindNumbers.{kind_number, all_kinds, sample}
 use Rattle.ll_grammar.specs.Grammar.{Rule, empty, token, then, or, many, deep, sub, Grammar, one}
-use Rattle.ll_grammar.specs.Derivations.{Tree, nothing, leaf, both, left, right, last, more, inner, part, tokens, Derives, of_empty, of_token, of_then, of_left, of_right, of_last, of_more, of_deep, of_sub, over, first_of}
+use Rattle.ll_grammar.specs.Derivations.{Tree, tokens, Derives, of_empty, of_token, of_then, of_left, of_right, of_last, of_more, of_deep, of_sub}
 use Rattle.ll_grammar.specs.LookAhead.{member}
 use Rattle.stream_split.specs.declared.sorts.Sort.{Sort}
 use Rattle.stream_split.specs.declared.sorts.Sort.TheVariants.{Stop, Word, Procedure, Opener, Closer, Left, Right, Semicolon, Other}
 use Rattle.stream_split.specs.declared.cutter.Mode.{Mode}
 use Rattle.stream_split.specs.declared.cutter.Mode.TheVariants.{Free, Body}
 use Rattle.ll_grammar.proofs.KindSets.{and_l, and_r, or_cases}
-use Rattle.stream_split.specs.Cut.{sort, Phase, amid, seen, heading, two_left, one_left, ended, State, state, deeper, closed, next, next_by, goes, goes_by, events, after, Event, to, cut_at, end_at, less, pick}
+use Rattle.stream_split.specs.Cut.{sort, Phase, amid, seen, heading, two_left, one_left, State, state, deeper, closed, next_by, goes_by, events, after, Event, to, less}
 use Rattle.stream_split.proofs.Numbers.{sort_of_number, sort_is}
 use Rattle.stream_split.proofs.Parts.{stream_rule, streams_after, own, sends}
 use Rattle.stream_split.proofs.Picks.{to_append}

@@ -1,5 +1,5 @@
 -- Where the tokens that the cut still has to read can go.
-use Rattle.std.proofs.Common.{◌≡◌, ◌≢◌, ℕ, zero, suc, Bool, true, false, List, [], ◌∷◌, ◌++◌, refl, sym, ap, ◌∙◌, subst, true≢false, append_assoc, ◌⊎◌, inl, inr, ⊎_elim, ◌==◌, eqb-true, cond, map, length, ◌<◌, ◌≤◌, ◌+◌, arith, All, ◌||◌}
+use Rattle.std.proofs.Common.{◌≡◌, ◌≢◌, ℕ, zero, suc, Bool, true, false, List, [], ◌∷◌, ◌++◌, refl, sym, ap, ◌∙◌, subst, true≢false, append_assoc, ◌⊎◌, inl, inr, ◌==◌, eqb-true, cond, ◌<◌, ◌≤◌, arith, All}
 use Rattle.std.proofs.lemmas.List.{append-nil}
 use Rattle.std.proofs.lemmas.List.Elements.{All-head, All-tail, All-cons, All-nil, All-append}
 use Rattle.m2_base.specs.declared.token.Token.{Token}
@@ -8,8 +8,8 @@ use Rattle.stream_split.specs.declared.sorts.Sort.{Sort}
 use Rattle.stream_split.specs.declared.sorts.Sort.TheVariants.{Stop, Word, Procedure, Opener, Closer, Left, Right, Semicolon, Other}
 use Rattle.stream_split.specs.declared.cutter.Mode.{Mode}
 use Rattle.stream_split.specs.declared.cutter.Mode.TheVariants.{Free, Body}
-use Rattle.stream_split.specs.Cut.{less, sort, Phase, amid, seen, heading, two_left, one_left, ended, State, state, next, next_by, goes, goes_by, events, after, Event, to, cut_at, end_at, pick, all_end, unless_stop, heading_goes, heading_next, amid_next, seen_next, closed, out_of}
-use Rattle.stream_split.proofs.Picks.{pick_append, pick_own, pick_other}
+use Rattle.stream_split.specs.Cut.{less, sort, Phase, amid, seen, heading, two_left, one_left, ended, State, state, next, goes, goes_by, events, after, Event, to, cut_at, end_at, pick, all_end, unless_stop, heading_goes, heading_next, amid_next, seen_next, closed, out_of}
+use Rattle.stream_split.proofs.Picks.{pick_append, pick_own}
 
 -- the tokens have these numbers
 abbrev pub Numbered : ℕ → List Token → Type 0
@@ -148,7 +148,7 @@ held_seen m u t Right e = tt
 held_seen m u t Semicolon e = tt
 held_seen m u t Other e = tt
 
-more_below : (c : ℕ) (fs : List (ℕ × Mode)) → All (λ f. f.0 < c) fs → All (λ f. f.0 < suc c) fs
+pub more_below : (c : ℕ) (fs : List (ℕ × Mode)) → All (λ f. f.0 < c) fs → All (λ f. f.0 < suc c) fs
 more_below c fs a = all_map {P = λ f. f.0 < c} {Q = λ f. f.0 < suc c} fs (λ f h. omega (arith, h)) a
 
 well_heading : (k c : ℕ) (fs : List (ℕ × Mode)) (m : Mode) (q : ℕ) (hs : List Token) (t : Token) (z : Sort) → k < c → All (λ f. f.0 < c) fs → Well (heading_next k c fs m q hs t z)
@@ -217,7 +217,7 @@ pub count_out : (k c : ℕ) (fs : List (ℕ × Mode)) → count (out_of k c fs) 
 count_out k c [] = refl
 count_out k c (f ∷ fs) = refl
 
-unless_count : (z : Sort) (s s' : State) (c : ℕ) → count s ≡ c → count s' ≡ c → count (unless_stop z s s') ≡ c
+pub unless_count : (z : Sort) (s s' : State) (c : ℕ) → count s ≡ c → count s' ≡ c → count (unless_stop z s s') ≡ c
 unless_count Stop s s' c a b = a
 unless_count Word s s' c a b = b
 unless_count Procedure s s' c a b = b
@@ -276,16 +276,16 @@ ended_none : (k c : ℕ) (fs : List (ℕ × Mode)) (ts : List Token) → events 
 ended_none k c fs [] = refl
 ended_none k c fs (t ∷ ts) = ended_none k c fs ts
 
-pick_skip : (j k : ℕ) (t : Token) (es : List Event) → (j == k) ≡ false → pick j ((k, t) ∷ es) ≡ pick j es
+pub pick_skip : (j k : ℕ) (t : Token) (es : List Event) → (j == k) ≡ false → pick j ((k, t) ∷ es) ≡ pick j es
 pick_skip j k t es h = ap (λ b. cond b (t ∷ pick j es) (pick j es)) h
 
 same_num : (j : ℕ) → (j == j) ≡ true
 same_num j = grind arith
 
-apart : (j k : ℕ) → k < j → (j == k) ≡ false
+pub apart : (j k : ℕ) → k < j → (j == k) ≡ false
 apart j k h = grind arith
 
-pick_ends : (c : ℕ) (fs : List (ℕ × Mode)) (t : Token) → All (λ f. f.0 < c) fs → pick c (all_end fs t) ≡ []
+pub pick_ends : (c : ℕ) (fs : List (ℕ × Mode)) (t : Token) → All (λ f. f.0 < c) fs → pick c (all_end fs t) ≡ []
 pick_ends c [] t a = refl
 pick_ends c (f ∷ fs) t a = pick_skip c f.0 t (all_end fs t) (apart c f.0 (All-head (λ f. f.0 < c) f fs a)) ∙ pick_ends c fs t (All-tail (λ f. f.0 < c) f fs a)
 

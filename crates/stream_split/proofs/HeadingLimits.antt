@@ -1,6 +1,6 @@
 -- The limits at a heading, by numbers.
-use Rattle.std.proofs.Common.{◌≡◌, ◌≢◌, ℕ, Bool, true, false, refl, ap, ◌∙◌, ◌==◌, ◌+◌, ◌≤◌, ◌<◌, nat_lt, arith, List, [], length, Some, None, if◌then◌else◌}
-use Rattle.m2_base.specs.Statics.BlockLimits.{BlockLimit, too_many_procedures, too_deep_procedure}
+use Rattle.std.proofs.Common.{◌≡◌, ◌≢◌, ℕ, true, false, ap, ◌∙◌, ◌==◌, ◌+◌, ◌≤◌, ◌<◌, nat_lt, arith, List, [], length, Some, None, if◌then◌else◌}
+use Rattle.m2_base.specs.Statics.BlockLimits.{too_many_procedures, too_deep_procedure}
 use Rattle.stream_split.specs.declared.cutter.Frame.{Frame}
 use Rattle.stream_split.specs.Limits.{heading_limit}
 use Rattle.stream_split.specs.Views.{frames_view}

@@ -1,5 +1,5 @@
 -- Lists of streams, changed at one place.
-use Rattle.std.proofs.Common.{◌≡◌, ℕ, zero, suc, Bool, true, false, List, [], ◌∷◌, ◌++◌, refl, sym, ap, ◌∙◌, subst, cond, ◌==◌, length, ◌<◌, ◌≤◌, ◌+◌, arith, slice_set, get_or, append_assoc, take, map, length-append}
+use Rattle.std.proofs.Common.{◌≡◌, ℕ, zero, suc, Bool, true, false, List, [], ◌∷◌, ◌++◌, refl, sym, ap, ◌∙◌, subst, cond, ◌==◌, length, ◌<◌, ◌+◌, arith, slice_set, get_or, append_assoc, take, map}
 use Rattle.std.proofs.lemmas.List.{append-nil}
 use Rattle.std.proofs.Math.Seq.{take-suc}
 use Rattle.m2_base.specs.declared.token.Token.{Token}
@@ -7,7 +7,7 @@ use Rattle.stream_split.specs.declared.cutter.Frame.{Frame}
 use Rattle.stream_split.specs.declared.cutter.Mode.{Mode}
 use Rattle.stream_split.specs.declared.cutter.Mode.TheVariants.{Free, Body}
 use Rattle.stream_split.specs.declared.streams.StreamTokens.{StreamTokens}
-use Rattle.stream_split.specs.Cut.{Event, Phase, amid, state, to, pick, cut_at, all_end, out_of}
+use Rattle.stream_split.specs.Cut.{Event, amid, state, to, pick, all_end, out_of}
 use Rattle.stream_split.specs.Streams.{StreamOf}
 use Rattle.stream_split.specs.Views.{label, stream_view, item, Sent, frame_view, frames_on, frames_view, sends_all}
 use Rattle.stream_split.proofs.Picks.{pick_append, pick_own, pick_other}

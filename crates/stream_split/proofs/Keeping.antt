@@ -1,18 +1,13 @@
 -- Where the first token that lies too deep in a text is none of its first tokens, the same holds of its streams.
-use Rattle.std.proofs.Common.{◌≡◌, ℕ, zero, suc, Bool, true, false, List, [], ◌∷◌, ◌++◌, refl, sym, ap, ◌∙◌, subst, ◌&&◌, ◌||◌, not, true≢false, append_assoc, ◌⊎◌, inl, inr, ⊎_elim, ◌==◌, eqb-true, cond, map, length, ◌<◌, ◌≤◌, ◌+◌, arith, All, Option, Some, None}
+use Rattle.std.proofs.Common.{◌≡◌, ℕ, zero, suc, Bool, true, false, List, [], ◌∷◌, ◌++◌, refl, sym, ap, ◌∙◌, subst, ◌&&◌, ◌||◌, not, true≢false, append_assoc, inl, inr, ⊎_elim, ◌==◌, eqb-true, length, ◌<◌, ◌≤◌, ◌+◌, arith, All, Option, Some, None}
 use Rattle.std.proofs.lemmas.List.{append-nil}
-use Rattle.std.proofs.lemmas.List.Elements.{All-head, All-tail, All-append, All-nil, All-cons}
-use Rattle.std.proofs.lemmas.Grind.{common_steps}
-use Rattle.m2_base.specs.declared.kind.TokenKind.{TokenKind}
-use Rattle.m2_base.specs.declared.kind.TokenKind.TheVariants as kinds
+use Rattle.std.proofs.lemmas.List.Elements.{All-head, All-tail}
 use Rattle.m2_base.specs.declared.token.Token.{Token}
-use Rattle.m2_base.specs.Grammar.{number_of_token}
-use Rattle.m2_base.specs.KindNumbers.{kind_number, all_kinds, sample}
-use Rattle.ll_grammar.specs.Grammar.{Rule, empty, token, then, or, many, deep, sub, Grammar, one}
-use Rattle.ll_grammar.specs.Derivations.{Tree, nothing, leaf, both, left, right, last, more, inner, part, tokens, Derives, of_empty, of_token, of_then, of_left, of_right, of_last, of_more, of_deep, of_sub, over, first_of}
+use Rattle.m2_base.specs.KindNumbers.{kind_number}
+use Rattle.ll_grammar.specs.Grammar.{Rule, then, many, deep, sub, Grammar}
+use Rattle.ll_grammar.specs.Derivations.{Tree, leaf, both, more, inner, part, tokens, Derives, of_empty, of_token, of_then, of_left, of_right, of_last, of_more, of_deep, of_sub, over, first_of}
 use Rattle.ll_grammar.specs.LookAhead.{member}
-use Rattle.stream_split.specs.declared.sorts.Sort.{Sort}
-use Rattle.stream_split.specs.declared.sorts.Sort.TheVariants.{Stop, Word, Procedure, Opener, Closer, Left, Right, Semicolon, Other}
+use Rattle.stream_split.specs.declared.sorts.Sort.TheVariants.{Word, Procedure, Semicolon}
 use Rattle.stream_split.specs.declared.cutter.Mode.{Mode}
 use Rattle.stream_split.specs.declared.cutter.Mode.TheVariants.{Free, Body}
 use Rattle.ll_grammar.specs.Sentences.{Kept}
@@ -21,11 +16,11 @@ use Rattle.ll_grammar.proofs.Nesting.{first_some}
 use Rattle.ll_grammar.proofs.OneFault.{none_some, some_is}
 use Rattle.ll_grammar.proofs.Soundness.{none_both}
 use Rattle.ll_grammar.proofs.Viable.{kept_nil, kept_front, kept_back}
-use Rattle.stream_split.specs.Cut.{Phase, amid, seen, heading, State, state, after, events, Event, to, cut_at, end_at, pick}
-use Rattle.stream_split.proofs.Runs.{after_append, events_append}
+use Rattle.stream_split.specs.Cut.{Phase, amid, seen, heading, state, after, events, Event, to, cut_at, end_at, pick}
+use Rattle.stream_split.proofs.Runs.{events_append}
 use Rattle.stream_split.proofs.Picks.{to_append, pick_append, pick_own, pick_other}
 use Rattle.stream_split.proofs.Parts.{streams_after, own, parts, sends}
-use Rattle.stream_split.proofs.Flow.{Cuttable, head, block, whole, grammar_of, flow, head_flow, plain, raise, Fits, fits_amid, Tops, Runs, runs_then, runs_one, flows, heads_of, seen_procedure, fits_more, fits_wider, fits_low, again_stay, is_word, is_procedure, is_semi, no_more, plain_sends}
+use Rattle.stream_split.proofs.Flow.{Cuttable, head, grammar_of, flow, head_flow, plain, raise, Fits, fits_amid, Tops, Runs, runs_then, runs_one, flows, heads_of, seen_procedure, fits_more, fits_wider, fits_low, again_stay, is_word, is_procedure, is_semi, no_more, plain_sends}
 use Rattle.stream_split.proofs.Told.{counted, own_pick, high_pick}
 use Rattle.stream_split.proofs.Depths.{shallow}
 

@@ -4,7 +4,7 @@ use Rattle.m2_base.specs.declared.kind.TokenKind.{TokenKind}
 use Rattle.m2_base.specs.declared.kind.TokenKind.TheVariants as kinds
 use Rattle.m2_base.specs.Statics.BlockLimits.{Standing, in_block, in_heading, behind_end, is_identifier, is_procedure_word, heading_step, block_step, open_after}
 use Rattle.stream_split.specs.declared.sorts.Sort.{Sort}
-use Rattle.stream_split.specs.declared.sorts.Sort.TheVariants.{Stop, Word, Procedure, Opener, Closer, Left, Right, Semicolon, Other}
+use Rattle.stream_split.specs.declared.sorts.Sort.TheVariants.{Word, Procedure, Opener, Closer, Left, Right, Semicolon}
 use Rattle.stream_split.specs.Cut.{sort}
 
 abbrev pub is_word : Sort → Bool

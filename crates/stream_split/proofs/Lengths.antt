@@ -1,5 +1,5 @@
 -- How long a stream may be.
-use Rattle.std.proofs.Common.{◌≡◌, ℕ, zero, suc, Bool, true, false, List, [], ◌∷◌, ◌++◌, refl, sym, ap, subst, length, length-append, ◌<◌, ◌≤◌, ◌+◌, ◌*◌, ◌^◌, ◌==◌, arith, All, Option, Some, None, cond, map, slice_get}
+use Rattle.std.proofs.Common.{◌≡◌, ℕ, zero, suc, Bool, true, false, List, [], ◌∷◌, ◌++◌, refl, sym, ap, subst, length, length-append, ◌<◌, ◌≤◌, ◌+◌, ◌*◌, ◌^◌, ◌==◌, arith, All, cond, map, slice_get}
 use Rattle.std.proofs.lemmas.List.Elements.{All-head, All-tail, All-append, All-cons, All-nil}
 use Rattle.m2_base.specs.declared.token.Token.{Token}
 use Rattle.m2_base.specs.Lists.{Each}
@@ -9,7 +9,7 @@ use Rattle.stream_split.specs.declared.cutter.Mode.TheVariants.{Free, Body}
 use Rattle.stream_split.specs.declared.sorts.Sort.{Sort}
 use Rattle.stream_split.specs.declared.sorts.Sort.TheVariants.{Stop, Word, Procedure, Opener, Closer, Left, Right, Semicolon, Other}
 use Rattle.stream_split.specs.declared.streams.StreamTokens.{StreamTokens}
-use Rattle.stream_split.specs.Cut.{Enclosed, Event, Phase, amid, seen, heading, two_left, one_left, ended, State, state, start, next, next_by, goes, goes_by, all_end, heading_goes, heading_next, to, events, opened, pick, sort}
+use Rattle.stream_split.specs.Cut.{Enclosed, Event, amid, seen, heading, two_left, one_left, ended, State, state, start, next, next_by, goes, goes_by, all_end, heading_goes, heading_next, to, events, opened, pick, sort}
 use Rattle.stream_split.specs.Streams.{StreamOf, main_streams, procedure_streams, definition_streams, tokens_in, main_tokens, main_number, streams_of}
 use Rattle.stream_split.specs.Views.{stream_view}
 
@@ -115,7 +115,8 @@ main_short m ts h =
     let i = pick_count m (events (start m) ts) in
     All-cons IsShort _ _ (omega (arith, h, e, i)) (procedures_short (suc m) (opened (start m) ts) (events (start m) ts) (omega (arith, h, e)))
 
-text_short : (names : List (List ℕ)) (texts : List TextOf) → Each (IsText names) texts → (k : ℕ) → length (tokens_in (slice_get texts k)) ≤ 1048576
+-- a text has so many tokens at most
+pub text_short : (names : List (List ℕ)) (texts : List TextOf) → Each (IsText names) texts → (k : ℕ) → length (tokens_in (slice_get texts k)) ≤ 1048576
 text_short names [] h k = omega arith
 text_short names (t ∷ texts) h zero = h.0.count
 text_short names (t ∷ texts) h (suc k) = text_short names texts h.1 k

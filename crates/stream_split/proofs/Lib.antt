@@ -6,6 +6,8 @@ pub mod HeadingLimits
 pub mod Future
 pub mod Loop
 pub mod KindSteps
+pub mod Beginnings
+pub mod ProcedureStreams
 pub mod LimitsAgree
 pub mod Definitions
 pub mod SizeSteps
@@ -33,3 +35,12 @@ pub mod RowCounts
 pub mod Enclosures
 pub mod Declared
 pub mod BlocksAgree
+pub mod Counting
+pub mod DefinitionTexts
+pub mod StreamCounts
+pub mod Surrounded
+pub mod TextTokens
+pub mod ReadTokens
+pub mod TextFronts
+pub mod ImportScopes
+pub mod StreamTrees

@@ -1,10 +1,9 @@
 -- The loop over the tokens of a main text.
-use Rattle.std.proofs.Common.{◌≡◌, ℕ, zero, suc, List, [], ◌∷◌, ◌++◌, refl, sym, ap, ◌∙◌, subst, length, ◌<◌, ◌+◌, ◌-◌, arith, get_or, take, drop, map, All, Option, Some, None, Result, Ok, Err, length-append}
+use Rattle.std.proofs.Common.{◌≡◌, ℕ, zero, suc, List, [], ◌∷◌, ◌++◌, refl, sym, ap, ◌∙◌, subst, length, ◌<◌, ◌+◌, ◌-◌, arith, get_or, take, drop, map, All, Option, Some, None, length-append}
 use Rattle.std.proofs.Math.Seq.{take-suc}
 use Rattle.std.proofs.lemmas.List.{append-nil}
 use Rattle.std.proofs.lemmas.List.Elements.{All-head, All-tail, All-cons, All-nil}
 use Rattle.m2_base.specs.declared.token.Token.{Token}
-use Rattle.m2_base.specs.declared.trees.declarations.StreamKind.TheVariants.{Main, Procedure}
 use Rattle.m2_base.specs.Statics.BlockLimits.{BlockLimit, too_many_procedures, too_deep_procedure}
 use Rattle.stream_split.specs.declared.cutter.Cutter.{Cutter}
 use Rattle.stream_split.specs.declared.cutter.Frame.{Frame}
@@ -13,10 +12,10 @@ use Rattle.stream_split.specs.declared.sorts.Sort.{Sort}
 use Rattle.stream_split.specs.declared.streams.SplitFault.{SplitFault}
 use Rattle.stream_split.specs.declared.streams.SplitFault.TheVariants.{TooManyStreams, TooNested, Memory}
 use Rattle.stream_split.specs.declared.streams.StreamTokens.{StreamTokens}
-use Rattle.stream_split.specs.Cut.{State, state, sort, start, after, events, next, next_by, goes, goes_by, pick, Event, Enclosed, opened, opens_by}
+use Rattle.stream_split.specs.Cut.{State, sort, start, after, events, next, next_by, goes, goes_by, pick, Event, Enclosed, opened, opens_by}
 use Rattle.stream_split.specs.Limits.{passed, limit_at, first_of, Tells}
 use Rattle.stream_split.specs.Streams.{StreamOf, procedure_stream, module_stream, procedure_streams, main_streams}
-use Rattle.stream_split.specs.Views.{stream_view, label, item, Sent, state_view, frames_on, frames_view, frame_view, Ready}
+use Rattle.stream_split.specs.Views.{stream_view, label, item, Sent, state_view, frames_on, frame_view, Ready}
 use Rattle.stream_split.proofs.Runs.{after_append, events_append, opened_append}
 use Rattle.stream_split.proofs.Picks.{pick_append}
 use Rattle.stream_split.proofs.Future.{Well, well, well_after}

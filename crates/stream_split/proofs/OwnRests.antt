@@ -1,29 +1,16 @@
 -- What is accepted in the unsplit text is accepted in its stream.
-use Rattle.std.proofs.Common.{◌≡◌, ℕ, zero, suc, Bool, true, false, List, [], ◌∷◌, ◌++◌, refl, sym, ap, ◌∙◌, subst, ◌&&◌, ◌||◌, not, true≢false, append_assoc, ◌⊎◌, inl, inr, ⊎_elim, ◌==◌, eqb-true, cond, map, length, ◌<◌, ◌≤◌, ◌+◌, arith, All, Option, Some, None}
-use Rattle.std.proofs.lemmas.List.{append-nil}
-use Rattle.std.proofs.lemmas.List.Elements.{All-head, All-tail, All-append, All-nil, All-cons}
-use Rattle.std.proofs.lemmas.Grind.{common_steps}
-use Rattle.m2_base.specs.declared.kind.TokenKind.{TokenKind}
-use Rattle.m2_base.specs.declared.kind.TokenKind.TheVariants as kinds
+use Rattle.std.proofs.Common.{◌≡◌, ℕ, Bool, true, false, List, [], ◌∷◌, ◌++◌, refl, sym, ap, ◌∙◌, subst, ◌&&◌, ◌||◌, append_assoc}
 use Rattle.m2_base.specs.declared.token.Token.{Token}
-use Rattle.m2_base.specs.Grammar.{number_of_token}
-use Rattle.m2_base.specs.KindNumbers.{kind_number, all_kinds, sample}
-use Rattle.ll_grammar.specs.Grammar.{Rule, empty, token, then, or, many, deep, sub, Grammar, one}
-use Rattle.ll_grammar.specs.Derivations.{Tree, nothing, leaf, both, left, right, last, more, inner, part, tokens, Derives, of_empty, of_token, of_then, of_left, of_right, of_last, of_more, of_deep, of_sub, over, first_of}
-use Rattle.ll_grammar.specs.LookAhead.{member}
-use Rattle.stream_split.specs.declared.sorts.Sort.{Sort}
-use Rattle.stream_split.specs.declared.sorts.Sort.TheVariants.{Stop, Word, Procedure, Opener, Closer, Left, Right, Semicolon, Other}
-use Rattle.stream_split.specs.declared.cutter.Mode.{Mode}
-use Rattle.stream_split.specs.declared.cutter.Mode.TheVariants.{Free, Body}
-use Rattle.ll_grammar.specs.LookAhead.{nullable, if_so, starts, first, firsts}
-use Rattle.ll_grammar.specs.Reading.{Accepts, accept_empty, accept_token, accept_then, accept_left, accept_right, accept_last, accept_more, accept_deep, accept_sub, Refuses, refuse_token, refuse_then, refuse_later, refuse_left, refuse_right, refuse_many, refuse_more, refuse_deep, refuse_sub, refuse_limit, refuse_none}
-use Rattle.ll_grammar.specs.Sentences.{Fault, Syntax, TooDeep, SameHead}
-use Rattle.ll_grammar.proofs.Beginnings.{starts_same, same_front, same_refl}
-use Rattle.ll_grammar.proofs.KindSets.{and_l, and_r}
-use Rattle.ll_grammar.proofs.Rests.{accepts_rest, refuses_rest}
-use Rattle.ll_grammar.proofs.Soundness.{accepts_derives, accepts_within}
+use Rattle.ll_grammar.specs.Grammar.{Rule, empty, token, then, or, many, deep, sub, Grammar}
+use Rattle.ll_grammar.specs.Derivations.{Tree, tokens, Derives, of_empty, of_token, of_then, of_left, of_right, of_last, of_more, of_deep, of_sub}
+use Rattle.ll_grammar.specs.LookAhead.{nullable, if_so, starts, first}
+use Rattle.ll_grammar.specs.Reading.{Accepts, accept_empty, accept_token, accept_then, accept_left, accept_right, accept_last, accept_more, accept_deep, accept_sub}
+use Rattle.ll_grammar.specs.Sentences.{SameHead}
+use Rattle.ll_grammar.proofs.Beginnings.{starts_same, same_front}
+use Rattle.ll_grammar.proofs.Rests.{accepts_rest}
+use Rattle.ll_grammar.proofs.Soundness.{accepts_derives}
 use Rattle.stream_split.specs.Cut.{cut_at}
-use Rattle.stream_split.proofs.Flow.{Cuttable, head, block, grammar_of}
+use Rattle.stream_split.proofs.Flow.{Cuttable, head, grammar_of}
 use Rattle.stream_split.proofs.Parts.{stream_rule, own, streams_after}
 
 module _ (G : Cuttable) where

@@ -1,17 +1,8 @@
 -- The trees of a main text's streams, by its derivation.
-use Rattle.std.proofs.Common.{◌≡◌, ℕ, suc, List, [], ◌∷◌, ◌++◌}
-use Rattle.m2_base.specs.declared.kind.TokenKind.{TokenKind}
-use Rattle.m2_base.specs.declared.kind.TokenKind.TheVariants as kinds
+use Rattle.std.proofs.Common.{ℕ, suc, List, [], ◌∷◌, ◌++◌}
 use Rattle.m2_base.specs.declared.token.Token.{Token}
-use Rattle.m2_base.specs.Grammar.{number_of_token}
-use Rattle.m2_base.specs.KindNumbers.{kind_number, all_kinds, sample}
-use Rattle.ll_grammar.specs.Grammar.{Rule, empty, token, then, or, many, deep, sub, Grammar, one}
-use Rattle.ll_grammar.specs.Derivations.{Tree, nothing, leaf, both, left, right, last, more, inner, part, tokens, Derives, of_empty, of_token, of_then, of_left, of_right, of_last, of_more, of_deep, of_sub, over, first_of}
-use Rattle.ll_grammar.specs.LookAhead.{member}
-use Rattle.stream_split.specs.declared.sorts.Sort.{Sort}
-use Rattle.stream_split.specs.declared.sorts.Sort.TheVariants.{Stop, Word, Procedure, Opener, Closer, Left, Right, Semicolon, Other}
-use Rattle.stream_split.specs.declared.cutter.Mode.{Mode}
-use Rattle.stream_split.specs.declared.cutter.Mode.TheVariants.{Free, Body}
+use Rattle.ll_grammar.specs.Grammar.{Rule, empty, token, then, or, many, deep, sub, one}
+use Rattle.ll_grammar.specs.Derivations.{Tree, nothing, leaf, both, left, right, last, more, inner, part, tokens}
 use Rattle.stream_split.specs.Cut.{Event, to, cut_at, end_at}
 
 -- in a stream a procedure is its heading, a semicolon and a Cut

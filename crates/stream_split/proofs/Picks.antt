@@ -1,5 +1,5 @@
 -- What goes to one stream.
-use Rattle.std.proofs.Common.{◌≡◌, ℕ, Bool, true, false, List, [], ◌∷◌, ◌++◌, refl, ap, ◌∙◌, ◌==◌, cond, map, ◌<◌, arith}
+use Rattle.std.proofs.Common.{◌≡◌, ℕ, Bool, true, false, List, [], ◌∷◌, ◌++◌, refl, ap, ◌∙◌, ◌==◌, cond, arith}
 use Rattle.m2_base.specs.declared.token.Token.{Token}
 use Rattle.stream_split.specs.Cut.{Event, to, pick}
 

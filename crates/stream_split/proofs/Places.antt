@@ -1,5 +1,5 @@
 -- Of the tokens behind a body its statements see the number of the first alone.
-use Rattle.std.proofs.Common.{◌≡◌, ℕ, List, [], ◌∷◌, ◌++◌, refl, ap, Option, Some, None}
+use Rattle.std.proofs.Common.{◌≡◌, List, [], ◌∷◌, ◌++◌, refl, Some}
 use Rattle.m2_base.specs.declared.token.Token.{Token}
 use Rattle.m2_base.specs.ExpressionsOf.{ident_of, designator_of, expr_of, labels_of}
 use Rattle.m2_base.specs.StatementsOf.{place, other_statements, case_else_with, step_of, statements_of, more_statements_of, optional_statement_of, statement_of, statement_rule_of, if_of, if_arm_of, elsifs_of, elsif_of, otherwise_of, case_of, arms_of, more_arms_of, arm_of, while_of, repeat_of, loop_of, for_of, with_of}

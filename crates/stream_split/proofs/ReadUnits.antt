@@ -12,18 +12,18 @@ use Rattle.m2_base.specs.Statics.BlockRows.{declare_block}
 use Rattle.m2_base.specs.Statics.Blocks.{BlockTree, UnitTrees, blocks_of}
 use Rattle.m2_base.specs.Statics.Contexts.{DefinitionModule, Source}
 use Rattle.m2_base.specs.Statics.UnitRows.{rows_from, unit_rows}
-use Rattle.m2_base.specs.StreamsOf.{no_stream}
 use Rattle.m2_base.specs.Trees.{Stream}
 use Rattle.m2_base.specs.Tables.{rows_at}
 use Rattle.m2_base.specs.Units.{IsUnit, UnitTexts}
 use Rattle.m2_base.specs.WholeTexts.{SpellsDefinition}
-use Rattle.stream_split.specs.Agreement.{SpellsStream, SpellsStreams}
+use Rattle.stream_split.specs.Agreement.{SpellsStreams}
 use Rattle.stream_split.specs.Rooms.{rows_of, rows_of_scopes}
 use Rattle.stream_split.specs.Sizes.{sizes_of}
-use Rattle.stream_split.specs.Streams.{StreamOf, definition_stream, definition_streams, main_number, main_streams, main_tokens, streams_of}
+use Rattle.stream_split.specs.Streams.{StreamOf, definition_streams, main_number, main_streams, main_tokens, streams_of}
 use Rattle.stream_split.specs.Surroundings.{AreTreesOf}
 use Rattle.stream_split.proofs.Agree.{trees_agree}
 use Rattle.stream_split.proofs.BlocksAgree.{blocks_agree}
+use Rattle.stream_split.proofs.DefinitionTexts.{definition_spelled}
 use Rattle.stream_split.proofs.Definitions.{map_append}
 use Rattle.stream_split.proofs.Lengths.{IsShort, unit_short}
 use Rattle.stream_split.proofs.RowCounts.{finished_rows, scope_rows}
@@ -46,15 +46,12 @@ trees_read u trees read =
 
 -- ** Streams
 
-definition_read : (u : UnitTexts) (j k : ℕ) (tree : Stream) → SpellsDefinition (tree ∷ []) (tokens_of u k) → SpellsStream tree (definition_stream j k (tokens_of u k))
-definition_read u j k tree h = record { sentence = h.sentence; gives = ap (λ (trees : List Stream). slice_index_or trees 0 no_stream) h.gives }
-
 definitions_read : (u : UnitTexts) (j : ℕ) (order : List ℕ) (trees : List Stream) → AllZip (λ k tree. SpellsDefinition (tree ∷ []) (tokens_of u k)) order trees
     → SpellsStreams trees (definition_streams j u.list order)
 definitions_read u j [] [] h = tt
 definitions_read u j [] (tree ∷ trees) h = absurd h
 definitions_read u j (k ∷ order) [] h = absurd h
-definitions_read u j (k ∷ order) (tree ∷ trees) h = (definition_read u j k tree h.0, definitions_read u (suc j) order trees h.1)
+definitions_read u j (k ∷ order) (tree ∷ trees) h = (definition_spelled j k (tokens_of u k) tree h.0, definitions_read u (suc j) order trees h.1)
 
 spelled_append : (xs ys : List Stream) (ss rs : List StreamOf) → SpellsStreams xs ss → SpellsStreams ys rs → SpellsStreams (xs ++ ys) (ss ++ rs)
 spelled_append [] ys [] rs p q = q
@@ -63,8 +60,8 @@ spelled_append (x ∷ xs) ys [] rs p q = absurd p
 spelled_append (x ∷ xs) ys (s ∷ ss) rs p q = (p.0, spelled_append xs ys ss rs p.1 q)
 
 -- each stream of a unit spells the tree at its place
-streams_read : (u : UnitTexts) (trees : UnitTrees) → AreRead u trees → SpellsStreams (trees.definitions ++ trees.main) (streams_of u)
-streams_read u trees read =
+pub streams_spelled : (u : UnitTexts) (trees : UnitTrees) → AreRead u trees → SpellsStreams (trees.definitions ++ trees.main) (streams_of u)
+streams_spelled u trees read =
     spelled_append trees.definitions trees.main (definition_streams 1 u.list u.order) (main_streams (main_number u) (main_tokens u))
     (definitions_read u 1 u.order trees.definitions read.definitions) (trees_agree (main_number u) (main_tokens u) trees.main read.main)
 
@@ -100,7 +97,7 @@ rows_fit u tables is =
     let counted : map length tables ≡ rows_of_scopes (is.trees.definitions ++ is.trees.main) = ap (map length) is.rows ∙ unit_counted u is.trees is.read in
     fit_each tables (sizes_of (streams_of u))
     (subst (λ ns. AllZip (λ n room. n ≤ room) ns (sizes_of (streams_of u))) (sym counted)
-    (scope_rows (is.trees.definitions ++ is.trees.main) (streams_of u) (streams_read u is.trees is.read)))
+    (scope_rows (is.trees.definitions ++ is.trees.main) (streams_of u) (streams_spelled u is.trees is.read)))
 
 -- beside scope 0 there is one for each stream
 pub scopes_counted : (u : UnitTexts) (tables : List (List Row)) → IsFinished u tables → length tables ≡ length (streams_of u) + 1

@@ -2,7 +2,7 @@
 use Rattle.std.proofs.Common.{◌≡◌, ℕ, List, [], ◌∷◌, ◌++◌, refl, sym, ap, ◌∙◌, subst, append_assoc, inl, inr, Option, Some, None}
 use Rattle.ll_grammar.specs.Grammar.{Rule, then, Grammar}
 use Rattle.ll_grammar.specs.Derivations.{Tree, both, tokens, Derives, of_then, over, first_of}
-use Rattle.ll_grammar.specs.Sentences.{Fault, Syntax, TooDeep, Begins, Kept, Beginning, Refusal, OnlyDeeper, Faulty}
+use Rattle.ll_grammar.specs.Sentences.{Fault, Syntax, TooDeep, Begins, Kept, Refusal, Faulty}
 
 -- these right sides, and e behind them
 abbrev pub chain : List Rule → Rule → Rule

@@ -1,5 +1,5 @@
 -- A block has no more rows than tokens.
-use Rattle.std.proofs.Common.{◌≡◌, ℕ, zero, suc, Bool, List, [], ◌∷◌, ◌++◌, refl, ap, sym, ◌∙◌, subst, length, length-append, ◌≤◌, ◌+◌, arith, map, flat_map, Option, Some, None}
+use Rattle.std.proofs.Common.{◌≡◌, ℕ, List, [], ◌∷◌, ◌++◌, refl, ap, length, length-append, ◌≤◌, ◌+◌, arith, map, flat_map, Option}
 use Rattle.std.proofs.lemmas.List.{length-map}
 use Rattle.std.specs.List.{AllZip}
 use Rattle.m2_base.proofs.LayoutLaws.{block_shaped, AreShaped-length}
@@ -12,19 +12,18 @@ use Rattle.m2_base.specs.Grammar.{grammar, levels, a, section, parameters, headi
 use Rattle.m2_base.specs.Grammar as rules
 use Rattle.m2_base.specs.Rows.{var_kind, param_kind, proc_kind, proc_type_kind, type_name_kind}
 use Rattle.m2_base.specs.declared.rows.Row.{Row}
-use Rattle.m2_base.specs.Standard.{standard_rows}
 use Rattle.m2_base.specs.Statics.BlockRows.{declare_block}
 use Rattle.m2_base.specs.Statics.Blocks.{BlockTree}
 use Rattle.m2_base.specs.Statics.Contexts.{Source}
-use Rattle.m2_base.specs.Statics.Items.{Item, heading_item, proc_item, import_item, import_items, heading_items, decl_item, items_of}
+use Rattle.m2_base.specs.Statics.Items.{Item, proc_item, import_item, import_items, decl_item, items_of}
 use Rattle.m2_base.specs.Statics.Layouts.{firsts_from}
 use Rattle.m2_base.specs.Statics.Shapes.{Shape, nameless, named, open_shapes, own_section_shapes, section_shapes, item_shapes, type_shapes}
 use Rattle.m2_base.specs.StreamsOf as trees
 use Rattle.m2_base.specs.declared.trees.Ident.{Ident}
-use Rattle.m2_base.specs.Trees.{Section, Heading, Import, Decl, Stream}
-use Rattle.m2_base.specs.TypesOf.{is_there, type_of}
-use Rattle.ll_grammar.specs.Derivations.{Tree, leaf, both, left, right, last, more, tokens, Derives, of_empty, of_token, of_then, of_left, of_right, of_last, of_more}
-use Rattle.ll_grammar.specs.Grammar.{Rule, many, optional, ◌⨾◌}
+use Rattle.m2_base.specs.Trees.{Section, Decl, Stream}
+use Rattle.m2_base.specs.TypesOf.{type_of}
+use Rattle.ll_grammar.specs.Derivations.{Tree, both, tokens, Derives, of_empty, of_token, of_then, of_left, of_right, of_last, of_more}
+use Rattle.ll_grammar.specs.Grammar.{many, optional, ◌⨾◌}
 use Rattle.stream_split.specs.Agreement.{SpellsStream, SpellsStreams}
 use Rattle.stream_split.specs.Rooms.{last_of, rows_of, rows_of_scopes}
 use Rattle.stream_split.specs.Sizes.{sizes_of}
@@ -55,6 +54,10 @@ firsts_last o (x ∷ xs) = let i = firsts_last (o + length (item_shapes x)) xs i
 
 rows_are : (tree : Stream) → rows_of tree ≡ count (items_of tree)
 rows_are tree = let i = firsts_last 0 (items_of tree) in omega (arith, i)
+
+-- as many as its items' shapes
+pub rows_are_shapes : (tree : Stream) → rows_of tree ≡ length (flat_map item_shapes (items_of tree))
+rows_are_shapes tree = let i = rows_are tree in let j = count_is (items_of tree) in omega (arith, i, j)
 
 -- ** Headings
 

@@ -1,5 +1,5 @@
 -- The cut of one list behind another.
-use Rattle.std.proofs.Common.{◌≡◌, ℕ, List, [], ◌∷◌, ◌++◌, refl, sym, ap, ◌∙◌, append_assoc}
+use Rattle.std.proofs.Common.{◌≡◌, List, [], ◌∷◌, ◌++◌, refl, sym, ap, ◌∙◌, append_assoc}
 use Rattle.m2_base.specs.declared.token.Token.{Token}
 use Rattle.stream_split.specs.Cut.{State, next, goes, events, after, opens_by, opened, sort}
 

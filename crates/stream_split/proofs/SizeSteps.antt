@@ -1,5 +1,5 @@
 -- The sizes of streams, one after another.
-use Rattle.std.proofs.Common.{◌≡◌, ℕ, suc, List, [], ◌∷◌, ◌++◌, refl, ap, sym, ◌∙◌, length, ◌<◌, ◌+◌, arith, get_or, take, map}
+use Rattle.std.proofs.Common.{◌≡◌, ℕ, suc, List, [], ◌∷◌, ◌++◌, ap, sym, ◌∙◌, length, ◌<◌, ◌+◌, arith, get_or, take, map}
 use Rattle.std.proofs.Math.Seq.{take-suc}
 use Rattle.stream_split.specs.declared.streams.StreamTokens.{StreamTokens}
 use Rattle.stream_split.specs.Sizes.{sizes_of}

@@ -1,22 +1,15 @@
 -- The streams of a sentence of the unsplit text are sentences, and their trees are its parts.
-use Rattle.std.proofs.Common.{◌≡◌, ℕ, zero, suc, Bool, true, false, List, [], ◌∷◌, ◌++◌, refl, sym, ap, ◌∙◌, subst, ◌&&◌, ◌||◌, not, true≢false, append_assoc, ◌⊎◌, inl, inr, ⊎_elim, ◌==◌, eqb-true, cond, map, length, ◌<◌, ◌≤◌, ◌+◌, arith, All, Option, Some, None}
+use Rattle.std.proofs.Common.{◌≡◌, ℕ, zero, suc, Bool, true, false, List, [], ◌∷◌, ◌++◌, refl, sym, ap, ◌∙◌, subst, append_assoc, ◌==◌, eqb-true, map, length, ◌<◌, ◌≤◌, ◌+◌, arith, All}
 use Rattle.std.proofs.lemmas.List.{append-nil}
-use Rattle.std.proofs.lemmas.List.Elements.{All-head, All-tail, All-append, All-nil, All-cons}
+use Rattle.std.proofs.lemmas.List.Elements.{All-append, All-nil, All-cons}
 use Rattle.std.proofs.lemmas.Grind.{common_steps}
-use Rattle.m2_base.specs.declared.kind.TokenKind.{TokenKind}
-use Rattle.m2_base.specs.declared.kind.TokenKind.TheVariants as kinds
 use Rattle.m2_base.specs.declared.token.Token.{Token}
-use Rattle.m2_base.specs.Grammar.{number_of_token}
-use Rattle.m2_base.specs.KindNumbers.{kind_number, all_kinds, sample}
-use Rattle.ll_grammar.specs.Grammar.{Rule, empty, token, then, or, many, deep, sub, Grammar, one}
-use Rattle.ll_grammar.specs.Derivations.{Tree, nothing, leaf, both, left, right, last, more, inner, part, tokens, Derives, of_empty, of_token, of_then, of_left, of_right, of_last, of_more, of_deep, of_sub, over, first_of}
+use Rattle.m2_base.specs.KindNumbers.{kind_number}
+use Rattle.ll_grammar.specs.Grammar.{Rule, Grammar, one}
+use Rattle.ll_grammar.specs.Derivations.{Tree, leaf, both, tokens, Derives, of_empty, of_token, of_then, of_left, of_right, of_last, of_more, of_deep, of_sub}
 use Rattle.ll_grammar.specs.LookAhead.{member}
-use Rattle.stream_split.specs.declared.sorts.Sort.{Sort}
-use Rattle.stream_split.specs.declared.sorts.Sort.TheVariants.{Stop, Word, Procedure, Opener, Closer, Left, Right, Semicolon, Other}
-use Rattle.stream_split.specs.declared.cutter.Mode.{Mode}
-use Rattle.stream_split.specs.declared.cutter.Mode.TheVariants.{Free, Body}
-use Rattle.stream_split.specs.Cut.{State, state, Event, to, cut_at, end_at, pick}
-use Rattle.stream_split.proofs.Flow.{Cuttable, head, block, whole, grammar_of, procedure_rule}
+use Rattle.stream_split.specs.Cut.{Event, to, cut_at, end_at, pick}
+use Rattle.stream_split.proofs.Flow.{Cuttable, head, block, grammar_of, procedure_rule}
 use Rattle.stream_split.proofs.Parts.{stream_rule, streams_after, own, parts, sends, spread}
 use Rattle.stream_split.proofs.Picks.{to_append, pick_append, pick_own, pick_other}
 

@@ -1,15 +1,15 @@
 -- The trees of a main text's streams are those of its blocks.
-use Rattle.std.proofs.Common.{◌≡◌, ℕ, suc, true, List, [], ◌∷◌, ◌++◌, refl, sym, ap, ◌∙◌, map, true≢false, ◌&&◌}
+use Rattle.std.proofs.Common.{◌≡◌, ℕ, suc, true, List, [], ◌∷◌, ◌++◌, refl, sym, ap, ◌∙◌, map, true≢false}
 use Rattle.std.proofs.lemmas.List.{append-nil}
 use Rattle.m2_base.specs.declared.token.Token.{Token}
 use Rattle.m2_base.specs.ExpressionsOf.{ident_of}
 use Rattle.m2_base.specs.Grammar.{main, declaration, block as block_rule}
-use Rattle.m2_base.specs.StreamsOf.{Block, declaration_of, declarations_of, block_of, body_of, heading_of, imports_of, main_of, main_tree, procedure_tree, procedure_stream_of}
-use Rattle.m2_base.specs.Trees.{Decl, Stream}
+use Rattle.m2_base.specs.StreamsOf.{declaration_of, declarations_of, block_of, body_of, heading_of, imports_of, main_of, main_tree, procedure_tree, procedure_stream_of}
+use Rattle.m2_base.specs.Trees.{Stream}
 use Rattle.m2_base.specs.TypesOf.{is_there}
 use Rattle.m2_base.specs.WholeTexts.{blocks_after, declaration_from, declarations_from, block_from, procedures_from, main_blocks}
-use Rattle.ll_grammar.specs.Grammar.{Rule, many, sub, then, Grammar}
-use Rattle.ll_grammar.specs.Derivations.{Tree, nothing, leaf, both, left, right, last, more, inner, part, tokens, Derives, of_empty, of_token, of_then, of_left, of_right, of_last, of_more, of_deep, of_sub}
+use Rattle.ll_grammar.specs.Grammar.{Rule, many, sub, Grammar}
+use Rattle.ll_grammar.specs.Derivations.{Tree, leaf, both, left, right, more, Derives, of_empty, of_token, of_then, of_left, of_right, of_last, of_more, of_deep, of_sub}
 use Rattle.ll_grammar.proofs.KindSets.{and_l, and_r}
 use Rattle.stream_split.specs.Cut.{end_at}
 use Rattle.stream_split.proofs.Checked.{cuttable}

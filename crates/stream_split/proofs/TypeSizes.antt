@@ -1,18 +1,18 @@
 -- A type expression has no more rows than tokens.
-use Rattle.std.proofs.Common.{◌≡◌, ℕ, zero, suc, Bool, List, [], ◌∷◌, ◌++◌, refl, ap, length, length-append, ◌≤◌, ◌+◌, arith, map, flat_map}
+use Rattle.std.proofs.Common.{◌≡◌, ℕ, List, [], ◌∷◌, ◌++◌, refl, length, length-append, ◌≤◌, ◌+◌, arith, map, flat_map}
 use Rattle.std.proofs.lemmas.List.{length-map}
-use Rattle.m2_base.specs.declared.kind.TokenKind.TheVariants.{Array, Comma, Of, Semicolon, Bar}
+use Rattle.m2_base.specs.declared.kind.TokenKind.TheVariants.{Comma, Semicolon, Bar}
 use Rattle.m2_base.specs.declared.token.Token.{Token}
-use Rattle.m2_base.specs.ExpressionsOf.{ident_of, idents_of, more_idents_of, qual_of, labels_of}
+use Rattle.m2_base.specs.ExpressionsOf.{idents_of, more_idents_of, qual_of}
 use Rattle.m2_base.specs.Grammar.{grammar, a, ident, idents, qual, open_array, formal, formals, simple, type_rule, fields, field_list, one_field, field_list_rule, variant, other_fields}
-use Rattle.m2_base.specs.Rows.{const_kind, param_kind, array_kind, record_kind, set_kind, pointer_kind, field_kind, proc_type_kind}
+use Rattle.m2_base.specs.Rows.{const_kind, param_kind, record_kind, set_kind, pointer_kind, field_kind, proc_type_kind}
 use Rattle.m2_base.specs.Statics.Shapes.{nameless, named, open_shapes, formal_shapes, tag_shapes, array_shapes, type_shapes, form_shapes, types_shapes, fields_shapes, field_shapes, arms_shapes, arm_shapes}
 use Rattle.m2_base.specs.declared.trees.Ident.{Ident}
 use Rattle.m2_base.specs.declared.trees.Qual.{Qual}
 use Rattle.m2_base.specs.Trees.{FieldList, VariantArm, type_exprs, field_lists, variant_arms}
-use Rattle.m2_base.specs.TypesOf.{is_there, simple_of, simples_of, more_simples_of, formal_of, formal_list_of, some_formals_of, more_formals_of, formals_of, type_of, type_rule_of, fields_of, more_fields_of, optional_field_of, field_of, field_rule_of, tag_of, variants_of, more_variants_of, variant_of, other_fields_of}
+use Rattle.m2_base.specs.TypesOf.{is_there, simple_of, simples_of, more_simples_of, formal_of, formal_list_of, more_formals_of, formals_of, type_of, type_rule_of, fields_of, more_fields_of, optional_field_of, field_rule_of, tag_of, variants_of, more_variants_of, variant_of, other_fields_of}
 use Rattle.ll_grammar.specs.Derivations.{Tree, nothing, leaf, both, left, right, last, more, inner, part, tokens, Derives, of_empty, of_token, of_then, of_left, of_right, of_last, of_more, of_deep}
-use Rattle.ll_grammar.specs.Grammar.{Rule, many, optional, ◌⨾◌}
+use Rattle.ll_grammar.specs.Grammar.{many, optional, ◌⨾◌}
 use Rattle.m2_base.specs.Grammar as rules
 
 -- how many tokens a derivation spells

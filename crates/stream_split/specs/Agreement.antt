@@ -3,7 +3,6 @@ use Rattle.std.specs.Prelude.{◌≡◌, ℕ, ◌<◌, List, ◌⊎◌}
 use Rattle.std.specs.List.{AllZip}
 use Rattle.m2_base.specs.declared.outputs.StreamFault.{StreamFault}
 use Rattle.m2_base.specs.declared.outputs.StreamFault.TheVariants.{Syntax, TooDeep}
-use Rattle.m2_base.specs.declared.token.Token.{Token}
 use Rattle.m2_base.specs.FaultsOf.{fault_in}
 use Rattle.m2_base.specs.Grammar.{grammar, levels, stream}
 use Rattle.m2_base.specs.Lists.{IsIn, Each}

@@ -3,7 +3,7 @@
 use Rattle.std.specs.Prelude.{ℕ, zero, suc, List, [], ◌∷◌, slice_get, Option, Some, None}
 use Rattle.m2_base.specs.declared.sites.Around.{Around}
 use Rattle.m2_base.specs.declared.trees.declarations.StreamKind.{StreamKind}
-use Rattle.m2_base.specs.declared.trees.declarations.StreamKind.TheVariants.{Main, Definition, Procedure}
+use Rattle.m2_base.specs.declared.trees.declarations.StreamKind.TheVariants.{Definition}
 pub use Rattle.m2_base.specs.Finished.{own_scope, scope_in}
 use Rattle.m2_base.specs.Statics.Blocks.{with_own}
 use Rattle.m2_base.specs.Statics.Contexts.{Block}

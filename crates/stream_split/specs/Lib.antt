@@ -1,7 +1,9 @@
 pub mod Agreement
 pub mod Chains
 pub mod Cut
+pub mod Fronts
 pub mod Limits
+pub mod Procedures
 pub mod Rooms
 pub mod Sizes
 pub mod Streams

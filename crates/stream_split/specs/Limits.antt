@@ -7,7 +7,7 @@ use Rattle.stream_split.specs.declared.streams.SplitFault.TheVariants.{TooManySt
 use Rattle.stream_split.specs.declared.cutter.Mode.{Mode}
 use Rattle.stream_split.specs.declared.sorts.Sort.{Sort}
 use Rattle.stream_split.specs.declared.sorts.Sort.TheVariants.{Word}
-use Rattle.stream_split.specs.Cut.{State, state, Phase, seen, sort, next, opens_by}
+use Rattle.stream_split.specs.Cut.{State, state, seen, sort, next, opens_by}
 
 -- the fault tells of the limit that is passed; want of memory tells of none
 abbrev pub Tells : SplitFault → Option BlockLimit → Type 0

@@ -1,6 +1,6 @@
 -- The streams of a unit: those of the definition modules in dependency order, which are whole texts, that of the main
 -- module, and those of the procedures in the order of their PROCEDURE tokens. Scope 0 has no stream.
-use Rattle.std.specs.Prelude.{ℕ, zero, suc, List, [], ◌∷◌, ◌++◌, slice_get}
+use Rattle.std.specs.Prelude.{ℕ, suc, List, [], ◌∷◌, ◌++◌, slice_get}
 use Rattle.m2_base.specs.declared.token.Token.{Token}
 use Rattle.m2_base.specs.declared.trees.declarations.StreamKind.{StreamKind}
 use Rattle.m2_base.specs.declared.trees.declarations.StreamKind.TheVariants.{Main, Definition, Procedure}

@@ -1,6 +1,5 @@
 -- How the code's types show what the definitions speak of.
 use Rattle.std.specs.Prelude.{◌≡◌, ℕ, zero, suc, ◌+◌, ◌<◌, List, [], ◌∷◌, ◌++◌, map, length}
-use Rattle.std.specs.Global.{Vec}
 use Rattle.std.specs.List.{All}
 use Rattle.m2_base.specs.declared.token.Token.{Token}
 use Rattle.stream_split.specs.declared.cutter.Cutter.{Cutter}

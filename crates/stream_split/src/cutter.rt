@@ -10,14 +10,8 @@ ghost use Rattle.stream_split.specs.Views.{stream_view, label, Sent, frames_view
 
 use crate::sorts::{Sort, sort_of};
 use crate::streams::{SplitFault, StreamTokens};
-use m2_base::{StreamKind, Token, TokenKind};
+use m2_base::{DEEPEST_LEVEL, MOST_PROCEDURES, StreamKind, Token, TokenKind};
 use std::alloc::{AllocError, Global};
-
-/// A main text has at most so many procedures.
-const MOST_PROCEDURES: usize = 16_384;
-
-/// A procedure has at most this level.
-const DEEPEST_LEVEL: usize = 16;
 
 /// What encloses a token in its own stream.
 #[derive(Clone, Copy, Debug, PartialEq, Eq)]

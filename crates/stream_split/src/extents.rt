@@ -5,11 +5,8 @@ ghost use Rattle.stream_split.specs.Sizes.{sizes_of};
 ghost use Rattle.stream_split.specs.Views.{stream_view};
 
 use crate::streams::StreamTokens;
-use m2_base::Memory;
+use m2_base::{Memory, STANDARD_ROWS};
 use std::alloc::Global;
-
-/// How many rows scope 0 has.
-const STANDARD_ROWS: u32 = 37;
 
 /// How many rows each scope has at most: scope 0 exactly 37, and a block as many as its stream has tokens.
 pub fn sizes(alloc: Global, streams: &[StreamTokens]) -> Result<Vec<u32>, Memory>
@@ -17,7 +14,7 @@ pub fn sizes(alloc: Global, streams: &[StreamTokens]) -> Result<Vec<u32>, Memory
     ensures sizes { IfOk result (λ out. out.items ≡ sizes_of (map stream_view streams.now)) }
 {
     let mut sizes = Vec::new(alloc);
-    sizes.push(STANDARD_ROWS)?;
+    sizes.push(STANDARD_ROWS as u32)?;
     for stream in streams {
         sizes.push(stream.tokens.len() as u32)?;
     }

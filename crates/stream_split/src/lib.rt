@@ -16,7 +16,10 @@ mod streams;
 mod surroundings;
 
 pub use extents::sizes;
-pub use laws::{blocks_are_those_of_the_streams, rows_have_room, streams_agree_with_the_text};
+pub use laws::{
+    blocks_are_those_of_the_streams, definition_streams_agree_with_the_text, rows_have_room,
+    streams_agree_with_the_text, streams_have_their_places, trees_of_streams_are_read,
+};
 pub use splitting::cut;
 pub use streams::{SplitFault, StreamTokens};
 pub use surroundings::around;

@@ -58,6 +58,7 @@ fn with_main(
     requires { map stream_view streams.items ≡ definition_streams 1 texts.now.list texts.now.order }
     ensures streams { IfOk result (λ out. map stream_view out.items ≡ streams_of texts.now) }
     ensures short { IfOk result (λ out. All (λ s. length s.tokens.items < 2 ^ 30) out.items) }
+    ensures few { IfOk result (λ out. length out.items < 2 ^ 31) }
     ensures limits { Within (limit_of (main_tokens texts.now)) result }
 {
     let mut all = streams;
@@ -75,10 +76,12 @@ fn with_main(
 
 /// The streams of a unit: those of the definition modules in dependency order, of the main module, and of its procedures in
 /// the order of their PROCEDURE tokens. The first has the number 1. There are none where the main text has too many
-/// procedures, or one that is nested too deep. Each stream is short enough for `sizes`.
+/// procedures, or one that is nested too deep. Each stream is short enough for `sizes`, and there are
+/// fewer than numbers of 31 bits.
 pub fn cut(alloc: Global, texts: &Texts) -> Result<Vec<StreamTokens>, SplitFault>
     ensures streams { IfOk result (λ out. map stream_view out.items ≡ streams_of texts.now) }
     ensures short { IfOk result (λ out. All (λ s. length s.tokens.items < 2 ^ 30) out.items) }
+    ensures few { IfOk result (λ out. length out.items < 2 ^ 31) }
     ensures limits { Within (limit_of (main_tokens texts.now)) result }
 {
     match definition_texts(alloc, texts) {

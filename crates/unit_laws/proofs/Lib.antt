@@ -1,10 +1,7 @@
-pub mod Counting
-pub mod TextTokens
-pub mod StreamTokens
+pub mod StreamStatements
 pub mod SpelledTrees
 pub mod SoundUnits
+pub mod ImportedBlocks
 pub mod ExpressionTokens
 pub mod StatementTokens
 pub mod ShortBlocks
-pub mod TextFronts
-pub mod ImportScopes

@@ -19,10 +19,10 @@ use Rattle.m2_base.specs.declared.kind.TokenKind.TheVariants.{Semicolon}
 use Rattle.m2_base.specs.declared.token.Token.{Token}
 use Rattle.stmt_sem.specs.Lengths.{most_tokens}
 use Rattle.stmt_sem.specs.Tokens.{block_tokens, statements_tokens}
+use Rattle.stream_split.proofs.Lengths.{text_short}
 use Rattle.stream_split.proofs.TypeSizes.{idents_size, size, size_is}
 use Rattle.unit_laws.proofs.SpelledTrees.{blocks_have}
 use Rattle.unit_laws.proofs.StatementTokens.{body_few}
-use Rattle.unit_laws.proofs.TextTokens.{text_short}
 
 -- ** Headings
 

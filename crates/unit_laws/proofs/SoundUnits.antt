@@ -7,7 +7,8 @@ use Rattle.std.proofs.lemmas.List.Quantifiers.{position-Some}
 use Rattle.m2_base.proofs.ChainLaws.{each_then}
 use Rattle.m2_base.proofs.LayoutLaws.{AreShaped-length, block_shaped}
 use Rattle.m2_base.proofs.ReadSound.{item_sound}
-use Rattle.m2_base.specs.Finished.{AreRead, own_scope, scope_in}
+use Rattle.m2_base.proofs.SoundNames.{names_sound}
+use Rattle.m2_base.specs.Finished.{AreRead, own_scope, scope_in, source_of}
 use Rattle.m2_base.specs.Lists.{Each, WhereKept}
 use Rattle.m2_base.specs.Names.{standard_names}
 use Rattle.m2_base.specs.Statics.Blocks.{BlockTree, UnitTrees, blocks_of, home_of}
@@ -31,36 +32,11 @@ use Rattle.stream_split.specs.Streams.{StreamOf, definition_streams, main_number
 use Rattle.stream_split.proofs.BlocksAgree.{blocks_agree}
 use Rattle.stream_split.proofs.Lengths.{IsShort, unit_short}
 use Rattle.stream_split.proofs.ReadUnits.{trees_read}
-use Rattle.stream_split.proofs.RowCounts.{finished_rows, stream_rows}
+use Rattle.stream_split.proofs.RowCounts.{rows_are_shapes, stream_rows}
+use Rattle.stream_split.proofs.StreamCounts.{AreFrom, streams_few, streams_from}
 use Rattle.unit_laws.proofs.SpelledTrees.{blocks_spelled, items_read}
-use Rattle.unit_laws.proofs.StreamTokens.{definitions_count, streams_few}
 
 -- ** Scopes
-
--- the streams have these numbers from n on
-abbrev AreFrom : ℕ → List StreamOf → Type 0
-AreFrom n [] = Unit {0}
-AreFrom n (s ∷ streams) = (s.stream ≡ n) × AreFrom (n + 1) streams
-
-from_append : (n m : ℕ) (xs ys : List StreamOf) → m ≡ n + length xs → AreFrom n xs → AreFrom m ys → AreFrom n (xs ++ ys)
-from_append n m [] ys e h k = let same : m ≡ n = omega (arith, e) in subst (λ (i : ℕ). AreFrom i ys) same k
-from_append n m (x ∷ xs) ys e h k = (h.0, from_append (n + 1) m xs ys (omega (arith, e)) h.1 k)
-
-definitions_from : (n j : ℕ) → j ≡ n → (texts : List TextOf) (order : List ℕ) → AreFrom n (definition_streams j texts order)
-definitions_from n j e texts [] = tt
-definitions_from n j e texts (k ∷ order) = (e, definitions_from (n + 1) (suc j) (omega (arith, e)) texts order)
-
-procedures_from : (n j : ℕ) → j ≡ n → (ps : List Enclosed) (es : List Event) → AreFrom n (procedure_streams j ps es)
-procedures_from n j e [] es = tt
-procedures_from n j e (p ∷ ps) es = (e, procedures_from (n + 1) (suc j) (omega (arith, e)) ps es)
-
-streams_from : (u : UnitTexts) → AreFrom 1 (streams_of u)
-streams_from u =
-    let m = main_number u in
-    let ts = main_tokens u in
-    let count = definitions_count 1 u.list u.order in
-    from_append 1 m (definition_streams 1 u.list u.order) (main_streams m ts) (omega (arith, count)) (definitions_from 1 1 refl u.list u.order)
-    (refl, procedures_from (m + 1) (suc m) (omega arith) (opened (start m) ts) (events (start m) ts))
 
 scope_by : (kind : StreamKind) (home : ℕ) (own : Option ℕ) (all : List StreamOf) (s : StreamOf) → (block_by kind home own all s).scope ≡ s.stream
 scope_by Main home own all s = refl
@@ -99,10 +75,7 @@ module _ (texts : UnitTexts) (u : UnitTrees) (unit : IsUnit texts) (read : AreRe
       (few_from (streams_of texts) (unit_short texts unit))
 
   shapes_few : (b : BlockTree) → rows_of b.tree < 2 ^ 30 → length (flat_map item_shapes (items_of b.tree)) < 2 ^ 31
-  shapes_few b h =
-      let rows = finished_rows u.source [] b in
-      let shaped = AreShaped-length (block_shaped u.source [] b) in
-      omega (arith, h, rows, shaped)
+  shapes_few b h = let shapes = rows_are_shapes b.tree in omega (arith, h, shapes)
 
   three : {A : Type 0} (P Q R S : A → Type 0) (xs : List A) → ((x : A) → P x → Q x → R x → S x) → Each P xs → Each Q xs → Each R xs → Each S xs
   three P Q R S [] f p q r = tt
@@ -153,14 +126,14 @@ module _ (texts : UnitTexts) (u : UnitTrees) (unit : IsUnit texts) (read : AreRe
       let few = streams_few texts unit in
       omega (arith, agrees, blocks, streams, few)
 
-  pub unit_sound : Each (λ b. Each (IsImportedBefore u.source b.block.scope) (items_of b.tree)) (blocks_of u) → IsSoundText u.source → IsSoundUnit texts.names u
+  pub unit_sound : Each (λ b. Each (IsImportedBefore u.source b.block.scope) (items_of b.tree)) (blocks_of u) → IsSoundUnit texts.names u
   unfolding standard_names
-  unit_sound imports text =
+  unit_sound imports =
       record {
         standard = unit.standard;
         some = let e = ap length unit.standard.joined in omega (arith, e);
         few = let c = unit.countable in omega (arith, c);
-        text = text;
+        text = subst IsSoundText (sym read.source) (names_sound (source_of texts) unit.spelled);
         scopes = scopes_are texts u read;
         blocks = blocks_sound imports;
         count = count;

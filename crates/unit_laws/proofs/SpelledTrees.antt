@@ -18,34 +18,8 @@ use Rattle.stream_split.specs.Agreement.{SpellsStream, SpellsStreams}
 use Rattle.stream_split.specs.Streams.{StreamOf, definition_stream, definition_streams, main_number, main_streams, main_tokens, streams_of}
 use Rattle.stream_split.proofs.Agree.{trees_agree}
 use Rattle.stream_split.proofs.BlocksAgree.{blocks_agree}
-use Rattle.stream_split.proofs.ReadUnits.{trees_read}
-use Rattle.unit_laws.proofs.StreamTokens.{IsReadStream, streams_read}
-
--- ** Streams
-
-definition_spelled : (u : UnitTexts) (j k : ℕ) (tree : Stream) → SpellsDefinition (tree ∷ []) (tokens_of u k) → SpellsStream tree (definition_stream j k (tokens_of u k))
-definition_spelled u j k tree h = record { sentence = h.sentence; gives = ap (λ (trees : List Stream). slice_index_or trees 0 no_stream) h.gives }
-
-definitions_spelled : (u : UnitTexts) (j : ℕ) (order : List ℕ) (trees : List Stream) → AllZip (λ k tree. SpellsDefinition (tree ∷ []) (tokens_of u k)) order trees
-    → SpellsStreams trees (definition_streams j u.list order)
-definitions_spelled u j [] [] h = tt
-definitions_spelled u j [] (tree ∷ trees) h = absurd h
-definitions_spelled u j (k ∷ order) [] h = absurd h
-definitions_spelled u j (k ∷ order) (tree ∷ trees) h = (definition_spelled u j k tree h.0, definitions_spelled u (suc j) order trees h.1)
-
-spelled_append : (xs ys : List Stream) (ss rs : List StreamOf) → SpellsStreams xs ss → SpellsStreams ys rs → SpellsStreams (xs ++ ys) (ss ++ rs)
-spelled_append [] ys [] rs p q = q
-spelled_append [] ys (s ∷ ss) rs p q = absurd p
-spelled_append (x ∷ xs) ys [] rs p q = absurd p
-spelled_append (x ∷ xs) ys (s ∷ ss) rs p q = (p.0, spelled_append xs ys ss rs p.1 q)
-
--- each stream of a unit spells the tree at its place
-streams_spelled : (u : UnitTexts) (trees : UnitTrees) → AreRead u trees → SpellsStreams (trees.definitions ++ trees.main) (streams_of u)
-streams_spelled u trees read =
-    spelled_append trees.definitions trees.main (definition_streams 1 u.list u.order) (main_streams (main_number u) (main_tokens u))
-    (definitions_spelled u 1 u.order trees.definitions read.definitions) (trees_agree (main_number u) (main_tokens u) trees.main read.main)
-
--- ** Blocks
+use Rattle.stream_split.proofs.ReadUnits.{streams_spelled, trees_read}
+use Rattle.stream_split.proofs.ReadTokens.{IsReadStream, streams_read}
 
 each_spelled : (P : Stream → Type 0) (Q : StreamOf → Type 0) → ((tree : Stream) (s : StreamOf) → SpellsStream tree s → Q s → P tree) → (trees : List Stream) (streams : List StreamOf)
     → SpellsStreams trees streams → Each Q streams → Each P trees

@@ -1,5 +1,5 @@
 //! Laws on the trees of a unit's texts, each the contract of a function that does nothing.
-ghost use Rattle.std.specs.Prelude.{◌≡◌, ◌-◌, ◌≤◌, [], ◌∷◌};
+ghost use Rattle.std.specs.Prelude.{◌≡◌, ◌-◌, ◌≤◌, ℕ, Some, [], ◌∷◌, slice_get};
 ghost use Rattle.block_laws.specs.Named.{procedure_of};
 ghost use Rattle.block_laws.specs.ReadStatements.{AreReadStatements};
 ghost use Rattle.block_laws.specs.Worlds.{unit_world};
@@ -8,27 +8,37 @@ ghost use Rattle.m2_base.specs.Finished.{AreRead};
 ghost use Rattle.m2_base.specs.Lists.{Each};
 ghost use Rattle.m2_base.specs.Standard.{standard_rows};
 ghost use Rattle.m2_base.specs.Statics.Blocks.{UnitTrees, blocks_of, home_of};
-ghost use Rattle.m2_base.specs.Statics.FormedRows.{IsImportedBefore, IsSoundText};
+ghost use Rattle.m2_base.specs.Statics.FormedRows.{IsImportedBefore};
 ghost use Rattle.m2_base.specs.Statics.Items.{items_of};
 ghost use Rattle.m2_base.specs.Statics.ReadTrees.{IsReadItem};
 ghost use Rattle.m2_base.specs.Statics.UnitRows.{unit_rows};
+ghost use Rattle.m2_base.specs.Trees.{Stream};
 ghost use Rattle.m2_base.specs.Units.{Front, IsUnit, IsWholeBy, TextOf, UnitTexts};
 ghost use Rattle.row_laws.specs.RowRanges.{EachBlock, IsSoundUnit};
 ghost use Rattle.stmt_sem.specs.BlockCode.{block_code, block_diags};
 ghost use Rattle.stmt_sem.specs.Lengths.{most_tokens};
-ghost use Rattle.unit_laws.specs.Imports.{AreFronts, ImportsOthers};
+ghost use Rattle.stmt_sem.specs.ReadStatements.{AreReadStatements as AreReadBodies};
+ghost use Rattle.stream_split.specs.Agreement.{SpellsStream};
+ghost use Rattle.stream_split.specs.Fronts.{AreFronts};
+ghost use Rattle.stream_split.specs.Streams.{StreamOf, streams_of};
 ghost use Rattle.stmt_sem.specs.Tokens.{block_tokens};
 
-/// Each module that a block imports has a scope before the block's: where nothing is left out of the unit by the fronts of its
-/// texts, these are what the grammar tells, and no definition text imports its own module.
+/// Each module that a block imports, and each from which it imports names, has a scope before the block's: where nothing is left out
+/// of the unit by the fronts of its texts, and these are what the grammar tells.
 pub fn imports_come_before()
-    ensures { (texts : UnitTexts) (u : UnitTrees) (front : TextOf → Front) → IsUnit texts → AreRead texts u → AreFronts front texts → IsWholeBy front texts → ImportsOthers front texts → Each (λ b. Each (IsImportedBefore u.source b.block.scope) (items_of b.tree)) (blocks_of u) }
+    ensures { (texts : UnitTexts) (u : UnitTrees) (front : TextOf → Front) → IsUnit texts → AreRead texts u → AreFronts front texts → IsWholeBy front texts → Each (λ b. Each (IsImportedBefore u.source b.block.scope) (items_of b.tree)) (blocks_of u) }
 {}
 
-/// The trees of a unit's texts are sound: where the names are short and of bytes, and each module that is imported has a scope
-/// before the block's.
+/// The statements of every tree that a stream of a unit spells are as read, whatever the other texts and streams are: as
+/// stmt_sem's functions ask, and as the laws on blocks do.
+pub fn statements_of_streams_are_read()
+    ensures asked { (texts : UnitTexts) (k : ℕ) (s : StreamOf) (tree : Stream) → IsUnit texts → slice_get (streams_of texts) k ≡ Some s → SpellsStream tree s → AreReadBodies texts.names tree.body }
+    ensures told { (texts : UnitTexts) (k : ℕ) (s : StreamOf) (tree : Stream) → IsUnit texts → slice_get (streams_of texts) k ≡ Some s → SpellsStream tree s → AreReadStatements texts.names tree.body }
+{}
+
+/// The trees of a unit's texts are sound, where each module that is imported has a scope before the block's.
 pub fn units_are_sound()
-    ensures { (texts : UnitTexts) (u : UnitTrees) → IsUnit texts → AreRead texts u → Each (λ b. Each (IsImportedBefore u.source b.block.scope) (items_of b.tree)) (blocks_of u) → IsSoundText u.source → IsSoundUnit texts.names u }
+    ensures { (texts : UnitTexts) (u : UnitTrees) → IsUnit texts → AreRead texts u → Each (λ b. Each (IsImportedBefore u.source b.block.scope) (items_of b.tree)) (blocks_of u) → IsSoundUnit texts.names u }
 {}
 
 /// The items and the statements of each block of a unit's texts are as read.
@@ -43,10 +53,9 @@ pub fn blocks_are_short()
 {}
 
 /// The code of each block of a unit's main text, the module's and each procedure's, is valid among the unit's cells, imports and
-/// procedures, where no block of the unit has a diagnostic, the names are short and of bytes, and each module that is imported has a
-/// scope before the block's.
+/// procedures, where no block of the unit has a diagnostic, and each module that is imported has a scope before the block's.
 pub fn unit_code_is_valid()
-    ensures { (texts : UnitTexts) (u : UnitTrees) → IsUnit texts → AreRead texts u → Each (λ b. Each (IsImportedBefore u.source b.block.scope) (items_of b.tree)) (blocks_of u) → IsSoundText u.source
+    ensures { (texts : UnitTexts) (u : UnitTrees) → IsUnit texts → AreRead texts u → Each (λ b. Each (IsImportedBefore u.source b.block.scope) (items_of b.tree)) (blocks_of u)
         → EachBlock (λ before b. block_diags u.source before (unit_rows u) b ≡ []) u.source (standard_rows ∷ []) (blocks_of u)
         → EachBlock (λ before b. home_of u ≤ b.block.scope → IsValidCode (unit_world u) (b.block.scope - home_of u) (procedure_of (block_code u.source before (unit_rows u) b))) u.source (standard_rows ∷ []) (blocks_of u) }
 {}

@@ -1,4 +1,4 @@
-use Rattle.std.proofs.Common.{◌≡◌, rules, arith, ◌+◌, length}
+use Rattle.std.proofs.Common.{◌≡◌, rules, ◌+◌}
 use Rattle.stream_split.proofs.Definitions.{definitions_step}
 use Rattle.stream_split.proofs.splitting.definition_texts.Goals as goal
 

@@ -1,10 +1,10 @@
-use Rattle.std.proofs.Common.{◌≡◌, rules, ◌++◌, ◌+◌, ◌∙◌, ap, sym, subst, length, map}
+use Rattle.std.proofs.Common.{◌≡◌, rules, ◌++◌, ◌∙◌, ap, sym, subst, length}
 use Rattle.stream_split.specs.Limits.{Tells}
 use Rattle.stream_split.specs.Streams.{main_streams, main_tokens, main_number, tokens_in}
-use Rattle.stream_split.specs.Views.{stream_view}
 use Rattle.stream_split.proofs.Definitions.{joined, main_is}
 use Rattle.stream_split.proofs.Lengths.{streams_short}
 use Rattle.stream_split.proofs.LimitsAgree.{unit_limit}
+use Rattle.stream_split.proofs.StreamCounts.{cut_few}
 use Rattle.stream_split.proofs.splitting.with_main.Goals as goal
 
 pub returns-in-Ok-append-clause-streams : goal.returns-in-Ok-append-clause-streams
@@ -19,6 +19,9 @@ returns-in-Ok-append-clause-streams c =
 
 pub returns-in-Ok-append-clause-short : goal.returns-in-Ok-append-clause-short
 returns-in-Ok-append-clause-short c = streams_short c.args.texts.now c.main.ensures.unit c.append.new.self.items (returns-in-Ok-append-clause-streams c)
+
+pub returns-in-Ok-append-clause-few : goal.returns-in-Ok-append-clause-few
+returns-in-Ok-append-clause-few c = cut_few c.args.texts.now c.main.ensures.unit c.append.new.self.items (returns-in-Ok-append-clause-streams c)
 
 pub returns-in-Ok-append-clause-limits : goal.returns-in-Ok-append-clause-limits
 returns-in-Ok-append-clause-limits c =

@@ -1,4 +1,4 @@
-use Rattle.std.proofs.Common.{◌≡◌, rules, ◌+◌, arith, Some, None, ap, sym, ◌∙◌, position, ◌==◌}
+use Rattle.std.proofs.Common.{◌≡◌, rules, ◌+◌, Some, None, ap, ◌∙◌, position, ◌==◌}
 use Rattle.stream_split.proofs.Climbs.{own_is}
 use Rattle.stream_split.proofs.surroundings.own_scope.Goals as goal
 

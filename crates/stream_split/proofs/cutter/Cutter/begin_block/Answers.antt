@@ -1,4 +1,4 @@
-use Rattle.std.proofs.Common.{◌≡◌, length, rules, ◌∙◌, ap, suc, ◌+◌, arith}
+use Rattle.std.proofs.Common.{◌≡◌, length, rules, ◌∙◌, ap, suc, arith}
 use Rattle.stream_split.proofs.Items.{block_state}
 use Rattle.stream_split.proofs.cutter.Cutter.begin_block.Goals as goal
 

@@ -1,4 +1,4 @@
-use Rattle.std.proofs.Common.{◌≡◌, ◌≢◌, ◌<◌, ◌≤◌, length, rules, ◌-◌, ◌+◌, arith, sym, subst, ◌∙◌}
+use Rattle.std.proofs.Common.{◌≡◌, ◌≢◌, ◌<◌, ◌≤◌, length, rules, ◌-◌, ◌+◌, arith}
 use Rattle.stream_split.proofs.HeadingLimits.{many, deep, neither, count_is}
 use Rattle.stream_split.proofs.cutter.Cutter.begin_heading.Goals as goal
 

@@ -1,4 +1,4 @@
-use Rattle.std.proofs.Common.{◌∙◌, ap, ◌++◌, ◌∷◌, [], length, ◌+◌, refl}
+use Rattle.std.proofs.Common.{◌∙◌, ap, ◌++◌, ◌∷◌, [], length, ◌+◌}
 use Rattle.m2_base.specs.declared.trees.declarations.StreamKind.TheVariants.{Procedure}
 use Rattle.stream_split.specs.Streams.{StreamOf}
 use Rattle.stream_split.proofs.Items.{sent_open, labels_open, level_is}

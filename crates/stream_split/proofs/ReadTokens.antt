@@ -1,5 +1,5 @@
--- The tokens of a unit's streams are as read, and there are few streams.
-use Rattle.std.proofs.Common.{◌≡◌, ℕ, zero, suc, Bool, true, false, List, [], ◌∷◌, ◌++◌, refl, length, length-append, ◌<◌, ◌≤◌, ◌+◌, ◌^◌, ◌==◌, arith, cond}
+-- The tokens of a unit's streams are as read.
+use Rattle.std.proofs.Common.{ℕ, zero, suc, Bool, true, false, List, [], ◌∷◌, ◌++◌, length, ◌<◌, ◌+◌, ◌^◌, ◌==◌, arith, cond}
 use Rattle.std.specs.Prelude.{slice_get}
 use Rattle.m2_base.proofs.ChainLaws.{each_append}
 use Rattle.m2_base.specs.Lists.{Each}
@@ -10,10 +10,11 @@ use Rattle.stream_split.specs.declared.cutter.Mode.{Mode}
 use Rattle.stream_split.specs.declared.cutter.Mode.TheVariants.{Free, Body}
 use Rattle.stream_split.specs.declared.sorts.Sort.{Sort}
 use Rattle.stream_split.specs.declared.sorts.Sort.TheVariants.{Stop, Word, Procedure, Closer, Left, Right, Semicolon}
-use Rattle.stream_split.specs.Cut.{Enclosed, Event, Phase, amid, seen, heading, two_left, one_left, ended, State, state, start, next, next_by, goes, goes_by, all_end, amid_next, seen_next, out_of, unless_stop, cut_at, end_at, heading_goes, heading_next, heading_opens, opens_by, to, events, opened, pick, sort}
+use Rattle.stream_split.specs.Cut.{Enclosed, Event, Phase, amid, seen, heading, two_left, one_left, ended, State, state, start, next, next_by, goes, goes_by, all_end, amid_next, seen_next, out_of, unless_stop, cut_at, end_at, heading_goes, heading_next, to, events, opened, pick, sort}
 use Rattle.stream_split.specs.Streams.{StreamOf, definition_streams, main_number, main_streams, main_tokens, procedure_streams, streams_of, tokens_in}
-use Rattle.unit_laws.proofs.Counting.{order_few}
-use Rattle.unit_laws.proofs.TextTokens.{text_read, text_short}
+use Rattle.stream_split.proofs.Counting.{order_few}
+use Rattle.stream_split.proofs.Lengths.{text_short}
+use Rattle.stream_split.proofs.TextTokens.{text_read}
 
 module _ (names : List (List ℕ)) where
   -- a token of a stream, as read
@@ -169,43 +170,3 @@ streams_read u unit =
     let short = text_short u.names u.list unit.texts 0 in
     each_append (IsReadStream u.names) (definition_streams 1 u.list u.order) (main_streams (main_number u) (main_tokens u)) (definitions_read u.names u.list read 1 u.order)
     (main_read u.names (main_number u) (main_tokens u) (read 0) (omega (arith, few, short)))
-
--- ** How many there are
-
-heading_few : (k : ℕ) (fs : List (ℕ × Mode)) (p : ℕ) (z : Sort) → length (heading_opens k fs p z) ≤ 1
-heading_few k fs p Stop = omega arith
-heading_few k fs zero Semicolon = omega arith
-heading_few k fs (suc p) Semicolon = omega arith
-heading_few k fs p z = omega arith
-
-opens_few : (s : State) (z : Sort) → length (opens_by s z) ≤ 1
-opens_few (state k c fs (heading m p hs)) z = heading_few k fs p z
-opens_few (state k c fs p) z = omega arith
-
-opened_few : (s : State) (ts : List Token) → length (opened s ts) ≤ length ts
-opened_few s [] = omega arith
-opened_few s (t ∷ ts) =
-    let one = opens_few s (sort t.kind) in
-    let rest = opened_few (next s t) ts in
-    let both = length-append (opens_by s (sort t.kind)) (opened (next s t) ts) in
-    omega (arith, one, rest, both)
-
-procedures_count : (j : ℕ) (ps : List Enclosed) (es : List Event) → length (procedure_streams j ps es) ≡ length ps
-procedures_count j [] es = refl
-procedures_count j (p ∷ ps) es = let i = procedures_count (suc j) ps es in omega (arith, i)
-
-pub definitions_count : (j : ℕ) (texts : List TextOf) (order : List ℕ) → length (definition_streams j texts order) ≡ length order
-definitions_count j texts [] = refl
-definitions_count j texts (k ∷ order) = let i = definitions_count (suc j) texts order in omega (arith, i)
-
-pub streams_few : (u : UnitTexts) → IsUnit u → length (streams_of u) < 2 ^ 32
-streams_few u unit =
-    let m : ℕ = main_number u in
-    let ts : List Token = main_tokens u in
-    let order = order_few u unit in
-    let first = definitions_count 1 u.list u.order in
-    let behind = procedures_count (suc m) (opened (start m) ts) (events (start m) ts) in
-    let procedures = opened_few (start m) ts in
-    let short = text_short u.names u.list unit.texts 0 in
-    let all = length-append (definition_streams 1 u.list u.order) (main_streams m ts) in
-    omega (arith, order, first, behind, procedures, short, all)

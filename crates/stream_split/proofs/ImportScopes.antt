@@ -1,27 +1,30 @@
--- The modules that the texts of a unit import have scopes before, where each definition text comes after those that it imports.
-use Rattle.std.proofs.Common.{◌≡◌, ◌≢◌, ◌∙◌, ℕ, zero, suc, ◌+◌, ◌<◌, ◌≤◌, Bool, true, false, cond, List, [], ◌∷◌, ◌++◌, length, length-append, map, refl, sym, ap, subst, inl, inr, true≢false, append_assoc, arith}
-use Rattle.std.specs.List.{AllZip, position_or_len}
+-- The modules that the tree of a stream imports have scopes before, where each definition text comes after those that it imports.
+use Rattle.std.proofs.Common.{get_or, ◌≡◌, ◌∙◌, ℕ, zero, suc, ◌+◌, ◌<◌, ◌≤◌, Bool, true, false, cond, List, [], ◌∷◌, ◌++◌, length, map, refl, sym, ap, subst, inl, inr, true≢false, arith}
+use Rattle.std.specs.List.{position_or_len}
 use Rattle.std.specs.Prelude.{◌==◌, ◌⊎◌, Option, Some, None, flat_map, option_map, position, slice_get, slice_index_or, unwrap_or}
 use Rattle.std.proofs.lemmas.List.{length-map}
 use Rattle.std.proofs.lemmas.List.Quantifiers.{position-Some}
+use Rattle.std.proofs.lemmas.Option.{slice_get_cases}
 use Rattle.std.proofs.lemmas.List.Recursion.{is_position_or_len}
 use Rattle.m2_base.proofs.ChainLaws.{each_append}
-use Rattle.m2_base.specs.Finished.{AreRead, definitions_of, no_text, source_of, tokens_in, tokens_of}
+use Rattle.m2_base.specs.Finished.{definitions_of, no_text, source_of, tokens_in, tokens_of}
 use Rattle.m2_base.specs.Fronts as grammar_fronts
 use Rattle.m2_base.specs.Fronts.{IsFront, modules_of, modules_with}
 use Rattle.m2_base.specs.Lists.{Each, IsIn}
-use Rattle.m2_base.specs.Statics.Blocks.{BlockTree, UnitTrees, blocks_of, blocks_of_main, definition_blocks}
 use Rattle.m2_base.specs.Statics.Contexts.{DefinitionModule, Source, scope_of_module}
-use Rattle.m2_base.specs.Statics.FormedRows.{AreConsecutive, IsImportedBefore}
+use Rattle.m2_base.specs.Statics.FormedRows.{IsImportedBefore}
 use Rattle.m2_base.specs.Statics.Items.{decl_item, heading_items, import_item, import_items, items_of}
 use Rattle.m2_base.specs.Trees.{Decl, Heading, Import, Stream, const_decl, proc_decl, type_decl, vars_decl}
 use Rattle.m2_base.specs.Units.{Front, HasOneMain, IsDefinition, IsTextOf, IsUnit, IsWholeBy, StandsBefore, TextOf, UnitTexts}
 use Rattle.m2_base.specs.WholeTexts.{SpellsDefinition}
 use Rattle.m2_base.specs.declared.trees.Ident.{Ident}
-use Rattle.stream_split.proofs.ReadUnits.{trees_read}
-use Rattle.unit_laws.specs.Imports.{AreFronts, ImportsOthers, front_of}
-use Rattle.unit_laws.proofs.SoundUnits.{scopes_are}
-use Rattle.unit_laws.proofs.TextFronts.{HasFront, front_told}
+use Rattle.stream_split.specs.Agreement.{SpellsStream}
+use Rattle.stream_split.specs.Streams.{StreamOf, definition_stream, streams_of}
+use Rattle.stream_split.proofs.DefinitionTexts.{definition_whole}
+use Rattle.stream_split.proofs.StreamCounts.{definition_at, number_is}
+use Rattle.stream_split.specs.Fronts.{AreFronts, front_of}
+use Rattle.stream_split.proofs.Definitions.{map_append}
+use Rattle.stream_split.proofs.TextFronts.{HasFront, front_told}
 
 -- ** Lists
 
@@ -64,6 +67,26 @@ each_got : {A : Type 0} (P : A → Type 0) (xs : List A) (k : ℕ) (d : A) → E
 each_got P [] k d h l = absurd (omega (arith, l))
 each_got P (x ∷ xs) zero d h l = h.0
 each_got P (x ∷ xs) (suc k) d h l = each_got P xs k d h.1 (omega (arith, l))
+
+-- the list before and behind its element at this index
+record Split {A : Type 0} (xs : List A) (k : ℕ) (x : A) : Type 0 where
+  before : List A
+  rest : List A
+  is : xs ≡ before ++ x ∷ rest
+  long : length before ≡ k
+
+split_at : {A : Type 0} (xs : List A) (k : ℕ) (x : A) → slice_get xs k ≡ Some x → Split xs k x
+split_at [] k x g = cc
+split_at (y ∷ xs) zero x g = let same : y ≡ x = cc in record { before = []; rest = xs; is = ap (λ z. z ∷ xs) same; long = refl }
+split_at (y ∷ xs) (suc k) x g =
+    let s = split_at xs k x g in
+    let long = s.long in
+    record { before = y ∷ s.before; rest = s.rest; is = ap (λ zs. y ∷ zs) s.is; long = omega (arith, long) }
+
+is_in : {A : Type 0} (xs : List A) (k : ℕ) (x : A) → slice_get xs k ≡ Some x → IsIn x xs
+is_in [] k x g = cc
+is_in (y ∷ xs) zero x g = let same : y ≡ x = cc in inl (sym same)
+is_in (y ∷ xs) (suc k) x g = inr (is_in xs k x g)
 
 -- ** The scope of a module
 
@@ -112,7 +135,7 @@ module _ (source : Source) (s : ℕ) where
   one_import None [] h = tt
   one_import None (n ∷ names) h = (h.0, one_import None names h.1)
   one_import (Some m) [] h = tt
-  one_import (Some m) (n ∷ names) h = (tt, one_import (Some m) names h)
+  one_import (Some m) (n ∷ names) h = (h.0, one_import (Some m) names h)
 
   each_import : (imports : List Import) → Each IsLow (flat_map modules_of imports) → Each (IsImportedBefore source s) (flat_map import_items imports)
   each_import [] h = tt
@@ -139,23 +162,18 @@ module _ (source : Source) (s : ℕ) where
 
 -- ** Definition modules
 
--- the text stands before n where n is another
-stands_in : (before rest : List ℕ) (k n : ℕ) → n ≢ k → StandsBefore (before ++ n ∷ rest) k n → IsIn k before
-stands_in [] rest k n d (inl e) = absurd (d e)
-stands_in [] rest k n d (inr h) = absurd (h.0 refl)
-stands_in (x ∷ before) rest k n d (inl e) = inl (sym e)
-stands_in (x ∷ before) rest k n d (inr h) = inr (stands_in before rest k n d h.1)
-
-map_append : {A B : Type 0} (f : A → B) (xs ys : List A) → map f (xs ++ ys) ≡ map f xs ++ map f ys
-map_append f [] ys = refl
-map_append f (x ∷ xs) ys = ap (λ zs. f x ∷ zs) (map_append f xs ys)
+-- the text stands before n
+stands_in : (before rest : List ℕ) (k n : ℕ) → StandsBefore (before ++ n ∷ rest) k n → IsIn k before
+stands_in [] rest k n h = absurd (h.0 refl)
+stands_in (x ∷ before) rest k n (d, inl e) = inl (sym e)
+stands_in (x ∷ before) rest k n (d, inr h) = inr (stands_in before rest k n h)
 
 each_definition : (list : List TextOf) → HasOneMain list → (k : ℕ) → 0 < k → k < length list → (slice_index_or list k no_text).definition ≡ true
 each_definition [] h k p l = absurd h
 each_definition (main ∷ texts) h zero p l = absurd (omega (arith, p))
 each_definition (main ∷ texts) h (suc k) p l = each_got (λ (t : TextOf). t.definition ≡ true) texts k no_text h.1 (omega (arith, l))
 
-module _ (texts : UnitTexts) (unit : IsUnit texts) (front : TextOf → Front) (fronts : AreFronts front texts) (whole : IsWholeBy front texts) (others : ImportsOthers front texts) where
+module _ (texts : UnitTexts) (unit : IsUnit texts) (front : TextOf → Front) (fronts : AreFronts front texts) (whole : IsWholeBy front texts) where
   abbrev text_at : ℕ → TextOf
   text_at k = slice_index_or texts.list k no_text
 
@@ -177,12 +195,8 @@ module _ (texts : UnitTexts) (unit : IsUnit texts) (front : TextOf → Front) (f
   imports_low before rest n e d name i =
       let there : slice_get texts.list n ≡ Some (text_at n) = got texts.list n no_text d.1 in
       let found : (k : ℕ) × IsTextOf texts name k = each_at (λ m. (k : ℕ) × IsTextOf texts m k) name (front (text_at n)).imports (whole.imported n (text_at n) there) i in
-      let differs : n ≢ found.0 = λ same.
-      each_at (λ m. m ≢ (text_at n).name) name (front (text_at n)).imports
-      (each_got (λ t. t.definition ≡ true → Each (λ m. m ≢ t.name) (front t).imports) texts.list n no_text others d.1 (each_definition texts.list unit.main n d.0 d.1)) i
-      (sym (found.1.named (text_at n) (subst (λ (k : ℕ). slice_get texts.list k ≡ Some (text_at n)) same there))) in
       let stands : StandsBefore (before ++ n ∷ rest) found.0 n = subst (λ order. StandsBefore order found.0 n) e (whole.after n found.0 name (text_at n) d there i found.1) in
-      name_low before (n ∷ rest) found.0 name e (stands_in before rest found.0 n differs stands) found.1
+      name_low before (n ∷ rest) found.0 name e (stands_in before rest found.0 n stands) found.1
 
   tree_low : (before rest : List ℕ) (n : ℕ) (tree : Stream) → texts.order ≡ before ++ n ∷ rest → IsDefinition texts.list n → SpellsDefinition (tree ∷ []) (tokens_of texts n)
       → Each (IsLow (source_of texts) (length before + 1)) (flat_map modules_of tree.imports)
@@ -196,17 +210,7 @@ module _ (texts : UnitTexts) (unit : IsUnit texts) (front : TextOf → Front) (f
       (subst (Each (λ name. scope_of_module (source_of texts) name < length before + 1)) same
       (each_from (λ name. scope_of_module (source_of texts) name < length before + 1) (front (text_at n)).imports (imports_low before rest n e d)))
 
-  definitions_before : (before order : List ℕ) (trees : List Stream) (s : ℕ) → s ≡ length before + 1 → texts.order ≡ before ++ order → Each (IsDefinition texts.list) order
-      → AllZip (λ k tree. SpellsDefinition (tree ∷ []) (tokens_of texts k)) order trees
-      → Each (λ b. Each (IsImportedBefore (source_of texts) b.block.scope) (items_of b.tree)) (definition_blocks s (map module_of order) trees)
-  definitions_before before [] trees s at e d read = tt
-  definitions_before before (k ∷ order) [] s at e d read = absurd read
-  definitions_before before (k ∷ order) (tree ∷ trees) s at e d read = (
-    items_before (source_of texts) s tree (subst (λ n. Each (IsLow (source_of texts) n) (flat_map modules_of tree.imports)) (sym at) (tree_low before order k tree e d.0 read.0)),
-    definitions_before (before ++ k ∷ []) order trees (s + 1) (let long = length-append before (k ∷ []) in omega (arith, at, long)) (e ∙ sym (append_assoc before (k ∷ []) order)) d.1 read.1,
-  )
-
-  -- ** The main text
+  -- ** Streams
 
   all_low : (s : ℕ) (tree : Stream) → length texts.order < s → Each (IsImportedBefore (source_of texts) s) (items_of tree)
   all_low s tree h =
@@ -215,30 +219,23 @@ module _ (texts : UnitTexts) (unit : IsUnit texts) (front : TextOf → Front) (f
       let count = length-map texts.order module_of in
       omega (arith, h, most, count)))
 
-  main_before : (n : ℕ) (blocks : List BlockTree) → length texts.order < n → AreConsecutive n blocks → Each (λ b. Each (IsImportedBefore (source_of texts) b.block.scope) (items_of b.tree)) blocks
-  main_before n [] h c = tt
-  main_before n (b ∷ blocks) h c = (all_low b.block.scope b.tree (let at = c.0 in omega (arith, h, at)), main_before (n + 1) blocks (omega (arith, h)) c.1)
+  -- the tree of a stream imports modules with scopes before its number
+  pub stream_imports : (k : ℕ) (s : StreamOf) (tree : Stream) → slice_get (streams_of texts) k ≡ Some s → SpellsStream tree s → Each (IsImportedBefore (source_of texts) s.stream) (items_of tree)
+  stream_imports k s tree g spelled = by (slice_get_cases texts.order k).1
+    where
+      number : s.stream ≡ k + 1
+      number = number_is texts k s g
 
-  consecutive_back : (n : ℕ) (xs ys : List BlockTree) → AreConsecutive n (xs ++ ys) → AreConsecutive (n + length xs) ys
-  consecutive_back n [] ys c = let same : n ≡ n + 0 = omega arith in subst (λ (m : ℕ). AreConsecutive m ys) same c
-  consecutive_back n (x ∷ xs) ys c = let same : n + 1 + length xs ≡ n + suc (length xs) = omega arith in subst (λ (m : ℕ). AreConsecutive m ys) same (consecutive_back (n + 1) xs ys c.1)
-
-  definitions_long : (s : ℕ) (order : List ℕ) (trees : List Stream) → length trees ≡ length order → length (definition_blocks s (map module_of order) trees) ≡ length order
-  definitions_long s [] [] e = refl
-  definitions_long s [] (tree ∷ trees) e = absurd (omega (arith, e))
-  definitions_long s (k ∷ order) [] e = absurd (omega (arith, e))
-  definitions_long s (k ∷ order) (tree ∷ trees) e = let i = definitions_long (s + 1) order trees (omega (arith, e)) in omega (arith, i)
-
-  -- each block imports modules with scopes before its own
-  pub imports_before : (u : UnitTrees) → AreRead texts u → Each (λ b. Each (IsImportedBefore u.source b.block.scope) (items_of b.tree)) (blocks_of u)
-  unfolding blocks_of
-  imports_before u read =
-      let first : List BlockTree = definition_blocks 1 (definitions_of texts) u.definitions in
-      let behind : List BlockTree = blocks_of_main u u.main in
-      let consecutive : AreConsecutive 1 (first ++ behind) = subst (λ (source : Source). AreConsecutive 1 (definition_blocks 1 source.definitions u.definitions ++ behind)) read.source (scopes_are texts u read) in
-      let long : length first ≡ length texts.order = definitions_long 1 texts.order u.definitions (trees_read texts u read).definitions in
-      let holds : Each (λ b. Each (IsImportedBefore (source_of texts) b.block.scope) (items_of b.tree)) (first ++ behind) =
-      each_append (λ b. Each (IsImportedBefore (source_of texts) b.block.scope) (items_of b.tree)) first behind
-      (definitions_before [] texts.order u.definitions 1 refl refl unit.ordered read.definitions)
-      (main_before (1 + length first) behind (omega (arith, long)) (consecutive_back 1 first behind consecutive)) in
-      subst (λ (source : Source). Each (λ b. Each (IsImportedBefore source b.block.scope) (items_of b.tree)) (definition_blocks 1 source.definitions u.definitions ++ behind)) (sym read.source) holds
+      by : ((n : ℕ) × (k < length texts.order) × (slice_get texts.order k ≡ Some n) × (get_or texts.order k n ≡ n)) ⊎ ((length texts.order ≤ k) × (slice_get texts.order k ≡ None))
+          → Each (IsImportedBefore (source_of texts) s.stream) (items_of tree)
+      by (inl h) =
+          let n : ℕ = h.0 in
+          let parts = split_at texts.order k n h.2 in
+          let same : s ≡ definition_stream (k + 1) n (tokens_of texts n) = (let e = sym g ∙ definition_at texts k n h.2 in cc) in
+          let whole_text : SpellsDefinition (tree ∷ []) (tokens_of texts n) =
+          definition_whole (k + 1) n (tokens_of texts n) (tree ∷ []) (subst (SpellsStream tree) same spelled, tt) in
+          let at : length parts.before + 1 ≡ s.stream = (let long = parts.long in omega (arith, long, number)) in
+          let is_definition : IsDefinition texts.list n = each_at (IsDefinition texts.list) n texts.order unit.ordered (is_in texts.order k n h.2) in
+          items_before (source_of texts) s.stream tree
+          (subst (λ i. Each (IsLow (source_of texts) i) (flat_map modules_of tree.imports)) at (tree_low parts.before parts.rest n tree parts.is is_definition whole_text))
+      by (inr h) = let past = h.0 in all_low s.stream tree (omega (arith, past, number))

@@ -1,6 +1,5 @@
--- What is asked of the fronts of a unit's texts so that each module that is imported comes before: they are those that the
--- grammar tells, and no definition text imports its own module.
-use Rattle.std.specs.Prelude.{◌≡◌, ◌≢◌, true, option_map, map}
+-- The fronts of a unit's texts are those that the grammar tells.
+use Rattle.std.specs.Prelude.{◌≡◌, option_map, map}
 use Rattle.m2_base.specs.Fronts as fronts
 use Rattle.m2_base.specs.Fronts.{IsFront}
 use Rattle.m2_base.specs.Lists.{Each}
@@ -13,7 +12,3 @@ front_of f = record { name = option_map (λ i. i.name) f.name; implementation = 
 -- the front of each text is the one that the grammar tells
 abbrev pub AreFronts : (front : TextOf → Front) → UnitTexts → Type 0
 AreFronts front u = Each (λ t. (f : fronts.Front) → IsFront t.definition t.tokens f → front t ≡ front_of f) u.list
-
--- no definition text imports its own module
-abbrev pub ImportsOthers : (front : TextOf → Front) → UnitTexts → Type 0
-ImportsOthers front u = Each (λ t. t.definition ≡ true → Each (λ name. name ≢ t.name) (front t).imports) u.list

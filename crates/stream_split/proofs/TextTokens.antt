@@ -1,5 +1,5 @@
 -- The tokens of a unit's texts are as read.
-use Rattle.std.proofs.Common.{◌≡◌, ◌≢◌, ℕ, zero, suc, ◌+◌, ◌<◌, ◌≤◌, ◌^◌, List, [], ◌∷◌, length, sym, ◌∙◌, ap, subst, arith}
+use Rattle.std.proofs.Common.{◌≡◌, ◌≢◌, ℕ, zero, suc, ◌+◌, ◌<◌, ◌^◌, List, [], ◌∷◌, sym, ◌∙◌, ap, subst, arith}
 use Rattle.std.specs.Prelude.{slice_get, slice_index_or}
 use Rattle.std.proofs.lemmas.Bool.{false≢true}
 use Rattle.m2_base.specs.Finished.{tokens_in}
@@ -69,9 +69,3 @@ module _ (names : List (List ℕ)) (standard : IsPrefixOf standard_names names) 
   text_read [] h k = tt
   text_read (t ∷ texts) h zero = tokens_read 0 t.tokens h.0.numbered h.0.values
   text_read (t ∷ texts) h (suc k) = text_read texts h.1 k
-
--- a text has so many tokens at most
-pub text_short : (names : List (List ℕ)) (texts : List TextOf) → Each (IsText names) texts → (k : ℕ) → length (tokens_in (slice_get texts k)) ≤ 1048576
-text_short names [] h k = omega arith
-text_short names (t ∷ texts) h zero = h.0.count
-text_short names (t ∷ texts) h (suc k) = text_short names texts h.1 k
