@@ -10,6 +10,7 @@ mod codes;
 mod escapes;
 mod lexemes;
 mod objects;
+mod rows;
 mod runs;
 mod sets;
 mod streams;

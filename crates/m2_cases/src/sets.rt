@@ -1,6 +1,6 @@
 //! The sets of cases.
 use crate::case::Case;
-use crate::{codes, lexemes, objects, runs, streams, syntax};
+use crate::{codes, lexemes, objects, rows, runs, streams, syntax};
 use anyhow::Result;
 use std::alloc::Global;
 use std::fmt;
@@ -14,6 +14,8 @@ pub enum Set {
     Syntax,
     /// Texts with the streams that they are cut into.
     Streams,
+    /// Units with their rows.
+    Rows,
     /// Modules with the code of their object.
     Blocks,
     /// Bytes with what is told of them as an object.
@@ -23,10 +25,11 @@ pub enum Set {
 }
 
 impl Set {
-    pub const ALL: [Set; 6] = [
+    pub const ALL: [Set; 7] = [
         Set::Lex,
         Set::Syntax,
         Set::Streams,
+        Set::Rows,
         Set::Blocks,
         Set::Objects,
         Set::Runs,
@@ -37,6 +40,7 @@ impl Set {
             Set::Lex => "lex",
             Set::Syntax => "syntax",
             Set::Streams => "streams",
+            Set::Rows => "rows",
             Set::Blocks => "blocks",
             Set::Objects => "objects",
             Set::Runs => "runs",
@@ -58,6 +62,7 @@ impl Set {
             Set::Lex => Ok(Some(lexemes::answer(alloc, case)?)),
             Set::Syntax => Ok(Some(syntax::answer(alloc, case)?)),
             Set::Streams => Ok(Some(streams::answer(alloc, case)?)),
+            Set::Rows => rows::answer(alloc, case),
             Set::Blocks => codes::answer(alloc, case),
             Set::Objects => Ok(Some(objects::answer(alloc, case)?)),
             Set::Runs => runs::answer(alloc, case),

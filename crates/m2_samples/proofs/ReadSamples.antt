@@ -15,7 +15,7 @@ use Rattle.m2_base.proofs.ReadStreams.{items_are_read}
 use Rattle.m2_lex.specs.LoneTexts.{IsLoneText}
 use Rattle.m2_lex.proofs.ReadTokens.{tokens_read}
 use Rattle.m2_parse.specs.Streams.{SpellsStream}
-use Rattle.code_tests.specs.Samples.{HasDeclarations, IsSample, first_kind}
+use Rattle.m2_samples.specs.Samples.{HasDeclarations, IsSample, first_kind}
 
 -- the name of the text's file
 pub file_name : IsIdentifier (77 ∷ [])
@@ -37,4 +37,7 @@ sample_read {name} {text} {u} {tree} {main} {rest} lone unit short at fault behi
       faulty = ap first_kind tokens ∙ fault;
       items = items;
       read = items_are_read u.names Main tree rest spelled read;
+      spelling = rest;
+      spelled = spelled;
+      tokens = read;
     }

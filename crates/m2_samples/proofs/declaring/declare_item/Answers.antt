@@ -1,7 +1,7 @@
 use Rattle.std.proofs.Common.{◌∙◌, arith}
 use Rattle.scope_core.specs.PlainScopes.{state_of}
-use Rattle.code_tests.proofs.Declarations.{at_declaration, declared_then, may_enter, where_ok}
-use Rattle.code_tests.proofs.declaring.declare_item.Goals as goal
+use Rattle.m2_samples.proofs.Declarations.{at_declaration, declared_then, may_enter, where_ok}
+use Rattle.m2_samples.proofs.declaring.declare_item.Goals as goal
 
 pub declare-requires : goal.declare-requires
 declare-requires c =

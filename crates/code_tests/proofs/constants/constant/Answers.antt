@@ -2,8 +2,8 @@ use Rattle.std.proofs.Common.{◌≡◌, ◌∙◌, List, Some, ap, sym}
 use Rattle.std.specs.List.{slice_get}
 use Rattle.m2_base.specs.declared.trees.declarations.Decl.{Decl}
 use Rattle.m2_base.specs.declared.trees.declarations.Decl.TheVariants.{Const}
-use Rattle.code_tests.proofs.Declarations.{found_at, item_read}
-use Rattle.code_tests.proofs.reading.constant.Goals as goal
+use Rattle.m2_samples.proofs.Declarations.{found_at, item_read}
+use Rattle.code_tests.proofs.constants.constant.Goals as goal
 
 pub returns-in-Const : goal.returns-in-Const
 returns-in-Const c =

@@ -1,7 +1,7 @@
 use Rattle.std.proofs.Common.{◌∙◌, ap, sym}
 use Rattle.m2_base.specs.Statics.Layouts.{Layout}
-use Rattle.code_tests.proofs.Declarations.{last_first}
-use Rattle.code_tests.proofs.declaring.row_count.Goals as goal
+use Rattle.m2_samples.proofs.Declarations.{last_first}
+use Rattle.m2_samples.proofs.declaring.row_count.Goals as goal
 
 pub returns-in-Some-clause-count : goal.returns-in-Some-clause-count
 returns-in-Some-clause-count c tree is =

@@ -20,9 +20,8 @@ use Rattle.m2_base.specs.declared.sites.Around.{Around}
 use Rattle.m2_base.specs.declared.sites.Site.{Site}
 use Rattle.type_rules.specs.Scenes.{IsThere, Suits}
 use Rattle.type_rules.specs.Sites.{SuitsSite}
-use Rattle.expr_sem.specs.declared.pieces.With.{With}
-use Rattle.code_tests.specs.Filled.{IsFull, around_at, chain_at, scope_at}
-use Rattle.code_tests.specs.Samples.{IsSample, first_kind}
+use Rattle.m2_samples.specs.Filled.{IsFull, around_at, chain_at, scope_at}
+use Rattle.m2_samples.specs.Samples.{IsSample, first_kind}
 
 isnt_module : (k : TokenKind) → k ≡ Bad → member (kind_number k) (kind_number Module ∷ []) ≡ true → ⊥
 isnt_module k e h = true≢false (sym h ∙ ap (λ j. member (kind_number j) (kind_number Module ∷ [])) e)
@@ -114,10 +113,6 @@ there_standard level p full own =
       scope = omega (arith, own);
       entered = λ same open_yet. absurd (let bad : true ≡ false = sym full.closed ∙ open_yet in cc);
     }
-
-pub withs_full : {u : UnitTexts} {f : Frame} (level : ℕ) (ws : List With) → IsFull f u (scope_at level) → Each (λ w. w.of.scope ≡ 1) ws → Each (λ w. IsThere f w.of) ws
-withs_full level [] full h = tt
-withs_full level (w ∷ ws) full h = (there_full level w.of full h.0, withs_full level ws full h.1)
 
 pub full_kept : {u : UnitTexts} {f g : Frame} {scope : ℕ} → g ≡ f → IsFull f u scope → IsFull g u scope
 full_kept {u} {scope = scope} same full = subst (λ h. IsFull h u scope) (sym same) full

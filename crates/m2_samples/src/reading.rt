@@ -1,13 +1,12 @@
 //! Texts that are read as samples: the tree of a module, in a unit that has no finished rows.
 ghost use Rattle.std.specs.Prelude.{◌≡◌, IfOk, IfSome, drop};
-ghost use Rattle.m2_base.specs.Statics.ReadTrees.{IsReadExpr};
-ghost use Rattle.m2_base.specs.Views.{expr_view, stream_view};
+ghost use Rattle.m2_base.specs.Views.{stream_view};
 ghost use Rattle.m2_base.specs.declared.kind.TokenKind.TheVariants.{Bad};
 ghost use Rattle.m2_base.specs.declared.trees.declarations.StreamKind.TheVariants.{Main};
 ghost use Rattle.m2_parse.specs.Streams.{SpellsStream};
-ghost use Rattle.code_tests.specs.Samples.{HasDeclarations, IsSample, first_kind};
+ghost use Rattle.m2_samples.specs.Samples.{HasDeclarations, IsSample, first_kind};
 
-use m2_base::{Decl, Expr, Memory, Stream, StreamKind, Texts, Token, TokenKind};
+use m2_base::{Memory, Stream, StreamKind, Texts, Token, TokenKind};
 use m2_lex::lone_text;
 use m2_parse::{parse_stream, values_fit};
 use std::alloc::Global;
@@ -18,7 +17,7 @@ const MOST_BYTES: usize = 1_048_576;
 /// A module that is analysed. Its unit's text has a fault before it, so that no rows are the unit's in the end, and any may be
 /// entered.
 #[derive(Drop)]
-pub(crate) struct Sample {
+pub struct Sample {
     pub texts: Texts,
     pub tree: Stream,
 }
@@ -55,14 +54,13 @@ fn tree_of(alloc: Global, tokens: &[Token]) -> Result<Stream, Memory>
 }
 
 /// The sample of a text, whose first byte is a fault. A text that isn't a module then finds no memory.
-pub(crate) fn read(alloc: Global, text: &str) -> Result<Sample, Memory>
+pub fn read(alloc: Global, text: &[u8]) -> Result<Sample, Memory>
     ensures { IfOk result (λ sample. IsSample sample.texts (stream_view sample.tree)) }
 {
-    let bytes = text.as_bytes();
-    if bytes.len() > MOST_BYTES {
+    if text.len() > MOST_BYTES {
         return Err(Memory);
     }
-    let Ok(texts) = lone_text(alloc, b"M", bytes) else {
+    let Ok(texts) = lone_text(alloc, b"M", text) else {
         return Err(Memory);
     };
     let Some(tokens) = behind_fault(&texts.main().tokens) else {
@@ -70,18 +68,4 @@ pub(crate) fn read(alloc: Global, text: &str) -> Result<Sample, Memory>
     };
     let tree = tree_of(alloc, tokens)?;
     Ok(Sample { texts, tree })
-}
-
-/// The value of a constant, by how many declarations stand behind it.
-pub(crate) fn constant(sample: &Sample, behind: usize) -> Option<&Expr>
-    requires { IsSample sample.now.texts (stream_view sample.now.tree) }
-    ensures { IfSome result (λ value. IsReadExpr sample.now.texts.names (expr_view value.now)) }
-{
-    let declarations = sample.tree.decls.as_slice();
-    let last = declarations.len().checked_sub(1)?;
-    let number = last.checked_sub(behind)?;
-    match declarations.get(number)? {
-        Decl::Const { value, .. } => Some(value),
-        _ => None,
-    }
 }

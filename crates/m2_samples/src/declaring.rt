@@ -6,9 +6,10 @@ ghost use Rattle.m2_base.specs.Statics.ProcedureRows.{is_proc};
 ghost use Rattle.m2_base.specs.Trees.{Stream};
 ghost use Rattle.m2_base.specs.Views.{stream_view};
 ghost use Rattle.scope_core.specs.PlainScopes.{state_of};
-ghost use Rattle.code_tests.specs.Filled.{HasDeclared, IsBlock, IsFull, row_count as spec_count};
-ghost use Rattle.code_tests.specs.Samples.{IsSample};
+ghost use Rattle.m2_samples.specs.Filled.{HasDeclared, IsBlock, IsFull, row_count as spec_count};
+ghost use Rattle.m2_samples.specs.Samples.{IsSample};
 
+use crate::made::Made;
 use crate::reading::Sample;
 use decl_sem::{Before, Declared, Item, declare, layout};
 use m2_base::{Around, Ask, Decl, Layout, Memory, Row, Scopes, Site};
@@ -21,15 +22,15 @@ const STANDARD_ROWS: u32 = 37;
 /// A block has at most so many rows.
 const MOST_ROWS: u32 = 2_147_483_648;
 
-/// A module's variables have at most so many cells.
-const MOST_CELLS: u32 = 16_777_215;
+/// The next free cell of too many is this.
+const TOO_MANY_CELLS: u32 = 16_777_216;
 
 /// The kind of the rows of procedures.
 const PROCEDURE: u8 = 4;
 
 /// The block of a sample.
 #[derive(Drop)]
-pub(crate) struct Block<'a> {
+pub struct Block<'a> {
     pub sample: &'a Sample,
     pub around: &'a Around,
     pub layout: &'a Layout,
@@ -53,7 +54,7 @@ impl<'a> Block<'a> {
 }
 
 /// The layout of the block.
-pub(crate) fn layout_of(alloc: Global, sample: &Sample) -> Result<Layout, Memory>
+pub fn layout_of(alloc: Global, sample: &Sample) -> Result<Layout, Memory>
     ensures { IfOk result (λ layout. layout ≡ spec_layout (stream_view sample.now.tree)) }
 {
     layout(alloc, &sample.tree)
@@ -85,16 +86,26 @@ fn count_procedures(rows: &[Row]) -> usize
     rows.iter().filter(|row| is_procedure(row)).count()
 }
 
-/// Enters the rows of a declaration, and gives the next free cell. A procedure finds no memory, nor do too many cells.
-fn enter(scopes: &mut PlainScopes, declared: &Declared) -> Result<u32, Memory>
+/// Keeps the rows of a declaration, and what is noted of it.
+fn keep(made: &mut Made, declared: &Declared) -> Result<(), Memory> {
+    let Declared { rows, notes, .. } = declared;
+    made.rows.extend_from_slice(rows)?;
+    made.notes.diags.extend_from_slice(&notes.diags)?;
+    made.notes.answers.extend_from_slice(&notes.answers)?;
+    Ok(())
+}
+
+/// Enters the rows of a declaration, and gives the next free cell. A procedure finds no memory.
+fn enter(scopes: &mut PlainScopes, declared: &Declared, made: &mut Made) -> Result<u32, Memory>
     requires { CanEnter (state_of scopes.old) declared.now.rows.items }
     ensures entered { OnOk result (Entered (state_of scopes.old) (state_of scopes.new) declared.now.rows.items) }
     ensures none { OnOk result (length (filter is_proc declared.now.rows.items) ≡ 0) }
-    ensures few { IfOk result (λ cell. cell ≤ 16777215) }
+    ensures few { IfOk result (λ cell. cell ≤ 16777216) }
 {
     scopes.enter(&declared.rows);
+    keep(made, declared)?;
     let cell = declared.effect.cell;
-    if cell > MOST_CELLS || count_procedures(&declared.rows) > 0 {
+    if cell > TOO_MANY_CELLS || count_procedures(&declared.rows) > 0 {
         return Err(Memory);
     }
     Ok(cell)
@@ -102,12 +113,12 @@ fn enter(scopes: &mut PlainScopes, declared: &Declared) -> Result<u32, Memory>
 
 /// Analyses a declaration after those before, up to whose cells are these.
 fn declare_item(
-    alloc: Global,
     scopes: &mut PlainScopes,
     block: &Block,
     number: u32,
     declaration: &Decl,
     cell: u32,
+    made: &mut Made,
 ) -> Result<u32, Memory>
     requires block { IsBlock block.now.sample.now.texts (stream_view block.now.sample.now.tree) block.now.around.now block.now.layout.now }
     requires few { spec_count (stream_view block.now.sample.now.tree) ≤ 2 ^ 31 }
@@ -115,6 +126,7 @@ fn declare_item(
     requires declared { HasDeclared (state_of scopes.old).frame block.now.sample.now.texts (stream_view block.now.sample.now.tree) number cell }
     ensures { IfOk result (λ next. HasDeclared (state_of scopes.new).frame block.now.sample.now.texts (stream_view block.now.sample.now.tree) (number + 1) next) }
 {
+    let alloc = *made.rows.allocator();
     let site = block.site(Some(number));
     let item = Item::Declaration(declaration);
     let before = Before {
@@ -122,13 +134,13 @@ fn declare_item(
         procedures: 0,
     };
     match declare(alloc, scopes, &site, &block.sample.tree, &item, before) {
-        Ok(Ask::Known(declared)) => enter(scopes, &declared),
+        Ok(Ask::Known(declared)) => enter(scopes, &declared, made),
         _ => Err(Memory),
     }
 }
 
 /// Analyses all declarations, one after another, and gives the next free cell.
-fn declare_items(alloc: Global, scopes: &mut PlainScopes, block: &Block) -> Result<u32, Memory>
+fn declare_items(scopes: &mut PlainScopes, block: &Block, made: &mut Made) -> Result<u32, Memory>
     requires block { IsBlock block.now.sample.now.texts (stream_view block.now.sample.now.tree) block.now.around.now block.now.layout.now }
     requires few { spec_count (stream_view block.now.sample.now.tree) ≤ 2 ^ 31 }
     requires begun { HasDeclared (state_of scopes.old).frame block.now.sample.now.texts (stream_view block.now.sample.now.tree) 0 0 }
@@ -139,19 +151,21 @@ fn declare_items(alloc: Global, scopes: &mut PlainScopes, block: &Block) -> Resu
         let Ok(number) = u32::try_from(index) else {
             return Err(Memory);
         };
-        cell = declare_item(alloc, scopes, block, number, declaration, cell)?;
+        cell = declare_item(scopes, block, number, declaration, cell, made)?;
     }
     Ok(cell)
 }
 
-/// The scopes of a sample, once all its declarations are analysed.
-pub(crate) fn scopes<'a>(alloc: Global, block: &Block<'a>) -> Result<PlainScopes<'a>, Memory>
+/// The scopes of a sample, once all its declarations are analysed. What they make is kept.
+pub fn scopes<'a>(block: &Block<'a>, made: &mut Made) -> Result<PlainScopes<'a>, Memory>
     requires { IsBlock block.now.sample.now.texts (stream_view block.now.sample.now.tree) block.now.around.now block.now.layout.now }
     ensures { IfOk result (λ scopes. IsFull (state_of scopes).frame block.now.sample.now.texts 1) }
 {
+    let alloc = *made.rows.allocator();
     let rows = row_count(block.layout)?;
     let mut scopes = PlainScopes::new(alloc, &block.sample.texts, &[STANDARD_ROWS, rows])?;
-    let _cell = declare_items(alloc, &mut scopes, block)?;
+    let cell = declare_items(&mut scopes, block, made)?;
     scopes.complete();
+    made.cell = cell;
     Ok(scopes)
 }

@@ -3,12 +3,14 @@ use Rattle.std.specs.Prelude.{◌≡◌, List, [], ◌∷◌, map}
 use Rattle.m2_base.specs.Finished.{main_tokens}
 use Rattle.m2_base.specs.Lists.{Each}
 use Rattle.m2_base.specs.Statics.Items.{decl_item, items_of}
-use Rattle.m2_base.specs.Statics.ReadTrees.{IsReadItem}
+use Rattle.m2_base.specs.Statics.ReadTrees.{IsReadItem, IsReadToken}
 use Rattle.m2_base.specs.Trees.{Stream}
 use Rattle.m2_base.specs.Units.{IsUnit, UnitTexts}
 use Rattle.m2_base.specs.declared.kind.TokenKind.{TokenKind}
 use Rattle.m2_base.specs.declared.kind.TokenKind.TheVariants.{Bad, EndOfText}
 use Rattle.m2_base.specs.declared.token.Token.{Token}
+use Rattle.m2_base.specs.declared.trees.declarations.StreamKind.TheVariants.{Main}
+use Rattle.m2_parse.specs.Streams.{SpellsStream}
 
 -- the kind of the first token
 abbrev pub first_kind : List Token → TokenKind
@@ -25,3 +27,6 @@ pub record IsSample (u : UnitTexts) (tree : Stream) : Type 0 where
   pub faulty : first_kind (main_tokens u) ≡ Bad
   pub items : HasDeclarations tree
   pub read : Each (IsReadItem u.names) (items_of tree)
+  pub spelling : List Token
+  pub spelled : SpellsStream Main tree spelling
+  pub tokens : Each (IsReadToken u.names) spelling

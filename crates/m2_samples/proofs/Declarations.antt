@@ -39,9 +39,9 @@ use Rattle.decl_sem.specs.Pieces.{AreNewRows, IsOwned, end_by, item_end}
 use Rattle.decl_sem.proofs.FirstNames.{AreLaid-append}
 use Rattle.decl_sem.proofs.FirstOrdinals.{end_of}
 use Rattle.decl_sem.proofs.Pieces.{laid-length}
-use Rattle.code_tests.specs.Filled.{HasDeclared, IsFull, row_count}
-use Rattle.code_tests.specs.Samples.{IsSample}
-use Rattle.code_tests.proofs.Samples.{IsSiteAt, none_finished, site_at}
+use Rattle.m2_samples.specs.Filled.{HasDeclared, IsFull, row_count}
+use Rattle.m2_samples.specs.Samples.{IsSample}
+use Rattle.m2_samples.proofs.Samples.{IsSiteAt, none_finished, site_at}
 
 -- ** Lists
 

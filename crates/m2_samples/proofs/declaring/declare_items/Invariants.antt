@@ -1,7 +1,7 @@
 use Rattle.m2_base.specs.Views.{stream_view}
 use Rattle.scope_core.specs.PlainScopes.{state_of}
-use Rattle.code_tests.specs.Filled.{HasDeclared}
-use Rattle.code_tests.proofs.declaring.declare_items.Given as goal
+use Rattle.m2_samples.specs.Filled.{HasDeclared}
+use Rattle.m2_samples.proofs.declaring.declare_items.Given as goal
 
 -- so many declarations are analysed
 abbrev pub invariant-loop-index : goal.invariant-loop-index

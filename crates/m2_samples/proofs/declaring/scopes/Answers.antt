@@ -1,7 +1,7 @@
 use Rattle.m2_base.specs.Views.{stream_view}
 use Rattle.scope_core.specs.PlainScopes.{state_of}
-use Rattle.code_tests.proofs.Declarations.{begun, may_complete}
-use Rattle.code_tests.proofs.declaring.scopes.Goals as goal
+use Rattle.m2_samples.proofs.Declarations.{begun, may_complete}
+use Rattle.m2_samples.proofs.declaring.scopes.Goals as goal
 
 pub declare_items-requires-clause-begun : goal.declare_items-requires-clause-begun
 declare_items-requires-clause-begun c =

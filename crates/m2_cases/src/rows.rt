@@ -1,0 +1,175 @@
+//! The rows of a module of one block, and what is noted of its declarations and statements.
+ghost use Rattle.std.specs.Prelude.{◌≡◌};
+ghost use Rattle.m2_base.specs.Views.{stream_view};
+ghost use Rattle.scope_core.specs.PlainScopes.{state_of};
+ghost use Rattle.m2_samples.specs.Filled.{IsFull, around_at};
+ghost use Rattle.m2_samples.specs.Samples.{IsSample};
+
+use crate::case::Case;
+use crate::lexemes::name_of;
+use anyhow::{Context, Result, ensure};
+use decl_sem::{Effect, close_check};
+use m2_base::{Answer, Ask, Diag, Memory, Names, Notes, Row, RowMeaning, read_row};
+use m2_samples::{Block, Made, Sample, around, layout_of, read, scopes};
+use scope_core::PlainScopes;
+use std::alloc::Global;
+use std::fmt::Write;
+use stmt_sem::block;
+use type_rules::TEXT;
+
+/// The most bytes of a text, with the fault before it.
+const MOST_BYTES: usize = 1_048_576;
+
+/// The most cells of a module's variables. More of them are told at its name by the whole program alone.
+const MOST_CELLS: u32 = 16_777_215;
+
+/// A sample's text has a fault before the module's: its tokens have numbers that are greater by one.
+const FAULT: &[u8] = b"!";
+
+/// Notes what the statements of a block and its end are refused for, and what their names stand for.
+fn note_rest(scopes: &mut PlainScopes, of: &Block, made: &mut Made) -> Result<(), Memory>
+    requires sample { IsSample of.now.sample.now.texts (stream_view of.now.sample.now.tree) }
+    requires around { of.now.around.now ≡ around_at 0 }
+    requires full { IsFull (state_of scopes.old).frame of.now.sample.now.texts 1 }
+{
+    let alloc = *made.rows.allocator();
+    let site = of.site(None);
+    let tree = &of.sample.tree;
+    let effect = Effect {
+        cell: made.cell,
+        prologue: Vec::new(alloc),
+        heading: None,
+    };
+    let closing = close_check(alloc, scopes, &site, tree)?;
+    match block(alloc, scopes, &site, tree, &effect, None, &mut made.notes)? {
+        Ask::Known(_code) => {}
+        Ask::DontKnowYet(_) => return Err(Memory),
+    }
+    match closing {
+        Ask::Known(notes) => made.notes.diags.extend_from_slice(&notes.diags)?,
+        Ask::DontKnowYet(_) => return Err(Memory),
+    }
+    Ok(())
+}
+
+/// What the analysis of a sample makes.
+fn analysed(alloc: Global, sample: &Sample) -> Result<Made, Memory>
+    requires { IsSample sample.now.texts (stream_view sample.now.tree) }
+{
+    let around = around(alloc, 0)?;
+    let layout = layout_of(alloc, sample)?;
+    let of = Block {
+        sample,
+        around: &around,
+        layout: &layout,
+    };
+    let mut made = Made::new(alloc);
+    let mut scopes = scopes(&of, &mut made)?;
+    note_rest(&mut scopes, &of, &mut made)?;
+    Ok(made)
+}
+
+/// What the analysis of a module's text makes, with the names of its unit.
+fn made_of(alloc: Global, text: &[u8]) -> Result<(Names, Made), Memory> {
+    let sample = read(alloc, text)?;
+    let made = analysed(alloc, &sample)?;
+    let Sample { texts, .. } = sample;
+    Ok((texts.names, made))
+}
+
+/// A name, or a dash for none.
+fn name_or_dash(alloc: Global, names: &Names, number: u32) -> Result<String> {
+    match number {
+        0 => Ok(String::from_str(alloc, "-")?),
+        _ => name_of(alloc, names, u64::from(number)),
+    }
+}
+
+/// The second number of a row: of a string its characters.
+fn value_of(alloc: Global, names: &Names, row: &Row) -> Result<String> {
+    match read_row(row) {
+        RowMeaning::Const(of, value, _) if of == TEXT => {
+            let text = name_of(alloc, names, value.unsigned_abs())?;
+            Ok(format!(in alloc; "\"{text}\"")?)
+        }
+        _ => Ok(format!(in alloc; "{}", row.b)?),
+    }
+}
+
+/// The last number of a row, which only a field has: its name.
+fn field_of(alloc: Global, names: &Names, row: &Row) -> Result<String> {
+    match read_row(row) {
+        RowMeaning::Field(_, _, _, name) => name_or_dash(alloc, names, name),
+        _ => {
+            ensure!(row.d == 0 && row.e == 0, "a row with more numbers");
+            name_or_dash(alloc, names, 0)
+        }
+    }
+}
+
+/// A token's number in the module's text.
+fn own_number(at: u32) -> u32 {
+    at.saturating_sub(1)
+}
+
+fn write_row(alloc: Global, lines: &mut String, names: &Names, row: &Row) -> Result<()> {
+    let Row { kind, a, c, .. } = *row;
+    let name = name_or_dash(alloc, names, row.name)?;
+    let at = own_number(row.at);
+    let value = value_of(alloc, names, row)?;
+    let field = field_of(alloc, names, row)?;
+    writeln!(lines, "row {name} {kind} {at} {a} {value} {c} {field}")?;
+    Ok(())
+}
+
+/// Writes the diagnostics in their order, each once, and the answers in that of their tokens.
+fn write_notes(lines: &mut String, file: &str, notes: Notes) -> Result<()> {
+    let Notes {
+        mut diags,
+        mut answers,
+    } = notes;
+    diags.sort()?;
+    diags.dedup();
+    answers.sort_by_key(|answer| answer.at)?;
+    for Diag { at, code, .. } in diags {
+        writeln!(lines, "diagnostic {file} {} {code}", own_number(at))?;
+    }
+    for Answer { at, place, .. } in answers {
+        let (scope, ordinal) = (place.scope, place.ordinal);
+        writeln!(lines, "answer {file} {} {scope} {ordinal}", own_number(at))?;
+    }
+    Ok(())
+}
+
+/// How many blocks the unit of a case has.
+fn count_blocks(alloc: Global, case: &Case) -> Result<usize> {
+    let wanted = case.lines(alloc, ">")?;
+    Ok(
+        wanted
+            .lines()
+            .filter(|line| line.starts_with("block "))
+            .count(),
+    )
+}
+
+/// A unit of several blocks can't be analysed by these calls yet.
+pub fn answer(alloc: Global, case: &Case) -> Result<Option<String>> {
+    if count_blocks(alloc, case)? != 1 {
+        return Ok(None);
+    }
+    let file = format!(in alloc; "{}.mod", case.first("main").context("no main")?)?;
+    let mut text = FAULT.to_vec(alloc)?;
+    text.extend_from_slice(&case.text(alloc, &file)?)?;
+    ensure!(text.len() <= MOST_BYTES, "too long a text");
+    let (names, made) = made_of(alloc, &text).ok().context("no rows are made")?;
+    if made.cell > MOST_CELLS {
+        return Ok(None);
+    }
+    let mut lines = format!(in alloc; "block 1 Main {file} outer 0 level 0 chain 1\n")?;
+    for row in &made.rows {
+        write_row(alloc, &mut lines, &names, row)?;
+    }
+    let Made { notes, .. } = made;
+    write_notes(&mut lines, &file, notes)?;
+    Ok(Some(lines))
+}
