@@ -32,8 +32,8 @@ fn limits_of(alloc: Global, case: &Case) -> Result<Limits> {
     })
 }
 
-/// How a run ended.
-fn end_of(alloc: Global, machine: &Machine, end: End) -> Result<String> {
+/// How a run of the module with this name ended.
+fn end_of(alloc: Global, name: &str, end: End) -> Result<String> {
     match end {
         End::Halted => Ok(String::from_str(alloc, "halted")?),
         End::StepsSpent => Ok(String::from_str(alloc, "steps spent")?),
@@ -46,7 +46,6 @@ fn end_of(alloc: Global, machine: &Machine, end: End) -> Result<String> {
             offset,
         } => {
             ensure!(module == 0, "a trap in another module");
-            let name = escaped(alloc, machine.module_name(module))?;
             Ok(format!(in alloc; "trap {code} in {name} procedure {procedure} at {offset}")?)
         }
     }
@@ -60,14 +59,14 @@ fn left_in(alloc: Global, keys: &mut MemSource) -> Result<String> {
 }
 
 /// Runs a machine, and tells how it ends, what it has printed and what it has left of its input.
-fn run(alloc: Global, machine: &mut Machine, limits: Limits) -> Result<String> {
+fn run(alloc: Global, machine: &mut Machine, name: &str, limits: Limits) -> Result<String> {
     let Limits { steps, input, .. } = limits;
     let mut print = MemSink::new(alloc, Vec::new(alloc), ROOM, ROOM)
         .ok()
         .context("out of memory")?;
     let mut keys = MemSource::new(input, Vec::new(alloc));
     let end = machine.run(steps, &mut print, &mut keys);
-    let end = end_of(alloc, machine, end)?;
+    let end = end_of(alloc, name, end)?;
     let printed = escaped(alloc, print.bytes())?;
     let left = left_in(alloc, &mut keys)?;
     Ok(format!(in alloc; "{end}\nprinted \"{printed}\"\nleft \"{left}\"\n")?)
@@ -75,6 +74,7 @@ fn run(alloc: Global, machine: &mut Machine, limits: Limits) -> Result<String> {
 
 /// Runs an object that needs no other.
 fn run_object(alloc: Global, object: Object, limits: Limits) -> Result<Option<String>> {
+    let name = escaped(alloc, object.name())?;
     let program = match Program::single(alloc, object) {
         Ok(program) => program,
         Err(ProgramFault::NeedsLink(_)) => return Ok(None),
@@ -83,7 +83,7 @@ fn run_object(alloc: Global, object: Object, limits: Limits) -> Result<Option<St
     let cells = limits.cells;
     ensure!(cells > 0, "no cells");
     match Machine::new(alloc, program, cells) {
-        Ok(mut machine) => Ok(Some(run(alloc, &mut machine, limits)?)),
+        Ok(mut machine) => Ok(Some(run(alloc, &mut machine, &name, limits)?)),
         Err(StartFault::NoRoom) => Ok(Some(format!(in alloc; "limit cells {cells}\n")?)),
         Err(StartFault::Memory) => bail!("out of memory"),
     }
