@@ -1,6 +1,6 @@
 //! Cases, as their files have them.
 use crate::escapes::unescaped;
-use anyhow::Result;
+use anyhow::{Context, Result};
 use std::alloc::{AllocError, Global};
 
 /// A case: its name, and its other lines. Each line has a mark, and behind a blank what it says.
@@ -52,6 +52,18 @@ impl<'a> Case<'a> {
             }
         }
         Ok(all)
+    }
+
+    /// The name of the main module's file.
+    pub fn main_file(&self, alloc: Global) -> Result<String> {
+        let name = self.first("main").context("no main module")?;
+        Ok(format!(in alloc; "{name}.mod")?)
+    }
+
+    /// The main module's text.
+    pub fn main_text(&self, alloc: Global) -> Result<Vec<u8>> {
+        let file = self.main_file(alloc)?;
+        self.text(alloc, &file)
     }
 
     /// The text of a file, or the only text of a case without files. Nothing ends its last line.

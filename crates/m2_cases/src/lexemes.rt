@@ -31,22 +31,32 @@ pub fn name_of(alloc: Global, names: &Names, number: u64) -> Result<String> {
     Ok(escaped(alloc, names.bytes(number as u32))?)
 }
 
-pub fn answer(alloc: Global, case: &Case) -> Result<String> {
-    let text = case.text(alloc, "")?;
-    ensure!(text.len() <= MOST_BYTES, "too long a text");
-    let mut names = Names::new(alloc).ok().context("out of memory")?;
-    ensure!(names.count() == STANDARD_NAMES, "other names");
-    let tokens = lex(alloc, &text, &mut names)?;
+/// The lines of tokens.
+fn lines_of(alloc: Global, names: &Names, tokens: &[Token]) -> Result<String> {
     let mut lines = String::new(alloc);
-    for token in &tokens {
+    for token in tokens {
         let Token {
             kind,
             line,
             column,
             ..
         } = *token;
-        let value = value_of(alloc, &names, token)?;
+        let value = value_of(alloc, names, token)?;
         writeln!(lines, "{line}:{column} {kind:?} {value}")?;
     }
     Ok(lines)
+}
+
+/// The lines of a text's tokens.
+fn lines_in(alloc: Global, text: &[u8]) -> Result<String> {
+    ensure!(text.len() <= MOST_BYTES, "too long a text");
+    let mut names = Names::new(alloc).ok().context("out of memory")?;
+    ensure!(names.count() == STANDARD_NAMES, "other names");
+    let tokens = lex(alloc, text, &mut names)?;
+    lines_of(alloc, &names, &tokens)
+}
+
+pub fn answer(alloc: Global, case: &Case) -> Result<String> {
+    let text = case.text(alloc, "")?;
+    lines_in(alloc, &text)
 }

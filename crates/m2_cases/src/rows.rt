@@ -17,9 +17,6 @@ use std::fmt::Write;
 use stmt_sem::block;
 use type_rules::TEXT;
 
-/// The most bytes of a text, with the fault before it.
-const MOST_BYTES: usize = 1_048_576;
-
 /// The most cells of a module's variables. More of them are told at its name by the whole program alone.
 const MOST_CELLS: u32 = 16_777_215;
 
@@ -152,24 +149,28 @@ fn count_blocks(alloc: Global, case: &Case) -> Result<usize> {
     )
 }
 
+/// The lines of what the analysis of a module makes: its block, its rows and its notes.
+fn lines_of(alloc: Global, file: &str, names: &Names, made: Made) -> Result<String> {
+    let mut lines = format!(in alloc; "block 1 Main {file} outer 0 level 0 chain 1\n")?;
+    for row in &made.rows {
+        write_row(alloc, &mut lines, names, row)?;
+    }
+    let Made { notes, .. } = made;
+    write_notes(&mut lines, file, notes)?;
+    Ok(lines)
+}
+
 /// A unit of several blocks can't be analysed by these calls yet.
 pub fn answer(alloc: Global, case: &Case) -> Result<Option<String>> {
     if count_blocks(alloc, case)? != 1 {
         return Ok(None);
     }
-    let file = format!(in alloc; "{}.mod", case.first("main").context("no main")?)?;
     let mut text = FAULT.to_vec(alloc)?;
-    text.extend_from_slice(&case.text(alloc, &file)?)?;
-    ensure!(text.len() <= MOST_BYTES, "too long a text");
+    text.extend_from_slice(&case.main_text(alloc)?)?;
     let (names, made) = made_of(alloc, &text).ok().context("no rows are made")?;
     if made.cell > MOST_CELLS {
         return Ok(None);
     }
-    let mut lines = format!(in alloc; "block 1 Main {file} outer 0 level 0 chain 1\n")?;
-    for row in &made.rows {
-        write_row(alloc, &mut lines, &names, row)?;
-    }
-    let Made { notes, .. } = made;
-    write_notes(&mut lines, &file, notes)?;
-    Ok(Some(lines))
+    let file = case.main_file(alloc)?;
+    Ok(Some(lines_of(alloc, &file, &names, made)?))
 }

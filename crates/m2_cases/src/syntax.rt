@@ -2,10 +2,9 @@
 use crate::case::Case;
 use crate::units::{streams_of, unit_of};
 use anyhow::{Context, Result, bail, ensure};
-use m2_base::{Diag, StreamFault};
+use m2_base::{Diag, StreamFault, Token};
 use m2_parse::{ParseFault, parse_stream, values_fit};
 use std::alloc::Global;
-use std::fmt::Write;
 use stream_split::StreamTokens;
 
 /// The first fault of a stream, if it has no tree.
@@ -34,15 +33,25 @@ fn first_fault(alloc: Global, streams: &[StreamTokens]) -> Result<Option<Diag>> 
     Ok(first)
 }
 
-pub fn answer(alloc: Global, case: &Case) -> Result<String> {
-    let file = format!(in alloc; "{}.mod", case.first("main").context("no main")?)?;
-    let texts = unit_of(alloc, &case.text(alloc, &file)?)?;
+/// The line of a fault: the place of its token, and its code.
+fn line_of(alloc: Global, tokens: &[Token], fault: Diag) -> Result<String> {
+    let Diag { at, code, .. } = fault;
+    let token = tokens.get(at as usize).context("no such token")?;
+    let Token { line, column, .. } = *token;
+    Ok(format!(in alloc; "{line}:{column} {code}\n")?)
+}
+
+/// The line of a text's first fault, if there is one.
+fn fault_line(alloc: Global, text: &[u8]) -> Result<String> {
+    let texts = unit_of(alloc, text)?;
     let streams = streams_of(alloc, &texts)?;
-    let mut lines = String::new(alloc);
-    if let Some(fault) = first_fault(alloc, &streams)? {
-        let tokens = texts.main().tokens.as_slice();
-        let token = tokens.get(fault.at as usize).context("no such token")?;
-        writeln!(lines, "{}:{} {}", token.line, token.column, fault.code)?;
+    match first_fault(alloc, &streams)? {
+        Some(fault) => line_of(alloc, &texts.main().tokens, fault),
+        None => Ok(String::new(alloc)),
     }
-    Ok(lines)
+}
+
+pub fn answer(alloc: Global, case: &Case) -> Result<String> {
+    let text = case.main_text(alloc)?;
+    fault_line(alloc, &text)
 }
