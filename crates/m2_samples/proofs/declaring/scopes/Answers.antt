@@ -8,4 +8,4 @@ declare_items-requires-clause-begun c =
     begun c.in_ok-scopes.scopes c.in_ok-rows.rows c.in_ok-scopes.ensures.started (c.in_ok-rows.ensures.count (stream_view c.args.block.now.sample.now.tree) c.requires.layout)
 
 pub complete-requires : goal.complete-requires
-complete-requires c = may_complete (state_of c.declare_items.new.scopes) c.requires.sample c.in_ok-_cell.ensures
+complete-requires c = may_complete (state_of c.declare_items.new.scopes) c.requires.sample c.in_ok-cell.ensures
