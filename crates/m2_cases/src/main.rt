@@ -2,7 +2,8 @@
 //!
 //! `m2_cases` reads the files of cases in the folder that it's run in, gives each case to the call that its set is of,
 //! and compares the answer with the lines that the case wants. It prints a line for each set, what was wanted and got
-//! for each case that differs, and as the last line how many passed and failed. tests/README.md has the form of the files.
+//! for each case that differs, and as the last line how many passed and failed. tests/README.md has the form of the
+//! files.
 #![tactic(auto)]
 
 mod case;
