@@ -84,7 +84,7 @@ fn try_case<R: Print + AllocGlobal>(
         }
         Err(error) => format!(in alloc; "{error}\n")?,
     };
-    let wanted = case.lines(alloc, set.mark())?;
+    let wanted = set.wanted(alloc, case)?;
     tally.count(found == wanted);
     if found != wanted {
         println!(rt; "{set} {}: wanted\n{wanted}got\n{found}", case.name)?;

@@ -1,21 +1,25 @@
-//! The rows of a module of one block, and what is noted of its declarations and statements.
+//! The rows of a module of one block, and what is noted of its declarations.
 ghost use Rattle.std.specs.Prelude.{◌≡◌};
 ghost use Rattle.m2_base.specs.Views.{stream_view};
-ghost use Rattle.scope_core.specs.PlainScopes.{state_of};
-ghost use Rattle.m2_samples.specs.Filled.{IsFull, around_at};
+ghost use Rattle.m2_samples.specs.Filled.{around_at};
 ghost use Rattle.m2_samples.specs.Samples.{IsSample};
 
 use crate::case::Case;
 use crate::lexemes::name_of;
+use crate::units::unit_of;
 use anyhow::{Context, Result, ensure};
-use decl_sem::{Effect, close_check};
-use m2_base::{Answer, Ask, Diag, Memory, Names, Notes, Row, RowMeaning, read_row};
+use decl_sem::close_check;
+use m2_base::{Answer, Ask, Diag, Memory, Names, Notes, Row, TokenKind};
 use m2_samples::{Block, Made, Sample, around, layout_of, read, scopes};
 use scope_core::PlainScopes;
 use std::alloc::Global;
 use std::fmt::Write;
-use stmt_sem::block;
 use type_rules::TEXT;
+
+/// The kinds of the rows of constants and of fields.
+const CONSTANT: u8 = 1;
+
+const FIELD: u8 = 7;
 
 /// The most cells of a module's variables. More of them are told at its name by the whole program alone.
 const MOST_CELLS: u32 = 16_777_215;
@@ -23,26 +27,13 @@ const MOST_CELLS: u32 = 16_777_215;
 /// A sample's text has a fault before the module's: its tokens have numbers that are greater by one.
 const FAULT: &[u8] = b"!";
 
-/// Notes what the statements of a block and its end are refused for, and what their names stand for.
-fn note_rest(scopes: &mut PlainScopes, of: &Block, made: &mut Made) -> Result<(), Memory>
-    requires sample { IsSample of.now.sample.now.texts (stream_view of.now.sample.now.tree) }
-    requires around { of.now.around.now ≡ around_at 0 }
-    requires full { IsFull (state_of scopes.old).frame of.now.sample.now.texts 1 }
+/// Notes what the end of a block is refused for.
+fn close(scopes: &mut PlainScopes, of: &Block, made: &mut Made) -> Result<(), Memory>
+    requires { of.now.around.now ≡ around_at 0 }
 {
     let alloc = *made.rows.allocator();
     let site = of.site(None);
-    let tree = &of.sample.tree;
-    let effect = Effect {
-        cell: made.cell,
-        prologue: Vec::new(alloc),
-        heading: None,
-    };
-    let closing = close_check(alloc, scopes, &site, tree)?;
-    match block(alloc, scopes, &site, tree, &effect, None, &mut made.notes)? {
-        Ask::Known(_code) => {}
-        Ask::DontKnowYet(_) => return Err(Memory),
-    }
-    match closing {
+    match close_check(alloc, scopes, &site, &of.sample.tree)? {
         Ask::Known(notes) => made.notes.diags.extend_from_slice(&notes.diags)?,
         Ask::DontKnowYet(_) => return Err(Memory),
     }
@@ -62,7 +53,7 @@ fn analysed(alloc: Global, sample: &Sample) -> Result<Made, Memory>
     };
     let mut made = Made::new(alloc);
     let mut scopes = scopes(&of, &mut made)?;
-    note_rest(&mut scopes, &of, &mut made)?;
+    close(&mut scopes, &of, &mut made)?;
     Ok(made)
 }
 
@@ -82,23 +73,22 @@ fn name_or_dash(alloc: Global, names: &Names, number: u32) -> Result<String> {
     }
 }
 
-/// The second number of a row: of a string its characters.
+/// The second number of a row: of a constant of the strings' type its characters.
 fn value_of(alloc: Global, names: &Names, row: &Row) -> Result<String> {
-    match read_row(row) {
-        RowMeaning::Const(of, value, _) if of == TEXT => {
-            let text = name_of(alloc, names, value.unsigned_abs())?;
-            Ok(format!(in alloc; "\"{text}\"")?)
-        }
-        _ => Ok(format!(in alloc; "{}", row.b)?),
+    if row.kind == CONSTANT && row.a == i64::from(TEXT.ordinal) {
+        let text = name_of(alloc, names, row.b.unsigned_abs())?;
+        return Ok(format!(in alloc; "\"{text}\"")?);
     }
+    Ok(format!(in alloc; "{}", row.b)?)
 }
 
 /// The last number of a row, which only a field has: its name.
 fn field_of(alloc: Global, names: &Names, row: &Row) -> Result<String> {
-    match read_row(row) {
-        RowMeaning::Field(_, _, _, name) => name_or_dash(alloc, names, name),
+    ensure!(row.d == 0, "a row with one number more");
+    match row.kind {
+        FIELD => Ok(name_of(alloc, names, row.e.unsigned_abs())?),
         _ => {
-            ensure!(row.d == 0 && row.e == 0, "a row with more numbers");
+            ensure!(row.e == 0, "a row with two numbers more");
             name_or_dash(alloc, names, 0)
         }
     }
@@ -138,6 +128,43 @@ fn write_notes(lines: &mut String, file: &str, notes: Notes) -> Result<()> {
     Ok(())
 }
 
+/// The token with which the statements of a text begin.
+fn first_statement(alloc: Global, case: &Case) -> Result<u32> {
+    let texts = unit_of(alloc, &case.main_text(alloc)?)?;
+    for token in &texts.main().tokens {
+        if token.kind == TokenKind::Begin {
+            return Ok(token.at);
+        }
+    }
+    Ok(u32::MAX)
+}
+
+/// The token of a line, if it is one of notes.
+fn token_of(line: &str) -> Option<u32> {
+    let is_note = line.starts_with("diagnostic ") || line.starts_with("answer ");
+    if !is_note {
+        return None;
+    }
+    line.split(' ').nth(2)?.parse().ok()
+}
+
+/// The lines without the notes of statements.
+fn without_statements(alloc: Global, case: &Case, lines: &str) -> Result<String> {
+    let first = first_statement(alloc, case)?;
+    let mut kept = String::new(alloc);
+    for line in lines.lines() {
+        if token_of(line).is_none_or(|token| token < first) {
+            writeln!(kept, "{line}")?;
+        }
+    }
+    Ok(kept)
+}
+
+/// The lines that are wanted. What is noted of statements can't be asked without their code.
+pub fn wanted(alloc: Global, case: &Case) -> Result<String> {
+    without_statements(alloc, case, &case.lines(alloc, ">")?)
+}
+
 /// How many blocks the unit of a case has.
 fn count_blocks(alloc: Global, case: &Case) -> Result<usize> {
     let wanted = case.lines(alloc, ">")?;
@@ -172,5 +199,6 @@ pub fn answer(alloc: Global, case: &Case) -> Result<Option<String>> {
         return Ok(None);
     }
     let file = case.main_file(alloc)?;
-    Ok(Some(lines_of(alloc, &file, &names, made)?))
+    let lines = lines_of(alloc, &file, &names, made)?;
+    Ok(Some(without_statements(alloc, case, &lines)?))
 }

@@ -48,11 +48,19 @@ impl Set {
     }
 
     /// The mark of the lines that are wanted.
-    pub fn mark(self) -> &'static str {
+    fn mark(self) -> &'static str {
         match self {
             Set::Syntax => "fault",
             Set::Blocks => "procedure",
             _ => ">",
+        }
+    }
+
+    /// The lines that a case wants.
+    pub fn wanted(self, alloc: Global, case: &Case) -> Result<String> {
+        match self {
+            Set::Rows => rows::wanted(alloc, case),
+            _ => Ok(case.lines(alloc, self.mark())?),
         }
     }
 
