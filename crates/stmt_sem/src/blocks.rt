@@ -4,7 +4,7 @@ ghost use Rattle.std.specs.Option.{IfSome};
 ghost use Rattle.m2_base.specs.Lists.{IsPrefixOf};
 ghost use Rattle.m2_base.specs.Views.{stream_view};
 ghost use Rattle.stmt_sem.specs.Blocks.{Blocking, Returns};
-ghost use Rattle.stmt_sem.specs.ReadStatements.{AreReadStatements};
+ghost use Rattle.m2_base.specs.Statics.ReadStatements.{AreReadStatements};
 ghost use Rattle.stmt_sem.specs.Stating.{Joining};
 ghost use Rattle.type_rules.specs.Scenes.{IsThere};
 ghost use Rattle.type_rules.specs.Sites.{SuitsSite};

@@ -2,8 +2,8 @@
 use Rattle.std.proofs.Common.{ℕ, suc, List, [], ◌∷◌, ◌++◌, map, sym, ap, subst}
 use Rattle.std.specs.List.{AllZip}
 use Rattle.std.specs.Prelude.{slice_index_or}
-use Rattle.block_laws.specs.ReadStatements.{AreReadStatements}
-use Rattle.block_laws.proofs.StatementsRead.{body-is-read}
+use Rattle.m2_base.specs.Statics.ReadStatements.{AreReadStatements}
+use Rattle.m2_base.proofs.ReadStatements.{statements_are_read}
 use Rattle.m2_base.proofs.ReadStreams.{items_are_read}
 use Rattle.m2_base.specs.Finished.{AreRead, tokens_of}
 use Rattle.m2_base.specs.Lists.{Each}
@@ -52,4 +52,4 @@ items_read texts u unit read =
 pub statements_read : (texts : UnitTexts) (u : UnitTrees) → IsUnit texts → AreRead texts u → Each (λ b. AreReadStatements texts.names b.tree.body) (blocks_of u)
 statements_read texts u unit read =
     blocks_spelled (λ tree. AreReadStatements texts.names tree.body) (IsReadStream texts.names) texts u
-    (λ tree s spelled h. body-is-read texts.names s.kind tree s.tokens spelled h) read (streams_read texts unit)
+    (λ tree s spelled h. statements_are_read texts.names s.kind tree s.tokens spelled h) read (streams_read texts unit)

@@ -11,35 +11,16 @@ use Rattle.m2_base.specs.Lists.{Each}
 use Rattle.m2_base.specs.StatementsOf as of
 use Rattle.m2_base.specs.Statics.ReadTrees.{AreReadExprs, IsReadToken}
 use Rattle.m2_base.specs.StreamsOf as streams
-use Rattle.m2_base.specs.declared.trees.declarations.StreamKind.{StreamKind}
 use Rattle.m2_base.specs.Trees.{CaseArm, Stream, case_arms, exprs, if_arms, statements}
-use Rattle.m2_base.specs.declared.kind.TokenKind.TheVariants.{Bar, Begin, Elsif, Semicolon}
+use Rattle.m2_base.specs.declared.kind.TokenKind.TheVariants.{Bar, Elsif, Semicolon}
 use Rattle.m2_base.specs.declared.token.Token.{Token}
+use Rattle.m2_base.specs.declared.trees.declarations.StreamKind.{StreamKind}
 use Rattle.m2_base.specs.declared.trees.declarations.StreamKind.TheVariants.{Definition, Main, Procedure}
+use Rattle.m2_base.proofs.ReadStreams.{leaves_read}
 use Rattle.m2_base.proofs.ReadExpressions.{AreRead, actuals_read, designator_read, expr_read, labels_read, name_read}
-use Rattle.block_laws.specs.ReadStatements.{AreReadCaseArms, AreReadIfArms, AreReadStatements, IsReadElse, IsReadIfArm, IsReadIfThere, IsReadStatement}
+use Rattle.m2_base.specs.Statics.ReadStatements.{AreReadCaseArms, AreReadIfArms, AreReadStatements, IsReadCaseElse, IsReadExprOption, IsReadIfArm, IsReadStatement}
 
 module _ (names : List (List ℕ)) where
-  each_front : (xs ys : List Token) → Each (IsReadToken names) (xs ++ ys) → Each (IsReadToken names) xs
-  each_front [] ys h = tt
-  each_front (x ∷ xs) ys h = (h.0, each_front xs ys h.1)
-
-  each_back : (xs ys : List Token) → Each (IsReadToken names) (xs ++ ys) → Each (IsReadToken names) ys
-  each_back [] ys h = h
-  each_back (x ∷ xs) ys h = each_back xs ys h.1
-
-  -- each token of a derivation is as read, where those that it spells are
-  leaves_read : (d : Tree Token) → Each (IsReadToken names) (tokens d) → AreRead names d
-  leaves_read nothing h = tt
-  leaves_read (leaf t) h = h.0
-  leaves_read (both d e) h = (leaves_read d (each_front (tokens d) (tokens e) h), leaves_read e (each_back (tokens d) (tokens e) h))
-  leaves_read (left d) h = leaves_read d h
-  leaves_read (right d) h = leaves_read d h
-  leaves_read last h = tt
-  leaves_read (more d ds) h = (leaves_read d (each_front (tokens d) (tokens ds) h), leaves_read ds (each_back (tokens d) (tokens ds) h))
-  leaves_read (inner d) h = leaves_read d h
-  leaves_read (part d) h = leaves_read d h
-
   optional_actuals_read : {d : Tree Token} → Derives grammar (optional rules.actuals) d → AreRead names d → AreReadExprs names (exprs (of.optional_actuals_of d))
   optional_actuals_read (of_left p) r = actuals_read names p r
   optional_actuals_read (of_right of_empty) r = tt
@@ -48,11 +29,11 @@ module _ (names : List (List ℕ)) where
   designated_read (of_then p (of_left (of_then becomes q))) r = (designator_read names p r.0, expr_read names q r.1.1)
   designated_read (of_then p (of_right q)) r = (designator_read names p r.0, optional_actuals_read q r.1)
 
-  optional_expr_read : {d : Tree Token} → Derives grammar (optional rules.expr) d → AreRead names d → IsReadIfThere names (expressions.optional_expr_of d)
+  optional_expr_read : {d : Tree Token} → Derives grammar (optional rules.expr) d → AreRead names d → IsReadExprOption names (expressions.optional_expr_of d)
   optional_expr_read (of_left p) r = expr_read names p r
   optional_expr_read (of_right of_empty) r = tt
 
-  step_read : {d : Tree Token} → Derives grammar rules.step d → AreRead names d → IsReadIfThere names (of.step_of d)
+  step_read : {d : Tree Token} → Derives grammar rules.step d → AreRead names d → IsReadExprOption names (of.step_of d)
   step_read (of_left (of_then by p)) r = expr_read names p r.1
   step_read (of_right of_empty) r = tt
 
@@ -88,8 +69,10 @@ module _ (names : List (List ℕ)) where
     statement_rule_read w (of_right (of_right (of_right (of_right (of_right (of_right (of_right (of_right (of_right p))))))))) r = with_read w p r
 
     if_read : {d : Tree Token} (w : List Token) → Derives grammar rules.if_rule d → AreRead names d → IsReadStatement names (of.if_of d w)
-    if_read w (of_then (of_token m) (of_then p (of_then {d = arms} q (of_then {d = other} {e = end} o e)))) r =
-        ((if_arm_read (tokens (both arms (both other end)) ++ w) p r.1.0, elsifs_read (tokens (both other end) ++ w) q r.1.1.0), otherwise_read (tokens end ++ w) o r.1.1.1.0)
+    if_read w (of_then (of_token m) (of_then p (of_then {d = arms} q (of_then {d = other} {e = end} o e)))) r = (
+      (if_arm_read (tokens (both arms (both other end)) ++ w) p r.1.0, elsifs_read (tokens (both other end) ++ w) q r.1.1.0),
+      otherwise_read (tokens end ++ w) o r.1.1.1.0,
+    )
 
     if_arm_read : {d : Tree Token} (w : List Token) → Derives grammar rules.if_arm d → AreRead names d → IsReadIfArm names (of.if_arm_of d w)
     if_arm_read w (of_then p (of_then then_word q)) r = (expr_read names p r.0, statements_read w q r.1.1)
@@ -103,10 +86,13 @@ module _ (names : List (List ℕ)) where
     otherwise_read w (of_right of_empty) r = tt
 
     case_read : {d : Tree Token} (w : List Token) → Derives grammar rules.case_rule d → AreRead names d → IsReadStatement names (of.case_of d w)
-    case_read w (of_then (of_token m) (of_then p (of_then of_word (of_then q (of_then {d = other} {e = end} o e))))) r =
-        (expr_read names p r.1.0, case_arms_read (tokens (both other end) ++ w) q r.1.1.1.0, case_else_read (tokens end ++ w) o r.1.1.1.1.0)
+    case_read w (of_then (of_token m) (of_then p (of_then of_word (of_then q (of_then {d = other} {e = end} o e))))) r = (
+      expr_read names p r.1.0,
+      case_arms_read (tokens (both other end) ++ w) q r.1.1.1.0,
+      case_else_read (tokens end ++ w) o r.1.1.1.1.0,
+    )
 
-    case_else_read : {d : Tree Token} (w : List Token) → Derives grammar rules.otherwise d → AreRead names d → IsReadElse names (of.case_else_with (of.otherwise_of d w))
+    case_else_read : {d : Tree Token} (w : List Token) → Derives grammar rules.otherwise d → AreRead names d → IsReadCaseElse names (of.case_else_with (of.otherwise_of d w))
     case_else_read w (of_left (of_then else_word p)) r = statements_read w p r.1
     case_else_read w (of_right of_empty) r = tt
 
@@ -127,8 +113,7 @@ module _ (names : List (List ℕ)) where
     while_read w (of_then (of_token m) (of_then p (of_then do_word (of_then {e = end} q e)))) r = (expr_read names p r.1.0, statements_read (tokens end ++ w) q r.1.1.1.0)
 
     repeat_read : {d : Tree Token} (w : List Token) → Derives grammar rules.repeat_rule d → AreRead names d → IsReadStatement names (of.repeat_of d w)
-    repeat_read w (of_then (of_token m) (of_then q (of_then {d = until} {e = e} until_word p))) r =
-        (statements_read (tokens (both until e) ++ w) q r.1.0, expr_read names p r.1.1.1)
+    repeat_read w (of_then (of_token m) (of_then q (of_then {d = until} {e = e} until_word p))) r = (statements_read (tokens (both until e) ++ w) q r.1.0, expr_read names p r.1.1.1)
 
     loop_read : {d : Tree Token} (w : List Token) → Derives grammar rules.loop_rule d → AreRead names d → IsReadStatement names (of.loop_of d w)
     loop_read w (of_then (of_token m) (of_then {e = end} q e)) r = statements_read (tokens end ++ w) q r.1.0
@@ -145,23 +130,20 @@ module _ (names : List (List ℕ)) where
     with_read : {d : Tree Token} (w : List Token) → Derives grammar rules.with_rule d → AreRead names d → IsReadStatement names (of.with_of d w)
     with_read w (of_then (of_token m) (of_then p (of_then do_word (of_then {e = end} q e)))) r = (designator_read names p r.1.0, statements_read (tokens end ++ w) q r.1.1.1.0)
 
-  -- ** Streams
+  body_read : {d : Tree Token} (w : List Token) → Derives grammar rules.body d → AreRead names d → AreReadStatements names (statements (streams.body_of d w))
+  body_read w (of_left (of_then begin p)) r = statements_read w p r.1
+  body_read w (of_right of_empty) r = tt
 
-  begun_read : {d : Tree Token} (w : List Token) → Derives grammar (optional (rules.a Begin ⨾ rules.statements)) d → AreRead names d → AreReadStatements names (statements (streams.body_of d w))
-  begun_read w (of_left (of_then begin p)) r = statements_read w p r.1
-  begun_read w (of_right of_empty) r = tt
-
-  body_read : {d : Tree Token} (w : List Token) → Derives grammar (rules.block rules.procedure_cut) d → AreRead names d → AreReadStatements names (statements (streams.block_of d w).body)
-  body_read w (of_then p (of_then b (of_then {d = d} {e = e} end i))) r = begun_read (tokens (both d e) ++ w) b r.1.0
+  block_read : {d : Tree Token} (w : List Token) → Derives grammar (rules.block rules.procedure_cut) d → AreRead names d → AreReadStatements names (statements (streams.block_of d w).body)
+  block_read w (of_then p (of_then b (of_then {d = end} {e = i} q c))) r = body_read (tokens (both end i) ++ w) b r.1.0
 
   stream_read : (kind : StreamKind) {d : Tree Token} (w : List Token) → Derives grammar (rules.stream kind) d → AreRead names d → AreReadStatements names (streams.stream_of kind d w).body
-  stream_read Main w (of_then implementation (of_then module_word (of_then i (of_then semicolon (of_then is (of_then b (of_then {d = d6} {e = d7} p q))))))) r =
-      body_read (tokens (both d6 d7) ++ w) b r.1.1.1.1.1.0
+  stream_read Main w (of_then implementation (of_then module_word (of_then i (of_then semicolon (of_then is (of_then b (of_then {d = d6} {e = d7} p q))))))) r = block_read (tokens (both d6 d7) ++ w) b r.1.1.1.1.1.0
   stream_read Definition w (of_then word (of_then module_word (of_then i (of_then semicolon (of_then is (of_then export (of_then ds (of_then end (of_then close (of_then period stop)))))))))) r = tt
-  stream_read Procedure w (of_then h (of_then semicolon (of_then b (of_then {d = d3} {e = d4} p q)))) r = body_read (tokens (both d3 d4) ++ w) b r.1.1.0
+  stream_read Procedure w (of_then h (of_then semicolon (of_then b (of_then {d = d3} {e = d4} p q)))) r = block_read (tokens (both d3 d4) ++ w) b r.1.1.0
 
-  pub body-is-read : (kind : StreamKind) (tree : Stream) (ts : List Token) → texts.Spells grammar levels (rules.stream kind) (streams.stream_of kind) tree ts → Each (IsReadToken names) ts → AreReadStatements names tree.body
-  body-is-read kind tree ts spelled h =
+  pub statements_are_read : (kind : StreamKind) (tree : Stream) (ts : List Token) → texts.Spells grammar levels (rules.stream kind) (streams.stream_of kind) tree ts → Each (IsReadToken names) ts → AreReadStatements names tree.body
+  statements_are_read kind tree ts spelled h =
       let s = spelled.sentence in
       subst (λ (z : Stream). AreReadStatements names z.body) spelled.gives
-      (stream_read kind [] s.derives (leaves_read s.tree (subst (Each (IsReadToken names)) (sym s.spells) h)))
+      (stream_read kind [] s.derives (leaves_read names s.tree (subst (Each (IsReadToken names)) (sym s.spells) h)))
