@@ -1,6 +1,8 @@
 -- What a lexeme stands for.
 use Rattle.std.specs.Prelude.{ℕ, ◌+◌, ◌-◌, ◌*◌, nat_le, if◌then◌else◌, Bool, true, false, List, [], ◌∷◌, Option, Some, None, codes, fold, is_some}
 use Rattle.std.specs.List.{take_while}
+use Rattle.m2_base.specs.Diagnostics.{code_of}
+use Rattle.m2_base.specs.declared.diagnostic.Diagnostic.TheVariants.{CharacterNotAllowed, CommentNotClosed, NumberTooLarge, StringNotClosed}
 use Rattle.m2_base.specs.Comments.{opens_comment, behind_comment}
 use Rattle.m2_base.specs.Letters.{is_blank, is_letter, is_digit, is_octal_digit, is_hexadecimal_digit, is_quote, stays_in}
 use Rattle.m2_base.specs.Kinds.{kind_in, reserved_words, symbols}
@@ -26,13 +28,13 @@ digit_value digit = if is_digit digit then digit - 48 else digit - 55
 abbrev pub value_in : ℕ → List ℕ → ℕ
 value_in base digits = fold (λ value digit. value * base + digit_value digit) 0 digits
 
--- a number has at most 32 bits; a greater one is fault 13
+-- a number has at most 32 bits; a greater one is a fault
 abbrev pub number_of : ℕ → Meaning
-number_of value = if nat_le value 4294967295 then number value else bad 13
+number_of value = if nat_le value 4294967295 then number value else bad (code_of NumberTooLarge)
 
--- a character has at most 8 bits; a greater one is fault 13
+-- a character has at most 8 bits; a greater one is a fault
 abbrev pub character_of : ℕ → Meaning
-character_of value = if nat_le value 255 then character value else bad 13
+character_of value = if nat_le value 255 then character value else bad (code_of NumberTooLarge)
 
 -- What a numeral stands for: `H` ends hexadecimal digits, `B` octal ones, and `C` those of a character.
 abbrev pub numeral_meaning : List ℕ → Meaning
@@ -44,11 +46,11 @@ numeral_meaning bytes =
 
 -- What a string stands for, by its quote and what follows that: what stands between the quotes. An open one is fault 12.
 abbrev pub string_meaning : ℕ → List ℕ → Meaning
-string_meaning quote bytes = if is_run_and (stays_in quote) (quote ∷ []) bytes then string (take_while (stays_in quote) bytes) else bad 12
+string_meaning quote bytes = if is_run_and (stays_in quote) (quote ∷ []) bytes then string (take_while (stays_in quote) bytes) else bad (code_of StringNotClosed)
 
 -- A comment separates tokens as a blank does. An open one is fault 11.
 abbrev pub comment_meaning : List ℕ → Meaning
-comment_meaning bytes = if is_some (behind_comment bytes) then blank else bad 11
+comment_meaning bytes = if is_some (behind_comment bytes) then blank else bad (code_of CommentNotClosed)
 
 abbrev pub fixed_or : Option TokenKind → Meaning → Meaning
 fixed_or (Some kind) other = fixed kind
@@ -63,7 +65,7 @@ meaning_of (b ∷ bs) =
     else (if is_digit b then numeral_meaning (b ∷ bs)
     else (if is_quote b then string_meaning b bs
     else (if opens_comment (b ∷ bs) then comment_meaning (b ∷ bs)
-    else fixed_or (kind_in symbols (b ∷ bs)) (bad 10)))))
+    else fixed_or (kind_in symbols (b ∷ bs)) (bad (code_of CharacterNotAllowed))))))
 
 abbrev pub is_blank_meaning : Meaning → Bool
 is_blank_meaning blank = true

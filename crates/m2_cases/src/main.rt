@@ -8,6 +8,7 @@
 
 mod case;
 mod codes;
+mod diagnostics;
 mod escapes;
 mod lexemes;
 mod objects;

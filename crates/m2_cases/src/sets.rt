@@ -1,6 +1,6 @@
 //! The sets of cases.
 use crate::case::Case;
-use crate::{codes, lexemes, objects, rows, runs, streams, syntax};
+use crate::{codes, diagnostics, lexemes, objects, rows, runs, streams, syntax};
 use anyhow::Result;
 use std::alloc::Global;
 use std::fmt;
@@ -22,10 +22,12 @@ pub enum Set {
     Objects,
     /// Objects with how they run.
     Runs,
+    /// Codes with what a listing says of them.
+    Diagnostics,
 }
 
 impl Set {
-    pub const ALL: [Set; 7] = [
+    pub const ALL: [Set; 8] = [
         Set::Lex,
         Set::Syntax,
         Set::Streams,
@@ -33,6 +35,7 @@ impl Set {
         Set::Blocks,
         Set::Objects,
         Set::Runs,
+        Set::Diagnostics,
     ];
 
     fn name(self) -> &'static str {
@@ -44,6 +47,7 @@ impl Set {
             Set::Blocks => "blocks",
             Set::Objects => "objects",
             Set::Runs => "runs",
+            Set::Diagnostics => "diagnostics",
         }
     }
 
@@ -74,6 +78,7 @@ impl Set {
             Set::Blocks => codes::answer(alloc, case),
             Set::Objects => Ok(Some(objects::answer(alloc, case)?)),
             Set::Runs => runs::answer(alloc, case),
+            Set::Diagnostics => Ok(Some(diagnostics::answer(alloc, case)?)),
         }
     }
 }

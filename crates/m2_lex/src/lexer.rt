@@ -10,12 +10,9 @@ ghost use Rattle.m2_lex.specs.Places.{place_of};
 use crate::longest::lexeme_len;
 use crate::meaning::{Meaning, meaning_of};
 use crate::position::Position;
-use m2_base::{Memory, Names, Token, TokenKind};
+use m2_base::{MOST_TOKENS, Memory, Names, Token, TokenKind};
 use std::alloc::{AllocError, AllocFailed, Global};
 use thiserror::Error;
-
-/// The most tokens of a text, with the end.
-const MOST_TOKENS: usize = 1_048_576;
 
 /// Why a text got no tokens.
 #[derive(Debug, Drop, Error)]
@@ -76,7 +73,7 @@ fn token_of(
         }
         Meaning::Number(value) => Ok(Some(position.token(at, TokenKind::Number, u64::from(value)))),
         Meaning::Fixed(kind) => Ok(Some(position.token(at, kind, 0))),
-        Meaning::Bad(code) => Ok(Some(position.token(at, TokenKind::Bad, code))),
+        Meaning::Bad(fault) => Ok(Some(position.token(at, TokenKind::Bad, fault as u64))),
     }
 }
 

@@ -6,24 +6,12 @@ ghost use Rattle.m2_lex.specs.Understood.{stands_for};
 
 use crate::comment::{comment_len, opens_comment};
 use crate::runs::{hexadecimal_digits, octal_digits, string_bytes};
-use m2_base::{TokenKind, is_blank, is_digit, is_letter, is_quote, reserved_kind, symbol_kind};
+use m2_base::{
+    Diagnostic, GREATEST_CARDINAL, GREATEST_CHARACTER, TokenKind, is_blank, is_digit, is_letter,
+    is_quote, reserved_kind, symbol_kind,
+};
 
-/// The code of a byte that no token has.
-const STRAY_BYTE: u64 = 10;
-
-/// The code of a comment that isn't closed.
-const OPEN_COMMENT: u64 = 11;
-
-/// The code of a string that isn't closed.
-const OPEN_STRING: u64 = 12;
-
-/// The code of a number or a character that is too great.
-const TOO_GREAT: u64 = 13;
-
-/// The greatest number.
-const MOST: u64 = 4_294_967_295;
-
-/// Nothing, a name, a number, a character, a string, a token of a kind that says all, or a fault with its code.
+/// Nothing, a name, a number, a character, a string, a token of a kind that says all, or a fault.
 pub enum Meaning<'a> {
     Blank,
     Name(&'a [u8]),
@@ -31,7 +19,7 @@ pub enum Meaning<'a> {
     Character(u8),
     String(&'a [u8]),
     Fixed(TokenKind),
-    Bad(u64),
+    Bad(Diagnostic),
 }
 
 /// What a lexeme stands for.
@@ -93,7 +81,7 @@ fn number_meaning(base: u64, digits: &[u8]) -> Meaning<'_>
 {
     match value_in(base, digits) {
         Some(value) => Meaning::Number(value),
-        None => Meaning::Bad(TOO_GREAT),
+        None => Meaning::Bad(Diagnostic::NumberTooLarge),
     }
 }
 
@@ -102,8 +90,8 @@ fn character_meaning(digits: &[u8]) -> Meaning<'_>
     ensures { stands_for result ≡ character_of (spec_value_in 8 digits.now) }
 {
     match value_in(8, digits) {
-        Some(value) if value <= 255 => Meaning::Character(value as u8),
-        _ => Meaning::Bad(TOO_GREAT),
+        Some(value) if value as i64 <= GREATEST_CHARACTER => Meaning::Character(value as u8),
+        _ => Meaning::Bad(Diagnostic::NumberTooLarge),
     }
 }
 
@@ -115,7 +103,7 @@ fn string_meaning(quote: u8, bytes: &[u8]) -> Meaning<'_>
     if last == [quote].as_slice() {
         Meaning::String(inside)
     } else {
-        Meaning::Bad(OPEN_STRING)
+        Meaning::Bad(Diagnostic::StringNotClosed)
     }
 }
 
@@ -126,7 +114,7 @@ fn comment_meaning(comment: &[u8]) -> Meaning<'_>
 {
     match comment_len(comment) {
         Some(_) => Meaning::Blank,
-        None => Meaning::Bad(OPEN_COMMENT),
+        None => Meaning::Bad(Diagnostic::CommentNotClosed),
     }
 }
 
@@ -136,7 +124,7 @@ fn symbol_meaning(spelling: &[u8]) -> Meaning<'_>
 {
     match symbol_kind(spelling) {
         Some(kind) => Meaning::Fixed(kind),
-        None => Meaning::Bad(STRAY_BYTE),
+        None => Meaning::Bad(Diagnostic::CharacterNotAllowed),
     }
 }
 
@@ -149,7 +137,7 @@ fn value_in(base: u64, digits: &[u8]) -> Option<u32>
     let mut value = 0;
     for digit in digits {
         value = value * base + u64::from(digit_value(*digit));
-        if value > MOST {
+        if value > GREATEST_CARDINAL as u64 {
             return None;
         }
     }

@@ -7,7 +7,10 @@ ghost use Rattle.m2_parse.specs.Reading.{Gives, next_is as spec_next_is, next_in
 
 use crate::faults::{ReadFault, Refusal};
 use crate::tokens::Tokens;
-use m2_base::{Token, TokenKind};
+use m2_base::{Diagnostic, Token, TokenKind};
+
+/// The code of a token with which no sentence goes on.
+const UNEXPECTED: u8 = Diagnostic::UnexpectedToken as u8;
 
 /// The number of a kind.
 pub fn number(kind: TokenKind) -> u8
@@ -64,7 +67,10 @@ impl Tokens<'_> {
         ensures { result ≡ syntax_fault self.now.list.now }
     {
         match self.list {
-            [] => ReadFault::Refused(Refusal::Syntax { at: 0, code: 20 }),
+            [] => ReadFault::Refused(Refusal::Syntax {
+                at: 0,
+                code: UNEXPECTED,
+            }),
             [t, ..] => {
                 if number(t.kind) == number(TokenKind::Bad) {
                     ReadFault::Refused(Refusal::Syntax {
@@ -72,7 +78,10 @@ impl Tokens<'_> {
                         code: t.value as u8,
                     })
                 } else {
-                    ReadFault::Refused(Refusal::Syntax { at: t.at, code: 20 })
+                    ReadFault::Refused(Refusal::Syntax {
+                        at: t.at,
+                        code: UNEXPECTED,
+                    })
                 }
             }
         }

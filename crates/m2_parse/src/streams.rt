@@ -13,11 +13,10 @@ use crate::faults::{ParseFault, ReadFault, Refusal};
 use crate::lists::repeated;
 use crate::names::{ident, idents};
 use crate::tokens::Tokens;
-use m2_base::{Diag, Ident, Import, Stream, StreamFault, StreamKind, Token, TokenKind};
+use m2_base::{
+    Diag, Ident, Import, MOST_NESTED, Stream, StreamFault, StreamKind, Token, TokenKind,
+};
 use std::alloc::Global;
-
-/// How deep a token may be nested.
-const LEVELS: usize = 100;
 
 fn begins_import(tokens: &Tokens) -> bool
     ensures { result ≡ spec_begins_import tokens.now.list.now }
@@ -206,7 +205,7 @@ fn whole(
 ) -> Result<Stream, ParseFault>
     ensures { readers.Gives cause_of stream_view result (stream_text text kind tokens.entry.list.now) }
 {
-    match stream(alloc, &mut tokens, kind, LEVELS) {
+    match stream(alloc, &mut tokens, kind, MOST_NESTED) {
         Err(fault) => Err(parse_fault(text, fault)),
         Ok(found) => match tokens.list {
             [] => Ok(found),
