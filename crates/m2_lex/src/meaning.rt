@@ -11,6 +11,9 @@ use m2_base::{
     is_quote, reserved_kind, symbol_kind,
 };
 
+/// The greatest number.
+const MOST: u64 = GREATEST_CARDINAL as u64;
+
 /// Nothing, a name, a number, a character, a string, a token of a kind that says all, or a fault.
 pub enum Meaning<'a> {
     Blank,
@@ -137,7 +140,7 @@ fn value_in(base: u64, digits: &[u8]) -> Option<u32>
     let mut value = 0;
     for digit in digits {
         value = value * base + u64::from(digit_value(*digit));
-        if value > GREATEST_CARDINAL as u64 {
+        if value > MOST {
             return None;
         }
     }
