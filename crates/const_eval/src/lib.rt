@@ -78,6 +78,6 @@ pub use operators::{apply_one, operate};
 pub use pairs::{compatible_pair, is_ordinal, is_within};
 pub use set_bits::with_elements;
 pub use sets::{element_of, no_elements, set_base, set_type_of};
-pub use steps::{applied_one, operated, taken};
+pub use steps::{applied_one, operated, string_constant, taken};
 pub use structures::is_broken;
 pub use values::{in_constant, selected, spoilt_by, value_wanted};

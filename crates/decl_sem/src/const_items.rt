@@ -16,7 +16,8 @@ ghost use Rattle.decl_sem.specs.Pieces.{Declares, IsBehind, IsMaking, known_of};
 ghost use Rattle.m2_base.specs.Statics.ReadTrees.{IsReadName};
 
 use crate::making::Made;
-use crate::putting::{name_row, small_place};
+use crate::names::small_place;
+use crate::putting::name_row;
 use const_eval::constant;
 use m2_base::{Ask, Expr, Ident, Memory, Operand, Place, RowMeaning, Scopes, Site};
 use type_rules::{BROKEN, TEXT};

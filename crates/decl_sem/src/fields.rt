@@ -22,11 +22,10 @@ use crate::cells::capped;
 use crate::making::Made;
 use crate::names::{refuse, small_place, type_of_qual};
 use crate::putting::plain_row;
-use crate::sets::range_by;
 use crate::standing::stand_in;
 use crate::variables::cells_of;
 use m2_base::{Ask, Diagnostic, Ident, Memory, Notes, Place, Qual, RowMeaning, Scopes, Site};
-use type_rules::BROKEN;
+use type_rules::{BROKEN, range_by};
 
 /// Notes a second field of a name.
 fn note_second(site: &Site, at: u32, second: bool, notes: &mut Notes) -> Result<(), Memory>

@@ -15,7 +15,8 @@ ghost use Rattle.decl_sem.specs.Pieces.{Declares, IsBehind, IsMaking, known_of};
 ghost use Rattle.m2_base.specs.Statics.ReadTrees.{IsReadName, IsReadOption};
 
 use crate::making::Made;
-use crate::putting::{name_row, small_place};
+use crate::names::small_place;
+use crate::putting::name_row;
 use m2_base::{Ask, Ident, Memory, Place, Row, RowMeaning, Scopes, Site, Texts};
 use type_rules::{BROKEN, use_name};
 

@@ -39,14 +39,3 @@ pub(crate) fn name_row<S: Scopes>(
 {
     put_named(site, made, ident, meaning)
 }
-
-/// A place, whose ordinal has 32 bits.
-pub(crate) fn small_place(place: Place) -> Place
-    ensures same { result ≡ place }
-    ensures small { place.ordinal < 2 ^ 32 }
-{
-    Place {
-        scope: place.scope,
-        ordinal: place.ordinal,
-    }
-}

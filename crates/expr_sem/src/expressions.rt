@@ -20,13 +20,14 @@ use crate::calls::{Callable, Callee, call_coded, called};
 use crate::coded::{Coded, Placed};
 use crate::elements::{select_element, select_target};
 use crate::fragments::{Fragment, Fragments};
-use crate::leaves::{string_constant, type_noted};
+use crate::leaves::type_noted;
 use crate::operators::{one_coded, two_coded};
 use crate::pieces::With;
 use crate::record_fields::{name_coded, select_field};
 use crate::set_elements::{Elements, add_element, add_range, element_coded, set_coded, set_start};
 use crate::standard_procedures::{first_of_two, of_no_argument, of_one_argument, of_two_arguments};
 use crate::values::as_value;
+use const_eval::string_constant;
 use m2_base::{
     Ask, Builtin, Designator, Expr, ExprForm, Label, Memory, Next, Notes, Operand, Place, Scopes,
     Selector, Site,

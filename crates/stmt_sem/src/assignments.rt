@@ -21,8 +21,8 @@ ghost use Rattle.stmt_sem.specs.Assignments.{assignment as spec_assignment, code
 use code_form::Instr;
 use const_eval::is_bad;
 use expr_sem::{
-    Coded, Diagnostic, Fragment, Fragments, answered, assigned_to, cells_of, characters,
-    fitted_code, instr_behind, is_structured, value_code,
+    Coded, Fragment, Fragments, answered, assigned_to, cells_of, characters, fitted_code,
+    instr_behind, is_structured, value_code,
 };
 use m2_base::{Ask, Diagnostic, Memory, Notes, Operand, Place, Scopes, Site};
 use type_rules::operand_type;
