@@ -23,7 +23,7 @@ use Rattle.stmt_sem.specs.BlockCode.{block_code, block_diags, body_of, run_of, s
 use Rattle.stmt_sem.specs.Tokens.{block_tokens}
 use Rattle.row_laws.specs.Headings.{HasSoundHeadings}
 use Rattle.block_laws.specs.Named.{procedure_of}
-use Rattle.block_laws.specs.ReadStatements.{AreReadStatements}
+use Rattle.m2_base.specs.Statics.ReadStatements.{AreReadStatements}
 use Rattle.block_laws.specs.Sight.{IsInSight, Sees}
 use Rattle.block_laws.specs.Worlds.{unit_world}
 use Rattle.block_laws.proofs.BlocksAt.{unit_all}

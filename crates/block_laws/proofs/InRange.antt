@@ -40,7 +40,7 @@ use Rattle.stmt_sem.specs.BlockCode.{first_cell, first_spot, run_of, stand_of}
 use Rattle.stmt_sem.specs.Flows.{Run}
 use Rattle.stmt_sem.specs.Places.{OthersInRange, block_steps}
 use Rattle.stmt_sem.specs.Statements.{flow_of}
-use Rattle.block_laws.specs.ReadStatements.{AreReadStatements}
+use Rattle.m2_base.specs.Statics.ReadStatements.{AreReadStatements}
 use Rattle.row_laws.specs.RowRanges.{BlockInRange, HasOperands, IsCopyInRange, RowsInRange}
 use Rattle.block_laws.specs.Sight.{IsDeclared, Sees, value_instr}
 use Rattle.block_laws.proofs.Values.{IsEntry, entry_operands, found_entry}

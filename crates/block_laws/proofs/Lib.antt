@@ -24,6 +24,5 @@ pub mod ValidUnits
 pub mod Implemented
 pub mod NamedHeadings
 pub mod CodeIsValid
-pub mod StatementsRead
 pub mod MainBlocks
 pub mod WholeRows

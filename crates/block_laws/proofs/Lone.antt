@@ -27,7 +27,7 @@ use Rattle.stmt_sem.specs.BlockCode.{block_code, block_diags}
 use Rattle.stmt_sem.specs.Tokens.{block_tokens}
 use Rattle.block_laws.specs.Lone.{AreOfLone, IsLone, IsOfLone, lone_world}
 use Rattle.block_laws.specs.Named.{BlockNamesThere, HasCode, procedure_of}
-use Rattle.block_laws.specs.ReadStatements.{AreReadStatements}
+use Rattle.m2_base.specs.Statics.ReadStatements.{AreReadStatements}
 use Rattle.row_laws.specs.RowRanges.{BlockInRange, IsBelow, IsCopyBelow}
 use Rattle.block_laws.specs.Sight.{IsDeclared, RowsNameThere}
 use Rattle.block_laws.proofs.InRange.{sees-all}

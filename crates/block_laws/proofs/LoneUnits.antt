@@ -27,7 +27,7 @@ use Rattle.stmt_sem.specs.BlockCode.{block_code, block_diags}
 use Rattle.stmt_sem.specs.Tokens.{block_tokens}
 use Rattle.block_laws.specs.Lone.{AreOfLone, IsLone, IsLoneTree, IsOfLone, IsPlainItem, lone_unit, lone_world}
 use Rattle.block_laws.specs.Named.{procedure_of}
-use Rattle.block_laws.specs.ReadStatements.{AreReadStatements}
+use Rattle.m2_base.specs.Statics.ReadStatements.{AreReadStatements}
 use Rattle.block_laws.proofs.Lone.{each-at, lone-valid}
 
 -- ** Its only block, and its rows

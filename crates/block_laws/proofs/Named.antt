@@ -33,7 +33,7 @@ use Rattle.stmt_sem.specs.Flows.{Run}
 use Rattle.stmt_sem.specs.Places.{NameThere, ProceduresAgree, calls_procedure}
 use Rattle.stmt_sem.specs.Tokens.{block_tokens}
 use Rattle.block_laws.specs.Named.{BlockNamesThere, HasCode, procedure_of}
-use Rattle.block_laws.specs.ReadStatements.{AreReadStatements}
+use Rattle.m2_base.specs.Statics.ReadStatements.{AreReadStatements}
 use Rattle.row_laws.specs.RowRanges.{BlockInRange, IsCopyBelow}
 use Rattle.block_laws.specs.Sight.{RowsNameThere, value_instr}
 use Rattle.block_laws.proofs.Parts.{IsSpot, Leads, Leaves, names_nothing}

@@ -31,7 +31,7 @@ use Rattle.stmt_sem.specs.Flows.{Flow, counted, exit, in_with, nothing, straight
 use Rattle.stmt_sem.specs.Returns.{return_code}
 use Rattle.stmt_sem.specs.Statements.{Arm, Stand, arm_before, arm_flow, arms_flow, by_of, case_flow, cases_flow, else_flow, else_of, flow_of, flow_or_nothing, for_flow, form_flow, in_loop, return_of, statement_flow, test, value_at, variable, within}
 use Rattle.stmt_sem.specs.Withs.{in_with_of, record_variable, with_code}
-use Rattle.block_laws.specs.ReadStatements.{AreReadCaseArms, AreReadIfArms, AreReadStatements, IsReadCaseArm, IsReadElse, IsReadIfArm, IsReadIfThere, IsReadStatement, IsReadStatementForm}
+use Rattle.m2_base.specs.Statics.ReadStatements.{AreReadCaseArms, AreReadIfArms, AreReadStatements, IsReadCaseArm, IsReadCaseElse, IsReadIfArm, IsReadExprOption, IsReadStatement, IsReadStmtForm}
 use Rattle.block_laws.proofs.Constants.{constant-ok, labels-tests}
 use Rattle.block_laws.proofs.Parts.{IsKept, IsSpot, Leads, Right, none-right, steps-if, then-right}
 use Rattle.block_laws.proofs.Coded.{Setting, W, X}
@@ -130,13 +130,13 @@ module _ (q : Step → Type 0) (seen : ℕ → Type 0) (cells bytes : ℕ) where
     test-at : (s : Stand) (from : ℕ) (set : Setting q seen cells bytes s.context) (e : Expr) → IsReadExpr names e → Right q cells bytes (length s.withs) from (test s e).value
     test-at s from set e h = test-right q seen cells bytes s.context (length s.withs) from set (expr_at e) (value_at s e).value (value-at s from set e h)
 
-    by-at : (s : Stand) (from : ℕ) (set : Setting q seen cells bytes s.context) (e : Option Expr) → IsReadIfThere names e → WhereKept (by_of s e).value IsValue
+    by-at : (s : Stand) (from : ℕ) (set : Setting q seen cells bytes s.context) (e : Option Expr) → IsReadExprOption names e → WhereKept (by_of s e).value IsValue
     by-at s from set None h = tt
     by-at s from set (Some e) h =
         by-value q seen cells bytes s.context (length s.withs) from set (expr_at e) (constant_of s.context e).value
         (constant-ok names seen s.context set.rows set.texts set.sees e h)
 
-    return-at : (s : Stand) (from : ℕ) (set : Setting q seen cells bytes s.context) (at : ℕ) (e : Option Expr) → IsReadIfThere names e → Right q cells bytes (length s.withs) from (return_of s at e).value
+    return-at : (s : Stand) (from : ℕ) (set : Setting q seen cells bytes s.context) (at : ℕ) (e : Option Expr) → IsReadExprOption names e → Right q cells bytes (length s.withs) from (return_of s at e).value
     return-at s from set at None h = alone-right q seen cells bytes s.context (length s.withs) from set at s.result
     return-at s from set at (Some e) h =
         return_value-right q seen cells bytes s.context (length s.withs) from set at s.result (expr_at e) (value_at s e).value (value-at s from set e h)
@@ -150,7 +150,7 @@ module _ (q : Step → Type 0) (seen : ℕ → Type 0) (cells bytes : ℕ) where
       pub statement-f : (s : Stand) (from : ℕ) (set : Setting q seen cells bytes s.context) (st : Statement) → IsReadStatement names st → FS s from (statement_flow s st).value
       statement-f s from set (statement at form) h = form-f s from set at form h
 
-      pub form-f : (s : Stand) (from : ℕ) (set : Setting q seen cells bytes s.context) (at : ℕ) (f : StmtForm) → IsReadStatementForm names f → FS s from (form_flow s at f).value
+      pub form-f : (s : Stand) (from : ℕ) (set : Setting q seen cells bytes s.context) (at : ℕ) (f : StmtForm) → IsReadStmtForm names f → FS s from (form_flow s at f).value
       form-f s from set at (assign_form d e) h =
           line s.context (length s.withs) from set (assignment s.context (variable s d).value (expr_at e) (value_at s e).value).value
           (assignment-right q seen cells bytes s.context (length s.withs) from set (variable s d).value (expr_at e) (value_at s e).value (variable-at s from set d h.0) (value-at s from set e h.1))
@@ -234,7 +234,7 @@ module _ (q : Step → Type 0) (seen : ℕ → Type 0) (cells bytes : ℕ) where
           (labels-right q seen cells bytes s.context (length s.withs) from set t tests k (labels-tests names seen s.context set.rows set.texts set.sees typ covered labels h.0))
           (all-f s from set body h.1) g
 
-      pub case_else-f : (s : Stand) (from : ℕ) (set : Setting q seen cells bytes s.context) (e : CaseElse) → IsReadElse names e → FS s from (else_flow s e).value
+      pub case_else-f : (s : Stand) (from : ℕ) (set : Setting q seen cells bytes s.context) (e : CaseElse) → IsReadCaseElse names e → FS s from (else_flow s e).value
       case_else-f s from set no_case_else h = line s.context (length s.withs) from set no_case (no_case-right q seen cells bytes s.context (length s.withs) from set)
       case_else-f s from set (case_else body) h = all-f s from set body h
 

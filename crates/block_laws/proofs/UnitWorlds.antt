@@ -35,7 +35,7 @@ use Rattle.row_laws.specs.UnitBlocks.{HasItsBlocks, HasItsForm}
 use Rattle.stmt_sem.specs.BlockCode.{block_code, block_diags, body_of, first_cell, run_of, size_diags}
 use Rattle.stmt_sem.specs.Flows.{Run}
 use Rattle.block_laws.specs.Named.{HasCode, procedure_of}
-use Rattle.block_laws.specs.ReadStatements.{AreReadStatements}
+use Rattle.m2_base.specs.Statics.ReadStatements.{AreReadStatements}
 use Rattle.block_laws.specs.Worlds.{callee_of, import_over, of_blocks, unit_world, without_own}
 use Rattle.block_laws.proofs.BlocksAt.{at_before, at_behind, at_drop, at_take, before_of, in_at, scope_at, unit_each, unit_made, unit_over, unit_place}
 use Rattle.block_laws.proofs.InRange.{block-leads}

@@ -16,7 +16,7 @@ use Rattle.stmt_sem.specs.Places.{OthersInRange, block_steps}
 use Rattle.stmt_sem.specs.Tokens.{block_tokens}
 use Rattle.block_laws.specs.Lone.{IsLoneTree, lone_unit, lone_world}
 use Rattle.block_laws.specs.Named.{procedure_of}
-use Rattle.block_laws.specs.ReadStatements.{AreReadStatements}
+use Rattle.m2_base.specs.Statics.ReadStatements.{AreReadStatements}
 use Rattle.block_laws.proofs.InRange.{block-in_range}
 use Rattle.block_laws.proofs.LoneUnits.{lone-unit-valid}
 

@@ -32,7 +32,7 @@ use Rattle.stmt_sem.specs.BlockCode.{block_code, first_cell}
 use Rattle.stmt_sem.specs.Tokens.{block_tokens}
 use Rattle.block_laws.specs.Named.{BlockNamesThere, procedure_of}
 use Rattle.block_laws.specs.Sight.{IsDeclared, IsInSight, RowsNameThere, Sees}
-use Rattle.block_laws.specs.ReadStatements.{AreReadStatements}
+use Rattle.m2_base.specs.Statics.ReadStatements.{AreReadStatements}
 use Rattle.block_laws.specs.Worlds.{unit_world}
 use Rattle.block_laws.proofs.BlocksAt.{before_of}
 use Rattle.block_laws.proofs.Named.{block-code-valid}

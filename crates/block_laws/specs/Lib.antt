@@ -1,7 +1,6 @@
 pub mod Headings
 pub mod Lone
 pub mod Named
-pub mod ReadStatements
 pub mod Sight
 pub mod Worlds
 pub mod MainBlocks

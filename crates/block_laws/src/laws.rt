@@ -27,7 +27,7 @@ ghost use Rattle.stmt_sem.specs.Tokens.{block_tokens};
 ghost use Rattle.stmt_sem.specs.Places.{OthersInRange, block_steps};
 ghost use Rattle.block_laws.specs.Lone.{IsLone, IsLoneTree, lone_unit, lone_world};
 ghost use Rattle.block_laws.specs.Named.{BlockNamesThere, procedure_of};
-ghost use Rattle.block_laws.specs.ReadStatements.{AreReadStatements};
+ghost use Rattle.m2_base.specs.Statics.ReadStatements.{AreReadStatements};
 ghost use Rattle.row_laws.specs.RowRanges.{BlockInRange, EachBlock, IsSoundUnit};
 ghost use Rattle.block_laws.specs.Sight.{IsInSight, Sees};
 ghost use Rattle.block_laws.specs.Worlds.{unit_world};

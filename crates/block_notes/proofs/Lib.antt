@@ -2,5 +2,4 @@ pub mod StandingOperands
 pub mod StandingProcedures
 pub mod StandingCalls
 pub mod StandingValues
-pub mod StandingLabels
 pub mod StandingFlows

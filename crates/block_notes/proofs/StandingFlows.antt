@@ -34,7 +34,7 @@ use Rattle.stmt_sem.specs.Returns.{return_alone, return_value}
 use Rattle.stmt_sem.specs.Statements.{Stand, arm_flow, arms_flow, by_of, case_flow, cases_flow, else_flow, exit_of, flow_of, form_flow, in_loop, return_of, statement_flow, test, value_at as value_of, variable, within}
 use Rattle.stmt_sem.specs.Tests.{test_code}
 use Rattle.stmt_sem.specs.Withs.{is_record, record_variable}
-use Rattle.block_notes.proofs.StandingLabels.{labels_at}
+use Rattle.m2_base.proofs.StandingTypes.{labels_at}
 use Rattle.block_notes.proofs.StandingOperands.{assigned_at}
 use Rattle.block_notes.proofs.StandingProcedures.{as_variable_at}
 use Rattle.block_notes.proofs.StandingValues.{call_alone_at, designated_at, value_at}

@@ -17,7 +17,7 @@ use crate::covered::Covered;
 use crate::noting::{refuse, refuse_if};
 use crate::tests::{LabelTest, test_of, test_unless};
 use crate::values::{LabelValues, label_values};
-use m2_base::{Ask, Label, Memory, Notes, Place, Scopes, Site, analysed, put};
+use m2_base::{Ask, Label, Memory, Notes, Place, Scopes, Site};
 use std::alloc::Global;
 
 /// The labels of one arm: whether all are right, the tests of those that are, and the values that are covered with them.

@@ -5,7 +5,7 @@ ghost use Rattle.m2_base.specs.Lists.{IsPrefixOf};
 ghost use Rattle.m2_base.specs.Statics.Diagnostics.{wrong_label};
 ghost use Rattle.case_labels.specs.Labels.{label_fault};
 
-use m2_base::{Diagnostic, Memory, Notes, Site, put};
+use m2_base::{Diagnostic, Memory, Notes, Site};
 
 /// Notes a label that is wrong, in the site's text.
 pub(crate) fn refuse(site: &Site, at: u32, notes: &mut Notes) -> Result<(), Memory>

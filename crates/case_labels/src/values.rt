@@ -13,7 +13,7 @@ ghost use Rattle.type_rules.specs.Scenes.{IsThere, WhereTold};
 ghost use Rattle.type_rules.specs.Sites.{SuitsSite, context_of};
 
 use const_eval::{compatible_pair, constant, is_broken};
-use m2_base::{Ask, Label, Memory, Notes, Operand, Place, Scopes, Site, analysed, asked, known};
+use m2_base::{Ask, Label, Memory, Notes, Operand, Place, Scopes, Site};
 
 /// The constants of a label: both ends of a range, or one value twice.
 type Ends = (Option<Operand>, Option<Operand>);

@@ -1,5 +1,6 @@
 -- The bytes of instructions: the opcode, then the operands, the lowest byte first.
-use Rattle.std.specs.Prelude.{◌≡◌, ℕ, suc, ◌+◌, List, [], ◌∷◌, ◌++◌, flat_map}
+use Rattle.std.specs.Prelude.{◌≡◌, ℕ, suc, ◌+◌, List, [], ◌∷◌, ◌++◌}
+use Rattle.std.specs.List.{flat_map}
 use Rattle.std.specs.Int.{w32, w64, to_le_bytes, cast_unsigned}
 use Rattle.code_form.specs.Instructions.{Instr, Operand, number, count, distance, value, flag, trap, line_of, IsInstr}
 
@@ -13,8 +14,7 @@ operand_bytes (flag b) = b ∷ []
 operand_bytes (trap c) = c ∷ []
 
 abbrev pub all_bytes : List Operand → List ℕ
-all_bytes [] = []
-all_bytes (o ∷ os) = operand_bytes o ++ all_bytes os
+all_bytes os = flat_map operand_bytes os
 
 -- an instruction's bytes
 abbrev pub spelling : Instr → List ℕ

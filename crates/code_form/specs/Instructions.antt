@@ -1,21 +1,13 @@
 -- The instructions of the machine: one table, from which bytes, heights and printed words come.
-use Rattle.std.specs.Prelude.{ℕ, ◌+◌, ℤ, pos, negsuc, ◌≤ℤ◌, FitsSigned, ◌<◌, ◌≤◌, ◌^◌, List, [], ◌∷◌, codes}
+use Rattle.std.specs.Prelude.{ℕ, ◌+◌, pos, negsuc, ◌≤ℤ◌, FitsSigned, ◌<◌, ◌≤◌, ◌^◌, List, [], ◌∷◌, codes}
 use Rattle.std.specs.Int.{w32}
 use Rattle.std.specs.List.{AllByRecursion}
 use Rattle.code_form.specs.declared.effect.Effect.{Effect}
 use Rattle.code_form.specs.declared.effect.Effect.TheVariants.{Changes, CallsOwn, CallsImport, GivesResult}
 pub use Rattle.code_form.specs.declared.instr.Instr.{Instr}
 pub use Rattle.code_form.specs.declared.instr.Instr.TheVariants.{Push, Local, Global, Str, Load, Store, Move, Dup, Offset, Index, IndexOpen, Check, Nil, Add, Sub, Mul, Div, Mod, Neg, Abs, Not, Eq, Ne, Lt, Le, Gt, Ge, Union, Diff, Inter, SymDiff, Subset, Superset, In, Bit, Span, Jump, JumpFalse, AndJump, OrJump, More, Call, CallX, CallVar, Proc, Return, Trap, New, OpenCopy, Halt, Cap}
-
--- An operand and its kind: a number of four bytes, one that is at least 1, a distance of four bytes, a value of eight
--- bytes, the byte that tells INTEGER (0) from CARDINAL (1), and the byte of a trap.
-pub data Operand : Type 0 where
-  number : ℕ → Operand
-  count : ℕ → Operand
-  distance : ℤ → Operand
-  value : ℤ → Operand
-  flag : ℕ → Operand
-  trap : ℕ → Operand
+pub use Rattle.code_form.specs.declared.operand.Operand.{Operand}
+pub use Rattle.code_form.specs.declared.operand.Operand.TheVariants.{Number as number, Count as count, Distance as distance, Value as value, Flag as flag, Trap as trap}
 
 -- a line of the table
 pub record Line : Type 0 where

@@ -9,6 +9,7 @@
 mod effect;
 mod instr;
 mod laws;
+mod operand;
 mod read;
 mod table;
 mod write;

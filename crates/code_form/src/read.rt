@@ -7,28 +7,27 @@ ghost use Rattle.code_form.specs.Reading.{Reads, number_at, distance_at, value_a
 use crate::instr::Instr;
 use crate::table::instructions;
 
-fn number(bytes: &[u8]) -> Option<(u32, &[u8])>
-    ensures { Reads (λ x. (x.0, x.1.now)) result (number_at bytes.now) }
+fn number(bytes: &mut &[u8]) -> Option<u32>
+    ensures { Reads (λ x. (x, bytes.new.now)) result (number_at bytes.old.now) }
 {
     if bytes.len() < 4 {
         return None;
     }
     let (front, rest) = bytes.split_at(4);
-    let number = u32::from_le_bytes([front[0], front[1], front[2], front[3]]);
-    Some((number, rest))
+    *bytes = rest;
+    Some(u32::from_le_bytes([front[0], front[1], front[2], front[3]]))
 }
 
 #[tactic(auto, unfolding(crate::specs::Reading::distance_at))]
-fn distance(bytes: &[u8]) -> Option<(i32, &[u8])>
-    ensures { Reads (λ x. (x.0, x.1.now)) result (distance_at bytes.now) }
+fn distance(bytes: &mut &[u8]) -> Option<i32>
+    ensures { Reads (λ x. (x, bytes.new.now)) result (distance_at bytes.old.now) }
 {
-    let (number, rest) = number(bytes)?;
-    Some((number.cast_signed(), rest))
+    Some(number(bytes)?.cast_signed())
 }
 
 #[tactic(auto, unfolding(crate::specs::Reading::value_at))]
-fn value(bytes: &[u8]) -> Option<(i64, &[u8])>
-    ensures { Reads (λ x. (x.0, x.1.now)) result (value_at bytes.now) }
+fn value(bytes: &mut &[u8]) -> Option<i64>
+    ensures { Reads (λ x. (x, bytes.new.now)) result (value_at bytes.old.now) }
 {
     if bytes.len() < 8 {
         return None;
@@ -40,47 +39,51 @@ fn value(bytes: &[u8]) -> Option<(i64, &[u8])>
     if number < -2147483648 || number > 4294967295 {
         return None;
     }
-    Some((number, rest))
+    *bytes = rest;
+    Some(number)
 }
 
 #[tactic(auto, unfolding(crate::specs::Reading::flag_at))]
-fn flag(bytes: &[u8]) -> Option<(u8, &[u8])>
-    ensures { Reads (λ x. (x.0, x.1.now)) result (flag_at bytes.now) }
+fn flag(bytes: &mut &[u8]) -> Option<u8>
+    ensures { Reads (λ x. (x, bytes.new.now)) result (flag_at bytes.old.now) }
 {
-    match bytes {
-        [b, rest @ ..] if *b < 2 => Some((*b, rest)),
+    match *bytes {
+        [b, rest @ ..] if *b < 2 => {
+            *bytes = rest;
+            Some(*b)
+        }
         _ => None,
     }
 }
 
 #[tactic(auto, unfolding(crate::specs::Reading::trap_at))]
-fn trap(bytes: &[u8]) -> Option<(u8, &[u8])>
-    ensures { Reads (λ x. (x.0, x.1.now)) result (trap_at bytes.now) }
+fn trap(bytes: &mut &[u8]) -> Option<u8>
+    ensures { Reads (λ x. (x, bytes.new.now)) result (trap_at bytes.old.now) }
 {
-    match bytes {
-        [b, rest @ ..] if *b == 7 || *b == 8 => Some((*b, rest)),
+    match *bytes {
+        [b, rest @ ..] if *b == 7 || *b == 8 => {
+            *bytes = rest;
+            Some(*b)
+        }
         _ => None,
     }
 }
 
 #[tactic(auto, unfolding(crate::specs::Reading::count_at))]
-fn count(bytes: &[u8]) -> Option<(u32, &[u8])>
-    ensures { Reads (λ x. (x.0, x.1.now)) result (count_at bytes.now) }
+fn count(bytes: &mut &[u8]) -> Option<u32>
+    ensures { Reads (λ x. (x, bytes.new.now)) result (count_at bytes.old.now) }
 {
-    let (number, rest) = number(bytes)?;
+    let number = number(bytes)?;
     if number == 0 {
         return None;
     }
-    Some((number, rest))
+    Some(number)
 }
 
 macro_rules! read_arms {
-    (($op:ident, $rest:ident) $($code:literal $name:ident $(($($x:ident: $kind:ident),*))? => $effect:expr;)*) => {
+    (($op:ident, $bytes:ident) $($code:literal $name:ident $(($($x:ident: $kind:ident),*))? => $effect:expr;)*) => {
         match $op {
-            $($code => {
-                $($(let ($x, $rest) = $kind($rest)?;)*)?
-                Some((Instr::$name $(($($x),*))?, $rest))
-            })*
+            $($code => Some(Instr::$name $(($($kind($bytes)?),*))?),)*
             0x00 => None,
             0x34..=0xff => None,
         }
@@ -89,10 +92,10 @@ macro_rules! read_arms {
 
 #[inline(always)]
 #[tactic(auto, unfolding(crate::specs::Reading::instr_at, crate::specs::Reading::rows))]
-fn operands(op: u8, rest: &[u8]) -> Option<(Instr, &[u8])>
-    ensures { Reads (λ x. (x.0, x.1.now)) result (instr_at op rest.now) }
+fn operands(op: u8, bytes: &mut &[u8]) -> Option<Instr>
+    ensures { Reads (λ x. (x, bytes.new.now)) result (instr_at op bytes.old.now) }
 {
-    instructions!(read_arms(op, rest))
+    instructions!(read_arms(op, bytes))
 }
 
 #[inline(always)]
@@ -102,7 +105,11 @@ fn instr(bytes: &[u8]) -> Option<(Instr, &[u8])>
 {
     match bytes {
         [] => None,
-        [op, rest @ ..] => operands(*op, rest),
+        [op, rest @ ..] => {
+            let mut rest = rest;
+            let instr = operands(*op, &mut rest)?;
+            Some((instr, rest))
+        }
     }
 }
 

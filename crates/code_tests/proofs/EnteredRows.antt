@@ -11,9 +11,10 @@ use Rattle.m2_base.specs.Trees.{Stream}
 use Rattle.m2_base.specs.Units.{UnitTexts}
 use Rattle.m2_base.specs.declared.rows.Row.{Row}
 use Rattle.scope_core.specs.PlainScopes.{Plain, first_tables, moved, started, state_of}
-use Rattle.code_tests.specs.Filled.{IsAt, IsFull, function_rows, inner_rows, outer_rows, string_rows, variable_rows}
-use Rattle.code_tests.specs.Samples.{IsSample}
-use Rattle.code_tests.proofs.Samples.{none_finished}
+use Rattle.code_tests.specs.Filled.{IsAt, function_rows, inner_rows, outer_rows, string_rows, variable_rows}
+use Rattle.m2_samples.specs.Filled.{IsFull}
+use Rattle.m2_samples.specs.Samples.{IsSample}
+use Rattle.m2_samples.proofs.Samples.{none_finished}
 
 -- ** Rows
 

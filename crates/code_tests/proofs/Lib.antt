@@ -1,6 +1,3 @@
-mod Declarations
 mod EnteredRows
 mod MadeFragments
-mod ProcedureRows
-mod ReadSamples
-mod Samples
+mod Withs

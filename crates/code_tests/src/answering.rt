@@ -8,13 +8,13 @@ ghost use Rattle.m2_base.specs.Views.{designator_view, expr_view, stream_view};
 ghost use Rattle.scope_core.specs.PlainScopes.{state_of};
 ghost use Rattle.type_rules.specs.Scenes.{IsThere};
 ghost use Rattle.type_rules.specs.Sites.{SuitsSite};
-ghost use Rattle.code_tests.specs.Filled.{IsFull, around_at, scope_at};
-ghost use Rattle.code_tests.specs.Samples.{IsSample};
+ghost use Rattle.m2_samples.specs.Filled.{IsFull, around_at, scope_at};
+ghost use Rattle.m2_samples.specs.Samples.{IsSample};
 
-use crate::declaring::Block;
 use code_form::{Instr, encode};
 use expr_sem::{Fragments, Piece, Step, With, address, append, call_alone, value};
 use m2_base::{Ask, Designator, Expr, ExprForm, Memory, Notes, Operand, Site};
+use m2_samples::Block;
 use scope_core::PlainScopes;
 use std::alloc::{AllocError, Global};
 use std::fmt::Write;

@@ -2,11 +2,12 @@
 ghost use Rattle.std.specs.Prelude.{◌≡◌, ◌≤◌, ◌++◌, [], true, false, IfOk, OnOk, length};
 ghost use Rattle.m2_base.specs.Views.{stream_view};
 ghost use Rattle.scope_core.specs.PlainScopes.{state_of};
-ghost use Rattle.code_tests.specs.Filled.{IsAt, IsFull, around_at, function_rows, inner_rows, outer_rows, scope_at, string_rows, variable_rows};
-ghost use Rattle.code_tests.specs.Samples.{IsSample};
+ghost use Rattle.m2_samples.specs.Filled.{IsFull, scope_at};
+ghost use Rattle.m2_samples.specs.Samples.{IsSample};
+ghost use Rattle.code_tests.specs.Filled.{IsAt, function_rows, inner_rows, outer_rows, string_rows, variable_rows};
 
-use crate::reading::Sample;
-use m2_base::{Around, Chain, Memory, Mode, Place, Row, RowMeaning, Scopes, write_row};
+use m2_base::{Memory, Mode, Place, Row, RowMeaning, Scopes, write_row};
+use m2_samples::Sample;
 use scope_core::PlainScopes;
 use std::alloc::Global;
 use type_rules::{BOOLEAN, CARDINAL, CHARACTER, INTEGER};
@@ -222,23 +223,4 @@ pub(crate) fn scopes<'a>(
     }
     fill_inner(alloc, sample, &mut scopes)?;
     Ok(scopes)
-}
-
-/// What surrounds the block of this level.
-pub(crate) fn around(alloc: Global, level: u32) -> Result<Around, Memory>
-    ensures { IfOk result (λ around. around ≡ around_at level) }
-{
-    let (scope, scopes) = match level {
-        0 => (1, vec![in alloc; 1]?),
-        1 => (2, vec![in alloc; 2, 1]?),
-        _ => (3, vec![in alloc; 3, 2, 1]?),
-    };
-    Ok(Around {
-        scope,
-        text: 0,
-        level: scope - 1,
-        module: 1,
-        own: None,
-        chain: Chain { scopes },
-    })
 }

@@ -6,16 +6,10 @@ mod analysing;
 #[cfg(test)]
 mod answering;
 #[cfg(test)]
-mod declaring;
+mod constants;
 #[cfg(test)]
 mod entering;
-#[cfg(test)]
-mod of_blocks;
-#[cfg(test)]
-mod of_bodies;
 #[cfg(test)]
 mod of_calls;
 #[cfg(test)]
 mod of_parts;
-#[cfg(test)]
-mod reading;

@@ -7,13 +7,12 @@ ghost use Rattle.expr_sem.specs.Fragments.{AreSound, IsIn};
 ghost use Rattle.scope_core.specs.PlainScopes.{state_of};
 ghost use Rattle.type_rules.specs.Scenes.{IsThere};
 ghost use Rattle.type_rules.specs.Sites.{SuitsSite};
-ghost use Rattle.code_tests.specs.Filled.{IsFull, around_at};
-ghost use Rattle.code_tests.specs.Samples.{IsSample};
+ghost use Rattle.m2_samples.specs.Filled.{IsFull, around_at};
+ghost use Rattle.m2_samples.specs.Samples.{IsSample};
 
 use crate::answering::{encoded, no_code};
-use crate::declaring::{Block, layout_of};
-use crate::entering::{ARRAY, LAST, RECORD, around, scopes};
-use crate::reading::{constant, read};
+use crate::constants::constant;
+use crate::entering::{ARRAY, LAST, RECORD, scopes};
 use code_form::Instr;
 use expr_sem::{
     Coded, Connective, Fragment, Fragments, Piece, Refusal, With, answered, append, append_all,
@@ -23,6 +22,7 @@ use expr_sem::{
     operands_are_known, pair, push_instr, refused, side_of, value_code, value_of,
 };
 use m2_base::{Ask, Expr, Memory, Notes, Operand, Place, Site};
+use m2_samples::{Block, around, layout_of, read};
 use scope_core::PlainScopes;
 use std::alloc::Global;
 use std::test::Fail;
@@ -239,7 +239,7 @@ fn row_parts(alloc: Global, scopes: &mut PlainScopes, block: &Block) -> Result<R
 
 /// What is known of the variable x and of the module's rows.
 fn known_parts(alloc: Global) -> Result<(ValueParts, RowParts), Memory> {
-    let sample = read(alloc, TEXT)?;
+    let sample = read(alloc, TEXT.as_bytes())?;
     let layout = layout_of(alloc, &sample)?;
     let around = around(alloc, 0)?;
     let mut scopes = scopes(alloc, &sample, 0)?;
@@ -269,7 +269,7 @@ fn values_and_rows_are_known(rt: HostRuntime) -> Result<(), Fail> {
 
 /// At a site: the name of the constant, what is refused, and a variable.
 fn site_parts(alloc: Global, variable: Operand) -> Result<SiteParts, Memory> {
-    let sample = read(alloc, TEXT)?;
+    let sample = read(alloc, TEXT.as_bytes())?;
     let layout = layout_of(alloc, &sample)?;
     let around = around(alloc, 0)?;
     let block = Block {

@@ -4,10 +4,6 @@
 #[cfg(test)]
 mod of_decisions;
 #[cfg(test)]
-mod of_declarations;
-#[cfg(test)]
 mod of_m2_io;
 #[cfg(test)]
 mod of_m2c_top;
-#[cfg(test)]
-mod of_statements;

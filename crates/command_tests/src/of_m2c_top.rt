@@ -1,4 +1,4 @@
-//! Worked commands over texts in memory. The objects were worked out by hand from the tables of instructions and of the format.
+//! Commands over texts in memory, by hand: words that are none, calls of a shelf or a sink that fail, and a text at its limit.
 use m2_io::{MemShelf, MemSink, MemSource, NoGate};
 use m2c_top::m2c;
 use std::alloc::{AllocError, Global};
@@ -6,28 +6,6 @@ use std::collections::BTreeMap;
 use std::test::Fail;
 
 const EMPTY_MODULE: &str = "MODULE A; END A.";
-
-const EMPTY_OBJECT: &[u8] = b"M2OB\x01\0\0\0\x01\0\0\0A\0\0\0\0\0\0\0\0\0\0\0\0\0\0\0\0\x01\0\0\0\
-    \0\0\0\0\0\0\0\0\0\0\0\0\0\0\0\0\0\0\0\0\0\0\0\0\x01\0\0\0\x2e";
-
-const SUM_MODULE: &str = "MODULE A; VAR x: INTEGER; BEGIN x := x + 1 END A.";
-
-const SUM_OBJECT: &[u8] = b"M2OB\x01\0\0\0\x01\0\0\0A\x01\0\0\0\0\0\0\0\0\0\0\0\0\0\0\0\x01\0\0\0\
-    \0\0\0\0\0\0\0\0\0\0\0\0\0\0\0\0\x03\0\0\0\0\0\0\0\x20\0\0\0\
-    \x03\0\0\0\0\0\0\0\0\x03\0\0\0\0\0\0\0\0\x05\x01\x01\0\0\0\0\0\0\0\x0e\0\x06\x2e";
-
-const PRODUCT_MODULE: &str = "MODULE A; VAR x, y: INTEGER; BEGIN y := 2; x := y * 3 END A.";
-
-const PRODUCT_OBJECT: &[u8] =
-    b"M2OB\x01\0\0\0\x01\0\0\0A\x02\0\0\0\0\0\0\0\0\0\0\0\0\0\0\0\x01\0\0\0\
-    \0\0\0\0\0\0\0\0\0\0\0\0\0\0\0\0\x03\0\0\0\0\0\0\0\x33\0\0\0\
-    \x03\0\0\0\0\x01\0\0\0\x01\x02\0\0\0\0\0\0\0\x06\
-    \x03\0\0\0\0\0\0\0\0\x03\0\0\0\0\x01\0\0\0\x05\x01\x03\0\0\0\0\0\0\0\x10\0\x06\x2e";
-
-/// Of a module without statements whose variables have three cells.
-const RECORD_OBJECT: &[u8] =
-    b"M2OB\x01\0\0\0\x01\0\0\0A\x03\0\0\0\0\0\0\0\0\0\0\0\0\0\0\0\x01\0\0\0\
-    \0\0\0\0\0\0\0\0\0\0\0\0\0\0\0\0\0\0\0\0\0\0\0\0\x01\0\0\0\x2e";
 
 const USAGE: &str = "usage: m2c compile NAME\n";
 
@@ -73,41 +51,6 @@ fn run(
 }
 
 #[test]
-fn compiles_modules(rt: HostRuntime) -> Result<(), Fail> {
-    let alloc = rt.alloc();
-    let table: [(&str, &[u8]); 6] = [
-        (EMPTY_MODULE, EMPTY_OBJECT),
-        (SUM_MODULE, SUM_OBJECT),
-        (PRODUCT_MODULE, PRODUCT_OBJECT),
-        (
-            "MODULE A;VAR VAR x,y:INTEGER;VAR BEGIN;y:=2;;x:=y*3;END A.",
-            PRODUCT_OBJECT,
-        ),
-        (
-            "MODULE A; TYPE R = RECORD a, b: CHAR; c: INTEGER END; VAR r: R; END A.",
-            RECORD_OBJECT,
-        ),
-        (
-            "MODULE A; CONST n = 2; VAR a: ARRAY [0..n] OF CHAR; END A.",
-            RECORD_OBJECT,
-        ),
-    ];
-    for (text, object) in table {
-        let mut shelf = shelf_of(alloc, text.as_bytes(), &[], 0)?;
-        let mut print = MemSink::new(alloc, Vec::new(alloc), 7, 1000)?;
-        assert_eq!(rt;
-            run(alloc, &["compile", "A"], &mut shelf, &mut print)?,
-            0,
-            "{text}"
-        );
-        assert_eq!(rt; print.bytes().len(), 0);
-        let found = shelf.file("A.m2o").ok_or("no object")?;
-        assert!(rt; found == object, "{text}");
-    }
-    Ok(())
-}
-
-#[test]
 fn says_what_it_cannot_do(rt: HostRuntime) -> Result<(), Fail> {
     let alloc = rt.alloc();
     let table: [(&[&str], u8, &str); 12] = [
@@ -134,72 +77,6 @@ fn says_what_it_cannot_do(rt: HostRuntime) -> Result<(), Fail> {
         );
         assert!(rt; print.bytes() == printed.as_bytes(), "{words:?}");
         assert!(rt; shelf.file("A.m2o").is_none(), "{words:?}");
-    }
-    Ok(())
-}
-
-#[test]
-fn lists_diagnostics(rt: HostRuntime) -> Result<(), Fail> {
-    let alloc = rt.alloc();
-    let table = [
-        (
-            "MODULE A; VAR x, x: INTEGER; BEGIN y := x END A.",
-            "A.mod:1:18: 42 declared twice\nA.mod:1:36: 40 unknown name\n",
-        ),
-        (
-            "MODULE A; VAR CHAR: INTEGER; END A.",
-            "A.mod:1:15: 43 standard name declared\n",
-        ),
-        (
-            "MODULE A; VAR CHAR, CHAR: INTEGER; END A.",
-            "A.mod:1:15: 43 standard name declared\nA.mod:1:21: 43 standard name declared\n",
-        ),
-        ("MODULE A; END B.", "A.mod:1:15: 21 closing name differs\n"),
-        (
-            "MODULE A;\nVAR x: INTEGER;\nBEGIN x := y + 1;\n  z := x END B.",
-            "A.mod:3:12: 40 unknown name\nA.mod:4:3: 40 unknown name\nA.mod:4:14: 21 closing name differs\n",
-        ),
-    ];
-    for (text, printed) in table {
-        let mut shelf = shelf_of(alloc, text.as_bytes(), &[], 0)?;
-        let mut print = MemSink::new(alloc, Vec::new(alloc), 7, 1000)?;
-        assert_eq!(rt;
-            run(alloc, &["compile", "A"], &mut shelf, &mut print)?,
-            1,
-            "{text}"
-        );
-        assert!(rt; print.bytes() == printed.as_bytes(), "{text}");
-        assert!(rt; shelf.file("A.m2o").is_none(), "{text}");
-    }
-    Ok(())
-}
-
-#[test]
-fn builds_statements_of_any_form(rt: HostRuntime) -> Result<(), Fail> {
-    let alloc = rt.alloc();
-    let table = [
-        "MODULE A; VAR c: CHAR; x: INTEGER; BEGIN x := 1 END A.",
-        "MODULE A; VAR x: INTEGER; BEGIN x := 1 + 2 END A.",
-        "MODULE A; VAR x: INTEGER; BEGIN x := 1END A.",
-        "MODULE A; VAR x: INTEGER; BEGIN x := 17B END A.",
-        "MODULE A; VAR x: INTEGER; BEGIN x := (1) END A.",
-        "MODULE A; VAR x: INTEGER; (* nothing *) BEGIN x := 1 END A.",
-        "MODULE A; VAR x: CARDINAL; BEGIN x := 1 END A.",
-        "MODULE A; CONST c = 1; VAR x: INTEGER; BEGIN x := c END A.",
-        "MODULE A; TYPE VAR x: INTEGER; BEGIN x := 1 END A.",
-        "MODULE A; BEGIN RETURN END A.",
-        "MODULE A; BEGIN ; RETURN ; END A.",
-    ];
-    for text in table {
-        let mut shelf = shelf_of(alloc, text.as_bytes(), &[], 0)?;
-        let mut print = MemSink::new(alloc, Vec::new(alloc), 7, 1000)?;
-        assert_eq!(rt;
-            run(alloc, &["compile", "A"], &mut shelf, &mut print)?,
-            0,
-            "{text}"
-        );
-        assert_eq!(rt; print.bytes().len(), 0, "{text}");
-        assert!(rt; shelf.file("A.m2o").is_some(), "{text}");
     }
     Ok(())
 }

@@ -24,8 +24,7 @@ use crate::noting::{note, note_type};
 use crate::operands::Argument;
 use crate::values::value_wanted;
 use m2_base::{
-    Ask, Builtin, Diagnostic, Memory, Notes, Operand, Place, Scopes, Site, analysed,
-    standard_procedure,
+    Ask, Builtin, Diagnostic, Memory, Notes, Operand, Place, Scopes, Site, standard_procedure,
 };
 
 /// A function of a value.

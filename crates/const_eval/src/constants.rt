@@ -16,7 +16,7 @@ ghost use Rattle.type_rules.specs.Sites.{AreOfSite, SuitsSite};
 
 use crate::calls::fault_noted;
 use crate::expressions::value_in;
-use m2_base::{Ask, Diagnostic, Expr, Memory, Notes, Operand, Place, Scopes, Site, analysed};
+use m2_base::{Ask, Diagnostic, Expr, Memory, Notes, Operand, Place, Scopes, Site};
 use type_rules::TEXT;
 
 /// Whether a type is that of strings.

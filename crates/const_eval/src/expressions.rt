@@ -23,7 +23,7 @@ use crate::steps::{
 };
 use m2_base::{
     Ask, Designator, Expr, ExprForm, Label, Memory, Next, Notes, Operand, Place, Scopes, Selector,
-    Site, analysed,
+    Site,
 };
 use type_rules::{BITSET, CHARACTER, WHOLE};
 

@@ -18,7 +18,7 @@ ghost use Rattle.type_rules.specs.Sites.{SuitsSite, context_of};
 
 use crate::faults::Fault;
 use crate::functions::ordinal_type_argument;
-use m2_base::{Ask, Diagnostic, Operand, Place, Scopes, Site, known};
+use m2_base::{Ask, Diagnostic, Operand, Place, Scopes, Site};
 use type_rules::{CARDINAL, is_open_array, range_of, size_of};
 
 /// An end of a range.

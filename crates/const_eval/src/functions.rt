@@ -24,7 +24,7 @@ use crate::operands::{char_or_same, is_bad};
 use crate::operators::is_number;
 use crate::pairs::{is_ordinal, is_within};
 use crate::structures::is_broken;
-use m2_base::{Ask, Diagnostic, GREATEST_INTEGER, Operand, Place, Scopes, Site, known};
+use m2_base::{Ask, Diagnostic, GREATEST_INTEGER, Operand, Place, Scopes, Site};
 use type_rules::{BOOLEAN, BROKEN, CARDINAL, CHARACTER, INTEGER, base_of, operand_type, range_of};
 
 /// An argument under a condition, or what is refused otherwise.

@@ -6,6 +6,29 @@
 //! the answer is the definition's, `waits` of which scope it isn't known yet, `reads` what stays as before.
 #![tactic(auto)]
 
+/// The value of a question, or the end of the function where it isn't known yet.
+macro_rules! known {
+    ($asked:expr) => {
+        match $asked {
+            Ask::Known(value) => value,
+            Ask::DontKnowYet(head) => return Ask::DontKnowYet(head),
+        }
+    };
+}
+
+/// The value of an analysis, or the end of the function where it isn't known yet or memory is wanted.
+macro_rules! analysed {
+    ($asked:expr) => {
+        match $asked {
+            Ok(asked) => match asked {
+                Ask::Known(value) => value,
+                Ask::DontKnowYet(head) => return Ok(Ask::DontKnowYet(head)),
+            },
+            Err(memory) => return Err(memory),
+        }
+    };
+}
+
 /// A judgement that something is wrong at a token.
 macro_rules! fault {
     ($at:expr, $kind:ident) => {

@@ -18,7 +18,7 @@ use crate::numbers::member_of_set;
 use crate::operands::Argument;
 use crate::pairs::{as_number, compatible_pair, is_ordinal};
 use crate::structures::{is_broken, set_row};
-use m2_base::{Ask, Diagnostic, Operand, Place, Scopes, Site, known};
+use m2_base::{Ask, Diagnostic, Operand, Place, Scopes, Site};
 use type_rules::{base_of, operand_type};
 
 /// An operand under a condition.

@@ -16,8 +16,7 @@ ghost use Rattle.type_rules.specs.Sites.{SuitsSite};
 use crate::structures::is_broken;
 use crate::values::in_constant;
 use m2_base::{
-    Around, Ask, Ident, Memory, Notes, Operand, Place, Row, RowMeaning, Scopes, Site, analysed,
-    known, read_row,
+    Around, Ask, Ident, Memory, Notes, Operand, Place, Row, RowMeaning, Scopes, Site, read_row,
 };
 use type_rules::{TEXT, stand, use_name};
 

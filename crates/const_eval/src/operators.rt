@@ -24,7 +24,7 @@ use crate::numbers::{
 };
 use crate::operands::{Argument, is_bad, is_procedure, worse};
 use crate::pairs::{are_sets_alike, as_number, compatible_pair};
-use m2_base::{Ask, Diagnostic, FoldKind, Operand, Operator, Place, Scopes, Site, known};
+use m2_base::{Ask, Diagnostic, FoldKind, Operand, Operator, Place, Scopes, Site};
 use type_rules::{
     BOOLEAN, WHOLE, base_of, bases_of, is_integer_or_cardinal, is_pointer, operand_type, range_of,
 };

@@ -20,7 +20,7 @@ ghost use Rattle.type_rules.specs.Sites.{SuitsSite, context_of};
 use crate::faults::Fault;
 use crate::operands::as_char;
 use crate::structures::{are_alike, set_row};
-use m2_base::{Ask, Diagnostic, Operand, Place, Scopes, Site, known};
+use m2_base::{Ask, Diagnostic, Operand, Place, Scopes, Site};
 use type_rules::{
     CHARACTER, WHOLE, base_of, compatible, is_integer_or_cardinal, is_one_char, is_string,
     operand_type, range_of,

@@ -21,7 +21,7 @@ use crate::faults::Fault;
 use crate::operands::{is_bad, is_procedure};
 use crate::pairs::{compatible_pair, is_within};
 use crate::structures::{is_broken, set_row};
-use m2_base::{Ask, Diagnostic, Operand, Place, Scopes, Site, known};
+use m2_base::{Ask, Diagnostic, Operand, Place, Scopes, Site};
 use type_rules::{BROKEN, range_of};
 
 /// The type of a set's row, or what is refused where a type has none.

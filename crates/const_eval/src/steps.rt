@@ -20,9 +20,7 @@ use crate::operands::Argument;
 use crate::operators::{apply_one, operate};
 use crate::sets::{element_of, no_elements, set_base, set_type_of};
 use crate::values::{selected, spoilt_by};
-use m2_base::{
-    Ask, Ident, Memory, Names, Notes, Operand, Operator, Place, Scopes, Site, analysed, known,
-};
+use m2_base::{Ask, Ident, Memory, Names, Notes, Operand, Operator, Place, Scopes, Site};
 
 /// The length of a string: the empty one counts as one character.
 fn string_length(names: &Names, name: u32) -> u32

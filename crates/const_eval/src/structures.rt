@@ -7,7 +7,7 @@ ghost use Rattle.const_eval.specs.Structures.{are_alike as spec_alike, set_row_b
 ghost use Rattle.type_rules.specs.Asks.{Reads, WhereKnown, WhereWaiting};
 ghost use Rattle.type_rules.specs.Scenes.{Suits, IsThere, scene_of, WhereTold};
 
-use m2_base::{Around, Ask, Place, RowMeaning, Scopes, known};
+use m2_base::{Around, Ask, Place, RowMeaning, Scopes};
 use type_rules::{BROKEN, same, stand};
 
 /// Whether a type is that of parts in error.

@@ -21,9 +21,7 @@ use crate::making::{Made, put_plain};
 use crate::sets::keep_or_refuse;
 use crate::standing::stand_in;
 use crate::variables::cells_of;
-use m2_base::{
-    Ask, MOST_CELLS, Memory, Place, RowMeaning, Scopes, Site, analysed, asked, known, put,
-};
+use m2_base::{Ask, MOST_CELLS, Memory, Place, RowMeaning, Scopes, Site};
 use type_rules::{BROKEN, range_by};
 
 /// An index type has at most so many values.

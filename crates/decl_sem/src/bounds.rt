@@ -21,7 +21,7 @@ ghost use Rattle.decl_sem.specs.Bounds.{AreBounds, IsChoice, IsEnd, IsEndOf, IsV
 
 use crate::names::refuse;
 use const_eval::is_within;
-use m2_base::{Diagnostic, Memory, Notes, Place, Site, put};
+use m2_base::{Diagnostic, Memory, Notes, Place, Site};
 use type_rules::{BROKEN, CARDINAL, INTEGER, WHOLE, is_integer_or_cardinal};
 
 /// A base and its bounds.

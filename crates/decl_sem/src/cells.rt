@@ -8,7 +8,7 @@ ghost use Rattle.decl_sem.specs.Pieces.{Declares, IsBehind, IsMaking, known_of};
 
 use crate::making::Made;
 use crate::names::refuse;
-use m2_base::{Diagnostic, MOST_CELLS, Memory, Place, Site, put};
+use m2_base::{Diagnostic, MOST_CELLS, Memory, Place, Site};
 use type_rules::BROKEN;
 
 /// One more than a type or a block may have.

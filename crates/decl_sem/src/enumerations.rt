@@ -11,7 +11,7 @@ ghost use Rattle.decl_sem.specs.Pieces.{Declares, IsBehind, IsMaking, IsOwnType,
 ghost use Rattle.m2_base.specs.Statics.ReadTrees.{AreReadNames};
 
 use crate::making::{Made, put_named, put_plain};
-use m2_base::{Ident, Memory, Place, RowMeaning, Site, put};
+use m2_base::{Ident, Memory, Place, RowMeaning, Site};
 
 /// The constants of an enumeration, each with its value.
 fn make_constants(site: &Site, made: &mut Made, of: Place, names: &[Ident]) -> Result<Place, Memory>

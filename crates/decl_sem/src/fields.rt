@@ -25,10 +25,7 @@ use crate::putting::plain_row;
 use crate::sets::range_by;
 use crate::standing::stand_in;
 use crate::variables::cells_of;
-use m2_base::{
-    Ask, Diagnostic, Ident, Memory, Notes, Place, Qual, RowMeaning, Scopes, Site, analysed, asked,
-    put,
-};
+use m2_base::{Ask, Diagnostic, Ident, Memory, Notes, Place, Qual, RowMeaning, Scopes, Site};
 use type_rules::BROKEN;
 
 /// Notes a second field of a name.

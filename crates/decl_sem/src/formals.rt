@@ -12,7 +12,7 @@ ghost use Rattle.m2_base.specs.Statics.ReadTrees.{AreReadFormals, IsReadQual};
 
 use crate::making::{Made, put_plain};
 use crate::types::name_in;
-use m2_base::{Ask, Formal, Memory, Place, Qual, RowMeaning, Scopes, Site, analysed, put};
+use m2_base::{Ask, Formal, Memory, Place, Qual, RowMeaning, Scopes, Site};
 
 /// An open array has a row of its own.
 fn open_in(

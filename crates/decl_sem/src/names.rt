@@ -19,8 +19,7 @@ ghost use Rattle.type_rules.specs.Scenes.{IsRowOf, IsThere, Suits};
 ghost use Rattle.type_rules.specs.Sites.{SuitsSite};
 
 use m2_base::{
-    Ask, Diagnostic, Ident, Memory, Notes, Place, Qual, Row, RowMeaning, Scopes, Site, analysed,
-    put, read_row,
+    Ask, Diagnostic, Ident, Memory, Notes, Place, Qual, Row, RowMeaning, Scopes, Site, read_row,
 };
 use type_rules::{BROKEN, use_name};
 

@@ -16,9 +16,7 @@ use crate::making::{Made, put_plain};
 use crate::names::refuse;
 use crate::standing::stand_in;
 use crate::types::name_in;
-use m2_base::{
-    Ask, Diagnostic, Memory, Place, Qual, RowMeaning, Scopes, Site, analysed, asked, put,
-};
+use m2_base::{Ask, Diagnostic, Memory, Place, Qual, RowMeaning, Scopes, Site};
 use type_rules::BROKEN;
 
 /// Whether a row is an array's or a record's.

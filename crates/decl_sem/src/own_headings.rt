@@ -19,7 +19,7 @@ use crate::own_parameters::parameters_in;
 use crate::placings::Placing;
 use crate::section_rows::put_open;
 use crate::types::name_in;
-use m2_base::{Ask, Heading, Memory, Place, Qual, Scopes, Section, Site, analysed, put};
+use m2_base::{Ask, Heading, Memory, Place, Qual, Scopes, Section, Site};
 use std::alloc::Global;
 
 /// The parameters of a section, after the name of their type.

@@ -16,7 +16,7 @@ use crate::outcomes::is_structured;
 use crate::placings::Placing;
 use crate::putting::name_row;
 use crate::standing::stand_in;
-use m2_base::{Ask, Ident, Memory, Mode, Place, RowMeaning, Scopes, Section, Site, analysed};
+use m2_base::{Ask, Ident, Memory, Mode, Place, RowMeaning, Scopes, Section, Site};
 
 /// The cells of a type by what its row says.
 fn cells_by(meaning: RowMeaning) -> u32

@@ -14,7 +14,7 @@ ghost use Rattle.m2_base.specs.Statics.ReadTrees.{AreReadFormals, IsReadQualOpti
 use crate::formals::formals_in;
 use crate::making::{Made, next_row, put_plain};
 use crate::outcomes::result_in;
-use m2_base::{Ask, Formal, Memory, Place, Qual, RowMeaning, Scopes, Site, analysed, put};
+use m2_base::{Ask, Formal, Memory, Place, Qual, RowMeaning, Scopes, Site};
 
 /// The number of rows of a parameter.
 fn rows_of_formal(formal: &Formal) -> u32

@@ -19,7 +19,6 @@ use crate::putting::name_row;
 use crate::section_rows::sections_rows;
 use m2_base::{
     Ask, Heading, HeadingNote, Ident, Memory, Place, RowMeaning, Scopes, Site, StreamKind,
-    analysed, put,
 };
 
 /// The named row of a procedure of this type.

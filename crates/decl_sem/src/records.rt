@@ -17,7 +17,7 @@ use crate::cells::fit;
 use crate::fields::{put_tag, tag_in};
 use crate::making::{Made, put_plain};
 use case_labels::{Covered, case_labels};
-use m2_base::{Ask, Ident, Label, Memory, Place, Qual, RowMeaning, Scopes, Site, analysed, put};
+use m2_base::{Ask, Ident, Label, Memory, Place, Qual, RowMeaning, Scopes, Site};
 use std::alloc::Global;
 
 /// Where the variants behind a tag stand: the ordinal of their record's row, the offset at which each begins, and the type of

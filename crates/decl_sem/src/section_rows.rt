@@ -15,7 +15,7 @@ ghost use Rattle.m2_base.specs.Statics.ReadTrees.{IsReadQual};
 use crate::making::Made;
 use crate::names::type_of_qual;
 use crate::putting::{plain_row, small_place};
-use m2_base::{Ask, Ident, Memory, Place, Qual, RowMeaning, Scopes, Section, Site, analysed};
+use m2_base::{Ask, Ident, Memory, Place, Qual, RowMeaning, Scopes, Section, Site};
 
 /// Parameters of one type, of the procedure type whose row has this ordinal.
 pub(crate) fn put_parameters<S: Scopes>(

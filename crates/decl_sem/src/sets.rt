@@ -21,10 +21,7 @@ ghost use Rattle.decl_sem.specs.Stood.{may_be_base as spec_may_be_base};
 use crate::making::{Made, put_plain};
 use crate::names::refuse;
 use crate::standing::stand_in;
-use m2_base::{
-    Ask, Diagnostic, GREATEST_ELEMENT, Memory, Place, RowMeaning, Scopes, Site, analysed, asked,
-    put,
-};
+use m2_base::{Ask, Diagnostic, GREATEST_ELEMENT, Memory, Place, RowMeaning, Scopes, Site};
 use type_rules::{BROKEN, range_by};
 
 /// Whether a range lies within that of a set's elements.

@@ -10,7 +10,7 @@ ghost use Rattle.type_rules.specs.Scenes.{IsSaid, IsStood, scene_of};
 
 use crate::making::Made;
 use crate::names::small_place;
-use m2_base::{Ask, Place, RowMeaning, Scopes, Site, known, read_row};
+use m2_base::{Ask, Place, RowMeaning, Scopes, Site, read_row};
 use type_rules::stand;
 
 /// Whether the row at a place is in hand.

@@ -26,10 +26,7 @@ use crate::making::Made;
 use crate::names::{small_place, type_of_qual};
 use crate::putting::plain_row;
 use const_eval::{char_of_string, constant, constant_value, is_ordinal};
-use m2_base::{
-    Ask, Expr, Memory, Notes, Operand, Place, Qual, RowMeaning, Scopes, Site, analysed, asked,
-    known, put,
-};
+use m2_base::{Ask, Expr, Memory, Notes, Operand, Place, Qual, RowMeaning, Scopes, Site};
 use type_rules::{BROKEN, base_of, operand_type, range_of, stand};
 
 /// What the named base stands for, if one is named.

@@ -29,7 +29,7 @@ use crate::names::{refuse, small_place};
 use crate::putting::plain_row;
 use m2_base::{
     Ask, Diagnostic, Ident, Memory, Named, Notes, Place, Qual, Row, RowMeaning, Scopes, Site,
-    TypeExpr, TypeForm, analysed, asked, known, put, read_row,
+    TypeExpr, TypeForm, read_row,
 };
 use type_rules::{BROKEN, follow, row_at};
 

@@ -24,10 +24,7 @@ use crate::shapes::count_fields;
 use crate::subranges::subrange_in;
 use crate::targets::{pointer_row, target_in};
 use case_labels::Covered;
-use m2_base::{
-    Ask, FieldList, Memory, Place, Qual, Scopes, Site, TypeExpr, TypeForm, VariantArm, analysed,
-    put,
-};
+use m2_base::{Ask, FieldList, Memory, Place, Qual, Scopes, Site, TypeExpr, TypeForm, VariantArm};
 use std::alloc::Global;
 
 /// The type that a name leads to. It makes no row.

@@ -33,10 +33,7 @@ use crate::standard_functions::{has_small_ordinal, high_code};
 use crate::values::{as_value, assigned_to, characters, string_value};
 use code_form::Instr;
 use const_eval::{is_bad, is_broken, is_in_error};
-use m2_base::{
-    Around, Ask, Diagnostic, Memory, Notes, Operand, Place, RowMeaning, Scopes, Site, analysed,
-    known,
-};
+use m2_base::{Around, Ask, Diagnostic, Memory, Notes, Operand, Place, RowMeaning, Scopes, Site};
 use type_rules::{CHARACTER, same, size_of, stand};
 
 /// A parameter: its type, and whether it is a VAR parameter.

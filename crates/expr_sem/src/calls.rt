@@ -42,7 +42,7 @@ use crate::variables::links_out;
 use code_form::Instr;
 use const_eval::is_broken;
 use m2_base::{
-    Around, Ask, Builtin, Diagnostic, Memory, Notes, Operand, Place, Scopes, Site, analysed,
+    Around, Ask, Builtin, Diagnostic, Memory, Notes, Operand, Place, Scopes, Site,
     standard_procedure,
 };
 use type_rules::{Form, form_of};

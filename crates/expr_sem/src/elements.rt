@@ -33,8 +33,7 @@ use crate::values::{assigned_to, value_code};
 use code_form::Instr;
 use const_eval::{is_bad, is_broken};
 use m2_base::{
-    Around, Ask, Diagnostic, Memory, Notes, Operand, Place, RowMeaning, Scopes, Site, analysed,
-    asked, known, read_row,
+    Around, Ask, Diagnostic, Memory, Notes, Operand, Place, RowMeaning, Scopes, Site, read_row,
 };
 use type_rules::{CARDINAL, range_of, row_at, size_of, stand};
 

@@ -23,7 +23,7 @@ use crate::expressions::{designated, value_of};
 use crate::fragments::{Fragment, Fragments};
 use crate::pieces::{Piece, With, append};
 use crate::values::value_code;
-use m2_base::{Ask, Designator, Expr, Memory, Notes, Operand, Scopes, Site, analysed};
+use m2_base::{Ask, Designator, Expr, Memory, Notes, Operand, Scopes, Site};
 
 /// An operand that isn't in error, with the code of its value.
 fn valued<S: Scopes>(

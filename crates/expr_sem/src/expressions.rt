@@ -29,7 +29,7 @@ use crate::standard_procedures::{first_of_two, of_no_argument, of_one_argument, 
 use crate::values::as_value;
 use m2_base::{
     Ask, Builtin, Designator, Expr, ExprForm, Label, Memory, Next, Notes, Operand, Place, Scopes,
-    Selector, Site, analysed,
+    Selector, Site,
 };
 use type_rules::{BITSET, CHARACTER, WHOLE};
 

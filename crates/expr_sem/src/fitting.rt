@@ -20,7 +20,7 @@ use crate::coded::Coded;
 use crate::fragments::{Fragment, Fragments};
 use crate::values::value_code;
 use code_form::Instr;
-use m2_base::{Around, Ask, Memory, Operand, Place, Scopes, Site, analysed, known};
+use m2_base::{Around, Ask, Memory, Operand, Place, Scopes, Site};
 use type_rules::range_of;
 
 /// The range against which a value of the first range is checked: the second, where the first isn't within it.

@@ -24,9 +24,7 @@ use crate::fragments::{Connective, Fragment, Fragments};
 use crate::values::value_code;
 use code_form::Instr;
 use const_eval::{Argument, applied_one, char_or_same, operated};
-use m2_base::{
-    Ask, Memory, Notes, Operand, Operator, Place, RowMeaning, Scopes, Site, analysed, asked, known,
-};
+use m2_base::{Ask, Memory, Notes, Operand, Operator, Place, RowMeaning, Scopes, Site};
 use type_rules::{INTEGER, base_of, operand_type, stand};
 
 /// A result with its code, which a constant doesn't need; anything else is in error.

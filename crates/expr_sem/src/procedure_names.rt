@@ -21,9 +21,7 @@ use crate::answers::answered;
 use crate::fragments::{Fragment, Fragments};
 use crate::levels::level_of;
 use code_form::Instr;
-use m2_base::{
-    Around, Ask, Memory, Place, Reply, Row, RowMeaning, Scopes, Site, analysed, known, read_row,
-};
+use m2_base::{Around, Ask, Memory, Place, Reply, Row, RowMeaning, Scopes, Site, read_row};
 
 /// A procedure as code names it: its type, and its number in its module.
 #[derive(Clone, Copy, Debug, PartialEq, Eq)]

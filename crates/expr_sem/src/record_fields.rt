@@ -31,7 +31,7 @@ use code_form::Instr;
 use const_eval::is_broken;
 use m2_base::{
     Around, Ask, Diagnostic, Ident, Memory, Notes, Operand, Place, Row, RowMeaning, Scopes, Site,
-    analysed, asked, known, read_row,
+    read_row,
 };
 use type_rules::{field_of, stand, use_name};
 

@@ -25,7 +25,7 @@ use crate::fragments::{Fragment, Fragments};
 use crate::updates::NO_VALUE;
 use code_form::Instr;
 use const_eval::{is_bad, is_broken};
-use m2_base::{Around, Ask, Memory, Place, RowMeaning, Scopes, Site, asked, known};
+use m2_base::{Around, Ask, Memory, Place, RowMeaning, Scopes, Site};
 use type_rules::{BROKEN, operand_type, stand};
 
 /// The type that a pointer type leads to, which may be declared later: the own scope is complete.

@@ -23,7 +23,7 @@ use crate::fragments::{Fragment, Fragments};
 use crate::values::value_code;
 use code_form::Instr;
 use const_eval::{no_elements, set_base, taken, with_elements};
-use m2_base::{Ask, Memory, Notes, Operand, Place, Scopes, Site, analysed, known};
+use m2_base::{Ask, Memory, Notes, Operand, Place, Scopes, Site};
 
 /// What the elements make so far: the set by the static rule, and the code that adds each of them to the set on the stack.
 #[derive(Clone, Copy, Debug, PartialEq, Eq)]

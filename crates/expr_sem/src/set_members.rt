@@ -30,9 +30,7 @@ use crate::updates::{Change, NO_VALUE, either_bad, updated};
 use crate::values::{as_value, in_range};
 use code_form::Instr;
 use const_eval::{compatible_pair, is_broken, set_base};
-use m2_base::{
-    Ask, Builtin, Diagnostic, Memory, Notes, Operand, Place, Scopes, Site, analysed, asked,
-};
+use m2_base::{Ask, Builtin, Diagnostic, Memory, Notes, Operand, Place, Scopes, Site};
 use type_rules::operand_type;
 
 /// An element as it is taken beside a value of the set's base, or what is refused where they aren't compatible.

@@ -13,7 +13,7 @@ ghost use Rattle.type_rules.specs.Scenes.{IsThere, Suits, WhereTold, scene_of};
 ghost use Rattle.type_rules.specs.Sites.{SuitsSite};
 
 use crate::arguments::Parameter;
-use m2_base::{Around, Ask, Memory, Place, Scopes, Site, Texts, analysed, asked};
+use m2_base::{Around, Ask, Memory, Place, Scopes, Site, Texts};
 use type_rules::{Form, form_of, is_open_array, next_parameter};
 
 /// The parameters and the result of a procedure type.

@@ -35,10 +35,7 @@ use crate::value_functions::{Rule, on_value};
 use crate::variable_arguments::as_variable;
 use code_form::Instr;
 use const_eval::{Argument, TypeFunction, ValueFunction, is_bad, is_broken, of_type_noted};
-use m2_base::{
-    Ask, Builtin, Diagnostic, Memory, Notes, Operand, Place, RowMeaning, Scopes, Site, analysed,
-    asked,
-};
+use m2_base::{Ask, Builtin, Diagnostic, Memory, Notes, Operand, Place, RowMeaning, Scopes, Site};
 use type_rules::{CARDINAL, operand_type, range_of, size_of, stand};
 
 /// How far a range reaches above its low end.

@@ -20,7 +20,7 @@ use crate::step_numbers::step_number;
 use crate::updates::{NO_VALUE, stepped};
 use crate::variable_arguments::{Wanted, variable_argument};
 use code_form::Instr;
-use m2_base::{Ask, Builtin, Memory, Notes, Operand, Scopes, Site, analysed};
+use m2_base::{Ask, Builtin, Memory, Notes, Operand, Scopes, Site};
 use type_rules::WHOLE;
 
 /// The standard procedure takes so many arguments.

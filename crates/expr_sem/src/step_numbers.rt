@@ -23,9 +23,7 @@ use crate::fragments::Fragments;
 use crate::refusals::refused;
 use crate::updates::either_bad;
 use crate::values::{as_value, in_range};
-use m2_base::{
-    Around, Ask, Diagnostic, Memory, Notes, Operand, Place, Scopes, Site, analysed, asked, known,
-};
+use m2_base::{Around, Ask, Diagnostic, Memory, Notes, Operand, Place, Scopes, Site};
 use type_rules::{CARDINAL, WHOLE, base_of, is_integer_or_cardinal, operand_type};
 
 /// A base that is a type of numbers, or else CARDINAL.

@@ -15,7 +15,7 @@ ghost use Rattle.type_rules.specs.Scenes.{IsThere, Suits, WhereTold, scene_of};
 ghost use Rattle.type_rules.specs.Sites.{SuitsSite, context_of};
 
 use const_eval::{char_of_string, is_broken};
-use m2_base::{Around, Ask, Operand, Place, RowMeaning, Scopes, Site, known};
+use m2_base::{Around, Ask, Operand, Place, RowMeaning, Scopes, Site};
 use type_rules::{CHARACTER, assignable, base_of, is_one_char, is_string, stand};
 
 /// What becomes of a value for a variable.

@@ -24,7 +24,7 @@ use crate::operators::side_of;
 use crate::values::value_code;
 use code_form::Instr;
 use const_eval::is_bad;
-use m2_base::{Ask, Builtin, Memory, Operand, Place, Scopes, Site, analysed, asked, known};
+use m2_base::{Ask, Builtin, Memory, Operand, Place, Scopes, Site};
 use type_rules::{BROKEN, operand_type, range_of};
 
 /// What the call of a proper procedure stands for.

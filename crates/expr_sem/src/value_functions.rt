@@ -26,7 +26,7 @@ use crate::operators::{made, side_of};
 use crate::values::{as_value, value_code};
 use code_form::Instr;
 use const_eval::{Argument, ValueFunction, of_value_noted, val_of_operand};
-use m2_base::{Ask, Memory, Notes, Operand, Place, Scopes, Site, analysed, asked, known};
+use m2_base::{Ask, Memory, Notes, Operand, Place, Scopes, Site};
 use type_rules::{BROKEN, CARDINAL, CHARACTER, INTEGER, base_of, operand_type};
 
 /// The rule for a value.

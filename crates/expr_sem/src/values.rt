@@ -30,7 +30,7 @@ use crate::takings::{Taking, taking_of};
 use code_form::Instr;
 use const_eval::is_within;
 use m2_base::{
-    Around, Ask, Diagnostic, Memory, Notes, Operand, Place, RowMeaning, Scopes, Site, Texts, known,
+    Around, Ask, Diagnostic, Memory, Notes, Operand, Place, RowMeaning, Scopes, Site, Texts,
 };
 use type_rules::{range_of, stand};
 

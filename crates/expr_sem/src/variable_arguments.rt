@@ -19,10 +19,7 @@ use crate::coded::Coded;
 use crate::fragments::Fragments;
 use crate::refusals::refused;
 use const_eval::is_bad;
-use m2_base::{
-    Ask, Diagnostic, Memory, Notes, Operand, Place, RowMeaning, Scopes, Site, analysed, asked,
-    known,
-};
+use m2_base::{Ask, Diagnostic, Memory, Notes, Operand, Place, RowMeaning, Scopes, Site};
 use type_rules::{operand_type, range_of, stand};
 
 /// Which type a variable is to have.

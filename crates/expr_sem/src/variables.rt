@@ -24,9 +24,7 @@ use crate::levels::level_of;
 use crate::procedure_names::{import_number, is_own};
 use code_form::Instr;
 use const_eval::operand_of;
-use m2_base::{
-    Around, Ask, Memory, Mode, Operand, Place, Row, RowMeaning, Scopes, Site, asked, read_row,
-};
+use m2_base::{Around, Ask, Memory, Mode, Operand, Place, Row, RowMeaning, Scopes, Site, read_row};
 
 /// How many static links lead from a block out to the block of a scope.
 pub fn links_out(around: &Around, scope: u32) -> u32

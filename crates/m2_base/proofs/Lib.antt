@@ -14,7 +14,9 @@ pub mod OneReading
 mod ReservedWords
 pub mod ReadExpressions
 pub mod ReadSound
+pub mod ReadStatements
 pub mod ReadStreams
+pub mod ReadTokens
 pub mod ReadTypes
 pub mod RowLaws
 pub mod SceneLaws

@@ -28,7 +28,7 @@ module _ (names : List (List ℕ)) where
   each_back (x ∷ xs) ys h = each_back xs ys h.1
 
   -- each token of a derivation is as read, where those that it spells are
-  leaves_read : (d : Tree Token) → Each (IsReadToken names) (tokens d) → AreRead names d
+  pub leaves_read : (d : Tree Token) → Each (IsReadToken names) (tokens d) → AreRead names d
   leaves_read nothing h = tt
   leaves_read (leaf t) h = h.0
   leaves_read (both d e) h = (leaves_read d (each_front (tokens d) (tokens e) h), leaves_read e (each_back (tokens d) (tokens e) h))

@@ -53,19 +53,19 @@ cells_most : (scene : Scene) (rows : List Row) (cell : ℕ) → cell ≤ most �
 cells_most scene [] cell h = h
 cells_most scene (r ∷ rows) cell h = cells_most scene rows (cell_after scene cell (row_meaning r)) (cell_most scene cell (row_meaning r) h)
 
-first_cell_most : (scene : Scene) (kind : StreamKind) (own : Option ℕ) → first_cell scene kind own ≤ most
+pub first_cell_most : (scene : Scene) (kind : StreamKind) (own : Option ℕ) → first_cell scene kind own ≤ most
 first_cell_most scene Main (Some own) = cells_most scene (rows_at scene.tables own) 0 (omega arith)
 first_cell_most scene kind own = omega arith
 
 -- ** The scene of a block
 
 -- the rows of an earlier scope
-rows_before : (tables : List (List Row)) (b : Block) (s : ℕ) → b.scope ≤ length tables → s < b.scope → rows_at (scene_of tables b).tables s ≡ rows_at tables s
+pub rows_before : (tables : List (List Row)) (b : Block) (s : ℕ) → b.scope ≤ length tables → s < b.scope → rows_at (scene_of tables b).tables s ≡ rows_at tables s
 rows_before tables b s h k =
     let e = length-take-le b.scope tables h in
     get_or_append_left (take b.scope tables) ([] ∷ []) [] s (omega (arith, e, k)) ∙ get_or-take b.scope tables s [] k
 
-rows_above : (tables : List (List Row)) (b : Block) (s : ℕ) → b.scope ≤ length tables → b.scope < s → rows_at (scene_of tables b).tables s ≡ []
+pub rows_above : (tables : List (List Row)) (b : Block) (s : ℕ) → b.scope ≤ length tables → b.scope < s → rows_at (scene_of tables b).tables s ≡ []
 rows_above tables b s h k =
     let e = length-take-le b.scope tables h in
     let f = length-append (take b.scope tables) ([] ∷ []) in
@@ -74,7 +74,7 @@ rows_above tables b s h k =
 none_here : {names : ℕ} (tables : List (List Row)) (b : Block) → b.scope ≤ length tables → (o : ℕ) (r : Row) → slice_get (own_of (scene_of tables b)) o ≡ Some r → RowOk names (at_place b.scope o) r
 none_here tables b h o r e = let none : slice_get [] o ≡ Some r = subst (λ (rows : List Row). slice_get rows o ≡ Some r) (scene_empty tables b h) e in absurd (cc)
 
-scene_sound : (names : ℕ) (source : Source) (tables : List (List Row)) (b : BlockTree) → IsReady names source tables b → Sound names (scene_of tables b.block)
+pub scene_sound : (names : ℕ) (source : Source) (tables : List (List Row)) (b : BlockTree) → IsReady names source tables b → Sound names (scene_of tables b.block)
 scene_sound names source tables b ready =
     record {
       some = ready.some_names;
@@ -87,6 +87,18 @@ scene_sound names source tables b ready =
       own = none_here tables b.block ready.before;
       standard = rows_before tables b.block 0 ready.before ready.positive ∙ ready.standard;
       few = let e = ap length (scene_empty tables b.block ready.before) in omega (arith, e);
+    }
+
+-- the context of a block that is ready
+pub context_sound : (names : ℕ) (source : Source) (tables : List (List Row)) (b : BlockTree) → IsReady names source tables b → SoundContext names (context_of source tables b)
+context_sound names source tables b ready =
+    let few = ready.few in
+    let layout = item_ordinals 0 0 (items_of b.tree) (2 ^ 32) (omega (arith, few)) in
+    record {
+      scene = scene_sound names source tables b ready;
+      source = record { short = ready.short; bytes = ready.bytes };
+      few_names = ready.few_names;
+      layout = λ name. each_found (λ (n : Named). n.ordinal < 2 ^ 32) (λ n. n.name == name) (layout_of b.tree).names layout;
     }
 
 -- each row is right at its place
@@ -109,13 +121,7 @@ block_right names source tables b ready k r e =
     let c = context_of source tables b in
     let sound = scene_sound names source tables b ready in
     let few = ready.few in
-    let layout = item_ordinals 0 0 (items_of b.tree) (2 ^ 32) (omega (arith, few)) in
-    let context : SoundContext names c = record {
-      scene = sound;
-      source = record { short = ready.short; bytes = ready.bytes };
-      few_names = ready.few_names;
-      layout = λ name. each_found (λ (n : Named). n.ordinal < 2 ^ 32) (λ n. n.name == name) (layout_of b.tree).names layout;
-    } in
+    let context : SoundContext names c = context_sound names source tables b ready in
     let cell = first_cell (scene_of tables b.block) b.tree.kind b.block.own in
     let rows = (declare_items c b.tree.kind 0 cell (items_of b.tree)).rows in
     let many : length rows ≡ length (flat_map item_shapes (items_of b.tree)) = AreShaped-length (block_shaped source tables b) in

@@ -214,7 +214,7 @@ module _ (n : ℕ) where
       join n (constant_at n low c h.0) (join n (constant_at n high c h.1)
       (range_taken_at c (expr_at low) t covered (constant_of c low).value (constant_of c high).value (first_token n low h.0)))
 
-  labels_at : (ls : Labels) (c : Context) (t : Place) (covered : List Range) → AreStandingLabels n ls → GivesAt n (labels_of c t covered ls)
+  pub labels_at : (ls : Labels) (c : Context) (t : Place) (covered : List Range) → AreStandingLabels n ls → GivesAt n (labels_of c t covered ls)
   labels_at no_labels c t covered h = none n
   labels_at (more_labels l ls) c t covered h =
       join n (label_at c t covered l h.0) (join n (labels_at ls c t (label_of c t covered l).value.covered h.1) (none n))

@@ -37,6 +37,7 @@ pub mod SameForm
 pub mod Sets
 pub mod ShapedRows
 pub mod Shapes
+pub mod ReadStatements
 pub mod ReadTrees
 pub mod SoundTrees
 pub mod StandingTrees

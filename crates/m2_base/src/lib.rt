@@ -19,7 +19,6 @@ mod names;
 mod notes;
 mod operands;
 mod outputs;
-mod passing;
 mod replies;
 mod rows;
 mod scopes;

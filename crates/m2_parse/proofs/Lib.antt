@@ -3,10 +3,10 @@ pub mod ExpressionLinks
 pub mod FrontLaws
 pub mod FrontLemmas
 pub mod LeadingLaws
+pub mod ListLemmas
 pub mod NameLinks
 pub mod Others
 pub mod Retold
 pub mod StatementLinks
-pub mod Steps
 pub mod StreamLinks
 pub mod TypeLinks

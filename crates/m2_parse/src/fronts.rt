@@ -11,7 +11,6 @@ use crate::faults::ReadFault;
 use crate::heads::Front;
 use crate::leading::leading;
 use crate::names::ident;
-use crate::reading::{expect, skip};
 use crate::streams::{implementation, import};
 use crate::tokens::Tokens;
 use m2_base::{Ident, Import, Memory, Token, TokenKind};
@@ -19,29 +18,29 @@ use std::alloc::Global;
 
 /// DEFINITION MODULE ident
 #[tactic(auto, unfolding(crate::specs::Fronts::definition_head_at))]
-fn definition_head(tokens: Tokens) -> Result<((bool, Ident), Tokens), ReadFault>
-    ensures { Gives (λ x. (x.0, x.1.list.now)) result (definition_head_at tokens.entry.list.now) }
+fn definition_head(tokens: &mut Tokens) -> Result<(bool, Ident), ReadFault>
+    ensures { Gives (λ x. (x, tokens.new.list.now)) result (definition_head_at tokens.old.list.now) }
 {
-    let (_definition, rest) = expect(TokenKind::Definition, tokens)?;
-    let (_module, rest) = expect(TokenKind::Module, rest)?;
-    let (name, rest) = ident(rest)?;
-    Ok(((false, name), rest))
+    tokens.expect(TokenKind::Definition)?;
+    tokens.expect(TokenKind::Module)?;
+    let name = ident(tokens)?;
+    Ok((false, name))
 }
 
 /// [IMPLEMENTATION] MODULE ident
 #[tactic(auto, unfolding(crate::specs::Fronts::main_head_at))]
-fn main_head(tokens: Tokens) -> Result<((bool, Ident), Tokens), ReadFault>
-    ensures { Gives (λ x. (x.0, x.1.list.now)) result (main_head_at tokens.entry.list.now) }
+fn main_head(tokens: &mut Tokens) -> Result<(bool, Ident), ReadFault>
+    ensures { Gives (λ x. (x, tokens.new.list.now)) result (main_head_at tokens.old.list.now) }
 {
-    let (implementation, rest) = implementation(tokens)?;
-    let (_module, rest) = expect(TokenKind::Module, rest)?;
-    let (name, rest) = ident(rest)?;
-    Ok(((implementation, name), rest))
+    let implementation = implementation(tokens)?;
+    tokens.expect(TokenKind::Module)?;
+    let name = ident(tokens)?;
+    Ok((implementation, name))
 }
 
 /// The head of a text.
-fn head(tokens: Tokens, definition: bool) -> Result<((bool, Ident), Tokens), ReadFault>
-    ensures { Gives (λ x. (x.0, x.1.list.now)) result (head_at definition tokens.entry.list.now) }
+fn head(tokens: &mut Tokens, definition: bool) -> Result<(bool, Ident), ReadFault>
+    ensures { Gives (λ x. (x, tokens.new.list.now)) result (head_at definition tokens.old.list.now) }
 {
     if definition {
         definition_head(tokens)
@@ -65,40 +64,38 @@ fn modules(alloc: Global, found: Import) -> Result<Vec<Ident>, Memory>
 }
 
 /// The modules of the whole imports at the front.
-fn all_modules(alloc: Global, tokens: Tokens) -> Result<Vec<Ident>, Memory>
-    ensures { IfOk result (λ v. v.items ≡ modules_at (length tokens.entry.list.now) tokens.entry.list.now) }
+fn all_modules(alloc: Global, tokens: &mut Tokens) -> Result<Vec<Ident>, Memory>
+    ensures { IfOk result (λ v. v.items ≡ modules_at (length tokens.old.list.now) tokens.old.list.now) }
 {
     let mut items = Vec::new(alloc);
-    let mut rest = tokens;
-    let count = tokens.list.len();
-    for _ in 0..count {
-        let (found, after) = match import(alloc, rest) {
+    for _ in 0..tokens.list.len() {
+        let found = match import(alloc, tokens) {
             Ok(read) => read,
             Err(ReadFault::Memory) => return Err(Memory),
             Err(ReadFault::Refused(_)) => return Ok(items),
         };
         let mut some = modules(alloc, found)?;
         items.append(&mut some)?;
-        rest = after;
     }
     Ok(items)
 }
 
 /// The modules of the imports behind the name and its ";".
-fn imports_behind(alloc: Global, tokens: Tokens) -> Result<Vec<Ident>, Memory>
-    ensures { IfOk result (λ v. v.items ≡ spec_imports_behind tokens.entry.list.now) }
+fn imports_behind(alloc: Global, tokens: &mut Tokens) -> Result<Vec<Ident>, Memory>
+    ensures { IfOk result (λ v. v.items ≡ spec_imports_behind tokens.old.list.now) }
 {
-    match skip(TokenKind::Semicolon, tokens) {
-        Some(rest) => all_modules(alloc, rest),
-        None => Ok(Vec::new(alloc)),
+    if tokens.skip(TokenKind::Semicolon) {
+        all_modules(alloc, tokens)
+    } else {
+        Ok(Vec::new(alloc))
     }
 }
 
 /// The front, as it is read.
-fn read_front(alloc: Global, tokens: Tokens, definition: bool) -> Result<Front, Memory>
+fn read_front(alloc: Global, mut tokens: Tokens, definition: bool) -> Result<Front, Memory>
     ensures { IfOk result (λ f. front_view f ≡ front_of definition tokens.entry.list.now) }
 {
-    let ((implementation, name), rest) = match head(tokens, definition) {
+    let (implementation, name) = match head(&mut tokens, definition) {
         Ok(read) => read,
         Err(ReadFault::Memory) => return Err(Memory),
         Err(ReadFault::Refused(_)) => {
@@ -109,7 +106,7 @@ fn read_front(alloc: Global, tokens: Tokens, definition: bool) -> Result<Front, 
             });
         }
     };
-    let imports = imports_behind(alloc, rest)?;
+    let imports = imports_behind(alloc, &mut tokens)?;
     Ok(Front {
         name: Some(name),
         implementation,

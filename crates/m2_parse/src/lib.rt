@@ -15,6 +15,7 @@ mod fronts;
 mod heads;
 mod laws;
 mod leading;
+mod lists;
 mod names;
 mod operators;
 mod reading;

@@ -3,59 +3,47 @@ ghost use Rattle.m2_parse.specs.Reading.{Gives};
 ghost use Rattle.m2_parse.specs.ReadNames.{ident_at, idents_at, second_at, qual_at};
 
 use crate::faults::ReadFault;
-use crate::reading::{expect, next_is, skip};
+use crate::lists::listed;
 use crate::tokens::Tokens;
 use m2_base::{Ident, Qual, TokenKind};
 use std::alloc::Global;
 
 #[tactic(auto, unfolding(crate::specs::ReadNames::ident_at))]
-pub fn ident(tokens: Tokens) -> Result<(Ident, Tokens), ReadFault>
-    ensures { Gives (λ x. (x.0, x.1.list.now)) result (ident_at tokens.entry.list.now) }
+pub fn ident(tokens: &mut Tokens) -> Result<Ident, ReadFault>
+    ensures { Gives (λ x. (x, tokens.new.list.now)) result (ident_at tokens.old.list.now) }
 {
-    let (t, rest) = expect(TokenKind::Identifier, tokens)?;
+    let t = tokens.expect(TokenKind::Identifier)?;
     let name = t.value as u32;
-    Ok((Ident { name, at: t.at }, rest))
+    Ok(Ident { name, at: t.at })
 }
 
 /// Idents = ident {"," ident}
-#[tactic(auto, using(ll_grammar::proofs::Loops::listed_starts, ll_grammar::proofs::Loops::separated_ends))]
-pub fn idents(alloc: Global, tokens: Tokens) -> Result<(Vec<Ident>, Tokens), ReadFault>
-    ensures { Gives (λ x. (x.0.items, x.1.list.now)) result (idents_at tokens.entry.list.now) }
+#[tactic(auto, using(ll_grammar::proofs::Loops::listed_starts, crate::proofs::ListLemmas::list_ends))]
+pub fn idents(alloc: Global, tokens: &mut Tokens) -> Result<Vec<Ident>, ReadFault>
+    ensures { Gives (λ x. (x.items, tokens.new.list.now)) result (idents_at tokens.old.list.now) }
 {
-    let (first, mut rest) = ident(tokens)?;
-    let mut items = Vec::new(alloc);
-    items.push(first)?;
-    let count = rest.list.len();
-    for _ in 0..count {
-        let Some(after) = skip(TokenKind::Comma, rest) else {
-            return Ok((items, rest));
-        };
-        let (item, after) = ident(after)?;
-        items.push(item)?;
-        rest = after;
-    }
-    Ok((items, rest))
+    listed!(alloc, tokens, TokenKind::Comma, ident(tokens))
 }
 
 /// ["." ident]
 #[tactic(auto, unfolding(crate::specs::ReadNames::second_at))]
-fn second_name(tokens: Tokens) -> Result<(Option<Ident>, Tokens), ReadFault>
-    ensures { Gives (λ x. (x.0, x.1.list.now)) result (second_at tokens.entry.list.now) }
+fn second_name(tokens: &mut Tokens) -> Result<Option<Ident>, ReadFault>
+    ensures { Gives (λ x. (x, tokens.new.list.now)) result (second_at tokens.old.list.now) }
 {
-    if !next_is(TokenKind::Period, tokens) {
-        return Ok((None, tokens));
+    if !tokens.next_is(TokenKind::Period) {
+        return Ok(None);
     }
-    let (_period, rest) = expect(TokenKind::Period, tokens)?;
-    let (name, rest) = ident(rest)?;
-    Ok((Some(name), rest))
+    tokens.expect(TokenKind::Period)?;
+    let name = ident(tokens)?;
+    Ok(Some(name))
 }
 
 /// Qual = ident ["." ident]
 #[tactic(auto, unfolding(crate::specs::ReadNames::qual_at))]
-pub fn qual(tokens: Tokens) -> Result<(Qual, Tokens), ReadFault>
-    ensures { Gives (λ x. (x.0, x.1.list.now)) result (qual_at tokens.entry.list.now) }
+pub fn qual(tokens: &mut Tokens) -> Result<Qual, ReadFault>
+    ensures { Gives (λ x. (x, tokens.new.list.now)) result (qual_at tokens.old.list.now) }
 {
-    let (first, rest) = ident(tokens)?;
-    let (second, rest) = second_name(rest)?;
-    Ok((Qual { first, second }, rest))
+    let first = ident(tokens)?;
+    let second = second_name(tokens)?;
+    Ok(Qual { first, second })
 }

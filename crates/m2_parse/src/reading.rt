@@ -1,10 +1,9 @@
 //! Reading a token, or looking at it.
 ghost use Rattle.std.specs.Prelude.{◌≡◌, [], ◌∷◌, map, IfOk, ◌<◌};
-ghost use Rattle.std.specs.Option.{option_map};
 ghost use Rattle.m2_base.specs.KindNumbers.{kind_number};
 ghost use Rattle.ll_grammar.specs.LookAhead.{member};
 ghost use Rattle.m2_parse.specs.Fitting.{limit_of};
-ghost use Rattle.m2_parse.specs.Reading.{Gives, next_is as spec_next_is, next_in as spec_next_in, expect as spec_expect, expect_in as spec_expect_in, skip as spec_skip, syntax_fault, place as spec_place};
+ghost use Rattle.m2_parse.specs.Reading.{Gives, next_is as spec_next_is, next_in as spec_next_in, expect as spec_expect, expect_in as spec_expect_in, skipped, syntax_fault, place as spec_place};
 
 use crate::faults::{ReadFault, Refusal};
 use crate::tokens::Tokens;
@@ -29,103 +28,93 @@ pub fn is_one_of(kind: TokenKind, kinds: &[TokenKind]) -> bool
     false
 }
 
-/// The next token is of this kind.
-pub fn next_is(kind: TokenKind, tokens: Tokens) -> bool
-    ensures { result ≡ spec_next_is kind tokens.entry.list.now }
-{
-    match tokens.list {
-        [] => false,
-        [t, ..] => number(t.kind) == number(kind),
+impl Tokens<'_> {
+    /// The next token is of this kind.
+    pub fn next_is(&self, kind: TokenKind) -> bool
+        ensures { result ≡ spec_next_is kind self.now.list.now }
+    {
+        match self.list {
+            [] => false,
+            [t, ..] => number(t.kind) == number(kind),
+        }
     }
-}
 
-/// The next token is of one of these kinds.
-pub fn next_in(kinds: &[TokenKind], tokens: Tokens) -> bool
-    ensures { result ≡ spec_next_in kinds.now tokens.entry.list.now }
-{
-    match tokens.list {
-        [] => false,
-        [t, ..] => is_one_of(t.kind, kinds),
+    /// The next token is of one of these kinds.
+    pub fn next_in(&self, kinds: &[TokenKind]) -> bool
+        ensures { result ≡ spec_next_in kinds.now self.now.list.now }
+    {
+        match self.list {
+            [] => false,
+            [t, ..] => is_one_of(t.kind, kinds),
+        }
     }
-}
 
-/// The number of the next token.
-pub fn place(tokens: Tokens) -> u32
-    ensures { result ≡ spec_place tokens.entry.list.now }
-{
-    match tokens.list {
-        [] => 0,
-        [t, ..] => t.at,
+    /// The number of the next token.
+    pub fn place(&self) -> u32
+        ensures { result ≡ spec_place self.now.list.now }
+    {
+        match self.list {
+            [] => 0,
+            [t, ..] => t.at,
+        }
     }
-}
 
-/// The next token is refused, since no sentence goes on with it.
-pub fn refused(tokens: Tokens) -> ReadFault
-    ensures { result ≡ syntax_fault tokens.entry.list.now }
-{
-    match tokens.list {
-        [] => ReadFault::Refused(Refusal::Syntax { at: 0, code: 20 }),
-        [t, ..] => {
-            if number(t.kind) == number(TokenKind::Bad) {
-                ReadFault::Refused(Refusal::Syntax {
-                    at: t.at,
-                    code: t.value as u8,
-                })
-            } else {
-                ReadFault::Refused(Refusal::Syntax { at: t.at, code: 20 })
+    /// The next token is refused, since no sentence goes on with it.
+    pub fn refused(&self) -> ReadFault
+        ensures { result ≡ syntax_fault self.now.list.now }
+    {
+        match self.list {
+            [] => ReadFault::Refused(Refusal::Syntax { at: 0, code: 20 }),
+            [t, ..] => {
+                if number(t.kind) == number(TokenKind::Bad) {
+                    ReadFault::Refused(Refusal::Syntax {
+                        at: t.at,
+                        code: t.value as u8,
+                    })
+                } else {
+                    ReadFault::Refused(Refusal::Syntax { at: t.at, code: 20 })
+                }
             }
         }
     }
-}
 
-/// A token of this kind, and the tokens behind it.
-pub fn expect(kind: TokenKind, tokens: Tokens) -> Result<(Token, Tokens), ReadFault>
-    ensures gives { Gives (λ x. (x.0, x.1.list.now)) result (spec_expect kind tokens.entry.list.now) }
-    ensures fits { IfOk result (λ x. x.0.value < limit_of (kind_number kind)) }
-{
-    match tokens.list {
-        [] => Err(refused(tokens)),
-        [t, rest @ ..] => {
-            if number(t.kind) == number(kind) {
-                Ok((*t, Tokens { list: rest }))
-            } else {
-                Err(refused(tokens))
+    /// Reads a token of this kind.
+    pub fn expect(&mut self, kind: TokenKind) -> Result<Token, ReadFault>
+        ensures gives { Gives (λ x. (x, self.new.list.now)) result (spec_expect kind self.old.list.now) }
+        ensures fits { IfOk result (λ x. x.value < limit_of (kind_number kind)) }
+    {
+        match self.list {
+            [t, rest @ ..] if number(t.kind) == number(kind) => {
+                self.list = rest;
+                Ok(*t)
             }
+            _ => Err(self.refused()),
         }
     }
-}
 
-/// A token of one of these kinds, and the tokens behind it.
-pub fn expect_in<'a>(
-    kinds: &[TokenKind],
-    tokens: Tokens<'a>,
-) -> Result<(Token, Tokens<'a>), ReadFault>
-    ensures { Gives (λ x. (x.0, x.1.list.now)) result (spec_expect_in kinds.now tokens.entry.list.now) }
-{
-    match tokens.list {
-        [] => Err(refused(tokens)),
-        [t, rest @ ..] => {
-            if is_one_of(t.kind, kinds) {
-                Ok((*t, Tokens { list: rest }))
-            } else {
-                Err(refused(tokens))
+    /// Reads a token of one of these kinds.
+    pub fn expect_in(&mut self, kinds: &[TokenKind]) -> Result<Token, ReadFault>
+        ensures { Gives (λ x. (x, self.new.list.now)) result (spec_expect_in kinds.now self.old.list.now) }
+    {
+        match self.list {
+            [t, rest @ ..] if is_one_of(t.kind, kinds) => {
+                self.list = rest;
+                Ok(*t)
             }
+            _ => Err(self.refused()),
         }
     }
-}
 
-/// The tokens behind a token of this kind, where one stands there.
-pub fn skip(kind: TokenKind, tokens: Tokens) -> Option<Tokens>
-    ensures { option_map (λ rest. rest.list.now) result ≡ spec_skip kind tokens.entry.list.now }
-{
-    match tokens.list {
-        [] => None,
-        [t, rest @ ..] => {
-            if number(t.kind) == number(kind) {
-                Some(Tokens { list: rest })
-            } else {
-                None
+    /// Reads a token of this kind where one stands there, and says whether it did.
+    pub fn skip(&mut self, kind: TokenKind) -> bool
+        ensures { (result, self.new.list.now) ≡ skipped kind self.old.list.now }
+    {
+        match self.list {
+            [t, rest @ ..] if number(t.kind) == number(kind) => {
+                self.list = rest;
+                true
             }
+            _ => false,
         }
     }
 }

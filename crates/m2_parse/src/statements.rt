@@ -7,96 +7,93 @@ ghost use Rattle.m2_parse.specs.ReadStatements.{begins_statement as spec_begins_
 
 use crate::expressions::{actuals, begins_expr, designator, expr, labels, too_deep};
 use crate::faults::ReadFault;
+use crate::lists::{all_listed, listed, repeated};
 use crate::names::ident;
-use crate::reading::{expect, next_in, next_is, place, skip};
 use crate::tokens::Tokens;
 use m2_base::{CaseArm, Expr, IfArm, Statement, StmtForm, TokenKind};
 use std::alloc::{AllocError, Global};
 
-fn begins_statement(tokens: Tokens) -> bool
-    ensures { result ≡ spec_begins_statement tokens.entry.list.now }
+fn begins_statement(tokens: &Tokens) -> bool
+    ensures { result ≡ spec_begins_statement tokens.now.list.now }
 {
-    next_in(
-        &[
-            TokenKind::Identifier,
-            TokenKind::If,
-            TokenKind::Case,
-            TokenKind::While,
-            TokenKind::Repeat,
-            TokenKind::Loop,
-            TokenKind::Exit,
-            TokenKind::Return,
-            TokenKind::For,
-            TokenKind::With,
-        ],
-        tokens,
-    )
+    tokens.next_in(&[
+        TokenKind::Identifier,
+        TokenKind::If,
+        TokenKind::Case,
+        TokenKind::While,
+        TokenKind::Repeat,
+        TokenKind::Loop,
+        TokenKind::Exit,
+        TokenKind::Return,
+        TokenKind::For,
+        TokenKind::With,
+    ])
 }
 
 /// EXIT
 #[tactic(auto, using(std::proofs::lemmas::Grind::common_steps, m2_base::proofs::Seen::statement_seen, m2_base::proofs::Seen::exit_seen), unfolding(crate::specs::ReadStatements::exit_at))]
-fn exit(tokens: Tokens) -> Result<(Statement, Tokens), ReadFault>
-    ensures { Gives (λ x. (statement_view x.0, x.1.list.now)) result (exit_at tokens.entry.list.now) }
+fn exit(tokens: &mut Tokens) -> Result<Statement, ReadFault>
+    ensures { Gives (λ x. (statement_view x, tokens.new.list.now)) result (exit_at tokens.old.list.now) }
 {
-    let (exit, rest) = expect(TokenKind::Exit, tokens)?;
+    let exit = tokens.expect(TokenKind::Exit)?;
     let form = StmtForm::Exit;
-    Ok((Statement { at: exit.at, form }, rest))
+    Ok(Statement { at: exit.at, form })
 }
 
 /// RETURN [Expr]
 #[tactic(auto, using(std::proofs::lemmas::Grind::common_steps, m2_base::proofs::Seen::statement_seen, m2_base::proofs::Seen::return_seen), unfolding(crate::specs::ReadStatements::return_at, crate::specs::ReadStatements::optional_expr_at))]
 fn return_statement(
     alloc: Global,
-    tokens: Tokens,
+    tokens: &mut Tokens,
     depth: usize,
-) -> Result<(Statement, Tokens), ReadFault>
-    ensures { Gives (λ x. (statement_view x.0, x.1.list.now)) result (return_at depth tokens.entry.list.now) }
+) -> Result<Statement, ReadFault>
+    ensures { Gives (λ x. (statement_view x, tokens.new.list.now)) result (return_at depth tokens.old.list.now) }
 {
-    let (word, rest) = expect(TokenKind::Return, tokens)?;
+    let word = tokens.expect(TokenKind::Return)?;
     let at = word.at;
-    if !begins_expr(rest) {
+    if !begins_expr(tokens) {
         let form = StmtForm::Return(None);
-        return Ok((Statement { at, form }, rest));
+        return Ok(Statement { at, form });
     }
-    let (value, rest) = expr(alloc, rest, depth)?;
+    let value = expr(alloc, tokens, depth)?;
     let form = StmtForm::Return(Some(value));
-    Ok((Statement { at, form }, rest))
+    Ok(Statement { at, form })
 }
 
 /// Designator (":=" Expr | [Actuals])
 #[tactic(auto, using(std::proofs::lemmas::Grind::common_steps, m2_base::proofs::Seen::statement_seen, m2_base::proofs::Seen::assign_seen, m2_base::proofs::Seen::invoke_seen, m2_base::proofs::Seen::designator_seen), unfolding(crate::specs::ReadStatements::designated_at, crate::specs::ReadStatements::assigned_at, crate::specs::ReadStatements::optional_actuals_at))]
-fn designated(alloc: Global, tokens: Tokens, depth: usize) -> Result<(Statement, Tokens), ReadFault>
-    ensures { Gives (λ x. (statement_view x.0, x.1.list.now)) result (designated_at depth tokens.entry.list.now) }
+fn designated(alloc: Global, tokens: &mut Tokens, depth: usize) -> Result<Statement, ReadFault>
+    ensures { Gives (λ x. (statement_view x, tokens.new.list.now)) result (designated_at depth tokens.old.list.now) }
 {
-    let (to, rest) = designator(alloc, tokens, depth)?;
+    let to = designator(alloc, tokens, depth)?;
     let at = to.first.at;
-    if next_is(TokenKind::Becomes, rest) {
-        let (_becomes, rest) = expect(TokenKind::Becomes, rest)?;
-        let (value, rest) = expr(alloc, rest, depth)?;
+    if tokens.next_is(TokenKind::Becomes) {
+        tokens.expect(TokenKind::Becomes)?;
+        let value = expr(alloc, tokens, depth)?;
         let form = StmtForm::Assign { to, value };
-        return Ok((Statement { at, form }, rest));
+        return Ok(Statement { at, form });
     }
-    if next_is(TokenKind::LeftParenthesis, rest) {
-        let (args, rest) = actuals(alloc, rest, depth)?;
+    if tokens.next_is(TokenKind::LeftParenthesis) {
+        let args = actuals(alloc, tokens, depth)?;
         let form = StmtForm::Call { to, args };
-        return Ok((Statement { at, form }, rest));
+        return Ok(Statement { at, form });
     }
     let args = Vec::new(alloc);
     let form = StmtForm::Call { to, args };
-    Ok((Statement { at, form }, rest))
+    Ok(Statement { at, form })
 }
 
 /// [BY Expr]
 #[tactic(auto, using(std::proofs::lemmas::Grind::common_steps), unfolding(crate::specs::ReadStatements::step_at))]
-fn step(alloc: Global, tokens: Tokens, depth: usize) -> Result<(Option<Expr>, Tokens), ReadFault>
-    ensures { Gives (λ x. (option_map expr_view x.0, x.1.list.now)) result (step_at depth tokens.entry.list.now) }
+fn step(alloc: Global, tokens: &mut Tokens, depth: usize) -> Result<Option<Expr>, ReadFault>
+    ensures { Gives (λ x. (option_map expr_view x, tokens.new.list.now)) result (step_at depth tokens.old.list.now) }
 {
-    if !next_is(TokenKind::By, tokens) {
-        return Ok((None, tokens));
+    if !tokens.next_is(TokenKind::By) {
+        return Ok(None);
     }
-    let (_by, rest) = expect(TokenKind::By, tokens)?;
-    let (by, rest) = expr(alloc, rest, depth)?;
-    Ok((Some(by), rest))
+    tokens.expect(TokenKind::By)?;
+    let by = expr(alloc, tokens, depth)?;
+    Ok(Some(by))
 }
 
 /// The statements after ELSE of an IF: none where there is no ELSE.
@@ -122,8 +119,8 @@ fn with_first(alloc: Global, first: IfArm, mut others: Vec<IfArm>) -> Result<Vec
 /// A statement, one level deeper.
 #[cycle(statements)]
 #[tactic(auto, unfolding(crate::specs::ReadStatements::statement_at))]
-fn statement(alloc: Global, tokens: Tokens, depth: usize) -> Result<(Statement, Tokens), ReadFault>
-    ensures { Gives (λ x. (statement_view x.0, x.1.list.now)) result (statement_at depth tokens.entry.list.now) }
+fn statement(alloc: Global, tokens: &mut Tokens, depth: usize) -> Result<Statement, ReadFault>
+    ensures { Gives (λ x. (statement_view x, tokens.new.list.now)) result (statement_at depth tokens.old.list.now) }
 {
     if depth == 0 {
         return Err(too_deep(begins_statement(tokens), tokens));
@@ -134,38 +131,34 @@ fn statement(alloc: Global, tokens: Tokens, depth: usize) -> Result<(Statement, 
 /// A statement, by its first token.
 #[cycle(statements)]
 #[tactic(auto, unfolding(crate::specs::ReadStatements::inner_statement))]
-fn inner_statement(
-    alloc: Global,
-    tokens: Tokens,
-    depth: usize,
-) -> Result<(Statement, Tokens), ReadFault>
-    ensures { Gives (λ x. (statement_view x.0, x.1.list.now)) result (spec_inner_statement depth (statement_at depth) tokens.entry.list.now) }
+fn inner_statement(alloc: Global, tokens: &mut Tokens, depth: usize) -> Result<Statement, ReadFault>
+    ensures { Gives (λ x. (statement_view x, tokens.new.list.now)) result (spec_inner_statement depth (statement_at depth) tokens.old.list.now) }
 {
-    if next_is(TokenKind::Identifier, tokens) {
+    if tokens.next_is(TokenKind::Identifier) {
         return designated(alloc, tokens, depth);
     }
-    if next_is(TokenKind::If, tokens) {
+    if tokens.next_is(TokenKind::If) {
         return if_statement(alloc, tokens, depth);
     }
-    if next_is(TokenKind::Case, tokens) {
+    if tokens.next_is(TokenKind::Case) {
         return case_statement(alloc, tokens, depth);
     }
-    if next_is(TokenKind::While, tokens) {
+    if tokens.next_is(TokenKind::While) {
         return while_statement(alloc, tokens, depth);
     }
-    if next_is(TokenKind::Repeat, tokens) {
+    if tokens.next_is(TokenKind::Repeat) {
         return repeat_statement(alloc, tokens, depth);
     }
-    if next_is(TokenKind::Loop, tokens) {
+    if tokens.next_is(TokenKind::Loop) {
         return loop_statement(alloc, tokens, depth);
     }
-    if next_is(TokenKind::Exit, tokens) {
+    if tokens.next_is(TokenKind::Exit) {
         return exit(tokens);
     }
-    if next_is(TokenKind::Return, tokens) {
+    if tokens.next_is(TokenKind::Return) {
         return return_statement(alloc, tokens, depth);
     }
-    if next_is(TokenKind::For, tokens) {
+    if tokens.next_is(TokenKind::For) {
         return for_statement(alloc, tokens, depth);
     }
     with_statement(alloc, tokens, depth)
@@ -173,27 +166,20 @@ fn inner_statement(
 
 /// Stmts = Stmt {";" Stmt}
 #[cycle(statements)]
-#[tactic(auto, using(ll_grammar::proofs::Loops::listed_starts, ll_grammar::proofs::Loops::separated_ends))]
+#[tactic(auto, using(ll_grammar::proofs::Loops::listed_starts, crate::proofs::ListLemmas::list_ends))]
 pub fn statements(
     alloc: Global,
-    tokens: Tokens,
+    tokens: &mut Tokens,
     depth: usize,
-) -> Result<(Vec<Statement>, Tokens), ReadFault>
-    ensures { Gives (λ x. (map statement_view x.0.items, x.1.list.now)) result (statements_with depth (statement_at depth) tokens.entry.list.now) }
+) -> Result<Vec<Statement>, ReadFault>
+    ensures { Gives (λ x. (map statement_view x.items, tokens.new.list.now)) result (statements_with depth (statement_at depth) tokens.old.list.now) }
 {
-    let (first, mut rest) = optional_statement(alloc, tokens, depth)?;
-    // Most bodies are short, and a first push would make room for four.
-    let mut items = vec![in alloc; first]?;
-    let count = rest.list.len();
-    for _ in 0..count {
-        let Some(after) = skip(TokenKind::Semicolon, rest) else {
-            return Ok((items, rest));
-        };
-        let (item, after) = optional_statement(alloc, after, depth)?;
-        items.push(item)?;
-        rest = after;
-    }
-    Ok((items, rest))
+    listed!(
+        alloc,
+        tokens,
+        TokenKind::Semicolon,
+        optional_statement(alloc, tokens, depth)
+    )
 }
 
 /// [Stmt]; an empty one is at the token after it
@@ -201,17 +187,17 @@ pub fn statements(
 #[tactic(auto, using(std::proofs::lemmas::Grind::common_steps, m2_base::proofs::Seen::statement_seen, m2_base::proofs::Seen::empty_seen), unfolding(crate::specs::ReadStatements::optional_statement_with))]
 fn optional_statement(
     alloc: Global,
-    tokens: Tokens,
+    tokens: &mut Tokens,
     depth: usize,
-) -> Result<(Statement, Tokens), ReadFault>
-    ensures { Gives (λ x. (statement_view x.0, x.1.list.now)) result (optional_statement_with depth (statement_at depth) tokens.entry.list.now) }
+) -> Result<Statement, ReadFault>
+    ensures { Gives (λ x. (statement_view x, tokens.new.list.now)) result (optional_statement_with depth (statement_at depth) tokens.old.list.now) }
 {
     if begins_statement(tokens) {
         return statement(alloc, tokens, depth);
     }
-    let at = place(tokens);
+    let at = tokens.place();
     let form = StmtForm::Empty;
-    Ok((Statement { at, form }, tokens))
+    Ok(Statement { at, form })
 }
 
 /// [ELSE Stmts]
@@ -219,156 +205,128 @@ fn optional_statement(
 #[tactic(auto, using(std::proofs::lemmas::Grind::common_steps), unfolding(crate::specs::ReadStatements::otherwise_with))]
 fn otherwise(
     alloc: Global,
-    tokens: Tokens,
+    tokens: &mut Tokens,
     depth: usize,
-) -> Result<(Option<Vec<Statement>>, Tokens), ReadFault>
-    ensures { Gives (λ x. (option_map (λ v. map statement_view v.items) x.0, x.1.list.now)) result (otherwise_with depth (statement_at depth) tokens.entry.list.now) }
+) -> Result<Option<Vec<Statement>>, ReadFault>
+    ensures { Gives (λ x. (option_map (λ v. map statement_view v.items) x, tokens.new.list.now)) result (otherwise_with depth (statement_at depth) tokens.old.list.now) }
 {
-    if !next_is(TokenKind::Else, tokens) {
-        return Ok((None, tokens));
+    if !tokens.next_is(TokenKind::Else) {
+        return Ok(None);
     }
-    let (_else, rest) = expect(TokenKind::Else, tokens)?;
-    let (found, rest) = statements(alloc, rest, depth)?;
-    Ok((Some(found), rest))
+    tokens.expect(TokenKind::Else)?;
+    let found = statements(alloc, tokens, depth)?;
+    Ok(Some(found))
 }
 
 /// Expr THEN Stmts
 #[cycle(statements)]
 #[tactic(auto, using(std::proofs::lemmas::Grind::common_steps, m2_base::proofs::Seen::if_arm_made), unfolding(crate::specs::ReadStatements::if_arm_with))]
-fn if_arm(alloc: Global, tokens: Tokens, depth: usize) -> Result<(IfArm, Tokens), ReadFault>
-    ensures { Gives (λ x. (if_arm_view x.0, x.1.list.now)) result (if_arm_with depth (statement_at depth) tokens.entry.list.now) }
+fn if_arm(alloc: Global, tokens: &mut Tokens, depth: usize) -> Result<IfArm, ReadFault>
+    ensures { Gives (λ x. (if_arm_view x, tokens.new.list.now)) result (if_arm_with depth (statement_at depth) tokens.old.list.now) }
 {
-    let (test, rest) = expr(alloc, tokens, depth)?;
-    let (_then, rest) = expect(TokenKind::Then, rest)?;
-    let (body, rest) = statements(alloc, rest, depth)?;
-    Ok((IfArm { test, body }, rest))
+    let test = expr(alloc, tokens, depth)?;
+    tokens.expect(TokenKind::Then)?;
+    let body = statements(alloc, tokens, depth)?;
+    Ok(IfArm { test, body })
 }
 
 /// ELSIF Expr THEN Stmts
 #[cycle(statements)]
 #[tactic(auto, using(std::proofs::lemmas::Grind::common_steps), unfolding(crate::specs::ReadStatements::elsif_with))]
-fn elsif(alloc: Global, tokens: Tokens, depth: usize) -> Result<(IfArm, Tokens), ReadFault>
-    ensures { Gives (λ x. (if_arm_view x.0, x.1.list.now)) result (elsif_with depth (statement_at depth) tokens.entry.list.now) }
+fn elsif(alloc: Global, tokens: &mut Tokens, depth: usize) -> Result<IfArm, ReadFault>
+    ensures { Gives (λ x. (if_arm_view x, tokens.new.list.now)) result (elsif_with depth (statement_at depth) tokens.old.list.now) }
 {
-    let (_elsif, rest) = expect(TokenKind::Elsif, tokens)?;
-    let (arm, rest) = if_arm(alloc, rest, depth)?;
-    Ok((arm, rest))
+    tokens.expect(TokenKind::Elsif)?;
+    let arm = if_arm(alloc, tokens, depth)?;
+    Ok(arm)
 }
 
 /// {ELSIF Expr THEN Stmts}
 #[cycle(statements)]
 #[tactic(auto, using(ll_grammar::proofs::Loops::repeat_starts, ll_grammar::proofs::Loops::repeat_ends))]
-fn elsifs(alloc: Global, tokens: Tokens, depth: usize) -> Result<(Vec<IfArm>, Tokens), ReadFault>
-    ensures { Gives (λ x. (map if_arm_view x.0.items, x.1.list.now)) result (elsifs_with depth (statement_at depth) tokens.entry.list.now) }
+fn elsifs(alloc: Global, tokens: &mut Tokens, depth: usize) -> Result<Vec<IfArm>, ReadFault>
+    ensures { Gives (λ x. (map if_arm_view x.items, tokens.new.list.now)) result (elsifs_with depth (statement_at depth) tokens.old.list.now) }
 {
-    let mut items = Vec::new(alloc);
-    let mut rest = tokens;
-    let count = tokens.list.len();
-    for _ in 0..count {
-        if !next_is(TokenKind::Elsif, rest) {
-            return Ok((items, rest));
-        }
-        let (item, after) = elsif(alloc, rest, depth)?;
-        items.push(item)?;
-        rest = after;
-    }
-    Ok((items, rest))
+    repeated!(
+        alloc,
+        tokens,
+        tokens.next_is(TokenKind::Elsif),
+        elsif(alloc, tokens, depth)
+    )
 }
 
 /// IF Expr THEN Stmts {ELSIF Expr THEN Stmts} [ELSE Stmts] END
 #[cycle(statements)]
 #[tactic(auto, using(std::proofs::lemmas::Grind::common_steps, m2_base::proofs::Seen::statement_seen, m2_base::proofs::Seen::if_seen), unfolding(crate::specs::ReadStatements::if_with))]
-fn if_statement(
-    alloc: Global,
-    tokens: Tokens,
-    depth: usize,
-) -> Result<(Statement, Tokens), ReadFault>
-    ensures { Gives (λ x. (statement_view x.0, x.1.list.now)) result (if_with depth (statement_at depth) tokens.entry.list.now) }
+fn if_statement(alloc: Global, tokens: &mut Tokens, depth: usize) -> Result<Statement, ReadFault>
+    ensures { Gives (λ x. (statement_view x, tokens.new.list.now)) result (if_with depth (statement_at depth) tokens.old.list.now) }
 {
-    let (word, rest) = expect(TokenKind::If, tokens)?;
-    let (arm, rest) = if_arm(alloc, rest, depth)?;
-    let (others, rest) = elsifs(alloc, rest, depth)?;
-    let (other, rest) = otherwise(alloc, rest, depth)?;
-    let (_end, rest) = expect(TokenKind::End, rest)?;
+    let word = tokens.expect(TokenKind::If)?;
+    let arm = if_arm(alloc, tokens, depth)?;
+    let others = elsifs(alloc, tokens, depth)?;
+    let other = otherwise(alloc, tokens, depth)?;
+    tokens.expect(TokenKind::End)?;
     let arms = with_first(alloc, arm, others)?;
     let other = other_statements(alloc, other);
     let form = StmtForm::If { arms, other };
-    Ok((Statement { at: word.at, form }, rest))
+    Ok(Statement { at: word.at, form })
 }
 
 /// Arm = [Labels ":" Stmts]
 #[cycle(statements)]
 #[tactic(auto, using(std::proofs::lemmas::Grind::common_steps, m2_base::proofs::Seen::case_arm_made), unfolding(crate::specs::ReadStatements::arm_with))]
-fn arm(alloc: Global, tokens: Tokens, depth: usize) -> Result<(Vec<CaseArm>, Tokens), ReadFault>
-    ensures { Gives (λ x. (map case_arm_view x.0.items, x.1.list.now)) result (arm_with depth (statement_at depth) tokens.entry.list.now) }
+fn arm(alloc: Global, tokens: &mut Tokens, depth: usize) -> Result<Vec<CaseArm>, ReadFault>
+    ensures { Gives (λ x. (map case_arm_view x.items, tokens.new.list.now)) result (arm_with depth (statement_at depth) tokens.old.list.now) }
 {
     let mut items = Vec::new(alloc);
     if !begins_expr(tokens) {
-        return Ok((items, tokens));
+        return Ok(items);
     }
-    let (labels, rest) = labels(alloc, tokens, depth)?;
-    let (_colon, rest) = expect(TokenKind::Colon, rest)?;
-    let (body, rest) = statements(alloc, rest, depth)?;
+    let labels = labels(alloc, tokens, depth)?;
+    tokens.expect(TokenKind::Colon)?;
+    let body = statements(alloc, tokens, depth)?;
     items.push(CaseArm { labels, body })?;
-    Ok((items, rest))
+    Ok(items)
 }
 
 /// Arm {"|" Arm}
 #[cycle(statements)]
-#[tactic(auto, using(ll_grammar::proofs::Loops::listed_starts, ll_grammar::proofs::Loops::separated_ends))]
-fn arms(alloc: Global, tokens: Tokens, depth: usize) -> Result<(Vec<CaseArm>, Tokens), ReadFault>
-    ensures { Gives (λ x. (map case_arm_view x.0.items, x.1.list.now)) result (arms_with depth (statement_at depth) tokens.entry.list.now) }
+#[tactic(auto, using(ll_grammar::proofs::Loops::listed_starts, crate::proofs::ListLemmas::list_ends))]
+fn arms(alloc: Global, tokens: &mut Tokens, depth: usize) -> Result<Vec<CaseArm>, ReadFault>
+    ensures { Gives (λ x. (map case_arm_view x.items, tokens.new.list.now)) result (arms_with depth (statement_at depth) tokens.old.list.now) }
 {
-    let (mut items, mut rest) = arm(alloc, tokens, depth)?;
-    let count = rest.list.len();
-    for _ in 0..count {
-        let Some(after) = skip(TokenKind::Bar, rest) else {
-            return Ok((items, rest));
-        };
-        let (mut item, after) = arm(alloc, after, depth)?;
-        items.append(&mut item)?;
-        rest = after;
-    }
-    Ok((items, rest))
+    all_listed!(tokens, TokenKind::Bar, arm(alloc, tokens, depth))
 }
 
 /// CASE Expr OF Arm {"|" Arm} [ELSE Stmts] END
 #[cycle(statements)]
 #[tactic(auto, using(std::proofs::lemmas::Grind::common_steps, m2_base::proofs::Seen::statement_seen, m2_base::proofs::Seen::case_seen, crate::proofs::Others::case_else_is), unfolding(crate::specs::ReadStatements::case_with))]
-fn case_statement(
-    alloc: Global,
-    tokens: Tokens,
-    depth: usize,
-) -> Result<(Statement, Tokens), ReadFault>
-    ensures { Gives (λ x. (statement_view x.0, x.1.list.now)) result (case_with depth (statement_at depth) tokens.entry.list.now) }
+fn case_statement(alloc: Global, tokens: &mut Tokens, depth: usize) -> Result<Statement, ReadFault>
+    ensures { Gives (λ x. (statement_view x, tokens.new.list.now)) result (case_with depth (statement_at depth) tokens.old.list.now) }
 {
-    let (word, rest) = expect(TokenKind::Case, tokens)?;
-    let (value, rest) = expr(alloc, rest, depth)?;
-    let (_of, rest) = expect(TokenKind::Of, rest)?;
-    let (arms, rest) = arms(alloc, rest, depth)?;
-    let (other, rest) = otherwise(alloc, rest, depth)?;
-    let (_end, rest) = expect(TokenKind::End, rest)?;
+    let word = tokens.expect(TokenKind::Case)?;
+    let value = expr(alloc, tokens, depth)?;
+    tokens.expect(TokenKind::Of)?;
+    let arms = arms(alloc, tokens, depth)?;
+    let other = otherwise(alloc, tokens, depth)?;
+    tokens.expect(TokenKind::End)?;
     let form = StmtForm::Case { value, arms, other };
-    Ok((Statement { at: word.at, form }, rest))
+    Ok(Statement { at: word.at, form })
 }
 
 /// WHILE Expr DO Stmts END
 #[cycle(statements)]
 #[tactic(auto, using(std::proofs::lemmas::Grind::common_steps, m2_base::proofs::Seen::statement_seen, m2_base::proofs::Seen::while_seen), unfolding(crate::specs::ReadStatements::while_with))]
-fn while_statement(
-    alloc: Global,
-    tokens: Tokens,
-    depth: usize,
-) -> Result<(Statement, Tokens), ReadFault>
-    ensures { Gives (λ x. (statement_view x.0, x.1.list.now)) result (while_with depth (statement_at depth) tokens.entry.list.now) }
+fn while_statement(alloc: Global, tokens: &mut Tokens, depth: usize) -> Result<Statement, ReadFault>
+    ensures { Gives (λ x. (statement_view x, tokens.new.list.now)) result (while_with depth (statement_at depth) tokens.old.list.now) }
 {
-    let (word, rest) = expect(TokenKind::While, tokens)?;
-    let (test, rest) = expr(alloc, rest, depth)?;
-    let (_do, rest) = expect(TokenKind::Do, rest)?;
-    let (body, rest) = statements(alloc, rest, depth)?;
-    let (_end, rest) = expect(TokenKind::End, rest)?;
+    let word = tokens.expect(TokenKind::While)?;
+    let test = expr(alloc, tokens, depth)?;
+    tokens.expect(TokenKind::Do)?;
+    let body = statements(alloc, tokens, depth)?;
+    tokens.expect(TokenKind::End)?;
     let form = StmtForm::While { test, body };
-    Ok((Statement { at: word.at, form }, rest))
+    Ok(Statement { at: word.at, form })
 }
 
 /// REPEAT Stmts UNTIL Expr
@@ -376,56 +334,48 @@ fn while_statement(
 #[tactic(auto, using(std::proofs::lemmas::Grind::common_steps, m2_base::proofs::Seen::statement_seen, m2_base::proofs::Seen::repeat_seen), unfolding(crate::specs::ReadStatements::repeat_with))]
 fn repeat_statement(
     alloc: Global,
-    tokens: Tokens,
+    tokens: &mut Tokens,
     depth: usize,
-) -> Result<(Statement, Tokens), ReadFault>
-    ensures { Gives (λ x. (statement_view x.0, x.1.list.now)) result (repeat_with depth (statement_at depth) tokens.entry.list.now) }
+) -> Result<Statement, ReadFault>
+    ensures { Gives (λ x. (statement_view x, tokens.new.list.now)) result (repeat_with depth (statement_at depth) tokens.old.list.now) }
 {
-    let (word, rest) = expect(TokenKind::Repeat, tokens)?;
-    let (body, rest) = statements(alloc, rest, depth)?;
-    let (_until, rest) = expect(TokenKind::Until, rest)?;
-    let (test, rest) = expr(alloc, rest, depth)?;
+    let word = tokens.expect(TokenKind::Repeat)?;
+    let body = statements(alloc, tokens, depth)?;
+    tokens.expect(TokenKind::Until)?;
+    let test = expr(alloc, tokens, depth)?;
     let form = StmtForm::Repeat { body, test };
-    Ok((Statement { at: word.at, form }, rest))
+    Ok(Statement { at: word.at, form })
 }
 
 /// LOOP Stmts END
 #[cycle(statements)]
 #[tactic(auto, using(std::proofs::lemmas::Grind::common_steps, m2_base::proofs::Seen::statement_seen, m2_base::proofs::Seen::loop_seen), unfolding(crate::specs::ReadStatements::loop_with))]
-fn loop_statement(
-    alloc: Global,
-    tokens: Tokens,
-    depth: usize,
-) -> Result<(Statement, Tokens), ReadFault>
-    ensures { Gives (λ x. (statement_view x.0, x.1.list.now)) result (loop_with depth (statement_at depth) tokens.entry.list.now) }
+fn loop_statement(alloc: Global, tokens: &mut Tokens, depth: usize) -> Result<Statement, ReadFault>
+    ensures { Gives (λ x. (statement_view x, tokens.new.list.now)) result (loop_with depth (statement_at depth) tokens.old.list.now) }
 {
-    let (word, rest) = expect(TokenKind::Loop, tokens)?;
-    let (body, rest) = statements(alloc, rest, depth)?;
-    let (_end, rest) = expect(TokenKind::End, rest)?;
+    let word = tokens.expect(TokenKind::Loop)?;
+    let body = statements(alloc, tokens, depth)?;
+    tokens.expect(TokenKind::End)?;
     let form = StmtForm::Loop(body);
-    Ok((Statement { at: word.at, form }, rest))
+    Ok(Statement { at: word.at, form })
 }
 
 /// FOR ident ":=" Expr TO Expr [BY Expr] DO Stmts END
 #[cycle(statements)]
 #[tactic(auto, using(std::proofs::lemmas::Grind::common_steps, m2_base::proofs::Seen::statement_seen, m2_base::proofs::Seen::for_seen), unfolding(crate::specs::ReadStatements::for_with))]
-fn for_statement(
-    alloc: Global,
-    tokens: Tokens,
-    depth: usize,
-) -> Result<(Statement, Tokens), ReadFault>
-    ensures { Gives (λ x. (statement_view x.0, x.1.list.now)) result (for_with depth (statement_at depth) tokens.entry.list.now) }
+fn for_statement(alloc: Global, tokens: &mut Tokens, depth: usize) -> Result<Statement, ReadFault>
+    ensures { Gives (λ x. (statement_view x, tokens.new.list.now)) result (for_with depth (statement_at depth) tokens.old.list.now) }
 {
-    let (word, rest) = expect(TokenKind::For, tokens)?;
-    let (name, rest) = ident(rest)?;
-    let (_becomes, rest) = expect(TokenKind::Becomes, rest)?;
-    let (first, rest) = expr(alloc, rest, depth)?;
-    let (_to, rest) = expect(TokenKind::To, rest)?;
-    let (last, rest) = expr(alloc, rest, depth)?;
-    let (by, rest) = step(alloc, rest, depth)?;
-    let (_do, rest) = expect(TokenKind::Do, rest)?;
-    let (body, rest) = statements(alloc, rest, depth)?;
-    let (_end, rest) = expect(TokenKind::End, rest)?;
+    let word = tokens.expect(TokenKind::For)?;
+    let name = ident(tokens)?;
+    tokens.expect(TokenKind::Becomes)?;
+    let first = expr(alloc, tokens, depth)?;
+    tokens.expect(TokenKind::To)?;
+    let last = expr(alloc, tokens, depth)?;
+    let by = step(alloc, tokens, depth)?;
+    tokens.expect(TokenKind::Do)?;
+    let body = statements(alloc, tokens, depth)?;
+    tokens.expect(TokenKind::End)?;
     let form = StmtForm::For {
         name,
         first,
@@ -433,24 +383,20 @@ fn for_statement(
         by,
         body,
     };
-    Ok((Statement { at: word.at, form }, rest))
+    Ok(Statement { at: word.at, form })
 }
 
 /// WITH Designator DO Stmts END
 #[cycle(statements)]
 #[tactic(auto, using(std::proofs::lemmas::Grind::common_steps, m2_base::proofs::Seen::statement_seen, m2_base::proofs::Seen::with_seen), unfolding(crate::specs::ReadStatements::with_with))]
-fn with_statement(
-    alloc: Global,
-    tokens: Tokens,
-    depth: usize,
-) -> Result<(Statement, Tokens), ReadFault>
-    ensures { Gives (λ x. (statement_view x.0, x.1.list.now)) result (with_with depth (statement_at depth) tokens.entry.list.now) }
+fn with_statement(alloc: Global, tokens: &mut Tokens, depth: usize) -> Result<Statement, ReadFault>
+    ensures { Gives (λ x. (statement_view x, tokens.new.list.now)) result (with_with depth (statement_at depth) tokens.old.list.now) }
 {
-    let (word, rest) = expect(TokenKind::With, tokens)?;
-    let (of, rest) = designator(alloc, rest, depth)?;
-    let (_do, rest) = expect(TokenKind::Do, rest)?;
-    let (body, rest) = statements(alloc, rest, depth)?;
-    let (_end, rest) = expect(TokenKind::End, rest)?;
+    let word = tokens.expect(TokenKind::With)?;
+    let of = designator(alloc, tokens, depth)?;
+    tokens.expect(TokenKind::Do)?;
+    let body = statements(alloc, tokens, depth)?;
+    tokens.expect(TokenKind::End)?;
     let form = StmtForm::With { of, body };
-    Ok((Statement { at: word.at, form }, rest))
+    Ok(Statement { at: word.at, form })
 }

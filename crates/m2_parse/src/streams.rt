@@ -10,8 +10,8 @@ ghost use Rattle.m2_parse.specs.Streams.{parse_fault as spec_parse_fault, cause_
 
 use crate::declarations::{block, definition_declarations, heading};
 use crate::faults::{ParseFault, ReadFault, Refusal};
+use crate::lists::repeated;
 use crate::names::{ident, idents};
-use crate::reading::{expect, next_in, next_is, refused};
 use crate::tokens::Tokens;
 use m2_base::{Diag, Ident, Import, Stream, StreamFault, StreamKind, Token, TokenKind};
 use std::alloc::Global;
@@ -19,96 +19,85 @@ use std::alloc::Global;
 /// How deep a token may be nested.
 const LEVELS: usize = 100;
 
-fn begins_import(tokens: Tokens) -> bool
-    ensures { result ≡ spec_begins_import tokens.entry.list.now }
+fn begins_import(tokens: &Tokens) -> bool
+    ensures { result ≡ spec_begins_import tokens.now.list.now }
 {
-    next_in(&[TokenKind::From, TokenKind::Import], tokens)
+    tokens.next_in(&[TokenKind::From, TokenKind::Import])
 }
 
 /// [FROM ident]
 #[tactic(auto, unfolding(crate::specs::ReadStreams::from_at))]
-fn from(tokens: Tokens) -> Result<(Option<Ident>, Tokens), ReadFault>
-    ensures { Gives (λ x. (x.0, x.1.list.now)) result (from_at tokens.entry.list.now) }
+fn from(tokens: &mut Tokens) -> Result<Option<Ident>, ReadFault>
+    ensures { Gives (λ x. (x, tokens.new.list.now)) result (from_at tokens.old.list.now) }
 {
-    if !next_is(TokenKind::From, tokens) {
-        return Ok((None, tokens));
+    if !tokens.next_is(TokenKind::From) {
+        return Ok(None);
     }
-    let (_from, rest) = expect(TokenKind::From, tokens)?;
-    let (name, rest) = ident(rest)?;
-    Ok((Some(name), rest))
+    tokens.expect(TokenKind::From)?;
+    let name = ident(tokens)?;
+    Ok(Some(name))
 }
 
 /// Import = [FROM ident] IMPORT Idents ";"
 #[tactic(auto, unfolding(crate::specs::ReadStreams::import_at))]
-pub fn import(alloc: Global, tokens: Tokens) -> Result<(Import, Tokens), ReadFault>
-    ensures { Gives (λ x. (import_view x.0, x.1.list.now)) result (import_at tokens.entry.list.now) }
+pub fn import(alloc: Global, tokens: &mut Tokens) -> Result<Import, ReadFault>
+    ensures { Gives (λ x. (import_view x, tokens.new.list.now)) result (import_at tokens.old.list.now) }
 {
-    let (from, rest) = from(tokens)?;
-    let (_import, rest) = expect(TokenKind::Import, rest)?;
-    let (names, rest) = idents(alloc, rest)?;
-    let (_semicolon, rest) = expect(TokenKind::Semicolon, rest)?;
-    Ok((Import { from, names }, rest))
+    let from = from(tokens)?;
+    tokens.expect(TokenKind::Import)?;
+    let names = idents(alloc, tokens)?;
+    tokens.expect(TokenKind::Semicolon)?;
+    Ok(Import { from, names })
 }
 
 /// {Import}
 #[tactic(auto, using(ll_grammar::proofs::Loops::repeat_starts, ll_grammar::proofs::Loops::repeat_ends))]
-fn imports(alloc: Global, tokens: Tokens) -> Result<(Vec<Import>, Tokens), ReadFault>
-    ensures { Gives (λ x. (map import_view x.0.items, x.1.list.now)) result (imports_at tokens.entry.list.now) }
+fn imports(alloc: Global, tokens: &mut Tokens) -> Result<Vec<Import>, ReadFault>
+    ensures { Gives (λ x. (map import_view x.items, tokens.new.list.now)) result (imports_at tokens.old.list.now) }
 {
-    let mut items = Vec::new(alloc);
-    let mut rest = tokens;
-    let count = tokens.list.len();
-    for _ in 0..count {
-        if !begins_import(rest) {
-            return Ok((items, rest));
-        }
-        let (item, after) = import(alloc, rest)?;
-        items.push(item)?;
-        rest = after;
-    }
-    Ok((items, rest))
+    repeated!(alloc, tokens, begins_import(tokens), import(alloc, tokens))
 }
 
 /// [IMPLEMENTATION]
 #[tactic(auto, unfolding(crate::specs::ReadStreams::implementation_at))]
-pub fn implementation(tokens: Tokens) -> Result<(bool, Tokens), ReadFault>
-    ensures { Gives (λ x. (x.0, x.1.list.now)) result (implementation_at tokens.entry.list.now) }
+pub fn implementation(tokens: &mut Tokens) -> Result<bool, ReadFault>
+    ensures { Gives (λ x. (x, tokens.new.list.now)) result (implementation_at tokens.old.list.now) }
 {
-    if !next_is(TokenKind::Implementation, tokens) {
-        return Ok((false, tokens));
+    if !tokens.next_is(TokenKind::Implementation) {
+        return Ok(false);
     }
-    let (_word, rest) = expect(TokenKind::Implementation, tokens)?;
-    Ok((true, rest))
+    tokens.expect(TokenKind::Implementation)?;
+    Ok(true)
 }
 
 /// Export = EXPORT QUALIFIED Idents ";", which leaves no entry
 #[tactic(auto, unfolding(crate::specs::ReadStreams::export_at))]
-fn export(alloc: Global, tokens: Tokens) -> Result<Tokens, ReadFault>
-    ensures { Gives (λ x. ([], x.list.now)) result (export_at tokens.entry.list.now) }
+fn export(alloc: Global, tokens: &mut Tokens) -> Result<(), ReadFault>
+    ensures { Gives (λ x. ([], tokens.new.list.now)) result (export_at tokens.old.list.now) }
 {
-    if !next_is(TokenKind::Export, tokens) {
-        return Ok(tokens);
+    if !tokens.next_is(TokenKind::Export) {
+        return Ok(());
     }
-    let (_export, rest) = expect(TokenKind::Export, tokens)?;
-    let (_qualified, rest) = expect(TokenKind::Qualified, rest)?;
-    let (_names, rest) = idents(alloc, rest)?;
-    let (_semicolon, rest) = expect(TokenKind::Semicolon, rest)?;
-    Ok(rest)
+    tokens.expect(TokenKind::Export)?;
+    tokens.expect(TokenKind::Qualified)?;
+    idents(alloc, tokens)?;
+    tokens.expect(TokenKind::Semicolon)?;
+    Ok(())
 }
 
 /// Main = [IMPLEMENTATION] MODULE ident ";" {Import} Block ident "." End
 #[tactic(auto, using(std::proofs::lemmas::Grind::common_steps), unfolding(crate::specs::ReadStreams::main_at))]
-fn main_stream(alloc: Global, tokens: Tokens, depth: usize) -> Result<(Stream, Tokens), ReadFault>
-    ensures { Gives (λ x. (stream_view x.0, x.1.list.now)) result (main_at depth tokens.entry.list.now) }
+fn main_stream(alloc: Global, tokens: &mut Tokens, depth: usize) -> Result<Stream, ReadFault>
+    ensures { Gives (λ x. (stream_view x, tokens.new.list.now)) result (main_at depth tokens.old.list.now) }
 {
-    let (implementation, rest) = implementation(tokens)?;
-    let (_module, rest) = expect(TokenKind::Module, rest)?;
-    let (name, rest) = ident(rest)?;
-    let (_semicolon, rest) = expect(TokenKind::Semicolon, rest)?;
-    let (imports, rest) = imports(alloc, rest)?;
-    let (block, rest) = block(alloc, rest, depth)?;
-    let (_period, rest) = expect(TokenKind::Period, rest)?;
-    let (_end, rest) = expect(TokenKind::EndOfText, rest)?;
+    let implementation = implementation(tokens)?;
+    tokens.expect(TokenKind::Module)?;
+    let name = ident(tokens)?;
+    tokens.expect(TokenKind::Semicolon)?;
+    let imports = imports(alloc, tokens)?;
+    let block = block(alloc, tokens, depth)?;
+    tokens.expect(TokenKind::Period)?;
+    tokens.expect(TokenKind::EndOfText)?;
     let found = Stream {
         kind: StreamKind::Main,
         implementation,
@@ -119,29 +108,25 @@ fn main_stream(alloc: Global, tokens: Tokens, depth: usize) -> Result<(Stream, T
         body: block.body,
         close: block.close,
     };
-    Ok((found, rest))
+    Ok(found)
 }
 
 /// Definition = DEFINITION MODULE ident ";" {Import} [Export] {DefDecl} END ident "." End
 #[tactic(auto, using(std::proofs::lemmas::Grind::common_steps), unfolding(crate::specs::ReadStreams::definition_at))]
-fn definition_stream(
-    alloc: Global,
-    tokens: Tokens,
-    depth: usize,
-) -> Result<(Stream, Tokens), ReadFault>
-    ensures { Gives (λ x. (stream_view x.0, x.1.list.now)) result (definition_at depth tokens.entry.list.now) }
+fn definition_stream(alloc: Global, tokens: &mut Tokens, depth: usize) -> Result<Stream, ReadFault>
+    ensures { Gives (λ x. (stream_view x, tokens.new.list.now)) result (definition_at depth tokens.old.list.now) }
 {
-    let (_definition, rest) = expect(TokenKind::Definition, tokens)?;
-    let (_module, rest) = expect(TokenKind::Module, rest)?;
-    let (name, rest) = ident(rest)?;
-    let (_semicolon, rest) = expect(TokenKind::Semicolon, rest)?;
-    let (imports, rest) = imports(alloc, rest)?;
-    let rest = export(alloc, rest)?;
-    let (decls, rest) = definition_declarations(alloc, rest, depth)?;
-    let (_end, rest) = expect(TokenKind::End, rest)?;
-    let (close, rest) = ident(rest)?;
-    let (_period, rest) = expect(TokenKind::Period, rest)?;
-    let (_stop, rest) = expect(TokenKind::EndOfText, rest)?;
+    tokens.expect(TokenKind::Definition)?;
+    tokens.expect(TokenKind::Module)?;
+    let name = ident(tokens)?;
+    tokens.expect(TokenKind::Semicolon)?;
+    let imports = imports(alloc, tokens)?;
+    export(alloc, tokens)?;
+    let decls = definition_declarations(alloc, tokens, depth)?;
+    tokens.expect(TokenKind::End)?;
+    let close = ident(tokens)?;
+    tokens.expect(TokenKind::Period)?;
+    tokens.expect(TokenKind::EndOfText)?;
     let found = Stream {
         kind: StreamKind::Definition,
         implementation: false,
@@ -152,23 +137,19 @@ fn definition_stream(
         body: Vec::new(alloc),
         close,
     };
-    Ok((found, rest))
+    Ok(found)
 }
 
 /// Procedure = Heading ";" Block ident ";" StreamEnd
 #[tactic(auto, using(std::proofs::lemmas::Grind::common_steps), unfolding(crate::specs::ReadStreams::procedure_stream_at))]
-fn procedure_stream(
-    alloc: Global,
-    tokens: Tokens,
-    depth: usize,
-) -> Result<(Stream, Tokens), ReadFault>
-    ensures { Gives (λ x. (stream_view x.0, x.1.list.now)) result (procedure_stream_at depth tokens.entry.list.now) }
+fn procedure_stream(alloc: Global, tokens: &mut Tokens, depth: usize) -> Result<Stream, ReadFault>
+    ensures { Gives (λ x. (stream_view x, tokens.new.list.now)) result (procedure_stream_at depth tokens.old.list.now) }
 {
-    let (heading, rest) = heading(alloc, tokens)?;
-    let (_semicolon, rest) = expect(TokenKind::Semicolon, rest)?;
-    let (block, rest) = block(alloc, rest, depth)?;
-    let (_closing, rest) = expect(TokenKind::Semicolon, rest)?;
-    let (_end, rest) = expect(TokenKind::StreamEnd, rest)?;
+    let heading = heading(alloc, tokens)?;
+    tokens.expect(TokenKind::Semicolon)?;
+    let block = block(alloc, tokens, depth)?;
+    tokens.expect(TokenKind::Semicolon)?;
+    tokens.expect(TokenKind::StreamEnd)?;
     let found = Stream {
         kind: StreamKind::Procedure,
         implementation: false,
@@ -179,18 +160,18 @@ fn procedure_stream(
         body: block.body,
         close: block.close,
     };
-    Ok((found, rest))
+    Ok(found)
 }
 
 /// A stream of this kind, with what stands behind it.
 #[tactic(auto, unfolding(crate::specs::ReadStreams::stream_at))]
 fn stream(
     alloc: Global,
-    tokens: Tokens,
+    tokens: &mut Tokens,
     kind: StreamKind,
     depth: usize,
-) -> Result<(Stream, Tokens), ReadFault>
-    ensures { Gives (λ x. (stream_view x.0, x.1.list.now)) result (stream_at depth kind tokens.entry.list.now) }
+) -> Result<Stream, ReadFault>
+    ensures { Gives (λ x. (stream_view x, tokens.new.list.now)) result (stream_at depth kind tokens.old.list.now) }
 {
     match kind {
         StreamKind::Main => main_stream(alloc, tokens, depth),
@@ -217,14 +198,19 @@ fn parse_fault(text: u32, fault: ReadFault) -> ParseFault
 
 /// A whole stream: nothing stands behind it.
 #[tactic(auto, unfolding(crate::specs::Streams::stream_text))]
-fn whole(alloc: Global, tokens: Tokens, text: u32, kind: StreamKind) -> Result<Stream, ParseFault>
+fn whole(
+    alloc: Global,
+    mut tokens: Tokens,
+    text: u32,
+    kind: StreamKind,
+) -> Result<Stream, ParseFault>
     ensures { readers.Gives cause_of stream_view result (stream_text text kind tokens.entry.list.now) }
 {
-    match stream(alloc, tokens, kind, LEVELS) {
+    match stream(alloc, &mut tokens, kind, LEVELS) {
         Err(fault) => Err(parse_fault(text, fault)),
-        Ok((found, rest)) => match rest.list {
+        Ok(found) => match tokens.list {
             [] => Ok(found),
-            [_, ..] => Err(parse_fault(text, refused(rest))),
+            [_, ..] => Err(parse_fault(text, tokens.refused())),
         },
     }
 }

@@ -7,292 +7,252 @@ ghost use Rattle.m2_parse.specs.ReadTypes.{begins_type as spec_begins_type, begi
 
 use crate::expressions::{begins_expr, expr, labels, too_deep};
 use crate::faults::ReadFault;
+use crate::lists::{all_listed, listed};
 use crate::names::{ident, idents, qual};
-use crate::reading::{expect, next_in, next_is, skip};
 use crate::tokens::Tokens;
 use m2_base::{Expr, FieldList, Formal, Ident, Qual, TokenKind, TypeExpr, TypeForm, VariantArm};
 use std::alloc::Global;
 
-fn begins_type(tokens: Tokens) -> bool
-    ensures { result ≡ spec_begins_type tokens.entry.list.now }
+fn begins_type(tokens: &Tokens) -> bool
+    ensures { result ≡ spec_begins_type tokens.now.list.now }
 {
-    next_in(
-        &[
-            TokenKind::Identifier,
-            TokenKind::LeftParenthesis,
-            TokenKind::LeftBracket,
-            TokenKind::Array,
-            TokenKind::Record,
-            TokenKind::Set,
-            TokenKind::Pointer,
-            TokenKind::Procedure,
-        ],
-        tokens,
-    )
+    tokens.next_in(&[
+        TokenKind::Identifier,
+        TokenKind::LeftParenthesis,
+        TokenKind::LeftBracket,
+        TokenKind::Array,
+        TokenKind::Record,
+        TokenKind::Set,
+        TokenKind::Pointer,
+        TokenKind::Procedure,
+    ])
 }
 
-fn begins_field(tokens: Tokens) -> bool
-    ensures { result ≡ spec_begins_field tokens.entry.list.now }
+fn begins_field(tokens: &Tokens) -> bool
+    ensures { result ≡ spec_begins_field tokens.now.list.now }
 {
-    next_in(&[TokenKind::Identifier, TokenKind::Case], tokens)
+    tokens.next_in(&[TokenKind::Identifier, TokenKind::Case])
 }
 
-fn begins_formal(tokens: Tokens) -> bool
-    ensures { result ≡ spec_begins_formal tokens.entry.list.now }
+fn begins_formal(tokens: &Tokens) -> bool
+    ensures { result ≡ spec_begins_formal tokens.now.list.now }
 {
-    next_in(
-        &[TokenKind::Var, TokenKind::Array, TokenKind::Identifier],
-        tokens,
-    )
+    tokens.next_in(&[TokenKind::Var, TokenKind::Array, TokenKind::Identifier])
 }
 
-fn begins_simple(tokens: Tokens) -> bool
-    ensures { result ≡ (spec_begins_simple) tokens.entry.list.now }
+fn begins_simple(tokens: &Tokens) -> bool
+    ensures { result ≡ (spec_begins_simple) tokens.now.list.now }
 {
-    next_in(
-        &[
-            TokenKind::Identifier,
-            TokenKind::LeftParenthesis,
-            TokenKind::LeftBracket,
-        ],
-        tokens,
-    )
+    tokens.next_in(&[
+        TokenKind::Identifier,
+        TokenKind::LeftParenthesis,
+        TokenKind::LeftBracket,
+    ])
 }
 
 /// [VAR]
 #[tactic(auto, unfolding(crate::specs::ReadTypes::by_reference_at))]
-pub fn by_reference(tokens: Tokens) -> Result<(bool, Tokens), ReadFault>
-    ensures { Gives (λ x. (x.0, x.1.list.now)) result (by_reference_at tokens.entry.list.now) }
+pub fn by_reference(tokens: &mut Tokens) -> Result<bool, ReadFault>
+    ensures { Gives (λ x. (x, tokens.new.list.now)) result (by_reference_at tokens.old.list.now) }
 {
-    if !next_is(TokenKind::Var, tokens) {
-        return Ok((false, tokens));
+    if !tokens.next_is(TokenKind::Var) {
+        return Ok(false);
     }
-    let (_var, rest) = expect(TokenKind::Var, tokens)?;
-    Ok((true, rest))
+    tokens.expect(TokenKind::Var)?;
+    Ok(true)
 }
 
 /// [ARRAY OF]
 #[tactic(auto, unfolding(crate::specs::ReadTypes::open_array_at))]
-pub fn open_array(tokens: Tokens) -> Result<(bool, Tokens), ReadFault>
-    ensures { Gives (λ x. (x.0, x.1.list.now)) result (open_array_at tokens.entry.list.now) }
+pub fn open_array(tokens: &mut Tokens) -> Result<bool, ReadFault>
+    ensures { Gives (λ x. (x, tokens.new.list.now)) result (open_array_at tokens.old.list.now) }
 {
-    if !next_is(TokenKind::Array, tokens) {
-        return Ok((false, tokens));
+    if !tokens.next_is(TokenKind::Array) {
+        return Ok(false);
     }
-    let (_array, rest) = expect(TokenKind::Array, tokens)?;
-    let (_of, rest) = expect(TokenKind::Of, rest)?;
-    Ok((true, rest))
+    tokens.expect(TokenKind::Array)?;
+    tokens.expect(TokenKind::Of)?;
+    Ok(true)
 }
 
 /// Formal = [VAR] [ARRAY OF] Qual
 #[tactic(auto, unfolding(crate::specs::ReadTypes::formal_at))]
-fn formal(tokens: Tokens) -> Result<(Formal, Tokens), ReadFault>
-    ensures { Gives (λ x. (x.0, x.1.list.now)) result (formal_at tokens.entry.list.now) }
+fn formal(tokens: &mut Tokens) -> Result<Formal, ReadFault>
+    ensures { Gives (λ x. (x, tokens.new.list.now)) result (formal_at tokens.old.list.now) }
 {
-    let (by_ref, rest) = by_reference(tokens)?;
-    let (is_open, rest) = open_array(rest)?;
-    let (of, rest) = qual(rest)?;
+    let by_ref = by_reference(tokens)?;
+    let is_open = open_array(tokens)?;
+    let of = qual(tokens)?;
     let found = Formal {
         by_ref,
         is_open,
         of,
     };
-    Ok((found, rest))
+    Ok(found)
 }
 
 /// Formal {"," Formal}
-#[tactic(auto, using(ll_grammar::proofs::Loops::listed_starts, ll_grammar::proofs::Loops::separated_ends))]
-fn some_formals(alloc: Global, tokens: Tokens) -> Result<(Vec<Formal>, Tokens), ReadFault>
-    ensures { Gives (λ x. (x.0.items, x.1.list.now)) result (some_formals_at tokens.entry.list.now) }
+#[tactic(auto, using(ll_grammar::proofs::Loops::listed_starts, crate::proofs::ListLemmas::list_ends))]
+fn some_formals(alloc: Global, tokens: &mut Tokens) -> Result<Vec<Formal>, ReadFault>
+    ensures { Gives (λ x. (x.items, tokens.new.list.now)) result (some_formals_at tokens.old.list.now) }
 {
-    let (first, mut rest) = formal(tokens)?;
-    let mut items = Vec::new(alloc);
-    items.push(first)?;
-    let count = rest.list.len();
-    for _ in 0..count {
-        let Some(after) = skip(TokenKind::Comma, rest) else {
-            return Ok((items, rest));
-        };
-        let (item, after) = formal(after)?;
-        items.push(item)?;
-        rest = after;
-    }
-    Ok((items, rest))
+    listed!(alloc, tokens, TokenKind::Comma, formal(tokens))
 }
 
 /// [":" Qual]
 #[tactic(auto, unfolding(crate::specs::ReadTypes::result_at))]
-pub fn result_type(tokens: Tokens) -> Result<(Option<Qual>, Tokens), ReadFault>
-    ensures { Gives (λ x. (x.0, x.1.list.now)) result (result_at tokens.entry.list.now) }
+pub fn result_type(tokens: &mut Tokens) -> Result<Option<Qual>, ReadFault>
+    ensures { Gives (λ x. (x, tokens.new.list.now)) result (result_at tokens.old.list.now) }
 {
-    if !next_is(TokenKind::Colon, tokens) {
-        return Ok((None, tokens));
+    if !tokens.next_is(TokenKind::Colon) {
+        return Ok(None);
     }
-    let (_colon, rest) = expect(TokenKind::Colon, tokens)?;
-    let (of, rest) = qual(rest)?;
-    Ok((Some(of), rest))
+    tokens.expect(TokenKind::Colon)?;
+    let of = qual(tokens)?;
+    Ok(Some(of))
 }
 
 /// ["(" [Formal {"," Formal}] ")" [":" Qual]]
 #[tactic(auto, using(std::proofs::lemmas::Grind::common_steps, m2_base::proofs::Seen::proc_type_seen), unfolding(crate::specs::ReadTypes::formals_at, crate::specs::ReadTypes::formal_list_at))]
-fn formals(alloc: Global, tokens: Tokens) -> Result<(TypeForm, Tokens), ReadFault>
-    ensures { Gives (λ x. (type_form_view x.0, x.1.list.now)) result (formals_at tokens.entry.list.now) }
+fn formals(alloc: Global, tokens: &mut Tokens) -> Result<TypeForm, ReadFault>
+    ensures { Gives (λ x. (type_form_view x, tokens.new.list.now)) result (formals_at tokens.old.list.now) }
 {
-    if !next_is(TokenKind::LeftParenthesis, tokens) {
+    if !tokens.next_is(TokenKind::LeftParenthesis) {
         let formals = Vec::new(alloc);
         let result = None;
-        return Ok((TypeForm::Proc { formals, result }, tokens));
+        return Ok(TypeForm::Proc { formals, result });
     }
-    let (_open, rest) = expect(TokenKind::LeftParenthesis, tokens)?;
-    if !begins_formal(rest) {
-        let (_close, rest) = expect(TokenKind::RightParenthesis, rest)?;
-        let (result, rest) = result_type(rest)?;
+    tokens.expect(TokenKind::LeftParenthesis)?;
+    if !begins_formal(tokens) {
+        tokens.expect(TokenKind::RightParenthesis)?;
+        let result = result_type(tokens)?;
         let formals = Vec::new(alloc);
-        return Ok((TypeForm::Proc { formals, result }, rest));
+        return Ok(TypeForm::Proc { formals, result });
     }
-    let (formals, rest) = some_formals(alloc, rest)?;
-    let (_close, rest) = expect(TokenKind::RightParenthesis, rest)?;
-    let (result, rest) = result_type(rest)?;
-    Ok((TypeForm::Proc { formals, result }, rest))
+    let formals = some_formals(alloc, tokens)?;
+    tokens.expect(TokenKind::RightParenthesis)?;
+    let result = result_type(tokens)?;
+    Ok(TypeForm::Proc { formals, result })
 }
 
 /// Range = "[" Expr ".." Expr "]", with its first token
 #[tactic(auto, using(std::proofs::lemmas::Grind::common_steps), unfolding(crate::specs::ReadTypes::range_with))]
-fn range(
-    alloc: Global,
-    tokens: Tokens,
-    depth: usize,
-) -> Result<((u32, Expr, Expr), Tokens), ReadFault>
-    ensures { Gives (λ x. ((x.0.0, expr_view x.0.1, expr_view x.0.2), x.1.list.now)) result (range_with (factor_at depth) tokens.entry.list.now) }
+fn range(alloc: Global, tokens: &mut Tokens, depth: usize) -> Result<(u32, Expr, Expr), ReadFault>
+    ensures { Gives (λ x. ((x.0, expr_view x.1, expr_view x.2), tokens.new.list.now)) result (range_with (factor_at depth) tokens.old.list.now) }
 {
-    let (open, rest) = expect(TokenKind::LeftBracket, tokens)?;
-    let (low, rest) = expr(alloc, rest, depth)?;
-    let (_dots, rest) = expect(TokenKind::Ellipsis, rest)?;
-    let (high, rest) = expr(alloc, rest, depth)?;
-    let (_close, rest) = expect(TokenKind::RightBracket, rest)?;
-    Ok(((open.at, low, high), rest))
+    let open = tokens.expect(TokenKind::LeftBracket)?;
+    let low = expr(alloc, tokens, depth)?;
+    tokens.expect(TokenKind::Ellipsis)?;
+    let high = expr(alloc, tokens, depth)?;
+    tokens.expect(TokenKind::RightBracket)?;
+    Ok((open.at, low, high))
 }
 
 /// Qual [Range]
 #[tactic(auto, using(std::proofs::lemmas::Grind::common_steps, m2_base::proofs::Seen::type_seen, m2_base::proofs::Seen::named_seen, m2_base::proofs::Seen::sub_seen), unfolding(crate::specs::ReadTypes::named_with, crate::specs::ReadTypes::optional_range_with))]
-fn named(alloc: Global, tokens: Tokens, depth: usize) -> Result<(TypeExpr, Tokens), ReadFault>
-    ensures { Gives (λ x. (type_view x.0, x.1.list.now)) result (named_with (factor_at depth) tokens.entry.list.now) }
+fn named(alloc: Global, tokens: &mut Tokens, depth: usize) -> Result<TypeExpr, ReadFault>
+    ensures { Gives (λ x. (type_view x, tokens.new.list.now)) result (named_with (factor_at depth) tokens.old.list.now) }
 {
-    let (of, rest) = qual(tokens)?;
+    let of = qual(tokens)?;
     let at = of.first.at;
-    if !next_is(TokenKind::LeftBracket, rest) {
+    if !tokens.next_is(TokenKind::LeftBracket) {
         let form = TypeForm::Named(of);
-        return Ok((TypeExpr { at, form }, rest));
+        return Ok(TypeExpr { at, form });
     }
-    let ((_at, low, high), rest) = range(alloc, rest, depth)?;
+    let (_at, low, high) = range(alloc, tokens, depth)?;
     let form = TypeForm::Sub {
         base: Some(of),
         low,
         high,
     };
-    Ok((TypeExpr { at, form }, rest))
+    Ok(TypeExpr { at, form })
 }
 
 /// "(" Idents ")"
 #[tactic(auto, using(std::proofs::lemmas::Grind::common_steps, m2_base::proofs::Seen::type_seen, m2_base::proofs::Seen::enum_seen), unfolding(crate::specs::ReadTypes::enumeration_at))]
-fn enumeration(alloc: Global, tokens: Tokens) -> Result<(TypeExpr, Tokens), ReadFault>
-    ensures { Gives (λ x. (type_view x.0, x.1.list.now)) result (enumeration_at tokens.entry.list.now) }
+fn enumeration(alloc: Global, tokens: &mut Tokens) -> Result<TypeExpr, ReadFault>
+    ensures { Gives (λ x. (type_view x, tokens.new.list.now)) result (enumeration_at tokens.old.list.now) }
 {
-    let (open, rest) = expect(TokenKind::LeftParenthesis, tokens)?;
-    let (names, rest) = idents(alloc, rest)?;
-    let (_close, rest) = expect(TokenKind::RightParenthesis, rest)?;
+    let open = tokens.expect(TokenKind::LeftParenthesis)?;
+    let names = idents(alloc, tokens)?;
+    tokens.expect(TokenKind::RightParenthesis)?;
     let form = TypeForm::Enum(names);
-    Ok((TypeExpr { at: open.at, form }, rest))
+    Ok(TypeExpr { at: open.at, form })
 }
 
 /// Simple = Qual [Range] | "(" Idents ")" | Range
 #[tactic(auto, using(std::proofs::lemmas::Grind::common_steps, m2_base::proofs::Seen::type_seen, m2_base::proofs::Seen::sub_seen), unfolding(crate::specs::ReadTypes::simple_with))]
-fn simple(alloc: Global, tokens: Tokens, depth: usize) -> Result<(TypeExpr, Tokens), ReadFault>
-    ensures { Gives (λ x. (type_view x.0, x.1.list.now)) result (simple_with (factor_at depth) tokens.entry.list.now) }
+fn simple(alloc: Global, tokens: &mut Tokens, depth: usize) -> Result<TypeExpr, ReadFault>
+    ensures { Gives (λ x. (type_view x, tokens.new.list.now)) result (simple_with (factor_at depth) tokens.old.list.now) }
 {
-    if next_is(TokenKind::Identifier, tokens) {
+    if tokens.next_is(TokenKind::Identifier) {
         return named(alloc, tokens, depth);
     }
-    if next_is(TokenKind::LeftParenthesis, tokens) {
+    if tokens.next_is(TokenKind::LeftParenthesis) {
         return enumeration(alloc, tokens);
     }
-    let ((at, low, high), rest) = range(alloc, tokens, depth)?;
+    let (at, low, high) = range(alloc, tokens, depth)?;
     let form = TypeForm::Sub {
         base: None,
         low,
         high,
     };
-    Ok((TypeExpr { at, form }, rest))
+    Ok(TypeExpr { at, form })
 }
 
 /// Simple {"," Simple}
-#[tactic(auto, using(ll_grammar::proofs::Loops::listed_starts, ll_grammar::proofs::Loops::separated_ends))]
-fn simples(
-    alloc: Global,
-    tokens: Tokens,
-    depth: usize,
-) -> Result<(Vec<TypeExpr>, Tokens), ReadFault>
-    ensures { Gives (λ x. (map type_view x.0.items, x.1.list.now)) result (simples_with (factor_at depth) tokens.entry.list.now) }
+#[tactic(auto, using(ll_grammar::proofs::Loops::listed_starts, crate::proofs::ListLemmas::list_ends))]
+fn simples(alloc: Global, tokens: &mut Tokens, depth: usize) -> Result<Vec<TypeExpr>, ReadFault>
+    ensures { Gives (λ x. (map type_view x.items, tokens.new.list.now)) result (simples_with (factor_at depth) tokens.old.list.now) }
 {
-    let (first, mut rest) = simple(alloc, tokens, depth)?;
-    let mut items = Vec::new(alloc);
-    items.push(first)?;
-    let count = rest.list.len();
-    for _ in 0..count {
-        let Some(after) = skip(TokenKind::Comma, rest) else {
-            return Ok((items, rest));
-        };
-        let (item, after) = simple(alloc, after, depth)?;
-        items.push(item)?;
-        rest = after;
-    }
-    Ok((items, rest))
+    listed!(
+        alloc,
+        tokens,
+        TokenKind::Comma,
+        simple(alloc, tokens, depth)
+    )
 }
 
 /// SET OF Simple
 #[tactic(auto, using(std::proofs::lemmas::Grind::common_steps, m2_base::proofs::Seen::type_seen, m2_base::proofs::Seen::set_of_seen), unfolding(crate::specs::ReadTypes::set_of_with))]
-fn set_type(alloc: Global, tokens: Tokens, depth: usize) -> Result<(TypeExpr, Tokens), ReadFault>
-    ensures { Gives (λ x. (type_view x.0, x.1.list.now)) result (set_of_with (factor_at depth) tokens.entry.list.now) }
+fn set_type(alloc: Global, tokens: &mut Tokens, depth: usize) -> Result<TypeExpr, ReadFault>
+    ensures { Gives (λ x. (type_view x, tokens.new.list.now)) result (set_of_with (factor_at depth) tokens.old.list.now) }
 {
-    let (set, rest) = expect(TokenKind::Set, tokens)?;
-    let (_of, rest) = expect(TokenKind::Of, rest)?;
-    let (of, rest) = simple(alloc, rest, depth)?;
+    let set = tokens.expect(TokenKind::Set)?;
+    tokens.expect(TokenKind::Of)?;
+    let of = simple(alloc, tokens, depth)?;
     let form = TypeForm::Set(Box::new(alloc, of)?);
-    Ok((TypeExpr { at: set.at, form }, rest))
+    Ok(TypeExpr { at: set.at, form })
 }
 
 /// PROCEDURE ["(" [Formal {"," Formal}] ")" [":" Qual]]
 #[tactic(auto, using(std::proofs::lemmas::Grind::common_steps, m2_base::proofs::Seen::type_seen), unfolding(crate::specs::ReadTypes::proc_type_at))]
-fn procedure_type(alloc: Global, tokens: Tokens) -> Result<(TypeExpr, Tokens), ReadFault>
-    ensures { Gives (λ x. (type_view x.0, x.1.list.now)) result (proc_type_at tokens.entry.list.now) }
+fn procedure_type(alloc: Global, tokens: &mut Tokens) -> Result<TypeExpr, ReadFault>
+    ensures { Gives (λ x. (type_view x, tokens.new.list.now)) result (proc_type_at tokens.old.list.now) }
 {
-    let (procedure, rest) = expect(TokenKind::Procedure, tokens)?;
-    let (form, rest) = formals(alloc, rest)?;
+    let procedure = tokens.expect(TokenKind::Procedure)?;
+    let form = formals(alloc, tokens)?;
     let at = procedure.at;
-    Ok((TypeExpr { at, form }, rest))
+    Ok(TypeExpr { at, form })
 }
 
 /// [ident], the tag of a variant part
 #[tactic(auto, unfolding(crate::specs::ReadTypes::tag_at))]
-fn tag(tokens: Tokens) -> Result<(Option<Ident>, Tokens), ReadFault>
-    ensures { Gives (λ x. (x.0, x.1.list.now)) result (tag_at tokens.entry.list.now) }
+fn tag(tokens: &mut Tokens) -> Result<Option<Ident>, ReadFault>
+    ensures { Gives (λ x. (x, tokens.new.list.now)) result (tag_at tokens.old.list.now) }
 {
-    if !next_is(TokenKind::Identifier, tokens) {
-        return Ok((None, tokens));
+    if !tokens.next_is(TokenKind::Identifier) {
+        return Ok(None);
     }
-    let (name, rest) = ident(tokens)?;
-    Ok((Some(name), rest))
+    let name = ident(tokens)?;
+    Ok(Some(name))
 }
 
 /// A type, one level deeper.
 #[cycle(types)]
 #[tactic(auto, unfolding(crate::specs::ReadTypes::type_at))]
-pub fn type_expr(
-    alloc: Global,
-    tokens: Tokens,
-    depth: usize,
-) -> Result<(TypeExpr, Tokens), ReadFault>
-    ensures { Gives (λ x. (type_view x.0, x.1.list.now)) result (type_at depth tokens.entry.list.now) }
+pub fn type_expr(alloc: Global, tokens: &mut Tokens, depth: usize) -> Result<TypeExpr, ReadFault>
+    ensures { Gives (λ x. (type_view x, tokens.new.list.now)) result (type_at depth tokens.old.list.now) }
 {
     if depth == 0 {
         return Err(too_deep(begins_type(tokens), tokens));
@@ -303,22 +263,22 @@ pub fn type_expr(
 /// Type = Simple | ARRAY Simple {"," Simple} OF Type | RECORD Fields END | SET OF Simple | POINTER TO Type | PROCEDURE ["(" [Formal {"," Formal}] ")" [":" Qual]]
 #[cycle(types)]
 #[tactic(auto, unfolding(crate::specs::ReadTypes::inner_type))]
-fn inner_type(alloc: Global, tokens: Tokens, depth: usize) -> Result<(TypeExpr, Tokens), ReadFault>
-    ensures { Gives (λ x. (type_view x.0, x.1.list.now)) result (spec_inner_type (factor_at depth) (type_at depth) (field_at depth) tokens.entry.list.now) }
+fn inner_type(alloc: Global, tokens: &mut Tokens, depth: usize) -> Result<TypeExpr, ReadFault>
+    ensures { Gives (λ x. (type_view x, tokens.new.list.now)) result (spec_inner_type (factor_at depth) (type_at depth) (field_at depth) tokens.old.list.now) }
 {
     if begins_simple(tokens) {
         return simple(alloc, tokens, depth);
     }
-    if next_is(TokenKind::Array, tokens) {
+    if tokens.next_is(TokenKind::Array) {
         return array(alloc, tokens, depth);
     }
-    if next_is(TokenKind::Record, tokens) {
+    if tokens.next_is(TokenKind::Record) {
         return record_type(alloc, tokens, depth);
     }
-    if next_is(TokenKind::Set, tokens) {
+    if tokens.next_is(TokenKind::Set) {
         return set_type(alloc, tokens, depth);
     }
-    if next_is(TokenKind::Pointer, tokens) {
+    if tokens.next_is(TokenKind::Pointer) {
         return pointer(alloc, tokens, depth);
     }
     procedure_type(alloc, tokens)
@@ -327,72 +287,57 @@ fn inner_type(alloc: Global, tokens: Tokens, depth: usize) -> Result<(TypeExpr, 
 /// ARRAY Simple {"," Simple} OF Type
 #[cycle(types)]
 #[tactic(auto, using(std::proofs::lemmas::Grind::common_steps, m2_base::proofs::Seen::type_seen, m2_base::proofs::Seen::array_seen), unfolding(crate::specs::ReadTypes::array_with))]
-fn array(alloc: Global, tokens: Tokens, depth: usize) -> Result<(TypeExpr, Tokens), ReadFault>
-    ensures { Gives (λ x. (type_view x.0, x.1.list.now)) result (array_with (factor_at depth) (type_at depth) (field_at depth) tokens.entry.list.now) }
+fn array(alloc: Global, tokens: &mut Tokens, depth: usize) -> Result<TypeExpr, ReadFault>
+    ensures { Gives (λ x. (type_view x, tokens.new.list.now)) result (array_with (factor_at depth) (type_at depth) (field_at depth) tokens.old.list.now) }
 {
-    let (array, rest) = expect(TokenKind::Array, tokens)?;
-    let (index, rest) = simples(alloc, rest, depth)?;
-    let (_of, rest) = expect(TokenKind::Of, rest)?;
-    let (of, rest) = type_expr(alloc, rest, depth)?;
+    let array = tokens.expect(TokenKind::Array)?;
+    let index = simples(alloc, tokens, depth)?;
+    tokens.expect(TokenKind::Of)?;
+    let of = type_expr(alloc, tokens, depth)?;
     let of = Box::new(alloc, of)?;
     let form = TypeForm::Array { index, of };
-    Ok((TypeExpr { at: array.at, form }, rest))
+    Ok(TypeExpr { at: array.at, form })
 }
 
 /// RECORD Fields END
 #[cycle(types)]
 #[tactic(auto, using(std::proofs::lemmas::Grind::common_steps, m2_base::proofs::Seen::type_seen, m2_base::proofs::Seen::record_seen), unfolding(crate::specs::ReadTypes::record_with))]
-fn record_type(alloc: Global, tokens: Tokens, depth: usize) -> Result<(TypeExpr, Tokens), ReadFault>
-    ensures { Gives (λ x. (type_view x.0, x.1.list.now)) result (record_with (factor_at depth) (type_at depth) (field_at depth) tokens.entry.list.now) }
+fn record_type(alloc: Global, tokens: &mut Tokens, depth: usize) -> Result<TypeExpr, ReadFault>
+    ensures { Gives (λ x. (type_view x, tokens.new.list.now)) result (record_with (factor_at depth) (type_at depth) (field_at depth) tokens.old.list.now) }
 {
-    let (record, rest) = expect(TokenKind::Record, tokens)?;
-    let (list, rest) = fields(alloc, rest, depth)?;
-    let (_end, rest) = expect(TokenKind::End, rest)?;
+    let record = tokens.expect(TokenKind::Record)?;
+    let list = fields(alloc, tokens, depth)?;
+    tokens.expect(TokenKind::End)?;
     let form = TypeForm::Rec(list);
-    Ok((
-        TypeExpr {
-            at: record.at,
-            form,
-        },
-        rest,
-    ))
+    let at = record.at;
+    Ok(TypeExpr { at, form })
 }
 
 /// POINTER TO Type
 #[cycle(types)]
 #[tactic(auto, using(std::proofs::lemmas::Grind::common_steps, m2_base::proofs::Seen::type_seen, m2_base::proofs::Seen::pointer_seen), unfolding(crate::specs::ReadTypes::pointer_with))]
-fn pointer(alloc: Global, tokens: Tokens, depth: usize) -> Result<(TypeExpr, Tokens), ReadFault>
-    ensures { Gives (λ x. (type_view x.0, x.1.list.now)) result (pointer_with (factor_at depth) (type_at depth) (field_at depth) tokens.entry.list.now) }
+fn pointer(alloc: Global, tokens: &mut Tokens, depth: usize) -> Result<TypeExpr, ReadFault>
+    ensures { Gives (λ x. (type_view x, tokens.new.list.now)) result (pointer_with (factor_at depth) (type_at depth) (field_at depth) tokens.old.list.now) }
 {
-    let (pointer, rest) = expect(TokenKind::Pointer, tokens)?;
-    let (_to, rest) = expect(TokenKind::To, rest)?;
-    let (of, rest) = type_expr(alloc, rest, depth)?;
+    let pointer = tokens.expect(TokenKind::Pointer)?;
+    tokens.expect(TokenKind::To)?;
+    let of = type_expr(alloc, tokens, depth)?;
     let form = TypeForm::Pointer(Box::new(alloc, of)?);
     let at = pointer.at;
-    Ok((TypeExpr { at, form }, rest))
+    Ok(TypeExpr { at, form })
 }
 
 /// Fields = FieldList {";" FieldList}
 #[cycle(types)]
-#[tactic(auto, using(ll_grammar::proofs::Loops::listed_starts, ll_grammar::proofs::Loops::separated_ends))]
-fn fields(
-    alloc: Global,
-    tokens: Tokens,
-    depth: usize,
-) -> Result<(Vec<FieldList>, Tokens), ReadFault>
-    ensures { Gives (λ x. (map field_list_view x.0.items, x.1.list.now)) result (fields_with (factor_at depth) (type_at depth) (field_at depth) tokens.entry.list.now) }
+#[tactic(auto, using(ll_grammar::proofs::Loops::listed_starts, crate::proofs::ListLemmas::list_ends))]
+fn fields(alloc: Global, tokens: &mut Tokens, depth: usize) -> Result<Vec<FieldList>, ReadFault>
+    ensures { Gives (λ x. (map field_list_view x.items, tokens.new.list.now)) result (fields_with (factor_at depth) (type_at depth) (field_at depth) tokens.old.list.now) }
 {
-    let (mut items, mut rest) = optional_field(alloc, tokens, depth)?;
-    let count = rest.list.len();
-    for _ in 0..count {
-        let Some(after) = skip(TokenKind::Semicolon, rest) else {
-            return Ok((items, rest));
-        };
-        let (mut item, after) = optional_field(alloc, after, depth)?;
-        items.append(&mut item)?;
-        rest = after;
-    }
-    Ok((items, rest))
+    all_listed!(
+        tokens,
+        TokenKind::Semicolon,
+        optional_field(alloc, tokens, depth)
+    )
 }
 
 /// [FieldList]
@@ -400,25 +345,25 @@ fn fields(
 #[tactic(auto, using(std::proofs::lemmas::Grind::common_steps), unfolding(crate::specs::ReadTypes::optional_field_with))]
 fn optional_field(
     alloc: Global,
-    tokens: Tokens,
+    tokens: &mut Tokens,
     depth: usize,
-) -> Result<(Vec<FieldList>, Tokens), ReadFault>
-    ensures { Gives (λ x. (map field_list_view x.0.items, x.1.list.now)) result (optional_field_with (factor_at depth) (type_at depth) (field_at depth) tokens.entry.list.now) }
+) -> Result<Vec<FieldList>, ReadFault>
+    ensures { Gives (λ x. (map field_list_view x.items, tokens.new.list.now)) result (optional_field_with (factor_at depth) (type_at depth) (field_at depth) tokens.old.list.now) }
 {
     let mut items = Vec::new(alloc);
     if !begins_field(tokens) {
-        return Ok((items, tokens));
+        return Ok(items);
     }
-    let (item, rest) = field(alloc, tokens, depth)?;
+    let item = field(alloc, tokens, depth)?;
     items.push(item)?;
-    Ok((items, rest))
+    Ok(items)
 }
 
 /// A field list, one level deeper.
 #[cycle(types)]
 #[tactic(auto, unfolding(crate::specs::ReadTypes::field_at))]
-fn field(alloc: Global, tokens: Tokens, depth: usize) -> Result<(FieldList, Tokens), ReadFault>
-    ensures { Gives (λ x. (field_list_view x.0, x.1.list.now)) result (field_at depth tokens.entry.list.now) }
+fn field(alloc: Global, tokens: &mut Tokens, depth: usize) -> Result<FieldList, ReadFault>
+    ensures { Gives (λ x. (field_list_view x, tokens.new.list.now)) result (field_at depth tokens.old.list.now) }
 {
     if depth == 0 {
         return Err(too_deep(begins_field(tokens), tokens));
@@ -429,14 +374,10 @@ fn field(alloc: Global, tokens: Tokens, depth: usize) -> Result<(FieldList, Toke
 /// FieldList = [Idents ":" Type | CASE [ident] ":" Qual OF Variant {"|" Variant} [ELSE Fields] END]
 #[cycle(types)]
 #[tactic(auto, unfolding(crate::specs::ReadTypes::inner_field))]
-fn inner_field(
-    alloc: Global,
-    tokens: Tokens,
-    depth: usize,
-) -> Result<(FieldList, Tokens), ReadFault>
-    ensures { Gives (λ x. (field_list_view x.0, x.1.list.now)) result (spec_inner_field (factor_at depth) (type_at depth) (field_at depth) tokens.entry.list.now) }
+fn inner_field(alloc: Global, tokens: &mut Tokens, depth: usize) -> Result<FieldList, ReadFault>
+    ensures { Gives (λ x. (field_list_view x, tokens.new.list.now)) result (spec_inner_field (factor_at depth) (type_at depth) (field_at depth) tokens.old.list.now) }
 {
-    if next_is(TokenKind::Identifier, tokens) {
+    if tokens.next_is(TokenKind::Identifier) {
         return plain_fields(alloc, tokens, depth);
     }
     case_fields(alloc, tokens, depth)
@@ -445,88 +386,62 @@ fn inner_field(
 /// Idents ":" Type
 #[cycle(types)]
 #[tactic(auto, using(std::proofs::lemmas::Grind::common_steps, m2_base::proofs::Seen::plain_fields_seen), unfolding(crate::specs::ReadTypes::plain_fields_with))]
-fn plain_fields(
-    alloc: Global,
-    tokens: Tokens,
-    depth: usize,
-) -> Result<(FieldList, Tokens), ReadFault>
-    ensures { Gives (λ x. (field_list_view x.0, x.1.list.now)) result (plain_fields_with (factor_at depth) (type_at depth) (field_at depth) tokens.entry.list.now) }
+fn plain_fields(alloc: Global, tokens: &mut Tokens, depth: usize) -> Result<FieldList, ReadFault>
+    ensures { Gives (λ x. (field_list_view x, tokens.new.list.now)) result (plain_fields_with (factor_at depth) (type_at depth) (field_at depth) tokens.old.list.now) }
 {
-    let (names, rest) = idents(alloc, tokens)?;
-    let (_colon, rest) = expect(TokenKind::Colon, rest)?;
-    let (typ, rest) = type_expr(alloc, rest, depth)?;
-    Ok((FieldList::Plain { names, typ }, rest))
+    let names = idents(alloc, tokens)?;
+    tokens.expect(TokenKind::Colon)?;
+    let typ = type_expr(alloc, tokens, depth)?;
+    Ok(FieldList::Plain { names, typ })
 }
 
 /// CASE [ident] ":" Qual OF Variant {"|" Variant} [ELSE Fields] END
 #[cycle(types)]
 #[tactic(auto, using(std::proofs::lemmas::Grind::common_steps, m2_base::proofs::Seen::case_fields_seen), unfolding(crate::specs::ReadTypes::case_fields_with))]
-fn case_fields(
-    alloc: Global,
-    tokens: Tokens,
-    depth: usize,
-) -> Result<(FieldList, Tokens), ReadFault>
-    ensures { Gives (λ x. (field_list_view x.0, x.1.list.now)) result (case_fields_with (factor_at depth) (type_at depth) (field_at depth) tokens.entry.list.now) }
+fn case_fields(alloc: Global, tokens: &mut Tokens, depth: usize) -> Result<FieldList, ReadFault>
+    ensures { Gives (λ x. (field_list_view x, tokens.new.list.now)) result (case_fields_with (factor_at depth) (type_at depth) (field_at depth) tokens.old.list.now) }
 {
-    let (_case, rest) = expect(TokenKind::Case, tokens)?;
-    let (tag, rest) = tag(rest)?;
-    let (_colon, rest) = expect(TokenKind::Colon, rest)?;
-    let (of, rest) = qual(rest)?;
-    let (_of, rest) = expect(TokenKind::Of, rest)?;
-    let (arms, rest) = variants(alloc, rest, depth)?;
-    let (other, rest) = other_fields(alloc, rest, depth)?;
-    let (_end, rest) = expect(TokenKind::End, rest)?;
+    tokens.expect(TokenKind::Case)?;
+    let tag = tag(tokens)?;
+    tokens.expect(TokenKind::Colon)?;
+    let of = qual(tokens)?;
+    tokens.expect(TokenKind::Of)?;
+    let arms = variants(alloc, tokens, depth)?;
+    let other = other_fields(alloc, tokens, depth)?;
+    tokens.expect(TokenKind::End)?;
     let found = FieldList::Cases {
         tag,
         of,
         arms,
         other,
     };
-    Ok((found, rest))
+    Ok(found)
 }
 
 /// Variant {"|" Variant}
 #[cycle(types)]
-#[tactic(auto, using(ll_grammar::proofs::Loops::listed_starts, ll_grammar::proofs::Loops::separated_ends))]
-fn variants(
-    alloc: Global,
-    tokens: Tokens,
-    depth: usize,
-) -> Result<(Vec<VariantArm>, Tokens), ReadFault>
-    ensures { Gives (λ x. (map variant_arm_view x.0.items, x.1.list.now)) result (variants_with (factor_at depth) (type_at depth) (field_at depth) tokens.entry.list.now) }
+#[tactic(auto, using(ll_grammar::proofs::Loops::listed_starts, crate::proofs::ListLemmas::list_ends))]
+fn variants(alloc: Global, tokens: &mut Tokens, depth: usize) -> Result<Vec<VariantArm>, ReadFault>
+    ensures { Gives (λ x. (map variant_arm_view x.items, tokens.new.list.now)) result (variants_with (factor_at depth) (type_at depth) (field_at depth) tokens.old.list.now) }
 {
-    let (mut items, mut rest) = variant(alloc, tokens, depth)?;
-    let count = rest.list.len();
-    for _ in 0..count {
-        let Some(after) = skip(TokenKind::Bar, rest) else {
-            return Ok((items, rest));
-        };
-        let (mut item, after) = variant(alloc, after, depth)?;
-        items.append(&mut item)?;
-        rest = after;
-    }
-    Ok((items, rest))
+    all_listed!(tokens, TokenKind::Bar, variant(alloc, tokens, depth))
 }
 
 /// Variant = [Labels ":" Fields]
 #[cycle(types)]
 #[tactic(auto, using(std::proofs::lemmas::Grind::common_steps, m2_base::proofs::Seen::variant_arm_seen), unfolding(crate::specs::ReadTypes::variant_with))]
-fn variant(
-    alloc: Global,
-    tokens: Tokens,
-    depth: usize,
-) -> Result<(Vec<VariantArm>, Tokens), ReadFault>
-    ensures { Gives (λ x. (map variant_arm_view x.0.items, x.1.list.now)) result (variant_with (factor_at depth) (type_at depth) (field_at depth) tokens.entry.list.now) }
+fn variant(alloc: Global, tokens: &mut Tokens, depth: usize) -> Result<Vec<VariantArm>, ReadFault>
+    ensures { Gives (λ x. (map variant_arm_view x.items, tokens.new.list.now)) result (variant_with (factor_at depth) (type_at depth) (field_at depth) tokens.old.list.now) }
 {
     let mut items = Vec::new(alloc);
     if !begins_expr(tokens) {
-        return Ok((items, tokens));
+        return Ok(items);
     }
-    let (labels, rest) = labels(alloc, tokens, depth)?;
-    let (_colon, rest) = expect(TokenKind::Colon, rest)?;
-    let (fields, rest) = fields(alloc, rest, depth)?;
+    let labels = labels(alloc, tokens, depth)?;
+    tokens.expect(TokenKind::Colon)?;
+    let fields = fields(alloc, tokens, depth)?;
     items.push(VariantArm { labels, fields })?;
-    Ok((items, rest))
+    Ok(items)
 }
 
 /// [ELSE Fields]
@@ -534,15 +449,15 @@ fn variant(
 #[tactic(auto, using(std::proofs::lemmas::Grind::common_steps), unfolding(crate::specs::ReadTypes::other_fields_with))]
 fn other_fields(
     alloc: Global,
-    tokens: Tokens,
+    tokens: &mut Tokens,
     depth: usize,
-) -> Result<(Vec<FieldList>, Tokens), ReadFault>
-    ensures { Gives (λ x. (map field_list_view x.0.items, x.1.list.now)) result (other_fields_with (factor_at depth) (type_at depth) (field_at depth) tokens.entry.list.now) }
+) -> Result<Vec<FieldList>, ReadFault>
+    ensures { Gives (λ x. (map field_list_view x.items, tokens.new.list.now)) result (other_fields_with (factor_at depth) (type_at depth) (field_at depth) tokens.old.list.now) }
 {
-    if !next_is(TokenKind::Else, tokens) {
-        return Ok((Vec::new(alloc), tokens));
+    if !tokens.next_is(TokenKind::Else) {
+        return Ok(Vec::new(alloc));
     }
-    let (_else, rest) = expect(TokenKind::Else, tokens)?;
-    let (items, rest) = fields(alloc, rest, depth)?;
-    Ok((items, rest))
+    tokens.expect(TokenKind::Else)?;
+    let items = fields(alloc, tokens, depth)?;
+    Ok(items)
 }

@@ -33,8 +33,8 @@ use Rattle.type_rules.specs.Sites.{SuitsSite, context_of}
 use Rattle.stmt_sem.specs.BlockCode.{result_by, run_of, size_by, size_diags}
 use Rattle.stmt_sem.specs.Blocks.{Returns, Whole, block_at, effects_of, whole_block, whole_of}
 use Rattle.stmt_sem.specs.Flows.{Flow}
-use Rattle.stmt_sem.specs.ReadStatements.{AreReadStatements}
-use Rattle.stmt_sem.proofs.ReadBodies.{statements_are_read}
+use Rattle.m2_base.specs.Statics.ReadStatements.{AreReadStatements}
+use Rattle.m2_base.proofs.ReadStatements.{statements_are_read}
 use Rattle.m2c_top.specs.Diagnostics.{noted_in}
 use Rattle.m2c_top.specs.Filled.{IsFilled, first_context, made_by, main_around}
 use Rattle.m2c_top.specs.Held.{IsHeld, held}

@@ -22,9 +22,9 @@ use Rattle.object_file.specs.ObjectFormat.{is_identifier}
 use Rattle.object_file.specs.Validity.{IsValid}
 use Rattle.block_laws.specs.Lone.{lone_world}
 use Rattle.block_laws.specs.Named.{procedure_of}
-use Rattle.block_laws.specs.ReadStatements.{AreReadStatements}
+use Rattle.m2_base.specs.Statics.ReadStatements.{AreReadStatements}
 use Rattle.block_laws.proofs.InRange.{block-leads}
-use Rattle.block_laws.proofs.StatementsRead.{body-is-read}
+use Rattle.m2_base.proofs.ReadStatements.{statements_are_read}
 use Rattle.block_laws.proofs.Units.{units-valid}
 use Rattle.m2c_top.specs.Diagnostics.{diags_of, noted_in}
 use Rattle.m2c_top.specs.Filled.{row_count}
@@ -100,7 +100,7 @@ module _ (m : HeldModule) (h : IsHeld m) (none : diags_of (held m) ≡ []) where
       (size_diags (context_in (held m)) block tree.kind (declared_in m.texts.names tree).value (run_in (held m))) (none_noted (held m) none)
 
   read_body : AreReadStatements m.texts.names tree.body
-  read_body = body-is-read m.texts.names Main tree (main_tokens m.texts.list) h.spelled h.read
+  read_body = statements_are_read m.texts.names Main tree (main_tokens m.texts.list) h.spelled h.read
 
   module _ (few : row_count tree < 2 ^ 31) where
     has_room : HasRoom (declared_in m.texts.names tree).value (run_in (held m))

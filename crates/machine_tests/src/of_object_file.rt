@@ -1,11 +1,4 @@
-//! Bytes with what is told of them: by another reader of objects, and by hand.
-mod objects_1;
-mod objects_2;
-mod objects_3;
-mod objects_4;
-
-ghost use Rattle.std.specs.Prelude.{◌<◌};
-
+//! Objects with their parts, and those that are programs, by hand.
 use object_file::{
     Object, ObjectFault, Program, ProgramFault, one_fault, one_object, read_object, write_object,
 };
@@ -28,9 +21,6 @@ const SUMS: [u8; 278] =
 const NEEDS_B: [u8; 94] =
     *b"M2OB\x01\x00\x00\x00\x01\x00\x00\x00M\x00\x00\x00\x00\x00\x00\x00\x00\x00\x00\x00\x00\x01\x00\x00\x00\x01\x00\x00\x00B\x01\x00\x00\x00\x00\x00\x00\x00\x01\x00\x00\x00\x00\x00\x00\x00\x00\x00\x00\x00\x00\x00\x00\x00\x00\x00\x00\x00\x02\x00\x00\x00\x00\x00\x00\x00\x14\x00\x00\x00\x03\x01\x00\x00\x00\x00\x00\x00\x00\x01\x01\x00\x00\x00\x00\x00\x00\x00\x06.";
 
-/// The number of a row, its bytes, and the first broken place with its code, or nothing for an object.
-type Row = (u32, &'static [u8], Option<(u64, u8)>);
-
 fn read(rt: &impl Abort, alloc: Global, bytes: &[u8]) -> Object {
     match read_object(alloc, bytes) {
         Ok(object) => object,
@@ -44,40 +34,6 @@ fn is_written_so(rt: &impl Abort, alloc: Global, object: &Object, bytes: &[u8]) 
         Ok(written) => assert_eq!(rt; &written[..], bytes),
         Err(_) => panic!(rt; "no memory"),
     }
-}
-
-/// Asserts that the bytes are broken first at this place, with this code.
-fn is_broken_so(rt: &impl Abort, alloc: Global, bytes: &[u8], offset: u64, code: u8) {
-    match read_object(alloc, bytes) {
-        Ok(_) => panic!(rt; "an object, not broken at {offset}"),
-        Err(fault) => assert_eq!(rt; fault, ObjectFault::BadObject { offset, code }),
-    }
-}
-
-/// Asserts that the rows are told as they say, and that what is an object is written as the same bytes.
-fn are_told_so(rt: &impl Abort, alloc: Global, rows: &[Row]) {
-    for (number, bytes, expected) in rows {
-        match (read_object(alloc, *bytes), *expected) {
-            (Ok(object), None) => is_written_so(rt, alloc, &object, *bytes),
-            (Ok(_), Some(_)) => panic!(rt; "row {number} is an object"),
-            (Err(fault), None) => panic!(rt; "row {number}: {fault}"),
-            (Err(fault), Some((offset, code))) => {
-                assert_eq!(rt;
-                    fault,
-                    ObjectFault::BadObject { offset, code },
-                    "row {number}"
-                );
-            }
-        }
-    }
-}
-
-#[test]
-fn rows_are_told_so(rt: HostRuntime) {
-    are_told_so(&rt, rt.alloc(), &objects_1::ROWS);
-    are_told_so(&rt, rt.alloc(), &objects_2::ROWS);
-    are_told_so(&rt, rt.alloc(), &objects_3::ROWS);
-    are_told_so(&rt, rt.alloc(), &objects_4::ROWS);
 }
 
 #[test]
@@ -97,51 +53,6 @@ fn objects_are_read_and_written(rt: HostRuntime) {
     }
     one_object();
     one_fault();
-}
-
-#[test]
-fn prefixes_end_too_early(rt: HostRuntime) {
-    for k in 0..62 {
-        is_broken_so(&rt, rt.alloc(), &EMPTY[..k], k as u64, 1);
-    }
-    let mut more = Vec::new(rt.alloc());
-    if more.extend_from_slice(&EMPTY).is_ok() && more.push(0).is_ok() {
-        is_broken_so(&rt, rt.alloc(), &more, 62, 2);
-    } else {
-        panic!(rt; "no memory");
-    }
-}
-
-/// How many of the bytes with this place changed, to each other value, are objects. They are written as they were read.
-fn objects_at(rt: &impl Abort, alloc: Global, place: usize) -> u32
-    requires { place < 93 }
-{
-    let mut count = 0u32;
-    let mut bytes = ADDS;
-    for value in 0..=255 {
-        bytes[place] = value;
-        match read_object(alloc, &bytes) {
-            Ok(object) => {
-                is_written_so(rt, alloc, &object, &bytes);
-                count = count.wrapping_add(u32::from(value != ADDS[place]));
-            }
-            Err(ObjectFault::BadObject { offset, code }) => {
-                assert!(rt; offset <= 93 && 1 <= code && code <= 8);
-            }
-            Err(ObjectFault::Memory) => panic!(rt; "no memory"),
-        }
-    }
-    count
-}
-
-/// Of the 23,715 ways to change one byte, 2,617 lead to an object.
-#[test]
-fn changed_bytes_are_told(rt: HostRuntime) {
-    let mut count = 0u32;
-    for place in 0..93 {
-        count = count.wrapping_add(objects_at(&rt, rt.alloc(), place));
-    }
-    assert_eq!(rt; count, 2617);
 }
 
 /// Asserts that the object is a program.

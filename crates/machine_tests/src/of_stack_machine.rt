@@ -1,6 +1,5 @@
-//! Runs of programs of one object: as another machine runs them, and worked by hand.
-mod runs_1;
-mod runs_2;
+//! Runs of programs of one object that were worked by hand, in pieces, with few cells, and where a call of the sink or the source
+//! fails.
 mod worked;
 
 use self::worked::WORKED;
@@ -93,20 +92,11 @@ fn runs_so(
     Ok(())
 }
 
-/// Asserts that rows run as they say.
-fn run_so(rt: &impl Abort, alloc: Global, rows: &[Row]) -> Result<(), Fail> {
-    for row in rows {
-        runs_so(rt, alloc, row, row.3, 1, 4096)?;
-    }
-    Ok(())
-}
-
+/// The laws do nothing.
 #[test]
-fn programs_run_so(rt: HostRuntime) -> Result<(), Fail> {
+fn laws_hold() {
     no_step_is_stuck();
     loaded_code_is_valid();
-    run_so(&rt, rt.alloc(), &runs_1::ROWS)?;
-    run_so(&rt, rt.alloc(), &runs_2::ROWS)
 }
 
 #[test]
@@ -152,7 +142,7 @@ fn fails_so(
 
 #[test]
 fn a_sink_fails_at_each_byte(rt: HostRuntime) -> Result<(), Fail> {
-    let row = &WORKED[10];
+    let row = &WORKED[2];
     for k in 0..row.6.len() {
         let end = fails_so(&rt, rt.alloc(), row, k as u32 + 1, 1000, k)?;
         assert!(rt; end == End::WriteFailed, "at byte {k}");
@@ -163,7 +153,7 @@ fn a_sink_fails_at_each_byte(rt: HostRuntime) -> Result<(), Fail> {
 /// It reads six times.
 #[test]
 fn a_source_fails_at_each_call(rt: HostRuntime) -> Result<(), Fail> {
-    let row = &WORKED[9];
+    let row = &WORKED[1];
     for k in 1..=6 {
         let end = fails_so(&rt, rt.alloc(), row, 1000, k, 0)?;
         assert!(rt; end == End::ReadFailed, "at call {k}");

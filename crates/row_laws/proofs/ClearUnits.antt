@@ -4,6 +4,7 @@ use Rattle.std.specs.List.{cons_option}
 use Rattle.std.proofs.Common.{ap, subst, sym, ◌∙◌, refl, inl, inr, arith}
 use Rattle.std.proofs.lemmas.Bool.{cases_order}
 use Rattle.std.proofs.lemmas.List.{length-append, get_or_append_left, get_or_at, get_or_past}
+use Rattle.m2_base.proofs.SoundBlocks.{rows_above, rows_before}
 use Rattle.m2_base.specs.Lists.{Each, IsIn, WhereKept}
 use Rattle.m2_base.specs.Rows.{row_meaning}
 use Rattle.m2_base.specs.declared.rows.Place.{Place}
@@ -34,7 +35,6 @@ use Rattle.row_laws.proofs.ClearItems.{AreFew, HasSpace, items_fine}
 use Rattle.row_laws.proofs.MadeBy.{stays}
 use Rattle.row_laws.proofs.Units.{long_from}
 use Rattle.row_laws.proofs.Whole.{whole-above, whole-rows, whole_scene}
-use Rattle.row_laws.proofs.Scenes.{rows_above, rows_before}
 
 -- ** Blocks
 

@@ -1,6 +1,7 @@
 -- The variables of a block are placed below its next free cell.
 use Rattle.std.specs.Prelude.{◌≡◌, ℕ, ◌+◌, ◌≤◌, List, [], ◌∷◌, ◌++◌, map, flat_map, Option, Some, None}
 use Rattle.std.proofs.Common.{ap, subst, sym, ◌∙◌, refl, arith}
+use Rattle.m2_base.proofs.SoundBlocks.{first_cell_most}
 use Rattle.m2_base.specs.Lists.{Each}
 use Rattle.m2_base.specs.Rows.{row_meaning, param_kind}
 use Rattle.m2_base.specs.declared.rows.Row.{Row}
@@ -26,7 +27,6 @@ use Rattle.m2_base.proofs.ShapeLaws.{type_of}
 use Rattle.m2_base.proofs.SoundParts.{most}
 use Rattle.row_laws.proofs.Agreeing.{Ready, ready-left, ready-right}
 use Rattle.row_laws.proofs.Placing.{AreOther, ArePlaced, IsPlaced, IsCopyPlaced, Cells, copies-more, mapped, open_others, others, placed-more, sections_placed, shaped_placed, type_others, type_placed, vars_placed}
-use Rattle.row_laws.proofs.Scenes.{first_cell_most}
 
 -- ** Items that declare no variables
 

@@ -22,8 +22,7 @@ use Rattle.m2_base.specs.Statics.Types.{meaning_at, size_by}
 use Rattle.m2_base.proofs.ChainLaws.{each_found, each_append}
 use Rattle.m2_base.proofs.LayoutLaws.{AreShaped-length, block_shaped}
 use Rattle.m2_base.proofs.NoRepeats.{scene_open, scene_empty}
-use Rattle.m2_base.proofs.SceneLaws.{own_of}
-use Rattle.m2_base.proofs.Sound.{Sound, RowOk}
+use Rattle.m2_base.proofs.SoundBlocks.{context_sound, first_cell_most}
 use Rattle.m2_base.proofs.SoundItems.{items_ok}
 use Rattle.m2_base.proofs.SoundOperations.{SoundContext}
 use Rattle.m2_base.proofs.SoundParts.{most, capped-most}
@@ -32,87 +31,14 @@ use Rattle.row_laws.proofs.Agreeing.{Ready}
 use Rattle.row_laws.proofs.Closed.{IsClosed}
 use Rattle.row_laws.proofs.AgreeingItems.{items_agree}
 
--- ** The layout's ordinals
-
-shape_ordinals : (i o : ℕ) (shapes : List Shape) (most_ordinal : ℕ) → o + length shapes ≤ most_ordinal → Each (λ (n : Named). n.ordinal < most_ordinal) (names_of_item i o shapes)
-shape_ordinals i o [] k h = tt
-shape_ordinals i o (s ∷ shapes) k h = by_test (s.name == 0) (shape_ordinals i (o + 1) shapes k (omega (arith, h)))
-  where
-    by_test : (b : Bool) → Each (λ (n : Named). n.ordinal < k) (names_of_item i (o + 1) shapes)
-        → Each (λ (n : Named). n.ordinal < k) (if b then names_of_item i (o + 1) shapes else record { name = s.name; ordinal = o; kind = s.kind; at = s.at; item = i } ∷ names_of_item i (o + 1) shapes)
-    by_test true rest = rest
-    by_test false rest = (omega (arith, h), rest)
-
-item_ordinals : (i o : ℕ) (items : List Item) (k : ℕ) → o + length (flat_map item_shapes items) ≤ k → Each (λ (n : Named). n.ordinal < k) (names_from i o items)
-item_ordinals i o [] k h = tt
-item_ordinals i o (x ∷ items) k h =
-    let e = length-append (item_shapes x) (flat_map item_shapes items) in
-    each_append (λ (n : Named). n.ordinal < k) (names_of_item i o (item_shapes x)) _
-    (shape_ordinals i o (item_shapes x) k (omega (arith, e, h)))
-    (item_ordinals (i + 1) (o + length (item_shapes x)) items k (omega (arith, e, h)))
-
--- ** The first cell
-
-cell_most : (scene : Scene) (cell : ℕ) (m : RowMeaning) → cell ≤ most → cell_after scene cell m ≤ most
-cell_most scene cell (Var t mode offset) h = capped-most (cell + size_by (meaning_at scene t))
-cell_most scene cell m h = h
-
-cells_most : (scene : Scene) (rows : List Row) (cell : ℕ) → cell ≤ most → cells_after scene cell rows ≤ most
-cells_most scene [] cell h = h
-cells_most scene (r ∷ rows) cell h = cells_most scene rows (cell_after scene cell (row_meaning r)) (cell_most scene cell (row_meaning r) h)
-
-pub first_cell_most : (scene : Scene) (kind : StreamKind) (own : Option ℕ) → first_cell scene kind own ≤ most
-first_cell_most scene Main (Some own) = cells_most scene (rows_at scene.tables own) 0 (omega arith)
-first_cell_most scene kind own = omega arith
-
--- ** The scene of a block
-
-pub rows_before : (tables : List (List Row)) (b : Block) (s : ℕ) → b.scope ≤ length tables → s < b.scope → rows_at (scene_of tables b).tables s ≡ rows_at tables s
-rows_before tables b s h k =
-    let e = length-take-le b.scope tables h in
-    get_or_append_left (take b.scope tables) ([] ∷ []) [] s (omega (arith, e, k)) ∙ get_or-take b.scope tables s [] k
-
-pub rows_above : (tables : List (List Row)) (b : Block) (s : ℕ) → b.scope ≤ length tables → b.scope < s → rows_at (scene_of tables b).tables s ≡ []
-rows_above tables b s h k =
-    let e = length-take-le b.scope tables h in
-    let f = length-append (take b.scope tables) ([] ∷ []) in
-    get_or_past (take b.scope tables ++ [] ∷ []) s [] (omega (arith, e, f, k))
-
-none_here : {names : ℕ} (tables : List (List Row)) (b : Block) → b.scope ≤ length tables → (o : ℕ) (r : Row) → slice_get (own_of (scene_of tables b)) o ≡ Some r → RowOk names (at_place b.scope o) r
-none_here tables b h o r e = let none : slice_get [] o ≡ Some r = subst (λ (rows : List Row). slice_get rows o ≡ Some r) (scene_empty tables b h) e in absurd (cc)
-
-scene_sound : (names : ℕ) (source : Source) (tables : List (List Row)) (b : BlockTree) → IsReady names source tables b → Sound names (scene_of tables b.block)
-scene_sound names source tables b ready =
-    record {
-      some = ready.some_names;
-      room = scene_open tables b.block ready.before;
-      positive = ready.positive;
-      above = λ s h. rows_above tables b.block s ready.before h;
-      earlier = λ s o r h e.
-          let right = ready.right s o r h (subst (λ (rows : List Row). slice_get rows o ≡ Some r) (rows_before tables b.block s ready.before h) e) in
-          (right.0, record { formed = right.1.formed; small = right.1.small; cells = right.1.cells });
-      own = none_here tables b.block ready.before;
-      standard = rows_before tables b.block 0 ready.before ready.positive ∙ ready.standard;
-      few = let e = ap length (scene_empty tables b.block ready.before) in omega (arith, e);
-    }
-
--- ** The rows of a block
-
 -- the rows of a block are made in a sound context
 pub block_ready : (names : ℕ) (source : Source) (tables : List (List Row)) (b : BlockTree) → IsReady names source tables b → WhereKept b.block.own (λ s. s < b.block.scope)
     → Ready names (context_of source tables b) (declare_block source tables b).rows
 unfolding declare_block
 block_ready names source tables b ready own =
     let c = context_of source tables b in
-    let sound = scene_sound names source tables b ready in
     let few = ready.few in
-    let layout = item_ordinals 0 0 (items_of b.tree) (2 ^ 32) (omega (arith, few)) in
-    let context : SoundContext names c = record {
-      scene = sound;
-      source = record { short = ready.short; bytes = ready.bytes };
-      few_names = ready.few_names;
-      layout = λ name. each_found (λ (n : Named). n.ordinal < 2 ^ 32) (λ n. n.name == name) (layout_of b.tree).names layout;
-    } in
+    let context : SoundContext names c = context_sound names source tables b ready in
     let cell = first_cell (scene_of tables b.block) b.tree.kind b.block.own in
     let rows = (declare_items c b.tree.kind 0 cell (items_of b.tree)).rows in
     let many : length rows ≡ length (flat_map item_shapes (items_of b.tree)) = AreShaped-length (block_shaped source tables b) in

@@ -4,6 +4,7 @@ use Rattle.std.proofs.Common.{ap, subst, sym, ◌∙◌, refl, inl, inr, arith}
 use Rattle.std.proofs.lemmas.Bool.{cases_order}
 use Rattle.std.proofs.lemmas.List.{length-append, get_or-set_other, get_or_append_left, get_or_at, get_or_past}
 use Rattle.std.proofs.lemmas.Option.{get_or_from_slice_get, slice_get_within, slice_get_cases}
+use Rattle.m2_base.proofs.SoundBlocks.{rows_above, rows_before}
 use Rattle.m2_base.specs.Lists.{Each, IsIn, WhereKept}
 use Rattle.m2_base.specs.Trees.{Heading}
 use Rattle.m2_base.specs.declared.outputs.HeadingNote.{HeadingNote}
@@ -44,7 +45,7 @@ use Rattle.row_laws.proofs.Later.{agree_each, agrees_later}
 use Rattle.row_laws.proofs.OwnCells.{block_counted}
 use Rattle.row_laws.proofs.Placing.{ArePlaced, IsCopyPlaced, IsPlaced, placed_more}
 use Rattle.row_laws.proofs.PlacingItems.{Placed, block_more, block_placed}
-use Rattle.row_laws.proofs.Scenes.{block_agrees, block_ready, rows_above, rows_before}
+use Rattle.row_laws.proofs.Scenes.{block_agrees, block_ready}
 use Rattle.row_laws.proofs.Whole.{HasOffset, Whole, later_whole, operands, there_scope, whole-above, whole-length, whole-rows, whole_scene}
 
 each_at : {A : Type 0} (P : A → Type 0) (xs : List A) → Each P xs → (k : ℕ) (x : A) → slice_get xs k ≡ Some x → P x

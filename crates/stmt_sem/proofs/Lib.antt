@@ -30,7 +30,6 @@ pub mod CaseLists
 pub mod StatementGiven
 pub mod Walked
 pub mod SimpleGiven
-pub mod ReadBodies
 mod ProcedureCodes
 mod PiecesJoined
 mod TopStatements

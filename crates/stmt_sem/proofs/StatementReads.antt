@@ -14,7 +14,7 @@ use Rattle.m2_base.specs.declared.trees.statements.Statement.{Statement, size-St
 use Rattle.m2_base.specs.declared.trees.statements.StmtForm.TheVariants.{Case, For, If, Loop, Repeat, While, With}
 use Rattle.m2_base.specs.declared.trees.statements.StmtForm.TheViews.{sized-Case, sized-For, sized-If, sized-Loop, sized-Repeat, sized-While, sized-With}
 use Rattle.m2_base.proofs.Seen.{case_arm_seen, if_arm_seen, statement_seen}
-use Rattle.stmt_sem.specs.ReadStatements.{AreReadCaseArms, AreReadIfArms, AreReadStatements, IsReadCaseArm, IsReadIfArm, IsReadStatement, IsReadStmtForm}
+use Rattle.m2_base.specs.Statics.ReadStatements.{AreReadCaseArms, AreReadIfArms, AreReadStatements, IsReadCaseArm, IsReadIfArm, IsReadStatement, IsReadStmtForm}
 use denote.Param.Weighed.{most}
 
 -- the form of a statement

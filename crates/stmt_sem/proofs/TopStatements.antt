@@ -27,7 +27,7 @@ use Rattle.stmt_sem.specs.FlowNodes.{flow_in}
 use Rattle.stmt_sem.specs.Flowings.{Flowing, IsFlow}
 use Rattle.stmt_sem.specs.Flows as flow
 use Rattle.stmt_sem.specs.Flows.{part_at}
-use Rattle.stmt_sem.specs.ReadStatements.{AreReadStatements, IsReadStatement}
+use Rattle.m2_base.specs.Statics.ReadStatements.{AreReadStatements, IsReadStatement}
 use Rattle.stmt_sem.specs.Statements as spec
 use Rattle.stmt_sem.specs.Statements.{statement_flow}
 use Rattle.stmt_sem.specs.Stating.{IsStated, Stating, given_at, made_in, statement_at}

@@ -17,7 +17,6 @@ pub mod Flowings
 pub mod FlowSizes
 pub mod FlowPieces
 pub mod Places
-pub mod ReadStatements
 pub mod Stands
 pub mod StatementParts
 pub mod Taken

@@ -24,7 +24,7 @@ use expr_sem::{
     Coded, Diagnostic, Fragment, Fragments, answered, assigned_to, cells_of, characters,
     fitted_code, instr_behind, is_structured, value_code,
 };
-use m2_base::{Ask, Diagnostic, Memory, Notes, Operand, Place, Scopes, Site, analysed, asked};
+use m2_base::{Ask, Diagnostic, Memory, Notes, Operand, Place, Scopes, Site};
 use type_rules::operand_type;
 
 /// A value stored by this instruction behind the address of its variable.

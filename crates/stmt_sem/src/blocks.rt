@@ -4,7 +4,7 @@ ghost use Rattle.std.specs.Option.{IfSome};
 ghost use Rattle.m2_base.specs.Lists.{IsPrefixOf};
 ghost use Rattle.m2_base.specs.Views.{stream_view};
 ghost use Rattle.stmt_sem.specs.Blocks.{Blocking, Returns};
-ghost use Rattle.stmt_sem.specs.ReadStatements.{AreReadStatements};
+ghost use Rattle.m2_base.specs.Statics.ReadStatements.{AreReadStatements};
 ghost use Rattle.stmt_sem.specs.Stating.{Joining};
 ghost use Rattle.type_rules.specs.Scenes.{IsThere};
 ghost use Rattle.type_rules.specs.Sites.{SuitsSite};
@@ -13,7 +13,7 @@ use crate::block_pieces::{append_ending, append_piece, begun};
 use crate::top_statements::state;
 use decl_sem::Effect;
 use expr_sem::Piece;
-use m2_base::{Ask, Memory, Notes, Place, Scopes, Site, Stream, analysed};
+use m2_base::{Ask, Memory, Notes, Place, Scopes, Site, Stream};
 use std::alloc::Global;
 
 /// Puts notes behind others.

@@ -21,7 +21,7 @@ use crate::tests::false_code;
 use code_form::Instr;
 use const_eval::{is_bad, is_ordinal};
 use expr_sem::{Coded, Fragment, Fragments, answered, value_code};
-use m2_base::{Ask, Diagnostic, Memory, Notes, Place, Scopes, Site, asked};
+use m2_base::{Ask, Diagnostic, Memory, Notes, Place, Scopes, Site};
 use type_rules::{BROKEN, operand_type};
 
 /// The type of an ordinal selector, or what is refused otherwise.

@@ -21,7 +21,7 @@ use crate::refusals::refused_operand;
 use expr_sem::{Coded, Fragments, With, entry_coded, field_of_withs};
 use m2_base::{
     Around, Ask, Diagnostic, Ident, Memory, Mode, Notes, Operand, Place, Row, RowMeaning, Scopes,
-    Site, analysed, asked, known, read_row,
+    Site, read_row,
 };
 use type_rules::{range_of, use_name};
 

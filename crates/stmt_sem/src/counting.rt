@@ -31,9 +31,7 @@ use const_eval::is_bad;
 use expr_sem::{
     Coded, Fragment, Fragments, answered, assigned_to, fitted_code, instr_behind, pair, side_of,
 };
-use m2_base::{
-    Around, Ask, Diagnostic, Memory, Notes, Operand, Place, Scopes, Site, analysed, asked, known,
-};
+use m2_base::{Around, Ask, Diagnostic, Memory, Notes, Operand, Place, Scopes, Site};
 use type_rules::{WHOLE, base_of, is_integer_or_cardinal, operand_type};
 
 /// The parts of the code of a FOR that are known before its temporary cell is. What is in error is missing.

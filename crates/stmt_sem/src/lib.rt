@@ -9,6 +9,39 @@
 //! the whole.
 #![tactic(auto)]
 
+/// The value of a question, or the end of the function where it isn't known yet.
+macro_rules! known {
+    ($asked:expr) => {
+        match $asked {
+            Ask::Known(value) => value,
+            Ask::DontKnowYet(head) => return Ask::DontKnowYet(head),
+        }
+    };
+}
+
+/// The value of a question, or the end of an analysis where it isn't known yet.
+macro_rules! asked {
+    ($asked:expr) => {
+        match $asked {
+            Ask::Known(value) => value,
+            Ask::DontKnowYet(head) => return Ok(Ask::DontKnowYet(head)),
+        }
+    };
+}
+
+/// The value of an analysis, or the end of the function where it isn't known yet or memory is wanted.
+macro_rules! analysed {
+    ($asked:expr) => {
+        match $asked {
+            Ok(asked) => match asked {
+                Ask::Known(value) => value,
+                Ask::DontKnowYet(head) => return Ok(Ask::DontKnowYet(head)),
+            },
+            Err(memory) => return Err(memory),
+        }
+    };
+}
+
 mod assignments;
 mod block_pieces;
 mod blocks;

@@ -18,7 +18,7 @@ use crate::refusals::refused_code;
 use code_form::Instr;
 use const_eval::is_bad;
 use expr_sem::{Coded, Fragment, Fragments, Step, answered, assigned_to, fitted_code};
-use m2_base::{Ask, Diagnostic, Memory, Notes, Place, Scopes, Site, analysed};
+use m2_base::{Ask, Diagnostic, Memory, Notes, Place, Scopes, Site};
 
 /// The end of a procedure that has no result.
 pub fn return_code(fragments: &mut Fragments) -> Result<Fragment, Memory>

@@ -12,7 +12,7 @@ ghost use Rattle.stmt_sem.specs.Cases.{no_case as spec_none};
 ghost use Rattle.stmt_sem.specs.FlowNodes.{AreSound, flow_in};
 ghost use Rattle.stmt_sem.specs.Flows.{straight};
 ghost use Rattle.stmt_sem.specs.Flowings.{Flowing, IsFlow};
-ghost use Rattle.stmt_sem.specs.ReadStatements.{IsReadExprOption};
+ghost use Rattle.m2_base.specs.Statics.ReadStatements.{IsReadExprOption};
 ghost use Rattle.stmt_sem.specs.StatementParts.{form_of};
 ghost use Rattle.stmt_sem.specs.Stands.{IsStand, stand_in};
 ghost use Rattle.stmt_sem.specs.Statements.{exit_of, form_flow};
@@ -23,7 +23,7 @@ use crate::flows::{Code, Flow, Flows};
 use crate::refusals::noted;
 use crate::stands::Stand;
 use crate::statement_parts::{assigned, called, returned};
-use m2_base::{Ask, Designator, Diagnostic, Expr, Memory, Notes, Scopes, Site, analysed};
+use m2_base::{Ask, Designator, Diagnostic, Expr, Memory, Notes, Scopes, Site};
 
 /// An assignment.
 pub fn assign_statement<S: Scopes>(

@@ -8,7 +8,7 @@ ghost use Rattle.expr_sem.specs.Fragments.{part};
 ghost use Rattle.expr_sem.specs.declared.fragments.Node.{Node};
 ghost use Rattle.type_rules.specs.Sites.{SuitsSite};
 ghost use Rattle.stmt_sem.specs.Plain.{IsStep, itself};
-ghost use Rattle.stmt_sem.specs.ReadStatements.{IsReadExprOption};
+ghost use Rattle.m2_base.specs.Statics.ReadStatements.{IsReadExprOption};
 ghost use Rattle.stmt_sem.specs.Stands.{IsStand, stand_in};
 ghost use Rattle.stmt_sem.specs.StatementParts.{assigned as spec_assigned, assigned_value as spec_value, bound as spec_bound, called as spec_called, for_by as spec_by, for_from as spec_from, for_parts as spec_parts, for_to as spec_to, record_of as spec_record, selector as spec_selector, typed_selector as spec_typed};
 ghost use Rattle.stmt_sem.specs.Statements.{by_of as spec_by_of, return_of, test as spec_test, variable as spec_variable};
@@ -24,7 +24,7 @@ use crate::tests::test_code;
 use crate::withs::record_variable;
 use const_eval::constant;
 use expr_sem::{Coded, Fragment, Fragments, as_variable, call_alone, designated, value_of};
-use m2_base::{Ask, Designator, Expr, Ident, Memory, Notes, Place, Scopes, Site, analysed};
+use m2_base::{Ask, Designator, Expr, Ident, Memory, Notes, Place, Scopes, Site};
 
 /// What a FOR has between its variable and its statements.
 #[derive(Clone, Copy)]

@@ -10,7 +10,7 @@ ghost use Rattle.type_rules.specs.Scenes.{IsThere};
 ghost use Rattle.type_rules.specs.Sites.{SuitsSite};
 ghost use Rattle.stmt_sem.specs.FlowNodes.{AreSound, flow_in};
 ghost use Rattle.stmt_sem.specs.Flowings.{Flowing, IsFlow};
-ghost use Rattle.stmt_sem.specs.ReadStatements.{AreReadCaseArms, AreReadIfArms, AreReadStatements, IsReadCaseArm, IsReadCaseElse, IsReadExprOption, IsReadIfArm, IsReadStatement};
+ghost use Rattle.m2_base.specs.Statics.ReadStatements.{AreReadCaseArms, AreReadIfArms, AreReadStatements, IsReadCaseArm, IsReadCaseElse, IsReadExprOption, IsReadIfArm, IsReadStatement};
 ghost use Rattle.stmt_sem.specs.Stands.{IsStand, stand_in};
 ghost use Rattle.stmt_sem.specs.Stated.{AreArms, AreFlows, IsArm, IsCase, IsOther, arm_in, arms_in, block_in, case_in, cases_in, other_in};
 ghost use Rattle.stmt_sem.specs.StatementParts.{case_of as spec_case, form_of, otherwise as spec_otherwise, statements_onto, with_body as spec_with};
@@ -28,7 +28,7 @@ use const_eval::is_bad;
 use expr_sem::{Coded, Fragment};
 use m2_base::{
     Ask, CaseArm, Designator, Expr, Ident, IfArm, Memory, Notes, Place, Scopes, Site, Statement,
-    StmtForm, analysed,
+    StmtForm,
 };
 use type_rules::operand_type;
 

@@ -18,9 +18,7 @@ use crate::refusals::refused_code;
 use code_form::Instr;
 use const_eval::is_bad;
 use expr_sem::{Coded, Fragment, Fragments, answered, value_code};
-use m2_base::{
-    Ask, Diagnostic, Memory, Notes, Operand, Place, Scopes, Site, analysed, asked, known,
-};
+use m2_base::{Ask, Diagnostic, Memory, Notes, Operand, Place, Scopes, Site};
 use type_rules::{BOOLEAN, base_of, operand_type};
 
 /// FALSE.

@@ -5,7 +5,7 @@ ghost use Rattle.m2_base.specs.Views.{stream_view};
 ghost use Rattle.stmt_sem.specs.Blocks.{Returns};
 ghost use Rattle.stmt_sem.specs.FlowNodes.{AreSound, IsAmong, flow_in};
 ghost use Rattle.stmt_sem.specs.Flows.{part_at};
-ghost use Rattle.stmt_sem.specs.ReadStatements.{AreReadStatements};
+ghost use Rattle.m2_base.specs.Statics.ReadStatements.{AreReadStatements};
 ghost use Rattle.stmt_sem.specs.Stating.{Stating, made_in, spot_at};
 ghost use Rattle.type_rules.specs.Scenes.{IsThere};
 ghost use Rattle.type_rules.specs.Sites.{SuitsSite};
@@ -16,7 +16,7 @@ use crate::flows::{Flow, Flows};
 use crate::stands::Stand;
 use crate::statements::statement;
 use expr_sem::Piece;
-use m2_base::{Ask, Memory, Notes, Place, Scopes, Site, Stream, analysed};
+use m2_base::{Ask, Memory, Notes, Place, Scopes, Site, Stream};
 use std::alloc::Global;
 
 /// What one statement of a body makes, and what it notes.

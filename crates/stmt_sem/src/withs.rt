@@ -16,9 +16,7 @@ ghost use Rattle.stmt_sem.specs.Withs.{is_record as spec_record, record_variable
 
 use const_eval::is_bad;
 use expr_sem::{Coded, refused};
-use m2_base::{
-    Around, Ask, Diagnostic, Memory, Notes, Place, RowMeaning, Scopes, Site, asked, known,
-};
+use m2_base::{Around, Ask, Diagnostic, Memory, Notes, Place, RowMeaning, Scopes, Site};
 use type_rules::{operand_type, stand};
 
 /// Whether a type is a record.

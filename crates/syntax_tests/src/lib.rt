@@ -1,8 +1,6 @@
-//! Tests of the calls that make tokens, trees and streams of a text: those of `m2_lex`, `m2_parse` and `stream_split`.
+//! Tests of the calls that make trees and streams of a text: those of `m2_parse` and `stream_split`.
 #![tactic(auto)]
 
-#[cfg(test)]
-mod of_m2_lex;
 #[cfg(test)]
 mod of_m2_parse;
 #[cfg(test)]

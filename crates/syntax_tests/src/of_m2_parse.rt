@@ -1,7 +1,4 @@
-//! Streams with their trees or refused tokens: by hand from the grammar, and by another parser.
-mod texts;
-
-use self::texts::TEXTS;
+//! Streams with their trees or refused tokens, by hand from the grammar.
 use m2_base::{Diag, StreamFault, StreamKind, Token, TokenKind, reserved_kind, symbol_kind};
 use m2_parse::{ParseFault, front, names_fit, parse_stream, values_fit};
 use std::alloc::{AllocError, Global};
@@ -86,20 +83,6 @@ fn parsed(rt: &impl Abort, alloc: Global, tokens: &[Token], kind: StreamKind) ->
             Answer::TooDeep { at }
         }
     }
-}
-
-#[test]
-fn refuses_the_tokens_that_another_parser_refuses(rt: HostRuntime) -> Result<(), Fail> {
-    for (text, refused) in TEXTS {
-        let tokens = tokens_of(rt.alloc(), text)?;
-        let want = match refused {
-            None => Answer::Tree,
-            Some((at, code)) => Answer::Syntax { at, code },
-        };
-        let found = parsed(&rt, rt.alloc(), tokens.as_slice(), StreamKind::Main);
-        assert_eq!(rt; found, want, "in {text}");
-    }
-    Ok(())
 }
 
 /// A module with something of everything.

@@ -1,203 +1,241 @@
-//! Streams of whole and broken texts, by another program and by hand.
-mod making;
-mod texts_1;
-mod texts_2;
-mod units;
+//! The streams of whole units and what surrounds their blocks, by hand. The texts have blanks between their tokens.
+ghost use Rattle.std.specs.Prelude.{◌<◌, length};
 
-use self::making::{unit_of, unit_with_definitions};
-use m2_base::{StreamKind, Token, TokenKind};
+use m2_base::{Texts, Token, TokenKind};
+use m2_lex::lone_text;
 use std::alloc::{AllocError, Global};
 use std::fmt::Write;
 use std::process::Abort;
 use std::test::Fail;
-use stream_split::{StreamTokens, cut, sizes};
+use stream_split::{SplitFault, StreamTokens, around, cut, sizes};
 
-/// Every kind of token.
-const KINDS: [TokenKind; 72] = [
-    TokenKind::EndOfText,
-    TokenKind::Identifier,
-    TokenKind::Number,
-    TokenKind::Character,
-    TokenKind::String,
-    TokenKind::Bad,
-    TokenKind::Cut,
-    TokenKind::StreamEnd,
-    TokenKind::And,
-    TokenKind::Array,
-    TokenKind::Begin,
-    TokenKind::By,
-    TokenKind::Case,
-    TokenKind::Const,
-    TokenKind::Definition,
-    TokenKind::Div,
-    TokenKind::Do,
-    TokenKind::Else,
-    TokenKind::Elsif,
-    TokenKind::End,
-    TokenKind::Exit,
-    TokenKind::Export,
-    TokenKind::For,
-    TokenKind::From,
-    TokenKind::If,
-    TokenKind::Implementation,
-    TokenKind::Import,
-    TokenKind::In,
-    TokenKind::Loop,
-    TokenKind::Mod,
-    TokenKind::Module,
-    TokenKind::Not,
-    TokenKind::Of,
-    TokenKind::Or,
-    TokenKind::Pointer,
-    TokenKind::Procedure,
-    TokenKind::Qualified,
-    TokenKind::Record,
-    TokenKind::Repeat,
-    TokenKind::Return,
-    TokenKind::Set,
-    TokenKind::Then,
-    TokenKind::To,
-    TokenKind::Type,
-    TokenKind::Until,
-    TokenKind::Var,
-    TokenKind::While,
-    TokenKind::With,
-    TokenKind::Plus,
-    TokenKind::Minus,
-    TokenKind::Times,
-    TokenKind::Slash,
-    TokenKind::Becomes,
-    TokenKind::Period,
-    TokenKind::Comma,
-    TokenKind::Semicolon,
-    TokenKind::LeftParenthesis,
-    TokenKind::LeftBracket,
-    TokenKind::LeftBrace,
-    TokenKind::Arrow,
-    TokenKind::Equal,
-    TokenKind::Unequal,
-    TokenKind::Less,
-    TokenKind::Greater,
-    TokenKind::LessEqual,
-    TokenKind::GreaterEqual,
-    TokenKind::Ellipsis,
-    TokenKind::Colon,
-    TokenKind::RightParenthesis,
-    TokenKind::RightBracket,
-    TokenKind::RightBrace,
-    TokenKind::Bar,
-];
+/// The most bytes of a text.
+const MOST_BYTES: usize = 1_048_576;
 
-/// By how much the character of a token lies behind its kind's number.
-const FIRST: u8 = 40;
-
-/// The kinds of token that these characters stand for, but for the end.
-fn kinds_of(alloc: Global, text: &str) -> Result<Vec<TokenKind>, Fail> {
-    let inner = text.strip_suffix('(').ok_or("no end")?;
-    let mut kinds = Vec::new(alloc);
-    for letter in inner.as_bytes() {
-        for kind in KINDS {
-            if (kind as u8).wrapping_add(FIRST) == *letter {
-                kinds.push(kind)?;
-            }
-        }
-    }
-    Ok(kinds)
+/// The unit of one text, which is the main module's.
+fn unit_of(rt: &impl Abort, alloc: Global, text: &str) -> Result<Texts, Fail> {
+    let bytes = text.as_bytes();
+    assert!(rt; bytes.len() <= MOST_BYTES);
+    Ok(lone_text(alloc, b"A", bytes)?)
 }
 
-/// Whether the tokens of a stream, but for its cuts and its end, are those of the text.
-fn are_of(text: &[Token], stream: &[Token]) -> bool {
-    for token in stream {
-        let is_added = matches!(token.kind, TokenKind::Cut | TokenKind::StreamEnd);
-        if !is_added && text.get(token.at as usize) != Some(token) {
-            return false;
-        }
-    }
-    true
-}
-
-/// A stream as the tables have it.
-fn written(alloc: Global, stream: &[Token]) -> Result<String, Fail> {
+/// The tokens of a stream, spelled by the words of their text.
+fn spelled(alloc: Global, words: &[&str], stream: &[Token]) -> Result<String, Fail> {
     let mut row = String::new(alloc);
-    let mut following = None;
     for token in stream {
         match token.kind {
-            TokenKind::Cut => write!(row, "cut {} at {}, ", token.value, token.at)?,
-            TokenKind::StreamEnd => write!(row, "end at {}, ", token.at)?,
-            _ if following == Some(token.at) => {}
-            _ => write!(row, "{}, ", token.at)?,
+            TokenKind::Cut => write!(row, " [cut {}]", token.value)?,
+            TokenKind::StreamEnd => row.push_str(" [end of stream]")?,
+            TokenKind::EndOfText => row.push_str(" [end of text]")?,
+            _ => {
+                let word = words.get(token.at as usize).ok_or("no such token")?;
+                write!(row, " {word}")?;
+            }
         }
-        following = match token.kind {
-            TokenKind::Cut | TokenKind::StreamEnd => None,
-            _ => token.at.checked_add(1),
-        };
-    }
-    if let Some(last) = stream.last() {
-        write!(row, "to {}; ", last.at)?;
     }
     Ok(row)
 }
 
-/// Whether the streams of the texts are those of the table.
-fn agrees(rt: &impl Abort, alloc: Global, rows: &[&str]) -> Result<(), Fail> {
-    for row in rows {
-        let (text, expected) = row.rsplit_once('\n').ok_or("no streams")?;
-        let texts = unit_of(alloc, kinds_of(alloc, text)?.as_slice())?;
-        let Ok(streams) = cut(alloc, &texts) else {
-            return Err("no streams".into());
-        };
-        let tokens = texts.main().tokens.as_slice();
-        let mut found = String::new(alloc);
-        for stream in streams.as_slice() {
-            assert!(rt; are_of(tokens, stream.tokens.as_slice()), "in {text}");
-            found.push_str(&written(alloc, stream.tokens.as_slice())?)?;
-        }
-        assert_eq!(rt; found.trim_end_matches("; "), expected, "in {text}");
+/// A stream with what surrounds its block.
+fn row_of(
+    alloc: Global,
+    texts: &Texts,
+    streams: &[StreamTokens],
+    words: &[&str],
+    index: usize,
+) -> Result<String, Fail>
+    requires { index < length streams.now }
+{
+    let Some(number) = index
+        .checked_add(1)
+        .and_then(|next| u32::try_from(next).ok())
+    else {
+        return Err(Fail::from(AllocError));
+    };
+    let around = around(alloc, texts, streams, number)?;
+    let mut row = String::new(alloc);
+    for scope in around.chain.scopes.as_slice() {
+        write!(row, "{scope} ")?;
     }
-    Ok(())
+    write!(row, "level {}:", around.level)?;
+    row.push_str(&spelled(alloc, words, streams[index].tokens.as_slice())?)?;
+    Ok(row)
 }
 
-#[test]
-fn cuts_the_texts_that_another_program_cuts(rt: HostRuntime) -> Result<(), Fail> {
-    agrees(&rt, rt.alloc(), texts_1::texts())?;
-    agrees(&rt, rt.alloc(), texts_2::texts())?;
-    Ok(())
-}
-
-/// MODULE a; PROCEDURE b; PROCEDURE c; END c; END b; PROCEDURE d; END d; END a.
-const NESTED: &str = "H)aM)aM)a=)a=)aM)a=)a=)_(";
-
-/// The number, the text, the scope round it, the level, the kind and the number of tokens of each stream, where there are two
-/// definition modules.
-const HEADS: [(u32, u32, u32, u32, StreamKind, usize); 6] = [
-    (1, 1, 0, 0, StreamKind::Definition, 1),
-    (2, 2, 0, 0, StreamKind::Definition, 1),
-    (3, 0, 0, 0, StreamKind::Main, 15),
-    (4, 0, 3, 1, StreamKind::Procedure, 11),
-    (5, 0, 4, 2, StreamKind::Procedure, 7),
-    (6, 0, 3, 1, StreamKind::Procedure, 7),
+/// Texts with their streams: the chain and the level of its block, and its tokens.
+const UNITS: [(&str, &[&str]); 11] = [
+    (
+        "MODULE A ; PROCEDURE P ; BEGIN v := 1 END P ; VAR v : INTEGER ; BEGIN P END A .",
+        &[
+            "1 level 0: MODULE A ; PROCEDURE P ; [cut 2] VAR v : INTEGER ; BEGIN P END A . [end of text]",
+            "2 1 level 1: PROCEDURE P ; BEGIN v := 1 END P ; [end of stream]",
+        ],
+    ),
+    (
+        "MODULE A ; PROCEDURE P ; CONST c = k ; END P ; CONST k = 1 ; END A .",
+        &[
+            "1 level 0: MODULE A ; PROCEDURE P ; [cut 2] CONST k = 1 ; END A . [end of text]",
+            "2 1 level 1: PROCEDURE P ; CONST c = k ; END P ; [end of stream]",
+        ],
+    ),
+    (
+        "MODULE A ; CONST x = 1 ; PROCEDURE P ; CONST a = x ; x = 2 ; END P ; END A .",
+        &[
+            "1 level 0: MODULE A ; CONST x = 1 ; PROCEDURE P ; [cut 2] END A . [end of text]",
+            "2 1 level 1: PROCEDURE P ; CONST a = x ; x = 2 ; END P ; [end of stream]",
+        ],
+    ),
+    (
+        "MODULE A ; TYPE F = PROCEDURE ( INTEGER ) : BOOLEAN ; PROCEDURE G ( x : INTEGER ) : BOOLEAN ; BEGIN RETURN x > 0 END G ; VAR f : F ; BEGIN f := G END A .",
+        &[
+            "1 level 0: MODULE A ; TYPE F = PROCEDURE ( INTEGER ) : BOOLEAN ; PROCEDURE G ( x : INTEGER ) : BOOLEAN ; [cut 2] VAR f : F ; BEGIN f := G END A . [end of text]",
+            "2 1 level 1: PROCEDURE G ( x : INTEGER ) : BOOLEAN ; BEGIN RETURN x > 0 END G ; [end of stream]",
+        ],
+    ),
+    // One END too few: the module's END closes P.
+    (
+        "MODULE A ; PROCEDURE P ; BEGIN IF TRUE THEN P END ; PROCEDURE Q ; END Q ; END A .",
+        &[
+            "1 level 0: MODULE A ; PROCEDURE P ; [cut 2] [end of text]",
+            "2 1 level 1: PROCEDURE P ; BEGIN IF TRUE THEN P END ; PROCEDURE Q ; [cut 3] END A . [end of stream]",
+            "3 2 1 level 2: PROCEDURE Q ; END Q ; [end of stream]",
+        ],
+    ),
+    (
+        "MODULE A ; PROCEDURE P ; BEGIN a := 1 END P ; PROCEDURE Q ; BEGIN b := 1 END Q ; BEGIN c := 1 END A .",
+        &[
+            "1 level 0: MODULE A ; PROCEDURE P ; [cut 2] PROCEDURE Q ; [cut 3] BEGIN c := 1 END A . [end of text]",
+            "2 1 level 1: PROCEDURE P ; BEGIN a := 1 END P ; [end of stream]",
+            "3 1 level 1: PROCEDURE Q ; BEGIN b := 1 END Q ; [end of stream]",
+        ],
+    ),
+    // Texts that end within a heading, within the two tokens behind an END, and within a comment.
+    (
+        "MODULE A ; PROCEDURE P ( x : INTEGER ;",
+        &[
+            "1 level 0: MODULE A ; PROCEDURE P ( x : INTEGER ; [end of text]",
+            "2 1 level 1: PROCEDURE P ( x : INTEGER ; [end of text]",
+        ],
+    ),
+    (
+        "MODULE A ; PROCEDURE P ; PROCEDURE Q ; END Q",
+        &[
+            "1 level 0: MODULE A ; PROCEDURE P ; [cut 2] [end of text]",
+            "2 1 level 1: PROCEDURE P ; PROCEDURE Q ; [cut 3] [end of text]",
+            "3 2 1 level 2: PROCEDURE Q ; END Q [end of text]",
+        ],
+    ),
+    (
+        "MODULE A ; PROCEDURE P ; END",
+        &[
+            "1 level 0: MODULE A ; PROCEDURE P ; [cut 2] [end of text]",
+            "2 1 level 1: PROCEDURE P ; END [end of text]",
+        ],
+    ),
+    (
+        "MODULE A ; PROCEDURE P ; BEGIN (*",
+        &[
+            "1 level 0: MODULE A ; PROCEDURE P ; [cut 2] [end of text]",
+            "2 1 level 1: PROCEDURE P ; BEGIN (* [end of text]",
+        ],
+    ),
+    (
+        "MODULE A ; PROCEDURE P (*",
+        &[
+            "1 level 0: MODULE A ; PROCEDURE P (* [end of text]",
+            "2 1 level 1: PROCEDURE P (* [end of text]",
+        ],
+    ),
 ];
 
-#[test]
-fn streams_know_their_places(rt: HostRuntime) -> Result<(), Fail> {
-    let kinds = kinds_of(rt.alloc(), NESTED)?;
-    let texts = unit_with_definitions(rt.alloc(), kinds.as_slice())?;
-    let Ok(found) = cut(rt.alloc(), &texts) else {
-        return Err("no streams".into());
-    };
-    assert_eq!(rt; found.len(), HEADS.len());
-    for (stream, head) in found.as_slice().iter().zip(HEADS) {
-        let StreamTokens {
-            stream: number,
-            text,
-            outer,
-            level,
-            kind,
-            ..
-        } = *stream;
-        assert!(rt; (number, text, outer, level, kind, stream.tokens.len()) == head);
+/// These texts.
+fn units() -> &'static [(&'static str, &'static [&'static str])] {
+    &UNITS
+}
+
+/// Whether the streams of the text are these, and `sizes` has room for each.
+fn agrees(rt: &impl Abort, alloc: Global, text: &str, rows: &[&str]) -> Result<(), Fail> {
+    let mut words = Vec::new(alloc);
+    for word in text.split_whitespace() {
+        words.push(word)?;
     }
-    let most = sizes(rt.alloc(), &[])?;
-    assert!(rt; most.as_slice() == [37].as_slice());
+    let texts = unit_of(rt, alloc, text)?;
+    let Ok(streams) = cut(alloc, &texts) else {
+        return Err(Fail::from(AllocError));
+    };
+    let most = sizes(alloc, streams.as_slice())?;
+    assert_eq!(rt; streams.len(), rows.len(), "in {text}");
+    assert!(rt; most.len() > rows.len(), "in {text}");
+    for (index, row) in rows.iter().enumerate() {
+        if index >= streams.len() {
+            return Err(Fail::from(AllocError));
+        }
+        let found = row_of(alloc, &texts, streams.as_slice(), words.as_slice(), index)?;
+        assert_eq!(rt; found.as_str(), *row, "in {text}");
+    }
+    Ok(())
+}
+
+#[test]
+fn blocks_are_cut_and_surrounded(rt: HostRuntime) -> Result<(), Fail> {
+    for (text, rows) in units() {
+        agrees(&rt, rt.alloc(), text, rows)?;
+    }
+    Ok(())
+}
+
+/// A module with this text so many times, and then that one as often.
+fn repeated(alloc: Global, count: usize, first: &str, then: &str) -> Result<String, Fail> {
+    let mut text = String::new(alloc);
+    text.push_str("MODULE A ; ")?;
+    for part in [first, then] {
+        for _ in 0..count {
+            text.push_str(part)?;
+        }
+    }
+    text.push_str("END A .")?;
+    Ok(text)
+}
+
+/// How many streams the module has, or why it has none.
+fn count_of(
+    rt: &impl Abort,
+    alloc: Global,
+    count: usize,
+    first: &str,
+    then: &str,
+) -> Result<Result<usize, SplitFault>, Fail> {
+    let text = repeated(alloc, count, first, then)?;
+    let texts = unit_of(rt, alloc, &text)?;
+    match cut(alloc, &texts) {
+        Ok(streams) => Ok(Ok(streams.len())),
+        Err(fault) => Ok(Err(fault)),
+    }
+}
+
+#[test]
+fn procedures_have_limits(rt: HostRuntime) -> Result<(), Fail> {
+    let deep = count_of(&rt, rt.alloc(), 16, "PROCEDURE P ; ", "END P ; ")?;
+    assert!(rt; matches!(deep, Ok(17)));
+    let too_deep = count_of(&rt, rt.alloc(), 17, "PROCEDURE P ; ", "END P ; ")?;
+    assert!(rt; matches!(too_deep, Err(SplitFault::TooNested)));
+    let many = count_of(&rt, rt.alloc(), 16_384, "PROCEDURE p ; END p ; ", "")?;
+    assert!(rt; matches!(many, Ok(16_385)));
+    let too_many = count_of(&rt, rt.alloc(), 16_385, "PROCEDURE p ; END p ; ", "")?;
+    assert!(rt; matches!(too_many, Err(SplitFault::TooManyStreams)));
+    Ok(())
+}
+
+#[test]
+fn chain_has_each_level(rt: HostRuntime) -> Result<(), Fail> {
+    let text = repeated(rt.alloc(), 16, "PROCEDURE P ; ", "END P ; ")?;
+    let texts = unit_of(&rt, rt.alloc(), &text)?;
+    let Ok(streams) = cut(rt.alloc(), &texts) else {
+        return Err(Fail::from(AllocError));
+    };
+    assert!(rt; streams.len() == 17);
+    let innermost = around(rt.alloc(), &texts, streams.as_slice(), 17)?;
+    assert!(rt; innermost.level == 16);
+    assert!(rt; innermost.chain.scopes.len() == 17);
     Ok(())
 }

@@ -17,7 +17,7 @@ use crate::operands::{CHARACTER, is_integer_or_cardinal, operand_type};
 use crate::ordinals::{base_of, range_of};
 use crate::sameness::same;
 use crate::standing::stand;
-use m2_base::{Around, Ask, Operand, Place, RowMeaning, Scopes, known};
+use m2_base::{Around, Ask, Operand, Place, RowMeaning, Scopes};
 
 /// Whether a type is an open array.
 #[tactic(auto, using(crate::proofs::Reading::reading))]

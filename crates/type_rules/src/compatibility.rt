@@ -14,7 +14,7 @@ use crate::operands::{
 };
 use crate::ordinals::base_of;
 use crate::standing::stand;
-use m2_base::{Around, Ask, Operand, Place, RowMeaning, Scopes, known};
+use m2_base::{Around, Ask, Operand, Place, RowMeaning, Scopes};
 
 /// Whether a type is a pointer or opaque.
 #[tactic(auto, using(crate::proofs::Reading::reading))]

@@ -14,7 +14,7 @@ ghost use Rattle.type_rules.specs.Scenes.{Suits, IsThere, IsStood, IsStoodHere, 
 use crate::operands::BROKEN;
 use crate::rows::row_at;
 use crate::standing::{stand, stands_for};
-use m2_base::{Around, Ask, Place, Row, RowMeaning, Scopes, known, read_row};
+use m2_base::{Around, Ask, Place, Row, RowMeaning, Scopes, read_row};
 
 /// A procedure type: the place of its row, the ordinal of its first row, and its result.
 #[derive(Clone, Copy)]

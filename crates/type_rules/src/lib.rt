@@ -7,6 +7,16 @@
 //! another kind counts as that of a part in error, in every unit.
 #![tactic(auto)]
 
+/// The value of a question, or the end of the function where it isn't known yet.
+macro_rules! known {
+    ($asked:expr) => {
+        match $asked {
+            Ask::Known(value) => value,
+            Ask::DontKnowYet(head) => return Ask::DontKnowYet(head),
+        }
+    };
+}
+
 mod assigning;
 mod compatibility;
 mod finding;

@@ -10,7 +10,7 @@ ghost use Rattle.type_rules.specs.Scenes.{Suits, IsThere, IsHere, scene_of, Wher
 
 use crate::rows::row_at;
 use crate::standing::{stand, stands_for};
-use m2_base::{Around, Ask, Place, Row, RowMeaning, Scopes, known, read_row};
+use m2_base::{Around, Ask, Place, Row, RowMeaning, Scopes, read_row};
 
 /// The row of an array; none where a type is no array.
 #[tactic(auto, using(crate::proofs::Reading::reading))]

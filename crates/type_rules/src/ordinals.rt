@@ -12,7 +12,7 @@ ghost use Rattle.type_rules.specs.Scenes.{Suits, IsThere, scene_of, WhereTold};
 use crate::standing::stand;
 use m2_base::{
     Around, Ask, GREATEST_CARDINAL, GREATEST_CHARACTER, GREATEST_INTEGER, LEAST_INTEGER, Place,
-    RowMeaning, Scopes, known,
+    RowMeaning, Scopes,
 };
 
 /// The base of a subrange; any other type is its own base.

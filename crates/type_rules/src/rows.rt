@@ -6,7 +6,7 @@ ghost use Rattle.m2_base.specs.Statics.Contexts.{row_at as spec_row};
 ghost use Rattle.type_rules.specs.Asks.{Reads, WhereKnown, WhereWaiting};
 ghost use Rattle.type_rules.specs.Scenes.{Suits, IsThere, IsSaid, IsRowOf, rows_of, WhereTold};
 
-use m2_base::{Around, Ask, Place, Row, RowMeaning, Scopes, known, read_row, write_row};
+use m2_base::{Around, Ask, Place, Row, RowMeaning, Scopes, read_row, write_row};
 
 /// The row at a place; one that is missing is as Broken.
 #[tactic(auto, using(crate::proofs::Reading::reading))]

@@ -6,7 +6,7 @@ ghost use Rattle.type_rules.specs.Asks.{Reads, WhereKnown, WhereWaiting};
 ghost use Rattle.type_rules.specs.Scenes.{Suits, IsThere, scene_of, WhereTold};
 
 use crate::standing::stands_for;
-use m2_base::{Around, Ask, Place, Scopes, known};
+use m2_base::{Around, Ask, Place, Scopes};
 
 /// Whether two types are the same: they are one row.
 #[tactic(auto, using(crate::proofs::Reading::reading))]

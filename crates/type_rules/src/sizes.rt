@@ -6,7 +6,7 @@ ghost use Rattle.type_rules.specs.Asks.{Reads, WhereKnown, WhereWaiting};
 ghost use Rattle.type_rules.specs.Scenes.{Suits, IsThere, scene_of, WhereTold};
 
 use crate::standing::stand;
-use m2_base::{Around, Ask, Place, RowMeaning, Scopes, known};
+use m2_base::{Around, Ask, Place, RowMeaning, Scopes};
 
 /// How many cells a variable of a type takes.
 #[tactic(auto, using(crate::proofs::Reading::reading))]

@@ -9,7 +9,7 @@ ghost use Rattle.type_rules.specs.Scenes.{Suits, IsThere, IsRowOf, IsSaid, scene
 
 use crate::finding::declared;
 use crate::rows::{meaning_at, row_at};
-use m2_base::{Around, Ask, Place, Row, RowMeaning, Scopes, known, read_row};
+use m2_base::{Around, Ask, Place, Row, RowMeaning, Scopes, read_row};
 
 /// The type of a type name's row, unless that is opaque; of any other row the type given.
 #[tactic(auto, using(crate::proofs::Reading::reading))]

@@ -22,7 +22,7 @@ use crate::looking::look_up;
 use crate::rows::row_at;
 use m2_base::{
     Answer, Around, Ask, Diagnostic, Memory, Notes, Place, Row, RowMeaning, Scopes, Site, Texts,
-    known, read_row, standard_rows,
+    read_row, standard_rows,
 };
 
 /// A row with its place.

@@ -1,7 +1,7 @@
 -- What holds of every tree that a stream of the unit spells holds of its blocks.
 use Rattle.std.proofs.Common.{List, [], ◌∷◌, ◌++◌, map, sym, subst}
-use Rattle.block_laws.specs.ReadStatements.{AreReadStatements}
-use Rattle.block_laws.proofs.StatementsRead.{body-is-read}
+use Rattle.m2_base.specs.Statics.ReadStatements.{AreReadStatements}
+use Rattle.m2_base.proofs.ReadStatements.{statements_are_read}
 use Rattle.m2_base.proofs.ReadStreams.{items_are_read}
 use Rattle.m2_base.specs.Finished.{AreRead}
 use Rattle.m2_base.specs.Lists.{Each}
@@ -47,4 +47,4 @@ items_read texts u unit read =
 pub statements_read : (texts : UnitTexts) (u : UnitTrees) → IsUnit texts → AreRead texts u → Each (λ b. AreReadStatements texts.names b.tree.body) (blocks_of u)
 statements_read texts u unit read =
     blocks_spelled (λ tree. AreReadStatements texts.names tree.body) (IsReadStream texts.names) texts u
-    (λ tree s spelled h. body-is-read texts.names s.kind tree s.tokens spelled h) read (streams_read texts unit)
+    (λ tree s spelled h. statements_are_read texts.names s.kind tree s.tokens spelled h) read (streams_read texts unit)

@@ -1,7 +1,7 @@
 //! Laws on the trees of a unit's texts, each the contract of a function that does nothing.
 ghost use Rattle.std.specs.Prelude.{◌≡◌, ◌-◌, ◌≤◌, ℕ, Some, [], ◌∷◌, slice_get};
 ghost use Rattle.block_laws.specs.Named.{procedure_of};
-ghost use Rattle.block_laws.specs.ReadStatements.{AreReadStatements};
+ghost use Rattle.m2_base.specs.Statics.ReadStatements.{AreReadStatements};
 ghost use Rattle.block_laws.specs.Worlds.{unit_world};
 ghost use Rattle.code_form.specs.Valid.{IsValidCode};
 ghost use Rattle.m2_base.specs.Finished.{AreRead};
@@ -17,7 +17,6 @@ ghost use Rattle.m2_base.specs.Units.{Front, IsUnit, IsWholeBy, TextOf, UnitText
 ghost use Rattle.row_laws.specs.RowRanges.{EachBlock, IsSoundUnit};
 ghost use Rattle.stmt_sem.specs.BlockCode.{block_code, block_diags};
 ghost use Rattle.stmt_sem.specs.Lengths.{most_tokens};
-ghost use Rattle.stmt_sem.specs.ReadStatements.{AreReadStatements as AreReadBodies};
 ghost use Rattle.stream_split.specs.Agreement.{SpellsStream};
 ghost use Rattle.stream_split.specs.Fronts.{AreFronts};
 ghost use Rattle.stream_split.specs.Streams.{StreamOf, streams_of};
@@ -29,11 +28,9 @@ pub fn imports_come_before()
     ensures { (texts : UnitTexts) (u : UnitTrees) (front : TextOf → Front) → IsUnit texts → AreRead texts u → AreFronts front texts → IsWholeBy front texts → Each (λ b. Each (IsImportedBefore u.source b.block.scope) (items_of b.tree)) (blocks_of u) }
 {}
 
-/// The statements of every tree that a stream of a unit spells are as read, whatever the other texts and streams are: as
-/// stmt_sem's functions ask, and as the laws on blocks do.
+/// The statements of every tree that a stream of a unit spells are as read, whatever the other texts and streams are.
 pub fn statements_of_streams_are_read()
-    ensures asked { (texts : UnitTexts) (k : ℕ) (s : StreamOf) (tree : Stream) → IsUnit texts → slice_get (streams_of texts) k ≡ Some s → SpellsStream tree s → AreReadBodies texts.names tree.body }
-    ensures told { (texts : UnitTexts) (k : ℕ) (s : StreamOf) (tree : Stream) → IsUnit texts → slice_get (streams_of texts) k ≡ Some s → SpellsStream tree s → AreReadStatements texts.names tree.body }
+    ensures { (texts : UnitTexts) (k : ℕ) (s : StreamOf) (tree : Stream) → IsUnit texts → slice_get (streams_of texts) k ≡ Some s → SpellsStream tree s → AreReadStatements texts.names tree.body }
 {}
 
 /// The trees of a unit's texts are sound, where each module that is imported has a scope before the block's.

@@ -1,5 +1,5 @@
-use Rattle.block_laws.proofs.StatementsRead.{body-is-read}
+use Rattle.m2_base.proofs.ReadStatements.{statements_are_read}
 use Rattle.block_laws.proofs.laws.statements_are_read.Goals as goal
 
 pub returns : goal.returns
-returns c = body-is-read
+returns c = statements_are_read

@@ -1,5 +1,6 @@
 use Rattle.std.proofs.Common.{◌∙◌}
-use Rattle.code_tests.proofs.Samples.{full_kept, site_full, withs_full}
+use Rattle.m2_samples.proofs.Samples.{full_kept, site_full}
+use Rattle.code_tests.proofs.Withs.{withs_full}
 use Rattle.code_tests.proofs.answering.asked.Goals as goal
 
 pub asked_at-requires-clause-suits : goal.asked_at-requires-clause-suits

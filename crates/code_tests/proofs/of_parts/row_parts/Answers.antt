@@ -1,5 +1,5 @@
 use Rattle.std.proofs.Common.{◌∙◌, refl}
-use Rattle.code_tests.proofs.Samples.{full_kept, site_full, there_full}
+use Rattle.m2_samples.proofs.Samples.{full_kept, site_full, there_full}
 use Rattle.code_tests.proofs.of_parts.row_parts.Goals as goal
 
 pub of_type-requires-clause-suits : goal.of_type-requires-clause-suits

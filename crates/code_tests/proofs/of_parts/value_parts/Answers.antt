@@ -1,5 +1,5 @@
 use Rattle.std.proofs.Common.{◌∙◌, refl}
-use Rattle.code_tests.proofs.Samples.{full_kept, site_full, there_standard}
+use Rattle.m2_samples.proofs.Samples.{full_kept, site_full, there_standard}
 use Rattle.code_tests.proofs.of_parts.value_parts.Goals as goal
 
 pub value_size-requires-clause-suits : goal.value_size-requires-clause-suits

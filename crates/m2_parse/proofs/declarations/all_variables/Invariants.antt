@@ -9,4 +9,4 @@ use Rattle.m2_parse.proofs.declarations.all_variables.Given as goal
 
 abbrev pub invariant-loop : goal.invariant-loop
 invariant-loop l =
-    RepeatSoFar (next_is Identifier) (variables_at l.depth) itself (map decl_view l.items.items) l.count l.counter l.rest.list.now (all_variables_at l.depth l.tokens.list.now)
+    RepeatSoFar (next_is Identifier) (variables_at l.depth) itself (map decl_view l.items.items) l.end l.counter l.tokens.list.now (all_variables_at l.depth l.fn.tokens.list.now)

@@ -9,8 +9,8 @@ returns-then-not-begins_declaration c = repeat_stops c.loop.invariant c.loop-tes
 
 pub loop-preserved : goal.loop-preserved
 loop-preserved c =
-    repeat_goes_on c.loop.invariant c.loop-test.true c.if-not-begins_declaration.false c.begins_declaration.ensures c.in_ok-item.ensures
-    (ap (map decl_view) c.in_ok-append.ensures.items ∙ map-append decl_view c.loop.items.items c.in_ok-item.item.items)
+    repeat_goes_on c.loop.invariant c.loop-test.true c.if-not-begins_declaration.false c.begins_declaration.ensures c.in_ok-more.ensures
+    (ap (map decl_view) c.in_ok-append.ensures.items ∙ map-append decl_view c.loop.items.items c.in_ok-more.more.items)
 
 pub returns : goal.returns
 returns c = repeat_is_done c.loop.invariant c.loop-test.false

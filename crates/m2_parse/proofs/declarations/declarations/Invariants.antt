@@ -7,4 +7,4 @@ use Rattle.m2_parse.proofs.declarations.declarations.Given as goal
 
 abbrev pub invariant-loop : goal.invariant-loop
 invariant-loop l =
-    RepeatSoFar begins_declaration (declaration_at l.depth) all (map decl_view l.items.items) l.count l.counter l.rest.list.now (declarations_at l.depth l.tokens.list.now)
+    RepeatSoFar begins_declaration (declaration_at l.depth) all (map decl_view l.items.items) l.end l.counter l.tokens.list.now (declarations_at l.depth l.fn.tokens.list.now)

@@ -7,4 +7,4 @@ use Rattle.m2_parse.specs.ReadStreams.{section_at, some_sections_at}
 use Rattle.m2_parse.proofs.declarations.some_sections.Given as goal
 
 abbrev pub invariant-loop : goal.invariant-loop
-invariant-loop l = SeparatedSoFar number_of_token 57 section_at itself (map section_view l.items.items) l.count l.counter l.rest.list.now (some_sections_at l.tokens.list.now)
+invariant-loop l = SeparatedSoFar number_of_token 57 section_at itself (map section_view l.items.items) l.end l.counter l.tokens.list.now (some_sections_at l.fn.tokens.list.now)

@@ -75,20 +75,20 @@ decreases-inner_factor l = 14 * l.depth + 13
 
 abbrev pub invariant-exprs-loop : goal.invariant-exprs-loop
 invariant-exprs-loop l =
-    SeparatedSoFar number_of_token 56 (expr_with (factor_at l.depth)) itself (map expr_view l.items.items) l.count l.counter l.rest.list.now (exprs_with (factor_at l.depth) l.tokens.list.now)
+    SeparatedSoFar number_of_token 56 (expr_with (factor_at l.depth)) itself (map expr_view l.items.items) l.end l.counter l.tokens.list.now (exprs_with (factor_at l.depth) l.fn.tokens.list.now)
 
 abbrev pub invariant-labels-loop : goal.invariant-labels-loop
 invariant-labels-loop l =
-    SeparatedSoFar number_of_token 56 (label_with_upper (factor_at l.depth)) itself (map label_view l.items.items) l.count l.counter l.rest.list.now (labels_with (factor_at l.depth) l.tokens.list.now)
+    SeparatedSoFar number_of_token 56 (label_with_upper (factor_at l.depth)) itself (map label_view l.items.items) l.end l.counter l.tokens.list.now (labels_with (factor_at l.depth) l.fn.tokens.list.now)
 
 abbrev pub invariant-selectors-loop : goal.invariant-selectors-loop
 invariant-selectors-loop l =
-    RepeatSoFar begins_selector (selector_with (factor_at l.depth)) itself (map selector_view l.items.items) l.count l.counter l.rest.list.now (selectors_with (factor_at l.depth) l.tokens.list.now)
+    RepeatSoFar begins_selector (selector_with (factor_at l.depth)) itself (map selector_view l.items.items) l.end l.counter l.tokens.list.now (selectors_with (factor_at l.depth) l.fn.tokens.list.now)
 
 abbrev pub invariant-factors-loop : goal.invariant-factors-loop
 invariant-factors-loop l =
-    RepeatSoFar (next_in multiplying) (next_factor_with (factor_at l.depth)) itself (map next_view l.items.items) l.count l.counter l.rest.list.now (factors_with (factor_at l.depth) l.tokens.list.now)
+    RepeatSoFar (next_in multiplying) (next_factor_with (factor_at l.depth)) itself (map next_view l.items.items) l.end l.counter l.tokens.list.now (factors_with (factor_at l.depth) l.fn.tokens.list.now)
 
 abbrev pub invariant-terms-loop : goal.invariant-terms-loop
 invariant-terms-loop l =
-    RepeatSoFar (next_in adding) (next_term_with (factor_at l.depth)) itself (map next_view l.items.items) l.count l.counter l.rest.list.now (terms_with (factor_at l.depth) l.tokens.list.now)
+    RepeatSoFar (next_in adding) (next_term_with (factor_at l.depth)) itself (map next_view l.items.items) l.end l.counter l.tokens.list.now (terms_with (factor_at l.depth) l.fn.tokens.list.now)

@@ -61,12 +61,12 @@ decreases-inner_statement l = 8 * l.depth + 7
 
 abbrev pub invariant-statements-loop : goal.invariant-statements-loop
 invariant-statements-loop l =
-    SeparatedSoFar number_of_token 57 (optional_statement_with l.depth (statement_at l.depth)) itself (map statement_view l.items.items) l.count l.counter l.rest.list.now (statements_with l.depth (statement_at l.depth) l.tokens.list.now)
+    SeparatedSoFar number_of_token 57 (optional_statement_with l.depth (statement_at l.depth)) itself (map statement_view l.items.items) l.end l.counter l.tokens.list.now (statements_with l.depth (statement_at l.depth) l.fn.tokens.list.now)
 
 abbrev pub invariant-arms-loop : goal.invariant-arms-loop
 invariant-arms-loop l =
-    SeparatedSoFar number_of_token 73 (arm_with l.depth (statement_at l.depth)) all (map case_arm_view l.items.items) l.count l.counter l.rest.list.now (arms_with l.depth (statement_at l.depth) l.tokens.list.now)
+    SeparatedSoFar number_of_token 73 (arm_with l.depth (statement_at l.depth)) all (map case_arm_view l.items.items) l.end l.counter l.tokens.list.now (arms_with l.depth (statement_at l.depth) l.fn.tokens.list.now)
 
 abbrev pub invariant-elsifs-loop : goal.invariant-elsifs-loop
 invariant-elsifs-loop l =
-    RepeatSoFar (next_is Elsif) (elsif_with l.depth (statement_at l.depth)) itself (map if_arm_view l.items.items) l.count l.counter l.rest.list.now (elsifs_with l.depth (statement_at l.depth) l.tokens.list.now)
+    RepeatSoFar (next_is Elsif) (elsif_with l.depth (statement_at l.depth)) itself (map if_arm_view l.items.items) l.end l.counter l.tokens.list.now (elsifs_with l.depth (statement_at l.depth) l.fn.tokens.list.now)

@@ -51,8 +51,8 @@ decreases-inner_type l = 7 * l.depth + 6
 
 abbrev pub invariant-fields-loop : goal.invariant-fields-loop
 invariant-fields-loop l =
-    SeparatedSoFar number_of_token 57 (optional_field_with (factor_at l.depth) (type_at l.depth) (field_at l.depth)) all (map field_list_view l.items.items) l.count l.counter l.rest.list.now (fields_with (factor_at l.depth) (type_at l.depth) (field_at l.depth) l.tokens.list.now)
+    SeparatedSoFar number_of_token 57 (optional_field_with (factor_at l.depth) (type_at l.depth) (field_at l.depth)) all (map field_list_view l.items.items) l.end l.counter l.tokens.list.now (fields_with (factor_at l.depth) (type_at l.depth) (field_at l.depth) l.fn.tokens.list.now)
 
 abbrev pub invariant-variants-loop : goal.invariant-variants-loop
 invariant-variants-loop l =
-    SeparatedSoFar number_of_token 73 (variant_with (factor_at l.depth) (type_at l.depth) (field_at l.depth)) all (map variant_arm_view l.items.items) l.count l.counter l.rest.list.now (variants_with (factor_at l.depth) (type_at l.depth) (field_at l.depth) l.tokens.list.now)
+    SeparatedSoFar number_of_token 73 (variant_with (factor_at l.depth) (type_at l.depth) (field_at l.depth)) all (map variant_arm_view l.items.items) l.end l.counter l.tokens.list.now (variants_with (factor_at l.depth) (type_at l.depth) (field_at l.depth) l.fn.tokens.list.now)

@@ -9,4 +9,4 @@ use Rattle.m2_parse.proofs.types.simples.Given as goal
 
 abbrev pub invariant-loop : goal.invariant-loop
 invariant-loop l =
-    SeparatedSoFar number_of_token 56 (simple_with (factor_at l.depth)) itself (map type_view l.items.items) l.count l.counter l.rest.list.now (simples_with (factor_at l.depth) l.tokens.list.now)
+    SeparatedSoFar number_of_token 56 (simple_with (factor_at l.depth)) itself (map type_view l.items.items) l.end l.counter l.tokens.list.now (simples_with (factor_at l.depth) l.fn.tokens.list.now)

@@ -43,7 +43,7 @@ returns-else-stands_later-clause-told g c =
 pub returns-in_ok-refuse-in-Known-None-clause-told : goal.returns-in_ok-refuse-in-Known-None-clause-told
 returns-in_ok-refuse-in-Known-None-clause-told g c =
     let f = (g.S.Scopes.state c.args.scopes.now).frame in
-    outside_none f c.args.site.now c.args.name c.args.at c.args.notes.now c.refuse.new.notes
+    outside_none f c.args.site.now c.args.name c.args.at c.args.notes.now c.refuse.new.self
     (λ made. lookup (rows_of f made) (drop 1 c.args.site.now.around.now.chain) c.args.name)
     (outside_found f c.args.site.now c.scopes.result.now c.args.name None c.scopes.ensures c.requires.suits
     (λ made in_hand told lacks. rw c.in-Known-None.field-0-is at (c.in-Known-None.ensures.told made in_hand told lacks)))

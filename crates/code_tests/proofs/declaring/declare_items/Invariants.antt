@@ -1,9 +1,0 @@
-use Rattle.m2_base.specs.Views.{stream_view}
-use Rattle.scope_core.specs.PlainScopes.{state_of}
-use Rattle.code_tests.specs.Filled.{HasDeclared}
-use Rattle.code_tests.proofs.declaring.declare_items.Given as goal
-
--- so many declarations are analysed
-abbrev pub invariant-loop-index : goal.invariant-loop-index
-invariant-loop-index l =
-    HasDeclared (state_of l.scopes).frame l.block.sample.now.texts (stream_view l.block.sample.now.tree) l.index l.cell

@@ -1,0 +1,48 @@
+//! The code of an object's procedures.
+use crate::case::Case;
+use crate::escapes::{bytes_of, digits_of};
+use anyhow::{Context, Result};
+use code_form::{decode, encode};
+use m2_base::ProcCode;
+use object_file::read_object;
+use std::alloc::Global;
+use std::fmt::Write;
+
+/// Code, once it was decoded and encoded again.
+fn recoded(alloc: Global, code: &[u8]) -> Result<Vec<u8>> {
+    let mut out = Vec::new(alloc);
+    let mut at = 0;
+    for _ in 0..code.len() {
+        if at >= code.len() {
+            break;
+        }
+        let (instr, after) = decode(code, at).context("no instruction")?;
+        encode(&instr, &mut out).ok().context("out of memory")?;
+        at = after;
+    }
+    Ok(out)
+}
+
+/// Writes what an object says of a procedure: its cells, its greatest height, its data or a dash, and its code.
+fn write_procedure(alloc: Global, lines: &mut String, procedure: &ProcCode) -> Result<()> {
+    let (locals, high) = (procedure.locals, procedure.high);
+    let data = match procedure.bytes.is_empty() {
+        true => String::from_str(alloc, "-")?,
+        false => digits_of(alloc, &procedure.bytes)?,
+    };
+    let code = digits_of(alloc, &recoded(alloc, &procedure.code)?)?;
+    writeln!(lines, "{locals} {high} {data} {code}")?;
+    Ok(())
+}
+
+pub fn answer(alloc: Global, case: &Case) -> Result<Option<String>> {
+    let Some(digits) = case.first("object") else {
+        return Ok(None);
+    };
+    let object = read_object(alloc, &bytes_of(alloc, digits)?)?;
+    let mut lines = String::new(alloc);
+    for procedure in object.procedures() {
+        write_procedure(alloc, &mut lines, procedure)?;
+    }
+    Ok(Some(lines))
+}

@@ -1,0 +1,68 @@
+//! The four lists of the grammar, each a loop that reads as long as the next token goes on with it.
+
+/// item {separator item}
+macro_rules! listed {
+    ($alloc:ident, $tokens:ident, $separator:expr, $item:expr) => {{
+        let first = $item?;
+        // Most lists are short, and a first push would make room for four.
+        let mut items = vec![in $alloc; first]?;
+        for _ in 0..$tokens.list.len() {
+            if !$tokens.skip($separator) {
+                return Ok(items);
+            }
+            let item = $item?;
+            items.push(item)?;
+        }
+        Ok(items)
+    }};
+}
+
+/// The same, where an item is a list itself.
+macro_rules! all_listed {
+    ($tokens:ident, $separator:expr, $item:expr) => {{
+        let mut items = $item?;
+        for _ in 0..$tokens.list.len() {
+            if !$tokens.skip($separator) {
+                return Ok(items);
+            }
+            let mut more = $item?;
+            items.append(&mut more)?;
+        }
+        Ok(items)
+    }};
+}
+
+/// {item}, as long as one begins
+macro_rules! repeated {
+    ($alloc:ident, $tokens:ident, $begins:expr, $item:expr) => {{
+        let mut items = Vec::new($alloc);
+        for _ in 0..$tokens.list.len() {
+            if !$begins {
+                return Ok(items);
+            }
+            let item = $item?;
+            items.push(item)?;
+        }
+        Ok(items)
+    }};
+}
+
+/// The same, where an item is a list itself.
+macro_rules! all_repeated {
+    ($alloc:ident, $tokens:ident, $begins:expr, $item:expr) => {{
+        let mut items = Vec::new($alloc);
+        for _ in 0..$tokens.list.len() {
+            if !$begins {
+                return Ok(items);
+            }
+            let mut more = $item?;
+            items.append(&mut more)?;
+        }
+        Ok(items)
+    }};
+}
+
+pub(crate) use all_listed;
+pub(crate) use all_repeated;
+pub(crate) use listed;
+pub(crate) use repeated;

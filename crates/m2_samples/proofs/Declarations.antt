@@ -1,0 +1,330 @@
+-- The declarations of a sample are analysed one after another: where each stands, that its rows may be entered, and what holds then.
+use Rattle.std.specs.Prelude.{◌≡◌, ◌≢◌, ℕ, zero, suc, ◌+◌, ◌-◌, ◌<◌, ◌≤◌, ◌^◌, ◌==◌, Bool, true, false, if◌then◌else◌, List, [], ◌∷◌, ◌++◌, Option, Some, None, Result, Ok, Err, drop, filter, flat_map, length, map, option_map, slice_get, slice_index, slice_index_or, take, unwrap_or, IfOk, OnOk}
+use Rattle.std.proofs.Common.{refl, sym, ap, subst, ◌∙◌, arith}
+use Rattle.std.proofs.lemmas.List.{append-nil, length-append, take-append-drop}
+use Rattle.std.proofs.lemmas.List.Concat.{flat_map-append}
+use Rattle.std.proofs.lemmas.List.Elements.{filter-append}
+use Rattle.std.proofs.lemmas.Option.{slice_get-map}
+use Rattle.m2_base.specs.Finished.{source_of}
+use Rattle.m2_base.specs.Lists.{Each, HasNoRepeats}
+use Rattle.m2_base.specs.Rows.{IsWellFormed, at_place, row_meaning}
+use Rattle.m2_base.specs.Scopes.{CanComplete, CanEnter, Completed, Entered}
+use Rattle.m2_base.specs.Standard.{is_standard}
+use Rattle.m2_base.specs.States.{Frame, State}
+use Rattle.m2_base.specs.Statics.Cells.{most_cells}
+use Rattle.m2_base.specs.Statics.Contexts.{Source}
+use Rattle.m2_base.specs.Statics.Items.{Item, decl_item, items_of}
+use Rattle.m2_base.specs.Statics.Layouts.{Layout, firsts_from, layout_of}
+use Rattle.m2_base.specs.Statics.Lookup.{first_entry}
+use Rattle.m2_base.specs.Statics.ProcedureRows.{is_proc}
+use Rattle.m2_base.specs.Statics.ReadTrees.{IsReadItem}
+use Rattle.m2_base.specs.Statics.Shapes.{Shape, item_shapes}
+use Rattle.m2_base.specs.Trees.{Decl, Stream, const_decl, proc_decl, type_decl, vars_decl}
+use Rattle.m2_base.specs.Units.{UnitTexts}
+use Rattle.m2_base.specs.Views.{decl_view, stream_view}
+use Rattle.m2_base.specs.declared.memory.Memory.{Memory}
+use Rattle.m2_base.specs.declared.rows.Row.{Row}
+use Rattle.m2_base.specs.declared.rows.RowMeaning.{RowMeaning}
+use Rattle.m2_base.specs.declared.rows.RowMeaning.TheVariants as meanings
+use Rattle.m2_base.specs.declared.sites.Named.{Named}
+use Rattle.m2_base.specs.declared.sites.Site.{Site}
+use Rattle.m2_base.specs.declared.trees.declarations.Decl.{Decl as HeldDecl}
+use Rattle.m2_base.specs.declared.trees.declarations.Stream.{Stream as HeldStream}
+use Rattle.m2_base.proofs.Kept.{Each-append, Each-map}
+use Rattle.scope_core.specs.PlainScopes.{Plain, started, state_of}
+use Rattle.decl_sem.specs.ImportedModules.{IsFromBefore}
+use Rattle.decl_sem.specs.Items.{IsAtItem}
+use Rattle.decl_sem.specs.LaidRows.{AreLaid, is_of, kept_name, more_laid, none_laid}
+use Rattle.decl_sem.specs.Pieces.{AreNewRows, IsOwned, end_by, item_end}
+use Rattle.decl_sem.proofs.FirstNames.{AreLaid-append}
+use Rattle.decl_sem.proofs.FirstOrdinals.{end_of}
+use Rattle.decl_sem.proofs.Pieces.{laid-length}
+use Rattle.m2_samples.specs.Filled.{HasDeclared, IsFull, row_count}
+use Rattle.m2_samples.specs.Samples.{IsSample}
+use Rattle.m2_samples.proofs.Samples.{IsSiteAt, none_finished, site_at}
+
+-- ** Lists
+
+-- an item of a list, with those before and behind it
+record Splits {A : Type 0} (xs : List A) (n : ℕ) (x : A) : Type 0 where
+  pub all : xs ≡ take n xs ++ x ∷ drop (suc n) xs
+  pub count : length (take n xs) ≡ n
+  pub next : take (suc n) xs ≡ take n xs ++ x ∷ []
+
+some_is : {A : Type 0} (x y : A) → Some x ≡ Some y → x ≡ y
+some_is x y e = ap (λ o. unwrap_or o x) e
+
+splits : {A : Type 0} (xs : List A) (n : ℕ) (x : A) → slice_get xs n ≡ Some x → Splits xs n x
+splits [] n x e = absurd (cc)
+splits (y ∷ xs) zero x e =
+    let same = some_is y x e in
+    record { all = ap (λ z. z ∷ xs) same; count = refl; next = ap (λ z. z ∷ []) same }
+splits (y ∷ xs) (suc n) x e =
+    let rest = splits xs n x e in
+    record { all = ap (λ z. y ∷ z) rest.all; count = ap suc rest.count; next = ap (λ z. y ∷ z) rest.next }
+
+each_at : {A : Type 0} (P : A → Type 0) (xs : List A) (n : ℕ) (x : A) → Each P xs → slice_get xs n ≡ Some x → P x
+each_at P [] n x h e = absurd (cc)
+each_at P (y ∷ xs) zero x h e = subst P (some_is y x e) h.0
+each_at P (y ∷ xs) (suc n) x h e = each_at P xs n x h.1 e
+
+pub found_at : {A : Type 0} (xs : List A) (n : ℕ) (x : A) → n < length xs → x ≡ slice_index_or xs n x → slice_get xs n ≡ Some x
+found_at [] n x h e = absurd (omega (arith, h))
+found_at (y ∷ xs) zero x h e = ap Some (sym e)
+found_at (y ∷ xs) (suc n) x h e = found_at xs n x (omega (arith, h)) e
+
+-- a declaration was read from tokens
+pub item_read : {u : UnitTexts} (tree : HeldStream) (n : ℕ) (d : HeldDecl) → IsSample u (stream_view tree) → slice_get tree.decls.items n ≡ Some d → IsReadItem u.names (decl_item (decl_view d))
+item_read {u} tree n d sample here =
+    let items = map decl_item (map decl_view tree.decls.items) in
+    each_at (IsReadItem u.names) items n (decl_item (decl_view d)) (subst (λ xs. Each (IsReadItem u.names) xs) sample.items sample.read)
+    (slice_get-map decl_item (map decl_view tree.decls.items) n ∙ ap (λ o. option_map decl_item o) (slice_get-map decl_view tree.decls.items n ∙ ap (λ o. option_map decl_view o) here))
+
+-- ** Rows as the layout gives them have no name twice
+
+same_number : (m n : ℕ) → (m == n) ≡ true → m ≡ n
+same_number m n h = grind arith
+
+of_one : (a b : ℕ) (e : Option Named) → is_of a e ≡ true → is_of b e ≡ true → a ≡ b
+of_one a b None h k = absurd (cc)
+of_one a b (Some e) h k = sym (same_number e.ordinal a h) ∙ same_number e.ordinal b k
+
+named_of : (names : List Named) (o name : ℕ) (standard of : Bool) → is_of o (first_entry names name) ≡ of → (if standard then 0 else if of then name else 0) ≢ 0 → is_of o (first_entry names (if standard then 0 else if of then name else 0)) ≡ true
+named_of names o name true of h some = absurd (some refl)
+named_of names o name false true h some = h
+named_of names o name false false h some = absurd (some refl)
+
+kept_here : (names : List Named) (o name : ℕ) → kept_name names o name ≢ 0 → is_of o (first_entry names (kept_name names o name)) ≡ true
+kept_here names o name some = named_of names o name (is_standard name) (is_of o (first_entry names name)) refl some
+
+row_at_first : {names : List Named} {o : ℕ} {ss : List Shape} {rs : List Row} → AreLaid names o ss rs → (i : ℕ) (r : Row) → slice_get rs i ≡ Some r → r.name ≢ 0 → is_of (o + i) (first_entry names r.name) ≡ true
+row_at_first none_laid i r e some = absurd (cc)
+row_at_first {names} {o} (more_laid {s = s} {r = x} l more) zero r e some =
+    let same : x ≡ r = some_is x r e in
+    let name : r.name ≡ kept_name names o s.name = ap (λ (z : Row). z.name) (sym same) ∙ l.name in
+    let at : o ≡ o + 0 = omega arith in
+    subst (λ (n : ℕ). is_of n (first_entry names r.name) ≡ true) at
+    (subst (λ (n : ℕ). is_of o (first_entry names n) ≡ true) (sym name) (kept_here names o s.name (λ none. some (name ∙ none))))
+row_at_first {names} {o} (more_laid l more) (suc i) r e some =
+    let at : o + 1 + i ≡ o + suc i = omega arith in
+    subst (λ (n : ℕ). is_of n (first_entry names r.name) ≡ true) at (row_at_first more i r e some)
+
+laid_once : {names : List Named} {ss : List Shape} {rs : List Row} → AreLaid names 0 ss rs → HasNoRepeats (λ r. r.name) rs
+laid_once {names} laid i j x y before a b some same =
+    let first : is_of (0 + i) (first_entry names x.name) ≡ true = row_at_first laid i x a some in
+    let second : is_of (0 + j) (first_entry names y.name) ≡ true = row_at_first laid j y b (λ none. some (same ∙ none)) in
+    let both : is_of (0 + j) (first_entry names x.name) ≡ true = subst (λ (n : ℕ). is_of (0 + j) (first_entry names n) ≡ true) (sym same) second in
+    let e = of_one (0 + i) (0 + j) (first_entry names x.name) first both in
+    omega (arith, e, before)
+
+-- ** The number of rows
+
+one_more : (items : List Item) (o : ℕ) → length (firsts_from o items) ≡ suc (length items)
+one_more [] o = refl
+one_more (x ∷ items) o = ap suc (one_more items (o + length (item_shapes x)))
+
+last_from : (items : List Item) (o : ℕ) → slice_get (firsts_from o items) (length items) ≡ Some (o + length (flat_map item_shapes items))
+last_from [] o = ap Some (let e : o ≡ o + 0 = omega arith in e)
+last_from (x ∷ items) o =
+    last_from items (o + length (item_shapes x))
+    ∙ ap Some (let l = length-append (item_shapes x) (flat_map item_shapes items) in let e : o + length (item_shapes x) + length (flat_map item_shapes items) ≡ o + length (flat_map item_shapes (x ∷ items)) = omega (arith, l) in e)
+
+-- the last of a layout's first ordinals is the number of the rows
+pub last_first : (tree : Stream) (firsts : List ℕ) (count : ℕ) → firsts ≡ (layout_of tree).firsts → slice_get firsts (length firsts - 1) ≡ Some count → count ≡ row_count tree
+last_first tree firsts count is at =
+    let items = items_of tree in
+    let last : length firsts - 1 ≡ length items = (let a = ap length is in let b = one_more items 0 in omega (arith, a, b)) in
+    let found : slice_get firsts (length firsts - 1) ≡ Some (0 + length (flat_map item_shapes items)) = (λ k. slice_get (is k) (last k)) ∙ last_from items 0 in
+    let same : count ≡ 0 + length (flat_map item_shapes items) = ap (λ o. unwrap_or o count) (sym at ∙ found) in
+    omega (arith, same)
+
+no_imports : (source : Source) (scope : ℕ) (d : Decl) → IsFromBefore source scope (decl_item d)
+no_imports source scope (const_decl name value) = tt
+no_imports source scope (type_decl name typ) = tt
+no_imports source scope (vars_decl names typ) = tt
+no_imports source scope (proc_decl heading stream) = tt
+
+-- ** Rows that are made
+
+owned_more : (a b : ℕ) → a ≤ b → (r : RowMeaning) → IsOwned a r → IsOwned b r
+owned_more a b h (meanings.Field t o own n) k = omega (arith, h, k)
+owned_more a b h _ k = tt
+
+owned_rows : (f : Frame) (limit o : ℕ) (rows : List Row) → AreNewRows f limit o rows → Each (λ r. IsOwned limit (row_meaning r)) rows
+owned_rows f limit o [] h = tt
+owned_rows f limit o (r ∷ rows) h = (h.0.owned, owned_rows f limit (o + 1) rows h.1)
+
+formed_at : (f : Frame) (limit o : ℕ) (rows : List Row) → AreNewRows f limit o rows → (k : ℕ) (r : Row) → slice_get rows k ≡ Some r
+    → IsWellFormed (length f.setting.texts.names) (at_place f.setting.fills (o + k)) r
+formed_at f limit o [] h k r e = absurd (cc)
+formed_at f limit o (x ∷ rows) h zero r e =
+    let at : o ≡ o + 0 = omega arith in
+    subst (λ (n : ℕ). IsWellFormed (length f.setting.texts.names) (at_place f.setting.fills n) r) at
+    (subst (λ (y : Row). IsWellFormed (length f.setting.texts.names) (at_place f.setting.fills o) y) (some_is x r e) h.0.right.formed)
+formed_at f limit o (x ∷ rows) h (suc k) r e =
+    let at : o + 1 + k ≡ o + suc k = omega arith in
+    subst (λ (n : ℕ). IsWellFormed (length f.setting.texts.names) (at_place f.setting.fills n) r) at (formed_at f limit (o + 1) rows h.1 k r e)
+
+-- with these rows entered
+abbrev frame_with : Frame → List Row → Frame
+frame_with f rows = record { setting = f.setting; entered = f.entered ++ rows; closed = f.closed }
+
+-- the state with this frame
+abbrev framed : State → Frame → State
+framed st f = record { frame = f; seen = st.seen; looks = st.looks }
+
+-- ** A declaration
+
+-- the site of a declaration with this number
+pub record IsSiteOf (s : Site) (u : UnitTexts) (tree : Stream) (n : ℕ) : Type 0 where
+  pub at : IsSiteAt s u 0
+  pub layout : s.layout.now ≡ layout_of tree
+  pub item : s.item ≡ Some n
+
+module _ (f : Frame) (s : Site) (u : UnitTexts) (tree : HeldStream) (n : ℕ) (d : HeldDecl) (cell : ℕ) (sample : IsSample u (stream_view tree)) (few : row_count (stream_view tree) ≤ 2 ^ 31)
+    (is : IsSiteOf s u (stream_view tree) n) (here : slice_get tree.decls.items n ≡ Some d) (so_far : HasDeclared f u (stream_view tree) n cell) where
+  abbrev item : Item
+  item = decl_item (decl_view d)
+
+  abbrev items : List Item
+  items = map decl_item (stream_view tree).decls
+
+  found : slice_get (map decl_item (stream_view tree).decls) n ≡ Some (decl_item (decl_view d))
+  found = slice_get-map decl_item (map decl_view tree.decls.items) n ∙ ap (λ o. option_map decl_item o) (slice_get-map decl_view tree.decls.items n ∙ ap (λ o. option_map decl_view o) here)
+
+  parts : Splits (map decl_item (stream_view tree).decls) n (decl_item (decl_view d))
+  parts = splits items n item found
+
+  areas_two : 1 < length f.setting.areas
+  areas_two = let e = ap length so_far.areas in omega (arith, e)
+
+  -- it stands after the declarations before
+  pub at_declaration : IsAtItem f s (stream_view tree) (decl_item (decl_view d)) cell 0
+  at_declaration =
+      let names = ap (λ (l : Layout). l.names) is.layout in
+      record {
+        suits = site_at f s 0 sample is.at so_far.texts so_far.fills areas_two (λ none. absurd (let bad : Some n ≡ None = sym is.item ∙ none in cc));
+        small = let e = so_far.fills in omega (arith, e);
+        begun = so_far.open_yet;
+        before = take n items;
+        rest = drop (suc n) items;
+        items = sample.items ∙ parts.all;
+        item = is.item ∙ ap Some (sym parts.count);
+        layout = is.layout;
+        entered = subst (λ (ns : List Named). AreLaid ns 0 (flat_map item_shapes (take n items)) f.entered) (sym names) so_far.laid;
+        owned = so_far.owned;
+        few = few;
+        read = subst (λ (v : UnitTexts). IsReadItem v.names item) (sym is.at.texts)
+            (each_at (IsReadItem u.names) items n item (subst (λ xs. Each (IsReadItem u.names) xs) sample.items sample.read) found);
+        imports = no_imports (source_of s.texts.now) f.setting.fills (decl_view d);
+        cells = so_far.cells;
+        headings = so_far.procedures;
+      }
+
+  module _ (rows : List Row) (laid : AreLaid s.layout.now.names (length f.entered) (item_shapes (decl_item (decl_view d))) rows) (new : AreNewRows f (item_end s) (length f.entered) rows) where
+    shapes : flat_map item_shapes (take n items) ++ item_shapes (decl_item (decl_view d)) ≡ flat_map item_shapes (take (n + 1) items)
+    shapes =
+        let number : suc n ≡ n + 1 = omega arith in
+        ap (λ ss. flat_map item_shapes (take n items) ++ ss) (sym (append-nil (item_shapes (decl_item (decl_view d)))))
+        ∙ sym (flat_map-append item_shapes (take n items) (decl_item (decl_view d) ∷ []))
+        ∙ ap (flat_map item_shapes) (sym parts.next ∙ ap (λ m. take m items) number)
+
+    laid_on : AreLaid (layout_of (stream_view tree)).names 0 (flat_map item_shapes (take (n + 1) items)) (f.entered ++ rows)
+    laid_on =
+        let layout : s.layout.now.names ≡ (layout_of (stream_view tree)).names = ap (λ (l : Layout). l.names) is.layout in
+        subst (λ ss. AreLaid (layout_of (stream_view tree)).names 0 ss (f.entered ++ rows)) shapes
+        (AreLaid-append so_far.laid (subst (λ o. AreLaid (layout_of (stream_view tree)).names o (item_shapes (decl_item (decl_view d))) rows) (let e : length f.entered ≡ 0 + length f.entered = omega arith in e)
+        (subst (λ ns. AreLaid ns (length f.entered) (item_shapes (decl_item (decl_view d))) rows) layout laid)))
+
+    fit : length (f.entered ++ rows) ≤ row_count (stream_view tree)
+    fit =
+        let a = laid-length laid_on in
+        let all : items_of (stream_view tree) ≡ take (n + 1) items ++ drop (n + 1) items = sample.items ∙ sym (take-append-drop (n + 1) items) in
+        let e = ap (λ xs. length (flat_map item_shapes xs)) all in
+        let g = ap length (flat_map-append item_shapes (take (n + 1) items) (drop (n + 1) items)) in
+        let l = length-append (flat_map item_shapes (take (n + 1) items)) (flat_map item_shapes (drop (n + 1) items)) in
+        omega (arith, a, e, g, l)
+
+    enter_framed : (b : State) → CanEnter (framed b f) rows
+    enter_framed b =
+        record {
+          open_yet = so_far.open_yet;
+          room =
+              (let size : slice_index f.setting.areas f.setting.fills ≡ row_count (stream_view tree) = λ k. slice_index (so_far.areas k) (so_far.fills k) in
+              let l = length-append f.entered rows in
+              let e = fit in
+              omega (arith, size, l, e));
+          formed = formed_at f (item_end s) (length f.entered) rows new;
+          once = laid_once laid_on;
+          next = λ tables finished. absurd (none_finished sample so_far.texts finished);
+        }
+
+    -- the rows may be entered
+    pub may_enter : (b : State) → b.frame ≡ f → CanEnter b rows
+    may_enter b same = subst (λ g. CanEnter (framed b g) rows) (sym same) (enter_framed b)
+
+    end_is : item_end s ≡ length (f.entered ++ rows)
+    end_is =
+        let all : items_of (stream_view tree) ≡ take n items ++ decl_item (decl_view d) ∷ drop (suc n) items = sample.items ∙ parts.all in
+        let number : s.item ≡ Some (length (take n items)) = is.item ∙ ap Some (sym parts.count) in
+        let at : item_end s ≡ end_by (firsts_from 0 (take n items ++ decl_item (decl_view d) ∷ drop (suc n) items)) (Some (length (take n items))) =
+        (λ k. end_by (is.layout k).firsts (number k)) ∙ ap (λ xs. end_by (firsts_from 0 xs) (Some (length (take n items)))) all in
+        let e = at ∙ end_of (take n items) (drop (suc n) items) (decl_item (decl_view d)) 0 in
+        let a = laid-length so_far.laid in
+        let b = laid-length laid in
+        let l = length-append f.entered rows in
+        omega (arith, e, a, b, l)
+
+    one_declared : (next : ℕ) → next ≤ most_cells + 1 → length (filter is_proc rows) ≡ 0 → HasDeclared (frame_with f rows) u (stream_view tree) (n + 1) next
+    one_declared next cells none =
+        let more : length f.entered ≤ length (f.entered ++ rows) = let l = length-append f.entered rows in omega (arith, l) in
+        record {
+          texts = so_far.texts;
+          fills = so_far.fills;
+          areas = so_far.areas;
+          open_yet = so_far.open_yet;
+          laid = laid_on;
+          owned = Each-append (λ r. IsOwned (length (f.entered ++ rows)) (row_meaning r)) f.entered rows
+              (Each-map (λ r. IsOwned (length f.entered) (row_meaning r)) (λ r. IsOwned (length (f.entered ++ rows)) (row_meaning r)) f.entered (λ r. owned_more (length f.entered) (length (f.entered ++ rows)) more (row_meaning r)) so_far.owned)
+              (subst (λ limit. Each (λ r. IsOwned limit (row_meaning r)) rows) end_is (owned_rows f (item_end s) (length f.entered) rows new));
+          procedures =
+              (let l = ap length (filter-append is_proc f.entered rows) in
+              let a = length-append (filter is_proc f.entered) (filter is_proc rows) in
+              let p = so_far.procedures in
+              omega (arith, l, a, p, none));
+          cells = cells;
+        }
+
+    -- one more is declared
+    pub declared_then : (b c : State) (next : ℕ) → b.frame ≡ f → Entered b c rows → next ≤ most_cells + 1 → length (filter is_proc rows) ≡ 0 → HasDeclared c.frame u (stream_view tree) (n + 1) next
+    declared_then b c next same entered cells none =
+        subst (λ g. HasDeclared g u (stream_view tree) (n + 1) next) (sym (entered.frame ∙ ap (λ g. frame_with g rows) same)) (one_declared next cells none)
+
+-- ** All declarations
+
+pub begun : {u : UnitTexts} {tree : Stream} (p : Plain) (rows : ℕ) → p ≡ started u (37 ∷ rows ∷ []) → rows ≡ row_count tree → HasDeclared (state_of p).frame u tree 0 0
+begun {u} {tree} p rows is count =
+    subst (λ q. HasDeclared (state_of q).frame u tree 0 0) (sym is)
+    (record {
+      texts = refl;
+      fills = refl;
+      areas = ap (λ n. 37 ∷ n ∷ []) count;
+      open_yet = refl;
+      laid = none_laid;
+      owned = tt;
+      procedures = refl;
+      cells = omega arith;
+    })
+
+pub may_complete : {u : UnitTexts} {tree : Stream} {count cell : ℕ} (a : State) → IsSample u tree → HasDeclared a.frame u tree count cell → CanComplete a
+may_complete a sample all = record { open_yet = all.open_yet; all = λ tables h. absurd (none_finished sample all.texts h) }
+
+pub all_full : {u : UnitTexts} {tree : Stream} {count cell : ℕ} (a b : State) → HasDeclared a.frame u tree count cell → Completed a b → IsFull b.frame u 1
+all_full {u} a b all completed =
+    subst (λ f. IsFull f u 1) (sym completed.frame)
+    (record { texts = all.texts; fills = all.fills; areas = let e = ap length all.areas in omega (arith, e); closed = refl })
+
+-- what follows of an answer that is there
+pub where_ok : {T E F : Type 0} {C Q : T → Type 0} (r : Result T Memory) → ((v : T) → C v → E → F → Q v) → IfOk r C → OnOk r E → OnOk r F → IfOk r Q
+where_ok (Ok v) f c e g = f v c e g
+where_ok (Err m) f c e g = tt

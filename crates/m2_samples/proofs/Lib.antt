@@ -1,0 +1,4 @@
+pub mod Declarations
+mod ProcedureRows
+mod ReadSamples
+pub mod Samples
