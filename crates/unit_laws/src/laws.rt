@@ -19,8 +19,8 @@ ghost use Rattle.stmt_sem.specs.Lengths.{most_tokens};
 ghost use Rattle.stream_split.specs.Fronts.{AreFronts};
 ghost use Rattle.stmt_sem.specs.Tokens.{block_tokens};
 
-/// Each module that a block imports, and each from which it imports names, has a scope before the block's: where nothing is left out
-/// of the unit by the fronts of its texts, and these are what the grammar tells.
+/// Each module that a block imports, and each from which it imports names, has a scope before the block's: where nothing
+/// is left out of the unit by the fronts of its texts, and these are what the grammar tells.
 pub fn imports_come_before()
     ensures { (texts : UnitTexts) (u : UnitTrees) (front : TextOf → Front) → IsUnit texts → AreRead texts u → AreFronts front texts → IsWholeBy front texts → Each (λ b. Each (IsImportedBefore u.source b.block.scope) (items_of b.tree)) (blocks_of u) }
 {}
