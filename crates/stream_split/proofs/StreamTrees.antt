@@ -2,9 +2,11 @@
 use Rattle.std.proofs.Common.{◌≡◌, ℕ, zero, suc, ◌<◌, ◌≤◌, ◌^◌, All, List, [], ◌∷◌, arith, length, subst}
 use Rattle.std.specs.Prelude.{Some, flat_map, slice_get, slice_index}
 use Rattle.std.proofs.lemmas.List.Elements.{All-head, All-tail}
+use Rattle.m2_base.proofs.ReadStatements.{statements_are_read}
 use Rattle.m2_base.proofs.ReadStreams.{items_are_read}
 use Rattle.m2_base.specs.Lists.{Each}
 use Rattle.m2_base.specs.Statics.Items.{items_of}
+use Rattle.m2_base.specs.Statics.ReadStatements.{AreReadStatements}
 use Rattle.m2_base.specs.Statics.ReadTrees.{IsReadItem}
 use Rattle.m2_base.specs.Statics.Shapes.{item_shapes}
 use Rattle.m2_base.specs.Trees.{Stream}
@@ -35,6 +37,10 @@ module _ (texts : UnitTexts) (k : ℕ) (s : StreamOf) (tree : Stream) (unit : Is
   -- and so are its items
   pub stream_items : Each (IsReadItem texts.names) (items_of tree)
   stream_items = items_are_read texts.names s.kind tree s.tokens spelled tokens_read
+
+  -- and its statements
+  pub stream_statements : AreReadStatements texts.names tree.body
+  stream_statements = statements_are_read texts.names s.kind tree s.tokens spelled tokens_read
 
   -- fewer rows than numbers of 30 bits
   pub stream_few : length (flat_map item_shapes (items_of tree)) < 2 ^ 30

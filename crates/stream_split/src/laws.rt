@@ -12,6 +12,7 @@ ghost use Rattle.m2_base.specs.Statics.Contexts.{Source};
 ghost use Rattle.m2_base.specs.Lists.{Each};
 ghost use Rattle.m2_base.specs.Statics.FormedRows.{IsImportedBefore};
 ghost use Rattle.m2_base.specs.Statics.Items.{items_of};
+ghost use Rattle.m2_base.specs.Statics.ReadStatements.{AreReadStatements};
 ghost use Rattle.m2_base.specs.Statics.ReadTrees.{IsReadItem};
 ghost use Rattle.m2_base.specs.Statics.Shapes.{item_shapes};
 ghost use Rattle.m2_base.specs.Tables.{rows_at};
@@ -44,10 +45,10 @@ pub fn definition_streams_agree_with_the_text()
     ensures refused { (j k text : ℕ) (ts : List Token) (fault : StreamFault) → IsFaultOf text fault (definition_stream j k ts) → IsFirstInDefinition text fault ts }
 {}
 
-/// The streams of a unit stand in the order of their numbers, from 1 on: also where a text has a syntax error. Behind those of the
-/// definition modules and of the main module there is one for each procedure that begins in the main text, with its level and
-/// its first token. What surrounds the block of a stream comes before it, and where the main text passes no limit, no stream lies
-/// in more than sixteen procedures.
+/// The streams of a unit stand in the order of their numbers, from 1 on: also where a text has a syntax error. Behind
+/// those of the definition modules and of the main module there is one for each procedure that begins in the main text,
+/// with its level and its first token. What surrounds the block of a stream comes before it, and where the main text
+/// passes no limit, no stream lies in more than sixteen procedures.
 pub fn streams_have_their_places()
     ensures numbers { (u : UnitTexts) (k : ℕ) (s : StreamOf) → slice_get (streams_of u) k ≡ Some s → s.stream ≡ k + 1 }
     ensures definitions { (u : UnitTexts) (k n : ℕ) → slice_get u.order k ≡ Some n → slice_get (streams_of u) k ≡ Some (definition_stream (k + 1) n (tokens_of u n)) }
@@ -80,11 +81,13 @@ pub fn blocks_are_those_of_the_streams()
     ensures read { (texts : UnitTexts) (trees : UnitTrees) → AreRead texts trees → AreTreesOf texts trees }
 {}
 
-/// What every tree has that a stream of a unit spells, whatever the other texts and streams are: its items are as read, there is room
-/// for its rows, and each module that it imports, or from which it imports names, has a scope before the stream's. That is so where
-/// nothing is left out of the unit by the fronts of its texts, and these are what the grammar tells.
+/// What every tree has that a stream of a unit spells, whatever the other texts and streams are: its items and statements
+/// are as read, there is room for its rows, and each module that it imports, or from which it imports names, has a scope
+/// before the stream's. The last is so where nothing is left out of the unit by the fronts of its texts, and these are
+/// what the grammar tells.
 pub fn trees_of_streams_are_read()
     ensures items { (texts : UnitTexts) (k : ℕ) (s : StreamOf) (tree : Stream) → IsUnit texts → slice_get (streams_of texts) k ≡ Some s → SpellsStream tree s → Each (IsReadItem texts.names) (items_of tree) }
+    ensures statements { (texts : UnitTexts) (k : ℕ) (s : StreamOf) (tree : Stream) → IsUnit texts → slice_get (streams_of texts) k ≡ Some s → SpellsStream tree s → AreReadStatements texts.names tree.body }
     ensures imports { (texts : UnitTexts) (front : TextOf → Front) (k : ℕ) (s : StreamOf) (tree : Stream) → IsUnit texts → AreFronts front texts → IsWholeBy front texts → slice_get (streams_of texts) k ≡ Some s → SpellsStream tree s → Each (IsImportedBefore (source_of texts) s.stream) (items_of tree) }
     ensures room { (texts : UnitTexts) (k : ℕ) (s : StreamOf) (tree : Stream) → slice_get (streams_of texts) k ≡ Some s → SpellsStream tree s → length (flat_map item_shapes (items_of tree)) ≤ slice_index (sizes_of (streams_of texts)) s.stream }
     ensures few { (texts : UnitTexts) (k : ℕ) (s : StreamOf) (tree : Stream) → IsUnit texts → slice_get (streams_of texts) k ≡ Some s → SpellsStream tree s → length (flat_map item_shapes (items_of tree)) < 2 ^ 30 }

@@ -1,5 +1,5 @@
 -- The modules that the blocks of a unit import have scopes before.
-use Rattle.std.proofs.Common.{◌≡◌, ◌∙◌, ℕ, zero, suc, ◌+◌, List, [], ◌∷◌, ◌++◌, map, refl, sym, subst}
+use Rattle.std.proofs.Common.{◌≡◌, ◌∙◌, ℕ, suc, ◌+◌, List, [], ◌∷◌, ◌++◌, map, refl, sym, subst}
 use Rattle.std.specs.Prelude.{Some, slice_get}
 use Rattle.m2_base.specs.Finished.{AreRead, source_of}
 use Rattle.m2_base.specs.Lists.{Each}

@@ -1,4 +1,3 @@
-pub mod StreamStatements
 pub mod SpelledTrees
 pub mod SoundUnits
 pub mod ImportedBlocks

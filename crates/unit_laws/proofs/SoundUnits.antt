@@ -1,11 +1,10 @@
 -- The trees of a unit that can be read are sound, where its modules are imported from scopes before.
-use Rattle.std.proofs.Common.{◌≡◌, ◌∙◌, ℕ, suc, ◌+◌, ◌<◌, ◌^◌, All, List, [], ◌∷◌, ◌++◌, length, map, refl, sym, ap, subst, inl, inr, arith}
+use Rattle.std.proofs.Common.{◌≡◌, ◌∙◌, ℕ, ◌+◌, ◌<◌, ◌^◌, All, List, [], ◌∷◌, length, map, refl, sym, ap, subst, inl, inr, arith}
 use Rattle.std.specs.Prelude.{Option, Some, None, flat_map, option_map, position, ◌==◌}
 use Rattle.std.proofs.lemmas.List.{length-map}
 use Rattle.std.proofs.lemmas.List.Elements.{All-head, All-tail}
 use Rattle.std.proofs.lemmas.List.Quantifiers.{position-Some}
 use Rattle.m2_base.proofs.ChainLaws.{each_then}
-use Rattle.m2_base.proofs.LayoutLaws.{AreShaped-length, block_shaped}
 use Rattle.m2_base.proofs.ReadSound.{item_sound}
 use Rattle.m2_base.proofs.SoundNames.{names_sound}
 use Rattle.m2_base.specs.Finished.{AreRead, own_scope, scope_in, source_of}
@@ -18,7 +17,7 @@ use Rattle.m2_base.specs.Statics.Items.{items_of}
 use Rattle.m2_base.specs.Statics.ReadTrees.{IsReadItem}
 use Rattle.m2_base.specs.Statics.Shapes.{item_shapes}
 use Rattle.m2_base.specs.Statics.SoundTrees.{IsSoundItem}
-use Rattle.m2_base.specs.Units.{IsUnit, TextOf, UnitTexts}
+use Rattle.m2_base.specs.Units.{IsUnit, UnitTexts}
 use Rattle.m2_base.specs.declared.trees.declarations.StreamKind.{StreamKind}
 use Rattle.m2_base.specs.declared.trees.declarations.StreamKind.TheVariants.{Definition, Main, Procedure}
 use Rattle.row_laws.specs.RowRanges.{IsSoundUnit}
@@ -26,9 +25,8 @@ use Rattle.row_laws.specs.TextTrees.{HasTree}
 use Rattle.row_laws.proofs.Chains.{IsChained, blocks_chained}
 use Rattle.row_laws.proofs.TextBlocks as row_blocks
 use Rattle.stream_split.specs.Chains.{block_by, block_of}
-use Rattle.stream_split.specs.Cut.{Enclosed, Event, events, opened, start}
 use Rattle.stream_split.specs.Rooms.{rows_of}
-use Rattle.stream_split.specs.Streams.{StreamOf, definition_streams, main_number, main_streams, main_tokens, procedure_streams, streams_of}
+use Rattle.stream_split.specs.Streams.{StreamOf, main_number, streams_of}
 use Rattle.stream_split.proofs.BlocksAgree.{blocks_agree}
 use Rattle.stream_split.proofs.Lengths.{IsShort, unit_short}
 use Rattle.stream_split.proofs.ReadUnits.{trees_read}

@@ -1,22 +1,17 @@
 -- What holds of every tree that a stream of the unit spells holds of its blocks.
-use Rattle.std.proofs.Common.{ℕ, suc, List, [], ◌∷◌, ◌++◌, map, sym, ap, subst}
-use Rattle.std.specs.List.{AllZip}
-use Rattle.std.specs.Prelude.{slice_index_or}
+use Rattle.std.proofs.Common.{List, [], ◌∷◌, ◌++◌, map, sym, subst}
 use Rattle.m2_base.specs.Statics.ReadStatements.{AreReadStatements}
 use Rattle.m2_base.proofs.ReadStatements.{statements_are_read}
 use Rattle.m2_base.proofs.ReadStreams.{items_are_read}
-use Rattle.m2_base.specs.Finished.{AreRead, tokens_of}
+use Rattle.m2_base.specs.Finished.{AreRead}
 use Rattle.m2_base.specs.Lists.{Each}
 use Rattle.m2_base.specs.Statics.Blocks.{BlockTree, UnitTrees, blocks_of}
 use Rattle.m2_base.specs.Statics.Items.{items_of}
 use Rattle.m2_base.specs.Statics.ReadTrees.{IsReadItem}
-use Rattle.m2_base.specs.StreamsOf.{no_stream}
 use Rattle.m2_base.specs.Trees.{Stream}
 use Rattle.m2_base.specs.Units.{IsUnit, UnitTexts}
-use Rattle.m2_base.specs.WholeTexts.{SpellsDefinition}
 use Rattle.stream_split.specs.Agreement.{SpellsStream, SpellsStreams}
-use Rattle.stream_split.specs.Streams.{StreamOf, definition_stream, definition_streams, main_number, main_streams, main_tokens, streams_of}
-use Rattle.stream_split.proofs.Agree.{trees_agree}
+use Rattle.stream_split.specs.Streams.{StreamOf, streams_of}
 use Rattle.stream_split.proofs.BlocksAgree.{blocks_agree}
 use Rattle.stream_split.proofs.ReadUnits.{streams_spelled, trees_read}
 use Rattle.stream_split.proofs.ReadTokens.{IsReadStream, streams_read}

@@ -1,7 +1,6 @@
 //! Laws on the trees of a unit's texts, each the contract of a function that does nothing.
-ghost use Rattle.std.specs.Prelude.{◌≡◌, ◌-◌, ◌≤◌, ℕ, Some, [], ◌∷◌, slice_get};
+ghost use Rattle.std.specs.Prelude.{◌≡◌, ◌-◌, ◌≤◌, [], ◌∷◌};
 ghost use Rattle.block_laws.specs.Named.{procedure_of};
-ghost use Rattle.m2_base.specs.Statics.ReadStatements.{AreReadStatements};
 ghost use Rattle.block_laws.specs.Worlds.{unit_world};
 ghost use Rattle.code_form.specs.Valid.{IsValidCode};
 ghost use Rattle.m2_base.specs.Finished.{AreRead};
@@ -10,27 +9,20 @@ ghost use Rattle.m2_base.specs.Standard.{standard_rows};
 ghost use Rattle.m2_base.specs.Statics.Blocks.{UnitTrees, blocks_of, home_of};
 ghost use Rattle.m2_base.specs.Statics.FormedRows.{IsImportedBefore};
 ghost use Rattle.m2_base.specs.Statics.Items.{items_of};
+ghost use Rattle.m2_base.specs.Statics.ReadStatements.{AreReadStatements};
 ghost use Rattle.m2_base.specs.Statics.ReadTrees.{IsReadItem};
 ghost use Rattle.m2_base.specs.Statics.UnitRows.{unit_rows};
-ghost use Rattle.m2_base.specs.Trees.{Stream};
 ghost use Rattle.m2_base.specs.Units.{Front, IsUnit, IsWholeBy, TextOf, UnitTexts};
 ghost use Rattle.row_laws.specs.RowRanges.{EachBlock, IsSoundUnit};
 ghost use Rattle.stmt_sem.specs.BlockCode.{block_code, block_diags};
 ghost use Rattle.stmt_sem.specs.Lengths.{most_tokens};
-ghost use Rattle.stream_split.specs.Agreement.{SpellsStream};
 ghost use Rattle.stream_split.specs.Fronts.{AreFronts};
-ghost use Rattle.stream_split.specs.Streams.{StreamOf, streams_of};
 ghost use Rattle.stmt_sem.specs.Tokens.{block_tokens};
 
-/// Each module that a block imports, and each from which it imports names, has a scope before the block's: where nothing is left out
-/// of the unit by the fronts of its texts, and these are what the grammar tells.
+/// Each module that a block imports, and each from which it imports names, has a scope before the block's: where nothing
+/// is left out of the unit by the fronts of its texts, and these are what the grammar tells.
 pub fn imports_come_before()
     ensures { (texts : UnitTexts) (u : UnitTrees) (front : TextOf → Front) → IsUnit texts → AreRead texts u → AreFronts front texts → IsWholeBy front texts → Each (λ b. Each (IsImportedBefore u.source b.block.scope) (items_of b.tree)) (blocks_of u) }
-{}
-
-/// The statements of every tree that a stream of a unit spells are as read, whatever the other texts and streams are.
-pub fn statements_of_streams_are_read()
-    ensures { (texts : UnitTexts) (k : ℕ) (s : StreamOf) (tree : Stream) → IsUnit texts → slice_get (streams_of texts) k ≡ Some s → SpellsStream tree s → AreReadStatements texts.names tree.body }
 {}
 
 /// The trees of a unit's texts are sound, where each module that is imported has a scope before the block's.

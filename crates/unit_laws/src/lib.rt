@@ -8,6 +8,5 @@
 mod laws;
 
 pub use laws::{
-    blocks_are_short, imports_come_before, statements_of_streams_are_read, trees_are_read,
-    unit_code_is_valid, units_are_sound,
+    blocks_are_short, imports_come_before, trees_are_read, unit_code_is_valid, units_are_sound,
 };
