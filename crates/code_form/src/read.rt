@@ -7,6 +7,7 @@ ghost use Rattle.code_form.specs.Reading.{Reads, number_at, distance_at, value_a
 use crate::instr::Instr;
 use crate::table::instructions;
 
+#[inline(always)]
 fn number(bytes: &mut &[u8]) -> Option<u32>
     ensures { Reads (λ x. (x, bytes.new.now)) result (number_at bytes.old.now) }
 {
@@ -18,6 +19,7 @@ fn number(bytes: &mut &[u8]) -> Option<u32>
     Some(u32::from_le_bytes([front[0], front[1], front[2], front[3]]))
 }
 
+#[inline(always)]
 #[tactic(auto, unfolding(crate::specs::Reading::distance_at))]
 fn distance(bytes: &mut &[u8]) -> Option<i32>
     ensures { Reads (λ x. (x, bytes.new.now)) result (distance_at bytes.old.now) }
@@ -25,6 +27,7 @@ fn distance(bytes: &mut &[u8]) -> Option<i32>
     Some(number(bytes)?.cast_signed())
 }
 
+#[inline(always)]
 #[tactic(auto, unfolding(crate::specs::Reading::value_at))]
 fn value(bytes: &mut &[u8]) -> Option<i64>
     ensures { Reads (λ x. (x, bytes.new.now)) result (value_at bytes.old.now) }
@@ -43,6 +46,7 @@ fn value(bytes: &mut &[u8]) -> Option<i64>
     Some(number)
 }
 
+#[inline(always)]
 #[tactic(auto, unfolding(crate::specs::Reading::flag_at))]
 fn flag(bytes: &mut &[u8]) -> Option<u8>
     ensures { Reads (λ x. (x, bytes.new.now)) result (flag_at bytes.old.now) }
@@ -56,6 +60,7 @@ fn flag(bytes: &mut &[u8]) -> Option<u8>
     }
 }
 
+#[inline(always)]
 #[tactic(auto, unfolding(crate::specs::Reading::trap_at))]
 fn trap(bytes: &mut &[u8]) -> Option<u8>
     ensures { Reads (λ x. (x, bytes.new.now)) result (trap_at bytes.old.now) }
@@ -69,6 +74,7 @@ fn trap(bytes: &mut &[u8]) -> Option<u8>
     }
 }
 
+#[inline(always)]
 #[tactic(auto, unfolding(crate::specs::Reading::count_at))]
 fn count(bytes: &mut &[u8]) -> Option<u32>
     ensures { Reads (λ x. (x, bytes.new.now)) result (count_at bytes.old.now) }

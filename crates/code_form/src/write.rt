@@ -10,6 +10,7 @@ use m2_base::Memory;
 use std::alloc::AllocError;
 
 /// Appends the bytes of an operand.
+#[inline(always)]
 #[tactic(auto, unfolding(crate::specs::Bytes::operand_bytes))]
 fn put(out: &mut Vec<u8>, operand: Operand) -> Result<(), AllocError>
     ensures ok { OnOk result (out.new.items ≡ out.old.items ++ operand_bytes operand) }
@@ -24,6 +25,7 @@ fn put(out: &mut Vec<u8>, operand: Operand) -> Result<(), AllocError>
 }
 
 /// Appends an opcode and the bytes of operands, or the first of them.
+#[inline(always)]
 fn put_line(out: &mut Vec<u8>, opcode: u8, operands: &[Operand]) -> Result<(), AllocError>
     ensures ok { OnOk result (out.new.items ≡ out.old.items ++ opcode ∷ all_bytes operands.now) }
     ensures err { OnErr result (take (length out.old.items) out.new.items ≡ out.old.items) }

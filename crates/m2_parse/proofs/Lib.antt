@@ -8,5 +8,6 @@ pub mod NameLinks
 pub mod Others
 pub mod Retold
 pub mod StatementLinks
+pub mod Steps
 pub mod StreamLinks
 pub mod TypeLinks

@@ -1,5 +1,5 @@
 -- Reading tokens by descent: what the grammar's readers are at this language's tokens and faults.
-use Rattle.std.specs.Prelude.{ℕ, Bool, true, false, List, map, Result, Option, Some, None, if◌then◌else◌}
+use Rattle.std.specs.Prelude.{◌≡◌, ℕ, Bool, true, false, List, map, Result, Ok, Option, Some, None, if◌then◌else◌}
 use Rattle.m2_base.specs.declared.kind.TokenKind.{TokenKind}
 use Rattle.m2_base.specs.FaultsOf.{code_of}
 use Rattle.m2_base.specs.declared.token.Token.{Token}
@@ -51,16 +51,13 @@ next_in kinds ts = readers.next_in number_of_token (map kind_number kinds) ts
 abbrev pub skip : TokenKind → List Token → Option (List Token)
 skip kind ts = readers.skip number_of_token (kind_number kind) ts
 
--- whether something was skipped, and what is still to be read
-abbrev pub or_stays : List Token → Option (List Token) → Bool × List Token
-or_stays ts None = (false, ts)
-or_stays ts (Some after) = (true, after)
-
-abbrev pub skipped : TokenKind → List Token → Bool × List Token
-skipped kind ts = or_stays ts (skip kind ts)
-
 abbrev pub expect : TokenKind → Read Token
 expect kind ts = readers.expect tell number_of_token (kind_number kind) ts
 
 abbrev pub expect_in : List TokenKind → Read Token
 expect_in kinds ts = readers.expect_in tell number_of_token (map kind_number kinds) ts
+
+-- a token of this kind stands there and is taken, or none does and nothing changes
+abbrev pub Takes : TokenKind → Option Token → (old new : List Token) → Type 0
+Takes kind (Some t) old new = (next_is kind old ≡ true) × (expect kind old ≡ Ok (t, new))
+Takes kind None old new = (next_is kind old ≡ false) × (new ≡ old)

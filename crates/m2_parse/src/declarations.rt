@@ -54,7 +54,6 @@ fn section(alloc: Global, tokens: &mut Tokens) -> Result<Section, ReadFault>
 }
 
 /// Section {";" Section}
-#[tactic(auto, using(ll_grammar::proofs::Loops::listed_starts, crate::proofs::ListLemmas::list_ends))]
 fn some_sections(alloc: Global, tokens: &mut Tokens) -> Result<Vec<Section>, ReadFault>
     ensures { Gives (λ x. (map section_view x.items, tokens.new.list.now)) result (some_sections_at tokens.old.list.now) }
 {
@@ -66,10 +65,9 @@ fn some_sections(alloc: Global, tokens: &mut Tokens) -> Result<Vec<Section>, Rea
 fn parameters(alloc: Global, tokens: &mut Tokens) -> Result<(Vec<Section>, Option<Qual>), ReadFault>
     ensures { Gives (λ x. ((map section_view x.0.items, x.1), tokens.new.list.now)) result (parameters_at tokens.old.list.now) }
 {
-    if !tokens.next_is(TokenKind::LeftParenthesis) {
+    let Some(_) = tokens.next_if(TokenKind::LeftParenthesis) else {
         return Ok((Vec::new(alloc), None));
-    }
-    tokens.expect(TokenKind::LeftParenthesis)?;
+    };
     if !begins_section(tokens) {
         tokens.expect(TokenKind::RightParenthesis)?;
         let result = result_type(tokens)?;
@@ -128,11 +126,10 @@ fn defined_type(alloc: Global, tokens: &mut Tokens, depth: usize) -> Result<Decl
     ensures { Gives (λ x. (decl_view x, tokens.new.list.now)) result (defined_type_at depth tokens.old.list.now) }
 {
     let name = ident(tokens)?;
-    if !tokens.next_is(TokenKind::Equal) {
+    let Some(_) = tokens.next_if(TokenKind::Equal) else {
         tokens.expect(TokenKind::Semicolon)?;
         return Ok(Decl::Types { name, typ: None });
-    }
-    tokens.expect(TokenKind::Equal)?;
+    };
     let typ = type_expr(alloc, tokens, depth)?;
     tokens.expect(TokenKind::Semicolon)?;
     let typ = Some(typ);
@@ -152,7 +149,7 @@ fn variables(alloc: Global, tokens: &mut Tokens, depth: usize) -> Result<Decl, R
 }
 
 /// {ident "=" Expr ";"}
-#[tactic(auto, using(ll_grammar::proofs::Loops::repeat_starts, ll_grammar::proofs::Loops::repeat_ends))]
+#[tactic(auto, using(ll_grammar::proofs::Loops::repeat_starts))]
 fn constants(alloc: Global, tokens: &mut Tokens, depth: usize) -> Result<Vec<Decl>, ReadFault>
     ensures { Gives (λ x. (map decl_view x.items, tokens.new.list.now)) result (constants_at depth tokens.old.list.now) }
 {
@@ -165,7 +162,7 @@ fn constants(alloc: Global, tokens: &mut Tokens, depth: usize) -> Result<Vec<Dec
 }
 
 /// {ident "=" Type ";"}
-#[tactic(auto, using(ll_grammar::proofs::Loops::repeat_starts, ll_grammar::proofs::Loops::repeat_ends))]
+#[tactic(auto, using(ll_grammar::proofs::Loops::repeat_starts))]
 fn type_declarations(
     alloc: Global,
     tokens: &mut Tokens,
@@ -182,7 +179,7 @@ fn type_declarations(
 }
 
 /// {ident ["=" Type] ";"}
-#[tactic(auto, using(ll_grammar::proofs::Loops::repeat_starts, ll_grammar::proofs::Loops::repeat_ends))]
+#[tactic(auto, using(ll_grammar::proofs::Loops::repeat_starts))]
 fn defined_types(alloc: Global, tokens: &mut Tokens, depth: usize) -> Result<Vec<Decl>, ReadFault>
     ensures { Gives (λ x. (map decl_view x.items, tokens.new.list.now)) result (defined_types_at depth tokens.old.list.now) }
 {
@@ -195,7 +192,7 @@ fn defined_types(alloc: Global, tokens: &mut Tokens, depth: usize) -> Result<Vec
 }
 
 /// {Idents ":" Type ";"}
-#[tactic(auto, using(ll_grammar::proofs::Loops::repeat_starts, ll_grammar::proofs::Loops::repeat_ends))]
+#[tactic(auto, using(ll_grammar::proofs::Loops::repeat_starts))]
 fn all_variables(alloc: Global, tokens: &mut Tokens, depth: usize) -> Result<Vec<Decl>, ReadFault>
     ensures { Gives (λ x. (map decl_view x.items, tokens.new.list.now)) result (all_variables_at depth tokens.old.list.now) }
 {
@@ -224,18 +221,15 @@ fn procedure(alloc: Global, tokens: &mut Tokens) -> Result<Decl, ReadFault>
 fn declaration(alloc: Global, tokens: &mut Tokens, depth: usize) -> Result<Vec<Decl>, ReadFault>
     ensures { Gives (λ x. (map decl_view x.items, tokens.new.list.now)) result (declaration_at depth tokens.old.list.now) }
 {
-    if tokens.next_is(TokenKind::Const) {
-        tokens.expect(TokenKind::Const)?;
+    if let Some(_) = tokens.next_if(TokenKind::Const) {
         let items = constants(alloc, tokens, depth)?;
         return Ok(items);
     }
-    if tokens.next_is(TokenKind::Type) {
-        tokens.expect(TokenKind::Type)?;
+    if let Some(_) = tokens.next_if(TokenKind::Type) {
         let items = type_declarations(alloc, tokens, depth)?;
         return Ok(items);
     }
-    if tokens.next_is(TokenKind::Var) {
-        tokens.expect(TokenKind::Var)?;
+    if let Some(_) = tokens.next_if(TokenKind::Var) {
         let items = all_variables(alloc, tokens, depth)?;
         return Ok(items);
     }
@@ -246,7 +240,7 @@ fn declaration(alloc: Global, tokens: &mut Tokens, depth: usize) -> Result<Vec<D
 }
 
 /// {Decl}
-#[tactic(auto, using(ll_grammar::proofs::Loops::repeat_starts, ll_grammar::proofs::Loops::repeat_ends))]
+#[tactic(auto, using(ll_grammar::proofs::Loops::repeat_starts))]
 fn declarations(alloc: Global, tokens: &mut Tokens, depth: usize) -> Result<Vec<Decl>, ReadFault>
     ensures { Gives (λ x. (map decl_view x.items, tokens.new.list.now)) result (declarations_at depth tokens.old.list.now) }
 {
@@ -267,18 +261,15 @@ fn definition_declaration(
 ) -> Result<Vec<Decl>, ReadFault>
     ensures { Gives (λ x. (map decl_view x.items, tokens.new.list.now)) result (definition_declaration_at depth tokens.old.list.now) }
 {
-    if tokens.next_is(TokenKind::Const) {
-        tokens.expect(TokenKind::Const)?;
+    if let Some(_) = tokens.next_if(TokenKind::Const) {
         let items = constants(alloc, tokens, depth)?;
         return Ok(items);
     }
-    if tokens.next_is(TokenKind::Type) {
-        tokens.expect(TokenKind::Type)?;
+    if let Some(_) = tokens.next_if(TokenKind::Type) {
         let items = defined_types(alloc, tokens, depth)?;
         return Ok(items);
     }
-    if tokens.next_is(TokenKind::Var) {
-        tokens.expect(TokenKind::Var)?;
+    if let Some(_) = tokens.next_if(TokenKind::Var) {
         let items = all_variables(alloc, tokens, depth)?;
         return Ok(items);
     }
@@ -291,7 +282,7 @@ fn definition_declaration(
 }
 
 /// {DefDecl}
-#[tactic(auto, using(ll_grammar::proofs::Loops::repeat_starts, ll_grammar::proofs::Loops::repeat_ends))]
+#[tactic(auto, using(ll_grammar::proofs::Loops::repeat_starts))]
 pub fn definition_declarations(
     alloc: Global,
     tokens: &mut Tokens,
@@ -312,10 +303,9 @@ pub fn definition_declarations(
 fn body(alloc: Global, tokens: &mut Tokens, depth: usize) -> Result<Vec<Statement>, ReadFault>
     ensures { Gives (λ x. (map statement_view x.items, tokens.new.list.now)) result (body_at depth tokens.old.list.now) }
 {
-    if !tokens.next_is(TokenKind::Begin) {
+    let Some(_) = tokens.next_if(TokenKind::Begin) else {
         return Ok(Vec::new(alloc));
-    }
-    tokens.expect(TokenKind::Begin)?;
+    };
     let items = statements(alloc, tokens, depth)?;
     Ok(items)
 }

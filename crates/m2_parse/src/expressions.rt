@@ -237,7 +237,6 @@ fn set(alloc: Global, tokens: &mut Tokens, depth: usize) -> Result<(u32, Vec<Lab
 
 /// Labels = Label {"," Label}
 #[cycle(expressions)]
-#[tactic(auto, using(ll_grammar::proofs::Loops::listed_starts, crate::proofs::ListLemmas::list_ends))]
 pub fn labels(alloc: Global, tokens: &mut Tokens, depth: usize) -> Result<Vec<Label>, ReadFault>
     ensures { Gives (λ x. (map label_view x.items, tokens.new.list.now)) result (labels_with (factor_at depth) tokens.old.list.now) }
 {
@@ -251,10 +250,9 @@ fn label(alloc: Global, tokens: &mut Tokens, depth: usize) -> Result<Label, Read
     ensures { Gives (λ x. (label_view x, tokens.new.list.now)) result (label_with_upper (factor_at depth) tokens.old.list.now) }
 {
     let low = expr(alloc, tokens, depth)?;
-    if !tokens.next_is(TokenKind::Ellipsis) {
+    let Some(_) = tokens.next_if(TokenKind::Ellipsis) else {
         return Ok(Label { low, high: None });
-    }
-    tokens.expect(TokenKind::Ellipsis)?;
+    };
     let high = expr(alloc, tokens, depth)?;
     let high = Some(high);
     Ok(Label { low, high })
@@ -278,7 +276,6 @@ pub fn actuals(alloc: Global, tokens: &mut Tokens, depth: usize) -> Result<Vec<E
 
 /// Expr {"," Expr}
 #[cycle(expressions)]
-#[tactic(auto, using(ll_grammar::proofs::Loops::listed_starts, crate::proofs::ListLemmas::list_ends))]
 fn exprs(alloc: Global, tokens: &mut Tokens, depth: usize) -> Result<Vec<Expr>, ReadFault>
     ensures { Gives (λ x. (map expr_view x.items, tokens.new.list.now)) result (exprs_with (factor_at depth) tokens.old.list.now) }
 {
@@ -302,7 +299,7 @@ pub fn designator(alloc: Global, tokens: &mut Tokens, depth: usize) -> Result<De
 
 /// {"." ident | "[" Expr {"," Expr} "]" | "^"}
 #[cycle(expressions)]
-#[tactic(auto, using(ll_grammar::proofs::Loops::repeat_starts, ll_grammar::proofs::Loops::repeat_ends))]
+#[tactic(auto, using(ll_grammar::proofs::Loops::repeat_starts))]
 fn selectors(alloc: Global, tokens: &mut Tokens, depth: usize) -> Result<Vec<Selector>, ReadFault>
     ensures { Gives (λ x. (map selector_view x.items, tokens.new.list.now)) result (selectors_with (factor_at depth) tokens.old.list.now) }
 {
@@ -320,13 +317,11 @@ fn selectors(alloc: Global, tokens: &mut Tokens, depth: usize) -> Result<Vec<Sel
 fn selector(alloc: Global, tokens: &mut Tokens, depth: usize) -> Result<Selector, ReadFault>
     ensures { Gives (λ x. (selector_view x, tokens.new.list.now)) result (selector_with (factor_at depth) tokens.old.list.now) }
 {
-    if tokens.next_is(TokenKind::Period) {
-        let period = tokens.expect(TokenKind::Period)?;
+    if let Some(period) = tokens.next_if(TokenKind::Period) {
         let name = ident(tokens)?;
         return Ok(Selector::Field(name, period.at));
     }
-    if tokens.next_is(TokenKind::LeftBracket) {
-        let open = tokens.expect(TokenKind::LeftBracket)?;
+    if let Some(open) = tokens.next_if(TokenKind::LeftBracket) {
         let items = exprs(alloc, tokens, depth)?;
         tokens.expect(TokenKind::RightBracket)?;
         return Ok(Selector::Index(items, open.at));
@@ -348,7 +343,7 @@ fn term(alloc: Global, tokens: &mut Tokens, depth: usize) -> Result<Expr, ReadFa
 
 /// {("*"|"/"|DIV|MOD|AND) Factor}
 #[cycle(expressions)]
-#[tactic(auto, using(ll_grammar::proofs::Loops::repeat_starts, ll_grammar::proofs::Loops::repeat_ends))]
+#[tactic(auto, using(ll_grammar::proofs::Loops::repeat_starts))]
 fn factors(alloc: Global, tokens: &mut Tokens, depth: usize) -> Result<Vec<Next>, ReadFault>
     ensures { Gives (λ x. (map next_view x.items, tokens.new.list.now)) result (factors_with (factor_at depth) tokens.old.list.now) }
 {
@@ -408,7 +403,7 @@ fn sum(alloc: Global, tokens: &mut Tokens, depth: usize) -> Result<Expr, ReadFau
 
 /// {("+"|"-"|OR) Term}
 #[cycle(expressions)]
-#[tactic(auto, using(ll_grammar::proofs::Loops::repeat_starts, ll_grammar::proofs::Loops::repeat_ends))]
+#[tactic(auto, using(ll_grammar::proofs::Loops::repeat_starts))]
 fn terms(alloc: Global, tokens: &mut Tokens, depth: usize) -> Result<Vec<Next>, ReadFault>
     ensures { Gives (λ x. (map next_view x.items, tokens.new.list.now)) result (terms_with (factor_at depth) tokens.old.list.now) }
 {

@@ -84,11 +84,10 @@ fn all_modules(alloc: Global, tokens: &mut Tokens) -> Result<Vec<Ident>, Memory>
 fn imports_behind(alloc: Global, tokens: &mut Tokens) -> Result<Vec<Ident>, Memory>
     ensures { IfOk result (λ v. v.items ≡ spec_imports_behind tokens.old.list.now) }
 {
-    if tokens.skip(TokenKind::Semicolon) {
-        all_modules(alloc, tokens)
-    } else {
-        Ok(Vec::new(alloc))
-    }
+    let Some(_) = tokens.next_if(TokenKind::Semicolon) else {
+        return Ok(Vec::new(alloc));
+    };
+    all_modules(alloc, tokens)
 }
 
 /// The front, as it is read.

@@ -7,9 +7,9 @@ macro_rules! listed {
         // Most lists are short, and a first push would make room for four.
         let mut items = vec![in $alloc; first]?;
         for _ in 0..$tokens.list.len() {
-            if !$tokens.skip($separator) {
+            let Some(_) = $tokens.next_if($separator) else {
                 return Ok(items);
-            }
+            };
             let item = $item?;
             items.push(item)?;
         }
@@ -22,9 +22,9 @@ macro_rules! all_listed {
     ($tokens:ident, $separator:expr, $item:expr) => {{
         let mut items = $item?;
         for _ in 0..$tokens.list.len() {
-            if !$tokens.skip($separator) {
+            let Some(_) = $tokens.next_if($separator) else {
                 return Ok(items);
-            }
+            };
             let mut more = $item?;
             items.append(&mut more)?;
         }

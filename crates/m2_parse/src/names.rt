@@ -18,7 +18,6 @@ pub fn ident(tokens: &mut Tokens) -> Result<Ident, ReadFault>
 }
 
 /// Idents = ident {"," ident}
-#[tactic(auto, using(ll_grammar::proofs::Loops::listed_starts, crate::proofs::ListLemmas::list_ends))]
 pub fn idents(alloc: Global, tokens: &mut Tokens) -> Result<Vec<Ident>, ReadFault>
     ensures { Gives (λ x. (x.items, tokens.new.list.now)) result (idents_at tokens.old.list.now) }
 {
@@ -30,10 +29,9 @@ pub fn idents(alloc: Global, tokens: &mut Tokens) -> Result<Vec<Ident>, ReadFaul
 fn second_name(tokens: &mut Tokens) -> Result<Option<Ident>, ReadFault>
     ensures { Gives (λ x. (x, tokens.new.list.now)) result (second_at tokens.old.list.now) }
 {
-    if !tokens.next_is(TokenKind::Period) {
+    let Some(_) = tokens.next_if(TokenKind::Period) else {
         return Ok(None);
-    }
-    tokens.expect(TokenKind::Period)?;
+    };
     let name = ident(tokens)?;
     Ok(Some(name))
 }

@@ -3,7 +3,7 @@ ghost use Rattle.std.specs.Prelude.{◌≡◌, [], ◌∷◌, map, IfOk, ◌<◌
 ghost use Rattle.m2_base.specs.KindNumbers.{kind_number};
 ghost use Rattle.ll_grammar.specs.LookAhead.{member};
 ghost use Rattle.m2_parse.specs.Fitting.{limit_of};
-ghost use Rattle.m2_parse.specs.Reading.{Gives, next_is as spec_next_is, next_in as spec_next_in, expect as spec_expect, expect_in as spec_expect_in, skipped, syntax_fault, place as spec_place};
+ghost use Rattle.m2_parse.specs.Reading.{Gives, next_is as spec_next_is, next_in as spec_next_in, expect as spec_expect, expect_in as spec_expect_in, Takes, syntax_fault, place as spec_place};
 
 use crate::faults::{ReadFault, Refusal};
 use crate::tokens::Tokens;
@@ -114,16 +114,16 @@ impl Tokens<'_> {
         }
     }
 
-    /// Reads a token of this kind where one stands there, and says whether it did.
-    pub fn skip(&mut self, kind: TokenKind) -> bool
-        ensures { (result, self.new.list.now) ≡ skipped kind self.old.list.now }
+    /// Reads a token of this kind where one stands there.
+    pub fn next_if(&mut self, kind: TokenKind) -> Option<Token>
+        ensures { Takes kind result self.old.list.now self.new.list.now }
     {
         match self.list {
             [t, rest @ ..] if number(t.kind) == number(kind) => {
                 self.list = rest;
-                true
+                Some(*t)
             }
-            _ => false,
+            _ => None,
         }
     }
 }

@@ -67,8 +67,7 @@ fn designated(alloc: Global, tokens: &mut Tokens, depth: usize) -> Result<Statem
 {
     let to = designator(alloc, tokens, depth)?;
     let at = to.first.at;
-    if tokens.next_is(TokenKind::Becomes) {
-        tokens.expect(TokenKind::Becomes)?;
+    if let Some(_) = tokens.next_if(TokenKind::Becomes) {
         let value = expr(alloc, tokens, depth)?;
         let form = StmtForm::Assign { to, value };
         return Ok(Statement { at, form });
@@ -88,10 +87,9 @@ fn designated(alloc: Global, tokens: &mut Tokens, depth: usize) -> Result<Statem
 fn step(alloc: Global, tokens: &mut Tokens, depth: usize) -> Result<Option<Expr>, ReadFault>
     ensures { Gives (λ x. (option_map expr_view x, tokens.new.list.now)) result (step_at depth tokens.old.list.now) }
 {
-    if !tokens.next_is(TokenKind::By) {
+    let Some(_) = tokens.next_if(TokenKind::By) else {
         return Ok(None);
-    }
-    tokens.expect(TokenKind::By)?;
+    };
     let by = expr(alloc, tokens, depth)?;
     Ok(Some(by))
 }
@@ -166,7 +164,6 @@ fn inner_statement(alloc: Global, tokens: &mut Tokens, depth: usize) -> Result<S
 
 /// Stmts = Stmt {";" Stmt}
 #[cycle(statements)]
-#[tactic(auto, using(ll_grammar::proofs::Loops::listed_starts, crate::proofs::ListLemmas::list_ends))]
 pub fn statements(
     alloc: Global,
     tokens: &mut Tokens,
@@ -210,10 +207,9 @@ fn otherwise(
 ) -> Result<Option<Vec<Statement>>, ReadFault>
     ensures { Gives (λ x. (option_map (λ v. map statement_view v.items) x, tokens.new.list.now)) result (otherwise_with depth (statement_at depth) tokens.old.list.now) }
 {
-    if !tokens.next_is(TokenKind::Else) {
+    let Some(_) = tokens.next_if(TokenKind::Else) else {
         return Ok(None);
-    }
-    tokens.expect(TokenKind::Else)?;
+    };
     let found = statements(alloc, tokens, depth)?;
     Ok(Some(found))
 }
@@ -243,7 +239,7 @@ fn elsif(alloc: Global, tokens: &mut Tokens, depth: usize) -> Result<IfArm, Read
 
 /// {ELSIF Expr THEN Stmts}
 #[cycle(statements)]
-#[tactic(auto, using(ll_grammar::proofs::Loops::repeat_starts, ll_grammar::proofs::Loops::repeat_ends))]
+#[tactic(auto, using(ll_grammar::proofs::Loops::repeat_starts))]
 fn elsifs(alloc: Global, tokens: &mut Tokens, depth: usize) -> Result<Vec<IfArm>, ReadFault>
     ensures { Gives (λ x. (map if_arm_view x.items, tokens.new.list.now)) result (elsifs_with depth (statement_at depth) tokens.old.list.now) }
 {
@@ -291,7 +287,6 @@ fn arm(alloc: Global, tokens: &mut Tokens, depth: usize) -> Result<Vec<CaseArm>,
 
 /// Arm {"|" Arm}
 #[cycle(statements)]
-#[tactic(auto, using(ll_grammar::proofs::Loops::listed_starts, crate::proofs::ListLemmas::list_ends))]
 fn arms(alloc: Global, tokens: &mut Tokens, depth: usize) -> Result<Vec<CaseArm>, ReadFault>
     ensures { Gives (λ x. (map case_arm_view x.items, tokens.new.list.now)) result (arms_with depth (statement_at depth) tokens.old.list.now) }
 {

@@ -29,10 +29,9 @@ fn begins_import(tokens: &Tokens) -> bool
 fn from(tokens: &mut Tokens) -> Result<Option<Ident>, ReadFault>
     ensures { Gives (λ x. (x, tokens.new.list.now)) result (from_at tokens.old.list.now) }
 {
-    if !tokens.next_is(TokenKind::From) {
+    let Some(_) = tokens.next_if(TokenKind::From) else {
         return Ok(None);
-    }
-    tokens.expect(TokenKind::From)?;
+    };
     let name = ident(tokens)?;
     Ok(Some(name))
 }
@@ -50,7 +49,7 @@ pub fn import(alloc: Global, tokens: &mut Tokens) -> Result<Import, ReadFault>
 }
 
 /// {Import}
-#[tactic(auto, using(ll_grammar::proofs::Loops::repeat_starts, ll_grammar::proofs::Loops::repeat_ends))]
+#[tactic(auto, using(ll_grammar::proofs::Loops::repeat_starts))]
 fn imports(alloc: Global, tokens: &mut Tokens) -> Result<Vec<Import>, ReadFault>
     ensures { Gives (λ x. (map import_view x.items, tokens.new.list.now)) result (imports_at tokens.old.list.now) }
 {
@@ -62,10 +61,9 @@ fn imports(alloc: Global, tokens: &mut Tokens) -> Result<Vec<Import>, ReadFault>
 pub fn implementation(tokens: &mut Tokens) -> Result<bool, ReadFault>
     ensures { Gives (λ x. (x, tokens.new.list.now)) result (implementation_at tokens.old.list.now) }
 {
-    if !tokens.next_is(TokenKind::Implementation) {
+    let Some(_) = tokens.next_if(TokenKind::Implementation) else {
         return Ok(false);
-    }
-    tokens.expect(TokenKind::Implementation)?;
+    };
     Ok(true)
 }
 
@@ -74,10 +72,9 @@ pub fn implementation(tokens: &mut Tokens) -> Result<bool, ReadFault>
 fn export(alloc: Global, tokens: &mut Tokens) -> Result<(), ReadFault>
     ensures { Gives (λ x. ([], tokens.new.list.now)) result (export_at tokens.old.list.now) }
 {
-    if !tokens.next_is(TokenKind::Export) {
+    let Some(_) = tokens.next_if(TokenKind::Export) else {
         return Ok(());
-    }
-    tokens.expect(TokenKind::Export)?;
+    };
     tokens.expect(TokenKind::Qualified)?;
     idents(alloc, tokens)?;
     tokens.expect(TokenKind::Semicolon)?;

@@ -55,10 +55,9 @@ fn begins_simple(tokens: &Tokens) -> bool
 pub fn by_reference(tokens: &mut Tokens) -> Result<bool, ReadFault>
     ensures { Gives (λ x. (x, tokens.new.list.now)) result (by_reference_at tokens.old.list.now) }
 {
-    if !tokens.next_is(TokenKind::Var) {
+    let Some(_) = tokens.next_if(TokenKind::Var) else {
         return Ok(false);
-    }
-    tokens.expect(TokenKind::Var)?;
+    };
     Ok(true)
 }
 
@@ -67,10 +66,9 @@ pub fn by_reference(tokens: &mut Tokens) -> Result<bool, ReadFault>
 pub fn open_array(tokens: &mut Tokens) -> Result<bool, ReadFault>
     ensures { Gives (λ x. (x, tokens.new.list.now)) result (open_array_at tokens.old.list.now) }
 {
-    if !tokens.next_is(TokenKind::Array) {
+    let Some(_) = tokens.next_if(TokenKind::Array) else {
         return Ok(false);
-    }
-    tokens.expect(TokenKind::Array)?;
+    };
     tokens.expect(TokenKind::Of)?;
     Ok(true)
 }
@@ -92,7 +90,6 @@ fn formal(tokens: &mut Tokens) -> Result<Formal, ReadFault>
 }
 
 /// Formal {"," Formal}
-#[tactic(auto, using(ll_grammar::proofs::Loops::listed_starts, crate::proofs::ListLemmas::list_ends))]
 fn some_formals(alloc: Global, tokens: &mut Tokens) -> Result<Vec<Formal>, ReadFault>
     ensures { Gives (λ x. (x.items, tokens.new.list.now)) result (some_formals_at tokens.old.list.now) }
 {
@@ -104,10 +101,9 @@ fn some_formals(alloc: Global, tokens: &mut Tokens) -> Result<Vec<Formal>, ReadF
 pub fn result_type(tokens: &mut Tokens) -> Result<Option<Qual>, ReadFault>
     ensures { Gives (λ x. (x, tokens.new.list.now)) result (result_at tokens.old.list.now) }
 {
-    if !tokens.next_is(TokenKind::Colon) {
+    let Some(_) = tokens.next_if(TokenKind::Colon) else {
         return Ok(None);
-    }
-    tokens.expect(TokenKind::Colon)?;
+    };
     let of = qual(tokens)?;
     Ok(Some(of))
 }
@@ -117,12 +113,11 @@ pub fn result_type(tokens: &mut Tokens) -> Result<Option<Qual>, ReadFault>
 fn formals(alloc: Global, tokens: &mut Tokens) -> Result<TypeForm, ReadFault>
     ensures { Gives (λ x. (type_form_view x, tokens.new.list.now)) result (formals_at tokens.old.list.now) }
 {
-    if !tokens.next_is(TokenKind::LeftParenthesis) {
+    let Some(_) = tokens.next_if(TokenKind::LeftParenthesis) else {
         let formals = Vec::new(alloc);
         let result = None;
         return Ok(TypeForm::Proc { formals, result });
-    }
-    tokens.expect(TokenKind::LeftParenthesis)?;
+    };
     if !begins_formal(tokens) {
         tokens.expect(TokenKind::RightParenthesis)?;
         let result = result_type(tokens)?;
@@ -201,7 +196,6 @@ fn simple(alloc: Global, tokens: &mut Tokens, depth: usize) -> Result<TypeExpr, 
 }
 
 /// Simple {"," Simple}
-#[tactic(auto, using(ll_grammar::proofs::Loops::listed_starts, crate::proofs::ListLemmas::list_ends))]
 fn simples(alloc: Global, tokens: &mut Tokens, depth: usize) -> Result<Vec<TypeExpr>, ReadFault>
     ensures { Gives (λ x. (map type_view x.items, tokens.new.list.now)) result (simples_with (factor_at depth) tokens.old.list.now) }
 {
@@ -329,7 +323,6 @@ fn pointer(alloc: Global, tokens: &mut Tokens, depth: usize) -> Result<TypeExpr,
 
 /// Fields = FieldList {";" FieldList}
 #[cycle(types)]
-#[tactic(auto, using(ll_grammar::proofs::Loops::listed_starts, crate::proofs::ListLemmas::list_ends))]
 fn fields(alloc: Global, tokens: &mut Tokens, depth: usize) -> Result<Vec<FieldList>, ReadFault>
     ensures { Gives (λ x. (map field_list_view x.items, tokens.new.list.now)) result (fields_with (factor_at depth) (type_at depth) (field_at depth) tokens.old.list.now) }
 {
@@ -420,7 +413,6 @@ fn case_fields(alloc: Global, tokens: &mut Tokens, depth: usize) -> Result<Field
 
 /// Variant {"|" Variant}
 #[cycle(types)]
-#[tactic(auto, using(ll_grammar::proofs::Loops::listed_starts, crate::proofs::ListLemmas::list_ends))]
 fn variants(alloc: Global, tokens: &mut Tokens, depth: usize) -> Result<Vec<VariantArm>, ReadFault>
     ensures { Gives (λ x. (map variant_arm_view x.items, tokens.new.list.now)) result (variants_with (factor_at depth) (type_at depth) (field_at depth) tokens.old.list.now) }
 {
@@ -454,10 +446,9 @@ fn other_fields(
 ) -> Result<Vec<FieldList>, ReadFault>
     ensures { Gives (λ x. (map field_list_view x.items, tokens.new.list.now)) result (other_fields_with (factor_at depth) (type_at depth) (field_at depth) tokens.old.list.now) }
 {
-    if !tokens.next_is(TokenKind::Else) {
+    let Some(_) = tokens.next_if(TokenKind::Else) else {
         return Ok(Vec::new(alloc));
-    }
-    tokens.expect(TokenKind::Else)?;
+    };
     let items = fields(alloc, tokens, depth)?;
     Ok(items)
 }

@@ -5,35 +5,36 @@ ghost use Rattle.object_file.specs.Fields.{Gives, number_at, text_at, exact_at, 
 use crate::fault::Stop;
 use std::alloc::Global;
 
-pub(crate) fn number(bytes: &[u8]) -> Result<(u32, &[u8]), Stop>
-    ensures { Gives (λ x. (x.0, x.1.now)) result (number_at bytes.now) }
+/// A number of four bytes, the lowest byte first.
+pub(crate) fn number(bytes: &mut &[u8]) -> Result<u32, Stop>
+    ensures { Gives (λ x. (x, bytes.new.now)) result (number_at bytes.old.now) }
 {
     if bytes.len() < 4 {
         return Err(Stop::Bad(0, 1));
     }
     let (front, rest) = bytes.split_at(4);
-    let number = u32::from_le_bytes([front[0], front[1], front[2], front[3]]);
-    Ok((number, rest))
+    *bytes = rest;
+    Ok(u32::from_le_bytes([front[0], front[1], front[2], front[3]]))
 }
 
 /// A length and so many bytes.
 #[tactic(auto, unfolding(crate::specs::Fields::text_at))]
-pub(crate) fn text(alloc: Global, bytes: &[u8]) -> Result<(Vec<u8>, &[u8]), Stop>
-    ensures { Gives (λ x. (x.0.items, x.1.now)) result (text_at bytes.now) }
+pub(crate) fn text(alloc: Global, bytes: &mut &[u8]) -> Result<Vec<u8>, Stop>
+    ensures { Gives (λ x. (x.items, bytes.new.now)) result (text_at bytes.old.now) }
 {
-    let (len, rest) = number(bytes)?;
-    let len = len as usize;
-    if rest.len() < len {
+    let len = number(bytes)? as usize;
+    if bytes.len() < len {
         return Err(Stop::Bad(0, 1));
     }
-    let (text, rest) = rest.split_at(len);
-    Ok((Vec::from_slice(alloc, text)?, rest))
+    let (text, rest) = bytes.split_at(len);
+    *bytes = rest;
+    Ok(Vec::from_slice(alloc, text)?)
 }
 
-/// The expected bytes. Gives those behind them.
+/// The expected bytes.
 #[tactic(auto, unfolding(crate::specs::Fields::exact_at))]
-pub(crate) fn exact<'b>(expected: &[u8], bytes: &'b [u8]) -> Result<&'b [u8], Stop>
-    ensures { Gives (λ x. x.now) result (exact_at expected.now bytes.now) }
+pub(crate) fn exact(expected: &[u8], bytes: &mut &[u8]) -> Result<(), Stop>
+    ensures { Gives (λ x. bytes.new.now) result (exact_at expected.now bytes.old.now) }
 {
     if bytes.len() < expected.len() {
         return Err(Stop::Bad(0, 1));
@@ -44,7 +45,8 @@ pub(crate) fn exact<'b>(expected: &[u8], bytes: &'b [u8]) -> Result<&'b [u8], St
         }
     }
     let (_, rest) = bytes.split_at(expected.len());
-    Ok(rest)
+    *bytes = rest;
+    Ok(())
 }
 
 /// The field that begins these bytes is valid.

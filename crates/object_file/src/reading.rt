@@ -17,177 +17,162 @@ use m2_base::ProcCode;
 use std::alloc::Global;
 
 #[tactic(auto, unfolding(crate::specs::Reading::export_at))]
-fn export(bytes: &[u8]) -> Result<((u32, u32, u32), &[u8]), Stop>
-    ensures { Gives (λ x. (x.0, x.1.now)) result (export_at [] bytes.now) }
+fn export(bytes: &mut &[u8]) -> Result<(u32, u32, u32), Stop>
+    ensures { Gives (λ x. (x, bytes.new.now)) result (export_at [] bytes.old.now) }
 {
-    let (k, rest) = number(bytes)?;
-    valid(1 <= k, bytes)?;
-    let (params, rest) = number(rest)?;
-    let (cells, rest) = number(rest)?;
-    Ok(((k, params, cells), rest))
+    let at = *bytes;
+    let k = number(bytes)?;
+    valid(1 <= k, at)?;
+    let params = number(bytes)?;
+    let cells = number(bytes)?;
+    Ok((k, params, cells))
 }
 
-fn exports_of(alloc: Global, count: u32, bytes: &[u8]) -> Result<(Exports, &[u8]), Stop>
-    ensures { Gives (λ x. (x.0, x.1.now)) result (many_at export_at count [] bytes.now) }
+fn exports_of(alloc: Global, count: u32, bytes: &mut &[u8]) -> Result<Exports, Stop>
+    ensures { Gives (λ x. (x, bytes.new.now)) result (many_at export_at count [] bytes.old.now) }
 {
     let mut exports = Exports::new(alloc);
-    let mut rest = bytes;
     for _ in 0..count {
-        let (one, after) = export(rest)?;
+        let one = export(bytes)?;
         exports = exports.with(one)?;
-        rest = after;
     }
-    Ok((exports, rest))
+    Ok(exports)
 }
 
 #[tactic(auto, unfolding(crate::specs::Fields::counted_at))]
-fn exports(alloc: Global, bytes: &[u8]) -> Result<(Exports, &[u8]), Stop>
-    ensures { Gives (λ x. (x.0, x.1.now)) result (counted_at any export_at bytes.now) }
+fn exports(alloc: Global, bytes: &mut &[u8]) -> Result<Exports, Stop>
+    ensures { Gives (λ x. (x, bytes.new.now)) result (counted_at any export_at bytes.old.now) }
 {
-    let (count, rest) = number(bytes)?;
-    exports_of(alloc, count, rest)
+    let count = number(bytes)?;
+    exports_of(alloc, count, bytes)
 }
 
 #[tactic(auto, unfolding(crate::specs::Reading::heading_at))]
-fn heading(bytes: &[u8]) -> Result<((u32, u32), &[u8]), Stop>
-    ensures { Gives (λ x. (heading_of x.0, x.1.now)) result (heading_at [] bytes.now) }
+fn heading(bytes: &mut &[u8]) -> Result<(u32, u32), Stop>
+    ensures { Gives (λ x. (heading_of x, bytes.new.now)) result (heading_at [] bytes.old.now) }
 {
-    let (params, rest) = number(bytes)?;
-    let (cells, rest) = number(rest)?;
-    Ok(((params, cells), rest))
+    let params = number(bytes)?;
+    let cells = number(bytes)?;
+    Ok((params, cells))
 }
 
-fn headings_of(alloc: Global, count: u32, bytes: &[u8]) -> Result<(Vec<(u32, u32)>, &[u8]), Stop>
-    ensures { Gives (λ x. (map heading_of x.0.items, x.1.now)) result (many_at heading_at count [] bytes.now) }
+fn headings_of(alloc: Global, count: u32, bytes: &mut &[u8]) -> Result<Vec<(u32, u32)>, Stop>
+    ensures { Gives (λ x. (map heading_of x.items, bytes.new.now)) result (many_at heading_at count [] bytes.old.now) }
 {
     let mut headings = Vec::new(alloc);
-    let mut rest = bytes;
     for _ in 0..count {
-        let (one, after) = heading(rest)?;
+        let one = heading(bytes)?;
         headings.push(one)?;
-        rest = after;
     }
-    Ok((headings, rest))
+    Ok(headings)
 }
 
 #[tactic(auto, unfolding(crate::specs::Fields::counted_at))]
-fn headings(alloc: Global, bytes: &[u8]) -> Result<(Vec<(u32, u32)>, &[u8]), Stop>
-    ensures { Gives (λ x. (map heading_of x.0.items, x.1.now)) result (counted_at any heading_at bytes.now) }
+fn headings(alloc: Global, bytes: &mut &[u8]) -> Result<Vec<(u32, u32)>, Stop>
+    ensures { Gives (λ x. (map heading_of x.items, bytes.new.now)) result (counted_at any heading_at bytes.old.now) }
 {
-    let (count, rest) = number(bytes)?;
-    headings_of(alloc, count, rest)
+    let count = number(bytes)?;
+    headings_of(alloc, count, bytes)
 }
 
 /// An import behind these.
 #[tactic(auto, unfolding(crate::specs::Reading::import_at))]
-fn import<'b>(
-    alloc: Global,
-    before: &Imports,
-    bytes: &'b [u8],
-) -> Result<(ImportNote, &'b [u8]), Stop>
-    ensures { Gives (λ x. (import_of x.0, x.1.now)) result (import_at before.now bytes.now) }
+fn import(alloc: Global, before: &Imports, bytes: &mut &[u8]) -> Result<ImportNote, Stop>
+    ensures { Gives (λ x. (import_of x, bytes.new.now)) result (import_at before.now bytes.old.now) }
 {
-    let (name, rest) = text(alloc, bytes)?;
-    valid(is_new_name(before, &name), bytes)?;
-    let (cells, rest) = number(rest)?;
-    let (headings, rest) = headings(alloc, rest)?;
-    let made = ImportNote {
+    let at = *bytes;
+    let name = text(alloc, bytes)?;
+    valid(is_new_name(before, &name), at)?;
+    let cells = number(bytes)?;
+    let headings = headings(alloc, bytes)?;
+    Ok(ImportNote {
         name,
         cells,
         headings,
-    };
-    Ok((made, rest))
+    })
 }
 
-fn imports_of(alloc: Global, count: u32, bytes: &[u8]) -> Result<(Vec<ImportNote>, &[u8]), Stop>
-    ensures { Gives (λ x. (map import_of x.0.items, x.1.now)) result (many_at import_at count [] bytes.now) }
+fn imports_of(alloc: Global, count: u32, bytes: &mut &[u8]) -> Result<Vec<ImportNote>, Stop>
+    ensures { Gives (λ x. (map import_of x.items, bytes.new.now)) result (many_at import_at count [] bytes.old.now) }
 {
     let mut imports = Imports::new(alloc);
-    let mut rest = bytes;
     for _ in 0..count {
-        let (one, after) = import(alloc, &imports, rest)?;
+        let one = import(alloc, &imports, bytes)?;
         imports = imports.with(alloc, one)?;
-        rest = after;
     }
-    Ok((imports.into_notes(), rest))
+    Ok(imports.into_notes())
 }
 
 #[tactic(auto, unfolding(crate::specs::Fields::counted_at))]
-fn imports(alloc: Global, bytes: &[u8]) -> Result<(Vec<ImportNote>, &[u8]), Stop>
-    ensures { Gives (λ x. (map import_of x.0.items, x.1.now)) result (counted_at any import_at bytes.now) }
+fn imports(alloc: Global, bytes: &mut &[u8]) -> Result<Vec<ImportNote>, Stop>
+    ensures { Gives (λ x. (map import_of x.items, bytes.new.now)) result (counted_at any import_at bytes.old.now) }
 {
-    let (count, rest) = number(bytes)?;
-    imports_of(alloc, count, rest)
+    let count = number(bytes)?;
+    imports_of(alloc, count, bytes)
 }
 
 /// A procedure behind these.
 #[tactic(auto, unfolding(crate::specs::Reading::procedure_at))]
-fn procedure<'b>(
+fn procedure(
     alloc: Global,
     exports: &Exports,
     before: &[ProcCode],
-    bytes: &'b [u8],
-) -> Result<(ProcCode, &'b [u8]), Stop>
+    bytes: &mut &[u8],
+) -> Result<ProcCode, Stop>
     requires { length before.now < 2 ^ 32 }
-    ensures { Gives (λ x. (procedure_of x.0, x.1.now)) result (procedure_at exports.now (map procedure_of before.now) bytes.now) }
+    ensures { Gives (λ x. (procedure_of x, bytes.new.now)) result (procedure_at exports.now (map procedure_of before.now) bytes.old.now) }
 {
     let k = before.len() as u32;
-    let at = bytes;
-    let (outer, rest) = number(at)?;
+    let at = *bytes;
+    let outer = number(bytes)?;
     valid(is_outer(exports, k, outer), at)?;
-    let at = rest;
-    let (params, rest) = number(at)?;
+    let at = *bytes;
+    let params = number(bytes)?;
     valid(is_params(exports, k, params), at)?;
-    let at = rest;
-    let (cells, rest) = number(at)?;
+    let at = *bytes;
+    let cells = number(bytes)?;
     valid(is_result(exports, k, cells), at)?;
-    let at = rest;
-    let (locals, rest) = number(at)?;
+    let at = *bytes;
+    let locals = number(bytes)?;
     valid(is_locals(params, locals), at)?;
-    let (high, rest) = number(rest)?;
-    let (bytes, rest) = text(alloc, rest)?;
-    let (code, rest) = text(alloc, rest)?;
-    let made = ProcCode {
+    let high = number(bytes)?;
+    let strings = text(alloc, bytes)?;
+    let code = text(alloc, bytes)?;
+    Ok(ProcCode {
         outer,
         params,
         result: cells,
         locals,
         high,
-        bytes,
+        bytes: strings,
         code,
-    };
-    Ok((made, rest))
+    })
 }
 
-fn procedures_of<'b>(
+fn procedures_of(
     alloc: Global,
     exports: &Exports,
     count: u32,
-    bytes: &'b [u8],
-) -> Result<(Vec<ProcCode>, &'b [u8]), Stop>
-    ensures { Gives (λ x. (map procedure_of x.0.items, x.1.now)) result (many_at (procedure_at exports.now) count [] bytes.now) }
+    bytes: &mut &[u8],
+) -> Result<Vec<ProcCode>, Stop>
+    ensures { Gives (λ x. (map procedure_of x.items, bytes.new.now)) result (many_at (procedure_at exports.now) count [] bytes.old.now) }
 {
     let mut procedures = Vec::new(alloc);
-    let mut rest = bytes;
     for _ in 0..count {
-        let (one, after) = procedure(alloc, exports, &procedures, rest)?;
+        let one = procedure(alloc, exports, &procedures, bytes)?;
         procedures.push(one)?;
-        rest = after;
     }
-    Ok((procedures, rest))
+    Ok(procedures)
 }
 
 #[tactic(auto, unfolding(crate::specs::Fields::counted_at))]
-fn procedures<'b>(
-    alloc: Global,
-    exports: &Exports,
-    bytes: &'b [u8],
-) -> Result<(Vec<ProcCode>, &'b [u8]), Stop>
-    ensures { Gives (λ x. (map procedure_of x.0.items, x.1.now)) result (counted_at (spec_count exports.now) (procedure_at exports.now) bytes.now) }
+fn procedures(alloc: Global, exports: &Exports, bytes: &mut &[u8]) -> Result<Vec<ProcCode>, Stop>
+    ensures { Gives (λ x. (map procedure_of x.items, bytes.new.now)) result (counted_at (spec_count exports.now) (procedure_at exports.now) bytes.old.now) }
 {
-    let (count, rest) = number(bytes)?;
-    valid(is_count(exports.as_slice(), count), bytes)?;
-    procedures_of(alloc, exports, count, rest)
+    let at = *bytes;
+    let count = number(bytes)?;
+    valid(is_count(exports.as_slice(), count), at)?;
+    procedures_of(alloc, exports, count, bytes)
 }
 
 /// The version with which the bytes behind the first four are compared.
@@ -203,22 +188,23 @@ fn compared(bytes: &[u8]) -> [u8; 4]
 
 /// The fields of an object, and what follows them.
 #[tactic(auto, unfolding(crate::specs::Reading::object_at, crate::specs::Reading::fields_at))]
-fn object(alloc: Global, bytes: &[u8]) -> Result<(Parts, &[u8]), Stop>
-    ensures { Gives (λ x. (contents_of x.0, x.1.now)) result (object_at bytes.now) }
+fn object(alloc: Global, bytes: &mut &[u8]) -> Result<Parts, Stop>
+    ensures { Gives (λ x. (contents_of x, bytes.new.now)) result (object_at bytes.old.now) }
 {
-    let rest = exact(b"M2OB", bytes)?;
-    let at = exact(&compared(rest), rest)?;
-    let (name, rest) = text(alloc, at)?;
+    exact(b"M2OB", bytes)?;
+    exact(&compared(bytes), bytes)?;
+    let at = *bytes;
+    let name = text(alloc, bytes)?;
     valid(is_identifier(&name), at)?;
-    let at = rest;
-    let (cells, rest) = number(at)?;
+    let at = *bytes;
+    let cells = number(bytes)?;
     valid(cells <= 16_777_215, at)?;
-    let at = rest;
-    let (own_cells, rest) = number(at)?;
+    let at = *bytes;
+    let own_cells = number(bytes)?;
     valid(own_cells <= cells, at)?;
-    let (exports, rest) = exports(alloc, rest)?;
-    let (imports, rest) = imports(alloc, rest)?;
-    let (procedures, rest) = procedures(alloc, &exports, rest)?;
+    let exports = exports(alloc, bytes)?;
+    let imports = imports(alloc, bytes)?;
+    let procedures = procedures(alloc, &exports, bytes)?;
     let parts = Parts {
         name,
         cells,
@@ -227,7 +213,7 @@ fn object(alloc: Global, bytes: &[u8]) -> Result<(Parts, &[u8]), Stop>
         imports,
         procedures,
     };
-    Ok((parts, rest))
+    Ok(parts)
 }
 
 /// The fields of an object that is all of the bytes.
@@ -235,7 +221,8 @@ fn object(alloc: Global, bytes: &[u8]) -> Result<(Parts, &[u8]), Stop>
 pub(crate) fn fields(alloc: Global, bytes: &[u8]) -> Result<Parts, Stop>
     ensures { Gives contents_of result (whole_at bytes.now) }
 {
-    let (parts, rest) = object(alloc, bytes)?;
+    let mut rest = bytes;
+    let parts = object(alloc, &mut rest)?;
     ends(rest)?;
     Ok(parts)
 }

@@ -5,4 +5,4 @@ use Rattle.object_file.specs.Reading.{heading_at}
 use Rattle.object_file.proofs.reading.headings_of.Given as goal
 
 abbrev pub invariant-loop : goal.invariant-loop
-invariant-loop l = record { so_many : vec_len l.headings ≡ l.counter; the_rest : many_at heading_at (l.count - l.counter) (map heading_of l.headings.items) l.rest ≡ many_at heading_at l.count [] l.bytes }
+invariant-loop l = record { so_many : vec_len l.headings ≡ l.counter; the_rest : many_at heading_at (l.count - l.counter) (map heading_of l.headings.items) l.bytes.now ≡ many_at heading_at l.count [] l.fn.bytes.now }
