@@ -28,8 +28,8 @@ runs_none s = record { state_is = refl; events_are = refl }
 
 -- a refused heading
 module _ (G : Cuttable) where
-  abbrev W0 : Grammar Token
-  W0 = grammar_of G
+  abbrev whole_grammar : Grammar Token
+  whole_grammar = grammar_of G
 
   pub record HeadEnds (k c : ℕ) (fs : List (ℕ × Mode)) (m : Mode) (p : ℕ) (hs u : List Token) : Type 0 where
     pub p' : ℕ
@@ -47,17 +47,17 @@ module _ (G : Cuttable) where
       to_joined k [] ys = refl
       to_joined k (x ∷ xs) ys = ap (λ z. (k, x) ∷ z) (to_joined k xs ys)
 
-  pub head_ends : {f : Fault} {b : ℕ} {r : Rule} {u rest : List Token} → Refuses W0 f b r u rest → (p : ℕ) (kk : ℕ → Bool) → head_flow r p kk ≡ true → (k c : ℕ) (fs : List (ℕ × Mode)) (m : Mode) (hs : List Token) → HeadEnds k c fs m p hs u
+  pub head_ends : {f : Fault} {b : ℕ} {r : Rule} {u rest : List Token} → Refuses whole_grammar f b r u rest → (p : ℕ) (kk : ℕ → Bool) → head_flow r p kk ≡ true → (k c : ℕ) (fs : List (ℕ × Mode)) (m : Mode) (hs : List Token) → HeadEnds k c fs m p hs u
   head_ends (refuse_token g) p kk h k c fs m hs = hold k c fs m p hs
   head_ends (refuse_then {s = s} q) p kk h k c fs m hs = head_ends q p (λ p'. head_flow s p' kk) h k c fs m hs
   head_ends (refuse_later {s = s} {d = x} {u = u} a q) p kk h k c fs m hs =
-      let i = heads_of G (accepts_derives W0 a) p (λ p'. head_flow s p' kk) h k c fs m hs in
+      let i = heads_of G (accepts_derives whole_grammar a) p (λ p'. head_flow s p' kk) h k c fs m hs in
       beyond k c fs m p i.p' hs (tokens x) u (record { state_is = i.state_is; events_are = i.events_are }) (head_ends q i.p' kk i.test k c fs m (hs ++ tokens x))
   head_ends (refuse_left g q) p kk h k c fs m hs = head_ends q p kk (and_l _ _ h) k c fs m hs
   head_ends (refuse_right {r = r} g q) p kk h k c fs m hs = head_ends q p kk (and_r (head_flow r p kk) _ h) k c fs m hs
   head_ends (refuse_many g q) p kk h k c fs m hs = head_ends q p (λ p'. p' == p) (and_l _ _ h) k c fs m hs
   head_ends (refuse_more {d = x} {u = u} g a q) p kk h k c fs m hs =
-      let i = heads_of G (accepts_derives W0 a) p (λ p'. p' == p) (and_l _ _ h) k c fs m hs in
+      let i = heads_of G (accepts_derives whole_grammar a) p (λ p'. p' == p) (and_l _ _ h) k c fs m hs in
       let same = ap (λ z. state k c fs (heading m z (hs ++ tokens x))) (eqb-true i.p' p i.test) in
       beyond k c fs m p p hs (tokens x) u (record { state_is = i.state_is ∙ same; events_are = i.events_are }) (head_ends q p kk h k c fs m (hs ++ tokens x))
   head_ends (refuse_deep q) p kk h k c fs m hs = absurd (true≢false (sym h))
