@@ -20,6 +20,7 @@ use Rattle.m2_base.specs.declared.rows.Row.{Row}
 use Rattle.m2_base.specs.declared.sites.Around.{Around}
 use Rattle.m2_base.specs.declared.sites.Site.{Site}
 use Rattle.m2_base.specs.declared.token.Token.{Token}
+use Rattle.m2_lex.proofs.SpelledNames.{standard_spelled}
 use Rattle.statics_tests.specs.Samples.{empty_text, empty_unit, first_frame, main_block, the_end}
 use Rattle.type_rules.specs.Scenes.{IsOperandThere, IsThere, Suits}
 use Rattle.type_rules.specs.Sites.{SuitsSite}
@@ -30,6 +31,7 @@ empty_is_unit =
     record {
       standard = record { rest = []; joined = append-nil standard_names };
       countable = omega arith;
+      spelled = standard_spelled;
       main = (refl, tt);
       few = omega arith;
       tokens = omega arith;
