@@ -15,13 +15,13 @@ use crate::constants::constant;
 use crate::entering::{ARRAY, LAST, RECORD, scopes};
 use code_form::Instr;
 use expr_sem::{
-    Coded, Connective, Fragment, Fragments, Piece, Refusal, With, answered, append, append_all,
-    as_variable, assigned_to, capped_sum, cells_of, characters, code_is_short,
-    diagnostics_leave_nothing, entry_coded, errors_have_a_cause, errors_have_no_code,
-    field_of_withs, fitted_code, heights_are_right, instr_behind, is_structured,
-    operands_are_known, pair, push_instr, refused, side_of, value_code, value_of,
+    Coded, Connective, Fragment, Fragments, Piece, With, answered, append, append_all, as_variable,
+    assigned_to, capped_sum, cells_of, characters, code_is_short, diagnostics_leave_nothing,
+    entry_coded, errors_have_a_cause, errors_have_no_code, field_of_withs, fitted_code,
+    heights_are_right, instr_behind, is_structured, operands_are_known, pair, push_instr, refused,
+    side_of, value_code, value_of,
 };
-use m2_base::{Ask, Expr, Memory, Notes, Operand, Place, Site};
+use m2_base::{Ask, Diagnostic, Expr, Memory, Notes, Operand, Place, Site};
 use m2_samples::{Block, around, layout_of, read};
 use scope_core::PlainScopes;
 use std::alloc::Global;
@@ -122,7 +122,7 @@ fn assigned(
     let mut fragments = Fragments::new(alloc);
     let mut notes = Notes::new(alloc);
     let x = coded(scopes, site, e, &mut fragments)?;
-    let refusal = Refusal::NotAssignable;
+    let refusal = Diagnostic::NotAssignable;
     match assigned_to(scopes, site, to, 1, refusal, x, &mut notes) {
         Ok(Ask::Known(x)) => Ok((x.operand, notes.diags.len())),
         _ => Err(Memory),
@@ -188,7 +188,7 @@ fn text_of(site: &Site, name: u32) -> Result<Vec<u8>, Memory> {
 /// What is refused: its operand, and the code of its diagnostic.
 fn refusal_of(alloc: Global, site: &Site) -> Result<(Operand, Option<u8>), Memory> {
     let mut notes = Notes::new(alloc);
-    match refused(site, 1, Refusal::NotAVariable, &mut notes)? {
+    match refused(site, 1, Diagnostic::NotAVariable, &mut notes)? {
         Ask::Known(x) => Ok((x.operand, notes.diags.first().map(|diag| diag.code))),
         Ask::DontKnowYet(_) => Err(Memory),
     }
