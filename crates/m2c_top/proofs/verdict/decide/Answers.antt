@@ -12,8 +12,8 @@ standard_few = lit≤ tt
 pub tokens_of-requires-clause-room : goal.tokens_of-requires-clause-room
 tokens_of-requires-clause-room c = omega (arith, ap length c.in_ok-names.ensures, standard_few)
 
-pub returns-then-text-gt-MOST_BYTES-clause-decides : goal.returns-then-text-gt-MOST_BYTES-clause-decides
-returns-then-text-gt-MOST_BYTES-clause-decides c = too_long (omega arith)
+pub returns-then-text-gt-MOST_TEXT_BYTES-clause-decides : goal.returns-then-text-gt-MOST_TEXT_BYTES-clause-decides
+returns-then-text-gt-MOST_TEXT_BYTES-clause-decides c = too_long (omega arith)
 
 pub returns-in_default-clause-decides : goal.returns-in_default-clause-decides
 returns-in_default-clause-decides c = too_many_tokens (omega arith) (rw c.in_default.is at c.in_ok-tokens.ensures.tokens)
