@@ -1,8 +1,12 @@
 -- The texts of a unit, breadth first: which modules the texts read so far name, and which of them is asked for next.
-use Rattle.std.specs.Prelude.{◌≡◌, ℕ, Bool, true, false, List, [], ◌∷◌, ◌++◌, Option, Some, None, fold, if◌then◌else◌, length, map, nat_eq, position, slice_get, sum_by}
+use Rattle.std.specs.Prelude.{◌≡◌, ℕ, Bool, true, false, List, [], ◌∷◌, ◌++◌, ◌+◌, ◌<◌, ◌≤◌, Option, Some, None, fold, if◌then◌else◌, length, map, nat_eq, option_map, position, slice_get, sum_by}
 use Rattle.std.specs.List.{list_any}
+use Rattle.std.specs.Option.{option_flatten}
 use Rattle.m2_base.specs.Fronts.{Front}
-use Rattle.m2_base.specs.Units.{TextOf}
+use Rattle.m2_base.specs.Lists.{Each}
+use Rattle.m2_base.specs.Units as units
+use Rattle.m2_base.specs.Units.{IsNamed, TextOf}
+use Rattle.m2_base.specs.declared.limits.TheConstants.{MOST_TEXTS, MOST_UNIT_TOKENS}
 use Rattle.m2_base.specs.declared.trees.Ident.{Ident}
 
 -- a text that was read, with its front
@@ -42,6 +46,10 @@ with_module modules name = if list_any (nat_eq name) modules then modules else m
 abbrev pub with_modules : List ℕ → List ℕ → List ℕ
 with_modules modules names = fold with_module modules names
 
+-- a front, by the names alone
+abbrev pub front_by_names : Front → units.Front
+front_by_names f = record { name = option_map (λ i. i.name) f.name; implementation = f.implementation; imports = names_of f.imports }
+
 abbrev pub named_by : List Found → List ℕ
 named_by [] = []
 named_by (f ∷ found) = names_of (modules_of f.front) ++ named_by found
@@ -61,11 +69,7 @@ tokens_in found = sum_by (λ f. length f.text.tokens) found
 -- what is kept under a place, if there is one
 abbrev pub answer_at : List (Option ℕ) → Option ℕ → Option ℕ
 answer_at asked None = None
-answer_at asked (Some place) = joined (slice_get asked place)
-  where
-    abbrev joined : Option (Option ℕ) → Option ℕ
-    joined None = None
-    joined (Some answer) = answer
+answer_at asked (Some place) = option_flatten (slice_get asked place)
 
 -- the number of the text of that module, if it was asked for and is there
 abbrev pub text_of_module : Progress → ℕ → Option ℕ
@@ -74,6 +78,18 @@ text_of_module p name = answer_at p.asked (position (nat_eq name) (modules_named
 -- one more module was asked for, and its text has this number, if there is one
 abbrev pub answered : Progress → Option ℕ → Progress
 answered p text = progress_of p.names p.found (p.asked ++ text ∷ [])
+
+-- What the code has beside it: the modules named so far, and how many tokens there are. None of these is above its limit, so
+-- that each fits a number of the code.
+pub record IsKept (p : Progress) (named_so_far : List ℕ) (count : ℕ) : Type 0 where
+  pub modules : named_so_far ≡ modules_named p.found
+  pub tokens : count ≡ tokens_in p.found
+  pub few_tokens : count ≤ MOST_UNIT_TOKENS
+  pub few_modules : length named_so_far < MOST_TEXTS
+  pub few_names : length p.names ≤ 29 + count
+  pub few_asked : length p.asked ≤ length named_so_far
+  pub few_found : length p.found ≤ length p.asked + 1
+  pub known : Each (IsNamed p.names) named_so_far
 
 -- one more text was read
 abbrev pub longer : Progress → List (List ℕ) → Found → Progress

@@ -7,14 +7,22 @@ use Rattle.def_import.specs.Closure.{Found, Progress, names_of, text_of_module}
 abbrev pub is_in : List ℕ → ℕ → Bool
 is_in taken k = list_any (nat_eq k) taken
 
--- there is no such text, or it is taken
-abbrev pub is_taken : List ℕ → Option ℕ → Bool
-is_taken taken None = true
-is_taken taken (Some k) = is_in taken k
+abbrev pub one_number : Option ℕ → List ℕ
+one_number None = []
+one_number (Some k) = k ∷ []
+
+-- the texts of these modules, as far as they are found
+abbrev pub texts_of_modules : Progress → List ℕ → List ℕ
+texts_of_modules p [] = []
+texts_of_modules p (name ∷ names) = one_number (text_of_module p name) ++ texts_of_modules p names
+
+-- the imports of a text that are found
+abbrev pub needs_of : Progress → Found → List ℕ
+needs_of p f = texts_of_modules p (names_of f.front.imports)
 
 -- the text of this number isn't taken yet, and its imports that are found are
 abbrev pub is_ready : Progress → List ℕ → ℕ → Found → Bool
-is_ready p taken k f = not (is_in taken k) && list_all (λ name. is_taken taken (text_of_module p name)) (names_of f.front.imports)
+is_ready p taken k f = not (is_in taken k) && list_all (is_in taken) (needs_of p f)
 
 -- the first of these texts that is ready; the numbers go from k on
 abbrev pub first_ready : Progress → List ℕ → ℕ → List Found → Option ℕ

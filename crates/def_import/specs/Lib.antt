@@ -1,3 +1,4 @@
+pub mod Answers
 pub mod Closure
 pub mod Dependencies
 pub mod Library

@@ -23,51 +23,63 @@ pub data Limit : Type 0 where
   too_many_unit_tokens : Limit
   too_many_texts : Limit
 
--- These bytes are read as a text of that name: its tokens, and its front.
-pub record IsRead (p : Progress) (definition : Bool) (name : ℕ) (bytes : List ℕ) (names : List (List ℕ)) (f : Found) : Type 0 where
+-- These bytes are read as a text of that name, whose names are numbered on from the old ones: its tokens, and its front.
+pub record IsRead (old : List (List ℕ)) (definition : Bool) (name : ℕ) (bytes : List ℕ) (new : List (List ℕ)) (f : Found) : Type 0 where
   pub short : length bytes ≤ MOST_TEXT_BYTES
-  pub tokens : AreTokens p.names names bytes f.text.tokens
+  pub tokens : AreTokens old new bytes f.text.tokens
   pub few : length f.text.tokens ≤ MOST_TOKENS
   pub text : f.text ≡ record { name = name; definition = definition; tokens = f.text.tokens }
   pub front : IsFront definition f.text.tokens f.front
 
 -- There is room for the text in the unit.
-pub record Fits (p : Progress) (f : Found) : Type 0 where
-  pub tokens : tokens_in p.found + length f.text.tokens ≤ MOST_UNIT_TOKENS
-  pub texts : length (modules_named (p.found ++ f ∷ [])) < MOST_TEXTS
+pub record Fits (found : List Found) (f : Found) : Type 0 where
+  pub tokens : tokens_in found + length f.text.tokens ≤ MOST_UNIT_TOKENS
+  pub texts : length (modules_named (found ++ f ∷ [])) < MOST_TEXTS
 
--- The first limit that a text of these bytes passes, behind those that are read so far.
-pub data Passes (p : Progress) (definition : Bool) (name : ℕ) (bytes : List ℕ) : Limit → Type 0 where
-  long : MOST_TEXT_BYTES < length bytes → Passes p definition name bytes too_long
-  of_tokens : length bytes ≤ MOST_TEXT_BYTES → HasTooMany bytes → Passes p definition name bytes too_many_tokens
-  of_unit : {names : List (List ℕ)} {f : Found} → IsRead p definition name bytes names f → MOST_UNIT_TOKENS < tokens_in p.found + length f.text.tokens
-      → Passes p definition name bytes too_many_unit_tokens
-  of_texts : {names : List (List ℕ)} {f : Found} → IsRead p definition name bytes names f → tokens_in p.found + length f.text.tokens ≤ MOST_UNIT_TOKENS
-      → MOST_TEXTS ≤ length (modules_named (p.found ++ f ∷ [])) → Passes p definition name bytes too_many_texts
+-- The first limit that a text of these bytes passes, behind those that are found so far.
+pub data Passes (names : List (List ℕ)) (found : List Found) (definition : Bool) (name : ℕ) (bytes : List ℕ) : Limit → Type 0 where
+  long : MOST_TEXT_BYTES < length bytes → Passes names found definition name bytes too_long
+  of_tokens : length bytes ≤ MOST_TEXT_BYTES → HasTooMany bytes → Passes names found definition name bytes too_many_tokens
+  of_unit : {new : List (List ℕ)} {f : Found} → IsRead names definition name bytes new f → MOST_UNIT_TOKENS < tokens_in found + length f.text.tokens
+      → Passes names found definition name bytes too_many_unit_tokens
+  of_texts : {new : List (List ℕ)} {f : Found} → IsRead names definition name bytes new f → tokens_in found + length f.text.tokens ≤ MOST_UNIT_TOKENS
+      → MOST_TEXTS ≤ length (modules_named (found ++ f ∷ [])) → Passes names found definition name bytes too_many_texts
+
+-- A text of these bytes is read.
+pub record Reads (p : Progress) (definition : Bool) (name : ℕ) (bytes : List ℕ) (q : Progress) : Type 0 where
+  pub names : List (List ℕ)
+  pub found : Found
+  pub read : IsRead p.names definition name bytes names found
+  pub fits : Fits p.found found
+  pub longer : q ≡ longer p names found
 
 -- nothing is read yet: the names are those of every unit and the file's
 abbrev pub begun : List ℕ → Progress
 begun file = progress_of (with_name standard_names file) [] []
 
+-- A module is asked for, and its text is read, if there is one.
+pub data Asks (holds : Option Files) (p : Progress) (name : ℕ) : Progress → Type 0 where
+  not_there : HasDefinition holds p.names name None → Asks holds p name (answered p None)
+  is_there : {bytes : List ℕ} {q : Progress} → HasDefinition holds p.names name (Some bytes)
+      → Reads (answered p (Some (length p.found))) true name bytes q → Asks holds p name q
+
 -- The texts of the unit can be read so far: the main text, and then one module after another.
 pub data Reaches (holds : Option Files) (file main : List ℕ) : Progress → Type 0 where
-  main_read : {number : ℕ} {names : List (List ℕ)} {f : Found} → number_in (begun file).names file ≡ Some number
-      → IsRead (begun file) false number main names f → Fits (begun file) f → Reaches holds file main (longer (begun file) names f)
-  not_there : {p : Progress} {module : ℕ} → Reaches holds file main p → next_module p ≡ Some module → HasDefinition holds p.names module None
-      → Reaches holds file main (answered p None)
-  is_there : {p : Progress} {module : ℕ} {bytes : List ℕ} {names : List (List ℕ)} {f : Found} → Reaches holds file main p → next_module p ≡ Some module
-      → HasDefinition holds p.names module (Some bytes) → IsRead p true module bytes names f → Fits p f
-      → Reaches holds file main (longer (answered p (Some (length p.found))) names f)
+  main_read : {number : ℕ} {p : Progress} → number_in (with_name standard_names file) file ≡ Some number → Reads (begun file) false number main p
+      → Reaches holds file main p
+  then_asks : {p q : Progress} {name : ℕ} → Reaches holds file main p → next_module p ≡ Some name → Asks holds p name q
+      → Reaches holds file main q
 
--- the texts of the unit
+-- the text of the own definition that is told, if it is there
+abbrev pub text_told : Progress → Option Ident → Option ℕ
+text_told p None = None
+text_told p (Some i) = text_of_module p i.name
+
 abbrev pub own_text : Progress → List Found → Option ℕ
 own_text p [] = None
-own_text p (main ∷ found) = text_of p (own_name main.front)
-  where
-    abbrev text_of : Progress → Option Ident → Option ℕ
-    text_of p None = None
-    text_of p (Some i) = text_of_module p i.name
+own_text p (main ∷ found) = text_told p (own_name main.front)
 
+-- the unit of the texts that are read
 abbrev pub unit_in : Progress → UnitTexts
 unit_in p = unit_of p.names (map (λ f. f.text) p.found) (dependency_order p) (own_text p p.found)
 
@@ -79,11 +91,18 @@ pub record IsGathered (holds : Option Files) (file main : List ℕ) (unit : Unit
   pub texts : unit ≡ unit_in progress
   pub wrong : wrongs ≡ wrongs_of progress
 
+-- The text of a module that is asked for passes this limit.
+pub record AskPasses (holds : Option Files) (p : Progress) (name : ℕ) (limit : Limit) : Type 0 where
+  pub bytes : List ℕ
+  pub has : HasDefinition holds p.names name (Some bytes)
+  pub passes : Passes p.names p.found true name bytes limit
+
 -- A text passes this limit, the first that is passed.
 pub data Stops (holds : Option Files) (file main : List ℕ) (limit : Limit) : Type 0 where
-  at_main : {number : ℕ} → number_in (begun file).names file ≡ Some number → Passes (begun file) false number main limit → Stops holds file main limit
-  at_module : {p : Progress} {module : ℕ} {bytes : List ℕ} → Reaches holds file main p → next_module p ≡ Some module
-      → HasDefinition holds p.names module (Some bytes) → Passes p true module bytes limit → Stops holds file main limit
+  at_main : {number : ℕ} → number_in (with_name standard_names file) file ≡ Some number → Passes (with_name standard_names file) [] false number main limit
+      → Stops holds file main limit
+  at_module : {p : Progress} {name : ℕ} → Reaches holds file main p → next_module p ≡ Some name → AskPasses holds p name limit
+      → Stops holds file main limit
 
 -- The same of the main text that the shelf has.
 pub record IsGatheredFrom (holds : Option Files) (file : List ℕ) (unit : UnitTexts) (wrongs : List Diag) : Type 0 where

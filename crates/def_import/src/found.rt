@@ -1,4 +1,8 @@
 //! A text that was read.
+ghost use Rattle.std.specs.Prelude.{◌≡◌, length};
+ghost use Rattle.m2_parse.specs.FrontViews.{front_view};
+ghost use Rattle.def_import.specs.Closure.{own_name as spec_own_name};
+
 use m2_base::{Ident, Text};
 use m2_parse::Front;
 use std::marker::Model;
@@ -20,8 +24,19 @@ impl Model for Found {
 }
 
 impl Found {
-    ghost use Rattle.std.specs.Prelude.{◌≡◌};
-    ghost use Rattle.def_import.specs.Closure.{own_name as spec_own_name};
+    /// How many tokens it has.
+    pub fn count(&self) -> usize
+        ensures { result ≡ length self.now.text.tokens }
+    {
+        self.text.tokens.len()
+    }
+
+    /// The modules that it imports.
+    pub fn imports(&self) -> &[Ident]
+        ensures { result.now ≡ self.now.front.imports }
+    {
+        &self.front.imports
+    }
 
     /// The name of an implementation's own definition, if it tells one.
     pub fn own_name(&self) -> Option<Ident>
@@ -32,7 +47,9 @@ impl Found {
 }
 
 /// The name of an implementation's own definition, if it tells one.
-pub fn own_name(front: &Front) -> Option<Ident> {
+pub fn own_name(front: &Front) -> Option<Ident>
+    ensures { result ≡ spec_own_name (front_view front.now) }
+{
     if front.implementation {
         front.name
     } else {

@@ -56,8 +56,8 @@ pub fn gather_text<H: Shelf>(
 ) -> Result<Gathered, GatherFault> {
     let (begun, number) = begin(alloc, name.as_bytes())?;
     let mut progress = begun.read(alloc, false, number, main)?;
-    while let Some(module) = progress.next_module() {
-        progress = progress.ask(alloc, shelf, module)?;
+    while let Some(name) = progress.next_module() {
+        progress = progress.ask(alloc, shelf, name)?;
     }
     let gathered = finish(alloc, progress)?;
     Ok(gathered)

@@ -1,8 +1,11 @@
 //! How far the texts of a unit are read.
+ghost use Rattle.std.specs.Prelude.{◌≡◌};
+ghost use Rattle.def_import.specs.Closure.{next_module as spec_next_module, text_of_module as spec_text_of_module};
+
 use crate::found::Found;
 use indexmap::IndexSet;
 use m2_base::Names;
-use std::alloc::{AllocError, AllocFailed, Global};
+use std::marker::Model;
 
 /// How far the texts of a unit are read.
 #[derive(Drop)]
@@ -18,15 +21,30 @@ pub struct Progress {
     pub tokens: usize,
 }
 
+impl Model for Progress {
+    ghost use Rattle.def_import.specs.Closure as closure;
+    ghost use Rattle.def_import.specs.Closure.{IsKept, progress_of};
+
+    ghost Value = { closure.Progress };
+
+    ghost view = { λ p. progress_of p.names p.found.items p.asked.items };
+
+    ghost invariant = { λ p. IsKept (progress_of p.names p.found.items p.asked.items) p.modules.keys p.tokens };
+}
+
 impl Progress {
     /// The module that is asked for next.
-    pub fn next_module(&self) -> Option<u32> {
+    pub fn next_module(&self) -> Option<u32>
+        ensures { result ≡ spec_next_module self.now }
+    {
         self.modules.get_index(self.asked.len()).copied()
     }
 
     /// The number of that module's text, if it was asked for and is there.
-    pub fn text_of_module(&self, module: u32) -> Option<u32> {
-        let place = self.modules.get_index_of(&module)?;
+    pub fn text_of_module(&self, name: u32) -> Option<u32>
+        ensures { result ≡ spec_text_of_module self.now name }
+    {
+        let place = self.modules.get_index_of(&name)?;
         self.asked.get(place).copied().flatten()
     }
 }

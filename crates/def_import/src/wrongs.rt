@@ -28,10 +28,10 @@ fn note_missing(
     progress: &Progress,
     wrongs: &mut Vec<Diag>,
     text: u32,
-    module: Ident,
+    name: Ident,
 ) -> Result<(), Memory> {
-    let missing = progress.text_of_module(module.name).is_none();
-    note_where(missing, wrongs, text, module, Diagnostic::NoDefinitionText)
+    let missing = progress.text_of_module(name.name).is_none();
+    note_where(missing, wrongs, text, name, Diagnostic::NoDefinitionText)
 }
 
 /// Notes what is wrong at the module's name: it is another than the text's, or the imports go in a circle.

@@ -1,0 +1,8 @@
+mod FileNames
+mod ReadFiles
+mod Naming
+mod Beginning
+pub mod Fitting
+mod FrontNames
+mod Limits
+mod OneMore
