@@ -6,3 +6,5 @@ pub mod Fitting
 mod FrontNames
 mod Limits
 mod OneMore
+mod Asking
+mod Ordering

@@ -1,6 +1,6 @@
 -- What gathering the texts of a unit comes to: the texts with what is wrong with their imports, or the first limit that
 -- they pass. The texts are read in their order, and at each the limits are tried in the order in which they stand here.
-use Rattle.std.specs.Prelude.{◌≡◌, ℕ, ◌+◌, ◌<◌, ◌≤◌, Bool, true, false, List, [], ◌∷◌, ◌++◌, Option, Some, None, length, map}
+use Rattle.std.specs.Prelude.{◌≡◌, ℕ, ◌+◌, ◌<◌, ◌≤◌, Bool, true, false, List, [], ◌∷◌, ◌++◌, Option, Some, None, length, map, slice_index}
 use Rattle.m2_io.specs.Files.{Files}
 use Rattle.m2_base.specs.Fronts.{Front, IsFront}
 use Rattle.m2_base.specs.Names.{number_in, standard_names, with_name}
@@ -24,9 +24,10 @@ pub data Limit : Type 0 where
   too_many_texts : Limit
 
 -- These bytes are read as a text of that name, whose names are numbered on from the old ones: its tokens, and its front.
-pub record IsRead (old : List (List ℕ)) (definition : Bool) (name : ℕ) (bytes : List ℕ) (new : List (List ℕ)) (f : Found) : Type 0 where
-  pub short : length bytes ≤ MOST_TEXT_BYTES
-  pub tokens : AreTokens old new bytes f.text.tokens
+pub record IsRead (old : List (List ℕ)) (definition : Bool) (name : ℕ) (text_bytes : List ℕ) (new : List (List ℕ)) (f : Found) : Type 0 where
+  pub bytes : (i : ℕ) → slice_index text_bytes i < 256
+  pub short : length text_bytes ≤ MOST_TEXT_BYTES
+  pub tokens : AreTokens old new text_bytes f.text.tokens
   pub few : length f.text.tokens ≤ MOST_TOKENS
   pub text : f.text ≡ record { name = name; definition = definition; tokens = f.text.tokens }
   pub front : IsFront definition f.text.tokens f.front

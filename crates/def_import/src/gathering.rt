@@ -39,7 +39,7 @@ fn finish(alloc: Global, progress: Progress) -> Result<Gathered, Memory> {
     let wrongs = wrongs_of(alloc, &progress, &order)?;
     let own = own_text(&progress);
     let list = texts_of(alloc, progress.found)?;
-    let texts = Texts::new(progress.names, list, order.taken, own);
+    let texts = Texts::new(progress.names, list, order, own);
     if wrongs.is_empty() {
         Ok(Gathered::Whole(texts))
     } else {

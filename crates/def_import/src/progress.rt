@@ -1,5 +1,5 @@
 //! How far the texts of a unit are read.
-ghost use Rattle.std.specs.Prelude.{◌≡◌};
+ghost use Rattle.std.specs.Prelude.{◌≡◌, ◌<◌, length};
 ghost use Rattle.def_import.specs.Closure.{next_module as spec_next_module, text_of_module as spec_text_of_module};
 
 use crate::found::Found;
@@ -33,6 +33,14 @@ impl Model for Progress {
 }
 
 impl Progress {
+    /// The texts, in the order in which they were found.
+    pub fn texts(&self) -> &[Found]
+        ensures texts { result.now ≡ self.now.found }
+        ensures few { length result.now < 258 }
+    {
+        &self.found
+    }
+
     /// The module that is asked for next.
     pub fn next_module(&self) -> Option<u32>
         ensures { result ≡ spec_next_module self.now }

@@ -1,5 +1,4 @@
 //! What is wrong with the imports of a unit.
-use crate::dependencies::Order;
 use crate::found::Found;
 use crate::progress::Progress;
 use m2_base::{Diag, Diagnostic, Ident, Memory};
@@ -36,7 +35,7 @@ fn note_missing(
 
 /// Notes what is wrong at the module's name: it is another than the text's, or the imports go in a circle.
 fn note_name(
-    order: &Order,
+    order: &[u32],
     wrongs: &mut Vec<Diag>,
     text: u32,
     found: &Found,
@@ -46,14 +45,27 @@ fn note_name(
     };
     let differs = name.name != found.text.name;
     note_where(differs, wrongs, text, name, Diagnostic::OtherModuleName)?;
-    let circular = !order.marks[text as usize];
+    let circular = text > 0 && !order.contains(&text);
     note_where(circular, wrongs, text, name, Diagnostic::CircularImports)
+}
+
+/// Notes the imports of modules whose definition texts aren't there.
+fn note_imports(
+    progress: &Progress,
+    wrongs: &mut Vec<Diag>,
+    text: u32,
+    imports: &[Ident],
+) -> Result<(), Memory> {
+    for import in imports {
+        note_missing(progress, wrongs, text, *import)?;
+    }
+    Ok(())
 }
 
 /// Notes what is wrong in a text.
 fn note_text(
     progress: &Progress,
-    order: &Order,
+    order: &[u32],
     wrongs: &mut Vec<Diag>,
     text: u32,
     found: &Found,
@@ -62,16 +74,13 @@ fn note_text(
         note_missing(progress, wrongs, text, own)?;
     }
     note_name(order, wrongs, text, found)?;
-    for import in &found.front.imports {
-        note_missing(progress, wrongs, text, *import)?;
-    }
-    Ok(())
+    note_imports(progress, wrongs, text, found.imports())
 }
 
 /// What is wrong with the imports of all texts, in the order of the texts and their tokens.
-pub fn wrongs_of(alloc: Global, progress: &Progress, order: &Order) -> Result<Vec<Diag>, Memory> {
+pub fn wrongs_of(alloc: Global, progress: &Progress, order: &[u32]) -> Result<Vec<Diag>, Memory> {
     let mut wrongs = Vec::new(alloc);
-    for (text, found) in progress.found.iter().enumerate() {
+    for (text, found) in progress.texts().iter().enumerate() {
         note_text(progress, order, &mut wrongs, text as u32, found)?;
     }
     Ok(wrongs)
