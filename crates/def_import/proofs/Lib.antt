@@ -8,3 +8,4 @@ mod Limits
 mod OneMore
 mod Asking
 mod Ordering
+mod Noting

@@ -23,27 +23,27 @@ no_own p text None = []
 no_own p text (Some i) = wrong_at text i NoDefinitionText (is_missing p i)
 
 -- it is a definition text, and was never taken
-abbrev pub is_circular : Progress → (text : ℕ) → Bool
-is_circular p text = nat_lt 0 text && not (is_in (dependency_order p) text)
+abbrev pub is_circular : (order : List ℕ) → (text : ℕ) → Bool
+is_circular order text = nat_lt 0 text && not (is_in order text)
 
 -- the module has another name than its text; its imports go in a circle
-abbrev pub wrong_name : Progress → (text : ℕ) → Found → Option Ident → List Diag
-wrong_name p text f None = []
-wrong_name p text f (Some i) =
-    wrong_at text i OtherModuleName (not (nat_eq i.name f.text.name)) ++ wrong_at text i CircularImports (is_circular p text)
+abbrev pub wrong_name : (order : List ℕ) → (text : ℕ) → Found → Option Ident → List Diag
+wrong_name order text f None = []
+wrong_name order text f (Some i) =
+    wrong_at text i OtherModuleName (not (nat_eq i.name f.text.name)) ++ wrong_at text i CircularImports (is_circular order text)
 
 -- the imports of modules that aren't there
 abbrev pub missing_imports : Progress → (text : ℕ) → List Ident → List Diag
 missing_imports p text [] = []
 missing_imports p text (i ∷ imports) = wrong_at text i NoDefinitionText (is_missing p i) ++ missing_imports p text imports
 
-abbrev pub wrongs_in : Progress → (text : ℕ) → Found → List Diag
-wrongs_in p text f = no_own p text (own_name f.front) ++ wrong_name p text f f.front.name ++ missing_imports p text f.front.imports
+abbrev pub wrongs_in : Progress → (order : List ℕ) → (text : ℕ) → Found → List Diag
+wrongs_in p order text f = no_own p text (own_name f.front) ++ wrong_name order text f f.front.name ++ missing_imports p text f.front.imports
 
 -- those of these texts, whose numbers go from `text` on
-abbrev pub wrongs_from : Progress → (text : ℕ) → List Found → List Diag
-wrongs_from p text [] = []
-wrongs_from p text (f ∷ found) = wrongs_in p text f ++ wrongs_from p (text + 1) found
+abbrev pub wrongs_from : Progress → (order : List ℕ) → (text : ℕ) → List Found → List Diag
+wrongs_from p order text [] = []
+wrongs_from p order text (f ∷ found) = wrongs_in p order text f ++ wrongs_from p order (text + 1) found
 
 abbrev pub wrongs_of : Progress → List Diag
-wrongs_of p = wrongs_from p 0 p.found
+wrongs_of p = wrongs_from p (dependency_order p) 0 p.found

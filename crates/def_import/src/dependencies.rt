@@ -30,7 +30,8 @@ fn needs_of(alloc: Global, progress: &Progress, found: &Found) -> Result<Vec<u32
 
 /// What each text needs before it can be taken.
 fn all_needs(alloc: Global, progress: &Progress) -> Result<Vec<Vec<u32>>, Memory>
-    ensures { IfOk result (λ all. items_of all.items ≡ spec_all_needs progress.now progress.now.found) }
+    ensures needs { IfOk result (λ all. items_of all.items ≡ spec_all_needs progress.now progress.now.found) }
+    ensures few { OnOk result (length progress.now.found < 258) }
 {
     let mut all = Vec::new(alloc);
     for found in progress.texts() {

@@ -31,6 +31,20 @@ impl Found {
         self.text.tokens.len()
     }
 
+    /// The name of its file.
+    pub fn file(&self) -> u32
+        ensures { result ≡ self.now.text.name }
+    {
+        self.text.name
+    }
+
+    /// The name of its module, if it tells one.
+    pub fn name(&self) -> Option<Ident>
+        ensures { result ≡ self.now.front.name }
+    {
+        self.front.name
+    }
+
     /// The modules that it imports.
     pub fn imports(&self) -> &[Ident]
         ensures { result.now ≡ self.now.front.imports }
