@@ -9,3 +9,5 @@ mod OneMore
 mod Asking
 mod Ordering
 mod Noting
+mod Gathers
+mod UnitKept

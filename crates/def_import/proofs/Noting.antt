@@ -1,5 +1,5 @@
 -- What is wrong, one text after another.
-use Rattle.std.proofs.Common.{◌≡◌, ℕ, ◌+◌, ◌<◌, List, [], ◌∷◌, ◌++◌, length, take, get_or, refl, sym, ◌∙◌, ap, arith, append_assoc, zero-add}
+use Rattle.std.proofs.Common.{◌≡◌, ℕ, suc, ◌+◌, ◌<◌, List, [], ◌∷◌, ◌++◌, length, take, get_or, refl, sym, ◌∙◌, ap, arith, append_assoc, zero-add}
 use Rattle.std.proofs.lemmas.List.{append-nil, length-take-le, take_more}
 use Rattle.m2_base.specs.declared.notes.Diag.{Diag}
 use Rattle.m2_base.specs.declared.diagnostic.Diagnostic.TheVariants.{NoDefinitionText}
@@ -26,9 +26,9 @@ missing_more p text imports i d first old new within so_far pushed =
 from-append : (p : Progress) (order : List ℕ) (k : ℕ) (xs ys : List Found) → wrongs_from p order k (xs ++ ys) ≡ wrongs_from p order k xs ++ wrongs_from p order (k + length xs) ys
 from-append p order k [] ys = let e : k ≡ k + 0 = omega arith in ap (λ n. wrongs_from p order n ys) e
 from-append p order k (x ∷ xs) ys =
-    let e : k + 1 + length xs ≡ k + (1 + length xs) = omega arith in
+    let e : k + 1 + length xs ≡ k + suc (length xs) = omega arith in
     ap (λ n. wrongs_in p order k x ++ n) (from-append p order (k + 1) xs ys ∙ ap (λ n. wrongs_from p order (k + 1) xs ++ wrongs_from p order n ys) e)
-    ∙ sym (append_assoc (wrongs_in p order k x) (wrongs_from p order (k + 1) xs) (wrongs_from p order (k + (1 + length xs)) ys))
+    ∙ sym (append_assoc (wrongs_in p order k x) (wrongs_from p order (k + 1) xs) (wrongs_from p order (k + suc (length xs)) ys))
 
 -- one more text
 pub wrongs_more : (p : Progress) (order : List ℕ) (found : List Found) (i : ℕ) (d : Found) (old new : List Diag) → i < length found → old ≡ wrongs_from p order 0 (take i found)
