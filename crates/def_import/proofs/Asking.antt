@@ -11,7 +11,7 @@ use Rattle.def_import.specs.Closure.{Found, IsKept, Progress, answered, modules_
 use Rattle.def_import.specs.Outcomes.{AskPasses, Asks, IsRead, Limit, Passes, Reads, is_there, long, not_there, of_texts, of_tokens, of_unit, too_long, too_many_texts, too_many_tokens, too_many_unit_tokens}
 use Rattle.def_import.specs.Shelves.{HasDefinition, IsReadOf}
 
-each_at : {A : Type 0} (P : A → Type 0) (xs : List A) (i : ℕ) (x : A) → slice_get xs i ≡ Some x → Each P xs → P x
+pub each_at : {A : Type 0} (P : A → Type 0) (xs : List A) (i : ℕ) (x : A) → slice_get xs i ≡ Some x → Each P xs → P x
 each_at P [] i x e h = cc
 each_at P (y ∷ xs) zero x e h = let k : y ≡ x = cc in subst P k h.0
 each_at P (y ∷ xs) (suc i) x e h = each_at P xs i x e h.1
