@@ -1,7 +1,7 @@
 -- Naming modules: what is named stays, and new ones come last.
-use Rattle.std.proofs.Common.{◌≡◌, ℕ, ◌+◌, ◌<◌, ◌≤◌, Bool, true, false, cond, List, [], ◌∷◌, ◌++◌, length, take, drop, get_or, map, refl, sym, ◌∙◌, ap, subst, arith, length-append, if◌then◌else◌, nat_eq}
+use Rattle.std.proofs.Common.{◌≡◌, ℕ, ◌+◌, ◌<◌, ◌≤◌, Bool, true, false, cond, List, [], ◌∷◌, ◌++◌, length, take, drop, get_or, map, refl, sym, ◌∙◌, ap, subst, arith, length-append, if◌then◌else◌, nat_eq, append_assoc}
 use Rattle.std.specs.List.{list_any}
-use Rattle.std.proofs.lemmas.List.{map-append, take_more, take-append-drop}
+use Rattle.std.proofs.lemmas.List.{append-nil, map-append, take_more, take-append-drop}
 use Rattle.m2_base.specs.declared.trees.Ident.{Ident}
 use Rattle.m2_base.specs.Fronts.{Front}
 use Rattle.def_import.specs.Closure.{listed, modules_of, names_of, own_name, with_module, with_modules}
@@ -49,3 +49,15 @@ both_named old f =
 pub either_too_many : (limit : ℕ) (old : List ℕ) (f : Front) → limit ≤ length (with_modules old (names_of (listed (own_name f)))) → limit ≤ length (with_modules old (names_of (modules_of f)))
 either_too_many limit old f many =
     let own = with_modules old (names_of (listed (own_name f))) in omega (arith, many, ap length (both_named old f), with_modules-longer own (names_of f.imports))
+
+-- what is named stays in front
+pub modules_grow : (old xs : List ℕ) → (more : List ℕ) × (with_modules old xs ≡ old ++ more)
+modules_grow old [] = ([], sym (append-nil old))
+modules_grow old (x ∷ xs) =
+    let one = go (list_any (nat_eq x) old) in
+    let rest = modules_grow (with_module old x) xs in
+    (one.0 ++ rest.0, rest.1 ∙ ap (λ l. l ++ rest.0) one.1 ∙ append_assoc old one.0 rest.0)
+  where
+    go : (b : Bool) → (more : List ℕ) × ((if b then old else old ++ x ∷ []) ≡ old ++ more)
+    go true = ([], sym (append-nil old))
+    go false = (x ∷ [], refl)

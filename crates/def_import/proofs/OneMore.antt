@@ -69,6 +69,12 @@ pub too_many_named : (found : List Found) (mods : List ℕ) (f : Found) → mods
 too_many_named found mods f kept many =
     omega (arith, many, ap (λ m. length (with_modules m (names_of (modules_of f.front)))) kept, ap length (modules_with found f))
 
+-- the modules that a text names are names of the unit
+pub read_named : (old new : List (List ℕ)) (definition : Bool) (name : ℕ) (bytes : List ℕ) (f : Found) → IsRead old definition name bytes new f → Each (IsNamed new) (names_of (modules_of f.front))
+read_named old new definition file bytes f read =
+    let values = (text_listed old new bytes f.text.tokens read.tokens read.short).1 in
+    numbers_named new (modules_of f.front) (front_named new definition f.text.tokens f.front read.front values).1
+
 -- ** One more text
 
 module _ (p : Progress) (mods keys : List ℕ) (count : ℕ) (definition : Bool) (name : ℕ) (bytes : List ℕ) (new : List (List ℕ)) (f : Found) (kept : IsKept p mods count)
