@@ -1,11 +1,10 @@
 //! Units over texts in memory, by hand: the texts in their order, the dependency order, the own definition, and the diagnostics
 //! with their places; limits; and shelves that fail.
-use def_import::{GatherFault, Gathered, LIBRARY_TEXT, gather, gather_text};
+use def_import::{GatherFault, Gathered, gather, gather_text};
 use m2_base::{Diag, Texts};
 use m2_io::MemShelf;
 use std::alloc::{AllocError, Global};
 use std::collections::BTreeMap;
-use std::process::Abort;
 use std::test::Fail;
 
 type Files<'a> = &'a [(&'a str, &'a str)];
@@ -219,5 +218,108 @@ fn gathers(rt: HostRuntime) -> Result<(), Fail> {
         let given = answer(alloc, gather(alloc, &mut shelf, "M"))?;
         assert_eq!(rt; given.as_slice(), expected.as_bytes(), "{row}");
     }
+    Ok(())
+}
+
+/// A circle of two beside another import: M is read first, then C, A and B.
+const CIRCLE: Files = &[
+    ("M.mod", "MODULE M; IMPORT C; END M."),
+    ("C.def", "DEFINITION MODULE C; IMPORT A; END C."),
+    ("A.def", "DEFINITION MODULE A; IMPORT B; END A."),
+    ("B.def", "DEFINITION MODULE B; IMPORT A; END B."),
+];
+
+#[test]
+fn tells_a_fault_of_the_shelf(rt: HostRuntime) -> Result<(), Fail> {
+    let alloc = rt.alloc();
+    for call in 1..5 {
+        let mut shelf = shelf_of(alloc, CIRCLE, &[call])?;
+        let given = answer(alloc, gather(alloc, &mut shelf, "M"))?;
+        assert_eq!(rt; given.as_slice(), b"ReadFault".as_slice(), "call {call}");
+    }
+    // No more than four calls are made: each text is asked for once.
+    let mut shelf = shelf_of(alloc, CIRCLE, &[5])?;
+    let given = answer(alloc, gather(alloc, &mut shelf, "M"))?;
+    let expected = b" M C A B | | | C:1:19:32 A:1:19:32 B:1:19:32";
+    assert_eq!(rt; given.as_slice(), expected.as_slice());
+    Ok(())
+}
+
+#[test]
+fn takes_the_main_text_from_its_caller(rt: HostRuntime) -> Result<(), Fail> {
+    let alloc = rt.alloc();
+    let mut shelf = shelf_of(alloc, CIRCLE, &[])?;
+    let main = b"MODULE M; IMPORT B, InOut; END M.";
+    let given = answer(alloc, gather_text(alloc, &mut shelf, "M", main.as_slice()))?;
+    let expected = b" M B InOut A | InOut | | B:1:19:32 A:1:19:32";
+    assert_eq!(rt; given.as_slice(), expected.as_slice());
+    Ok(())
+}
+
+/// A main text, and so many bytes behind it.
+fn text_with(alloc: Global, text: &[u8], byte: u8, count: usize) -> Result<Vec<u8>, AllocError> {
+    let mut bytes = text.to_vec(alloc)?;
+    for _ in 0..count {
+        bytes.push(byte)?;
+    }
+    Ok(bytes)
+}
+
+#[test]
+fn keeps_to_the_limits_of_a_text(rt: HostRuntime) -> Result<(), Fail> {
+    let alloc = rt.alloc();
+    let mut shelf = shelf_of(alloc, &[], &[])?;
+    let text = b"MODULE M; END M.";
+    let longest = text_with(alloc, text.as_slice(), b' ', 1_048_560)?;
+    let given = answer(alloc, gather_text(alloc, &mut shelf, "M", &longest))?;
+    assert_eq!(rt; given.as_slice(), b" M | | |".as_slice());
+    let longer = text_with(alloc, text.as_slice(), b' ', 1_048_561)?;
+    let given = answer(alloc, gather_text(alloc, &mut shelf, "M", &longer))?;
+    assert_eq!(rt; given.as_slice(), b"TooLong".as_slice());
+    let tokens = text_with(alloc, b"", b';', 1_048_576)?;
+    let given = answer(alloc, gather_text(alloc, &mut shelf, "M", &tokens))?;
+    assert_eq!(rt; given.as_slice(), b"TooManyTokens".as_slice());
+    Ok(())
+}
+
+/// A module that imports so many others, none of which is there.
+fn imports(alloc: Global, count: u32) -> Result<Vec<u8>, AllocError> {
+    let mut text = b"MODULE M; IMPORT X".to_vec(alloc)?;
+    for number in 1..count {
+        let name = format!(in alloc; ", X{number}")?;
+        text.extend_from_slice(name.as_bytes())?;
+    }
+    text.extend_from_slice(b"; END M.")?;
+    Ok(text)
+}
+
+#[test]
+fn keeps_to_the_limit_of_texts(rt: HostRuntime) -> Result<(), Fail> {
+    let alloc = rt.alloc();
+    let mut shelf = shelf_of(alloc, &[], &[])?;
+    let most = imports(alloc, 256)?;
+    match gather_text(alloc, &mut shelf, "M", &most) {
+        Ok(Gathered::Wrong(_, diags)) => assert_eq!(rt; diags.len(), 256),
+        other => assert_eq!(rt; answer(alloc, other)?.as_slice(), b"".as_slice()),
+    }
+    let more = imports(alloc, 257)?;
+    let given = answer(alloc, gather_text(alloc, &mut shelf, "M", &more))?;
+    assert_eq!(rt; given.as_slice(), b"TooManyTexts".as_slice());
+    Ok(())
+}
+
+#[test]
+fn keeps_to_the_limit_of_a_unit(rt: HostRuntime) -> Result<(), Fail> {
+    let alloc = rt.alloc();
+    let mut files = BTreeMap::new(alloc);
+    for name in ["A.def", "B.def", "C.def", "D.def"] {
+        let tokens = text_with(alloc, b"", b';', 1_048_575)?;
+        files.insert(String::from_str(alloc, name)?, tokens)?;
+    }
+    let main = b"MODULE M; IMPORT A, B, C, D; END M.";
+    files.insert(String::from_str(alloc, "M.mod")?, main.to_vec(alloc)?)?;
+    let mut shelf = MemShelf::new(files, Vec::new(alloc), 0);
+    let given = answer(alloc, gather(alloc, &mut shelf, "M"))?;
+    assert_eq!(rt; given.as_slice(), b"TooManyUnitTokens".as_slice());
     Ok(())
 }
