@@ -1,14 +1,13 @@
 -- What follows from asking for a module.
-use Rattle.std.proofs.Common.{◌≡◌, ℕ, zero, suc, ◌+◌, ◌<◌, ◌≤◌, Bool, true, List, [], ◌∷◌, ◌++◌, Option, Some, None, length, length-append, take, refl, sym, ◌∙◌, ap, subst, arith, slice_get, Vec, Global, Ok, Err}
-use Rattle.std.specs.Prelude.{option_map, IfOk, IsErrOf, Result}
+use Rattle.std.proofs.Common.{◌≡◌, ℕ, zero, suc, ◌<◌, ◌≤◌, true, List, [], ◌∷◌, ◌++◌, Option, Some, None, length, length-append, take, refl, sym, ◌∙◌, ap, subst, arith, slice_get, Ok, Err}
+use Rattle.std.specs.Prelude.{option_map, IfOk, Result}
 use Rattle.std.proofs.lemmas.List.{length-take, take_all}
 use Rattle.std.proofs.lemmas.Option.{slice_get_within}
 use Rattle.m2_io.specs.Files.{Files}
 use Rattle.m2_base.specs.Lists.{Each}
 use Rattle.m2_base.specs.Units.{IsNamed}
-use Rattle.m2_lex.specs.Faults.{HasTooMany}
-use Rattle.def_import.specs.Closure.{Found, IsKept, Progress, answered, modules_named, next_module, progress_of, tokens_in}
-use Rattle.def_import.specs.Outcomes.{AskPasses, Asks, IsRead, Limit, Passes, Reads, is_there, long, not_there, of_texts, of_tokens, of_unit, too_long, too_many_texts, too_many_tokens, too_many_unit_tokens}
+use Rattle.def_import.specs.Closure.{Found, IsKept, Progress, next_module, progress_of}
+use Rattle.def_import.specs.Outcomes.{AskPasses, Asks, Limit, Passes, Reads, is_there, long, not_there, of_texts, of_tokens, of_unit, too_many_texts, too_many_tokens, too_many_unit_tokens}
 use Rattle.def_import.specs.Shelves.{HasDefinition, IsReadOf}
 
 pub each_at : {A : Type 0} (P : A → Type 0) (xs : List A) (i : ℕ) (x : A) → slice_get xs i ≡ Some x → Each P xs → P x

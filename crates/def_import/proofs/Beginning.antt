@@ -1,6 +1,5 @@
 -- Before the first text is read.
-use Rattle.std.proofs.Common.{◌≡◌, ℕ, ◌+◌, ◌<◌, ◌≤◌, List, [], ◌∷◌, Option, length, refl, sym, ◌∙◌, ap, subst, arith}
-use Rattle.m2_base.specs.Lists.{Each}
+use Rattle.std.proofs.Common.{◌≡◌, ℕ, ◌<◌, ◌≤◌, List, [], ◌∷◌, Option, length, refl, sym, ap, subst, arith}
 use Rattle.m2_base.specs.Names.{standard_names, with_name}
 use Rattle.m2_base.proofs.Numbers.{length-standard_names, length-with_names}
 use Rattle.def_import.specs.Closure.{Found, IsKept, progress_of}

@@ -1,7 +1,7 @@
 -- The bytes of an identifier are letters and digits, so they are text.
-use Rattle.std.proofs.Common.{◌≡◌, ℕ, ◌<◌, Bool, true, false, ◌&&◌, ◌||◌, List, [], ◌∷◌, Option, Some, None, refl, sym, ◌∙◌, ap, arith, if◌then◌else◌}
+use Rattle.std.proofs.Common.{◌≡◌, ℕ, ◌<◌, Bool, true, false, List, [], ◌∷◌, Option, Some, None, refl, sym, ◌∙◌, ap, arith, if◌then◌else◌}
 use Rattle.std.specs.List.{list_all}
-use Rattle.std.specs.Prelude.{IsTrue, nat_le, is_some, codes}
+use Rattle.std.specs.Prelude.{nat_le, is_some, codes}
 use Rattle.std.specs.Str.{IsAscii, IsUtf8}
 use Rattle.std.proofs.lemmas.Bool.{and_parts, false≢true}
 use Rattle.std.proofs.lemmas.Bool.Decides.{nat_tests}
@@ -10,8 +10,7 @@ use Rattle.std.proofs.lemmas.Str.Ascii.{IsAscii-nil, IsAscii-cons}
 use Rattle.m2_base.specs.Comments.{behind_comment, opens_comment}
 use Rattle.m2_base.specs.Kinds.{kind_in, reserved_words, symbols}
 use Rattle.m2_base.specs.Letters.{goes_on, is_blank, is_digit, is_hexadecimal_digit, is_letter, is_octal_digit, is_quote, stays_in}
-use Rattle.m2_base.specs.Lexemes.{is_lexeme, continues, is_numeral, fills_string}
-use Rattle.m2_base.specs.Meanings.{Meaning, blank, name, number, character, string, fixed, bad, meaning_of, fixed_or, number_of, character_of, numeral_meaning, string_meaning, comment_meaning, value_in}
+use Rattle.m2_base.specs.Meanings.{Meaning, blank, name, number, character, string, fixed, bad, fixed_or, number_of, character_of, numeral_meaning, string_meaning, comment_meaning, value_in}
 use Rattle.m2_base.specs.Runs.{is_run_and}
 use Rattle.m2_base.specs.Units.{IsIdentifier}
 use Rattle.m2_base.specs.declared.kind.TokenKind.{TokenKind}

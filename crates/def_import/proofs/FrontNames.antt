@@ -1,25 +1,23 @@
 -- The names in the front of a text are names of its tokens, so they are identifiers of the unit.
-use Rattle.std.proofs.Common.{◌≡◌, ℕ, ◌+◌, ◌<◌, ◌≤◌, Bool, true, false, List, [], ◌∷◌, ◌++◌, Option, Some, None, length, get_or, refl, sym, ◌∙◌, ap, subst, arith, if◌then◌else◌, nat_eq}
+use Rattle.std.proofs.Common.{◌≡◌, ℕ, Bool, true, false, List, [], ◌∷◌, ◌++◌, Option, Some, None, length, get_or, sym, ◌∙◌, ap, subst, arith, if◌then◌else◌, nat_eq}
 use Rattle.std.specs.List.{list_any}
-use Rattle.std.proofs.lemmas.Bool.{eqb-true, false≢true, or_cases}
 use Rattle.std.proofs.lemmas.List.{get_or_append_left, length-append}
 use Rattle.ll_grammar.specs.Derivations.{Tree, nothing, leaf, both, left, right, last, more, inner, part, tokens, Derives, of_empty, of_token, of_then, of_left, of_right, of_last, of_more}
-use Rattle.ll_grammar.specs.Grammar.{Rule, many, optional, ◌⨾◌}
+use Rattle.ll_grammar.specs.Grammar.{Rule, many, ◌⨾◌}
 use Rattle.m2_base.specs.ExpressionsOf as of
-use Rattle.m2_base.specs.Fronts.{Front, Imported, ImportedBehind, IsFront, Opens, an_import, head, head_of, modules_of as modules_of_import, modules_with, named, nameless, no_import, no_semicolon, semicolon}
+use Rattle.m2_base.specs.Fronts.{Front, Imported, ImportedBehind, IsFront, Opens, an_import, head, head_of, modules_of as modules_of_import, named, nameless, no_import, no_semicolon, semicolon}
 use Rattle.m2_base.specs.Grammar as rules
 use Rattle.m2_base.specs.Grammar.{grammar, number_of_token}
 use Rattle.m2_base.specs.KindNumbers.{kind_number}
 use Rattle.m2_base.specs.Lists.{Each, IsPrefixOf}
 use Rattle.m2_base.specs.StreamsOf as streams
-use Rattle.m2_base.specs.Trees.{Import}
-use Rattle.m2_base.specs.Units.{HasValue, IsIdentifier, IsNamed, IsNumbered}
+use Rattle.m2_base.specs.Units.{HasValue, IsIdentifier, IsNamed}
 use Rattle.m2_base.specs.declared.kind.TokenKind.TheVariants.{Comma, Identifier}
 use Rattle.m2_base.specs.declared.kind.TokenKind.{TokenKind}
 use Rattle.m2_base.specs.declared.token.Token.{Token}
 use Rattle.m2_base.specs.declared.trees.Ident.{Ident}
 use Rattle.m2_base.proofs.ReadExpressions.{kind_is}
-use Rattle.def_import.specs.Closure.{listed, modules_of, names_of, own_name, with_module, with_modules}
+use Rattle.def_import.specs.Closure.{listed, modules_of, names_of, with_module, with_modules}
 
 -- names stay names where more come behind them
 pub stays_named : {old new : List (List ℕ)} → IsPrefixOf old new → (name : ℕ) → IsNamed old name → IsNamed new name

@@ -1,18 +1,14 @@
 -- From text to text.
-use Rattle.std.proofs.Common.{◌≡◌, ℕ, zero, suc, ◌+◌, ◌-◌, ◌<◌, ◌≤◌, Bool, true, false, List, [], ◌∷◌, ◌++◌, Option, Some, None, length, length-append, take, refl, sym, ◌∙◌, ap, subst, arith, slice_get, Vec, Global, Ok, Err}
-use Rattle.std.specs.Prelude.{option_map, IfOk, IsErrOf, Result}
+use Rattle.std.proofs.Common.{◌≡◌, ℕ, ◌+◌, ◌-◌, ◌<◌, ◌≤◌, false, List, [], ◌∷◌, Option, Some, None, length, length-append, take, refl, sym, ◌∙◌, ap, subst, arith, Ok, Err}
+use Rattle.std.specs.Prelude.{option_map, IfOk, Result}
 use Rattle.std.proofs.lemmas.List.{length-take, take_all}
 use Rattle.std.proofs.lemmas.Option.{slice_get_within}
 use Rattle.m2_io.specs.Files.{Files}
 use Rattle.m2_base.specs.Names.{number_in, standard_names, with_name}
-use Rattle.m2_base.specs.Units.{IsUnit}
-use Rattle.m2_base.specs.declared.notes.Diag.{Diag}
 use Rattle.def_import.specs.Answers.{unit_given, wrongs_given}
-use Rattle.def_import.specs.Closure.{Found, Progress, answered, modules_named, next_module, progress_of}
-use Rattle.def_import.specs.Outcomes.{AskPasses, Asks, IsGathered, IsGatheredFrom, Limit, Passes, Reaches, Reads, Stops, StopsFrom, at_main, at_module, begun, is_there, long, main_read, not_there, of_texts, of_tokens, of_unit, then_asks, too_long, too_many_texts, too_many_tokens, too_many_unit_tokens, unit_in}
+use Rattle.def_import.specs.Closure.{Progress, modules_named, next_module}
+use Rattle.def_import.specs.Outcomes.{Asks, IsGathered, IsGatheredFrom, Limit, Passes, Reaches, Reads, Stops, StopsFrom, at_main, at_module, begun, is_there, long, main_read, not_there, of_texts, of_tokens, of_unit, then_asks, too_many_texts, too_many_tokens, too_many_unit_tokens}
 use Rattle.def_import.specs.Shelves.{Has, IsReadOf, main_file}
-use Rattle.def_import.specs.Views.{fault_of}
-use Rattle.def_import.specs.Wrongs.{wrongs_of}
 use Rattle.def_import.specs.declared.gathering.Gathered.{Gathered}
 
 module _ (holds : Option Files) (file main : List ℕ) where

@@ -1,14 +1,13 @@
 -- Which limit a fault says, and by which text it is passed.
-use Rattle.std.proofs.Common.{◌≡◌, ℕ, ◌+◌, ◌<◌, ◌≤◌, Bool, List, [], ◌∷◌, ◌++◌, Option, Some, None, length, take, min, refl, sym, ◌∙◌, ap, subst, arith, Ok, Err}
-use Rattle.std.specs.Prelude.{IsErrOf, IfErr, Result, option_map}
-use Rattle.std.proofs.lemmas.List.{length-take, take_all}
+use Rattle.std.proofs.Common.{◌≡◌, ℕ, ◌+◌, ◌<◌, ◌≤◌, Bool, List, [], ◌∷◌, ◌++◌, length, refl, ap, Err}
+use Rattle.std.specs.Prelude.{IsErrOf, IfErr}
 use Rattle.m2_lex.specs.Faults.{HasTooMany}
 use Rattle.m2_lex.specs.declared.lexer.LexFault.TheVariants as lex
 use Rattle.m2_lex.specs.declared.lexer.LexFault.{LexFault}
 use Rattle.def_import.specs.Closure.{Found, modules_named, tokens_in}
 use Rattle.def_import.specs.Outcomes.{IsRead, Limit, Passes, long, of_texts, of_tokens, of_unit, too_long, too_many_tokens, too_many_texts, too_many_unit_tokens}
 use Rattle.def_import.specs.Views.{IsNamingFault, fault_of, fault_of_lex}
-use Rattle.def_import.specs.declared.faults.GatherFault.TheVariants.{Memory, NoText, ReadFault, TooLong, TooManyTexts, TooManyTokens, TooManyUnitTokens}
+use Rattle.def_import.specs.declared.faults.GatherFault.TheVariants.{Memory, TooLong, TooManyTexts, TooManyUnitTokens}
 use Rattle.def_import.specs.declared.faults.GatherFault.{GatherFault}
 
 -- a fault is the same, whatever the call would have given

@@ -1,11 +1,11 @@
 -- What is wrong, one text after another.
-use Rattle.std.proofs.Common.{◌≡◌, ℕ, suc, ◌+◌, ◌<◌, List, [], ◌∷◌, ◌++◌, length, take, get_or, refl, sym, ◌∙◌, ap, arith, append_assoc, zero-add}
+use Rattle.std.proofs.Common.{◌≡◌, ℕ, suc, ◌+◌, ◌<◌, List, [], ◌∷◌, ◌++◌, length, take, get_or, refl, sym, ◌∙◌, ap, arith, append_assoc}
 use Rattle.std.proofs.lemmas.List.{append-nil, length-take-le, take_more}
 use Rattle.m2_base.specs.declared.notes.Diag.{Diag}
 use Rattle.m2_base.specs.declared.diagnostic.Diagnostic.TheVariants.{NoDefinitionText}
 use Rattle.m2_base.specs.declared.trees.Ident.{Ident}
-use Rattle.def_import.specs.Closure.{Found, Progress, own_name}
-use Rattle.def_import.specs.Wrongs.{is_missing, missing_imports, no_own, wrong_at, wrong_name, wrongs_from, wrongs_in}
+use Rattle.def_import.specs.Closure.{Found, Progress}
+use Rattle.def_import.specs.Wrongs.{is_missing, missing_imports, wrong_at, wrongs_from, wrongs_in}
 
 missing-append : (p : Progress) (text : ℕ) (xs ys : List Ident) → missing_imports p text (xs ++ ys) ≡ missing_imports p text xs ++ missing_imports p text ys
 missing-append p text [] ys = refl

@@ -1,20 +1,17 @@
 -- What is kept stays so when one more text is read.
-use Rattle.std.proofs.Common.{◌≡◌, ℕ, ◌+◌, ◌<◌, ◌≤◌, Bool, true, false, List, [], ◌∷◌, ◌++◌, Option, Some, None, length, map, refl, sym, ◌∙◌, ap, subst, arith, if◌then◌else◌, append_assoc, length-append}
-use Rattle.std.specs.Prelude.{sum_by}
+use Rattle.std.proofs.Common.{◌≡◌, ℕ, ◌+◌, ◌<◌, ◌≤◌, Bool, List, [], ◌∷◌, ◌++◌, length, refl, sym, ◌∙◌, ap, subst, arith, if◌then◌else◌, append_assoc, length-append}
 use Rattle.std.specs.List.{AllZip}
 use Rattle.std.proofs.lemmas.List.Sums.{sum_by-append}
-use Rattle.m2_base.specs.Lexemes.{AreLexemes}
 use Rattle.m2_base.specs.Lists.{Each, IsPrefixOf}
 use Rattle.m2_base.specs.Meanings.{Meaning, blank, name, number, character, string, fixed, bad, meaning_of, is_blank_meaning}
-use Rattle.m2_base.specs.Names.{with_names}
 use Rattle.m2_base.specs.Positions.{Position, after_bytes, first_position}
 use Rattle.m2_base.specs.Tokens.{AreTokens, IsToken, Placed, names_in, names_of as names_meant, placed_from}
 use Rattle.m2_base.specs.Units.{IsNamed}
 use Rattle.m2_base.specs.declared.token.Token.{Token}
 use Rattle.m2_base.proofs.Numbers.{length-with_names, with_names-grows}
 use Rattle.m2_lex.proofs.TextUnit.{text_listed}
-use Rattle.def_import.specs.Closure.{Found, IsKept, Progress, longer, modules_named, modules_of, named_by, names_of, progress_of, tokens_in, with_modules}
-use Rattle.def_import.specs.Outcomes.{Fits, IsRead, Reads}
+use Rattle.def_import.specs.Closure.{Found, IsKept, Progress, modules_named, modules_of, named_by, names_of, progress_of, tokens_in, with_modules}
+use Rattle.def_import.specs.Outcomes.{IsRead, Reads}
 use Rattle.def_import.proofs.FrontNames.{all_named, each_stays_named, front_named, numbers_named}
 use Rattle.def_import.proofs.Naming.{with_modules-append, with_modules-longer}
 

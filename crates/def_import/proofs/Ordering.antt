@@ -1,6 +1,5 @@
 -- The dependency order: striking off what is taken changes nothing of what is taken next.
-use Rattle.std.proofs.Common.{◌≡◌, ℕ, zero, suc, ◌+◌, ◌-◌, ◌<◌, ◌≤◌, Bool, true, false, ◌&&◌, ◌||◌, not, cond, List, [], ◌∷◌, ◌++◌, Option, Some, None, length, take, drop, set, get_or, map, refl, sym, ◌∙◌, ap, subst, arith, append_assoc, if◌then◌else◌, nat_eq, Vec, Global, length-append}
-use Rattle.std.specs.List.{AllZip, list_all, list_any}
+use Rattle.std.proofs.Common.{◌≡◌, ℕ, zero, suc, ◌+◌, ◌-◌, ◌<◌, ◌≤◌, Bool, true, false, ◌&&◌, ◌||◌, not, List, [], ◌∷◌, ◌++◌, Option, Some, None, length, take, drop, set, get_or, refl, sym, ◌∙◌, ap, subst, arith, append_assoc, if◌then◌else◌, nat_eq, Vec, Global}
 use Rattle.std.proofs.lemmas.Bool.{and_parts, false≢true}
 use Rattle.std.proofs.lemmas.List.{append-nil, drop-set-lt, get_or-map, length-map, map-append, map-set, take_all, take_more, drop_all}
 use Rattle.std.proofs.Math.Seq.{drop-cons}

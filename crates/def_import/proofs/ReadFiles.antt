@@ -1,5 +1,5 @@
 -- What a call of a shelf gives of a text.
-use Rattle.std.proofs.Common.{◌≡◌, ℕ, ◌+◌, ◌≤◌, ◌<◌, List, Option, Some, None, Bool, true, false, nat_eq, [], get_or, slice_get, subst, ◌∙◌, lit≤, Vec, Global, inl, inr, length, take, refl, sym, ap, arith, vec_len}
+use Rattle.std.proofs.Common.{◌≡◌, ℕ, ◌≤◌, List, Option, Some, None, Bool, true, false, nat_eq, [], get_or, slice_get, subst, ◌∙◌, lit≤, Vec, Global, inl, inr, length, refl, sym, ap, arith, vec_len}
 use Rattle.std.specs.Prelude.{IfOk, IfSome, Result, Ok, Err, option_map}
 use Rattle.std.proofs.lemmas.Bool.Decides.{eqb_tells}
 use Rattle.std.proofs.lemmas.Bool.{false≢true}

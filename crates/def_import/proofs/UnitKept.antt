@@ -1,26 +1,25 @@
 -- The texts that are reached make up a unit.
 use Rattle.std.proofs.Common.{◌≡◌, ◌≢◌, ℕ, zero, suc, ◌+◌, ◌<◌, ◌≤◌, Bool, true, false, ◌&&◌, ◌||◌, not, List, [], ◌∷◌, ◌++◌, Option, Some, None, length, length-append, get_or, map, refl, sym, ◌∙◌, ap, subst, arith, slice_get, if◌then◌else◌, nat_eq, inl, inr}
-use Rattle.std.specs.List.{list_all, list_any}
-use Rattle.std.specs.Prelude.{fold, position, sum_by, slice_index}
-use Rattle.std.proofs.lemmas.Bool.{eq-eqb, eqb-true, false≢true, true≢false}
+use Rattle.std.specs.List.{list_any}
+use Rattle.std.specs.Prelude.{fold, position, sum_by}
+use Rattle.std.proofs.lemmas.Bool.{eq-eqb, false≢true, true≢false}
 use Rattle.std.proofs.lemmas.List.{get_or_append_left, length-map, map-append}
 use Rattle.std.proofs.lemmas.Option.{slice_get_within}
 use Rattle.m2_io.specs.Files.{Files}
 use Rattle.m2_base.specs.Lists.{Each, IsIn, IsPrefixOf}
 use Rattle.m2_base.specs.Names.{number_in, standard_names, with_name}
-use Rattle.m2_base.specs.Tokens.{names_in}
-use Rattle.m2_base.specs.Units.{AllDiffer, HasOneMain, HasValue, IsDefinition, IsIdentifier, IsNamed, IsNumbered, IsOwn, IsSpelling, IsText, IsUnit, TextOf, definitions_of}
+use Rattle.m2_base.specs.Units.{AllDiffer, HasOneMain, HasValue, IsIdentifier, IsNamed, IsNumbered, IsOwn, IsSpelling, IsText, IsUnit, TextOf, definitions_of}
 use Rattle.m2_base.specs.declared.kind.TokenKind.TheVariants as kind
 use Rattle.m2_base.specs.declared.kind.TokenKind.{TokenKind}
 use Rattle.m2_base.specs.declared.token.Token.{Token}
 use Rattle.m2_base.specs.declared.trees.Ident.{Ident}
 use Rattle.m2_base.proofs.Kept.{IsPrefixOf-trans}
-use Rattle.m2_base.proofs.Numbers.{length-standard_names, length-with_names, number_in-with_names, with_name-grows}
+use Rattle.m2_base.proofs.Numbers.{length-standard_names, length-with_names, with_name-grows}
 use Rattle.m2_lex.proofs.SpelledNames.{spelled_after, spelled_with, standard_spelled}
 use Rattle.m2_lex.proofs.TextUnit.{numbered_at, text_at, text_listed}
 use Rattle.def_import.specs.Closure.{Found, Progress, answer_at, answered, modules_named, modules_of, named_by, names_of, next_module, own_name, progress_of, text_of_module, tokens_in, with_module, with_modules}
 use Rattle.def_import.specs.Dependencies.{and_taken, definitions, first_ready, is_in, is_ready, next_taken, taken_in}
-use Rattle.def_import.specs.Outcomes.{Asks, IsRead, Reaches, Reads, begun, is_there, main_read, not_there, own_text, text_told, then_asks, unit_in}
+use Rattle.def_import.specs.Outcomes.{IsRead, Reaches, Reads, begun, is_there, main_read, not_there, own_text, text_told, then_asks, unit_in}
 use Rattle.def_import.proofs.Asking.{each_at}
 use Rattle.def_import.proofs.FrontNames.{all_named, each_stays_named, stays_named}
 use Rattle.def_import.proofs.Gathers.{few_modules}

@@ -1,5 +1,5 @@
 -- What the code gives, as plain data.
-use Rattle.std.specs.Prelude.{◌≡◌, ◌≢◌, ℕ, List, []}
+use Rattle.std.specs.Prelude.{◌≡◌, ◌≢◌, List, []}
 use Rattle.m2_base.specs.Fronts as fronts
 use Rattle.m2_base.specs.Fronts.{IsFront}
 use Rattle.m2_base.specs.Lists.{Each}

@@ -1,5 +1,5 @@
 -- The texts of a unit, breadth first: which modules the texts read so far name, and which of them is asked for next.
-use Rattle.std.specs.Prelude.{◌≡◌, ℕ, Bool, true, false, List, [], ◌∷◌, ◌++◌, ◌+◌, ◌<◌, ◌≤◌, Option, Some, None, fold, if◌then◌else◌, length, map, nat_eq, option_map, position, slice_get, sum_by}
+use Rattle.std.specs.Prelude.{◌≡◌, ℕ, List, [], ◌∷◌, ◌++◌, ◌+◌, ◌<◌, ◌≤◌, Option, Some, None, fold, if◌then◌else◌, length, map, nat_eq, option_map, position, slice_get, sum_by}
 use Rattle.std.specs.List.{list_any}
 use Rattle.std.specs.Option.{option_flatten}
 use Rattle.m2_base.specs.Fronts.{Front}

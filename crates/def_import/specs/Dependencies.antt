@@ -1,6 +1,6 @@
 -- The dependency order: again and again, in text order, the first definition module is taken that isn't taken yet and
 -- whose imports that are found are all taken.
-use Rattle.std.specs.Prelude.{◌≡◌, Vec, map, ℕ, zero, suc, ◌+◌, Bool, true, false, ◌&&◌, not, List, [], ◌∷◌, ◌++◌, Option, Some, None, if◌then◌else◌, length, nat_eq, nat_lt}
+use Rattle.std.specs.Prelude.{◌≡◌, Vec, map, ℕ, zero, suc, ◌+◌, Bool, true, ◌&&◌, not, List, [], ◌∷◌, ◌++◌, Option, Some, None, if◌then◌else◌, length, nat_eq}
 use Rattle.std.specs.Global.{Global}
 use Rattle.std.specs.List.{AllZip, list_all, list_any}
 use Rattle.def_import.specs.Closure.{Found, Progress, names_of, text_of_module}

@@ -2,13 +2,12 @@
 -- they pass. The texts are read in their order, and at each the limits are tried in the order in which they stand here.
 use Rattle.std.specs.Prelude.{◌≡◌, ℕ, ◌+◌, ◌<◌, ◌≤◌, Bool, true, false, List, [], ◌∷◌, ◌++◌, Option, Some, None, length, map, slice_index}
 use Rattle.m2_io.specs.Files.{Files}
-use Rattle.m2_base.specs.Fronts.{Front, IsFront}
+use Rattle.m2_base.specs.Fronts.{IsFront}
 use Rattle.m2_base.specs.Names.{number_in, standard_names, with_name}
 use Rattle.m2_base.specs.Tokens.{AreTokens}
-use Rattle.m2_base.specs.Units.{TextOf, UnitTexts, unit_of}
+use Rattle.m2_base.specs.Units.{UnitTexts, unit_of}
 use Rattle.m2_base.specs.declared.limits.TheConstants.{MOST_TEXT_BYTES, MOST_TEXTS, MOST_TOKENS, MOST_UNIT_TOKENS}
 use Rattle.m2_base.specs.declared.notes.Diag.{Diag}
-use Rattle.m2_base.specs.declared.token.Token.{Token}
 use Rattle.m2_base.specs.declared.trees.Ident.{Ident}
 use Rattle.m2_lex.specs.Faults.{HasTooMany}
 use Rattle.def_import.specs.Closure.{Found, Progress, answered, longer, modules_named, next_module, own_name, progress_of, text_of_module, tokens_in}

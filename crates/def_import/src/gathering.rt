@@ -112,11 +112,7 @@ pub fn gather_text<H: Shelf>(
 }
 
 /// The texts of the unit whose main text is in the file of that module.
-pub fn gather<H: Shelf>(
-    alloc: Global,
-    shelf: &mut H,
-    name: &str,
-) -> Result<Gathered, GatherFault>
+pub fn gather<H: Shelf>(alloc: Global, shelf: &mut H, name: &str) -> Result<Gathered, GatherFault>
     requires named { IsIdentifier name.now }
     requires short { length name.now ≤ 1048576 }
     ensures gathered { IfOk result (λ g. IsGatheredFrom (H.holds shelf.old) name.now (unit_given g) (wrongs_given g)) }

@@ -58,12 +58,7 @@ fn note_own(
 }
 
 /// Notes what is wrong at the module's name: it is another than the text's, or the imports go in a circle.
-fn note_name(
-    order: &[u32],
-    wrongs: &mut Vec<Diag>,
-    text: u32,
-    found: &Found,
-) -> Result<(), Memory>
+fn note_name(order: &[u32], wrongs: &mut Vec<Diag>, text: u32, found: &Found) -> Result<(), Memory>
     ensures { OnOk result (wrongs.new.items ≡ wrongs.old.items ++ wrong_name order.now text found.now found.now.front.name) }
 {
     let Some(name) = found.name() else {

@@ -73,10 +73,7 @@ fn told(alloc: Global, texts: &Texts, diags: &[Diag]) -> Result<Vec<u8>, AllocEr
 }
 
 /// The same of what was gathered, or the fault.
-fn answer(
-    alloc: Global,
-    gathered: Result<Gathered, GatherFault>,
-) -> Result<Vec<u8>, AllocError> {
+fn answer(alloc: Global, gathered: Result<Gathered, GatherFault>) -> Result<Vec<u8>, AllocError> {
     match gathered {
         Ok(Gathered::Whole(texts)) => told(alloc, &texts, &[]),
         Ok(Gathered::Wrong(texts, diags)) => told(alloc, &texts, &diags),
@@ -93,7 +90,10 @@ const ROWS: [(&str, Files, &str); 17] = [
     (
         "breadth first",
         &[
-            ("M.mod", "MODULE M; IMPORT A; FROM B IMPORT x; IMPORT A; END M."),
+            (
+                "M.mod",
+                "MODULE M; IMPORT A; FROM B IMPORT x; IMPORT A; END M.",
+            ),
             ("A.def", "DEFINITION MODULE A; IMPORT C, D; END A."),
             ("B.def", "DEFINITION MODULE B; IMPORT D, C, E; END B."),
             ("C.def", "DEFINITION MODULE C; END C."),
@@ -195,9 +195,7 @@ const ROWS: [(&str, Files, &str); 17] = [
     ),
     (
         "an import that isn't whole",
-        &[
-            ("M.mod", "MODULE M; IMPORT B; IMPORT C D; END M."),
-        ],
+        &[("M.mod", "MODULE M; IMPORT B; IMPORT C D; END M.")],
         " M | | | M:1:18:30",
     ),
     (

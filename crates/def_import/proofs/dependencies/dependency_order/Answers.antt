@@ -1,6 +1,6 @@
-use Rattle.std.proofs.Common.{◌≡◌, ◌≤◌, Some, None, Option, length, sym, ◌∙◌, ap, subst, arith, List, ℕ, map, drop, rules}
+use Rattle.std.proofs.Common.{◌≡◌, ◌≤◌, Some, None, length, sym, ◌∙◌, ap, subst, arith, List, ℕ, drop, rules}
 use Rattle.std.proofs.lemmas.List.{length-map}
-use Rattle.def_import.specs.Dependencies.{AreStruck, all_needs, and_taken, first_free, items_of, needs_of, next_taken}
+use Rattle.def_import.specs.Dependencies.{AreStruck, all_needs, first_free, items_of, needs_of}
 use Rattle.def_import.proofs.Ordering.{as_many, is_order, more_taken, next_free, none_struck, still_struck}
 use Rattle.def_import.proofs.dependencies.dependency_order.Goals as goal
 

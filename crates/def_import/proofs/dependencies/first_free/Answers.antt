@@ -1,4 +1,4 @@
-use Rattle.std.proofs.Common.{◌<◌, refl, sym, ◌∙◌, ap, arith, drop, length}
+use Rattle.std.proofs.Common.{◌<◌, refl, arith, drop, length}
 use Rattle.def_import.specs.Dependencies.{first_free, items_of}
 use Rattle.def_import.proofs.Ordering.{is_free_at, none_struck, not_free_at, one_struck}
 use Rattle.def_import.proofs.dependencies.first_free.Goals as goal

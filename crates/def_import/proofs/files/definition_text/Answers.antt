@@ -1,9 +1,4 @@
-use Rattle.std.proofs.Common.{◌≡◌, eq-eqb, rules, nat_eq, false, ap, sym, ◌∙◌, Ok, Err, Option, Vec, ℕ, Global, List}
-
-use Rattle.std.specs.Prelude.{IfOk, option_map}
-use Rattle.std.specs.declared.result.Result.{Result}
-use Rattle.m2_io.specs.Files.{Files}
-use Rattle.def_import.specs.Shelves.{Has, HasDefinition, IsReadOf}
+use Rattle.std.proofs.Common.{◌≡◌, eq-eqb, rules, ◌∙◌}
 use Rattle.def_import.specs.declared.library.TheConstants.{LIBRARY_TEXT}
 use Rattle.def_import.proofs.ReadFiles.{library_read, module_reads, module_spelled, not_equal}
 use Rattle.def_import.proofs.files.definition_text.Goals as goal

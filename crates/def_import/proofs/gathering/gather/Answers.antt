@@ -1,4 +1,4 @@
-use Rattle.std.proofs.Common.{ℕ, List, Option, Vec, Global, subst, ◌≡◌}
+use Rattle.std.proofs.Common.{ℕ, Option, Vec, Global, subst}
 use Rattle.std.specs.Prelude.{option_map, IfOk}
 use Rattle.m2_io.specs.Files.{Files}
 use Rattle.def_import.specs.Answers.{unit_given, wrongs_given}

@@ -1,4 +1,4 @@
-use Rattle.std.proofs.Common.{◌≡◌, ◌≤◌, Some, arith, refl, subst, sym, ◌∙◌, ap, Option}
+use Rattle.std.proofs.Common.{◌≡◌, Some, arith, refl, subst, sym, ◌∙◌, Option}
 use Rattle.std.proofs.lemmas.Result.{err_from_is_err_and}
 use Rattle.m2_io.specs.Files.{Files}
 use Rattle.def_import.specs.Closure.{next_module}

@@ -7,7 +7,7 @@ invariant-loop-name g l = record {
   reached : Reaches (g.H.Shelf.holds l.fn.shelf) l.fn.name l.fn.main l.progress;
   holds : g.H.Shelf.holds l.shelf ≡ g.H.Shelf.holds l.fn.shelf;
   put_faults : g.H.Shelf.put_faults l.shelf ≡ g.H.Shelf.put_faults l.fn.shelf;
-  later : g.H.Shelf.faults l.fn.shelf ≤ g.H.Shelf.faults l.shelf
+  later : g.H.Shelf.faults l.fn.shelf ≤ g.H.Shelf.faults l.shelf;
 }
 
 abbrev pub decreases-loop-name : goal.decreases-loop-name

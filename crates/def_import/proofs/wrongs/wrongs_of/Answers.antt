@@ -1,4 +1,4 @@
-use Rattle.std.proofs.Common.{◌≡◌, ◌<◌, List, ap, sym, subst, arith, get_or, length, ◌++◌, ◌∙◌}
+use Rattle.std.proofs.Common.{◌≡◌, ◌<◌, List, ap, arith, get_or, length, ◌++◌, ◌∙◌}
 use Rattle.def_import.specs.Closure.{Found}
 use Rattle.def_import.specs.Wrongs.{wrongs_in}
 use Rattle.def_import.proofs.Noting.{wrongs_more}

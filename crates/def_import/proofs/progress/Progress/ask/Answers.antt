@@ -1,6 +1,6 @@
-use Rattle.std.proofs.Common.{◌≡◌, ℕ, List, Option, Some, None, Vec, Global, ◌++◌, ◌∷◌, [], length, sym, subst, arith, refl, ap, ◌∙◌, true}
+use Rattle.std.proofs.Common.{◌≡◌, ℕ, List, Option, Some, Vec, Global, ◌++◌, ◌∷◌, [], length, sym, subst, arith, ap, ◌∙◌, true}
 use Rattle.std.specs.Prelude.{option_map, IfOk}
-use Rattle.def_import.specs.Closure.{IsKept, Progress, next_module, progress_of}
+use Rattle.def_import.specs.Closure.{Progress, next_module, progress_of}
 use Rattle.def_import.specs.Outcomes.{AskPasses, Asks, Passes}
 use Rattle.def_import.specs.Shelves.{HasDefinition, IsReadOf}
 use Rattle.def_import.proofs.Asking.{next_named, none_read, some_passes, some_reads}

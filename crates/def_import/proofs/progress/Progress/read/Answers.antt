@@ -1,6 +1,6 @@
-use Rattle.std.proofs.Common.{◌≡◌, ◌+◌, ◌<◌, ◌≤◌, ℕ, List, ◌++◌, ◌∷◌, [], length, sym, ◌∙◌, ap, subst, arith, rules}
+use Rattle.std.proofs.Common.{◌+◌, ◌≤◌, length, sym, subst, arith}
 use Rattle.std.proofs.lemmas.Result.{err_from_is_err_and}
-use Rattle.def_import.specs.Closure.{Found, IsKept, Progress, modules_of, names_of, progress_of, with_modules}
+use Rattle.def_import.specs.Closure.{IsKept, Progress, progress_of}
 use Rattle.def_import.specs.Outcomes.{Passes, Reads}
 use Rattle.def_import.specs.Views.{fault_of}
 use Rattle.def_import.proofs.Limits.{same_fault, when_naming, when_unit}
