@@ -1,0 +1,13 @@
+mod FileNames
+mod ReadFiles
+mod Naming
+mod Beginning
+pub mod Fitting
+mod FrontNames
+mod Limits
+mod OneMore
+mod Asking
+mod Ordering
+mod Noting
+mod Gathers
+mod UnitKept
