@@ -1,0 +1,5 @@
+pub mod Rows
+pub mod Cells
+pub mod Rule
+pub mod Plays
+pub mod Seats
