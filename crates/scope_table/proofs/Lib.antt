@@ -6,3 +6,4 @@ pub mod Steps
 pub mod Cells
 pub mod Cuts
 pub mod Probes
+pub mod Opening

@@ -2,4 +2,5 @@ pub mod Rows
 pub mod Cells
 pub mod Rule
 pub mod Plays
+pub mod Opening
 pub mod Seats

@@ -1,12 +1,12 @@
 -- What a clause says of a table and a seat.
 use Rattle.std.specs.Prelude.{◌≡◌, ℕ, suc, List, [], ◌∷◌, true, length, ◌<◌, ◌+◌, ◌*◌, slice_index, slice_index_or}
 use Rattle.atomic_table.specs.Seated.{TableId}
-use Rattle.m2_base.specs.Standard.{standard_rows}
 use Rattle.m2_base.specs.Units.{UnitTexts}
 use Rattle.m2_base.specs.declared.replies.Head.{Head}
 use Rattle.m2_base.specs.declared.replies.Reply.{Reply}
 use Rattle.scope_table.specs.Cells.{IsWidth}
-use Rattle.scope_table.specs.Rule.{scopes, base, mid, width, texts_in, shown_at, empty_at}
+use Rattle.scope_table.specs.Rule.{scopes, base, mid, width, texts_in}
+use Rattle.scope_table.specs.Opening.{IsStart}
 use Rattle.scope_table.specs.declared.view.Look.{Look}
 use Rattle.scope_table.specs.declared.view.About.{About}
 use Rattle.scope_table.specs.declared.view.View.{View}
@@ -33,23 +33,22 @@ IsSameSeat s s' = (s'.seat.table_id ≡ s.seat.table_id) × (s'.scope ≡ s.scop
 abbrev pub look_by : ℕ → ℕ → List ℕ → List Head → Reply → Look
 look_by at name chain heads reply = record { at = at; name = name; chain = chain; heads = heads; reply = reply }
 
--- The seat of scope k as the table is opened: scope 0 is complete and has the standard rows, and all others are empty.
+-- The seat of scope k as the table is opened.
 pub record IsFirst (t : ScopeTable) (k : ℕ) (s : TableSeat) : Type 0 where
   pub scope : s.scope ≡ k
   pub table : IsOf t s
   pub rights : (view s).rights ≡ k ∷ []
-  pub zero_rows : (shown_at (view s) 0).rows ≡ standard_rows
-  pub zero_complete : (shown_at (view s) 0).complete ≡ true
-  pub others : (j : ℕ) → 0 < j → j < scopes (key_of t) → shown_at (view s) j ≡ empty_at (key_of t) j
-  pub put : (view s).put ≡ []
-  pub loads : (view s).loads ≡ []
-  pub looks : (view s).looks ≡ []
+  pub start : IsStart (key_of t) (view s)
 
--- A table is opened for these texts: each scope has room for so many rows and cells, and one seat in order.
+-- the seats of so many scopes, in order
+pub record AreFirst (t : ScopeTable) (seats : List TableSeat) (many : ℕ) : Type 0 where
+  pub each : (k : ℕ) (d : TableSeat) → k < many → IsFirst t k (slice_index_or seats k d)
+  pub all : length seats ≡ many
+
+-- A table is opened for these texts: each scope has room for so many rows and the cells to go with them, and a seat of its own.
 pub record IsOpened (t : ScopeTable) (seats : List TableSeat) (texts : UnitTexts) (sizes : List ℕ) : Type 0 where
   pub texts_are : texts_in (key_of t) ≡ texts
   pub many : scopes (key_of t) ≡ length sizes
   pub rooms : (k : ℕ) → k < length sizes → mid (key_of t) k ≡ base (key_of t) k + 8 * slice_index sizes k
   pub widths : (k : ℕ) → k < length sizes → IsWidth (slice_index sizes k) (width (key_of t) k)
-  pub each : (k : ℕ) (d : TableSeat) → k < length sizes → IsFirst t k (slice_index_or seats k d)
-  pub all : length seats ≡ length sizes
+  pub seats_are : AreFirst t seats (length sizes)

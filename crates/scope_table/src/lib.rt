@@ -9,6 +9,7 @@
 #![tactic(auto)]
 
 mod law;
+mod open;
 mod table;
 mod view;
 mod words;

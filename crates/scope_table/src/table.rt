@@ -3,7 +3,7 @@ ghost use Rattle.std.specs.Prelude.{◌≡◌, ◌≢◌, ℕ, suc, ◌+◌, ◌
 ghost use Rattle.scope_table.specs.Cells.{probe as probe_of, IsIndexed, IsFirstEmpty, IsFull};
 ghost use Rattle.m2_base.specs.Rows.{at_place, IsWellFormed};
 ghost use Rattle.scope_table.specs.Rows.{words_of, row_of, rows_of};
-ghost use Rattle.scope_table.specs.Rule.{shown_at, scopes, base, mid, width, texts_in, times, IsFair, AreFormed, IsLaid, IsLater, IsSeated, IsSound};
+ghost use Rattle.scope_table.specs.Rule.{shown_at, empty_at, scopes, base, mid, width, texts_in, times, IsFair, AreFormed, IsLaid, IsLater, IsSeated, IsSound};
 ghost use Rattle.scope_table.specs.Plays.{head_in, sees, marks, puts, shows, seals, grown, ended, told_of, IsWordOf, HasRoom, CanPut, CanMark, HasPut};
 
 use crate::law::{
@@ -44,6 +44,45 @@ pub struct TableSeat {
     closed: bool,
     ghost seated: { IsSeated seat.me.0 scope shown waiting closed },
     ghost bare: { seat.me.1 ≡ [] },
+}
+
+pub(crate) fn make_table(
+    table: Table<(), View, About, Law, Global>,
+    bases: Bases,
+    mids: Bases,
+) -> ScopeTable
+    requires bases { bases ≡ table.shared.key.bases.value }
+    requires mids { mids ≡ table.shared.key.mids.value }
+    requires all_mids { length table.shared.key.mids.value ≡ scopes table.shared.key }
+    requires behind { (j : ℕ) → j < scopes table.shared.key → mid table.shared.key j < base table.shared.key (suc j) }
+    requires narrow { (j : ℕ) → j < scopes table.shared.key → width table.shared.key j ≤ 2 ^ 32 }
+    requires few { (j : ℕ) → j < scopes table.shared.key → mid table.shared.key j < base table.shared.key j + 8 * width table.shared.key j }
+    requires laid { IsLaid table.shared.key }
+    requires small { base table.shared.key (scopes table.shared.key) < 2 ^ 63 }
+    requires wide { table.shared.table_id.words ≡ base table.shared.key (scopes table.shared.key) }
+    ensures { result.table.shared ≡ table.shared }
+{
+    ScopeTable { table, bases, mids }
+}
+
+/// The seat of a scope that is empty.
+pub(crate) fn make_seat(seat: Seat<(), View>, scope: u32) -> TableSeat
+    requires mine { seat.me.0.rights ≡ scope ∷ [] }
+    requires bare { seat.me.1 ≡ [] }
+    requires wide { length seat.me.0.seen ≡ scopes seat.me.0.about }
+    requires scope { scope < scopes seat.me.0.about }
+    requires empty { shown_at seat.me.0 scope ≡ empty_at seat.me.0.about scope }
+    requires put { seat.me.0.put ≡ [] }
+    requires sound { IsSound seat.me.0 }
+    ensures { (result.seat ≡ seat) × (result.scope ≡ scope) }
+{
+    TableSeat {
+        seat,
+        scope,
+        shown: 0,
+        waiting: 0,
+        closed: false,
+    }
 }
 
 impl ScopeTable {
