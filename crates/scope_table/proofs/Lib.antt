@@ -7,3 +7,4 @@ pub mod Cells
 pub mod Cuts
 pub mod Probes
 pub mod Opening
+pub mod Looks

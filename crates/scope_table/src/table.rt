@@ -4,16 +4,18 @@ ghost use Rattle.scope_table.specs.Cells.{probe as probe_of, IsIndexed, IsFirstE
 ghost use Rattle.m2_base.specs.Rows.{at_place, IsWellFormed};
 ghost use Rattle.scope_table.specs.Rows.{words_of, row_of, rows_of};
 ghost use Rattle.scope_table.specs.Rule.{shown_at, empty_at, scopes, base, mid, width, texts_in, times, IsFair, AreFormed, IsLaid, IsLater, IsSeated, IsSound};
-ghost use Rattle.scope_table.specs.Plays.{head_in, sees, marks, puts, shows, seals, grown, ended, told_of, IsWordOf, HasRoom, CanPut, CanMark, HasPut};
+ghost use Rattle.scope_table.specs.Looks.{look_of, CanNote};
+ghost use Rattle.scope_table.specs.Plays.{head_in, sees, marks, puts, shows, seals, grown, ended, notes, told_of, IsWordOf, HasRoom, CanPut, CanMark, HasPut};
 
 use crate::law::{
-    Law, LoadCell, LoadHead, LoadRow, Note, OnceEach, PutCell, PutWord, Seal, Show, Tell, Together,
-    Told,
+    Law, LoadCell, LoadHead, LoadRow, Note, NoteLook, Noted, OnceEach, PutCell, PutWord, Seal, Show,
+    Tell, Together, Told,
 };
 use crate::view::{About, Bases, View};
 use crate::words::{from_words, to_words};
 use atomic_table::{Seat, Table};
 use m2_base::{Head, Place, Row};
+use scope_core::Flight;
 use std::alloc::Global;
 use std::marker::Brand;
 
@@ -277,6 +279,26 @@ impl ScopeTable {
             .shared
             .store::<Seal>(&mut seat.seat, seat.scope as usize, 2 * seat.shown + 1);
         seat.closed = true;
+    }
+
+    fn note_as<J: Noted>(&self, seat: &mut TableSeat, _at: u32, _flight: &Flight)
+        requires table { IsOf self.now seat.old }
+        requires look { J.look ≡ look_of _at _flight.now }
+        requires flown { CanNote (key_of self.now) (view seat.old) _flight.now }
+        ensures same { IsSameSeat seat.old seat.new }
+        ensures noted { view seat.new ≡ notes (view seat.old) J.look }
+    {
+        self.table.shared.load::<NoteLook<J>>(&mut seat.seat, 0);
+    }
+
+    /// Notes a search that has its reply as a look of the seat, for the token `at`.
+    pub fn note_look(&self, seat: &mut TableSeat, at: u32, flight: &Flight)
+        requires table { IsOf self.now seat.old }
+        requires flown { CanNote (key_of self.now) (view seat.old) flight.now }
+        ensures same { IsSameSeat seat.old seat.new }
+        ensures noted { view seat.new ≡ notes (view seat.old) (look_of at flight.now) }
+    {
+        self.note_as::<Brand>(seat, at, flight);
     }
 
     fn tell_as<J: Told>(&self, to: &mut TableSeat, note: Seat<(), View>)
