@@ -15,7 +15,7 @@ use Rattle.scope_table.proofs.Rows.{length-rows_at, rows_at-same, words_at-same,
 use Rattle.scope_table.specs.Plays.{Sat, cell_loaded, IsCellOf, marked, marks, cell_put}
 use Rattle.scope_table.proofs.Frames.{St, view_step, store_step, Moves, seen_moves, looks_move, before_refl}
 use Rattle.scope_table.proofs.Steps.{apart, only, has_one}
-use Rattle.scope_table.proofs.Rooms.{good_set, seen_same}
+use Rattle.scope_table.proofs.Rooms.{good_set, seen_same, zero_stays}
 
 -- A cell is loaded
 pub loads_cell : (a : About) (slots id : ℕ) (me : Sat) (p : ℕ) → Allows (IsKept a) slots id me p (λ n. n) (cell_loaded (step slots p 0 0 none) me)
@@ -181,4 +181,5 @@ seated_marks v scope shown waiting c o closed is empty new less =
       rooms = good_set v scope t is.there is.wide is.rooms (good_marked v.about scope (shown_at v scope) c o empty new (omega arith) (is.rooms scope is.there));
       own_room = is.own_room;
       own_cells = subst (λ (y : Shown). (q : ℕ) → 8 * get_or y.cells q 0 ≤ 8 * length y.rows + length v.put) (sym there) (cells_set (λ y. 8 * y ≤ 8 * length (shown_at v scope).rows + length v.put) (shown_at v scope).cells c (o + 1) is.own_cells (omega arith));
+      zero = λ n. zero_stays v scope t is.zero n;
     }

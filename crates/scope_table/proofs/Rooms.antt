@@ -1,5 +1,5 @@
 -- Where the words of a scope lie.
-use Rattle.std.proofs.Common.{◌≡◌, ℕ, zero, suc, ◌+◌, ◌*◌, ◌<◌, ◌≤◌, List, [], ◌∷◌, ◌++◌, length, get_or, sym, refl, ap, ◌∙◌, subst, arith, set, length-append, length-set, get_or-set_same, get_or-set_other, eq-eqb, Bool, true, false, zero-add, add-zero}
+use Rattle.std.proofs.Common.{◌≡◌, ◌≢◌, ℕ, zero, suc, cond, ltb, ◌+◌, ◌*◌, ◌<◌, ◌≤◌, List, [], ◌∷◌, ◌++◌, length, get_or, sym, refl, ap, ◌∙◌, subst, arith, set, length-append, length-set, get_or-set_same, get_or-set_other, eq-eqb, Bool, true, false, zero-add, add-zero}
 use Rattle.scope_table.proofs.Later.{get_or-later_all, length-later_all, own_stays}
 use mathlib.Core.Logic.{dite}
 use native.Mathlib.Decide.{ℕ_discrete}
@@ -12,7 +12,7 @@ use Rattle.scope_table.specs.Rows.{rows_of, words_of}
 use Rattle.scope_table.proofs.Rows.{length-rows_of}
 use Rattle.m2_base.specs.declared.rows.Row.{Row}
 use Rattle.scope_table.specs.declared.view.Look.{Look}
-use Rattle.scope_table.specs.Plays.{sees, puts, shows, seals, notes, told_of, grown, ended}
+use Rattle.scope_table.specs.Plays.{sees, puts, shows, seals, notes, told_of, grown, ended, later, later_all}
 
 pub reads : (a : About) (bases : List ℕ) (j r : ℕ) → bases ≡ a.bases.value → r ≡ get_or bases j 0 → r ≡ base a j
 reads a bases j r e h = h ∙ ap (λ (xs : List ℕ). get_or xs j 0) e
@@ -39,6 +39,10 @@ good_set v j t l wide sound good k lk = dite (ℕ_discrete k j)
     (λ e. subst (λ (z : ℕ). IsGood v.about z (get_or (set v.seen j t) z nothing)) (sym e) (subst (IsGood v.about j) (sym (seen_same v.seen j t (omega arith))) good))
     (λ n. subst (IsGood v.about k) (sym (get_or-set_other v.seen j k t nothing n)) (sound k lk))
 
+-- what was seen of scope 0, where another scope was seen anew
+pub zero_stays : (v : View) (scope : ℕ) (t : Shown) → (scope ≢ 0 → (shown_at v 0).complete ≡ true) → scope ≢ 0 → (get_or (set v.seen scope t) 0 nothing).complete ≡ true
+zero_stays v scope t seen n = ap (λ (y : Shown). y.complete) (get_or-set_other v.seen scope 0 t nothing (λ e. n (sym e))) ∙ seen n
+
 -- after a head was loaded
 pub seated_sees : (v : View) (scope shown waiting : ℕ) (closed : Bool) (j : ℕ) (t : Shown) → IsSeated v scope shown waiting closed → j < scopes v.about → IsBefore (shown_at v j) t → IsGood v.about j t → (0 < times j v.rights → t ≡ shown_at v j)
     → IsSeated (sees v j t) scope shown waiting closed
@@ -55,6 +59,10 @@ seated_sees v scope shown waiting closed j t is l before good own =
       rooms = good_set v j t l is.wide is.rooms good;
       own_room = is.own_room;
       own_cells = subst (λ (y : Shown). (c : ℕ) → 8 * get_or y.cells c 0 ≤ 8 * length y.rows + length v.put) (sym same) is.own_cells;
+      zero = λ n. dite (ℕ_discrete j 0)
+          (λ e. let was : (shown_at v j).complete ≡ true = ap (λ (z : ℕ). (shown_at v z).complete) e ∙ is.zero n in
+          ap (λ (z : ℕ). (shown_at (sees v j t) z).complete) (sym e) ∙ (ap (λ (y : Shown). y.complete) (seen_same v.seen j t (omega arith) ∙ sym (before.done was)) ∙ was))
+          (λ ne. ap (λ (y : Shown). y.complete) (get_or-set_other v.seen j 0 t nothing (λ e. ne (sym e))) ∙ is.zero n);
     }
 
 -- after the words of a row were put
@@ -69,6 +77,7 @@ seated_puts v scope shown waiting closed xs eight is room = let more = length-ap
   rooms = is.rooms;
   own_room = omega arith;
   own_cells = λ c. let o = is.own_cells c in omega arith;
+  zero = is.zero;
 }
 
 pub seated_shows : (v : View) (scope shown waiting : ℕ) (closed : Bool) → IsSeated v scope shown waiting closed → (shown_at v scope).complete ≡ false → IsFair v.about scope (grown v scope).rows false → IsIndexed (width v.about scope) (grown v scope).rows (grown v scope).cells → IsSeated (shows v scope) scope (shown + waiting) 0 closed
@@ -84,6 +93,7 @@ seated_shows v scope shown waiting closed is going fair index =
       rooms = good_set v scope t is.there is.wide is.rooms record { room = omega arith; behind = (is.rooms scope is.there).behind; many = (is.rooms scope is.there).many; fair = fair; index = index; one = (is.rooms scope is.there).one; ordinals = (is.rooms scope is.there).ordinals };
       own_room = omega arith;
       own_cells = subst (λ (y : Shown). (c : ℕ) → 8 * get_or y.cells c 0 ≤ 8 * length y.rows + 0) (sym there) (λ c. let o = is.own_cells c in let w = is.waiting_is in let k = is.shown_is in omega arith);
+      zero = λ n. zero_stays v scope t is.zero n;
     }
 
 pub seated_seals : (v : View) (scope shown waiting : ℕ) (closed : Bool) → IsSeated v scope shown waiting closed → IsFair v.about scope (ended v scope).rows true → IsSeated (seals v scope) scope shown waiting true
@@ -98,10 +108,19 @@ seated_seals v scope shown waiting closed is fair =
       rooms = good_set v scope t is.there is.wide is.rooms record { room = (is.rooms scope is.there).room; behind = (is.rooms scope is.there).behind; many = (is.rooms scope is.there).many; fair = fair; index = (is.rooms scope is.there).index; one = (is.rooms scope is.there).one; ordinals = (is.rooms scope is.there).ordinals };
       own_room = is.own_room;
       own_cells = subst (λ (y : Shown). (c : ℕ) → 8 * get_or y.cells c 0 ≤ 8 * length y.rows + length v.put) (sym there) is.own_cells;
+      zero = λ n. zero_stays v scope t is.zero n;
     }
 
 pub seated_notes : (v : View) (scope shown waiting : ℕ) (closed : Bool) (l : Look) → IsSeated v scope shown waiting closed → IsSeated (notes v l) scope shown waiting closed
-seated_notes v scope shown waiting closed l is = record { mine = is.mine; wide = is.wide; there = is.there; shown_is = is.shown_is; waiting_is = is.waiting_is; closed_is = is.closed_is; rooms = is.rooms; own_room = is.own_room; own_cells = is.own_cells }
+seated_notes v scope shown waiting closed l is = record { mine = is.mine; wide = is.wide; there = is.there; shown_is = is.shown_is; waiting_is = is.waiting_is; closed_is = is.closed_is; rooms = is.rooms; own_room = is.own_room; own_cells = is.own_cells; zero = is.zero }
+
+zero_told : (rs : List ℕ) (xs ys : List Shown) → (get_or xs 0 nothing).complete ≡ true → (get_or (later_all rs 0 xs ys) 0 nothing).complete ≡ true
+zero_told rs [] ys h = h
+zero_told rs (x ∷ xs) [] h = h
+zero_told rs (x ∷ xs) (y ∷ ys) h = elim (ltb 0 (times 0 rs)) as (λ b. (cond b x (later x y)).complete ≡ true) [
+  | true ↦ h
+  | false ↦ ap (λ b. (cond b x (cond y.complete y (cond (ltb (length x.rows) (length y.rows)) y x))).complete) h ∙ h
+]
 
 pub seated_told : (v w : View) (scope shown waiting : ℕ) (closed : Bool) → IsSeated v scope shown waiting closed → w.about ≡ v.about → IsSound w → IsSeated (told_of v w) scope shown waiting closed
 seated_told v w scope shown waiting closed is same roomy =
@@ -118,6 +137,7 @@ seated_told v w scope shown waiting closed is same roomy =
           (λ q lq. subst (λ (z : ℕ). P z (shown_at w q)) (sym (zero-add q)) (subst (λ (b : About). q < scopes b → IsGood b q (shown_at w q)) same (roomy q) (omega arith))) j (omega arith));
       own_room = is.own_room;
       own_cells = subst (λ (y : Shown). (c : ℕ) → 8 * get_or y.cells c 0 ≤ 8 * length y.rows + length v.put) (sym stays) is.own_cells;
+      zero = λ n. zero_told v.rights v.seen w.seen (is.zero n);
     }
 
 -- how many rows are shown and put

@@ -194,7 +194,7 @@ first_view a = record { about = a; rights = upto 0 (scopes a); seen = empty_from
 abbrev pub IsSound : View → Type 0
 IsSound v = (j : ℕ) → j < scopes v.about → IsGood v.about j (shown_at v j)
 
--- the view of the seat that fills a scope, and the numbers beside it
+-- the view of the seat that fills a scope, and the numbers beside it; scope 0 is seen complete, once it is filled
 pub record IsSeated (v : View) (scope shown waiting : ℕ) (closed : Bool) : Type 0 where
   pub mine : v.rights ≡ scope ∷ []
   pub wide : length v.seen ≡ scopes v.about
@@ -205,6 +205,7 @@ pub record IsSeated (v : View) (scope shown waiting : ℕ) (closed : Bool) : Typ
   pub rooms : IsSound v
   pub own_room : base v.about scope + 8 * shown + 8 * waiting ≤ mid v.about scope
   pub own_cells : AreOfRows v scope
+  pub zero : scope ≢ 0 → (shown_at v 0).complete ≡ true
 
 -- the key of no table
 abbrev pub no_unit : About

@@ -50,7 +50,7 @@ fn lay(alloc: Global, sizes: &[u32]) -> Result<(Vec<u64>, Vec<u64>), AllocError>
 }
 
 impl ScopeTable {
-    ghost use Rattle.scope_table.specs.Seats.{view, key_of, id_of, IsOf, IsSameSeat, AreFirst, IsOpened};
+    ghost use Rattle.scope_table.specs.Seats.{view, scope_of, key_of, id_of, IsOf, IsSameSeat, AreFirst, IsOpened};
 
     /// A table for these texts. Scope 0 is complete and has the standard rows, and all others are empty and have room for so
     /// many rows. There is a seat for each scope in order, which has the right to fill it and has seen all this. Memory runs
@@ -125,7 +125,7 @@ impl ScopeTable {
     /// Fills scope 0 with the standard rows, and marks it as complete.
     fn fill_standard(&self, seat: &mut TableSeat)
         requires table { IsOf self.now seat.old }
-        requires scope { seat.old.scope ≡ 0 }
+        requires scope { scope_of seat.old ≡ 0 }
         requires start { IsEmptyStart (key_of self.now) (view seat.old) }
         requires room { mid (key_of self.now) 0 ≡ base (key_of self.now) 0 + 8 * 37 }
         requires unit { IsUnit (texts_in (key_of self.now)) }

@@ -39,8 +39,8 @@ pub struct ScopeTable {
 /// The right to fill one scope of a table, with what was seen of all scopes.
 #[derive(Drop)]
 pub struct TableSeat {
-    pub seat: Seat<(), View>,
-    pub scope: u32,
+    pub(crate) seat: Seat<(), View>,
+    scope: u32,
     shown: u64,
     waiting: u64,
     closed: bool,
@@ -67,6 +67,19 @@ pub(crate) fn make_table(
     ScopeTable { table, bases, mids }
 }
 
+impl TableSeat {
+    ghost use Rattle.scope_table.specs.Seats.{view, scope_of, IsWhole};
+
+    /// The scope that it fills, and what always holds of a seat: what it has seen of each scope keeps to the rule, its own scope
+    /// is the one that it has the right to, and scope 0 is seen complete.
+    pub fn scope(&self) -> u32
+        ensures scope { result ≡ scope_of self.now }
+        ensures whole { IsWhole self.now }
+    {
+        self.scope
+    }
+}
+
 /// The seat of a scope that is empty.
 pub(crate) fn make_seat(seat: Seat<(), View>, scope: u32) -> TableSeat
     requires mine { seat.me.0.rights ≡ scope ∷ [] }
@@ -76,6 +89,7 @@ pub(crate) fn make_seat(seat: Seat<(), View>, scope: u32) -> TableSeat
     requires empty { shown_at seat.me.0 scope ≡ empty_at seat.me.0.about scope }
     requires put { seat.me.0.put ≡ [] }
     requires sound { IsSound seat.me.0 }
+    requires zero { scope ≢ 0 → (shown_at seat.me.0 0).complete ≡ true }
     ensures { (result.seat ≡ seat) × (result.scope ≡ scope) }
 {
     TableSeat {
@@ -88,7 +102,7 @@ pub(crate) fn make_seat(seat: Seat<(), View>, scope: u32) -> TableSeat
 }
 
 impl ScopeTable {
-    ghost use Rattle.scope_table.specs.Seats.{view, key_of, id_of, IsOf, IsSameSeat};
+    ghost use Rattle.scope_table.specs.Seats.{view, scope_of, key_of, id_of, IsOf, IsSameSeat};
 
     /// The head of a scope, which the seat has seen then. A later head of the scope is never smaller, and after a complete one
     /// it is that one.
@@ -156,7 +170,7 @@ impl ScopeTable {
         requires cell { cell < width (key_of self.now) scope }
         ensures same { seat.new ≡ seat.old }
         ensures found { MatchOption result (slice_index (shown_at (view seat.old) scope).cells cell ≡ 0) (λ o. slice_index (shown_at (view seat.old) scope).cells cell ≢ 0 → slice_index (shown_at (view seat.old) scope).cells cell ≡ o + 1) }
-        ensures mine { scope ≡ seat.old.scope → MatchOption result (slice_index (shown_at (view seat.old) scope).cells cell ≡ 0) (λ o. slice_index (shown_at (view seat.old) scope).cells cell ≡ o + 1) }
+        ensures mine { scope ≡ scope_of seat.old → MatchOption result (slice_index (shown_at (view seat.old) scope).cells cell ≡ 0) (λ o. slice_index (shown_at (view seat.old) scope).cells cell ≡ o + 1) }
     {
         let at = (self.mids.at(scope) + cell as u64) as usize;
         let word = self.table.shared.load::<LoadCell>(&mut seat.seat, at);
@@ -170,10 +184,10 @@ impl ScopeTable {
     /// Puts the ordinal of a row that is put and not shown into its cell: the first empty one from the home of its name.
     pub fn put_cell(&self, seat: &mut TableSeat, cell: u32, ordinal: u32)
         requires table { IsOf self.now seat.old }
-        requires going { (shown_at (view seat.old) seat.old.scope).complete ≡ false }
-        requires row { CanMark (width (key_of self.now) seat.old.scope) (view seat.old) seat.old.scope cell ordinal }
+        requires going { (shown_at (view seat.old) (scope_of seat.old)).complete ≡ false }
+        requires row { CanMark (width (key_of self.now) (scope_of seat.old)) (view seat.old) (scope_of seat.old) cell ordinal }
         ensures same { IsSameSeat seat.old seat.new }
-        ensures marked { view seat.new ≡ marks (view seat.old) seat.old.scope cell (ordinal + 1) }
+        ensures marked { view seat.new ≡ marks (view seat.old) (scope_of seat.old) cell (ordinal + 1) }
     {
         let at = (self.mids.at(seat.scope) + cell as u64) as usize;
         self.table
@@ -198,11 +212,11 @@ impl ScopeTable {
     /// Puts a row into the first place past the rows that are shown and put.
     pub fn put_row(&self, seat: &mut TableSeat, row: &Row)
         requires table { IsOf self.now seat.old }
-        requires going { (shown_at (view seat.old) seat.old.scope).complete ≡ false }
-        requires room { HasRoom (key_of self.now) (view seat.old) seat.old.scope }
+        requires going { (shown_at (view seat.old) (scope_of seat.old)).complete ≡ false }
+        requires room { HasRoom (key_of self.now) (view seat.old) (scope_of seat.old) }
         ensures same { IsSameSeat seat.old seat.new }
         ensures put { view seat.new ≡ puts (view seat.old) (words_of row.now) }
-        ensures rows { (grown (view seat.new) seat.old.scope).rows ≡ (grown (view seat.old) seat.old.scope).rows ++ row.now ∷ [] }
+        ensures rows { (grown (view seat.new) (scope_of seat.old)).rows ≡ (grown (view seat.old) (scope_of seat.old)).rows ++ row.now ∷ [] }
     {
         let first = (self.bases.at(seat.scope) + 8 * (seat.shown + seat.waiting)) as usize;
         self.put_words(&mut seat.seat, first, &to_words(row));
@@ -213,7 +227,7 @@ impl ScopeTable {
     pub fn first_empty(&self, seat: &mut TableSeat, name: u32) -> Option<u32>
         requires table { IsOf self.now seat.old }
         ensures same { seat.new ≡ seat.old }
-        ensures cell { MatchOption result (IsFull (width (key_of self.now) seat.old.scope) name (shown_at (view seat.old) seat.old.scope).cells) (λ c. IsFirstEmpty (width (key_of self.now) seat.old.scope) name c (shown_at (view seat.old) seat.old.scope).cells) }
+        ensures cell { MatchOption result (IsFull (width (key_of self.now) (scope_of seat.old)) name (shown_at (view seat.old) (scope_of seat.old)).cells) (λ c. IsFirstEmpty (width (key_of self.now) (scope_of seat.old)) name c (shown_at (view seat.old) (scope_of seat.old)).cells) }
     {
         let scope = seat.scope;
         let width = self.width(scope);
@@ -229,13 +243,13 @@ impl ScopeTable {
     /// Puts a row with its cell, if it has a name. Where the rows put before have theirs, all have then.
     pub fn put_indexed(&self, seat: &mut TableSeat, row: &Row)
         requires table { IsOf self.now seat.old }
-        requires going { (shown_at (view seat.old) seat.old.scope).complete ≡ false }
-        requires room { HasRoom (key_of self.now) (view seat.old) seat.old.scope }
-        requires index { IsIndexed (width (key_of self.now) seat.old.scope) (grown (view seat.old) seat.old.scope).rows (grown (view seat.old) seat.old.scope).cells }
+        requires going { (shown_at (view seat.old) (scope_of seat.old)).complete ≡ false }
+        requires room { HasRoom (key_of self.now) (view seat.old) (scope_of seat.old) }
+        requires index { IsIndexed (width (key_of self.now) (scope_of seat.old)) (grown (view seat.old) (scope_of seat.old)).rows (grown (view seat.old) (scope_of seat.old)).cells }
         ensures same { IsSameSeat seat.old seat.new }
-        ensures rows { (grown (view seat.new) seat.old.scope).rows ≡ (grown (view seat.old) seat.old.scope).rows ++ row.now ∷ [] }
-        ensures index { IsIndexed (width (key_of self.now) seat.old.scope) (grown (view seat.new) seat.old.scope).rows (grown (view seat.new) seat.old.scope).cells }
-        ensures put { HasPut (view seat.old) (view seat.new) seat.old.scope row.now }
+        ensures rows { (grown (view seat.new) (scope_of seat.old)).rows ≡ (grown (view seat.old) (scope_of seat.old)).rows ++ row.now ∷ [] }
+        ensures index { IsIndexed (width (key_of self.now) (scope_of seat.old)) (grown (view seat.new) (scope_of seat.old)).rows (grown (view seat.new) (scope_of seat.old)).cells }
+        ensures put { HasPut (view seat.old) (view seat.new) (scope_of seat.old) row.now }
     {
         let ordinal = seat.shown + seat.waiting;
         self.put_row(seat, row);
@@ -251,12 +265,12 @@ impl ScopeTable {
     /// Shows all rows that were put, in one step.
     pub fn show(&self, seat: &mut TableSeat)
         requires table { IsOf self.now seat.old }
-        requires going { (shown_at (view seat.old) seat.old.scope).complete ≡ false }
-        requires fair { IsFair (key_of self.now) seat.old.scope (grown (view seat.old) seat.old.scope).rows false }
-        requires formed { AreFormed (key_of self.now) seat.old.scope (length (shown_at (view seat.old) seat.old.scope).rows) (rows_of (view seat.old).put) }
-        requires index { IsIndexed (width (key_of self.now) seat.old.scope) (grown (view seat.old) seat.old.scope).rows (grown (view seat.old) seat.old.scope).cells }
+        requires going { (shown_at (view seat.old) (scope_of seat.old)).complete ≡ false }
+        requires fair { IsFair (key_of self.now) (scope_of seat.old) (grown (view seat.old) (scope_of seat.old)).rows false }
+        requires formed { AreFormed (key_of self.now) (scope_of seat.old) (length (shown_at (view seat.old) (scope_of seat.old)).rows) (rows_of (view seat.old).put) }
+        requires index { IsIndexed (width (key_of self.now) (scope_of seat.old)) (grown (view seat.old) (scope_of seat.old)).rows (grown (view seat.old) (scope_of seat.old)).cells }
         ensures same { IsSameSeat seat.old seat.new }
-        ensures shown { view seat.new ≡ shows (view seat.old) seat.old.scope }
+        ensures shown { view seat.new ≡ shows (view seat.old) (scope_of seat.old) }
     {
         let count = seat.shown + seat.waiting;
         self.table
@@ -269,11 +283,11 @@ impl ScopeTable {
     /// Marks the scope as complete.
     pub fn seal(&self, seat: &mut TableSeat)
         requires table { IsOf self.now seat.old }
-        requires going { (shown_at (view seat.old) seat.old.scope).complete ≡ false }
+        requires going { (shown_at (view seat.old) (scope_of seat.old)).complete ≡ false }
         requires none { (view seat.old).put ≡ [] }
-        requires fair { IsFair (key_of self.now) seat.old.scope (ended (view seat.old) seat.old.scope).rows true }
+        requires fair { IsFair (key_of self.now) (scope_of seat.old) (ended (view seat.old) (scope_of seat.old)).rows true }
         ensures same { IsSameSeat seat.old seat.new }
-        ensures sealed { view seat.new ≡ seals (view seat.old) seat.old.scope }
+        ensures sealed { view seat.new ≡ seals (view seat.old) (scope_of seat.old) }
     {
         self.table
             .shared
@@ -337,7 +351,7 @@ impl ScopeTable {
     pub fn apart(&self, one: TableSeat, other: TableSeat)
         requires one { IsOf self.now one }
         requires other { IsOf self.now other }
-        requires same { one.scope ≡ other.scope }
+        requires same { scope_of one ≡ scope_of other }
         ensures never { ◌≡◌ {A = ℕ} 0 1 }
     {
         let TableSeat {

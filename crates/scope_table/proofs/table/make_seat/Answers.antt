@@ -15,6 +15,7 @@ invariant_of-result c = let r = c.requires in let v = c.args.seat.me.0 in record
     closed_is = ap (λ (t : Shown). t.complete) (sym r.empty);
     rooms = r.sound;
     own_room = let g = (r.sound c.args.scope r.scope).room in omega arith;
+    zero = r.zero;
     own_cells = λ q. let e : get_or (shown_at v c.args.scope).cells q 0 ≡ 0 = ap (λ (t : Shown). get_or t.cells q 0) r.empty ∙ zeros (width v.about c.args.scope) q in omega arith;
   };
   bare = r.bare;
