@@ -10,9 +10,9 @@ use Rattle.scope_table.specs.declared.view.About.{About}
 use Rattle.scope_table.specs.declared.view.View.{View}
 use Rattle.scope_table.specs.Cells.{probe, IsIndexed, HasOneEach, HasNoCell, Stays}
 use Rattle.scope_table.specs.Rows.{rows_at, words_at, name_of}
-use Rattle.scope_table.specs.Rule.{base, mid, width, scopes, is_odd, table_at, nothing, shown_at, IsBefore, times, IsGood, AreFormed, Fills, Knows, IsLaid, IsKept, IsSeated}
-use Rattle.scope_table.proofs.Rows.{length-rows_at, rows_at-same, words_at-same, get_or-words_at, words_at-set}
-use Rattle.scope_table.specs.Plays.{Sat, cell_loaded, IsCellOf, marked, marks, cell_put}
+use Rattle.scope_table.specs.Rule.{base, mid, width, scopes, is_odd, table_at, nothing, shown_at, IsBefore, IsGood, AreFormed, Fills, Knows, IsLaid, IsKept, IsSeated}
+use Rattle.scope_table.proofs.Rows.{length-rows_at, rows_at-same, get_or-words_at, words_at-set}
+use Rattle.scope_table.specs.Plays.{Sat, cell_loaded, marked, marks, cell_put}
 use Rattle.scope_table.proofs.Frames.{St, view_step, store_step, Moves, seen_moves, looks_move, before_refl}
 use Rattle.scope_table.proofs.Steps.{apart, only, has_one}
 use Rattle.scope_table.proofs.Rooms.{good_set, seen_same, zero_stays}
@@ -68,8 +68,10 @@ one_set cs c o one empty new d e n is = dite (ℕ_discrete d c)
       | yes far ↦ absurd (n (ap (λ (l : List ℕ). get_or l k 0) (set-past cs c (o + 1) far) ∙ (ap (λ (z : ℕ). get_or cs z 0) e ∙ empty)))
       | no near ↦ ap (λ (z : ℕ). get_or (set cs c (o + 1)) z 0) e ∙ get_or-set_same cs c (o + 1) 0 (omega arith)
     ]
+
     by_new : (d e : ℕ) → get_or (set cs c (o + 1)) d 0 ≢ 0 → get_or (set cs c (o + 1)) e 0 ≡ get_or (set cs c (o + 1)) d 0 → d ≡ c → e ≢ c → ⊥
     by_new d e n is p q = new e (sym (get_or-set_other cs c e (o + 1) 0 q) ∙ (is ∙ put d p n))
+
     by_old : (d e : ℕ) → get_or (set cs c (o + 1)) d 0 ≢ 0 → get_or (set cs c (o + 1)) e 0 ≡ get_or (set cs c (o + 1)) d 0 → d ≢ c → e ≡ c → ⊥
     by_old d e n is p q = new d (sym (get_or-set_other cs c d (o + 1) 0 p) ∙ (sym is ∙ put e q (λ z. n (sym is ∙ z))))
 

@@ -10,7 +10,7 @@ use Rattle.scope_table.specs.declared.view.Look.{Look}
 use Rattle.scope_table.specs.declared.view.About.{About}
 use Rattle.scope_table.specs.declared.view.View.{View}
 use Rattle.m2_base.specs.Lists.{Each}
-use Rattle.scope_table.specs.Rule.{scopes, table_at, nothing, shown_at, IsBefore, weight, times, rights_to, Fills, Knows, IsKept, IsLawful}
+use Rattle.scope_table.specs.Rule.{scopes, table_at, nothing, shown_at, IsBefore, weight, times, rights_to, Knows, IsKept, IsLawful}
 use Rattle.scope_table.specs.Plays.{Sat, notes, look_noted, first_right, other_rights, note_of, same_view, later_all, told_of, spent, once_each}
 use Rattle.scope_table.proofs.Frames.{rights_to-set, rights_at, rights_two, each_view, view_step, looks_grow}
 use Rattle.scope_table.proofs.Later.{get_or-later_all, length-later_all, own_stays}

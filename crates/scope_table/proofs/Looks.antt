@@ -1,17 +1,15 @@
 -- A search that may be noted is a lawful look.
 use Rattle.std.proofs.Common.{◌≡◌, ℕ, Bool, true, false, Option, Some, None, List, [], ◌∷◌, take, sym, refl, ap, ◌∙◌, subst, inl, inr, ◌⊎◌, if◌then◌else◌}
 use Rattle.std.specs.Prelude.{unwrap_or}
-use Rattle.std.proofs.lemmas.Bool.{true≢false}
 use Rattle.std.proofs.lemmas.Option.{none-some}
 use Rattle.m2_base.specs.Lists.{Each}
-use Rattle.m2_base.specs.Rows.{at_place}
 use Rattle.m2_base.specs.Scopes.{IsTaken, EndsAt}
 use Rattle.m2_base.specs.Tables.{first_named, reply_or}
 use Rattle.m2_base.specs.declared.rows.Row.{Row}
 use Rattle.m2_base.specs.declared.rows.Place.{Place}
 use Rattle.m2_base.specs.declared.replies.Head.{Head}
 use Rattle.m2_base.specs.declared.replies.Reply.{Reply}
-use Rattle.m2_base.specs.declared.replies.Reply.TheVariants.{Found, Absent, DontKnowYet}
+use Rattle.m2_base.specs.declared.replies.Reply.TheVariants.{Absent, DontKnowYet}
 use Rattle.scope_core.specs.Flights.{Flown, reply_of, reply_by, heads_in, found_at}
 use Rattle.scope_core.specs.declared.flight.Load.{Load}
 use Rattle.scope_table.specs.Rule.{scopes, shown_at, replied, WasShown, IsLawful}

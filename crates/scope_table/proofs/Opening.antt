@@ -1,5 +1,5 @@
 -- A table at its start.
-use Rattle.std.proofs.Common.{◌≡◌, ◌≢◌, ℕ, zero, suc, ◌+◌, ◌-◌, ◌*◌, ◌/◌, ◌^◌, ◌<◌, ◌≤◌, max, Bool, true, false, cond, ltb, eqb, Some, List, [], ◌∷◌, ◌++◌, length, slice_get, take, drop, replicate, get_or, set, sym, refl, ap, ◌∙◌, subst, arith, ne_eqb, eq-eqb, true≢false, zero-add}
+use Rattle.std.proofs.Common.{◌≡◌, ℕ, zero, suc, ◌+◌, ◌-◌, ◌*◌, ◌/◌, ◌^◌, ◌<◌, ◌≤◌, max, Bool, true, false, cond, ltb, eqb, Some, List, [], ◌∷◌, ◌++◌, length, slice_get, take, drop, replicate, get_or, sym, refl, ap, ◌∙◌, subst, arith, ne_eqb, eq-eqb, true≢false, zero-add}
 use mathlib.Core.Logic.{dite}
 use mathlib.Core.Option.{some, some-injective, some-ne-none}
 use native.Mathlib.Decide.{ℕ_discrete, dec_le}
@@ -14,7 +14,7 @@ use Rattle.m2_base.specs.Standard.{standard_rows}
 use Rattle.m2_base.proofs.FinishedLaws.{finished-standard}
 use Rattle.m2_base.proofs.StandardLaws.{HasNoRepeats-standard}
 use Rattle.std.proofs.Math.Seq.{take-length}
-use Rattle.scope_table.specs.Cells.{IsWidth, IsIndexed}
+use Rattle.scope_table.specs.Cells.{IsWidth}
 use Rattle.scope_table.specs.Rows.{words_at, rows_at, row_of}
 use Rattle.scope_table.specs.Rule.{shown_at, base, mid, width, scopes, is_odd, table_at, nothing, empty_at, empty_from, IsBefore, weight, times, texts_in, IsFair, IsGood, Knows, IsLaid, IsKept, IsSound, upto, first_view}
 use Rattle.scope_table.specs.Opening.{IsPart, AreBases, IsEmptyStart, IsStart}
@@ -23,7 +23,7 @@ use Rattle.scope_table.specs.declared.view.Shown.{Shown}
 use Rattle.scope_table.specs.declared.view.About.{About}
 use Rattle.scope_table.specs.declared.view.View.{View}
 use Rattle.scope_table.proofs.Frames.{before_refl}
-use Rattle.scope_table.proofs.Later.{get_or-later_all, length-later_all, own_stays}
+use Rattle.scope_table.proofs.Later.{length-later_all, own_stays}
 
 -- ** Widths
 
@@ -37,12 +37,13 @@ width_is size n w k is_n is_w low up = record {
   some = some k is_w;
   is = is_w;
   more = omega arith;
-  least = λ j one over. elim (dec_le k j) [ | yes d ↦ (let m = pow_mono d in omega arith) | no d ↦ absurd (tight j one over (omega arith)) ];
+  least = λ j one over. elim (dec_le k j) [ yes d ↦ (let m = pow_mono d in omega arith) | no d ↦ absurd (tight j one over (omega arith)) ];
 }
   where
     some : (k : ℕ) → w ≡ 2 ^ k → 1 ≤ k
     some zero e = absurd (omega arith)
     some (suc k) e = omega arith
+
     tight : (j : ℕ) → 1 ≤ j → 2 * size < 2 ^ j → suc j ≤ k → ⊥
     tight j one over le = let m : 2 ^ suc j ≤ 2 ^ k = pow_mono le in let two : 2 ^ 1 ≤ 2 ^ j = pow_mono one in let double : 2 ^ suc j ≡ 2 * 2 ^ j = pow-succ' 2 j in halved n w (2 ^ suc j) (2 ^ j) double (omega arith) (omega arith) (omega arith) up
 
@@ -233,9 +234,9 @@ pub start_told : (a : About) (n : ℕ) (v w : View) → scopes a ≡ n → 0 < n
 start_told a n v w many any e sound rights s =
     let wide = e.wide in let wide' = s.wide in
     let zero_in : shown_at (told_of v w) 0 ≡ shown_at w 0 =
-        later_there v.rights 0 v.seen w.seen 0 (omega arith) (omega arith) (ap (times 0) rights ∙ times-below 0 1 (n - 1) (omega arith)) ∙ later_complete (shown_at v 0) (shown_at w 0) (ap (λ (t : Shown). t.complete) (e.each 0 (omega arith))) s.zero_complete in
+    later_there v.rights 0 v.seen w.seen 0 (omega arith) (omega arith) (ap (times 0) rights ∙ times-below 0 1 (n - 1) (omega arith)) ∙ later_complete (shown_at v 0) (shown_at w 0) (ap (λ (t : Shown). t.complete) (e.each 0 (omega arith))) s.zero_complete in
     let stays : (j : ℕ) → 0 < j → j < scopes a → shown_at (told_of v w) j ≡ shown_at v j =
-        (λ j p l. own_stays v.rights 0 v.seen w.seen j (subst (λ (z : ℕ). 0 < times z v.rights) (sym (zero-add j)) (subst (λ (rs : List ℕ). 0 < times j rs) (sym rights) (from-upto j 1 (n - 1) (omega arith) (omega arith))))) in record {
+    (λ j p l. own_stays v.rights 0 v.seen w.seen j (subst (λ (z : ℕ). 0 < times z v.rights) (sym (zero-add j)) (subst (λ (rs : List ℕ). 0 < times j rs) (sym rights) (from-upto j 1 (n - 1) (omega arith) (omega arith))))) in record {
       about = e.about;
       wide = length-later_all v.rights 0 v.seen w.seen ∙ e.wide;
       zero_rows = ap (λ (t : Shown). t.rows) zero_in ∙ s.zero_rows;

@@ -127,7 +127,7 @@ few zero cs each le = let e = filled-none cs le in omega arith
 few (suc n) cs each le = ⊎_elim
     (λ (f : (c : ℕ) × (c < length cs) × (get_or cs c 0 ≡ suc n)). let k = cleared n cs f.0 each le f.1 f.2 in let r = few n (set cs f.0 0) k.0 k.1 in let s = filled-cleared cs f.0 in omega arith)
     (λ (none : (c : ℕ) → c < length cs → get_or cs c 0 ≢ suc n).
-        let r = few n cs each (λ c. elim (dec_le (length cs) c) [ | yes far ↦ (let e = past cs c far in omega arith) | no near ↦ below (get_or cs c 0) n (le c) (none c (omega arith)) ]) in omega arith)
+    let r = few n cs each (λ c. elim (dec_le (length cs) c) [ yes far ↦ (let e = past cs c far in omega arith) | no near ↦ below (get_or cs c 0) n (le c) (none c (omega arith)) ]) in omega arith)
     (find (suc n) cs)
 
 some_empty : (cs : List ℕ) → filled cs < length cs → (c : ℕ) × (c < length cs) × (get_or cs c 0 ≡ 0)

@@ -1,16 +1,15 @@
 -- Where the words of a scope lie.
-use Rattle.std.proofs.Common.{◌≡◌, ◌≢◌, ℕ, zero, suc, cond, ltb, ◌+◌, ◌*◌, ◌<◌, ◌≤◌, List, [], ◌∷◌, ◌++◌, length, get_or, sym, refl, ap, ◌∙◌, subst, arith, set, length-append, length-set, get_or-set_same, get_or-set_other, eq-eqb, Bool, true, false, zero-add, add-zero}
+use Rattle.std.proofs.Common.{◌≡◌, ◌≢◌, ℕ, suc, cond, ltb, ◌+◌, ◌*◌, ◌<◌, ◌≤◌, List, [], ◌∷◌, length, get_or, sym, refl, ap, ◌∙◌, subst, arith, set, length-append, length-set, get_or-set_same, get_or-set_other, eq-eqb, Bool, true, false, zero-add}
 use Rattle.scope_table.proofs.Later.{get_or-later_all, length-later_all, own_stays}
 use mathlib.Core.Logic.{dite}
 use native.Mathlib.Decide.{ℕ_discrete}
 use Rattle.scope_table.specs.declared.view.Shown.{Shown}
 use Rattle.scope_table.specs.declared.view.About.{About}
 use Rattle.scope_table.specs.declared.view.View.{View}
-use Rattle.scope_table.specs.Rule.{base, mid, width, scopes, shown_at, nothing, times, weight, IsLaid, IsSound, IsBefore, IsSeated, IsGood, IsFair, AreOfRows}
+use Rattle.scope_table.specs.Rule.{base, mid, width, scopes, shown_at, nothing, times, weight, IsLaid, IsSound, IsBefore, IsSeated, IsGood, IsFair}
 use Rattle.scope_table.specs.Cells.{IsIndexed}
-use Rattle.scope_table.specs.Rows.{rows_of, words_of}
+use Rattle.scope_table.specs.Rows.{rows_of}
 use Rattle.scope_table.proofs.Rows.{length-rows_of}
-use Rattle.m2_base.specs.declared.rows.Row.{Row}
 use Rattle.scope_table.specs.declared.view.Look.{Look}
 use Rattle.scope_table.specs.Plays.{sees, puts, shows, seals, notes, told_of, grown, ended, later, later_all}
 

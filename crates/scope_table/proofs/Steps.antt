@@ -1,5 +1,5 @@
 -- Each step keeps the rule.
-use Rattle.std.proofs.Common.{◌≡◌, ◌≢◌, ℕ, zero, suc, ◌+◌, ◌-◌, ◌*◌, ◌/◌, ◌%◌, ◌<◌, ◌≤◌, true, false, Some, slice_get, eqb, List, [], ◌∷◌, ◌++◌, length, get_or, set, sym, refl, ap, ◌∙◌, subst, arith, length-set, get_or-set_same, get_or-set_other, length-append, ne_eqb, eq-eqb, append-nil, true≢false, suc-add, zero-add}
+use Rattle.std.proofs.Common.{◌≡◌, ◌≢◌, ℕ, zero, suc, ◌+◌, ◌-◌, ◌*◌, ◌/◌, ◌%◌, ◌<◌, ◌≤◌, true, false, Some, slice_get, eqb, List, [], ◌∷◌, ◌++◌, length, get_or, set, sym, refl, ap, ◌∙◌, subst, arith, length-set, get_or-set_same, get_or-set_other, length-append, ne_eqb, eq-eqb, append-nil, true≢false, zero-add}
 use mathlib.Core.Logic.{dite}
 use mathlib.Core.Option.{none}
 use native.Mathlib.Decide.{ℕ_discrete, dec_le}
@@ -15,7 +15,7 @@ use Rattle.scope_table.specs.Cells.{IsIndexed, HasOneEach}
 use Rattle.scope_table.specs.Rows.{row_at, rows_at, rows_of, row_of, words_at, Stand, IsField}
 use Rattle.scope_table.specs.Rule.{base, mid, width, scopes, texts_in, is_odd, table_at, nothing, shown_at, weight, Begins, IsBefore, times, IsGood, IsFair, AreFormed, Fills, Knows, IsLaid, IsKept}
 use Rattle.scope_table.proofs.Rows.{length-rows_at, rows_at-same, rows_at-more, rows_at-words, get_or-rows_at, words_at-same, field_at}
-use Rattle.scope_table.specs.Plays.{Sat, sees, head_loaded, row_loaded, puts, word_put, shows, rows_shown, seals, is_sealed, grown, ended, IsWordOf}
+use Rattle.scope_table.specs.Plays.{Sat, sees, head_loaded, row_loaded, puts, word_put, shows, rows_shown, seals, is_sealed, grown, ended}
 use Rattle.scope_table.proofs.Frames.{St, view_step, store_step, Moves, seen_moves, looks_move, length_begins, before_refl, same_parts}
 
 -- what a view knows, where it has seen the scope as it stands
@@ -27,13 +27,13 @@ knows_seen a ws v j l r =
       seen = λ k lk. dite (ℕ_discrete k j) (λ e. subst (λ (z : ℕ). IsBefore (shown_at (sees v j (table_at a ws j)) z) (table_at a ws z)) (sym e) (subst (λ (t : Shown). IsBefore t (table_at a ws j)) (sym here) (before_refl (table_at a ws j))))
           (λ n. subst (λ (t : Shown). IsBefore t (table_at a ws k)) (sym (get_or-set_other v.seen j k (table_at a ws j) nothing n)) (r.seen k lk));
       fills = λ k has. let f = r.fills k has in let now : table_at a ws k ≡ shown_at (sees v j (table_at a ws j)) k = dite (ℕ_discrete k j) (λ e. subst (λ (z : ℕ). table_at a ws z ≡ shown_at (sees v j (table_at a ws j)) z) (sym e) (sym here))
-            (λ n. f.same ∙ sym (get_or-set_other v.seen j k (table_at a ws j) nothing n)) in record {
-        there = f.there;
-        same = now;
-        put = f.put;
-        room = f.room;
-        cells = subst (λ (y : Shown). (c : ℕ) → 8 * get_or y.cells c 0 ≤ 8 * length y.rows + length v.put) (sym f.same ∙ now) f.cells;
-      };
+          (λ n. f.same ∙ sym (get_or-set_other v.seen j k (table_at a ws j) nothing n)) in record {
+            there = f.there;
+            same = now;
+            put = f.put;
+            room = f.room;
+            cells = subst (λ (y : Shown). (c : ℕ) → 8 * get_or y.cells c 0 ≤ 8 * length y.rows + length v.put) (sym f.same ∙ now) f.cells;
+          };
       looks = r.looks;
     }
 

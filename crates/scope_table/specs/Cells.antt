@@ -1,5 +1,5 @@
 -- The index of a scope: cells that lead from a name to the ordinal of its row. A cell is 0 where it is empty, else an ordinal plus 1.
-use Rattle.std.specs.Prelude.{◌≡◌, ◌≢◌, ℕ, zero, suc, ◌+◌, ◌*◌, ◌/◌, ◌%◌, ◌<◌, ◌≤◌, ◌^◌, List, [], ◌∷◌, length, slice_index}
+use Rattle.std.specs.Prelude.{◌≡◌, ◌≢◌, ℕ, ◌+◌, ◌*◌, ◌/◌, ◌%◌, ◌<◌, ◌≤◌, ◌^◌, List, length, slice_index}
 use Rattle.m2_base.specs.declared.rows.Row.{Row}
 use Rattle.scope_table.specs.Rows.{name_of}
 

@@ -1,5 +1,5 @@
 -- How a table begins.
-use Rattle.std.specs.Prelude.{◌≡◌, ℕ, suc, ◌+◌, ◌-◌, ◌*◌, ◌^◌, ◌<◌, ◌≤◌, true, List, [], length, slice_index}
+use Rattle.std.specs.Prelude.{◌≡◌, ℕ, suc, ◌+◌, ◌-◌, ◌*◌, ◌<◌, ◌≤◌, true, List, [], length, slice_index}
 use Rattle.m2_base.specs.Standard.{standard_rows}
 use Rattle.scope_table.specs.Cells.{IsWidth}
 use Rattle.scope_table.specs.Rule.{scopes, shown_at, empty_at, IsSound}

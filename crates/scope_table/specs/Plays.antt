@@ -3,7 +3,6 @@ use Rattle.std.specs.Prelude.{◌≡◌, ◌≢◌, ℕ, ◌+◌, ◌*◌, ◌/�
 use Rattle.atomic_table.specs.Table.{Me, Step}
 use Rattle.m2_base.specs.declared.rows.Row.{Row}
 use Rattle.m2_base.specs.Rows.{at_place, IsWellFormed}
-use Rattle.m2_base.specs.Tables.{head_of}
 use Rattle.m2_base.specs.declared.replies.Head.{Head}
 use Rattle.scope_table.specs.declared.view.Shown.{Shown}
 use Rattle.scope_table.specs.declared.view.Look.{Look}

@@ -1,5 +1,5 @@
 -- Rows as words: a row is eight words, in the order of its fields, and a signed number is the word of the same bits.
-use Rattle.std.specs.Prelude.{◌≡◌, ℕ, zero, suc, ◌+◌, ◌*◌, ◌/◌, ◌%◌, ◌<◌, ◌≤◌, ◌^◌, List, [], ◌∷◌, length, pos, slice_index, slice_index_or}
+use Rattle.std.specs.Prelude.{◌≡◌, ℕ, zero, suc, ◌+◌, ◌/◌, ◌%◌, ◌<◌, List, [], ◌∷◌, length, pos, slice_index, slice_index_or}
 use Rattle.std.specs.Int.{cast_unsigned, cast_signed, w64}
 use Rattle.std.specs.Int.RustNames.{FitsSigned}
 use Rattle.m2_base.specs.declared.rows.Row.{Row}

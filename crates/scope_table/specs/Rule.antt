@@ -14,7 +14,7 @@ use Rattle.m2_base.specs.declared.replies.Head.{Head}
 use Rattle.m2_base.specs.declared.replies.Reply.{Reply}
 use Rattle.m2_base.specs.declared.replies.Reply.TheVariants.{Absent}
 use Rattle.scope_table.specs.Cells.{IsIndexed, HasOneEach, Stays}
-use Rattle.scope_table.specs.Rows.{rows_at, words_at, rows_of, Stand}
+use Rattle.scope_table.specs.Rows.{rows_at, words_at, Stand}
 use Rattle.scope_table.specs.declared.view.Shown.{Shown}
 use Rattle.scope_table.specs.declared.view.Look.{Look}
 use Rattle.scope_table.specs.declared.view.About.{About}

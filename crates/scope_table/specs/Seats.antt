@@ -1,5 +1,5 @@
 -- What a clause says of a table and a seat.
-use Rattle.std.specs.Prelude.{◌≡◌, ◌≢◌, ℕ, suc, List, [], ◌∷◌, true, length, ◌<◌, ◌+◌, ◌*◌, slice_index, slice_index_or}
+use Rattle.std.specs.Prelude.{◌≡◌, ◌≢◌, ℕ, List, [], ◌∷◌, true, length, ◌<◌, ◌+◌, ◌*◌, slice_index, slice_index_or}
 use Rattle.atomic_table.specs.Seated.{TableId}
 use Rattle.m2_base.specs.Units.{UnitTexts}
 use Rattle.m2_base.specs.declared.replies.Head.{Head}

@@ -8,8 +8,8 @@ ghost use Rattle.scope_table.specs.Looks.{look_of, CanNote};
 ghost use Rattle.scope_table.specs.Plays.{head_in, sees, marks, puts, shows, seals, grown, ended, notes, told_of, IsWordOf, HasRoom, CanPut, CanMark, HasPut};
 
 use crate::law::{
-    Law, LoadCell, LoadHead, LoadRow, Note, NoteLook, Noted, OnceEach, PutCell, PutWord, Seal, Show,
-    Tell, Together, Told,
+    Law, LoadCell, LoadHead, LoadRow, Note, NoteLook, Noted, OnceEach, PutCell, PutWord, Seal,
+    Show, Tell, Together, Told,
 };
 use crate::view::{About, Bases, View};
 use crate::words::{from_words, to_words};

@@ -1,4 +1,4 @@
-use Rattle.std.proofs.Common.{◌≤◌, ◌<◌, ◌*◌, ◌^◌, arith}
+use Rattle.std.proofs.Common.{arith}
 use Rattle.scope_table.specs.Cells.{IsWidth}
 use Rattle.scope_table.proofs.Opening.{width_is}
 use Rattle.scope_table.proofs.open.cells_for.Goals as goal

@@ -1,5 +1,5 @@
-use Rattle.std.proofs.Common.{◌≡◌, ◌+◌, ◌*◌, ◌≤◌, length, get_or, sym, ap, ◌∙◌, subst, arith}
-use Rattle.scope_table.specs.Rule.{shown_at, width, empty_at}
+use Rattle.std.proofs.Common.{◌≡◌, length, get_or, sym, ap, ◌∙◌, arith}
+use Rattle.scope_table.specs.Rule.{shown_at, width}
 use Rattle.scope_table.specs.declared.view.Shown.{Shown}
 use Rattle.scope_table.proofs.Opening.{zeros}
 use Rattle.scope_table.proofs.table.make_seat.Goals as goal

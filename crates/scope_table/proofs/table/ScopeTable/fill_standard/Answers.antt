@@ -1,14 +1,13 @@
-use Rattle.std.proofs.Common.{◌≡◌, ◌≢◌, ℕ, ◌+◌, ◌<◌, ◌≤◌, true, false, Some, List, [], ◌∷◌, ◌++◌, length, slice_get, take, sym, ap, ◌∙◌, subst, arith, zero-add}
+use Rattle.std.proofs.Common.{◌≡◌, ℕ, ◌+◌, true, false, List, [], ◌∷◌, ◌++◌, length, slice_get, sym, ap, ◌∙◌, subst, arith, zero-add}
 use Rattle.m2_base.specs.declared.rows.Row.{Row}
 use Rattle.m2_base.specs.Rows.{at_place, IsWellFormed}
 use Rattle.m2_base.specs.Standard.{standard_rows}
 use Rattle.m2_base.proofs.StandardLaws.{IsWellFormed-standard}
 use Rattle.scope_table.specs.Cells.{IsIndexed}
 use Rattle.scope_table.specs.Rows.{row_of, rows_of}
-use Rattle.scope_table.specs.Rule.{shown_at, width, texts_in, IsFair, scopes}
-use Rattle.scope_table.specs.Plays.{grown, shows, HasPut}
+use Rattle.scope_table.specs.Rule.{shown_at, width, texts_in, IsFair}
+use Rattle.scope_table.specs.Plays.{grown, HasPut}
 use Rattle.scope_table.specs.Seats.{view, key_of}
-use Rattle.scope_table.specs.declared.view.About.{About}
 use Rattle.scope_table.specs.declared.view.View.{View}
 use Rattle.scope_table.specs.declared.view.Shown.{Shown}
 use Rattle.scope_table.proofs.Rooms.{seen_same}

@@ -1,6 +1,5 @@
-use Rattle.std.proofs.Common.{◌≡◌, suc, ◌+◌, ◌*◌, ◌<◌, ◌≤◌, ◌∷◌, [], sym, ap, subst, ◌∙◌, arith}
+use Rattle.std.proofs.Common.{◌<◌, sym, ap, subst, arith}
 use Rattle.scope_table.specs.Rule.{scopes, base, mid, width, times}
-use Rattle.scope_table.specs.Plays.{IsCellOf}
 use Rattle.scope_table.specs.Seats.{view}
 use Rattle.scope_table.specs.declared.view.About.{About}
 use Rattle.scope_table.proofs.Cells.{reads_mid, cell_within, loads_cell}

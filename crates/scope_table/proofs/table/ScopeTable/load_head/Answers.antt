@@ -3,9 +3,7 @@ use Rattle.scope_table.specs.Rule.{scopes, IsSeated}
 use Rattle.scope_table.specs.declared.view.About.{About}
 use Rattle.scope_table.specs.declared.view.View.{View}
 use Rattle.scope_table.proofs.Rooms.{heads_within, seated_sees}
-use Rattle.scope_table.proofs.Steps.{loads_head, loads_row, puts_word, shows_rows, seals_scope}
-use Rattle.scope_table.proofs.Cells.{loads_cell, puts_cell, seated_marks}
-use Rattle.scope_table.proofs.Cuts.{splits_right, notes_look}
+use Rattle.scope_table.proofs.Steps.{loads_head}
 use Rattle.scope_table.proofs.table.ScopeTable.load_head.Goals as goal
 
 pub load-word-requires : goal.load-word-requires

@@ -24,8 +24,8 @@ loop-field-preserved c =
     let inv = c.loop-field.invariant in let k = c.loop-field.field in let v = view c.args.seat.now in let test = c.loop-field-test.true in let many = inv.many in
     let l : c.args.place.scope < scopes (key_of c.args.self.now) = c.requires.scope in
     let word : IsWordOf v c.args.place.scope c.args.place.ordinal (c.at.result + 8 * c.args.place.ordinal + k) c.load_word.result =
-        subst (λ (s : TableSeat). c.args.place.ordinal < length (shown_at (view s) c.args.place.scope).rows → IsWordOf (view s) c.args.place.scope c.args.place.ordinal (c.at.result + 8 * c.args.place.ordinal + k) c.load_word.result) inv.seat
-        (c.load_word.ensures.word c.args.place.scope c.args.place.ordinal l) c.requires.shown in record {
+    subst (λ (s : TableSeat). c.args.place.ordinal < length (shown_at (view s) c.args.place.scope).rows → IsWordOf (view s) c.args.place.scope c.args.place.ordinal (c.at.result + 8 * c.args.place.ordinal + k) c.load_word.result) inv.seat
+    (c.load_word.ensures.word c.args.place.scope c.args.place.ordinal l) c.requires.shown in record {
       seat = c.load_word.ensures.same ∙ inv.seat;
       many = length-set c.loop-field.words k c.load_word.result ∙ inv.many;
       words = λ f lf. dite (ℕ_discrete f k)

@@ -1,6 +1,5 @@
 use Rattle.std.proofs.Common.{subst, sym, ◌∙◌}
 use Rattle.scope_table.specs.Rule.{IsSeated, IsLawful, scopes, shown_at}
-use Rattle.scope_table.specs.declared.view.Look.{Look}
 use Rattle.scope_table.specs.declared.view.View.{View}
 use Rattle.scope_table.specs.Seats.{key_of, view}
 use Rattle.scope_table.proofs.Looks.{lawful_flight}

@@ -1,4 +1,4 @@
-use Rattle.std.proofs.Common.{◌≡◌, ℕ, ◌+◌, ◌-◌, ◌<◌, List, length, replicate, get_or, sym, ap, ◌∙◌, subst, arith}
+use Rattle.std.proofs.Common.{◌≡◌, ℕ, List, length, replicate, get_or, sym, ap, ◌∙◌, subst, arith}
 use lib.ListN.{length-replicate}
 use Rattle.scope_table.specs.Opening.{AreBases, IsEmptyStart}
 use Rattle.scope_table.specs.Rule.{IsLaid, IsSound, scopes, base, first_view}

@@ -1,10 +1,10 @@
-use Rattle.std.proofs.Common.{◌≡◌, suc, ◌+◌, ◌*◌, ◌<◌, length, ap, subst, sym, ◌∙◌, arith}
+use Rattle.std.proofs.Common.{◌+◌, ◌<◌, ap, subst, sym, ◌∙◌, arith}
 use Rattle.std.proofs.Math.Nat.{mod-lt}
 use Rattle.scope_table.specs.declared.view.About.{About}
 use Rattle.scope_table.specs.declared.view.View.{View}
 use Rattle.scope_table.specs.Cells.{home}
 use Rattle.scope_table.specs.Rows.{name_of}
-use Rattle.scope_table.specs.Rule.{scopes, mid, width, shown_at, IsSeated}
+use Rattle.scope_table.specs.Rule.{scopes, mid, width, IsSeated}
 use Rattle.scope_table.specs.Plays.{grown}
 use Rattle.scope_table.specs.Seats.{view}
 use Rattle.scope_table.proofs.Cells.{reads_mid, cell_within, puts_cell, seated_marks}

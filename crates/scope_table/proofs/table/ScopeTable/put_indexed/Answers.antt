@@ -1,15 +1,15 @@
-use Rattle.std.proofs.Common.{◌≤◌, ◌∷◌, [], ◌++◌, ◌≡◌, ℕ, suc, ◌+◌, ◌*◌, ◌<◌, List, length, get_or, sym, ap, ◌∙◌, subst, refl, arith, length-append}
+use Rattle.std.proofs.Common.{◌∷◌, [], ◌++◌, ◌≡◌, ℕ, ◌+◌, ◌<◌, List, length, sym, ap, ◌∙◌, subst, arith, length-append}
 use Rattle.m2_base.specs.declared.rows.Row.{Row}
 use Rattle.scope_table.specs.declared.view.About.{About}
 use Rattle.scope_table.specs.declared.view.View.{View}
 use Rattle.scope_table.specs.declared.table.TableSeat.{TableSeat}
 use Rattle.scope_table.specs.Cells.{IsIndexed, IsFirstEmpty, IsFull}
 use Rattle.scope_table.specs.Rows.{words_of, name_of}
-use Rattle.scope_table.specs.Rule.{shown_at, base, mid, width, scopes}
+use Rattle.scope_table.specs.Rule.{shown_at, width, scopes}
 use Rattle.scope_table.specs.Plays.{puts, marks, grown, CanMark}
 use Rattle.scope_table.specs.Seats.{view}
 use Rattle.scope_table.proofs.Rooms.{grown_length}
-use Rattle.scope_table.proofs.Probes.{not_full, name-last, named_put, put_marked, indexed_nameless, grown_marked}
+use Rattle.scope_table.proofs.Probes.{not_full, name-last, named_put, indexed_nameless}
 use Rattle.scope_table.proofs.table.ScopeTable.put_indexed.Goals as goal
 
 pub returns-then-row-eq0-clause-index : goal.returns-then-row-eq0-clause-index

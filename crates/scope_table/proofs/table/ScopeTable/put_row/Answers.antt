@@ -1,12 +1,12 @@
-use Rattle.std.proofs.Common.{◌≡◌, ℕ, ◌≤◌, suc, ◌+◌, ◌*◌, ◌<◌, ◌++◌, ◌∷◌, [], List, length, sym, ap, ◌∙◌, subst, refl, arith, length-append, append_assoc}
+use Rattle.std.proofs.Common.{◌≡◌, ◌+◌, ◌++◌, ◌∷◌, [], List, sym, ap, ◌∙◌, subst, refl, arith, append_assoc}
 use Rattle.m2_base.specs.declared.rows.Row.{Row}
 use Rattle.scope_table.specs.Rows.{rows_of, words_of}
-use Rattle.scope_table.specs.Rule.{base, mid, scopes, shown_at, IsSeated}
+use Rattle.scope_table.specs.Rule.{base, mid, shown_at, IsSeated}
 use Rattle.scope_table.specs.Plays.{puts, grown}
 use Rattle.scope_table.specs.Seats.{view}
 use Rattle.scope_table.specs.declared.view.About.{About}
 use Rattle.scope_table.specs.declared.view.View.{View}
-use Rattle.scope_table.proofs.Rows.{length-rows_of, rows_of-more}
+use Rattle.scope_table.proofs.Rows.{rows_of-more}
 use Rattle.scope_table.proofs.Rooms.{reads, grown_length, seated_puts}
 use Rattle.scope_table.proofs.table.ScopeTable.put_row.Goals as goal
 

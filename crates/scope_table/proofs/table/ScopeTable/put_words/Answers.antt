@@ -1,9 +1,7 @@
-use Rattle.std.proofs.Common.{◌≡◌, ◌≤◌, suc, ◌+◌, ◌*◌, ◌<◌, length, take, sym, ap, ◌∙◌, subst, arith, length-append}
+use Rattle.std.proofs.Common.{◌≡◌, suc, ◌+◌, ◌<◌, length, take, ap, ◌∙◌, subst, arith, length-append}
 use Rattle.std.proofs.lemmas.List.{length-take-le}
 use Rattle.scope_table.specs.Rule.{base, mid, scopes, shown_at}
 use Rattle.scope_table.specs.declared.view.About.{About}
-use Rattle.scope_table.specs.declared.view.View.{View}
-use Rattle.scope_table.proofs.Rooms.{within}
 use Rattle.scope_table.proofs.Steps.{puts_word}
 use Rattle.scope_table.proofs.table.ScopeTable.put_words.Goals as goal
 

@@ -1,7 +1,7 @@
 use Rattle.std.proofs.Common.{◌≡◌, ℕ, ◌+◌, ◌-◌, ◌<◌, List, [], ◌∷◌, ◌++◌, length, get_or, sym, ap, ◌∙◌, subst, arith, length-append}
-use Rattle.scope_table.specs.Opening.{IsEmptyStart, IsStart}
+use Rattle.scope_table.specs.Opening.{IsStart}
 use Rattle.scope_table.specs.Plays.{first_right, other_rights, note_of, told_of}
-use Rattle.scope_table.specs.Rule.{upto, scopes}
+use Rattle.scope_table.specs.Rule.{upto}
 use Rattle.scope_table.specs.Seats.{key_of, view, IsFirst}
 use Rattle.scope_table.specs.declared.table.TableSeat.{TableSeat}
 use Rattle.scope_table.specs.declared.view.View.{View}
