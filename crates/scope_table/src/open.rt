@@ -52,9 +52,9 @@ fn lay(alloc: Global, sizes: &[u32]) -> Result<(Vec<u64>, Vec<u64>), AllocError>
 impl ScopeTable {
     ghost use Rattle.scope_table.specs.Seats.{view, scope_of, key_of, id_of, IsOf, IsSameSeat, AreFirst, IsOpened};
 
-    /// A table for these texts. Scope 0 is complete and has the standard rows, and all others are empty and have room for so
-    /// many rows. There is a seat for each scope in order, which has the right to fill it and has seen all this. Memory runs
-    /// out, too, where the table would have more than 2^60 words.
+    /// A table for these texts. Scope 0 is complete and has the standard rows, and all others are empty and have room
+    /// for so many rows. There is a seat for each scope in order, which has the right to fill it and has seen all
+    /// this. Memory runs out, too, where the table would have more than 2^60 words.
     pub fn open(
         alloc: Global,
         texts: &Texts,

@@ -70,8 +70,8 @@ pub(crate) fn make_table(
 impl TableSeat {
     ghost use Rattle.scope_table.specs.Seats.{view, scope_of, IsWhole};
 
-    /// The scope that it fills, and what always holds of a seat: what it has seen of each scope keeps to the rule, its own scope
-    /// is the one that it has the right to, and scope 0 is seen complete.
+    /// The scope that it fills, and what always holds of a seat: what it has seen of each scope keeps to the rule,
+    /// its own scope is the one that it has the right to, and scope 0 is seen complete.
     pub fn scope(&self) -> u32
         ensures scope { result ≡ scope_of self.now }
         ensures whole { IsWhole self.now }
@@ -104,8 +104,8 @@ pub(crate) fn make_seat(seat: Seat<(), View>, scope: u32) -> TableSeat
 impl ScopeTable {
     ghost use Rattle.scope_table.specs.Seats.{view, scope_of, key_of, id_of, IsOf, IsSameSeat};
 
-    /// The head of a scope, which the seat has seen then. A later head of the scope is never smaller, and after a complete one
-    /// it is that one.
+    /// The head of a scope, which the seat has seen then. A later head of the scope is never smaller, and after a
+    /// complete one it is that one.
     pub fn load_head(&self, seat: &mut TableSeat, scope: u32) -> Head
         requires table { IsOf self.now seat.old }
         requires scope { scope < scopes (key_of self.now) }
@@ -162,8 +162,8 @@ impl ScopeTable {
         self.bases.next(scope) - self.mids.at(scope)
     }
 
-    /// The ordinal in a cell, or none where the cell is empty. A cell that wasn't empty when the head of its scope was loaded
-    /// is found as it was then, and so is each cell of the scope that the seat fills.
+    /// The ordinal in a cell, or none where the cell is empty. A cell that wasn't empty when the head of its scope
+    /// was loaded is found as it was then, and so is each cell of the scope that the seat fills.
     pub fn load_cell(&self, seat: &mut TableSeat, scope: u32, cell: u32) -> Option<u32>
         requires table { IsOf self.now seat.old }
         requires scope { scope < scopes (key_of self.now) }
@@ -181,7 +181,8 @@ impl ScopeTable {
         }
     }
 
-    /// Puts the ordinal of a row that is put and not shown into its cell: the first empty one from the home of its name.
+    /// Puts the ordinal of a row that is put and not shown into its cell: the first empty one from the home of its
+    /// name.
     pub fn put_cell(&self, seat: &mut TableSeat, cell: u32, ordinal: u32)
         requires table { IsOf self.now seat.old }
         requires going { (shown_at (view seat.old) (scope_of seat.old)).complete ≡ false }
@@ -325,8 +326,8 @@ impl ScopeTable {
         self.table.shared.join_seat::<Tell<J>>(&mut to.seat, note);
     }
 
-    /// Tells a seat what another has seen: afterwards it has seen, of each scope but its own, the later of what the two have,
-    /// and all else of both is as before.
+    /// Tells a seat what another has seen: afterwards it has seen, of each scope but its own, the later of what the
+    /// two have, and all else of both is as before.
     pub fn tell(&self, from: &mut TableSeat, to: &mut TableSeat)
         requires from { IsOf self.now from.old }
         requires to { IsOf self.now to.old }

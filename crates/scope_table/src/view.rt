@@ -41,8 +41,9 @@ impl Bases {
     }
 }
 
-/// What a table is told when it is made: the texts of its unit, and where its words lie. With n scopes, the words from 0 to
-/// n - 1 are their heads. Scope j has the words from `bases[j]` to `bases[j + 1]`: its rows, and from `mids[j]` on its cells.
+/// What a table is told when it is made: the texts of its unit, and where its words lie. With n scopes, the words
+/// from 0 to n - 1 are their heads. Scope j has the words from `bases[j]` to `bases[j + 1]`: its rows, and from
+/// `mids[j]` on its cells.
 #[derive(Drop)]
 pub struct About {
     pub texts: Snapshot<Texts>,
@@ -57,8 +58,8 @@ pub struct Shown {
     pub cells: [u64; 0],
 }
 
-/// A search: the token and the name, the scopes that it was to try, the heads that it loaded, and its reply. No value of it
-/// is made.
+/// A search: the token and the name, the scopes that it was to try, the heads that it loaded, and its reply. No value
+/// of it is made.
 pub struct Look {
     pub at: u32,
     pub name: u32,
@@ -67,8 +68,8 @@ pub struct Look {
     pub reply: Reply,
 }
 
-/// What a seat knows: the scopes that it may fill, what it has seen of each scope, the words of rows that it has put and not
-/// shown, the heads that it has loaded, and its searches. No value of it is made.
+/// What a seat knows: the scopes that it may fill, what it has seen of each scope, the words of rows that it has put
+/// and not shown, the heads that it has loaded, and its searches. No value of it is made.
 pub struct View {
     pub about: About,
     pub rights: [u32; 0],
