@@ -1,0 +1,7 @@
+pub mod Rows
+pub mod Cells
+pub mod Rule
+pub mod Plays
+pub mod Looks
+pub mod Opening
+pub mod Seats
