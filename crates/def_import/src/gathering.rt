@@ -92,7 +92,7 @@ pub fn gather_text<H: Shelf>(
     ensures gathered { IfOk result (λ g. IsGathered (H.holds shelf.old) name.now main.now (unit_given g) (wrongs_given g)) }
     ensures told { IfOk result IsTold }
 
-    // A limit, exactly where a text passes it and none passes another before, want of memory and a fault of the shelf aside.
+    // A limit, only where a text passes it and none passes another before.
     ensures limits { (limit : Limit) → IsErrOf result (fault_of limit) → Stops (H.holds shelf.old) name.now main.now limit }
     ensures fault { IfErr result IsAskFault }
 
@@ -118,7 +118,7 @@ pub fn gather<H: Shelf>(alloc: Global, shelf: &mut H, name: &str) -> Result<Gath
     ensures gathered { IfOk result (λ g. IsGatheredFrom (H.holds shelf.old) name.now (unit_given g) (wrongs_given g)) }
     ensures told { IfOk result IsTold }
 
-    // No text, exactly where the shelf has none; a limit, as in `gather_text`.
+    // No text, only where the shelf has none; a limit, as in `gather_text`.
     ensures no_text { IsErrOf result GatherFault.NoText → Has (H.holds shelf.old) (main_file name.now) None }
     ensures limits { (limit : Limit) → IsErrOf result (fault_of limit) → StopsFrom (H.holds shelf.old) name.now limit }
 
