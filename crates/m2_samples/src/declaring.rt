@@ -17,13 +17,13 @@ use scope_core::PlainScopes;
 use std::alloc::Global;
 
 /// The number of standard rows.
-const STANDARD_ROWS: u32 = 37;
+const STANDARD_ROWS: u32 = m2_base::STANDARD_ROWS as u32;
 
 /// A block has at most so many rows.
 const MOST_ROWS: u32 = 2_147_483_648;
 
 /// The next free cell of too many is this.
-const TOO_MANY_CELLS: u32 = 16_777_216;
+const TOO_MANY_CELLS: u32 = m2_base::MOST_CELLS + 1;
 
 /// The kind of the rows of procedures.
 const PROCEDURE: u8 = 4;
