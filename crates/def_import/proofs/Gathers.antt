@@ -11,6 +11,10 @@ use Rattle.def_import.specs.Outcomes.{Asks, IsGathered, IsGatheredFrom, Limit, P
 use Rattle.def_import.specs.Shelves.{Has, IsReadOf, main_file}
 use Rattle.def_import.specs.declared.gathering.Gathered.{Gathered}
 
+pub asked_one_more : (holds : Option Files) (p q : Progress) (name : ℕ) → Asks holds p name q → length q.asked ≡ length p.asked + 1
+asked_one_more holds p _ name (not_there has) = omega (arith, length-append p.asked (None ∷ []))
+asked_one_more holds p _ name (is_there has reads) = omega (arith, ap (λ (x : Progress). length x.asked) reads.longer, length-append p.asked (Some (length p.found) ∷ []))
+
 module _ (holds : Option Files) (file main : List ℕ) where
   pub main_reached : (bytes : List ℕ) (number : ℕ) (b p : Progress) → bytes ≡ file → b ≡ begun bytes → number_in (with_name standard_names bytes) bytes ≡ Some number → Reads b false number main p
       → Reaches holds file main p
@@ -30,12 +34,8 @@ module _ (holds : Option Files) (file main : List ℕ) where
   pub asked_more : (other : Option Files) (p q : Progress) (name : ℕ) → Reaches holds file main p → next_module p ≡ Some name → Asks other p name q → 257 - length q.asked < 257 - length p.asked
   asked_more other p q name reached next asks =
       let within = slice_get_within (modules_named p.found) (length p.asked) name next in
-      let more : length q.asked ≡ length p.asked + 1 = one_more p q name asks in
+      let more : length q.asked ≡ length p.asked + 1 = asked_one_more other p q name asks in
       omega (arith, within, more, few_modules p reached)
-    where
-      one_more : (p q : Progress) (name : ℕ) → Asks other p name q → length q.asked ≡ length p.asked + 1
-      one_more p _ name (not_there has) = omega (arith, length-append p.asked (None ∷ []))
-      one_more p _ name (is_there has reads) = omega (arith, ap (λ (x : Progress). length x.asked) reads.longer, length-append p.asked (Some (length p.found) ∷ []))
 
   -- a main text that is read isn't too long
   pub main_short : (p : Progress) → Reaches holds file main p → length main ≤ 1048576

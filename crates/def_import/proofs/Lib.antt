@@ -11,3 +11,8 @@ mod Ordering
 mod Noting
 mod Gathers
 mod UnitKept
+mod Places
+mod FoundTexts
+mod Rounds
+pub mod WholeUnits
+mod OneOutcome

@@ -52,7 +52,7 @@ module _ {old new : List (List ℕ)} (grows : IsPrefixOf old new) where
   texts_stay (f ∷ found) h =
       (record { named = stays_named grows f.text.name h.0.named; count = h.0.count; numbered = h.0.numbered; values = values_stay f.text.tokens h.0.values }, texts_stay found h.1)
 
-each_pushed : {A : Type 0} (P : A → Type 0) (xs : List A) (x : A) → Each P xs → P x → Each P (xs ++ x ∷ [])
+pub each_pushed : {A : Type 0} (P : A → Type 0) (xs : List A) (x : A) → Each P xs → P x → Each P (xs ++ x ∷ [])
 each_pushed P [] x h k = (k, tt)
 each_pushed P (y ∷ xs) x h k = (h.0, each_pushed P xs x h.1 k)
 
@@ -62,7 +62,7 @@ each_map P f (x ∷ xs) h = (h.0, each_map P f xs h.1)
 
 -- ** Lists whose items differ
 
-not_in : (xs : List ℕ) (x : ℕ) → list_any (λ y. nat_eq y x) xs ≡ false → IsIn x xs → ⊥
+pub not_in : (xs : List ℕ) (x : ℕ) → list_any (λ y. nat_eq y x) xs ≡ false → IsIn x xs → ⊥
 not_in [] x h i = i
 not_in (y ∷ xs) x h i = go (nat_eq y x) refl h i (λ h i. not_in xs x h i)
   where
@@ -150,16 +150,16 @@ chosen_differ (m ∷ ms) (Some k ∷ asked) d = ((λ i. d.0 (in_chosen ms asked 
 
 -- ** The order
 
-record IsNext (taken : List ℕ) (k n j : ℕ) : Type 0 where
-  from : k ≤ j
-  within : j < k + n
-  new : is_in taken j ≡ false
+pub record IsNext (taken : List ℕ) (k n j : ℕ) : Type 0 where
+  pub from : k ≤ j
+  pub within : j < k + n
+  pub new : is_in taken j ≡ false
 
-left_true : (a b : Bool) → (not a && b) ≡ true → a ≡ false
+pub left_true : (a b : Bool) → (not a && b) ≡ true → a ≡ false
 left_true true b h = absurd (false≢true h)
 left_true false b h = refl
 
-next_is : (p : Progress) (taken : List ℕ) (k : ℕ) (found : List Found) (j : ℕ) → first_ready p taken k found ≡ Some j → IsNext taken k (length found) j
+pub next_is : (p : Progress) (taken : List ℕ) (k : ℕ) (found : List Found) (j : ℕ) → first_ready p taken k found ≡ Some j → IsNext taken k (length found) j
 next_is p taken k [] j e = cc
 next_is p taken k (f ∷ found) j e = go (is_ready p taken k f) refl e (λ e. next_is p taken (k + 1) found j e)
   where
@@ -170,15 +170,15 @@ next_is p taken k (f ∷ found) j e = go (is_ready p taken k f) refl e (λ e. ne
         record { from = omega (arith, same); within = omega (arith, same); new = subst (λ x. is_in taken x ≡ false) same (left_true (is_in taken k) _ ready) }
     go false ready e next = let rest = next e in record { from = omega (arith, rest.from); within = omega (arith, rest.within); new = rest.new }
 
-record IsSoundOrder (n : ℕ) (order : List ℕ) : Type 0 where
-  ordered : Each (λ k. (0 < k) × (k < n)) order
-  once : AllDiffer order
+pub record IsSoundOrder (n : ℕ) (order : List ℕ) : Type 0 where
+  pub ordered : Each (λ k. (0 < k) × (k < n)) order
+  pub once : AllDiffer order
 
 definitions_few : (found : List Found) → 0 < length found → 1 + length (definitions found) ≡ length found
 definitions_few [] h = absurd (omega (arith, h))
 definitions_few (f ∷ found) h = omega arith
 
-order_sound : (p : Progress) (rounds : ℕ) → 0 < length p.found → IsSoundOrder (length p.found) (taken_in p rounds)
+pub order_sound : (p : Progress) (rounds : ℕ) → 0 < length p.found → IsSoundOrder (length p.found) (taken_in p rounds)
 order_sound p zero some = record { ordered = tt; once = tt }
 order_sound p (suc rounds) some = go (next_taken p (taken_in p rounds)) refl (order_sound p rounds some)
   where
@@ -213,7 +213,7 @@ answer_within n [] (Some (suc i)) h = tt
 answer_within n (o ∷ asked) (Some zero) h = h.0
 answer_within n (o ∷ asked) (Some (suc i)) h = answer_within n asked (Some i) h.1
 
-abbrev file_names : List Found → List ℕ
+abbrev pub file_names : List Found → List ℕ
 file_names found = map (λ f. f.text.name) found
 
 record IsSound (p : Progress) : Type 0 where
@@ -357,7 +357,7 @@ own_within p (main ∷ found) texts same h = go (own_name main.front)
     go None = tt
     go (Some i) = as_own (text_of_module p i.name) (answer_within (length p.found) p.asked (position (nat_eq i.name) (modules_named p.found)) h)
 
-definitions_named : (found : List Found) → map (λ (t : TextOf). t.name) (definitions_of (map (λ (f : Found). f.text) found)) ≡ file_names (definitions found)
+pub definitions_named : (found : List Found) → map (λ (t : TextOf). t.name) (definitions_of (map (λ (f : Found). f.text) found)) ≡ file_names (definitions found)
 definitions_named [] = refl
 definitions_named (main ∷ found) = go found
   where

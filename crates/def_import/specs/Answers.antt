@@ -22,13 +22,22 @@ abbrev pub IsTold : Gathered → Type 0
 IsTold (Whole texts) = Unit {0}
 IsTold (Wrong texts wrongs) = wrongs.items ≢ []
 
--- the front of each text is the one that the grammar tells
-abbrev pub AreFronts : (front : TextOf → Front) → UnitTexts → Type 0
-AreFronts front u = Each (λ t. (f : fronts.Front) → IsFront t.definition t.tokens f → front t ≡ front_by_names f) u.list
+-- the text has a front by the grammar, and this is it
+pub record HasFrontBy (front : TextOf → Front) (t : TextOf) : Type 0 where
+  pub told : fronts.Front
+  pub is : IsFront t.definition t.tokens told
+  pub same : front t ≡ front_by_names told
 
--- nothing is left out of the unit, by the fronts of its texts
-abbrev pub IsWhole : UnitTexts → Type 0
-IsWhole u = (front : TextOf → Front) → AreFronts front u → IsWholeBy front u
+-- and the grammar tells no other
+abbrev pub HasNoOther : (front : TextOf → Front) → TextOf → Type 0
+HasNoOther front t = (told : fronts.Front) → IsFront t.definition t.tokens told → front t ≡ front_by_names told
+
+-- Nothing is left out of the unit, by the fronts that the grammar tells of its texts.
+pub record IsWhole (u : UnitTexts) : Type 0 where
+  pub front : TextOf → Front
+  pub fronts : Each (HasFrontBy front) u.list
+  pub no_others : Each (HasNoOther front) u.list
+  pub whole : IsWholeBy front u
 
 -- what is said to be whole is
 abbrev pub IsWholeWhereSaid : Gathered → Type 0

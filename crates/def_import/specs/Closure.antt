@@ -1,5 +1,6 @@
 -- The texts of a unit, breadth first: which modules the texts read so far name, and which of them is asked for next.
-use Rattle.std.specs.Prelude.{◌≡◌, ℕ, List, [], ◌∷◌, ◌++◌, ◌+◌, ◌<◌, ◌≤◌, Option, Some, None, fold, if◌then◌else◌, length, map, nat_eq, option_map, position, slice_get, sum_by}
+use Rattle.std.specs.Prelude.{◌≡◌, ℕ, List, [], ◌∷◌, ◌++◌, ◌+◌, ◌<◌, ◌≤◌, Option, Some, None, if◌then◌else◌}
+use Rattle.std.specs.Prelude.{fold, length, map, nat_eq, option_map, position, slice_get, sum_by}
 use Rattle.std.specs.List.{list_any}
 use Rattle.std.specs.Option.{option_flatten}
 use Rattle.m2_base.specs.Fronts.{Front}
@@ -48,7 +49,11 @@ with_modules modules names = fold with_module modules names
 
 -- a front, by the names alone
 abbrev pub front_by_names : Front → units.Front
-front_by_names f = record { name = option_map (λ i. i.name) f.name; implementation = f.implementation; imports = names_of f.imports }
+front_by_names f = record {
+  name = option_map (λ i. i.name) f.name;
+  implementation = f.implementation;
+  imports = names_of f.imports;
+}
 
 abbrev pub named_by : List Found → List ℕ
 named_by [] = []
@@ -79,8 +84,8 @@ text_of_module p name = answer_at p.asked (position (nat_eq name) (modules_named
 abbrev pub answered : Progress → Option ℕ → Progress
 answered p text = progress_of p.names p.found (p.asked ++ text ∷ [])
 
--- What the code has beside it: the modules named so far, and how many tokens there are. None of these is above its limit, so
--- that each fits a number of the code.
+-- What the code has beside it: the modules named so far, and how many tokens there are. None of these is above its
+-- limit, so that each fits a number of the code.
 pub record IsKept (p : Progress) (named_so_far : List ℕ) (count : ℕ) : Type 0 where
   pub modules : named_so_far ≡ modules_named p.found
   pub tokens : count ≡ tokens_in p.found

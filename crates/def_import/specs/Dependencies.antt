@@ -1,6 +1,7 @@
 -- The dependency order: again and again, in text order, the first definition module is taken that isn't taken yet and
 -- whose imports that are found are all taken.
-use Rattle.std.specs.Prelude.{◌≡◌, Vec, map, ℕ, zero, suc, ◌+◌, Bool, true, ◌&&◌, not, List, [], ◌∷◌, ◌++◌, Option, Some, None, if◌then◌else◌, length, nat_eq}
+use Rattle.std.specs.Prelude.{◌≡◌, ℕ, zero, suc, ◌+◌, Bool, true, ◌&&◌, not, List, [], ◌∷◌, ◌++◌, Option, Some, None}
+use Rattle.std.specs.Prelude.{Vec, if◌then◌else◌, length, map, nat_eq}
 use Rattle.std.specs.Global.{Global}
 use Rattle.std.specs.List.{AllZip, list_all, list_any}
 use Rattle.def_import.specs.Closure.{Found, Progress, names_of, text_of_module}
@@ -70,7 +71,8 @@ AreStruck taken olds news = AllZip (IsStruck taken) olds news
 -- the first text that isn't taken yet and whose needs are all taken; the numbers go from k on
 abbrev pub first_free : List ℕ → ℕ → List (List ℕ) → Option ℕ
 first_free taken k [] = None
-first_free taken k (needs ∷ all) = if not (is_in taken k) && all_in taken needs then Some k else first_free taken (k + 1) all
+first_free taken k (needs ∷ all) =
+    if not (is_in taken k) && all_in taken needs then Some k else first_free taken (k + 1) all
 
 abbrev pub items_of : List (Vec ℕ Global) → List (List ℕ)
 items_of all = map (λ v. v.items) all

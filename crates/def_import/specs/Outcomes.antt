@@ -1,6 +1,7 @@
 -- What gathering the texts of a unit comes to: the texts with what is wrong with their imports, or the first limit that
 -- they pass. The texts are read in their order, and at each the limits are tried in the order in which they stand here.
-use Rattle.std.specs.Prelude.{◌≡◌, ℕ, ◌+◌, ◌<◌, ◌≤◌, Bool, true, false, List, [], ◌∷◌, ◌++◌, Option, Some, None, length, map, slice_index}
+use Rattle.std.specs.Prelude.{◌≡◌, ℕ, ◌+◌, ◌<◌, ◌≤◌, Bool, true, false, List, [], ◌∷◌, ◌++◌, Option, Some, None}
+use Rattle.std.specs.Prelude.{length, map, slice_index}
 use Rattle.m2_io.specs.Files.{Files}
 use Rattle.m2_base.specs.Fronts.{IsFront}
 use Rattle.m2_base.specs.Names.{number_in, standard_names, with_name}
@@ -10,7 +11,8 @@ use Rattle.m2_base.specs.declared.limits.TheConstants.{MOST_TEXT_BYTES, MOST_TEX
 use Rattle.m2_base.specs.declared.notes.Diag.{Diag}
 use Rattle.m2_base.specs.declared.trees.Ident.{Ident}
 use Rattle.m2_lex.specs.Faults.{HasTooMany}
-use Rattle.def_import.specs.Closure.{Found, Progress, answered, longer, modules_named, next_module, own_name, progress_of, text_of_module, tokens_in}
+use Rattle.def_import.specs.Closure.{Found, Progress, answered, longer, modules_named, next_module, own_name}
+use Rattle.def_import.specs.Closure.{progress_of, text_of_module, tokens_in}
 use Rattle.def_import.specs.Dependencies.{dependency_order}
 use Rattle.def_import.specs.Shelves.{Has, HasDefinition, main_file}
 use Rattle.def_import.specs.Wrongs.{wrongs_of}
@@ -22,8 +24,10 @@ pub data Limit : Type 0 where
   too_many_unit_tokens : Limit
   too_many_texts : Limit
 
--- These bytes are read as a text of that name, whose names are numbered on from the old ones: its tokens, and its front.
-pub record IsRead (old : List (List ℕ)) (definition : Bool) (name : ℕ) (text_bytes : List ℕ) (new : List (List ℕ)) (f : Found) : Type 0 where
+-- These bytes are read as a text of that name, whose names are numbered on from the old ones: its tokens, and its
+-- front.
+pub record IsRead (old : List (List ℕ)) (definition : Bool) (name : ℕ) (text_bytes : List ℕ)
+    (new : List (List ℕ)) (f : Found) : Type 0 where
   pub bytes : (i : ℕ) → slice_index text_bytes i < 256
   pub short : length text_bytes ≤ MOST_TEXT_BYTES
   pub tokens : AreTokens old new text_bytes f.text.tokens
@@ -37,12 +41,16 @@ pub record Fits (found : List Found) (f : Found) : Type 0 where
   pub texts : length (modules_named (found ++ f ∷ [])) < MOST_TEXTS
 
 -- The first limit that a text of these bytes passes, behind those that are found so far.
-pub data Passes (names : List (List ℕ)) (found : List Found) (definition : Bool) (name : ℕ) (bytes : List ℕ) : Limit → Type 0 where
+pub data Passes (names : List (List ℕ)) (found : List Found) (definition : Bool) (name : ℕ) (bytes : List ℕ)
+    : Limit → Type 0 where
   long : MOST_TEXT_BYTES < length bytes → Passes names found definition name bytes too_long
-  of_tokens : length bytes ≤ MOST_TEXT_BYTES → HasTooMany bytes → Passes names found definition name bytes too_many_tokens
-  of_unit : {new : List (List ℕ)} {f : Found} → IsRead names definition name bytes new f → MOST_UNIT_TOKENS < tokens_in found + length f.text.tokens
+  of_tokens : length bytes ≤ MOST_TEXT_BYTES → HasTooMany bytes
+      → Passes names found definition name bytes too_many_tokens
+  of_unit : {new : List (List ℕ)} {f : Found} → IsRead names definition name bytes new f
+      → MOST_UNIT_TOKENS < tokens_in found + length f.text.tokens
       → Passes names found definition name bytes too_many_unit_tokens
-  of_texts : {new : List (List ℕ)} {f : Found} → IsRead names definition name bytes new f → tokens_in found + length f.text.tokens ≤ MOST_UNIT_TOKENS
+  of_texts : {new : List (List ℕ)} {f : Found} → IsRead names definition name bytes new f
+      → tokens_in found + length f.text.tokens ≤ MOST_UNIT_TOKENS
       → MOST_TEXTS ≤ length (modules_named (found ++ f ∷ [])) → Passes names found definition name bytes too_many_texts
 
 -- A text of these bytes is read.
@@ -65,7 +73,8 @@ pub data Asks (holds : Option Files) (p : Progress) (name : ℕ) : Progress → 
 
 -- The texts of the unit can be read so far: the main text, and then one module after another.
 pub data Reaches (holds : Option Files) (file main : List ℕ) : Progress → Type 0 where
-  main_read : {number : ℕ} {p : Progress} → number_in (with_name standard_names file) file ≡ Some number → Reads (begun file) false number main p
+  main_read : {number : ℕ} {p : Progress} → number_in (with_name standard_names file) file ≡ Some number
+      → Reads (begun file) false number main p
       → Reaches holds file main p
   then_asks : {p q : Progress} {name : ℕ} → Reaches holds file main p → next_module p ≡ Some name → Asks holds p name q
       → Reaches holds file main q
@@ -99,9 +108,11 @@ pub record AskPasses (holds : Option Files) (p : Progress) (name : ℕ) (limit :
 
 -- A text passes this limit, the first that is passed.
 pub data Stops (holds : Option Files) (file main : List ℕ) (limit : Limit) : Type 0 where
-  at_main : {number : ℕ} → number_in (with_name standard_names file) file ≡ Some number → Passes (with_name standard_names file) [] false number main limit
+  at_main : {number : ℕ} → number_in (with_name standard_names file) file ≡ Some number
+      → Passes (with_name standard_names file) [] false number main limit
       → Stops holds file main limit
-  at_module : {p : Progress} {name : ℕ} → Reaches holds file main p → next_module p ≡ Some name → AskPasses holds p name limit
+  at_module : {p : Progress} {name : ℕ} → Reaches holds file main p → next_module p ≡ Some name
+      → AskPasses holds p name limit
       → Stops holds file main limit
 
 -- The same of the main text that the shelf has.
@@ -114,3 +125,22 @@ pub record StopsFrom (holds : Option Files) (file : List ℕ) (limit : Limit) : 
   pub main : List ℕ
   pub had : Has holds (main_file file) (Some main)
   pub stops : Stops holds file main limit
+
+-- ** What gathering comes to
+
+pub data Outcome : Type 0 where
+  unit_with : UnitTexts → (wrongs : List Diag) → Outcome
+  stopped_at : Limit → Outcome
+  nothing : Outcome
+
+-- of a main text that is given
+pub data ComesOf (holds : Option Files) (file main : List ℕ) : Outcome → Type 0 where
+  of_all : {unit : UnitTexts} {wrongs : List Diag} → IsGathered holds file main unit wrongs
+      → ComesOf holds file main (unit_with unit wrongs)
+  of_limit : {limit : Limit} → Stops holds file main limit → ComesOf holds file main (stopped_at limit)
+
+-- of the shelf's
+pub data ComesFrom (holds : Option Files) (file : List ℕ) : Outcome → Type 0 where
+  from_text : {main : List ℕ} {outcome : Outcome} → Has holds (main_file file) (Some main)
+      → ComesOf holds file main outcome → ComesFrom holds file outcome
+  from_nothing : Has holds (main_file file) None → ComesFrom holds file nothing

@@ -1,5 +1,6 @@
 -- Where the texts of a unit come from.
-use Rattle.std.specs.Prelude.{◌≡◌, ℕ, ◌==◌, Bool, true, false, List, [], ◌++◌, ◌+◌, Option, Some, None, codes, option_map, take, slice_index_or}
+use Rattle.std.specs.Prelude.{◌≡◌, ℕ, ◌==◌, ◌+◌, Bool, true, false, List, [], ◌++◌, Option, Some, None}
+use Rattle.std.specs.Prelude.{codes, option_map, slice_index_or, take}
 use Rattle.std.specs.FinMap.{get}
 use Rattle.m2_io.specs.Files.{Files}
 use Rattle.m2_base.specs.declared.limits.TheConstants.{MOST_TEXT_BYTES}
@@ -17,7 +18,8 @@ abbrev pub Has : Option Files → List ℕ → Option (List ℕ) → Type 0
 Has None file text = Unit {0}
 Has (Some files) file text = get files file ≡ text
 
--- this is the text of the definition module with that name: the library's is always the same, and all others are the shelf's
+-- this is the text of the definition module with that name: the library's is always the same, and all others are the
+-- shelf's
 abbrev pub HasDefinitionOf : (library : Bool) → Option Files → List ℕ → Option (List ℕ) → Type 0
 HasDefinitionOf true holds name text = text ≡ Some library_text
 HasDefinitionOf false holds name text = Has holds (definition_file name) text

@@ -1,5 +1,6 @@
 -- What is wrong with the imports of a unit, in the order of the texts and their tokens.
-use Rattle.std.specs.Prelude.{ℕ, ◌+◌, Bool, true, false, ◌&&◌, not, List, [], ◌∷◌, ◌++◌, Option, Some, None, is_none, nat_eq, nat_lt}
+use Rattle.std.specs.Prelude.{ℕ, ◌+◌, Bool, true, false, ◌&&◌, not, List, [], ◌∷◌, ◌++◌, Option, Some, None}
+use Rattle.std.specs.Prelude.{is_none, nat_eq, nat_lt}
 use Rattle.m2_base.specs.Diagnostics.{code_of}
 use Rattle.m2_base.specs.declared.diagnostic.Diagnostic.TheVariants.{CircularImports, NoDefinitionText, OtherModuleName}
 use Rattle.m2_base.specs.declared.diagnostic.Diagnostic.{Diagnostic}
@@ -30,15 +31,19 @@ is_circular order text = nat_lt 0 text && not (is_in order text)
 abbrev pub wrong_name : (order : List ℕ) → (text : ℕ) → Found → Option Ident → List Diag
 wrong_name order text f None = []
 wrong_name order text f (Some i) =
-    wrong_at text i OtherModuleName (not (nat_eq i.name f.text.name)) ++ wrong_at text i CircularImports (is_circular order text)
+    wrong_at text i OtherModuleName (not (nat_eq i.name f.text.name))
+    ++ wrong_at text i CircularImports (is_circular order text)
 
 -- the imports of modules that aren't there
 abbrev pub missing_imports : Progress → (text : ℕ) → List Ident → List Diag
 missing_imports p text [] = []
-missing_imports p text (i ∷ imports) = wrong_at text i NoDefinitionText (is_missing p i) ++ missing_imports p text imports
+missing_imports p text (i ∷ imports) =
+    wrong_at text i NoDefinitionText (is_missing p i) ++ missing_imports p text imports
 
 abbrev pub wrongs_in : Progress → (order : List ℕ) → (text : ℕ) → Found → List Diag
-wrongs_in p order text f = no_own p text (own_name f.front) ++ wrong_name order text f f.front.name ++ missing_imports p text f.front.imports
+wrongs_in p order text f =
+    no_own p text (own_name f.front) ++ wrong_name order text f f.front.name
+    ++ missing_imports p text f.front.imports
 
 -- those of these texts, whose numbers go from `text` on
 abbrev pub wrongs_from : Progress → (order : List ℕ) → (text : ℕ) → List Found → List Diag

@@ -1,6 +1,8 @@
 //! The dependency order of the definition texts.
 ghost use Rattle.std.specs.Prelude.{◌≡◌, ◌<◌, ◌^◌, ◌++◌, ◌&&◌, not, IfOk, OnOk, drop, length, map};
-ghost use Rattle.def_import.specs.Dependencies.{AreStruck, IsStruck, all_in, all_needs as spec_all_needs, dependency_order as spec_order, first_free as spec_first_free, is_in, items_of, one_number, needs_of as spec_needs_of};
+ghost use Rattle.def_import.specs.Dependencies.{AreStruck, IsStruck, all_in, is_in, items_of, one_number};
+ghost use Rattle.def_import.specs.Dependencies.{all_needs as spec_all_needs, dependency_order as spec_order};
+ghost use Rattle.def_import.specs.Dependencies.{first_free as spec_first_free, needs_of as spec_needs_of};
 
 use crate::found::Found;
 use crate::progress::Progress;
@@ -84,7 +86,8 @@ fn first_free(all: &mut [Vec<u32>], taken: &[u32]) -> Option<u32>
     None
 }
 
-/// Takes, again and again, the first definition text that isn't taken yet and whose imports that are found are all taken.
+/// Takes, again and again, the first definition text that isn't taken yet and whose imports that are found are all
+/// taken.
 pub fn dependency_order(alloc: Global, progress: &Progress) -> Result<Vec<u32>, Memory>
     ensures { IfOk result (λ order. order.items ≡ spec_order progress.now) }
 {

@@ -1,8 +1,10 @@
 //! Where the texts of a unit come from.
-ghost use Rattle.std.specs.Prelude.{◌≡◌, ◌≤◌, IfErr, IfOk, IsErrOf, List, ℕ, length, map, option_map, slice_index_or, string_bytes};
+ghost use Rattle.std.specs.Prelude.{◌≡◌, ◌≤◌, IfErr, IfOk, IsErrOf, List, ℕ, length, map, option_map};
+ghost use Rattle.std.specs.Prelude.{slice_index_or, string_bytes};
 ghost use Rattle.m2_io.specs.Causes.{Rose};
 ghost use Rattle.m2_base.specs.Units.{IsIdentifier, IsNamed};
-ghost use Rattle.def_import.specs.Shelves.{Has, HasDefinition, IsReadOf, definition_file as spec_definition_file, main_file as spec_main_file};
+ghost use Rattle.def_import.specs.Shelves.{Has, HasDefinition, IsReadOf};
+ghost use Rattle.def_import.specs.Shelves.{definition_file as spec_definition_file, main_file as spec_main_file};
 ghost use Rattle.def_import.specs.Views.{IsShelfFault};
 
 use crate::faults::GatherFault;
@@ -18,7 +20,8 @@ fn read_file<H: Shelf>(
     shelf: &mut H,
     file: &str,
 ) -> Result<Option<Vec<u8>>, GatherFault>
-    ensures found { IfOk result (λ found. IsReadOf (Has (H.holds shelf.old) file.now) (option_map (λ text. text.items) found)) }
+    ensures found { IfOk result (λ found.
+        IsReadOf (Has (H.holds shelf.old) file.now) (option_map (λ text. text.items) found)) }
     ensures holds { H.holds shelf.new ≡ H.holds shelf.old }
     ensures put_faults { H.put_faults shelf.new ≡ H.put_faults shelf.old }
     ensures later { H.faults shelf.old ≤ H.faults shelf.new }
@@ -53,7 +56,8 @@ pub fn main_text<H: Shelf>(
     shelf: &mut H,
     name: &str,
 ) -> Result<Option<Vec<u8>>, GatherFault>
-    ensures found { IfOk result (λ found. IsReadOf (Has (H.holds shelf.old) (spec_main_file name.now)) (option_map (λ text. text.items) found)) }
+    ensures found { IfOk result (λ found.
+        IsReadOf (Has (H.holds shelf.old) (spec_main_file name.now)) (option_map (λ text. text.items) found)) }
     ensures holds { H.holds shelf.new ≡ H.holds shelf.old }
     ensures put_faults { H.put_faults shelf.new ≡ H.put_faults shelf.old }
     ensures later { H.faults shelf.old ≤ H.faults shelf.new }
@@ -72,7 +76,8 @@ pub fn definition_text<H: Shelf>(
     name: u32,
 ) -> Result<Option<Vec<u8>>, GatherFault>
     requires { IsNamed names.now name }
-    ensures found { IfOk result (λ found. IsReadOf (HasDefinition (H.holds shelf.old) names.now name) (option_map (λ text. text.items) found)) }
+    ensures found { IfOk result (λ found.
+        IsReadOf (HasDefinition (H.holds shelf.old) names.now name) (option_map (λ text. text.items) found)) }
     ensures holds { H.holds shelf.new ≡ H.holds shelf.old }
     ensures put_faults { H.put_faults shelf.new ≡ H.put_faults shelf.old }
     ensures later { H.faults shelf.old ≤ H.faults shelf.new }

@@ -2,9 +2,10 @@
 ghost use Rattle.std.specs.Prelude.{◌≡◌, ◌≤◌, IfErr, IfOk, IsErrOf, None, length, map};
 ghost use Rattle.m2_io.specs.Causes.{Rose};
 ghost use Rattle.m2_base.specs.Units.{IsIdentifier, IsUnit};
-ghost use Rattle.def_import.specs.Answers.{IsTold, unit_given, wrongs_given};
+ghost use Rattle.def_import.specs.Answers.{IsTold, IsWholeWhereSaid, unit_given, wrongs_given};
 ghost use Rattle.def_import.specs.Closure.{Progress as ProgressSoFar};
-ghost use Rattle.def_import.specs.Outcomes.{IsGathered, IsGatheredFrom, Limit, Stops, StopsFrom, own_text as spec_own_text, unit_in};
+ghost use Rattle.def_import.specs.Outcomes.{IsGathered, IsGatheredFrom, Limit, Stops, StopsFrom, unit_in};
+ghost use Rattle.def_import.specs.Outcomes.{own_text as spec_own_text};
 ghost use Rattle.def_import.specs.Shelves.{Has, main_file};
 ghost use Rattle.def_import.specs.Views.{IsAskFault, fault_of};
 ghost use Rattle.def_import.specs.Wrongs.{wrongs_of as spec_wrongs_of};
@@ -89,11 +90,14 @@ pub fn gather_text<H: Shelf>(
 ) -> Result<Gathered, GatherFault>
     requires named { IsIdentifier name.now }
     requires short { length name.now ≤ 1048576 }
-    ensures gathered { IfOk result (λ g. IsGathered (H.holds shelf.old) name.now main.now (unit_given g) (wrongs_given g)) }
+    ensures gathered { IfOk result (λ g.
+        IsGathered (H.holds shelf.old) name.now main.now (unit_given g) (wrongs_given g)) }
     ensures told { IfOk result IsTold }
+    ensures whole { IfOk result IsWholeWhereSaid }
 
     // A limit, only where a text passes it and none passes another before.
-    ensures limits { (limit : Limit) → IsErrOf result (fault_of limit) → Stops (H.holds shelf.old) name.now main.now limit }
+    ensures limits { (limit : Limit) → IsErrOf result (fault_of limit)
+        → Stops (H.holds shelf.old) name.now main.now limit }
     ensures fault { IfErr result IsAskFault }
 
     // The shelf fails only where it counts a fault, and what it holds stays.
@@ -117,6 +121,7 @@ pub fn gather<H: Shelf>(alloc: Global, shelf: &mut H, name: &str) -> Result<Gath
     requires short { length name.now ≤ 1048576 }
     ensures gathered { IfOk result (λ g. IsGatheredFrom (H.holds shelf.old) name.now (unit_given g) (wrongs_given g)) }
     ensures told { IfOk result IsTold }
+    ensures whole { IfOk result IsWholeWhereSaid }
 
     // No text, only where the shelf has none; a limit, as in `gather_text`.
     ensures no_text { IsErrOf result GatherFault.NoText → Has (H.holds shelf.old) (main_file name.now) None }

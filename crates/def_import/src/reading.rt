@@ -1,7 +1,8 @@
 //! Reading the texts, one after another.
 ghost use Rattle.std.specs.Prelude.{◌≡◌, ◌≤◌, ◌<◌, IfErr, IfOk, IsErrOf, List, OnOk, Some, length};
 ghost use Rattle.m2_io.specs.Causes.{Rose};
-ghost use Rattle.def_import.specs.Closure.{Found as FoundText, listed, modules_of, names_of, own_name as spec_own_name, next_module as spec_next_module, with_module, with_modules};
+ghost use Rattle.def_import.specs.Closure.{Found as FoundText, listed, modules_of, names_of, with_module, with_modules};
+ghost use Rattle.def_import.specs.Closure.{next_module as spec_next_module, own_name as spec_own_name};
 ghost use Rattle.def_import.specs.Outcomes.{AskPasses, Asks, IsRead, Limit, Passes, Reads};
 ghost use Rattle.def_import.specs.Views.{IsAskFault, IsNamingFault, IsTextFault, fault_of};
 
@@ -20,7 +21,8 @@ use std::alloc::Global;
 fn name_module(modules: &mut IndexSet<u32>, named: Ident) -> Result<(), GatherFault>
     ensures named { OnOk result (modules.new.keys ≡ with_module modules.old.keys named.name) }
     ensures few { OnOk result (length modules.new.keys < MOST_TEXTS) }
-    ensures too_many { IsErrOf result GatherFault.TooManyTexts → MOST_TEXTS ≤ length (with_module modules.old.keys named.name) }
+    ensures too_many { IsErrOf result GatherFault.TooManyTexts
+        → MOST_TEXTS ≤ length (with_module modules.old.keys named.name) }
     ensures fault { IfErr result IsNamingFault }
 {
     modules.insert(named.name)?;
@@ -35,7 +37,8 @@ fn name_all(modules: &mut IndexSet<u32>, named: &[Ident]) -> Result<(), GatherFa
     requires { length modules.old.keys < MOST_TEXTS }
     ensures named { OnOk result (modules.new.keys ≡ with_modules modules.old.keys (names_of named.now)) }
     ensures few { OnOk result (length modules.new.keys < MOST_TEXTS) }
-    ensures too_many { IsErrOf result GatherFault.TooManyTexts → MOST_TEXTS ≤ length (with_modules modules.old.keys (names_of named.now)) }
+    ensures too_many { IsErrOf result GatherFault.TooManyTexts
+        → MOST_TEXTS ≤ length (with_modules modules.old.keys (names_of named.now)) }
     ensures fault { IfErr result IsNamingFault }
 {
     for one in named {
@@ -47,9 +50,11 @@ fn name_all(modules: &mut IndexSet<u32>, named: &[Ident]) -> Result<(), GatherFa
 /// Names the own definition of an implementation.
 fn name_own(modules: &mut IndexSet<u32>, found: &Found) -> Result<(), GatherFault>
     requires { length modules.old.keys < MOST_TEXTS }
-    ensures named { OnOk result (modules.new.keys ≡ with_modules modules.old.keys (names_of (listed (spec_own_name found.now.front)))) }
+    ensures named { OnOk result
+        (modules.new.keys ≡ with_modules modules.old.keys (names_of (listed (spec_own_name found.now.front)))) }
     ensures few { OnOk result (length modules.new.keys < MOST_TEXTS) }
-    ensures too_many { IsErrOf result GatherFault.TooManyTexts → MOST_TEXTS ≤ length (with_modules modules.old.keys (names_of (listed (spec_own_name found.now.front)))) }
+    ensures too_many { IsErrOf result GatherFault.TooManyTexts
+        → MOST_TEXTS ≤ length (with_modules modules.old.keys (names_of (listed (spec_own_name found.now.front)))) }
     ensures fault { IfErr result IsNamingFault }
 {
     match found.own_name() {
@@ -61,9 +66,11 @@ fn name_own(modules: &mut IndexSet<u32>, found: &Found) -> Result<(), GatherFaul
 /// Names the modules of a text: its own definition, then its imports.
 fn name_modules(modules: &mut IndexSet<u32>, found: &Found) -> Result<(), GatherFault>
     requires { length modules.old.keys < MOST_TEXTS }
-    ensures named { OnOk result (modules.new.keys ≡ with_modules modules.old.keys (names_of (modules_of found.now.front))) }
+    ensures named { OnOk result
+        (modules.new.keys ≡ with_modules modules.old.keys (names_of (modules_of found.now.front))) }
     ensures few { OnOk result (length modules.new.keys < MOST_TEXTS) }
-    ensures too_many { IsErrOf result GatherFault.TooManyTexts → MOST_TEXTS ≤ length (with_modules modules.old.keys (names_of (modules_of found.now.front))) }
+    ensures too_many { IsErrOf result GatherFault.TooManyTexts
+        → MOST_TEXTS ≤ length (with_modules modules.old.keys (names_of (modules_of found.now.front))) }
     ensures fault { IfErr result IsNamingFault }
 {
     name_own(modules, found)?;
@@ -80,7 +87,8 @@ fn read_text(
 ) -> Result<Found, GatherFault>
     requires { length names.old ≤ 4000000000 }
     ensures read { IfOk result (λ f. IsRead names.old definition name bytes.now names.new f) }
-    ensures limits { (found : List FoundText) (limit : Limit) → IsErrOf result (fault_of limit) → Passes names.old found definition name bytes.now limit }
+    ensures limits { (found : List FoundText) (limit : Limit) → IsErrOf result (fault_of limit)
+        → Passes names.old found definition name bytes.now limit }
     ensures fault { IfErr result IsTextFault }
 {
     if bytes.len() > MOST_TEXT_BYTES {
@@ -108,7 +116,8 @@ impl Progress {
     ) -> Result<Progress, GatherFault>
         requires { length self.found ≤ length self.asked }
         ensures read { IfOk result (λ p. Reads self definition name bytes.now p) }
-        ensures limits { (limit : Limit) → IsErrOf result (fault_of limit) → Passes self.names self.found definition name bytes.now limit }
+        ensures limits { (limit : Limit) → IsErrOf result (fault_of limit)
+            → Passes self.names self.found definition name bytes.now limit }
         ensures fault { IfErr result IsTextFault }
     {
         let found = read_text(alloc, &mut self.names, definition, name, bytes)?;
@@ -130,7 +139,8 @@ impl Progress {
     ) -> Result<Progress, GatherFault>
         requires { spec_next_module self ≡ Some name }
         ensures asked { IfOk result (λ p. Asks (H.holds shelf.old) self name p) }
-        ensures limits { (limit : Limit) → IsErrOf result (fault_of limit) → AskPasses (H.holds shelf.old) self name limit }
+        ensures limits { (limit : Limit) → IsErrOf result (fault_of limit)
+            → AskPasses (H.holds shelf.old) self name limit }
         ensures holds { H.holds shelf.new ≡ H.holds shelf.old }
         ensures put_faults { H.put_faults shelf.new ≡ H.put_faults shelf.old }
         ensures later { H.faults shelf.old ≤ H.faults shelf.new }

@@ -2,7 +2,8 @@
 ghost use Rattle.std.specs.Prelude.{◌≡◌, ◌++◌, IfOk, OnOk};
 ghost use Rattle.m2_base.specs.declared.diagnostic.Diagnostic.TheVariants.{NoDefinitionText};
 ghost use Rattle.def_import.specs.Closure.{own_name};
-ghost use Rattle.def_import.specs.Wrongs.{is_missing, missing_imports, no_own, wrong_at, wrong_name, wrongs_from, wrongs_in};
+ghost use Rattle.def_import.specs.Wrongs.{is_missing, missing_imports, no_own, wrong_at, wrong_name};
+ghost use Rattle.def_import.specs.Wrongs.{wrongs_from, wrongs_in};
 
 use crate::found::Found;
 use crate::progress::Progress;
@@ -36,7 +37,8 @@ fn note_missing(
     text: u32,
     named: Ident,
 ) -> Result<(), Memory>
-    ensures { OnOk result (wrongs.new.items ≡ wrongs.old.items ++ wrong_at text named NoDefinitionText (is_missing progress.now named)) }
+    ensures { OnOk result
+        (wrongs.new.items ≡ wrongs.old.items ++ wrong_at text named NoDefinitionText (is_missing progress.now named)) }
 {
     let missing = progress.text_of_module(named.name).is_none();
     note_where(missing, wrongs, text, named, Diagnostic::NoDefinitionText)
@@ -59,7 +61,8 @@ fn note_own(
 
 /// Notes what is wrong at the module's name: it is another than the text's, or the imports go in a circle.
 fn note_name(order: &[u32], wrongs: &mut Vec<Diag>, text: u32, found: &Found) -> Result<(), Memory>
-    ensures { OnOk result (wrongs.new.items ≡ wrongs.old.items ++ wrong_name order.now text found.now found.now.front.name) }
+    ensures { OnOk result
+        (wrongs.new.items ≡ wrongs.old.items ++ wrong_name order.now text found.now found.now.front.name) }
 {
     let Some(name) = found.name() else {
         return Ok(());

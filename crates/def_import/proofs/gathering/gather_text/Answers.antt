@@ -7,6 +7,7 @@ use Rattle.def_import.specs.Views.{fault_of}
 use Rattle.def_import.proofs.Gathers.{asked_more, main_reached, main_stops}
 use Rattle.def_import.proofs.Limits.{same_fault}
 use Rattle.def_import.proofs.UnitKept.{reached_unit}
+use Rattle.def_import.proofs.WholeUnits.{said_whole}
 use Rattle.def_import.proofs.gathering.gather_text.Goals as goal
 
 pub returns-in_err-progress-clause-limits : goal.returns-in_err-progress-clause-limits
@@ -53,3 +54,9 @@ loop-name-preserved g c =
 pub finish-requires : goal.finish-requires
 finish-requires g c =
     reached_unit (g.H.Shelf.holds c.args.shelf.now) c.args.name.now c.args.main.now c.loop-name.progress c.requires.named c.requires.short (λ i. omega (arith, c.type_inv.name i)) c.loop-name.invariant.reached
+
+pub returns-clause-whole : goal.returns-clause-whole
+returns-clause-whole g c =
+    let h = g.H.Shelf.holds c.args.shelf.now in
+    let unit = reached_unit h c.args.name.now c.args.main.now c.loop-name.progress c.requires.named c.requires.short (λ i. omega (arith, c.type_inv.name i)) c.loop-name.invariant.reached in
+    said_whole h c.args.name.now c.args.main.now c.loop-name.progress c.in_ok-gathered.gathered unit c.loop-name.invariant.reached c.in_ok-gathered.ensures.unit c.in_ok-gathered.ensures.wrongs
