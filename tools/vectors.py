@@ -4,8 +4,7 @@
 usage: vectors.py FOLDER [STAGE]
 
 FOLDER has the vectors, a set in each file NAME.jsonl and a case in each line, and the files go to crates/m2_cases/data. STAGE is
-`first` if left out: the answers of today's language, whose imported enumeration types don't bring their constants and whose
-objects have version 1; `final` has them.
+`final` if left out: imported enumeration types bring their constants, and objects have version 2; `first` has neither.
 """
 import functools
 import json
@@ -202,7 +201,7 @@ def name_of(case):
 def main():
     if len(sys.argv) not in (2, 3):
         sys.exit(__doc__)
-    stage = sys.argv[2] if len(sys.argv) > 2 else "first"
+    stage = sys.argv[2] if len(sys.argv) > 2 else "final"
     for name, lines_of in SETS.items():
         cases = [json.loads(line) for line in open("%s/%s.jsonl" % (sys.argv[1], name))]
         lines = [["case " + name_of(case), *lines_of(case, stage), ""] for case in cases]

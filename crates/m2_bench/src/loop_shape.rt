@@ -1,4 +1,5 @@
 //! Programs of one loop, which the machine runs.
+use crate::head::{push_head, push_numbers};
 use crate::kind::UnknownKind;
 use code_form::{Instr, encode};
 use m2_base::Memory;
@@ -41,8 +42,7 @@ impl LoopShape {
     /// The object of a module A whose body makes the loop so many times. Its variable 0 counts.
     pub fn object(self, alloc: Global, times: u32) -> Result<Vec<u8>, Memory> {
         let mut object = Vec::new(alloc);
-        object.extend_from_slice(b"M2OB\x01\x00\x00\x00\x01\x00\x00\x00A\x08\x00\x00\x00")?;
-        push_numbers(&mut object, &[0, 0, 0, 2])?;
+        push_head(&mut object, 8, 2)?;
         push_procedure(&mut object, 0, &self.body(alloc, times)?)?;
         push_procedure(&mut object, 1, &called(alloc)?)?;
         Ok(object)
@@ -139,13 +139,6 @@ fn called(alloc: Global) -> Result<Vec<u8>, Memory> {
 
 fn distance(bytes: usize) -> i32 {
     i32::try_from(bytes).unwrap_or(i32::MAX)
-}
-
-fn push_numbers(object: &mut Vec<u8>, numbers: &[u32]) -> Result<(), Memory> {
-    for number in numbers {
-        object.extend_from_slice(&number.to_le_bytes())?;
-    }
-    Ok(())
 }
 
 /// A procedure of module level with so many parameters, with as many cells and no data.

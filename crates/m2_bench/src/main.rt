@@ -12,6 +12,7 @@
 mod command;
 mod compiling;
 mod cutting;
+mod head;
 mod kind;
 mod lexing;
 mod loop_shape;

@@ -1,4 +1,5 @@
 //! The shapes of objects that are read.
+use crate::head::{HEAD_BYTES, push_head, push_numbers};
 use crate::kind::UnknownKind;
 use code_form::{Instr, encode};
 use m2_base::Memory;
@@ -27,7 +28,7 @@ struct Plan {
 }
 
 /// The bytes of an object with its body alone.
-const FRAME_BYTES: u32 = 62;
+const FRAME_BYTES: u32 = HEAD_BYTES + PROCEDURE_BYTES;
 
 /// Those of a procedure but for its statements.
 const PROCEDURE_BYTES: u32 = 29;
@@ -84,8 +85,7 @@ impl ObjectShape {
     pub fn object(self, alloc: Global, bytes: u32) -> Result<Vec<u8>, Memory> {
         let plan = self.plan(bytes);
         let mut object = Vec::new(alloc);
-        object.extend_from_slice(b"M2OB\x01\x00\x00\x00\x01\x00\x00\x00A\x01\x00\x00\x00")?;
-        push_numbers(&mut object, &[0, 0, 0, plan.procedures.saturating_add(1)])?;
+        push_head(&mut object, 1, plan.procedures.saturating_add(1))?;
         push_procedure(&mut object, [0, 0], &returning(alloc)?)?;
         for k in 0..plan.procedures {
             let code = self.code(alloc, k, plan.statements)?;
@@ -165,13 +165,6 @@ fn of_outermost(alloc: Global, links: u32) -> Result<Vec<u8>, Memory> {
     encode(&Instr::Load, &mut code)?;
     encode(&Instr::JumpFalse(0), &mut code)?;
     Ok(code)
-}
-
-fn push_numbers(object: &mut Vec<u8>, numbers: &[u32]) -> Result<(), Memory> {
-    for number in numbers {
-        object.extend_from_slice(&number.to_le_bytes())?;
-    }
-    Ok(())
 }
 
 /// A procedure of one cell, with no data.

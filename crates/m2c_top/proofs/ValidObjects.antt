@@ -18,8 +18,10 @@ use Rattle.m2_base.specs.declared.trees.declarations.StreamKind.TheVariants.{Mai
 use Rattle.stmt_sem.specs.BlockCode.{params_of, results_of, size_diags, too_many_at}
 use Rattle.stmt_sem.specs.Flows.{Run}
 use Rattle.stmt_sem.proofs.LengthLaw.{block-in_range}
+use Rattle.object_file.specs.FieldsOf.{HasFields}
 use Rattle.object_file.specs.ObjectFormat.{is_identifier}
 use Rattle.object_file.specs.Validity.{IsValid}
+use Rattle.object_file.proofs.Building.{valid_by_parts}
 use Rattle.block_laws.specs.Lone.{lone_world}
 use Rattle.block_laws.specs.Named.{procedure_of}
 use Rattle.m2_base.specs.Statics.ReadStatements.{AreReadStatements}
@@ -35,7 +37,7 @@ use Rattle.m2c_top.specs.Ordering.{comes_before, in_order, is_same, with_diag}
 use Rattle.m2c_top.specs.declared.module.Module.{Module as HeldModule}
 use Rattle.m2c_top.proofs.HeldTables.{heading_none}
 use Rattle.m2c_top.proofs.LoneBlocks.{in_range, lone_tree, sound_unit, tokens_few}
-use Rattle.m2c_top.proofs.ObjectFields.{HasFields, lone_spells}
+use Rattle.m2c_top.proofs.ObjectFields.{lone_fields}
 
 -- ** No diagnostics
 
@@ -119,9 +121,10 @@ module _ (m : HeldModule) (h : IsHeld m) (none : diags_of (held m) ≡ []) where
         let counted : 0 + length (code_in (held m)).bytes ≡ (run_in (held m)).next.byte = leads.counted room in
         omega (arith, room, counted)
 
-    fields : (name : List ℕ) → is_identifier name ≡ true → length name < 2 ^ 32 → (code_in (held m)).high < 2 ^ 32 → HasFields name (cells_in (held m)) (procedure_of (code_in (held m)))
+    fields : (name : List ℕ) → is_identifier name ≡ true → length name < 2 ^ 32 → (code_in (held m)).high < 2 ^ 32 → HasFields (contents_of name (held m))
     fields name is short high =
-        record {
+        lone_fields name (cells_in (held m)) (procedure_of (code_in (held m)))
+        (record {
           name_is = is;
           name_short = short;
           cells_few = has_room.own;
@@ -132,8 +135,7 @@ module _ (m : HeldModule) (h : IsHeld m) (none : diags_of (held m) ≡ []) where
           high_few = high;
           bytes_short = let d = data_few in omega (arith, d);
           code_short = let c = block-in_range (trees_of (held m)).source (standard_rows ∷ []) (tables_of (held m)) block (tokens_few m h) in omega (arith, c);
-        }
+        })
 
     pub object_valid : (name : List ℕ) → is_identifier name ≡ true → length name < 2 ^ 32 → (code_in (held m)).high < 2 ^ 32 → IsValid (contents_of name (held m))
-    object_valid name is short high =
-        record { fields = lone_spells name (cells_in (held m)) (procedure_of (code_in (held m))) (fields name is short high); code = (code_valid, tt) }
+    object_valid name is short high = valid_by_parts (contents_of name (held m)) (fields name is short high) (code_valid, tt)

@@ -2,12 +2,22 @@
 use Rattle.std.specs.Prelude.{ℕ, List, [], ◌∷◌}
 use Rattle.block_laws.specs.Named.{procedure_of}
 use Rattle.code_form.specs.Modules.{Procedure}
-use Rattle.object_file.specs.Contents.{Contents, object_bytes as bytes_of}
+use Rattle.object_file.specs.Contents.{Contents, no_key, object_bytes as bytes_of}
 use Rattle.m2c_top.specs.Modules.{Module, cells_in, code_in}
 
 -- an object of a module alone: these cells, none of them of a definition, no exports and no imports, and one procedure
 abbrev pub lone_contents : (name : List ℕ) → (cells : ℕ) → Procedure → Contents
-lone_contents name cells p = record { name = name; cells = cells; own_cells = 0; exports = []; imports = []; procedures = p ∷ [] }
+lone_contents name cells p =
+    record {
+      version = 2;
+      name = name;
+      key = no_key;
+      cells = cells;
+      own_cells = 0;
+      exports = [];
+      imports = [];
+      procedures = p ∷ [];
+    }
 
 -- what the object of a module says
 abbrev pub contents_of : List ℕ → Module → Contents

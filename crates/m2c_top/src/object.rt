@@ -9,14 +9,20 @@ use m2_base::{Memory, ProcCode};
 use object_file::{Object, Parts, write_object};
 use std::alloc::Global;
 
+/// How many bytes a key has.
+const KEY_BYTES: usize = 32;
+
 /// What the object of a module with these cells and this code says.
 fn parts_of(alloc: Global, name: &[u8], cells: u32, code: ProcCode) -> Result<Parts, Memory>
     ensures { IfOk result (λ parts. contents_of parts ≡ lone_contents name.now cells (procedure_of code)) }
 {
     let name = name.to_vec(alloc)?;
+    let key = vec![in alloc; 0; KEY_BYTES]?;
     let procedures = vec![in alloc; code]?;
     Ok(Parts {
+        version: 2,
         name,
+        key,
         cells,
         own_cells: 0,
         exports: Vec::new(alloc),

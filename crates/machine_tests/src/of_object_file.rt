@@ -1,6 +1,7 @@
 //! Objects with their parts, and those that are programs, by hand.
 use object_file::{
-    Object, ObjectFault, Program, ProgramFault, one_fault, one_object, read_object, write_object,
+    Object, ObjectFault, Program, ProgramFault, one_fault, one_object, parts_are_valid,
+    read_object, write_object,
 };
 use std::alloc::{AllocError, Global};
 use std::process::Abort;
@@ -8,6 +9,10 @@ use std::process::Abort;
 /// The empty module A.
 const EMPTY: [u8; 62] =
     *b"M2OB\x01\x00\x00\x00\x01\x00\x00\x00A\x00\x00\x00\x00\x00\x00\x00\x00\x00\x00\x00\x00\x00\x00\x00\x00\x01\x00\x00\x00\x00\x00\x00\x00\x00\x00\x00\x00\x00\x00\x00\x00\x00\x00\x00\x00\x00\x00\x00\x00\x00\x00\x00\x00\x01\x00\x00\x00.";
+
+/// The empty module A in version 2: its definition's key stands before the numbers of exports and imports.
+const KEYED: [u8; 94] =
+    *b"M2OB\x02\x00\x00\x00\x01\x00\x00\x00A\x00\x00\x00\x00\x00\x00\x00\x00\x00\x00\x00\x00\x00\x00\x00\x00\x00\x00\x00\x00\x00\x00\x00\x00\x00\x00\x00\x00\x00\x00\x00\x00\x00\x00\x00\x00\x00\x00\x00\x00\x00\x00\x00\x00\x00\x00\x00\x00\x01\x00\x00\x00\x00\x00\x00\x00\x00\x00\x00\x00\x00\x00\x00\x00\x00\x00\x00\x00\x00\x00\x00\x00\x00\x00\x00\x00\x01\x00\x00\x00.";
 
 /// The module A, whose body adds 1 to its one variable.
 const ADDS: [u8; 93] =
@@ -53,6 +58,21 @@ fn objects_are_read_and_written(rt: HostRuntime) {
     }
     one_object();
     one_fault();
+    parts_are_valid();
+}
+
+#[test]
+fn both_versions_are_read(rt: HostRuntime) {
+    let object = read(&rt, rt.alloc(), &EMPTY);
+    assert_eq!(rt; (object.version(), object.key()), (1, b"".as_slice()));
+    let object = read(&rt, rt.alloc(), &KEYED);
+    assert_eq!(rt; (object.version(), object.key()), (2, [0; 32].as_slice()));
+    is_written_so(&rt, rt.alloc(), &object, &KEYED);
+    let mut bytes = KEYED;
+    bytes[21] = 255;
+    let object = Object::build(read(&rt, rt.alloc(), &bytes).into_parts());
+    assert_eq!(rt; object.key().first(), Some(&255));
+    is_written_so(&rt, rt.alloc(), &object, &bytes);
 }
 
 /// Asserts that the object is a program.

@@ -11,7 +11,7 @@ use Rattle.std.specs.BTreeSet.{insert_key}
 use Rattle.std.specs.Str.{bytes_eq}
 use Rattle.std.proofs.lemmas.Map.Lookups.{exact_bytes}
 use Rattle.std.proofs.lemmas.Map.Text.{is_eq-slice_cmp}
-use Rattle.code_form.specs.Modules.{Import}
+use Rattle.object_file.specs.Contents.{KeyedImport}
 use Rattle.object_file.specs.Named.{is_named, AreNames}
 
 abbrev order : Vec ℕ → Vec ℕ → Ordering
@@ -38,14 +38,14 @@ any_inserted name (x ∷ xs) k = at_order (order k x) (λ e. exact_bytes k.items
       twice (is_named name x) (list_any (is_named name) xs) ∙ ap (λ (b : Bool). b || (is_named name x || list_any (is_named name) xs)) (sym e)
   at_order Greater same rec = ap (λ (b : Bool). is_named name x || b) rec ∙ swapped (is_named name x) (is_named name k) (list_any (is_named name) xs)
 
-any_more : (f : Import → Bool) (xs : List Import) (x : Import) → list_any f (xs ++ x ∷ []) ≡ f x || list_any f xs
+any_more : (f : KeyedImport → Bool) (xs : List KeyedImport) (x : KeyedImport) → list_any f (xs ++ x ∷ []) ≡ f x || list_any f xs
 any_more f [] x = refl
 any_more f (y ∷ ys) x = ap (λ (b : Bool). f y || b) (any_more f ys x) ∙ swapped (f y) (f x) (list_any f ys)
 
 -- with a name and an import more the keys are the names still
-pub AreNames-more : (keys : List (Vec ℕ)) (imports : List Import) (k : Vec ℕ) (i : Import) → AreNames keys imports → k.items ≡ i.name → AreNames (insert_key order keys k) (imports ++ i ∷ [])
+pub AreNames-more : (keys : List (Vec ℕ)) (imports : List KeyedImport) (k : Vec ℕ) (i : KeyedImport) → AreNames keys imports → k.items ≡ i.definition.name → AreNames (insert_key order keys k) (imports ++ i ∷ [])
 AreNames-more keys imports k i h e name =
     any_inserted name keys k
     ∙ ap (λ (b : Bool). b || list_any (is_named name) keys) (is_eq-slice_cmp name k.items ∙ ap (bytes_eq name) e)
-    ∙ ap (λ (b : Bool). bytes_eq name i.name || b) (h name)
-    ∙ sym (any_more (λ j. bytes_eq name j.name) imports i)
+    ∙ ap (λ (b : Bool). bytes_eq name i.definition.name || b) (h name)
+    ∙ sym (any_more (λ j. bytes_eq name j.definition.name) imports i)

@@ -16,3 +16,5 @@ pub mod Indexing
 pub mod Chains
 pub mod Outers
 pub mod Meeting
+pub mod Worlds
+pub mod Building

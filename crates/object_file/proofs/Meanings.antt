@@ -6,8 +6,8 @@ use Rattle.std.proofs.lemmas.Bool.Decides.{eqb_tells}
 use Rattle.std.proofs.lemmas.List.{take_at, drop_at, take-append-drop, length-append, length-take, get_or-drop, get_or-take, get_or_past}
 use Rattle.std.proofs.lemmas.Nat.{le_bytes_4, from_le_bytes-to_le_bytes_4}
 use Rattle.object_file.specs.Contents.{u32, with_length}
-use Rattle.object_file.specs.Formats.{Format, done, exact, number, text, ◌>>=◌, many, Bad, ended, Differs, Spells, IsBroken, IsBad}
-use Rattle.object_file.specs.Fields.{wide_at, number_at, text_at, match_at, exact_at, valid_at, many_at, counted_at, ends_at, ◌then◌, read}
+use Rattle.object_file.specs.Formats.{Format, done, exact, number, text, raw, ◌>>=◌, many, Bad, ended, Differs, Spells, IsBroken, IsBad}
+use Rattle.object_file.specs.Fields.{wide_at, number_at, raw_at, text_at, match_at, exact_at, valid_at, many_at, counted_at, ends_at, ◌then◌, read}
 use Rattle.object_file.proofs.Matching.{eq-eqb}
 
 -- ---- reading by parts
@@ -32,6 +32,9 @@ read_then (number ok next) g bytes =
 read_then (text ok next) g bytes =
     then_same (text_at bytes) _ _ (λ n. then_same (valid_at (ok n.0) bytes) _ _ (λ u. read_then (next n.0) g n.1) ∙ sym (then_then (valid_at (ok n.0) bytes) (λ u. read (next n.0) n.1) (λ x. read (g x.0) x.1)))
     ∙ sym (then_then (text_at bytes) (λ n. valid_at (ok n.0) bytes then λ u. read (next n.0) n.1) (λ x. read (g x.0) x.1))
+read_then (raw n next) g bytes =
+    then_same (raw_at n bytes) _ _ (λ t. read_then (next t.0) g t.1)
+    ∙ sym (then_then (raw_at n bytes) (λ t. read (next t.0) t.1) (λ x. read (g x.0) x.1))
 
 read_many : {A : Type 0} (one : List A → Format A) (one_at : List A → List ℕ → Result (A × List ℕ) Bad) (n : ℕ) (before : List A) (bytes : List ℕ) → ((xs : List A) (bs : List ℕ) → read (one xs) bs ≡ one_at xs bs) → read (many one n before) bytes ≡ many_at one_at n before bytes
 unfolding many many_at read
@@ -134,6 +137,26 @@ text_is bytes fits = after (number_at bytes) (wide_is w32 (2 ^ 32) wide32 bytes 
             (record { parts = h.0.parts ∙ subst (λ (k : ℕ). u32 n.0 ++ n.1 ≡ u32 k ++ take n.0 n.1 ++ drop n.0 n.1) (sym len) (ap (λ (r : List ℕ). u32 n.0 ++ r) (sym (take-append-drop n.0 n.1))); fits = IsBytes-drop n.0 n.1 h.0.fits }, omega (arith, h.1, len)))
       ]
 
+raw_again : (n : ℕ) (t rest : List ℕ) → length t ≡ n → raw_at n (t ++ rest) ≡ Ok (t, rest)
+raw_again n t rest len =
+    let long : ltb (length (t ++ rest)) n ≡ false = le-ltb _ _ (omega (arith, len, length-append t rest)) in
+    rw (long, take_at t rest n len, drop_at t rest n len) refl
+
+abbrev RawIs : ℕ → List ℕ → Result (List ℕ × List ℕ) Bad → Type 0
+RawIs n bytes (Ok x) = Takes bytes x.0 x.1 × (length x.0 ≡ n)
+RawIs n bytes (Err bad) = (length bytes < n) × (bad ≡ ended)
+
+raw_is : (n : ℕ) (bytes : List ℕ) → IsBytes bytes → RawIs n bytes (raw_at n bytes)
+raw_is n bytes fits =
+    elim (cases_lt (length bytes) n) [
+      | inl lt ↦ rw (lt-ltb (length bytes) n lt) (lt, refl)
+      | inr le ↦ rw (le-ltb (length bytes) n le)
+          (record { parts = sym (take-append-drop n bytes); fits = IsBytes-drop n bytes fits }, omega (arith, length-take n bytes))
+    ]
+
+raw_short : (n : ℕ) (bytes : List ℕ) → length bytes < n → raw_at n bytes ≡ Err ended
+raw_short n bytes lt = rw (lt-ltb (length bytes) n lt) refl
+
 -- the expected bytes are matched
 match_again : (e rest : List ℕ) → match_at e (e ++ rest) ≡ Ok rest
 unfolding match_at
@@ -227,6 +250,10 @@ reads (text ok next) bytes y rest s =
     ∙ ap (λ (r : Result (List ℕ × List ℕ) Bad). r then λ n. (valid_at (ok n.0) (with_length s.0 ++ s.1) then λ u. read (next n.0) n.1)) (text_again s.0 s.1 s.2)
     ∙ ap (λ (b : Bool). valid_at b (with_length s.0 ++ s.1) then λ u. read (next s.0) s.1) s.4
     ∙ reads (next s.0) s.1 y rest s.5
+reads (raw n next) bytes y rest s =
+    ap (λ (b : List ℕ). raw_at n b then λ t. read (next t.0) t.1) s.3
+    ∙ ap (λ (r : Result (List ℕ × List ℕ) Bad). r then λ t. read (next t.0) t.1) (raw_again n s.0 s.1 s.2)
+    ∙ reads (next s.0) s.1 y rest s.4
 
 -- what is read: spelled so, or the first broken field
 abbrev pub Means : {A : Type 0} → Format A → List ℕ → Result (A × List ℕ) Bad → Type 0
@@ -264,6 +291,14 @@ meaning {A = A} (text ok next) bytes fits = after (text_at bytes) (text_is bytes
   after (Err bad) (inl h) rec = inl h
   after (Err bad) (inr h) rec = inr (inl h)
   after (Ok n) h rec = tested n.0 n.1 (ok n.0) (read (next n.0) n.1) refl h.1 h.0.parts (rec n.0 n.1 h.0.fits)
+meaning {A = A} (raw n next) bytes fits = after (raw_at n bytes) (raw_is n bytes fits) (λ t. meaning (next t)) where
+  tested : (t : List ℕ) (rest : List ℕ) (r : Result (A × List ℕ) Bad) → length t ≡ n → bytes ≡ t ++ rest → Means (next t) rest r → Means (raw n next) bytes r
+  tested t rest (Ok x) len parts m = (t, rest, len, parts, m)
+  tested t rest (Err bad) len parts m = inr (t, rest, len, parts, m)
+
+  after : (found : Result (List ℕ × List ℕ) Bad) → RawIs n bytes found → ((t : List ℕ) (rest : List ℕ) → IsBytes rest → Means (next t) rest (read (next t) rest)) → Means (raw n next) bytes (found then λ t. read (next t.0) t.1)
+  after (Err bad) h rec = inl h
+  after (Ok t) h rec = tested t.0 t.1 (read (next t.0) t.1) h.1 h.0.parts (rec t.0 t.1 h.0.fits)
 
 -- the first broken field is what reading answers
 pub breaks : {A : Type 0} (f : Format A) (bytes : List ℕ) (bad : Bad) → IsBroken f bytes bad → read f bytes ≡ Err bad
@@ -304,6 +339,12 @@ breaks {A = A} (text ok next) bytes bad (inr (inr (inr h))) =
     ∙ ap (λ (r : Result (List ℕ × List ℕ) Bad). r then λ n. (valid_at (ok n.0) bytes then λ u. read (next n.0) n.1)) (text_again h.0 h.1 h.2)
     ∙ ap (λ (b : Bool). valid_at b bytes then λ u. read (next h.0) h.1) h.4
     ∙ breaks (next h.0) h.1 bad h.5
+breaks {A = A} (raw n next) bytes bad (inl h) =
+    ap (λ (r : Result (List ℕ × List ℕ) Bad). r then λ t. read (next t.0) t.1) (raw_short n bytes h.0) ∙ ap (λ (b : Bad). Err b) (sym h.1)
+breaks {A = A} (raw n next) bytes bad (inr h) =
+    ap (λ (b : List ℕ). raw_at n b then λ t. read (next t.0) t.1) h.3
+    ∙ ap (λ (r : Result (List ℕ × List ℕ) Bad). r then λ t. read (next t.0) t.1) (raw_again n h.0 h.1 h.2)
+    ∙ breaks (next h.0) h.1 bad h.4
 
 -- ---- all of the bytes
 

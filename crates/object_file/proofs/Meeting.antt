@@ -10,7 +10,7 @@ use Rattle.std.proofs.Math.Seq.{drop-cons}
 use Rattle.code_form.specs.Heights.{Callee}
 use Rattle.code_form.specs.Modules.{Import}
 use Rattle.object_file.specs.declared.parts.ImportNote.{ImportNote}
-use Rattle.object_file.specs.Contents.{Contents}
+use Rattle.object_file.specs.Contents.{Contents, definitions_of}
 use Rattle.object_file.specs.Programs.{IsApart, IsAlone, IsMet, apart, IsProgram}
 use Rattle.object_file.specs.Validity.{IsValid}
 use Rattle.object_file.specs.Views.{heading_of}
@@ -45,7 +45,7 @@ alone_program o v a = record {
   few = omega arith;
   valid = (v, tt);
   names_differ = (tt, tt);
-  met = (all_met o.imports a, tt);
+  met = (all_met (definitions_of o) a, tt);
 }
   where
     all_met : (is : List Import) → AllByRecursion IsApart is → AllByRecursion (IsMet (o ∷ [])) is

@@ -1,11 +1,11 @@
 -- Reading an object field by field is reading by its format.
 use Rattle.std.proofs.Common.{◌≡◌, ℕ, List, Result, Ok, Err, drop, refl, ap, ◌∙◌}
 use Rattle.code_form.specs.Heights.{Callee}
-use Rattle.code_form.specs.Modules.{Import, Procedure}
-use Rattle.object_file.specs.Contents.{Export, Contents, magic}
+use Rattle.code_form.specs.Modules.{Procedure}
+use Rattle.object_file.specs.Contents.{Export, KeyedImport, Contents, u32, magic}
 use Rattle.object_file.specs.Formats.{Bad, ◌>>=◌, counted}
-use Rattle.object_file.specs.Fields.{number_at, text_at, exact_at, valid_at, counted_at, ends_at, ◌then◌, read}
-use Rattle.object_file.specs.ObjectFormat.{any, is_cells, is_own_cells, is_identifier, is_new_name, is_count, export_format, heading_format, import_format, procedure_format, fields_format, format_with, compared, format_near}
+use Rattle.object_file.specs.Fields.{number_at, raw_at, text_at, exact_at, valid_at, counted_at, ends_at, ◌then◌, read}
+use Rattle.object_file.specs.ObjectFormat.{any, is_cells, is_own_cells, is_identifier, is_new_name, is_count, export_format, heading_format, import_format, procedure_format, fields_format, format_with, key_length, version_near, format_near}
 use Rattle.object_file.specs.Reading.{export_at, heading_at, import_at, procedure_at, fields_at, object_at, whole_at}
 use Rattle.object_file.proofs.Meanings.{IsBytes, then_same, bind_at, read_counted, read_all, behind}
 
@@ -17,43 +17,45 @@ read_heading : (before : List Callee) (bytes : List ℕ) → read (heading_forma
 unfolding read ◌>>=◌ heading_format heading_at
 read_heading before bytes = refl
 
-read_import : (before : List Import) (bytes : List ℕ) → read (import_format before) bytes ≡ import_at before bytes
+read_import : (version : ℕ) (before : List KeyedImport) (bytes : List ℕ) → read (import_format version before) bytes ≡ import_at version before bytes
 unfolding read ◌>>=◌ import_format import_at
-read_import before bytes =
+read_import version before bytes =
     then_same (text_at bytes) _ _ (λ name. then_same (valid_at (is_new_name before name.0) bytes) _ _ (λ u.
-    then_same (number_at name.1) _ _ (λ cells.
-    bind_at (counted any heading_format) (counted_at any heading_at) _ _ cells.1 (read_counted any heading_format heading_at read_heading) (λ headings bs. refl))))
+    then_same (raw_at (key_length version) name.1) _ _ (λ key. then_same (number_at key.1) _ _ (λ cells.
+    bind_at (counted any heading_format) (counted_at any heading_at) _ _ cells.1 (read_counted any heading_format heading_at read_heading) (λ headings bs. refl)))))
 
 read_procedure : (exports : List Export) (before : List Procedure) (bytes : List ℕ) → read (procedure_format exports before) bytes ≡ procedure_at exports before bytes
 unfolding read ◌>>=◌ procedure_format procedure_at
 read_procedure exports before bytes = refl
 
-read_fields : (bytes : List ℕ) → read fields_format bytes ≡ fields_at bytes
+read_fields : (version : ℕ) (bytes : List ℕ) → read (fields_format version) bytes ≡ fields_at version bytes
 unfolding read ◌>>=◌ fields_format fields_at
-read_fields bytes =
+read_fields version bytes =
     then_same (text_at bytes) _ _ (λ name. then_same (valid_at (is_identifier name.0) bytes) _ _ (λ u.
     then_same (number_at name.1) _ _ (λ cells. then_same (valid_at (is_cells cells.0) name.1) _ _ (λ v.
     then_same (number_at cells.1) _ _ (λ own_cells. then_same (valid_at (is_own_cells cells.0 own_cells.0) cells.1) _ _ (λ w.
-    bind_at (counted any export_format) (counted_at any export_at) _ _ own_cells.1 (read_counted any export_format export_at read_export) (λ exports bs.
-    bind_at (counted any import_format) (counted_at any import_at) _ _ bs (read_counted any import_format import_at read_import) (λ imports cs.
+    then_same (raw_at (key_length version) own_cells.1) _ _ (λ key.
+    bind_at (counted any export_format) (counted_at any export_at) _ _ key.1 (read_counted any export_format export_at read_export) (λ exports bs.
+    bind_at (counted any (import_format version)) (counted_at any (import_at version)) _ _ bs
+    (read_counted any (import_format version) (import_at version) (read_import version)) (λ imports cs.
     bind_at (counted (is_count exports) (procedure_format exports)) (counted_at (is_count exports) (procedure_at exports)) _ _ cs
-    (read_counted (is_count exports) (procedure_format exports) (procedure_at exports) (read_procedure exports)) (λ procedures ds. refl)))))))))
+    (read_counted (is_count exports) (procedure_format exports) (procedure_at exports) (read_procedure exports)) (λ procedures ds. refl))))))))))
 
 -- by any version
-read_with : (v bytes : List ℕ) → read (format_with v) bytes ≡ (exact_at magic bytes then λ front. (exact_at v front then fields_at))
+read_with : (version : ℕ) (bytes : List ℕ) → read (format_with version) bytes ≡ (exact_at magic bytes then λ front. (exact_at (u32 version) front then fields_at version))
 unfolding read ◌>>=◌ format_with
-read_with v bytes = then_same (exact_at magic bytes) _ _ (λ front. then_same (exact_at v front) _ _ read_fields)
+read_with version bytes = then_same (exact_at magic bytes) _ _ (λ front. then_same (exact_at (u32 version) front) _ _ (read_fields version))
 
 then_known : {A B : Type 0} (r : Result A Bad) (f g : A → Result B Bad) → ((x : A) → r ≡ Ok x → f x ≡ g x) → r then f ≡ r then g
 then_known (Ok x) f g h = h x refl
 then_known (Err e) f g h = refl
 
--- by the version with which the bytes are compared
+-- by the bytes' own version
 read_object : (bytes : List ℕ) → IsBytes bytes → read (format_near bytes) bytes ≡ object_at bytes
 unfolding object_at
 read_object bytes fits =
-    read_with (compared (drop 4 bytes)) bytes
-    ∙ then_known (exact_at magic bytes) _ _ (λ front is. ap (λ (v : List ℕ). exact_at (compared v) front then fields_at) (behind magic bytes front fits is))
+    read_with (version_near (drop 4 bytes)) bytes
+    ∙ then_known (exact_at magic bytes) _ _ (λ front is. ap (λ (f : List ℕ). exact_at (u32 (version_near f)) front then fields_at (version_near f)) (behind magic bytes front fits is))
 
 -- the object that all of the bytes are
 pub read_whole : (bytes : List ℕ) → IsBytes bytes → read_all (format_near bytes) bytes ≡ whole_at bytes

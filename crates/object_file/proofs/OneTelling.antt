@@ -1,6 +1,5 @@
 -- Bytes are one object at most, or have one first broken place.
-use Rattle.std.proofs.Common.{◌≡◌, ℕ, suc, ◌-◌, ◌^◌, ◌<◌, ◌≤◌, List, [], ◌∷◌, ◌++◌, length, drop, Bool, true, false, cond, eqb, Option, Some, None, Result, Ok, Err, refl, sym, ap, subst, ◌∙◌, append_assoc, arith, inl, inr}
-use Rattle.std.specs.Prelude.{◌&&◌, not, ◌⊎◌}
+use Rattle.std.proofs.Common.{◌≡◌, ℕ, suc, ◌-◌, ◌^◌, ◌<◌, ◌≤◌, List, [], ◌∷◌, ◌++◌, length, drop, Option, Some, None, Result, Ok, Err, refl, sym, ap, subst, ◌∙◌, append_assoc, arith, inl, inr}
 use Rattle.std.specs.List.{AllByRecursion, flat_map}
 use Rattle.std.proofs.lemmas.List.{append-nil, length-append}
 use Rattle.code_form.specs.declared.instr.Instr.{Instr}
@@ -9,9 +8,9 @@ use Rattle.code_form.specs.Bytes.{spelling, code_bytes, BeginsWith}
 use Rattle.code_form.specs.Modules.{Procedure, World}
 use Rattle.code_form.specs.Valid.{Fault, in_code, of_high, fault_among, AreInstrs, StopsAt, IsValidCode, IsFault, no_instr, of_instrs}
 use Rattle.code_form.proofs.Spellings.{one_instr, one_rest}
-use Rattle.object_file.specs.Contents.{Contents, procedure_bytes, object_bytes, head_bytes, world_of, u32, with_length, magic, version, next_version}
-use Rattle.object_file.specs.Formats.{Format, done, exact, number, text, ◌>>=◌, Bad, Spells, IsBroken, IsBad}
-use Rattle.object_file.specs.ObjectFormat.{object_format, format_with, compared, format_near}
+use Rattle.object_file.specs.Contents.{Contents, procedure_bytes, object_bytes, head_bytes, world_of, u32, with_length}
+use Rattle.object_file.specs.Formats.{Format, done, exact, number, text, raw, Bad, Spells, IsBroken, IsBad}
+use Rattle.object_file.specs.ObjectFormat.{version_near, format_near}
 use Rattle.object_file.specs.Validity.{IsObject, IsTold, of_fields, of_code, IsBadAt, HaveValidCode, HaveFault, bad_of}
 use Rattle.object_file.specs.declared.fault.Stop.{Stop}
 use Rattle.object_file.specs.declared.fault.Stop.TheVariants as stops
@@ -107,49 +106,6 @@ one_of_faults w k (p ∷ ps) bad bad' (inl h) (inr h') = absurd (no_fault w k p 
 one_of_faults w k (p ∷ ps) bad bad' (inr h) (inl h') = absurd (no_fault w k p h'.0 h.0 h'.1)
 one_of_faults w k (p ∷ ps) bad bad' (inr h) (inr h') = one_of_faults w (suc k) ps bad bad' h.1 h'.1
 
--- ---- the version that bytes are compared with
-
-abbrev Comparable : (xs : List ℕ) → List ℕ → Type 0
-Comparable xs v = (v ≡ version) ⊎ ((v ≡ next_version) × ((ys : List ℕ) → xs ≡ next_version ++ ys → ⊥))
-
--- the bytes begin as the next version, and leave it
-abbrev leaves : List ℕ → Bool
-leaves [] = false
-leaves (a ∷ []) = false
-leaves (a ∷ b ∷ []) = false
-leaves (a ∷ b ∷ c ∷ []) = false
-leaves (a ∷ b ∷ c ∷ d ∷ rest) = eqb a 2 && not (eqb b 0 && eqb c 0 && eqb d 0)
-
-compared_is : (xs : List ℕ) → Comparable xs (compared xs)
-unfolding compared
-compared_is [] = inl refl
-compared_is (a ∷ []) = inl refl
-compared_is (a ∷ b ∷ []) = inl refl
-compared_is (a ∷ b ∷ c ∷ []) = inl refl
-compared_is (a ∷ b ∷ c ∷ d ∷ rest) = chosen (leaves (a ∷ b ∷ c ∷ d ∷ rest)) refl where
-  no : false ≡ true → ⊥
-  no e = absurd cc
-
-  chosen : (t : Bool) → leaves (a ∷ b ∷ c ∷ d ∷ rest) ≡ t → Comparable (a ∷ b ∷ c ∷ d ∷ rest) (cond t next_version version)
-  chosen false e = inl refl
-  chosen true e = inr (refl, λ ys is. no (subst (λ (xs : List ℕ). leaves xs ≡ true) is e))
-
--- an object's bytes are compared with the version that is read
-near_is : (bytes : List ℕ) (o : Contents) (rest : List ℕ) → Spells object_format bytes o rest → format_near bytes ≡ object_format
-unfolding format_with ◌>>=◌ compared
-near_is bytes o rest s = ap (λ (b : List ℕ). format_with (compared (drop 4 b))) (s.1 ∙ ap (λ (m : List ℕ). magic ++ m) s.2.1)
-
-behind_front : (v bytes : List ℕ) (o : Contents) (rest : List ℕ) → Spells (format_with v) bytes o rest → (mid : List ℕ) × (drop 4 bytes ≡ v ++ mid)
-unfolding format_with ◌>>=◌
-behind_front v bytes o rest s = (s.2.0, ap (drop 4) s.1 ∙ s.2.1)
-
-near_spells : (bytes : List ℕ) (o : Contents) (rest : List ℕ) → Spells (format_near bytes) bytes o rest → Spells object_format bytes o rest
-near_spells bytes o rest s = chosen (compared_is (drop 4 bytes)) where
-  chosen : Comparable (drop 4 bytes) (compared (drop 4 bytes)) → Spells object_format bytes o rest
-  chosen (inl h) = subst (λ (v : List ℕ). Spells (format_with v) bytes o rest) h s
-  chosen (inr h) =
-      let b = behind_front next_version bytes o rest (subst (λ (v : List ℕ). Spells (format_with v) bytes o rest) h.0 s) in absurd (h.1 b.0 b.1)
-
 -- ---- the same of bytes
 
 ok_err : (r : Result Contents Bad) (o : Contents) (bad : Bad) → r ≡ Ok o → r ≡ Err bad → ⊥
@@ -161,13 +117,12 @@ err_err r bad bad' e d = cc
 ok_ok : (r : Result Contents Bad) (o o' : Contents) → r ≡ Ok o → r ≡ Ok o' → o ≡ o'
 ok_ok r o o' e d = cc
 
-pub one_contents : (bytes : List ℕ) (o o' : Contents) → Spells object_format bytes o [] → Spells object_format bytes o' [] → o ≡ o'
-one_contents bytes o o' s s' = ok_ok (read_all object_format bytes) o o' (all_read object_format bytes o s) (all_read object_format bytes o' s')
+pub one_contents : (bytes : List ℕ) (o o' : Contents) → Spells (format_near bytes) bytes o [] → Spells (format_near bytes) bytes o' [] → o ≡ o'
+one_contents bytes o o' s s' = ok_ok (read_all (format_near bytes) bytes) o o' (all_read (format_near bytes) bytes o s) (all_read (format_near bytes) bytes o' s')
 
-not_bad : (bytes : List ℕ) (o : Contents) (bad : Bad) → Spells object_format bytes o [] → IsBad (format_near bytes) bytes bad → ⊥
+not_bad : (bytes : List ℕ) (o : Contents) (bad : Bad) → Spells (format_near bytes) bytes o [] → IsBad (format_near bytes) bytes bad → ⊥
 not_bad bytes o bad s b =
-    let b' : IsBad object_format bytes bad = subst (λ (f : Format Contents). IsBad f bytes bad) (near_is bytes o [] s) b in
-    ok_err (read_all object_format bytes) o bad (all_read object_format bytes o s) (all_bad object_format bytes bad b')
+    ok_err (read_all (format_near bytes) bytes) o bad (all_read (format_near bytes) bytes o s) (all_bad (format_near bytes) bytes bad b)
 
 pub nothing_told : (bytes : List ℕ) (o : Contents) (bad : Bad) → IsObject bytes o → IsTold bytes bad → ⊥
 nothing_told bytes o bad h (of_fields b) = not_bad bytes o bad h.fields b
@@ -218,6 +173,9 @@ broken_left (text ok next) bytes bad (inr (inl h)) = let n = ap (λ (b : Bad). b
 broken_left (text ok next) bytes bad (inr (inr (inl h))) = let n = ap (λ (b : Bad). b.left) h.5 in omega (arith, n)
 broken_left (text ok next) bytes bad (inr (inr (inr h))) =
     let l = ap length h.3 in let r = broken_left (next h.0) h.1 bad h.5 in omega (arith, l, r, length-append (with_length h.0) h.1)
+broken_left (raw n next) bytes bad (inl h) = let n = ap (λ (b : Bad). b.left) h.1 in omega (arith, n)
+broken_left (raw n next) bytes bad (inr h) =
+    let l = ap length h.3 in let r = broken_left (next h.0) h.1 bad h.4 in omega (arith, l, r, length-append h.0 h.1)
 
 fault_left : (w : World) (k : ℕ) (ps : List Procedure) (bad : Bad) → HaveFault w k ps bad → bad.left ≤ length (flat_map procedure_bytes ps)
 fault_left w k [] bad h = absurd h
@@ -231,9 +189,9 @@ fault_left w k (p ∷ ps) bad (inr h) =
     let r = fault_left w (suc k) ps bad h.1 in omega (arith, r, length-append (procedure_bytes p) (flat_map procedure_bytes ps))
 
 -- the procedures are among the bytes
-pub procedures_within : (bytes : List ℕ) (o : Contents) → Spells object_format bytes o [] → length (flat_map procedure_bytes o.procedures) ≤ length bytes
+pub procedures_within : (bytes : List ℕ) (o : Contents) → Spells (format_near bytes) bytes o [] → length (flat_map procedure_bytes o.procedures) ≤ length bytes
 procedures_within bytes o s =
-    let e = ap length (written bytes o [] s).spelled in
+    let e = ap length (written (version_near (drop 4 bytes)) bytes o [] s).spelled in
     omega (arith, e, length-append (object_bytes o) [], length-append (head_bytes o) (flat_map procedure_bytes o.procedures))
 
 rest_within : {A : Type 0} (f : Format A) (bytes : List ℕ) (x : A) (rest : List ℕ) → Spells f bytes x rest → length rest ≤ length bytes
@@ -241,6 +199,7 @@ rest_within (done x) bytes y rest s = let e = ap length s.1 in omega (arith, e)
 rest_within (exact e next) bytes y rest s = let l = ap length s.1 in let r = rest_within next s.0 y rest s.2 in omega (arith, l, r, length-append e s.0)
 rest_within (number ok next) bytes y rest s = let l = ap length s.3 in let r = rest_within (next s.0) s.1 y rest s.5 in omega (arith, l, r, length-append (u32 s.0) s.1)
 rest_within (text ok next) bytes y rest s = let l = ap length s.3 in let r = rest_within (next s.0) s.1 y rest s.5 in omega (arith, l, r, length-append (with_length s.0) s.1)
+rest_within (raw n next) bytes y rest s = let l = ap length s.3 in let r = rest_within (next s.0) s.1 y rest s.4 in omega (arith, l, r, length-append s.0 s.1)
 
 pub told_left : (bytes : List ℕ) (bad : Bad) → IsTold bytes bad → bad.left ≤ length bytes
 told_left bytes bad (of_fields (inl h)) = broken_left (format_near bytes) bytes bad h
@@ -252,26 +211,26 @@ told_left bytes bad (of_code o s f) =
 
 -- ---- what the parts of reading tell of the bytes
 
-pub fields_are : (bytes : List ℕ) (o : Contents) → IsBytes bytes → whole_at bytes ≡ Ok o → Spells object_format bytes o []
-fields_are bytes o fits e = near_spells bytes o [] (subst (MeansAll (format_near bytes) bytes) (read_whole bytes fits ∙ e) (means_all (format_near bytes) bytes fits))
+pub fields_are : (bytes : List ℕ) (o : Contents) → IsBytes bytes → whole_at bytes ≡ Ok o → Spells (format_near bytes) bytes o []
+fields_are bytes o fits e = subst (MeansAll (format_near bytes) bytes) (read_whole bytes fits ∙ e) (means_all (format_near bytes) bytes fits)
 
 pub fields_told : {X : Type 0} (view : X → Contents) (bytes : List ℕ) (e : Stop) → IsBytes bytes → Fails e (whole_at bytes) → TellsBytes view bytes (Err e)
 fields_told view bytes stops.Memory fits h = tt
 fields_told view bytes (stops.Bad left code) fits h = of_fields (subst (MeansAll (format_near bytes) bytes) (read_whole bytes fits ∙ h) (means_all (format_near bytes) bytes fits))
 
-pub code_told : {X : Type 0} (view : X → Contents) (bytes : List ℕ) (o : Contents) (e : Stop) → Spells object_format bytes o [] → TellsAll (world_of o) 0 o.procedures (Err e) → TellsBytes view bytes (Err e)
+pub code_told : {X : Type 0} (view : X → Contents) (bytes : List ℕ) (o : Contents) (e : Stop) → Spells (format_near bytes) bytes o [] → TellsAll (world_of o) 0 o.procedures (Err e) → TellsBytes view bytes (Err e)
 code_told view bytes o stops.Memory s h = tt
 code_told view bytes o (stops.Bad left code) s h = of_code o s h
 
-pub outers : (bytes : List ℕ) (o : Contents) → Spells object_format bytes o [] → OutersBelow (world_of o)
-outers bytes o s = outers_below (world_of o) (written bytes o [] s).outers
+pub outers : (bytes : List ℕ) (o : Contents) → Spells (format_near bytes) bytes o [] → OutersBelow (world_of o)
+outers bytes o s = outers_below (world_of o) (written (version_near (drop 4 bytes)) bytes o [] s).outers
 
-pub few_procedures : (bytes : List ℕ) (o : Contents) → Spells object_format bytes o [] → length o.procedures < 2 ^ 32
-few_procedures bytes o s = (written bytes o [] s).short.procedures
+pub few_procedures : (bytes : List ℕ) (o : Contents) → Spells (format_near bytes) bytes o [] → length o.procedures < 2 ^ 32
+few_procedures bytes o s = (written (version_near (drop 4 bytes)) bytes o [] s).short.procedures
 
 -- what is read is valid
 pub read_valid : (bytes : List ℕ) (o : Contents) → IsObject bytes o → IsObject (object_bytes o) o
-read_valid bytes o h = subst (λ (b : List ℕ). IsObject b o) ((written bytes o [] h.fields).spelled ∙ append-nil (object_bytes o)) h
+read_valid bytes o h = subst (λ (b : List ℕ). IsObject b o) ((written (version_near (drop 4 bytes)) bytes o [] h.fields).spelled ∙ append-nil (object_bytes o)) h
 
 same_bad : (o o' c c' : ℕ) → o ≡ o' → c ≡ c' → ◌≡◌ {A = ObjectFault} (object_faults.BadObject o c) (object_faults.BadObject o' c')
 same_bad o o' c c' p q = rw (p, q) refl

@@ -3,7 +3,7 @@ use Rattle.std.specs.Prelude.{◌≡◌, ℕ, zero, suc, Bool, true, List, [], �
 use Rattle.std.specs.Int.{Width, w32, byte_len, from_le_bytes}
 use Rattle.object_file.specs.declared.fault.Stop.{Stop}
 use Rattle.object_file.specs.declared.fault.Stop.TheVariants as stops
-use Rattle.object_file.specs.Formats.{Format, done, exact, number, text, Bad, ended, not_valid}
+use Rattle.object_file.specs.Formats.{Format, done, exact, number, text, raw, Bad, ended, not_valid}
 
 infixl 10 ◌then◌
 abbrev pub ◌then◌ : {X Y : Type 0} → Result X Bad → (X → Result Y Bad) → Result Y Bad
@@ -16,8 +16,12 @@ wide_at w bytes = if nat_lt (length bytes) (byte_len w) then Err ended else Ok (
 abbrev pub number_at : List ℕ → Result (ℕ × List ℕ) Bad
 number_at = wide_at w32
 
+-- so many bytes
+abbrev pub raw_at : ℕ → List ℕ → Result (List ℕ × List ℕ) Bad
+raw_at n bytes = if nat_lt (length bytes) n then Err ended else Ok (take n bytes, drop n bytes)
+
 unfoldable pub text_at : List ℕ → Result (List ℕ × List ℕ) Bad
-text_at bytes = number_at bytes then λ n. (if nat_lt (length n.1) n.0 then Err ended else Ok (take n.0 n.1, drop n.0 n.1))
+text_at bytes = number_at bytes then λ n. raw_at n.0 n.1
 
 -- the bytes behind the expected ones, or the first that differs
 unfoldable pub match_at : List ℕ → List ℕ → Result (List ℕ) Bad
@@ -50,6 +54,7 @@ read (done x) bytes = Ok (x, bytes)
 read (exact e next) bytes = exact_at e bytes then λ rest. read next rest
 read (number ok next) bytes = number_at bytes then λ n. (valid_at (ok n.0) bytes then λ _. read (next n.0) n.1)
 read (text ok next) bytes = text_at bytes then λ t. (valid_at (ok t.0) bytes then λ _. read (next t.0) t.1)
+read (raw n next) bytes = raw_at n bytes then λ t. read (next t.0) t.1
 
 -- what a function returned, seen by view, is what reading gives, unless memory ran out
 abbrev pub Fails : {Y : Type 0} → Stop → Result Y Bad → Type 0

@@ -12,6 +12,8 @@ pub data Format (A : Type 0) : Type 0 where
   number : (ℕ → Bool) → (ℕ → Format A) → Format A
   -- a length and so many bytes, which pass the test
   text : (List ℕ → Bool) → (List ℕ → Format A) → Format A
+  -- so many bytes, whichever they are
+  raw : ℕ → (List ℕ → Format A) → Format A
 
 infixl 10 ◌>>=◌
 -- the fields of the one, then those that its value leads to
@@ -20,6 +22,7 @@ unfoldable pub ◌>>=◌ : {A B : Type 0} → Format A → (A → Format B) → 
 (exact e next) >>= f = exact e (next >>= f)
 (number ok next) >>= f = number ok (λ n. next n >>= f)
 (text ok next) >>= f = text ok (λ t. next t >>= f)
+(raw n next) >>= f = raw n (λ t. next t >>= f)
 
 -- n more entries; what is valid in one may depend on those before
 unfoldable pub many : {A : Type 0} → (List A → Format A) → ℕ → List A → Format (List A)
@@ -37,6 +40,10 @@ numbered ok = number ok done
 abbrev pub texted : (List ℕ → Bool) → Format (List ℕ)
 texted ok = text ok done
 
+-- so many bytes
+abbrev pub raw_bytes : ℕ → Format (List ℕ)
+raw_bytes n = raw n done
+
 -- the number of entries, which passes a test, and the entries
 abbrev pub counted : {A : Type 0} → (ℕ → Bool) → (List A → Format A) → Format (List A)
 counted ok one = number ok (λ n. many one n [])
@@ -49,6 +56,7 @@ Spells (done x) bytes y rest = (x ≡ y) × (bytes ≡ rest)
 Spells (exact e next) bytes y rest = (mid : List ℕ) × (bytes ≡ e ++ mid) × Spells next mid y rest
 Spells (number ok next) bytes y rest = (n : ℕ) × (mid : List ℕ) × (n < 2 ^ 32) × (bytes ≡ u32 n ++ mid) × (ok n ≡ true) × Spells (next n) mid y rest
 Spells (text ok next) bytes y rest = (t : List ℕ) × (mid : List ℕ) × (length t < 2 ^ 32) × (bytes ≡ with_length t ++ mid) × (ok t ≡ true) × Spells (next t) mid y rest
+Spells (raw n next) bytes y rest = (t : List ℕ) × (mid : List ℕ) × (length t ≡ n) × (bytes ≡ t ++ mid) × Spells (next t) mid y rest
 
 -- where something is wrong: how many bytes are left there, and the code that is told
 pub record Bad : Type 0 where
@@ -91,6 +99,9 @@ IsBroken (text ok next) bytes bad =
     ⊎ (((n : ℕ) × (mid : List ℕ) × (n < 2 ^ 32) × (bytes ≡ u32 n ++ mid) × (length mid < n) × (bad ≡ ended))
     ⊎ (((t : List ℕ) × (mid : List ℕ) × (length t < 2 ^ 32) × (bytes ≡ with_length t ++ mid) × (ok t ≡ false) × (bad ≡ not_valid bytes))
     ⊎ ((t : List ℕ) × (mid : List ℕ) × (length t < 2 ^ 32) × (bytes ≡ with_length t ++ mid) × (ok t ≡ true) × IsBroken (next t) mid bad)))
+IsBroken (raw n next) bytes bad =
+    ((length bytes < n) × (bad ≡ ended))
+    ⊎ ((t : List ℕ) × (mid : List ℕ) × (length t ≡ n) × (bytes ≡ t ++ mid) × IsBroken (next t) mid bad)
 
 -- Why the fields of all of the bytes are no valid value's: one is broken, or bytes follow (2).
 abbrev pub IsBad : {A : Type 0} → Format A → List ℕ → Bad → Type 0

@@ -15,3 +15,4 @@ pub mod Named
 pub mod Exported
 pub mod Links
 pub mod Programs
+pub mod FieldsOf

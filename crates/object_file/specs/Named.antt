@@ -6,12 +6,12 @@ use Rattle.std.specs.Global.{Vec}
 use Rattle.std.specs.Ordering.{nat_cmp}
 use Rattle.std.specs.BTreeMap.{is_at}
 use Rattle.std.specs.Str.{bytes_eq}
-use Rattle.code_form.specs.Modules.{Import}
+use Rattle.object_file.specs.Contents.{KeyedImport}
 
 -- the key is this name
 abbrev pub is_named : List ℕ → Vec ℕ → Bool
 is_named name key = is_at (λ k. slice_cmp nat_cmp name k.items) key
 
 -- the keys are the names of the imports
-abbrev pub AreNames : List (Vec ℕ) → List Import → Type 0
-AreNames keys imports = (name : List ℕ) → list_any (is_named name) keys ≡ list_any (λ i. bytes_eq name i.name) imports
+abbrev pub AreNames : List (Vec ℕ) → List KeyedImport → Type 0
+AreNames keys imports = (name : List ℕ) → list_any (is_named name) keys ≡ list_any (λ i. bytes_eq name i.definition.name) imports

@@ -4,9 +4,9 @@ use Rattle.std.specs.List.{list_all, list_any}
 use Rattle.std.specs.Str.{bytes_eq}
 use Rattle.m2_base.specs.Letters.{is_letter, goes_on}
 use Rattle.code_form.specs.Heights.{Callee}
-use Rattle.code_form.specs.Modules.{Import, Procedure}
-use Rattle.object_file.specs.Contents.{Export, Contents, magic, version, next_version}
-use Rattle.object_file.specs.Formats.{Format, done, bytes_of, numbered, texted, counted, ◌>>=◌}
+use Rattle.code_form.specs.Modules.{Procedure}
+use Rattle.object_file.specs.Contents.{Export, KeyedImport, Contents, u32, magic}
+use Rattle.object_file.specs.Formats.{Format, done, bytes_of, numbered, texted, raw_bytes, counted, ◌>>=◌}
 
 -- ---- what is valid
 
@@ -27,8 +27,8 @@ is_identifier [] = false
 is_identifier (b ∷ bytes) = is_letter b && list_all goes_on bytes
 
 -- an import's name: an identifier that no import before has
-unfoldable pub is_new_name : List Import → List ℕ → Bool
-is_new_name before name = is_identifier name && not (list_any (λ i. bytes_eq name i.name) before)
+unfoldable pub is_new_name : List KeyedImport → List ℕ → Bool
+is_new_name before name = is_identifier name && not (list_any (λ i. bytes_eq name i.definition.name) before)
 
 -- an export isn't the body
 abbrev pub is_export : ℕ → Bool
@@ -60,6 +60,10 @@ is_locals params locals = nat_le params locals && nat_le locals 16777215
 
 -- ---- the fields
 
+-- how many bytes a key has: from version 2 on those of a digest, before that there are none
+unfoldable pub key_length : (version : ℕ) → ℕ
+key_length version = if version == 2 then 32 else 0
+
 unfoldable pub export_format : List Export → Format Export
 export_format before = do
   k ← numbered is_export
@@ -73,12 +77,13 @@ heading_format before = do
   result ← numbered any
   done (record { params = params; result = result })
 
-unfoldable pub import_format : List Import → Format Import
-import_format before = do
+unfoldable pub import_format : (version : ℕ) → List KeyedImport → Format KeyedImport
+import_format version before = do
   name ← texted (is_new_name before)
+  key ← raw_bytes (key_length version)
   cells ← numbered any
   headings ← counted any heading_format
-  done (record { name = name; cells = cells; headings = headings })
+  done (record { key = key; definition = record { name = name; cells = cells; headings = headings } })
 
 -- the procedure behind these
 unfoldable pub procedure_format : List Export → List Procedure → Format Procedure
@@ -93,33 +98,30 @@ procedure_format exports before = do
   done (record { outer = outer; params = params; result = result; locals = locals; high = high; bytes = bytes; code = code })
 
 -- the fields behind the version
-unfoldable pub fields_format : Format Contents
-fields_format = do
+unfoldable pub fields_format : (version : ℕ) → Format Contents
+fields_format version = do
   name ← texted is_identifier
   cells ← numbered is_cells
   own_cells ← numbered (is_own_cells cells)
+  key ← raw_bytes (key_length version)
   exports ← counted any export_format
-  imports ← counted any import_format
+  imports ← counted any (import_format version)
   procedures ← counted (is_count exports) (procedure_format exports)
-  done (record { name = name; cells = cells; own_cells = own_cells; exports = exports; imports = imports; procedures = procedures })
+  done (record { version = version; name = name; key = key; cells = cells; own_cells = own_cells; exports = exports; imports = imports; procedures = procedures })
 
--- the whole object, with these bytes for its version
-unfoldable pub format_with : List ℕ → Format Contents
-format_with v = do
+-- the whole object, of this version
+unfoldable pub format_with : (version : ℕ) → Format Contents
+format_with version = do
   _ ← bytes_of magic
-  _ ← bytes_of v
-  fields_format
+  _ ← bytes_of (u32 version)
+  fields_format version
 
-abbrev pub object_format : Format Contents
-object_format = format_with version
+-- There are versions 1 and 2. Bytes whose version begins as the second are held against it, all others against the
+-- first; so the first wrong byte is the first that neither version has there.
+unfoldable pub version_near : List ℕ → ℕ
+version_near [] = 1
+version_near (b ∷ rest) = if b == 2 then 2 else 1
 
--- The version with which the bytes behind the first four are compared, where they are none. Two versions are laid down,
--- the first of which is read. Bytes that begin as the second and leave it further on are wrong where they leave it; the
--- second itself is wrong from its first byte on.
-unfoldable pub compared : List ℕ → List ℕ
-compared (a ∷ b ∷ c ∷ d ∷ rest) = if a == 2 && not (b == 0 && c == 0 && d == 0) then next_version else version
-compared bytes = version
-
--- the format with which bytes are compared
+-- the format of the bytes' own version
 abbrev pub format_near : List ℕ → Format Contents
-format_near bytes = format_with (compared (drop 4 bytes))
+format_near bytes = format_with (version_near (drop 4 bytes))

@@ -3,7 +3,7 @@ use Rattle.std.specs.Prelude.{◌≡◌, ◌≢◌, ◌<◌, ◌-◌, ◌^◌, �
 use Rattle.std.specs.List.{AllByRecursion}
 use Rattle.code_form.specs.Heights.{Callee}
 use Rattle.code_form.specs.Modules.{Import}
-use Rattle.object_file.specs.Contents.{Export, Contents}
+use Rattle.object_file.specs.Contents.{Export, Contents, definitions_of}
 use Rattle.object_file.specs.Validity.{IsValid}
 
 abbrev heading : (params result : ℕ) → Callee
@@ -26,7 +26,7 @@ pub data IsApart (i : Import) : Type 0 where
 
 -- an object that needs no other
 abbrev pub IsAlone : Contents → Type 0
-IsAlone o = AllByRecursion IsApart o.imports
+IsAlone o = AllByRecursion IsApart (definitions_of o)
 
 -- the headings that an object gives to others
 abbrev pub given_headings : List Export → List Callee
@@ -47,4 +47,4 @@ pub record IsProgram (os : List Contents) : Type 0 where
   pub few : length os < 2 ^ 32 - 1
   pub valid : AllByRecursion IsValid os
   pub names_differ : AllDiffer (map (λ o. o.name) os)
-  pub met : AllByRecursion (λ o. AllByRecursion (IsMet os) o.imports) os
+  pub met : AllByRecursion (λ o. AllByRecursion (IsMet os) (definitions_of o)) os

@@ -1,11 +1,11 @@
 -- Reading the fields of an object from left to right.
 use Rattle.std.specs.Prelude.{ℕ, List, length, Result, Ok}
 use Rattle.code_form.specs.Heights.{Callee}
-use Rattle.code_form.specs.Modules.{Import, Procedure}
-use Rattle.object_file.specs.Contents.{Export, Contents, magic}
+use Rattle.code_form.specs.Modules.{Procedure}
+use Rattle.object_file.specs.Contents.{Export, KeyedImport, Contents, u32, magic}
 use Rattle.object_file.specs.Formats.{Bad}
-use Rattle.object_file.specs.Fields.{number_at, text_at, exact_at, valid_at, counted_at, ends_at, ◌then◌ as ◌>>=◌}
-use Rattle.object_file.specs.ObjectFormat.{any, compared, is_cells, is_own_cells, is_identifier, is_new_name, is_export, is_count, is_outer, is_params, is_result, is_locals}
+use Rattle.object_file.specs.Fields.{number_at, text_at, raw_at, exact_at, valid_at, counted_at, ends_at, ◌then◌ as ◌>>=◌}
+use Rattle.object_file.specs.ObjectFormat.{any, version_near, key_length, is_cells, is_own_cells, is_identifier, is_new_name, is_export, is_count, is_outer, is_params, is_result, is_locals}
 
 unfoldable pub export_at : List Export → List ℕ → Result (Export × List ℕ) Bad
 export_at before bytes = do
@@ -21,13 +21,14 @@ heading_at before bytes = do
   result ← number_at params.1
   Ok (record { params = params.0; result = result.0 }, result.1)
 
-unfoldable pub import_at : List Import → List ℕ → Result (Import × List ℕ) Bad
-import_at before bytes = do
+unfoldable pub import_at : (version : ℕ) → List KeyedImport → List ℕ → Result (KeyedImport × List ℕ) Bad
+import_at version before bytes = do
   name ← text_at bytes
   _ ← valid_at (is_new_name before name.0) bytes
-  cells ← number_at name.1
+  key ← raw_at (key_length version) name.1
+  cells ← number_at key.1
   headings ← counted_at any heading_at cells.1
-  Ok (record { name = name.0; cells = cells.0; headings = headings.0 }, headings.1)
+  Ok (record { key = key.0; definition = record { name = name.0; cells = cells.0; headings = headings.0 } }, headings.1)
 
 unfoldable pub procedure_at : List Export → List Procedure → List ℕ → Result (Procedure × List ℕ) Bad
 procedure_at exports before bytes = do
@@ -45,24 +46,25 @@ procedure_at exports before bytes = do
   Ok (record { outer = outer.0; params = params.0; result = result.0; locals = locals.0; high = high.0; bytes = strings.0; code = code.0 }, code.1)
 
 -- the fields behind the version
-unfoldable pub fields_at : List ℕ → Result (Contents × List ℕ) Bad
-fields_at bytes = do
+unfoldable pub fields_at : (version : ℕ) → List ℕ → Result (Contents × List ℕ) Bad
+fields_at version bytes = do
   name ← text_at bytes
   _ ← valid_at (is_identifier name.0) bytes
   cells ← number_at name.1
   _ ← valid_at (is_cells cells.0) name.1
   own_cells ← number_at cells.1
   _ ← valid_at (is_own_cells cells.0 own_cells.0) cells.1
-  exports ← counted_at any export_at own_cells.1
-  imports ← counted_at any import_at exports.1
+  key ← raw_at (key_length version) own_cells.1
+  exports ← counted_at any export_at key.1
+  imports ← counted_at any (import_at version) exports.1
   procedures ← counted_at (is_count exports.0) (procedure_at exports.0) imports.1
-  Ok (record { name = name.0; cells = cells.0; own_cells = own_cells.0; exports = exports.0; imports = imports.0; procedures = procedures.0 }, procedures.1)
+  Ok (record { version = version; name = name.0; key = key.0; cells = cells.0; own_cells = own_cells.0; exports = exports.0; imports = imports.0; procedures = procedures.0 }, procedures.1)
 
 unfoldable pub object_at : List ℕ → Result (Contents × List ℕ) Bad
 object_at bytes = do
   front ← exact_at magic bytes
-  start ← exact_at (compared front) front
-  fields_at start
+  start ← exact_at (u32 (version_near front)) front
+  fields_at (version_near front) start
 
 -- the object that all of the bytes are
 unfoldable pub whole_at : List ℕ → Result Contents Bad

@@ -1,12 +1,12 @@
 -- What is short enough for its lengths to be written. A valid object is.
 use Rattle.std.specs.Prelude.{◌<◌, ◌^◌, length}
 use Rattle.std.specs.List.{AllByRecursion}
-use Rattle.code_form.specs.Modules.{Import, Procedure}
-use Rattle.object_file.specs.Contents.{Contents}
+use Rattle.code_form.specs.Modules.{Procedure}
+use Rattle.object_file.specs.Contents.{KeyedImport, Contents}
 
-pub record ShortImport (i : Import) : Type 0 where
-  pub name : length i.name < 2 ^ 32
-  pub headings : length i.headings < 2 ^ 32
+pub record ShortImport (i : KeyedImport) : Type 0 where
+  pub name : length i.definition.name < 2 ^ 32
+  pub headings : length i.definition.headings < 2 ^ 32
 
 pub record ShortProcedure (p : Procedure) : Type 0 where
   pub bytes : length p.bytes < 2 ^ 32

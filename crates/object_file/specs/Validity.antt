@@ -4,7 +4,7 @@ use Rattle.code_form.specs.Modules.{Procedure, World}
 use Rattle.code_form.specs.Valid.{Fault, in_code, of_high, IsValidCode, IsFault}
 use Rattle.object_file.specs.Contents.{Contents, body_bytes, procedure_bytes, object_bytes, world_of}
 use Rattle.object_file.specs.Formats.{Bad, Spells, IsBad}
-use Rattle.object_file.specs.ObjectFormat.{object_format, format_near}
+use Rattle.object_file.specs.ObjectFormat.{format_near}
 
 -- each procedure has valid code; the first of these has number k
 abbrev pub HaveValidCode : World → ℕ → List Procedure → Type 0
@@ -25,7 +25,7 @@ HaveFault w k (p ∷ ps) bad =
 
 -- the bytes are this object: they are its fields, each valid, and the code of its procedures is
 pub record IsObject (bytes : List ℕ) (o : Contents) : Type 0 where
-  pub fields : Spells object_format bytes o []
+  pub fields : Spells (format_near bytes) bytes o []
   pub code : HaveValidCode (world_of o) 0 o.procedures
 
 -- a valid object: what its own bytes say
@@ -36,7 +36,7 @@ IsValid o = IsObject (object_bytes o) o
 -- of the code, procedure by procedure.
 pub data IsTold (bytes : List ℕ) (bad : Bad) : Type 0 where
   of_fields : IsBad (format_near bytes) bytes bad → IsTold bytes bad
-  of_code : (o : Contents) → Spells object_format bytes o [] → HaveFault (world_of o) 0 o.procedures bad → IsTold bytes bad
+  of_code : (o : Contents) → Spells (format_near bytes) bytes o [] → HaveFault (world_of o) 0 o.procedures bad → IsTold bytes bad
 
 -- the same by the place from the front
 pub record IsBadAt (bytes : List ℕ) (offset code : ℕ) : Type 0 where

@@ -1,6 +1,6 @@
 //! Single fields.
 ghost use Rattle.std.specs.Prelude.{◌≡◌};
-ghost use Rattle.object_file.specs.Fields.{Gives, number_at, text_at, exact_at, match_at, valid_at, ends_at};
+ghost use Rattle.object_file.specs.Fields.{Gives, number_at, text_at, raw_at, exact_at, match_at, valid_at, ends_at};
 
 use crate::fault::Stop;
 use std::alloc::Global;
@@ -17,18 +17,25 @@ pub(crate) fn number(bytes: &mut &[u8]) -> Result<u32, Stop>
     Ok(u32::from_le_bytes([front[0], front[1], front[2], front[3]]))
 }
 
+/// So many bytes, whichever they are.
+pub(crate) fn raw(alloc: Global, len: usize, bytes: &mut &[u8]) -> Result<Vec<u8>, Stop>
+    ensures { Gives (λ x. (x.items, bytes.new.now)) result (raw_at len bytes.old.now) }
+{
+    if bytes.len() < len {
+        return Err(Stop::Bad(0, 1));
+    }
+    let (front, rest) = bytes.split_at(len);
+    *bytes = rest;
+    Ok(Vec::from_slice(alloc, front)?)
+}
+
 /// A length and so many bytes.
 #[tactic(auto, unfolding(crate::specs::Fields::text_at))]
 pub(crate) fn text(alloc: Global, bytes: &mut &[u8]) -> Result<Vec<u8>, Stop>
     ensures { Gives (λ x. (x.items, bytes.new.now)) result (text_at bytes.old.now) }
 {
     let len = number(bytes)? as usize;
-    if bytes.len() < len {
-        return Err(Stop::Bad(0, 1));
-    }
-    let (text, rest) = bytes.split_at(len);
-    *bytes = rest;
-    Ok(Vec::from_slice(alloc, text)?)
+    raw(alloc, len, bytes)
 }
 
 /// The expected bytes.

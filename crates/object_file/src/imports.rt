@@ -2,7 +2,7 @@
 ghost use Rattle.std.specs.Prelude.{◌≡◌, [], ◌∷◌, ◌++◌, map, IfOk};
 ghost use Rattle.std.specs.List.{list_any};
 ghost use Rattle.std.specs.Str.{bytes_eq};
-ghost use Rattle.object_file.specs.Views.{import_of};
+ghost use Rattle.object_file.specs.Views.{keyed_of};
 
 use crate::parts::ImportNote;
 use std::alloc::{AllocError, Global};
@@ -18,15 +18,15 @@ pub(crate) struct Imports {
 
 impl Model for Imports {
     ghost use Rattle.std.specs.Prelude.{List, map};
-    ghost use Rattle.code_form.specs.Modules.{Import};
+    ghost use Rattle.object_file.specs.Contents.{KeyedImport};
     ghost use Rattle.object_file.specs.Named.{AreNames};
-    ghost use Rattle.object_file.specs.Views.{import_of};
+    ghost use Rattle.object_file.specs.Views.{keyed_of};
 
-    ghost Value = { List Import };
+    ghost Value = { List KeyedImport };
 
-    ghost view = { λ n. map import_of n.notes.items };
+    ghost view = { λ n. map keyed_of n.notes.items };
 
-    ghost invariant = { λ n. AreNames n.names.keys (map import_of n.notes.items) };
+    ghost invariant = { λ n. AreNames n.names.keys (map keyed_of n.notes.items) };
 }
 
 impl Imports {
@@ -41,14 +41,14 @@ impl Imports {
 
     /// One of them has this name.
     pub(crate) fn has(&self, name: &[u8]) -> bool
-        ensures { result ≡ list_any (λ i. bytes_eq name.now i.name) self.now }
+        ensures { result ≡ list_any (λ i. bytes_eq name.now i.definition.name) self.now }
     {
         self.names.contains(name)
     }
 
     /// These, and one more.
     pub(crate) fn with(self, alloc: Global, note: ImportNote) -> Result<Imports, AllocError>
-        ensures { IfOk result (λ imports. imports ≡ self ++ import_of note ∷ []) }
+        ensures { IfOk result (λ imports. imports ≡ self ++ keyed_of note ∷ []) }
     {
         let Imports {
             mut notes,
@@ -61,7 +61,7 @@ impl Imports {
     }
 
     pub(crate) fn into_notes(self) -> Vec<ImportNote>
-        ensures { map import_of result.items ≡ self }
+        ensures { map keyed_of result.items ≡ self }
     {
         self.notes
     }

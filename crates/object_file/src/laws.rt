@@ -1,7 +1,8 @@
 //! Laws on the definitions, each the contract of a function that does nothing.
 ghost use Rattle.std.specs.Prelude.{◌≡◌, ℕ, List};
-ghost use Rattle.object_file.specs.Contents.{Contents};
-ghost use Rattle.object_file.specs.Validity.{IsObject, IsBadAt};
+ghost use Rattle.object_file.specs.Contents.{Contents, world_of};
+ghost use Rattle.object_file.specs.FieldsOf.{HasFields};
+ghost use Rattle.object_file.specs.Validity.{HaveValidCode, IsObject, IsBadAt, IsValid};
 
 /// Bytes are one object at most, and then nothing is wrong with them.
 pub fn one_object()
@@ -13,4 +14,9 @@ pub fn one_object()
 pub fn one_fault()
     ensures place { (bytes : List ℕ) (offset code offset' code' : ℕ) → IsBadAt bytes offset code → IsBadAt bytes offset' code' → offset ≡ offset' }
     ensures code { (bytes : List ℕ) (offset code offset' code' : ℕ) → IsBadAt bytes offset code → IsBadAt bytes offset' code' → code ≡ code' }
+{}
+
+/// What has the fields that are asked, and valid code, is a valid object.
+pub fn parts_are_valid()
+    ensures { (o : Contents) → HasFields o → HaveValidCode (world_of o) 0 o.procedures → IsValid o }
 {}

@@ -32,7 +32,7 @@ mod wanted;
 mod writing;
 
 pub use fault::{ObjectFault, ProgramFault};
-pub use laws::{one_fault, one_object};
+pub use laws::{one_fault, one_object, parts_are_valid};
 pub use object::{Object, read_object, write_object};
 pub use parts::{ImportNote, Parts};
 pub use program::Program;

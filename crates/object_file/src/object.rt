@@ -1,9 +1,9 @@
 //! Objects.
 ghost use Rattle.std.specs.Prelude.{◌≡◌, ◌⊎◌, ℕ, map, IfOk, IfErr, MatchResult};
-ghost use Rattle.object_file.specs.Contents.{Contents, object_bytes};
+ghost use Rattle.object_file.specs.Contents.{Contents, definitions_of, object_bytes};
 ghost use Rattle.object_file.specs.Telling.{TellsBytes, IsFaultOf};
 ghost use Rattle.object_file.specs.Validity.{IsObject, IsBadAt, IsValid};
-ghost use Rattle.object_file.specs.Views.{import_of, procedure_of, contents_of};
+ghost use Rattle.object_file.specs.Views.{import_of, keyed_of, procedure_of, contents_of};
 
 use crate::fault::{ObjectFault, Stop};
 use crate::parts::{ImportNote, Parts};
@@ -40,7 +40,7 @@ impl fmt::Debug for Object {
 }
 
 impl Object {
-    /// The object with these parts.
+    /// The object with these parts, of the version that they name.
     pub fn build(parts: Parts) -> Object
         requires { IsValid (contents_of parts) }
         ensures { result ≡ contents_of parts }
@@ -65,9 +65,17 @@ impl Object {
 
     /// The version of its format.
     pub fn version(&self) -> u32
-        ensures { result ≡ 1 }
+        ensures { result ≡ self.now.version }
     {
-        1
+        self.parts.version
+    }
+
+    /// The key of its own definition, by which other objects say which definition they were compiled with: 32 bytes,
+    /// zeros where it has none; in version 1 it is empty.
+    pub fn key(&self) -> &[u8]
+        ensures { result.now ≡ self.now.key }
+    {
+        &self.parts.key
     }
 
     /// The cells of the module's variables.
@@ -92,7 +100,8 @@ impl Object {
     }
 
     pub fn imports(&self) -> &[ImportNote]
-        ensures { map import_of result.now ≡ self.now.imports }
+        ensures imports { map keyed_of result.now ≡ self.now.imports }
+        ensures definitions { map import_of result.now ≡ definitions_of self.now }
     {
         &self.parts.imports
     }
@@ -136,7 +145,7 @@ pub fn read_object(alloc: Global, bytes: &[u8]) -> Result<Object, ObjectFault>
     }
 }
 
-/// The bytes of an object.
+/// The bytes of an object, in its own version.
 pub fn write_object(alloc: Global, object: &Object) -> Result<Vec<u8>, Memory>
     ensures bytes { IfOk result (λ bytes. bytes.items ≡ object_bytes object.now) }
     // They are read as this object again.

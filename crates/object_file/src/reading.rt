@@ -1,16 +1,16 @@
 //! The fields of an object, from left to right.
 ghost use Rattle.std.specs.Prelude.{◌≡◌, ◌<◌, ◌^◌, [], map, length};
 ghost use Rattle.object_file.specs.Fields.{Gives, many_at, counted_at};
-ghost use Rattle.object_file.specs.ObjectFormat.{any, compared as spec_compared, is_count as spec_count};
-ghost use Rattle.object_file.specs.Reading.{export_at, heading_at, import_at, procedure_at, object_at, whole_at};
-ghost use Rattle.object_file.specs.Views.{heading_of, import_of, procedure_of, contents_of};
+ghost use Rattle.object_file.specs.ObjectFormat.{any, version_near as spec_near, key_length as spec_key_length, is_count as spec_count};
+ghost use Rattle.object_file.specs.Reading.{export_at, heading_at, import_at, procedure_at, fields_at, object_at, whole_at};
+ghost use Rattle.object_file.specs.Views.{heading_of, keyed_of, procedure_of, contents_of};
 
 use crate::conditions::{
     is_count, is_identifier, is_locals, is_new_name, is_outer, is_params, is_result,
 };
 use crate::exports::Exports;
 use crate::fault::Stop;
-use crate::fields::{ends, exact, number, text, valid};
+use crate::fields::{ends, exact, number, raw, text, valid};
 use crate::imports::Imports;
 use crate::parts::{ImportNote, Parts};
 use m2_base::ProcCode;
@@ -75,40 +75,60 @@ fn headings(alloc: Global, bytes: &mut &[u8]) -> Result<Vec<(u32, u32)>, Stop>
     headings_of(alloc, count, bytes)
 }
 
+/// How many bytes a key has in this version.
+#[tactic(auto, unfolding(crate::specs::ObjectFormat::key_length))]
+fn key_length(version: u32) -> usize
+    ensures { result ≡ spec_key_length version }
+{
+    if version == 2 { 32 } else { 0 }
+}
+
 /// An import behind these.
 #[tactic(auto, unfolding(crate::specs::Reading::import_at))]
-fn import(alloc: Global, before: &Imports, bytes: &mut &[u8]) -> Result<ImportNote, Stop>
-    ensures { Gives (λ x. (import_of x, bytes.new.now)) result (import_at before.now bytes.old.now) }
+fn import(
+    alloc: Global,
+    version: u32,
+    before: &Imports,
+    bytes: &mut &[u8],
+) -> Result<ImportNote, Stop>
+    ensures { Gives (λ x. (keyed_of x, bytes.new.now)) result (import_at version before.now bytes.old.now) }
 {
     let at = *bytes;
     let name = text(alloc, bytes)?;
     valid(is_new_name(before, &name), at)?;
+    let key = raw(alloc, key_length(version), bytes)?;
     let cells = number(bytes)?;
     let headings = headings(alloc, bytes)?;
     Ok(ImportNote {
         name,
+        key,
         cells,
         headings,
     })
 }
 
-fn imports_of(alloc: Global, count: u32, bytes: &mut &[u8]) -> Result<Vec<ImportNote>, Stop>
-    ensures { Gives (λ x. (map import_of x.items, bytes.new.now)) result (many_at import_at count [] bytes.old.now) }
+fn imports_of(
+    alloc: Global,
+    version: u32,
+    count: u32,
+    bytes: &mut &[u8],
+) -> Result<Vec<ImportNote>, Stop>
+    ensures { Gives (λ x. (map keyed_of x.items, bytes.new.now)) result (many_at (import_at version) count [] bytes.old.now) }
 {
     let mut imports = Imports::new(alloc);
     for _ in 0..count {
-        let one = import(alloc, &imports, bytes)?;
+        let one = import(alloc, version, &imports, bytes)?;
         imports = imports.with(alloc, one)?;
     }
     Ok(imports.into_notes())
 }
 
 #[tactic(auto, unfolding(crate::specs::Fields::counted_at))]
-fn imports(alloc: Global, bytes: &mut &[u8]) -> Result<Vec<ImportNote>, Stop>
-    ensures { Gives (λ x. (map import_of x.items, bytes.new.now)) result (counted_at any import_at bytes.old.now) }
+fn imports(alloc: Global, version: u32, bytes: &mut &[u8]) -> Result<Vec<ImportNote>, Stop>
+    ensures { Gives (λ x. (map keyed_of x.items, bytes.new.now)) result (counted_at any (import_at version) bytes.old.now) }
 {
     let count = number(bytes)?;
-    imports_of(alloc, count, bytes)
+    imports_of(alloc, version, count, bytes)
 }
 
 /// A procedure behind these.
@@ -175,24 +195,11 @@ fn procedures(alloc: Global, exports: &Exports, bytes: &mut &[u8]) -> Result<Vec
     procedures_of(alloc, exports, count, bytes)
 }
 
-/// The version with which the bytes behind the first four are compared.
-#[tactic(auto, unfolding(crate::specs::ObjectFormat::compared))]
-fn compared(bytes: &[u8]) -> [u8; 4]
-    ensures { result ≡ spec_compared bytes.now }
+/// The fields behind the version, and what follows them.
+#[tactic(auto, unfolding(crate::specs::Reading::fields_at))]
+fn parts(alloc: Global, version: u32, bytes: &mut &[u8]) -> Result<Parts, Stop>
+    ensures { Gives (λ x. (contents_of x, bytes.new.now)) result (fields_at version bytes.old.now) }
 {
-    match bytes {
-        [a, b, c, d, ..] if *a == 2 && !(*b == 0 && *c == 0 && *d == 0) => [2, 0, 0, 0],
-        _ => [1, 0, 0, 0],
-    }
-}
-
-/// The fields of an object, and what follows them.
-#[tactic(auto, unfolding(crate::specs::Reading::object_at, crate::specs::Reading::fields_at))]
-fn object(alloc: Global, bytes: &mut &[u8]) -> Result<Parts, Stop>
-    ensures { Gives (λ x. (contents_of x, bytes.new.now)) result (object_at bytes.old.now) }
-{
-    exact(b"M2OB", bytes)?;
-    exact(&compared(bytes), bytes)?;
     let at = *bytes;
     let name = text(alloc, bytes)?;
     valid(is_identifier(&name), at)?;
@@ -202,11 +209,14 @@ fn object(alloc: Global, bytes: &mut &[u8]) -> Result<Parts, Stop>
     let at = *bytes;
     let own_cells = number(bytes)?;
     valid(own_cells <= cells, at)?;
+    let key = raw(alloc, key_length(version), bytes)?;
     let exports = exports(alloc, bytes)?;
-    let imports = imports(alloc, bytes)?;
+    let imports = imports(alloc, version, bytes)?;
     let procedures = procedures(alloc, &exports, bytes)?;
     let parts = Parts {
+        version,
         name,
+        key,
         cells,
         own_cells,
         exports: exports.into_vec(),
@@ -214,6 +224,28 @@ fn object(alloc: Global, bytes: &mut &[u8]) -> Result<Parts, Stop>
         procedures,
     };
     Ok(parts)
+}
+
+/// The version that the bytes behind the first four are held against.
+#[tactic(auto, unfolding(crate::specs::ObjectFormat::version_near))]
+fn version_near(bytes: &[u8]) -> u32
+    ensures { result ≡ spec_near bytes.now }
+{
+    match bytes {
+        [] => 1,
+        [first, ..] => { if *first == 2 { 2 } else { 1 } }
+    }
+}
+
+/// The fields of an object, and what follows them.
+#[tactic(auto, unfolding(crate::specs::Reading::object_at))]
+fn object(alloc: Global, bytes: &mut &[u8]) -> Result<Parts, Stop>
+    ensures { Gives (λ x. (contents_of x, bytes.new.now)) result (object_at bytes.old.now) }
+{
+    exact(b"M2OB", bytes)?;
+    let version = version_near(bytes);
+    exact(&version.to_le_bytes(), bytes)?;
+    parts(alloc, version, bytes)
 }
 
 /// The fields of an object that is all of the bytes.

@@ -1,9 +1,9 @@
 //! From objects to bytes.
 ghost use Rattle.std.specs.Prelude.{◌≡◌, ◌<◌, ◌^◌, ◌++◌, length, map, flat_map, IfOk, OnOk};
 ghost use Rattle.std.specs.List.{AllByRecursion};
-ghost use Rattle.object_file.specs.Contents.{u32 as u32_bytes, with_length, magic, version, export_bytes, heading_bytes, import_bytes, procedure_bytes, frame_bytes, body_bytes, opening_bytes, lists_bytes, object_bytes};
+ghost use Rattle.object_file.specs.Contents.{u32 as u32_bytes, with_length, magic, export_bytes, heading_bytes, import_bytes, procedure_bytes, frame_bytes, body_bytes, opening_bytes, lists_bytes, object_bytes};
 ghost use Rattle.object_file.specs.Short.{Short, ShortImport, ShortProcedure};
-ghost use Rattle.object_file.specs.Views.{heading_of, import_of, procedure_of, contents_of};
+ghost use Rattle.object_file.specs.Views.{heading_of, keyed_of, procedure_of, contents_of};
 
 use crate::parts::{ImportNote, Parts};
 use m2_base::ProcCode;
@@ -61,18 +61,19 @@ fn headings(out: &mut Vec<u8>, all: &[(u32, u32)]) -> Result<(), AllocError>
 
 #[tactic(auto, unfolding(crate::specs::Contents::import_bytes))]
 fn import(out: &mut Vec<u8>, import: &ImportNote) -> Result<(), AllocError>
-    requires { ShortImport (import_of import.now) }
-    ensures { OnOk result (out.new.items ≡ out.old.items ++ import_bytes (import_of import.now)) }
+    requires { ShortImport (keyed_of import.now) }
+    ensures { OnOk result (out.new.items ≡ out.old.items ++ import_bytes (keyed_of import.now)) }
 {
     text(out, &import.name)?;
+    key(out, &import.key)?;
     number(out, import.cells)?;
     number(out, import.headings.len() as u32)?;
     headings(out, &import.headings)
 }
 
 fn imports(out: &mut Vec<u8>, all: &[ImportNote]) -> Result<(), AllocError>
-    requires { AllByRecursion ShortImport (map import_of all.now) }
-    ensures { OnOk result (out.new.items ≡ out.old.items ++ flat_map import_bytes (map import_of all.now)) }
+    requires { AllByRecursion ShortImport (map keyed_of all.now) }
+    ensures { OnOk result (out.new.items ≡ out.old.items ++ flat_map import_bytes (map keyed_of all.now)) }
 {
     for one in all {
         import(out, one)?;
@@ -118,11 +119,19 @@ fn procedures(out: &mut Vec<u8>, all: &[ProcCode]) -> Result<(), AllocError>
     Ok(())
 }
 
-/// What each object begins with.
-fn start(out: &mut Vec<u8>) -> Result<(), AllocError>
-    ensures { OnOk result (out.new.items ≡ out.old.items ++ (magic ++ version)) }
+/// A key, whose length isn't told.
+fn key(out: &mut Vec<u8>, key: &[u8]) -> Result<(), AllocError>
+    ensures { OnOk result (out.new.items ≡ out.old.items ++ key.now) }
 {
-    out.extend_from_slice(b"M2OB\x01\x00\x00\x00")
+    out.extend_from_slice(key)
+}
+
+/// What each object begins with, and its version.
+fn start(out: &mut Vec<u8>, version: u32) -> Result<(), AllocError>
+    ensures { OnOk result (out.new.items ≡ out.old.items ++ (magic ++ u32_bytes version)) }
+{
+    out.extend_from_slice(b"M2OB")?;
+    number(out, version)
 }
 
 #[tactic(auto, unfolding(crate::specs::Contents::opening_bytes))]
@@ -130,10 +139,11 @@ fn opening(out: &mut Vec<u8>, parts: &Parts) -> Result<(), AllocError>
     requires { Short (contents_of parts.now) }
     ensures { OnOk result (out.new.items ≡ out.old.items ++ opening_bytes (contents_of parts.now)) }
 {
-    start(out)?;
+    start(out, parts.version)?;
     text(out, &parts.name)?;
     number(out, parts.cells)?;
-    number(out, parts.own_cells)
+    number(out, parts.own_cells)?;
+    key(out, &parts.key)
 }
 
 #[tactic(auto, unfolding(crate::specs::Contents::lists_bytes))]

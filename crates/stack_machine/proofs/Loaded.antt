@@ -15,7 +15,7 @@ use Rattle.code_form.specs.Heights.{Callee, Callees, Step, step_among}
 use Rattle.code_form.specs.Modules.{Import, Procedure, World}
 use Rattle.code_form.specs.Valid as valid
 use Rattle.code_form.specs.Valid.{Point, points, AreInstrs, callees_of, is_end, names_what_is_there, returns_all, target_passes, when_there, linked, outer_or, can_call, has_local, has_heading, same_height, height_behind, is_right, is_level, procedure_or, heading_or, headings_or}
-use Rattle.object_file.specs.Contents.{Contents, Export, world_of}
+use Rattle.object_file.specs.Contents.{Contents, Export, definitions_of, world_of}
 use Rattle.object_file.specs.Programs.{IsProgram, IsMet, IsApart, apart, by, built_in, empty, in_out, AllDiffer, given_headings}
 use Rattle.object_file.specs.Validity.{IsValid as IsValidObject}
 use Rattle.stack_machine.specs.declared.op.Op.{Op}
@@ -131,11 +131,11 @@ import_there (y ∷ is) (suc i) x e t = or_true (is_in_out y.name) (import_in_ou
   or_true true b e = refl
   or_true false b e = e
 
-in_out_there : (os : List Contents) (m i : ℕ) (o : Contents) (x : Import) → slice_get os m ≡ Some o → slice_get o.imports i ≡ Some x → is_in_out x.name ≡ true → imports_in_out os ≡ true
+in_out_there : (os : List Contents) (m i : ℕ) (o : Contents) (x : Import) → slice_get os m ≡ Some o → slice_get (definitions_of o) i ≡ Some x → is_in_out x.name ≡ true → imports_in_out os ≡ true
 in_out_there [] m i o x is at t = absurd cc
 in_out_there (y ∷ os) zero i o x is at t =
-    ap (λ (b : Bool). b || imports_in_out os) (ap (λ (z : Contents). import_in_out z.imports) (one_is y o is) ∙ import_there o.imports i x at t)
-in_out_there (y ∷ os) (suc m) i o x is at t = or_true (import_in_out y.imports) (imports_in_out os) (in_out_there os m i o x is at t) where
+    ap (λ (b : Bool). b || imports_in_out os) (ap (λ (z : Contents). import_in_out (definitions_of z)) (one_is y o is) ∙ import_there (definitions_of o) i x at t)
+in_out_there (y ∷ os) (suc m) i o x is at t = or_true (import_in_out (definitions_of y)) (imports_in_out os) (in_out_there os m i o x is at t) where
   or_true : (a b : Bool) → b ≡ true → (a || b) ≡ true
   or_true true b e = refl
   or_true false b e = e
@@ -269,7 +269,7 @@ module _ (os : List Contents) (c : Program) (program : IsProgram os) (loaded : I
     same_passes t u l m e d p = subst (λ (n : ℕ). Passes shapes k q h u n) d (subst (λ (n : ℕ). Passes shapes k q h n l) e p)
 
     -- a call of a heading, by what meets the import
-    callx_by : (i x : ℕ) (note : Import) (heading : Callee) → slice_get loaded.blocks q ≡ Some b → slice_get b.object.imports i ≡ Some note → slice_get note.headings x ≡ Some heading → Passes shapes k q h heading.params heading.result → IsMet os note
+    callx_by : (i x : ℕ) (note : Import) (heading : Callee) → slice_get loaded.blocks q ≡ Some b → slice_get (definitions_of b.object) i ≡ Some note → slice_get note.headings x ≡ Some heading → Passes shapes k q h heading.params heading.result → IsMet os note
         → IsFine c shapes k q h (call_op os (owner_for os note) x)
     callx_by i x note heading is at there_is passes (apart (built_in e)) =
         let name : is_in_out note.name ≡ true = name_same note.name (codes "InOut") (ap (λ (n : Import). n.name) e) in
@@ -304,11 +304,11 @@ module _ (os : List Contents) (c : Program) (program : IsProgram os) (loaded : I
     callx_of zero x f = absurd (let n : false ≡ true = f.names in cc)
     callx_of (suc i) x f =
         let w = belongs_at q b f.is in
-        let t = there (slice_get b.object.imports i) (λ y. ltb x (length y.headings)) f.names in
+        let t = there (slice_get (definitions_of b.object) i) (λ y. ltb x (length y.headings)) f.names in
         let heading = get_there t.0.headings x (ltb-true x (length t.0.headings) t.2) in
-        let met = all_get (IsMet os) b.object.imports i t.0 (all_get (λ (o : Contents). AllByRecursion (IsMet os) o.imports) os b.«module» b.object program.met w.object) t.1 in
-        let owner : owner_named b.«module» (owners_of os b.object) (suc i) ≡ owner_for os t.0 = ap (λ (o : Option Owner). unwrap_or o owners.InOut) (get_map (λ y. owner_for os y) b.object.imports i t.0 t.1) in
-        let callee : heading_or (slice_get (headings_or (slice_get b.object.imports i)) x) ≡ heading.0 = ap (λ (y : Option Import). heading_or (slice_get (headings_or y) x)) t.1 ∙ ap heading_or heading.1 in
+        let met = all_get (IsMet os) (definitions_of b.object) i t.0 (all_get (λ (o : Contents). AllByRecursion (IsMet os) (definitions_of o)) os b.«module» b.object program.met w.object) t.1 in
+        let owner : owner_named b.«module» (owners_of os b.object) (suc i) ≡ owner_for os t.0 = ap (λ (o : Option Owner). unwrap_or o owners.InOut) (get_map (λ y. owner_for os y) (definitions_of b.object) i t.0 t.1) in
+        let callee : heading_or (slice_get (headings_or (slice_get (definitions_of b.object) i)) x) ≡ heading.0 = ap (λ (y : Option Import). heading_or (slice_get (headings_or y) x)) t.1 ∙ ap heading_or heading.1 in
         subst (λ (o : Owner). IsFine c shapes k q h (call_op os o x)) (sym owner)
         (callx_by i x t.0 heading.0 f.is t.1 heading.1 (same_passes _ heading.0.params _ heading.0.result (ap (λ (y : Callee). y.params) callee) (ap (λ (y : Callee). y.result) callee) (f.go refl)) met)
 

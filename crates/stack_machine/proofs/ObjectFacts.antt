@@ -1,5 +1,5 @@
 -- What is known of the parts of a valid object.
-use Rattle.std.proofs.Common.{◌≡◌, ◌≢◌, ℕ, zero, suc, ◌+◌, ◌-◌, ◌<◌, ◌≤◌, ◌^◌, ◌⊎◌, inl, inr, Bool, true, false, eqb, ltb, leb, eq-eqb, List, [], ◌∷◌, ◌++◌, length, Some, refl, sym, ap, subst, ◌∙◌, arith}
+use Rattle.std.proofs.Common.{◌≡◌, ◌≢◌, ℕ, zero, suc, ◌+◌, ◌-◌, ◌<◌, ◌≤◌, ◌^◌, ◌⊎◌, inl, inr, Bool, true, false, eqb, ltb, leb, eq-eqb, List, [], ◌∷◌, ◌++◌, length, drop, Some, refl, sym, ap, subst, ◌∙◌, arith}
 use Rattle.std.specs.Prelude.{◌&&◌, ◌||◌, not, slice_get}
 use Rattle.std.specs.List.{AllByRecursion, list_all}
 use Rattle.std.proofs.lemmas.Bool.{cases_lt, eqb-true, ltb-true, leb-true}
@@ -7,12 +7,12 @@ use Rattle.std.proofs.lemmas.List.{length-append, append-nil}
 use Rattle.code_form.specs.declared.instr.Instr.{Instr}
 use Rattle.code_form.specs.Instructions.{IsInstr}
 use Rattle.code_form.specs.Bytes.{spelling, code_bytes, BeginsWith}
-use Rattle.code_form.specs.Modules.{Import, Procedure, World}
+use Rattle.code_form.specs.Modules.{Procedure, World}
 use Rattle.code_form.specs.Valid.{AreInstrs, IsValidCode}
 use Rattle.code_form.proofs.Spellings.{one_instr, one_rest}
-use Rattle.object_file.specs.Contents.{Export, Contents, world_of, object_bytes}
+use Rattle.object_file.specs.Contents.{Export, KeyedImport, Contents, world_of, object_bytes}
 use Rattle.object_file.specs.Formats.{Format, done, exact, number, text, ◌>>=◌, many, counted, Spells}
-use Rattle.object_file.specs.ObjectFormat.{any, is_outer, is_params, is_result, is_locals, is_count, as_exported, export_format, import_format, procedure_format, fields_format, format_with, object_format}
+use Rattle.object_file.specs.ObjectFormat.{any, is_outer, is_params, is_result, is_locals, is_count, as_exported, export_format, import_format, procedure_format, fields_format, format_with, version_near}
 use Rattle.object_file.specs.Validity.{IsObject, IsValid, HaveValidCode}
 use Rattle.object_file.proofs.Outers.{smaller}
 use Rattle.stack_machine.proofs.Flat.{get_front, get_back, get_within, one_is, nothing_at}
@@ -118,18 +118,20 @@ formed_many es (suc n) before bytes all rest s b =
     let len = r.len in
     record { formed = r.formed; len = omega (arith, len, length-append before (t.0 ∷ [])) }
 
-facts_of : (bytes : List ℕ) (o : Contents) (rest : List ℕ) → Spells object_format bytes o rest → Facts o
+facts_of : (version : ℕ) (bytes : List ℕ) (o : Contents) (rest : List ℕ) → Spells (format_with version) bytes o rest → Facts o
 unfolding format_with fields_format ◌>>=◌
-facts_of bytes o rest s =
+facts_of version bytes o rest s =
     let s1 = s.2 in
     let s2 = s1.2 in
     let s3 = s2.5 in
     let s4 = s3.5 in
-    let last : List Export → List Import → List Procedure → Format Contents = λ es is ps. done (record { name = s2.0; cells = s3.0; own_cells = s4.0; exports = es; imports = is; procedures = ps }) in
-    let with_procedures : List Export → List Import → Format Contents = λ es is. counted (is_count es) (procedure_format es) >>= λ ps. last es is ps in
-    let with_imports : List Export → Format Contents = λ es. counted any import_format >>= λ is. with_procedures es is in
-    let e = spells_then (counted any export_format) with_imports s4.1 o rest s4.5 in
-    let i = spells_then (counted any import_format) (with_procedures e.0) e.1 o rest e.3 in
+    let k = s4.5 in
+    let last : List Export → List KeyedImport → List Procedure → Format Contents =
+    λ es is ps. done (record { version = version; name = s2.0; key = k.0; cells = s3.0; own_cells = s4.0; exports = es; imports = is; procedures = ps }) in
+    let with_procedures : List Export → List KeyedImport → Format Contents = λ es is. counted (is_count es) (procedure_format es) >>= λ ps. last es is ps in
+    let with_imports : List Export → Format Contents = λ es. counted any (import_format version) >>= λ is. with_procedures es is in
+    let e = spells_then (counted any export_format) with_imports k.1 o rest k.4 in
+    let i = spells_then (counted any (import_format version)) (with_procedures e.0) e.1 o rest e.3 in
     let p = spells_then (counted (is_count e.0) (procedure_format e.0)) (last e.0 i.0) i.1 o rest i.3 in
     let m = formed_many e.0 p.2.0 [] p.2.1 p.0 p.1 p.2.5 (λ k x is. absurd (nothing_at [] k x refl is)) in
     let n : length p.0 ≡ p.2.0 = (let l = m.len in omega (arith, l)) in
@@ -140,7 +142,7 @@ facts_of bytes o rest s =
     })
 
 pub facts : (o : Contents) → IsValid o → Facts o
-facts o v = facts_of (object_bytes o) o [] v.fields
+facts o v = facts_of (version_near (drop 4 (object_bytes o))) (object_bytes o) o [] v.fields
 
 -- ---- and what follows
 

@@ -7,7 +7,7 @@ use Rattle.code_form.specs.declared.instr.Instr.{Instr}
 use Rattle.code_form.specs.Bytes.{size}
 use Rattle.code_form.specs.Modules.{Import, Procedure}
 use Rattle.code_form.specs.Valid.{AreInstrs, same_place}
-use Rattle.object_file.specs.Contents.{Contents, Export}
+use Rattle.object_file.specs.Contents.{Contents, Export, definitions_of}
 use Rattle.stack_machine.specs.declared.op.Op.{Op}
 use Rattle.stack_machine.specs.declared.op.Op.TheVariants as op
 use Rattle.stack_machine.specs.declared.op.Kind.{Kind}
@@ -34,7 +34,7 @@ import_in_out (i ∷ is) = is_in_out i.name || import_in_out is
 
 abbrev pub imports_in_out : List Contents → Bool
 imports_in_out [] = false
-imports_in_out (o ∷ os) = import_in_out o.imports || imports_in_out os
+imports_in_out (o ∷ os) = import_in_out (definitions_of o) || imports_in_out os
 
 abbrev pub cells_of : List Contents → ℕ
 cells_of [] = 0
@@ -146,7 +146,7 @@ abbrev pub owner_of : List Contents → Import → Owner
 owner_of os i = if is_in_out i.name then owners.InOut else owners.Object (object_at os i.name)
 
 abbrev pub owners_of : List Contents → Contents → List Owner
-owners_of os o = map (λ i. owner_of os i) o.imports
+owners_of os o = map (λ i. owner_of os i) (definitions_of o)
 
 -- the owner of what an instruction names by i: its own object, or that of import i - 1
 abbrev pub owner_named : (m : ℕ) → List Owner → (i : ℕ) → Owner

@@ -14,7 +14,7 @@ use Rattle.object_file.specs.Contents.{Contents}
 use Rattle.stack_machine.specs.Loading.{Spot, Site, Block, IsBlock, AreBlocksOf, AreBlocks, flat, block_ops, block_origins, routines_from, variables_of, bodies_of, count_of, imports_in_out, first_cell, data_at, frames_of, data_in, data_of}
 
 abbrev pub nothing : Contents
-nothing = record { name = []; cells = 0; own_cells = 0; exports = []; imports = []; procedures = [] }
+nothing = record { version = 0; name = []; key = []; cells = 0; own_cells = 0; exports = []; imports = []; procedures = [] }
 
 abbrev pub contents_or : Option Contents → Contents
 contents_or None = nothing

@@ -1,5 +1,6 @@
 //! Where the cells of a program are.
 ghost use Rattle.std.specs.Prelude.{◌≡◌, ◌+◌, ◌<◌, ◌≤◌, ◌^◌, map, length, IfOk, IfSome, IfNone};
+ghost use Rattle.object_file.specs.Contents.{definitions_of};
 ghost use Rattle.object_file.specs.Programs.{IsProgram};
 ghost use Rattle.object_file.specs.Views.{import_of, procedure_of};
 ghost use Rattle.stack_machine.specs.Loading.{is_in_out as names_in_out, import_in_out, imports_in_out, first_cell, cells_of, data_in, data_of, data_at, frames_of, variables_from};
@@ -39,7 +40,7 @@ fn has_in_out(imports: &[ImportNote]) -> bool
 }
 
 fn imports_it(object: &Object) -> bool
-    ensures { result ≡ import_in_out object.now.imports }
+    ensures { result ≡ import_in_out (definitions_of object.now) }
 {
     has_in_out(object.imports())
 }

@@ -4,4 +4,4 @@ use Rattle.object_file.specs.Reading.{import_at}
 use Rattle.object_file.proofs.reading.imports_of.Given as goal
 
 abbrev pub invariant-loop : goal.invariant-loop
-invariant-loop l = many_at import_at (l.count - l.counter) l.imports l.bytes.now ≡ many_at import_at l.count [] l.fn.bytes.now
+invariant-loop l = many_at (import_at l.version) (l.count - l.counter) l.imports l.bytes.now ≡ many_at (import_at l.version) l.count [] l.fn.bytes.now
