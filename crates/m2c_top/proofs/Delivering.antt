@@ -8,7 +8,7 @@ use Rattle.m2_io.specs.Files.{Files, with_file}
 use Rattle.m2c_top.specs.Decisions.{Decision, limited, unbuilt, refused, to_compile}
 use Rattle.m2c_top.specs.Delivery.{Says, Answered, PrintsFront, PutsFront}
 use Rattle.m2c_top.specs.Diagnostics.{diags_of}
-use Rattle.m2c_top.specs.Listing.{listing}
+use Rattle.listings.specs.Listing.{listing}
 use Rattle.m2c_top.specs.Object.{contents_of, object_bytes}
 use Rattle.m2c_top.specs.Outcome.{Compiles, compiled, diagnosed, wrong, over_limit, not_built, IsDecided, text_name, object_name, HasObject, Leaves, PrintsPart, KeepsButObject}
 use Rattle.m2c_top.specs.Statuses.{status_number, IsAnswer}

@@ -30,7 +30,7 @@ use Rattle.m2c_top.specs.Modules.{Module, body_in, context_in, declared_in, own_
 use Rattle.m2c_top.proofs.HeldTables.{no_heading}
 use Rattle.m2c_top.proofs.LoneTables.{lone_diags}
 use Rattle.block_notes.proofs.StandingFlows.{flow_below}
-use Rattle.m2c_top.specs.Ordering.{comes_before, in_order, is_same, with_diag}
+use Rattle.listings.specs.Ordering.{comes_before, in_order, is_same, with_diag}
 
 below : (at : ℕ) (tokens : List Token) → AreNumbered at tokens → Each (λ (t : Token). t.at < at + length tokens) tokens
 below at [] h = absurd h

@@ -13,9 +13,7 @@ mod LoneTables
 mod MainStatements
 mod Obeying
 mod OneDecision
-mod OneOrder
 mod OneOutcome
-mod Orders
 mod Outcomes
 mod ProcedureRows
 mod RefusalTokens

@@ -9,7 +9,7 @@ use Rattle.m2c_top.specs.Command.{compile, Asks, IsNoCommand}
 use Rattle.m2c_top.specs.Decisions.{Decision, limited, unbuilt, refused, to_compile, Decides}
 use Rattle.m2c_top.specs.Diagnostics.{diags_of}
 use Rattle.m2c_top.specs.Limits.{limit_text}
-use Rattle.m2c_top.specs.Listing.{listing}
+use Rattle.listings.specs.Listing.{listing}
 use Rattle.m2c_top.specs.Object.{object_bytes}
 use Rattle.m2c_top.specs.Modules.{Module}
 use Rattle.m2c_top.specs.Outcome.{Outcome, Gives, no_command, compiles, Compiles, compiled, diagnosed, wrong, no_text, over_limit, not_built, LacksText, IsDecided, text_name, object_name, line, PrintsPart}

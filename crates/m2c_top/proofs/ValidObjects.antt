@@ -33,7 +33,7 @@ use Rattle.m2c_top.specs.Filled.{row_count}
 use Rattle.m2c_top.specs.Held.{IsHeld, held, main_tokens}
 use Rattle.m2c_top.specs.Modules.{Module, body_in, cells_in, code_in, context_in, declared_in, own_block, run_in, tables_of, trees_of}
 use Rattle.m2c_top.specs.Object.{contents_of}
-use Rattle.m2c_top.specs.Ordering.{comes_before, in_order, is_same, with_diag}
+use Rattle.listings.specs.Ordering.{comes_before, in_order, is_same, with_diag}
 use Rattle.m2c_top.specs.declared.module.Module.{Module as HeldModule}
 use Rattle.m2c_top.proofs.HeldTables.{heading_none}
 use Rattle.m2c_top.proofs.LoneBlocks.{in_range, lone_tree, sound_unit, tokens_few}

@@ -7,7 +7,7 @@ use Rattle.object_file.specs.Validity.{IsValid}
 use Rattle.m2c_top.specs.Decisions.{Decision, limited, unbuilt, refused, to_compile}
 use Rattle.m2c_top.specs.Diagnostics.{diags_of}
 use Rattle.m2c_top.specs.Limits.{limit_text}
-use Rattle.m2c_top.specs.Listing.{listing}
+use Rattle.listings.specs.Listing.{listing}
 use Rattle.m2c_top.specs.Object.{contents_of, object_bytes}
 use Rattle.m2c_top.specs.Outcome.{text_name, object_name, line}
 use Rattle.m2c_top.specs.Modules.{Module}

@@ -5,7 +5,7 @@ use Rattle.m2_base.specs.Standard.{standard_rows}
 use Rattle.m2_base.specs.declared.notes.Diag.{Diag}
 use Rattle.stmt_sem.specs.BlockCode.{block_diags}
 use Rattle.m2c_top.specs.Modules.{Module, own_block, tables_of, trees_of}
-use Rattle.m2c_top.specs.Ordering.{in_order}
+use Rattle.listings.specs.Ordering.{in_order}
 
 -- all of them, as they are noted
 abbrev pub noted_in : Module → List Diag

@@ -7,12 +7,10 @@ pub mod Ending
 pub mod Filled
 pub mod Held
 pub mod Limits
-pub mod Listing
 pub mod MainText
 pub mod Modules
 pub mod Names
 pub mod Object
-pub mod Ordering
 pub mod Outcome
 pub mod Statuses
 pub mod Verdicts

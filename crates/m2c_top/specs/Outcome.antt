@@ -11,7 +11,7 @@ use Rattle.m2c_top.specs.Command.{Command, compile, Asks, IsNoCommand}
 use Rattle.m2c_top.specs.Decisions.{Decision, limited, unbuilt, refused, to_compile, Decides}
 use Rattle.m2c_top.specs.Diagnostics.{diags_of}
 use Rattle.m2c_top.specs.Limits.{limit_text}
-use Rattle.m2c_top.specs.Listing.{listing}
+use Rattle.listings.specs.Listing.{listing}
 use Rattle.m2c_top.specs.Object.{object_bytes}
 use Rattle.m2c_top.specs.Statuses.{status_number}
 use Rattle.m2c_top.specs.Modules.{Module}

@@ -22,9 +22,9 @@ mod declaring;
 use crate::analysis::declaring::{Block, declare_block};
 use crate::diagnostic::diag_at;
 use crate::module::Module;
-use crate::ordering::put_in_order;
 use decl_sem::{Effect, layout};
 use expr_sem::Piece;
+use listings::put_in_order;
 use m2_base::{
     Around, Ask, Chain, Diag, Diagnostic, Ident, Layout, MOST_CELLS, Memory, Notes, ProcCode,
     STANDARD_ROWS, Scopes, Site, Texts,

@@ -7,7 +7,7 @@ use Rattle.stmt_sem.specs.BlockCode.{ProcedureCode, code_of_run}
 use Rattle.m2c_top.specs.Diagnostics.{diags_of}
 use Rattle.m2c_top.specs.Held.{held}
 use Rattle.m2c_top.specs.Modules.{run_in}
-use Rattle.m2c_top.specs.Ordering.{in_order}
+use Rattle.listings.specs.Ordering.{in_order}
 use Rattle.m2c_top.proofs.Delivering.{is_none}
 use Rattle.m2c_top.proofs.analysis.analyse.Goals as goal
 

@@ -7,7 +7,7 @@ use Rattle.m2_base.specs.declared.token.Token.{Token}
 use Rattle.object_file.specs.Contents.{Contents, object_bytes}
 use Rattle.m2c_top.specs.Diagnostics.{diags_of}
 use Rattle.m2c_top.specs.Held.{held, main_tokens}
-use Rattle.m2c_top.specs.Listing.{listing}
+use Rattle.listings.specs.Listing.{listing}
 use Rattle.m2c_top.specs.Outcome.{object_name, text_name}
 use Rattle.m2c_top.proofs.TextUnit.{main_is}
 use Rattle.m2c_top.proofs.Outcomes.{on_err}

@@ -2,7 +2,7 @@
 use Rattle.std.proofs.Common.{◌≡◌, ◌⊎◌, inl, inr, ℕ, ◌<◌, ◌==◌, Bool, true, false, refl, sym, ◌∙◌, arith, nat_lt, ◌&&◌, if◌then◌else◌}
 use Rattle.std.proofs.lemmas.Bool.{false≢true}
 use Rattle.m2_base.specs.declared.notes.Diag.{Diag}
-use Rattle.m2c_top.specs.Ordering.{comes_before, is_same}
+use Rattle.listings.specs.Ordering.{comes_before, is_same}
 
 abbrev pub Lower : (a b : ℕ) → Type 0 → Type 0
 Lower a b P = (a < b) ⊎ ((a ≡ b) × P)

@@ -4,11 +4,11 @@ use Rattle.std.specs.Cmp.{nat_cmp_is}
 use Rattle.std.specs.Ordering.{is_lt, nat_cmp, ordering_then}
 use Rattle.std.specs.declared.cmp.Ordering.{Ordering}
 use Rattle.std.specs.declared.cmp.Ordering.TheVariants.{Less, Equal}
-use Rattle.m2c_top.proofs.OneOrder.{AreTests, put_in_order}
-use Rattle.m2c_top.proofs.Orders.{Lower, same_by_fields}
+use Rattle.listings.proofs.OneOrder.{AreTests, put_in_order}
+use Rattle.listings.proofs.Orders.{Lower, same_by_fields}
 use Rattle.m2_base.specs.contracts.notes.DiagOrd as ord
 use Rattle.m2_base.specs.contracts.notes.DiagPartialEq as eq
-use Rattle.m2c_top.proofs.ordering.put_in_order.Goals as goal
+use Rattle.listings.proofs.ordering.put_in_order.Goals as goal
 
 lower_first : (a b : ℕ) (P : Type 0) (rest : Ordering) → (P → is_lt rest ≡ true) → Lower a b P → is_lt (ordering_then (nat_cmp a b) rest) ≡ true
 lower_first a b P rest f (inl l) = ap (λ o. is_lt (ordering_then o rest)) (sym (nat_cmp_is a b Less l))

@@ -1,6 +1,6 @@
 //! Diagnostics in the order in which they are listed.
 ghost use Rattle.std.specs.Prelude.{◌≡◌};
-ghost use Rattle.m2c_top.specs.Ordering.{in_order};
+ghost use Rattle.listings.specs.Ordering.{in_order};
 
 use m2_base::Diag;
 

@@ -8,8 +8,8 @@ use Rattle.std.proofs.lemmas.List.Elements.{All-from_recursion, recursion_from_A
 use Rattle.std.proofs.lemmas.List.Sorted.{All-permutation, IsPermutation-sym}
 use Rattle.m2_base.specs.Lists.{Each, IsIn}
 use Rattle.m2_base.specs.declared.notes.Diag.{Diag}
-use Rattle.m2c_top.specs.Ordering.{comes_before, in_order, is_same, with_diag}
-use Rattle.m2c_top.proofs.Orders.{Before, before_irrefl, before_of, before_total, before_trans, of_before, same_by_fields, same_self}
+use Rattle.listings.specs.Ordering.{comes_before, in_order, is_same, with_diag}
+use Rattle.listings.proofs.Orders.{Before, before_irrefl, before_of, before_total, before_trans, of_before, same_by_fields, same_self}
 
 -- each is listed before all behind it
 abbrev pub Rises : List Diag → Type 0
@@ -116,6 +116,10 @@ ordered_to (d ∷ ds) x i = elim i as (λ _. IsIn x (in_order (d ∷ ds))) [
   | inl t ↦ (added d (in_order ds)).back x (inl t)
   | inr j ↦ (added d (in_order ds)).back x (inr (ordered_to ds x j))
 ]
+
+-- what is in order stays so
+pub ordered_twice : (ds : List Diag) → in_order (in_order ds) ≡ in_order ds
+ordered_twice ds = one_list (in_order (in_order ds)) (in_order ds) (ordered_rises (in_order ds)) (ordered_rises ds) (ordered_from (in_order ds)) (ordered_to (in_order ds))
 
 -- ** Sorted, and then each once
 

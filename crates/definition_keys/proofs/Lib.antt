@@ -1,0 +1,3 @@
+mod TextBytes
+mod TextFits
+mod Steps
