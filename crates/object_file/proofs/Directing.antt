@@ -129,5 +129,5 @@ pub kept_more : (os : List Contents) (k : ℕ) (o : Contents) (key name : List �
 kept_more os k o key name old new lt there key_is free was is =
     let count : length (take k os) ≡ k = length-take-le k os (omega (arith, lt)) in
     directory_more (take k os) o name old new free was
-        (is ∙ ap (λ (n : List ℕ). cond (bytes_eq n name) (Some k) old) key_is ∙ ap (λ (n : ℕ). cond (bytes_eq o.name name) (Some n) old) (sym count))
+    (is ∙ ap (λ (n : List ℕ). cond (bytes_eq n name) (Some k) old) key_is ∙ ap (λ (n : ℕ). cond (bytes_eq o.name name) (Some n) old) (sym count))
     ∙ ap (λ (xs : List Contents). object_named xs name) (sym (take_next os k o there))

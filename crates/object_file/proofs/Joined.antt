@@ -137,9 +137,10 @@ module _ (os : List Contents) (after : List Bool) (order : List ℕ) (linked : A
   all_met (k ∷ ks) within = on (slice_get os k) refl (all_met ks (λ j h. within j (inr h))) where
     on : (x : Option Contents) → slice_get os k ≡ x → AllByRecursion (λ o. AllByRecursion (IsMet (picked os order)) (definitions_of o)) (picked os ks) → AllByRecursion (λ o. AllByRecursion (IsMet (picked os order)) (definitions_of o)) (option_to_list x ++ picked os ks)
     on None s more = more
-    on (Some o) s more =
-        (met_all os (picked os order) (definitions_of o) linked.names_differ (near k (within k (inl refl)) o s) (all_at (λ (q : Contents). AllByRecursion (IsMet os) (definitions_of q)) os k o linked.met s),
-        more)
+    on (Some o) s more = (
+      met_all os (picked os order) (definitions_of o) linked.names_differ (near k (within k (inl refl)) o s) (all_at (λ (q : Contents). AllByRecursion (IsMet os) (definitions_of q)) os k o linked.met s),
+      more,
+    )
 
   pub joined_in : AllByRecursion IsValid (picked os order) → IsProgram (picked os order)
   joined_in valid =

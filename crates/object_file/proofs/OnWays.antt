@@ -80,11 +80,14 @@ entering : (os : List Contents) (f g : Frame) (fs : List Frame) (i : Import) (k 
 entering os f g fs i k o marks after rest n some mark there h =
     let l = h.4 in
     let same : k ∷ objects_of os (imports_from os g) ≡ objects_of os (imports_from os f) = ap (λ (x : Option ℕ). option_to_list x ++ objects_of os (imports_from os g)) (sym some) ∙ ap (objects_of os) (sym n.0) in
-    let inner : Walks os (slice_set marks k true) (objects_of os (definitions_of o)) h.0 h.1 = subst (λ (x : Option Contents). Walks os (slice_set marks k true) (objects_of os (imports_in x)) h.0 h.1) there h.3 in
-    (l.0, h.1 ++ k ∷ l.1, l.2,
-    subst (λ (ks : List ℕ). Walks os marks ks l.0 (h.1 ++ k ∷ l.1)) same (enters marks k (objects_of os (imports_from os g)) o h.0 l.0 h.1 l.1 mark there inner l.3),
-    l.4,
-    h.5 ∙ ap (λ (r : List ℕ). h.1 ++ k ∷ r) (l.5 ∙ ap (λ (j : ℕ). l.1 ++ j ∷ l.2) n.1) ∙ sym (append_assoc h.1 (k ∷ l.1) (f.object ∷ l.2)))
+    let inner : Walks os (slice_set marks k true) (objects_of os (definitions_of o)) h.0 h.1 = subst (λ (x : Option Contents). Walks os (slice_set marks k true) (objects_of os (imports_in x)) h.0 h.1) there h.3 in (
+      l.0,
+      h.1 ++ k ∷ l.1,
+      l.2,
+      subst (λ (ks : List ℕ). Walks os marks ks l.0 (h.1 ++ k ∷ l.1)) same (enters marks k (objects_of os (imports_from os g)) o h.0 l.0 h.1 l.1 mark there inner l.3),
+      l.4,
+      h.5 ∙ ap (λ (r : List ℕ). h.1 ++ k ∷ r) (l.5 ∙ ap (λ (j : ℕ). l.1 ++ j ∷ l.2) n.1) ∙ sym (append_assoc h.1 (k ∷ l.1) (f.object ∷ l.2)),
+    )
 
 -- ---- one step
 
@@ -113,11 +116,12 @@ left_step os f w v on none marks way order =
     }
   where
     led : Led os f w v
-    led after rest h =
-        (f.object ∷ rest,
-        leaving os f (reverse w.way.items) w.marks.items after rest (none_there (imports_in (slice_get os f.object)) f.next none)
-            (subst (λ (fs : List Frame). Leaves os (reverse fs) w.marks.items after rest) way (subst (λ (m : List Bool). Leaves os (reverse v.way.items) m after rest) marks h)),
-        sym (ap (λ (o : List ℕ). o ++ rest) order ∙ append_assoc w.order.items (f.object ∷ []) rest))
+    led after rest h = (
+      f.object ∷ rest,
+      leaving os f (reverse w.way.items) w.marks.items after rest (none_there (imports_in (slice_get os f.object)) f.next none)
+          (subst (λ (fs : List Frame). Leaves os (reverse fs) w.marks.items after rest) way (subst (λ (m : List Bool). Leaves os (reverse v.way.items) m after rest) marks h)),
+      sym (ap (λ (o : List ℕ). o ++ rest) order ∙ append_assoc w.order.items (f.object ∷ []) rest),
+    )
 
 -- an import is followed that leads to no object
 pub skip_step : (os : List Contents) (f : Frame) (w v : Walk) (i : Import) → IsOn os w → f.object < length os → followed os f ≡ Some i → object_of os i ≡ None → v.marks.items ≡ w.marks.items → v.way.items ≡ w.way.items ++ next_of f ∷ [] → v.order.items ≡ w.order.items → Steps os f w v
@@ -132,11 +136,12 @@ skip_step os f w v i on lt some none marks way order =
     }
   where
     led : Led os f w v
-    led after rest h =
-        (rest,
-        skipping os f (next_of f) (reverse w.way.items) i w.marks.items after rest (follows os f i some) none
-            (subst (λ (fs : List Frame). Leaves os fs w.marks.items after rest) (ap reverse way ∙ top_first w.way.items (next_of f)) (subst (λ (m : List Bool). Leaves os (reverse v.way.items) m after rest) marks h)),
-        ap (λ (o : List ℕ). o ++ rest) (sym order))
+    led after rest h = (
+      rest,
+      skipping os f (next_of f) (reverse w.way.items) i w.marks.items after rest (follows os f i some) none
+          (subst (λ (fs : List Frame). Leaves os fs w.marks.items after rest) (ap reverse way ∙ top_first w.way.items (next_of f)) (subst (λ (m : List Bool). Leaves os (reverse v.way.items) m after rest) marks h)),
+      ap (λ (o : List ℕ). o ++ rest) (sym order),
+    )
 
 -- an import is followed to an object
 pub enter_step : (os : List Contents) (f : Frame) (w u v : Walk) (i : Import) (k : ℕ) (o : Contents) → IsOn os w → f.object < length os → followed os f ≡ Some i → object_of os i ≡ Some k → k < length os → slice_get os k ≡ Some o
@@ -152,11 +157,12 @@ enter_step os f w u v i k o on lt some leads_to within there marks way order (wa
     }
   where
     led : Led os f w v
-    led after rest h =
-        (rest,
-        passing os f (next_of f) (reverse w.way.items) i k w.marks.items after rest (follows os f i some) leads_to (ap (λ (b : List Bool). slice_get b k) (sym marks) ∙ mark)
-            (subst (λ (fs : List Frame). Leaves os fs w.marks.items after rest) (ap reverse (y ∙ way) ∙ top_first w.way.items (next_of f)) (subst (λ (b : List Bool). Leaves os (reverse v.way.items) b after rest) (m ∙ marks) h)),
-        ap (λ (l : List ℕ). l ++ rest) (sym (r ∙ order)))
+    led after rest h = (
+      rest,
+      passing os f (next_of f) (reverse w.way.items) i k w.marks.items after rest (follows os f i some) leads_to (ap (λ (b : List Bool). slice_get b k) (sym marks) ∙ mark)
+          (subst (λ (fs : List Frame). Leaves os fs w.marks.items after rest) (ap reverse (y ∙ way) ∙ top_first w.way.items (next_of f)) (subst (λ (b : List Bool). Leaves os (reverse v.way.items) b after rest) (m ∙ marks) h)),
+      ap (λ (l : List ℕ). l ++ rest) (sym (r ∙ order)),
+    )
 enter_step os f w u v i k o on lt some leads_to within there marks way order (is_new mark m y r) =
     let not : slice_get w.marks.items k ≡ Some false = ap (λ (b : List Bool). slice_get b k) (sym marks) ∙ mark in
     let marks_are : v.marks.items ≡ slice_set w.marks.items k true = m ∙ ap (λ (b : List Bool). slice_set b k true) marks in
@@ -183,12 +189,13 @@ enter_step os f w u v i k o on lt some leads_to within there marks way order (is
     way_top = top_first (w.way.items ++ next_of f ∷ []) new ∙ ap (λ (fs : List Frame). new ∷ fs) (top_first w.way.items (next_of f))
 
     led : Led os f w v
-    led after rest h =
-        (rest,
-        entering os f (next_of f) (reverse w.way.items) i k o w.marks.items after rest (follows os f i some) leads_to (ap (λ (b : List Bool). slice_get b k) (sym marks) ∙ mark) there
-            (subst (λ (fs : List Frame). Leaves os fs (slice_set w.marks.items k true) after rest) (ap reverse (y ∙ ap (λ (fs : List Frame). fs ++ new ∷ []) way) ∙ way_top)
-            (subst (λ (b : List Bool). Leaves os (reverse v.way.items) b after rest) (m ∙ ap (λ (b : List Bool). slice_set b k true) marks) h)),
-        ap (λ (l : List ℕ). l ++ rest) (sym (r ∙ order)))
+    led after rest h = (
+      rest,
+      entering os f (next_of f) (reverse w.way.items) i k o w.marks.items after rest (follows os f i some) leads_to (ap (λ (b : List Bool). slice_get b k) (sym marks) ∙ mark) there
+          (subst (λ (fs : List Frame). Leaves os fs (slice_set w.marks.items k true) after rest) (ap reverse (y ∙ ap (λ (fs : List Frame). fs ++ new ∷ []) way) ∙ way_top)
+          (subst (λ (b : List Bool). Leaves os (reverse v.way.items) b after rest) (m ∙ ap (λ (b : List Bool). slice_set b k true) marks) h)),
+      ap (λ (l : List ℕ). l ++ rest) (sym (r ∙ order)),
+    )
 
 -- ---- the walk
 
@@ -257,9 +264,11 @@ fewer_left os w p v f way marks s =
 
 -- the way is over
 pub arrived : (os : List Contents) (w : Walk) → IsUnderWay os w → w.way.items ≡ [] → IsRunningOrder os w.order.items
-arrived os w u none =
-    (w.marks.items, subst (λ (r : List ℕ). Walks os (replicate (length os) false) (0 ∷ []) w.marks.items r) (append-nil w.order.items)
-        (u.leads w.marks.items [] (subst (λ (fs : List Frame). Leaves os (reverse fs) w.marks.items w.marks.items []) (sym none) (refl, refl))))
+arrived os w u none = (
+  w.marks.items,
+  subst (λ (r : List ℕ). Walks os (replicate (length os) false) (0 ∷ []) w.marks.items r) (append-nil w.order.items)
+      (u.leads w.marks.items [] (subst (λ (fs : List Frame). Leaves os (reverse fs) w.marks.items w.marks.items []) (sym none) (refl, refl))),
+)
 
 pub on_ok : {T E : Type 0} (r : Result T E) {P Q : Type 0} → OnOk r P → (P → Q) → OnOk r Q
 on_ok (Ok x) h f = f h

@@ -42,12 +42,13 @@ shown_more old now new whole rest piece after s e w = record {
 pub shown_part : (old now new : Option (List ℕ)) (whole rest piece after : List ℕ) → Shown old now whole rest → rest ≡ piece ++ after → WritesPart now piece new → WritesPart old whole new
 shown_part old now new whole rest piece after s e h =
     let n = min h.0 (length piece) in
-    let all : whole ≡ s.done ++ (piece ++ after) = s.whole_is ∙ ap (λ (r : List ℕ). s.done ++ r) e in
-    (length s.done + n,
-    h.1 ∙ ap (λ (x : Option (List ℕ)). with_bytes x (take h.0 piece)) s.written ∙ joined old s.done (take h.0 piece)
-    ∙ ap (λ (t : List ℕ). with_bytes old (s.done ++ t)) (sym (front_taken h.0 piece after))
-    ∙ ap (with_bytes old) (sym (back_taken n s.done (piece ++ after)))
-    ∙ ap (λ (t : List ℕ). with_bytes old (take (length s.done + n) t)) (sym all))
+    let all : whole ≡ s.done ++ (piece ++ after) = s.whole_is ∙ ap (λ (r : List ℕ). s.done ++ r) e in (
+      length s.done + n,
+      h.1 ∙ ap (λ (x : Option (List ℕ)). with_bytes x (take h.0 piece)) s.written ∙ joined old s.done (take h.0 piece)
+          ∙ ap (λ (t : List ℕ). with_bytes old (s.done ++ t)) (sym (front_taken h.0 piece after))
+          ∙ ap (with_bytes old) (sym (back_taken n s.done (piece ++ after)))
+          ∙ ap (λ (t : List ℕ). with_bytes old (take (length s.done + n) t)) (sym all),
+    )
 
 -- nothing more
 pub shown_so_far : (old now : Option (List ℕ)) (whole rest : List ℕ) → Shown old now whole rest → WritesPart old whole now

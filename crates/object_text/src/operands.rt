@@ -20,11 +20,8 @@ pub(crate) fn operand_numbers(instr: &Instr) -> Numbers
 {
     match *instr {
         Instr::Push(v) | Instr::More(v) => Numbers::One(v),
-        Instr::Str(n)
-        | Instr::Move(n)
-        | Instr::Offset(n)
-        | Instr::IndexOpen(n)
-        | Instr::New(n) => Numbers::One(n as i64),
+        Instr::Str(n) | Instr::Move(n) | Instr::Offset(n) | Instr::IndexOpen(n) | Instr::New(n) =>
+            Numbers::One(n as i64),
         Instr::Jump(j) => Numbers::One(j as i64),
         Instr::JumpFalse(j) => Numbers::One(j as i64),
         Instr::AndJump(j) => Numbers::One(j as i64),

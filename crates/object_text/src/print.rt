@@ -65,11 +65,7 @@ fn print_exports<P: Sink>(
     Ok(())
 }
 
-fn print_instrs<P: Sink>(
-    line: &mut Vec<u8>,
-    code: &[u8],
-    print: &mut P,
-) -> Result<(), PrintFault>
+fn print_instrs<P: Sink>(line: &mut Vec<u8>, code: &[u8], print: &mut P) -> Result<(), PrintFault>
     requires { (is : List InstrOf) × AreInstrs code.now is }
     ensures ok { OnOk result ((is : List InstrOf) → AreInstrs code.now is → P.written print.new ≡ with_bytes (P.written print.old) (instr_lines 0 is)) }
     ensures part { OnErr result ((is : List InstrOf) → AreInstrs code.now is → WritesPart (P.written print.old) (instr_lines 0 is) (P.written print.new)) }

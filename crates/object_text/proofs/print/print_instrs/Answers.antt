@@ -29,10 +29,12 @@ loop-at-preserved g c =
       within = c.in-Some.ensures.after.1;
       shown = λ is a.
           let r = c.loop-at.invariant.shown is a in
-          let n = next_instr c.args.code.now c.loop-at.at c.in-Some.end c.in-Some.instr r.0 r.1 c.loop-at-test.true c.in-Some.ensures.again in
-          (n.behind, n.instrs,
-          shown_more (g.P.Sink.written c.args.print.now) (g.P.Sink.written c.loop-at.print) (g.P.Sink.written c.write_all.new.sink) (instr_lines 0 is) (instr_lines c.loop-at.at r.0) c.deref.result.now (instr_lines c.in-Some.end n.behind)
-          r.2 (n.lines_are ∙ ap (λ (b : List ℕ). b ++ instr_lines c.in-Some.end n.behind) (sym piece)) c.in_ok-write_all.ensures.ok);
+          let n = next_instr c.args.code.now c.loop-at.at c.in-Some.end c.in-Some.instr r.0 r.1 c.loop-at-test.true c.in-Some.ensures.again in (
+            n.behind,
+            n.instrs,
+            shown_more (g.P.Sink.written c.args.print.now) (g.P.Sink.written c.loop-at.print) (g.P.Sink.written c.write_all.new.sink) (instr_lines 0 is) (instr_lines c.loop-at.at r.0) c.deref.result.now (instr_lines c.in-Some.end n.behind)
+                r.2 (n.lines_are ∙ ap (λ (b : List ℕ). b ++ instr_lines c.in-Some.end n.behind) (sym piece)) c.in_ok-write_all.ensures.ok,
+          );
       later = (let a = c.loop-at.invariant.later in let b = c.write_all.ensures.later in omega (arith, a, b));
     }
 

@@ -24,9 +24,11 @@ loop-k-preserved g c =
     record {
       shown = λ text a.
           let r = c.loop-k.invariant.shown text a in
-          let lines = next_own ps k c.index-procedures-k.result r.0 c.loop-k-test.true c.index-procedures-k.is r.1 in
-          (lines.1, from_next ps k lines.1 lines.3,
-          shown_more (g.P.Sink.written c.args.print.now) (g.P.Sink.written c.loop-k.print) (g.P.Sink.written c.print_procedure.new.print) text r.0 (procedure_line k p ++ instr_lines 0 lines.0) lines.1
-          r.2 (next_procedure k p (map procedure_of (drop (k + 1) ps)) r.0 lines) (c.in_ok-print_procedure.ensures.ok lines.0 lines.2));
+          let lines = next_own ps k c.index-procedures-k.result r.0 c.loop-k-test.true c.index-procedures-k.is r.1 in (
+            lines.1,
+            from_next ps k lines.1 lines.3,
+            shown_more (g.P.Sink.written c.args.print.now) (g.P.Sink.written c.loop-k.print) (g.P.Sink.written c.print_procedure.new.print) text r.0 (procedure_line k p ++ instr_lines 0 lines.0) lines.1
+                r.2 (next_procedure k p (map procedure_of (drop (k + 1) ps)) r.0 lines) (c.in_ok-print_procedure.ensures.ok lines.0 lines.2),
+          );
       later = (let a = c.loop-k.invariant.later in let b = c.print_procedure.ensures.later in omega (arith, a, b));
     }
