@@ -18,3 +18,8 @@ pub mod Outers
 pub mod Meeting
 pub mod Worlds
 pub mod Building
+pub mod Directing
+pub mod OnWays
+pub mod Walked
+pub mod Joined
+pub mod Picked

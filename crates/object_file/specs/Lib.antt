@@ -16,3 +16,8 @@ pub mod Exported
 pub mod Links
 pub mod Programs
 pub mod FieldsOf
+pub mod Naming
+pub mod Running
+pub mod Directories
+pub mod Ways
+pub mod Picking

@@ -1,9 +1,10 @@
 -- Which objects are a program.
-use Rattle.std.specs.Prelude.{◌≡◌, ◌≢◌, ◌<◌, ◌-◌, ◌^◌, ℕ, List, [], ◌∷◌, length, map, codes, slice_get, Some}
+use Rattle.std.specs.Prelude.{◌≡◌, ◌≢◌, ◌<◌, ◌-◌, ◌^◌, ℕ, List, [], ◌∷◌, length, map, codes, slice_get, None, Some}
 use Rattle.std.specs.List.{AllByRecursion}
 use Rattle.code_form.specs.Heights.{Callee}
 use Rattle.code_form.specs.Modules.{Import}
 use Rattle.object_file.specs.Contents.{Export, Contents, definitions_of}
+use Rattle.object_file.specs.Naming.{name_again}
 use Rattle.object_file.specs.Validity.{IsValid}
 
 abbrev heading : (params result : ℕ) → Callee
@@ -47,4 +48,11 @@ pub record IsProgram (os : List Contents) : Type 0 where
   pub few : length os < 2 ^ 32 - 1
   pub valid : AllByRecursion IsValid os
   pub names_differ : AllDiffer (map (λ o. o.name) os)
+  pub met : AllByRecursion (λ o. AllByRecursion (IsMet os) (definitions_of o)) os
+
+-- Objects of which a program can be made: there is a first one, their names differ, and all imports are met.
+pub record AreLinked (os : List Contents) : Type 0 where
+  pub some : 0 < length os
+  pub few : length os < 2 ^ 32 - 1
+  pub names_differ : name_again os ≡ None
   pub met : AllByRecursion (λ o. AllByRecursion (IsMet os) (definitions_of o)) os

@@ -8,6 +8,7 @@
 
 mod code;
 mod conditions;
+mod directory;
 mod exports;
 mod fault;
 mod fields;
@@ -21,9 +22,11 @@ mod links;
 mod naming;
 mod object;
 mod parts;
+mod picking;
 mod point;
 mod program;
 mod reading;
+mod running;
 mod sizes;
 mod survey;
 mod targets;
@@ -31,6 +34,7 @@ mod walk;
 mod wanted;
 mod writing;
 
+pub use directory::{Directory, DirectoryFault};
 pub use fault::{ObjectFault, ProgramFault};
 pub use laws::{one_fault, one_object, parts_are_valid};
 pub use object::{Object, read_object, write_object};

@@ -56,6 +56,13 @@ impl Object {
         self.parts
     }
 
+    /// An object is valid: to be called where that is to be known.
+    pub fn validity(&self)
+        ensures { IsValid self.now }
+    {
+        let _ = &self.parts;
+    }
+
     /// The module's name.
     pub fn name(&self) -> &[u8]
         ensures { result.now ≡ self.now.name }

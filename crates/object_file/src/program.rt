@@ -1,13 +1,19 @@
 //! Programs.
-ghost use Rattle.std.specs.Prelude.{◌≡◌, [], ◌∷◌, map, MatchResult, IsErrOf};
+ghost use Rattle.std.specs.Prelude.{◌≡◌, [], ◌∷◌, ℕ, List, length, map, MatchResult, IfOk, IsErrOf};
 ghost use Rattle.std.specs.Bool.{Decides};
 ghost use Rattle.std.specs.List.{AllByRecursion};
-ghost use Rattle.object_file.specs.Programs.{in_out, IsApart, IsAlone};
+ghost use Rattle.object_file.specs.Picking.{AreNumbers, AllDifferent};
+ghost use Rattle.object_file.specs.Programs.{in_out, IsApart, IsAlone, AreLinked};
+ghost use Rattle.object_file.specs.Running.{IsRunningOrder, picked};
 ghost use Rattle.object_file.specs.Views.{heading_of, import_of};
 
+use crate::directory::{Directory, DirectoryFault};
 use crate::fault::ProgramFault;
 use crate::object::Object;
 use crate::parts::ImportNote;
+use crate::picking::pick;
+use crate::running::running_order;
+use m2_base::Memory;
 use std::alloc::Global;
 use std::marker::Model;
 
@@ -51,6 +57,20 @@ fn are_apart(notes: &[ImportNote]) -> bool
     true
 }
 
+/// The running order of objects.
+fn order_of(alloc: Global, objects: &[Object]) -> Result<Vec<usize>, Memory>
+    requires { AreLinked objects.now }
+    ensures order { IfOk result (λ order. IsRunningOrder objects.now order.items) }
+    ensures numbers { IfOk result (λ order. AreNumbers (length objects.now) order.items) }
+    ensures differ { IfOk result (λ order. AllDifferent order.items) }
+{
+    match Directory::of(alloc, objects) {
+        Ok(directory) => Ok(running_order(alloc, objects, &directory)?),
+        Err(DirectoryFault::Memory) => Err(Memory),
+        Err(DirectoryFault::Twice(_)) => unreachable!(),
+    }
+}
+
 /// Objects among which all imports are met, in the order in which their bodies run, the main module's last.
 #[derive(Drop)]
 pub struct Program {
@@ -81,6 +101,17 @@ impl Program {
         }
         let mut objects = Vec::new(alloc);
         objects.push(object)?;
+        Ok(Program { objects })
+    }
+
+    /// The program of objects, the first of which is the main module's. Those to which no import leads from it aren't of the
+    /// program.
+    pub fn join(alloc: Global, objects: Vec<Object>) -> Result<Program, Memory>
+        requires { AreLinked objects.items }
+        ensures { IfOk result (λ p. (order : List ℕ) × IsRunningOrder objects.items order × (p ≡ picked objects.items order)) }
+    {
+        let order = order_of(alloc, &objects)?;
+        let objects = pick(alloc, objects, &order)?;
         Ok(Program { objects })
     }
 

@@ -1,0 +1,3 @@
+pub mod Operands
+pub mod Printed
+pub mod Text
