@@ -220,7 +220,7 @@ pushed_each P xs x j len old new k d l = dite (ℕ_discrete k j)
     (λ n. subst (P k) (sym (get_or-append xs (x ∷ []) d k (omega arith))) (old k d (omega arith)))
 
 -- of a scope that isn't filled, the later is seen
-later_there : (rs : List ℕ) (i : ℕ) (xs ys : List Shown) (j : ℕ) → j < length xs → length ys ≡ length xs → times (i + j) rs ≡ 0 → get_or (later_all rs i xs ys) j nothing ≡ later (get_or xs j nothing) (get_or ys j nothing)
+pub later_there : (rs : List ℕ) (i : ℕ) (xs ys : List Shown) (j : ℕ) → j < length xs → length ys ≡ length xs → times (i + j) rs ≡ 0 → get_or (later_all rs i xs ys) j nothing ≡ later (get_or xs j nothing) (get_or ys j nothing)
 later_there rs i [] ys j l w z = absurd (omega arith)
 later_there rs i (x ∷ xs) [] j l w z = absurd (omega arith)
 later_there rs i (x ∷ xs) (y ∷ ys) zero l w z = ap (λ (n : ℕ). cond (ltb 0 n) x (later x y)) (ap (λ (k : ℕ). times k rs) (let e : i ≡ i + 0 = omega arith in e) ∙ z)

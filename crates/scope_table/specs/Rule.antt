@@ -73,11 +73,6 @@ pub record IsBefore (x y : Shown) : Type 0 where
   pub cells : Stays x.cells y.cells
   pub done : x.complete ≡ true → x ≡ y
 
--- what is told of the heads of two such
-pub record IsLater (x y : Shown) : Type 0 where
-  pub count : length x.rows ≤ length y.rows
-  pub complete : x.complete ≡ true → y ≡ x
-
 -- ** What holds of a scope in every state
 
 -- No name but 0 is that of two rows. Where no text of the unit has a syntax error, the rows are the first of the finished

@@ -15,5 +15,5 @@ mod table;
 mod view;
 mod words;
 
-pub use table::{ScopeTable, TableSeat};
+pub use table::{ScopeTable, TableSeat, probe};
 pub use view::{About, Bases, Look, Shown, View};

@@ -3,7 +3,7 @@ ghost use Rattle.std.specs.Prelude.{◌≡◌, ◌≢◌, ℕ, suc, ◌+◌, ◌
 ghost use Rattle.scope_table.specs.Cells.{probe as probe_of, IsIndexed, IsFirstEmpty, IsFull};
 ghost use Rattle.m2_base.specs.Rows.{at_place, IsWellFormed};
 ghost use Rattle.scope_table.specs.Rows.{words_of, row_of, rows_of};
-ghost use Rattle.scope_table.specs.Rule.{shown_at, empty_at, scopes, base, mid, width, texts_in, times, IsFair, AreFormed, IsLaid, IsLater, IsSeated, IsSound};
+ghost use Rattle.scope_table.specs.Rule.{shown_at, empty_at, scopes, base, mid, width, texts_in, times, IsFair, AreFormed, IsBefore, IsLaid, IsSeated, IsSound};
 ghost use Rattle.scope_table.specs.Looks.{look_of, CanNote};
 ghost use Rattle.scope_table.specs.Plays.{head_in, sees, marks, puts, shows, seals, grown, ended, notes, told_of, IsWordOf, HasRoom, CanPut, CanMark, HasPut};
 
@@ -104,14 +104,15 @@ pub(crate) fn make_seat(seat: Seat<(), View>, scope: u32) -> TableSeat
 impl ScopeTable {
     ghost use Rattle.scope_table.specs.Seats.{view, scope_of, key_of, id_of, IsOf, IsSameSeat};
 
-    /// The head of a scope, which the seat has seen then. A later head of the scope is never smaller, and after a
-    /// complete one it is that one.
+    /// The head of a scope, which the seat has seen then, with the rows that it counts. Later the scope has the same
+    /// rows and maybe more, and after it was complete nothing changes. Of the scope that it fills the seat has seen all.
     pub fn load_head(&self, seat: &mut TableSeat, scope: u32) -> Head
         requires table { IsOf self.now seat.old }
         requires scope { scope < scopes (key_of self.now) }
         ensures same { IsSameSeat seat.old seat.new }
         ensures head { result ≡ head_in scope (shown_at (view seat.new) scope) }
-        ensures later { IsLater (shown_at (view seat.old) scope) (shown_at (view seat.new) scope) }
+        ensures later { IsBefore (shown_at (view seat.old) scope) (shown_at (view seat.new) scope) }
+        ensures mine { scope ≡ scope_of seat.old → shown_at (view seat.new) scope ≡ shown_at (view seat.old) scope }
         ensures sees { view seat.new ≡ sees (view seat.old) scope (shown_at (view seat.new) scope) }
         ensures others { (j : ℕ) → ¬ (j ≡ scope) → shown_at (view seat.new) j ≡ shown_at (view seat.old) j }
         ensures fair { IsFair (key_of self.now) scope (shown_at (view seat.new) scope).rows (shown_at (view seat.new) scope).complete }
@@ -375,7 +376,7 @@ impl ScopeTable {
 }
 
 /// The cell at a distance from the home of a name, of so many.
-fn probe(width: u64, name: u32, distance: u64) -> u32
+pub fn probe(width: u64, name: u32, distance: u64) -> u32
     requires { (0 < width) × (width ≤ 2 ^ 32) × (distance < width) }
     ensures { result ≡ probe_of width name distance }
 {
