@@ -684,6 +684,22 @@ procedure-returns g t c =
     coding_after (λ k. passed k (with_types c.args.withs.now) (map parameter_view p.params.items) (exprs (map expr_view c.args.args.now))) (λ codes k. gives (call_coded k.scene (map parameter_view p.params.items) (part c.args.fragments.now.nodes.items p.before) p.instr p.result p.more codes)) c.call_coded.result one
     (described c.call_coded.result (c.call_coded.ensures c.passed.new.notes) (λ k. ap (λ (before : Part). gives (call_coded k.scene (map parameter_view p.params.items) before p.instr p.result p.more (argument_in ms c.in-Known.value))) (part_later one.grows p.before c.requires.callee.before)))
 
+pub lacking-passed-requires : goal.lacking-passed-requires
+lacking-passed-requires g t c κs within = (search rules, (within, (c.requires.suits, (c.requires.withs, (c.requires.params, (c.requires.read))))))
+
+pub lacking-returns-in-DontKnowYet : goal.lacking-returns-in-DontKnowYet
+lacking-returns-in-DontKnowYet g t c = unknown (rw c.in-DontKnowYet.is at c.in-Ok.ensures)
+
+pub lacking-returns-in-Err : goal.lacking-returns-in-Err
+lacking-returns-in-Err g t c = unmade c.in-Err.ensures _
+
+pub lacking-returns : goal.lacking-returns
+lacking-returns g t c =
+    let ms = c.passed.new.fragments.nodes.items in
+    let state = g.S.Scopes.state c.passed.new.scopes in
+    coding_after (λ k. passed k (with_types c.args.withs.now) (map parameter_view c.args.params.now) (exprs (map expr_view c.args.args.now))) (λ codes k. gives in_error) (Ok (Known c.in_error.result)) (rw c.in-Known.is at c.in-Ok.ensures)
+    (value_alone state c.passed.new.notes ms c.args.site.now c.in_error.result IsCoded coded_in (λ k. in_error) (c.in_error.ensures.there state.frame ms) (λ k. c.in_error.ensures.told ms))
+
 pub called_as-standard-requires : goal.called_as-standard-requires
 called_as-standard-requires g t c κs within = (search rules, (within, (c.requires.suits, (c.requires.withs, (c.requires.read)))))
 
@@ -701,6 +717,14 @@ called_as-returns-in-Standard g t c =
 pub called_as-returns-in-Procedure : goal.called_as-returns-in-Procedure
 called_as-returns-in-Procedure g t c =
     described c.procedure.result c.procedure.ensures (λ k. ap (λ (w : Callable). called_as k (with_types c.args.withs.now) (exprs (map expr_view c.args.args.now)) (called_in c.args.fragments.now.nodes.items w)) (sym c.in-Procedure.is))
+
+pub called_as-lacking-requires : goal.called_as-lacking-requires
+called_as-lacking-requires g t c κs within =
+    (search rules, (within, (c.requires.suits, (c.requires.withs, (rw c.deref.ensures.value (rw c.in-Lacking.is at c.requires.what), (c.requires.read))))))
+
+pub called_as-returns-in-Lacking : goal.called_as-returns-in-Lacking
+called_as-returns-in-Lacking g t c =
+    described c.lacking.result (rw c.deref.ensures.value at c.lacking.ensures) (λ k. ap (λ (w : Callable). called_as k (with_types c.args.withs.now) (exprs (map expr_view c.args.args.now)) (called_in c.args.fragments.now.nodes.items w)) (sym c.in-Lacking.is))
 
 pub called_as-returns-in-Nothing : goal.called_as-returns-in-Nothing
 called_as-returns-in-Nothing g t c =
