@@ -6,9 +6,12 @@ use Rattle.m2_base.specs.Statics.BlockRows.{declare_block}
 use Rattle.m2_base.specs.Statics.Blocks.{BlockTree, UnitTrees, blocks_of}
 use Rattle.m2_base.specs.Statics.Contexts.{Source}
 use Rattle.m2_base.specs.Statics.UnitRows.{unit_rows}
-use Rattle.m2_base.specs.Trees.{Decl, Definition, Designator, Expr, Heading, Ident, Main, Procedure, Qual, Section, Statement, Statements, Stream, assign_form, call_form, call_statement, designator, expr, more_exprs, more_statements, name_form, named_type, no_exprs, no_selectors, no_statements, number_form, proc_decl, return_form, statement, type_decl, type_expr, vars_decl}
+use Rattle.m2_base.specs.Trees.{Decl, Designator, Expr, Heading, Section, Statement, Statements, Stream, assign_form, call_form, call_statement, designator, expr, more_exprs, more_statements, name_form, named_type, no_exprs, no_selectors, no_statements, number_form, proc_decl, return_form, statement, type_decl, type_expr, vars_decl}
 use Rattle.m2_base.specs.declared.notes.Diag.{Diag}
 use Rattle.m2_base.specs.declared.rows.Row.{Row}
+use Rattle.m2_base.specs.declared.trees.Ident.{Ident}
+use Rattle.m2_base.specs.declared.trees.Qual.{Qual}
+use Rattle.m2_base.specs.declared.trees.declarations.StreamKind.TheVariants.{Definition, Main, Procedure}
 use Rattle.stmt_sem.specs.BlockCode.{block_diags}
 
 -- the diagnostics of these blocks, over the finished scopes before them
