@@ -5,7 +5,7 @@ use Rattle.code_form.specs.Heights.{Step}
 use Rattle.code_form.specs.declared.instr.Instr.{Instr}
 use Rattle.code_form.specs.declared.instr.Instr.TheVariants.{Index, IndexOpen, Load, Move, Nil, Offset, Push}
 use Rattle.expr_sem.specs.Arguments.{address_by, after_argument, alike, argument, array_argument, by_address, by_mode, by_value, checked_mode, is_variable, open_argument, open_element, value_argument_by}
-use Rattle.expr_sem.specs.Calls.{Called, allowed, call_code, call_coded, called, called_by, cells_of_all, is_same_truth, no_call, of_target, of_variable, procedure_call, result_cells, standard_call}
+use Rattle.expr_sem.specs.Calls.{Called, allowed, call_code, call_coded, called, called_by, cells_of_all, is_same_truth, lacking_call, no_call, of_target, of_variable, procedure_call, result_cells, standard_call}
 use Rattle.expr_sem.specs.Coded.{Coded, characters, coded, in_error, taken, value_code}
 use Rattle.expr_sem.specs.Elements.{element_of_array, element_of_open, index_instr, of_array, of_pointer, select_element_by, select_target_by}
 use Rattle.expr_sem.specs.Expressions.{by_called}
@@ -326,6 +326,7 @@ module _ (q : Step → Type 0) (seen : ℕ → Type 0) (cells bytes : ℕ) (c : 
   abbrev pub CR : Called → Type 0
   CR (standard_call f) = Unit {0}
   CR (procedure_call ps before i result more) = R before × q (record { instr = i; takes = cells_of_all c.scene ps + more; leaves = result_cells result })
+  CR (lacking_call ps) = Unit {0}
   CR no_call = Unit {0}
 
   abbrev GC : Gives Called → Type 0
@@ -370,4 +371,5 @@ module _ (q : Step → Type 0) (seen : ℕ → Type 0) (cells bytes : ℕ) (c : 
       → ((f : Builtin) → GX (standard f)) → ((ps : List Parameter) → GR (passed ps)) → GX looked → GX (by_called c what standard passed looked)
   by_called-x (standard_call f) standard passed looked g s p e = s f
   by_called-x (procedure_call ps before i result more) standard passed looked g s p e = call_go ps before i result more (passed ps).value g.0 g.1 (p ps)
+  by_called-x (lacking_call ps) standard passed looked g s p e = error'
   by_called-x no_call standard passed looked g s p e = e

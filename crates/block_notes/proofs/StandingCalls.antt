@@ -19,7 +19,7 @@ use Rattle.m2_base.specs.declared.operands.Operand.TheVariants.{InError, ModuleN
 use Rattle.m2_base.proofs.StandingNotes.{GivesAt, join, none, one}
 use Rattle.m2_base.proofs.StandingOperations.{gives_either}
 use Rattle.expr_sem.specs.Arguments.{address_by, alike, argument, array_argument, by_mode, by_value, checked_mode, is_variable, open_argument, open_element, string_argument}
-use Rattle.expr_sem.specs.Calls.{Called, allowed, allowed_by_type, called, called_by, is_same_truth, no_call, of_target, of_variable, procedure_call, standard_call}
+use Rattle.expr_sem.specs.Calls.{Called, allowed, allowed_by_type, called, called_by, is_same_truth, lacking_call, no_call, of_target, of_variable, procedure_call, standard_call}
 use Rattle.expr_sem.specs.Coded.{Coded}
 use Rattle.expr_sem.specs.Expressions.{by_called}
 use Rattle.expr_sem.specs.Parts.{Part}
@@ -98,4 +98,5 @@ module _ (n : ℕ) where
       → ((f : Builtin) → GivesAt n (standard f)) → ((ps : List Parameter) → GivesAt n (passed ps)) → GivesAt n looked → GivesAt n (by_called c what standard passed looked)
   call_at c (standard_call f) standard passed looked s p l = s f
   call_at c (procedure_call ps before i result more) standard passed looked s p l = join n (p ps) (none n)
+  call_at c (lacking_call ps) standard passed looked s p l = join n (p ps) (none n)
   call_at c no_call standard passed looked s p l = l

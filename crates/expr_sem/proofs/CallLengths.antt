@@ -11,7 +11,7 @@ use Rattle.expr_sem.proofs.Pushing.{size_append}
 use Rattle.expr_sem.proofs.ValueHeights.{both_ways}
 use Rattle.expr_sem.proofs.ValueLengths.{Roomy, Sized, as_value-roomy, assigned-roomy, coded-sized, error-roomy, fitted-spares, sized-less}
 use Rattle.expr_sem.specs.Arguments.{address_by, after_argument, alike, argument, array_argument, by_address, by_mode, by_value, checked_mode, is_variable, open_argument, open_element, string_copy, value_argument_by}
-use Rattle.expr_sem.specs.Calls.{call_code, Called, allowed, allowed_by_type, call_coded, called, called_by, call_instr, cells_of_all, is_same_truth, links_to, no_call, of_target, of_variable, procedure_call, standard_call}
+use Rattle.expr_sem.specs.Calls.{call_code, Called, allowed, allowed_by_type, call_coded, called, called_by, call_instr, cells_of_all, is_same_truth, lacking_call, links_to, no_call, of_target, of_variable, procedure_call, standard_call}
 use Rattle.expr_sem.specs.Coded.{coded, in_error, Coded, characters}
 use Rattle.expr_sem.specs.Expressions.{by_called}
 use Rattle.expr_sem.specs.Lengths.{IsShort}
@@ -136,6 +136,7 @@ after-spares n k None b f g = tt
 abbrev pub SizedCall : ℕ → Called → Type 0
 SizedCall n (standard_call f) = Unit {0}
 SizedCall n (procedure_call ps before i result more) = Spares 31 n before × size i ≤ 9
+SizedCall n (lacking_call ps) = Unit {0}
 SizedCall n no_call = Unit {0}
 
 allowed-sized : (c : Context) (at n : ℕ) (wanted found count : Bool) (what : Called) → SizedCall n what → SizedCall n (allowed c at wanted found count what).value
@@ -221,6 +222,7 @@ by_called-sized c n k (standard_call f) standard passed looked l g s p e =
     sized-less (standard f).value 32 22 (1 + k) (n + k) (standing n k l) (at_least n k l) (s f)
 by_called-sized c n k (procedure_call ps before i result more) standard passed looked l g s p e =
     call_go c.scene n k ps before i result more (passed ps).value l g.0 g.1 (p ps)
+by_called-sized c n k (lacking_call ps) standard passed looked l g s p e = error-sized n k l
 by_called-sized c n k no_call standard passed looked l g s p e =
     sized-less looked.value 32 22 n (n + k) (widened n k) (at_least n k l) e
   where

@@ -19,7 +19,7 @@ use Rattle.expr_sem.proofs.WholeProcedures.{first-stands, no_argument-stands, on
 use Rattle.expr_sem.proofs.WholeRows.{IsWholeParameter, bitset-whole}
 use Rattle.expr_sem.proofs.WholeValues.{AreElements, Stands, add_element-set, add_range-set, as_value-stands, element-stands, name-stands, one-stands, select_element-stands, select_field-stands, set-stands, target-stands, two-stands}
 use Rattle.expr_sem.specs.Arguments.{after_argument}
-use Rattle.expr_sem.specs.Calls.{Called, call_coded, no_call, procedure_call, standard_call}
+use Rattle.expr_sem.specs.Calls.{Called, call_coded, lacking_call, no_call, procedure_call, standard_call}
 use Rattle.expr_sem.specs.Coded.{Coded}
 use Rattle.expr_sem.specs.Expressions.{by_called, call_alone, continued, count_of_exprs, designated, element, elements, expression, followed, form_coded, indexed, looked_at, passed, selected, selector, standard, value}
 use Rattle.expr_sem.specs.Parts.{Part}
@@ -35,6 +35,7 @@ by_called-stands : (c : Context) (n : ℕ) (what : Called) (standard_of : Builti
 by_called-stands c n (standard_call f) standard_of passed_of looked h s p = s f h
 by_called-stands c n (procedure_call ps before i result more) standard_of passed_of looked h s p =
     and_gives (call_coded c.scene ps before i result more) (p ps h.0 h.1) (λ args k. call-stands c.scene ps before i result more args h.2 k)
+by_called-stands c n (lacking_call ps) standard_of passed_of looked h s p = absurd h
 by_called-stands c n no_call standard_of passed_of looked h s p = absurd h
 
 module _ (names : List (List ℕ)) (c : Context) (rows : AreWhole c.scene) (withs : List Place) where

@@ -10,7 +10,7 @@ use Rattle.code_form.specs.declared.instr.Instr.{Instr}
 use Rattle.code_form.specs.declared.instr.Instr.TheVariants.{Push, Local, Global, Load, Store, Move, Dup, Offset, Index, IndexOpen, Check, Nil, Eq, Union, Diff, Bit, Span, AndJump, OrJump, Call, CallX, Proc as ProcValue, Return, New as Room, Halt as Stop, Mod as Remainder, Abs as Magnitude, Cap as Capital}
 use Rattle.expr_sem.proofs.ValueHeights.{both_ways}
 use Rattle.expr_sem.specs.Arguments.{address_by, after_argument, alike, argument, array_argument, by_address, by_mode, by_value, checked_mode, is_variable, open_argument, open_element, string_copy, value_argument_by}
-use Rattle.expr_sem.specs.Calls.{Called, allowed, allowed_by_type, call_code, call_coded, called, called_by, cells_of_all, is_same_truth, links_to, no_call, of_target, of_variable, procedure_call, standard_call, result_cells}
+use Rattle.expr_sem.specs.Calls.{Called, allowed, allowed_by_type, call_code, call_coded, called, called_by, cells_of_all, is_same_truth, lacking_call, links_to, no_call, of_target, of_variable, procedure_call, standard_call, result_cells}
 use Rattle.expr_sem.specs.Coded.{Coded, bare, characters, coded, in_error, is_structured, no_high, taken, value_by, value_code, with_char}
 use Rattle.expr_sem.specs.Elements.{element_of_array, element_of_open, index_instr, of_array, of_pointer, select_element, select_element_by, select_target_by}
 use Rattle.expr_sem.specs.Expressions.{by_called, call_alone, continued, count_of_exprs, designated, element, elements, expression, followed, form_coded, indexed, looked_at, passed, selected, selector, standard, value}
@@ -635,6 +635,7 @@ after-stays None b f g = tt
 abbrev QuietCall : Scene → Called → Type 0
 QuietCall scene (standard_call f) = Unit {0}
 QuietCall scene (procedure_call ps before i result more) = Stays before × IsCall i (cells_of_all scene ps + more) (result_cells result)
+QuietCall scene (lacking_call ps) = Unit {0}
 QuietCall scene no_call = Unit {0}
 
 allowed-quiet : (c : Context) (at : ℕ) (wanted found count : Bool) (what : Called) → QuietCall c.scene what → QuietCall c.scene (allowed c at wanted found count what).value
@@ -686,6 +687,7 @@ by_called-quiet : (c : Context) (what : Called) (standard : Builtin → Gives Co
     → ((f : Builtin) → Quiet (standard f).value) → ((ps : List Parameter) → StaysIfThere (passed ps).value) → Quiet looked.value → Quiet (by_called c what standard passed looked).value
 by_called-quiet c (standard_call f) standard passed looked g s p e = s f
 by_called-quiet c (procedure_call ps before i result more) standard passed looked g s p e = call_go c.scene ps before i result more (passed ps).value g.0 g.1 (p ps)
+by_called-quiet c (lacking_call ps) standard passed looked g s p e = error-quiet
 by_called-quiet c no_call standard passed looked g s p e = e
 
 -- ---- the induction

@@ -9,7 +9,7 @@ use Rattle.expr_sem.proofs.Functions.{fitted-moves, assigned-good}
 use Rattle.code_form.specs.Valid.{jump_of}
 use Rattle.code_form.specs.declared.instr.Instr.{Instr}
 use Rattle.expr_sem.specs.Arguments.{after_argument, alike, argument, array_argument, by_address, by_mode, by_value, checked_mode, is_variable, open_argument, open_element, string_copy, value_argument}
-use Rattle.expr_sem.specs.Calls.{call_code, Called, allowed, allowed_by_type, call_coded, called, cells_of, cells_of_all, is_same_truth, links_to, no_call, of_target, of_variable, procedure_call, standard_call}
+use Rattle.expr_sem.specs.Calls.{call_code, Called, allowed, allowed_by_type, call_coded, called, cells_of, cells_of_all, is_same_truth, lacking_call, links_to, no_call, of_target, of_variable, procedure_call, standard_call}
 use Rattle.expr_sem.specs.Coded.{coded, in_error, Coded, characters}
 use Rattle.expr_sem.specs.Expressions.{by_called, passed, standard}
 use Rattle.expr_sem.specs.Heights.{Moves}
@@ -159,6 +159,7 @@ after-good m n None b p q = tt
 abbrev pub GoodCall : Bool → Called → Type 0
 GoodCall value (standard_call f) = is_function f ≡ value
 GoodCall value (procedure_call ps before i result more) = (is_some result ≡ value) × Moves 0 before more × (jump_of i ≡ None)
+GoodCall value (lacking_call ps) = Unit {0}
 GoodCall value no_call = Unit {0}
 
 same : (a b : Bool) → not (is_same_truth a b) ≡ false → b ≡ a
@@ -234,6 +235,7 @@ pub by_called-good : (c : Context) (call : Called) (standard : Builtin → Gives
 by_called-good c (standard_call f) standard passed looked g s p l = s f g
 by_called-good c (procedure_call ps before i result more) standard passed looked g s p l =
     call-good c.scene ps before i result more (passed ps).value g.0 g.1 g.2 (p ps)
+by_called-good c (lacking_call ps) standard passed looked g s p l = refl
 by_called-good c no_call standard passed looked g s p l = l
 
 pub cells-cons : (scene : Scene) (p : Parameter) (ps : List Parameter) → cells_of_all scene (p ∷ ps) ≡ cells_of scene p + cells_of_all scene ps

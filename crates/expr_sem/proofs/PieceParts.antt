@@ -9,7 +9,7 @@ use Rattle.code_form.specs.Heights.{Step}
 use Rattle.expr_sem.specs.Arguments.{string_copy}
 use Rattle.expr_sem.specs.Fragments.{IsBefore, jump_of, part, part_by, parts_after, step_view}
 use Rattle.expr_sem.specs.Parts.{Made, Part, Spot, none, plain, steps, steps_size, text, unless_too_many, ◌⨟◌}
-use Rattle.expr_sem.specs.Pieces.{Appended, Begins, spot_of}
+use Rattle.expr_sem.specs.Pieces.{Appended, Begins, extend, spot_of}
 use Rattle.expr_sem.specs.Stacks.{Visited, behind, ends_as, remaining, stack_weight, three_to, weight}
 use Rattle.code_form.specs.declared.instr.Instr.TheVariants.{Local, Move, Str}
 use Rattle.expr_sem.specs.declared.fragments.Connective.{Connective}
@@ -103,10 +103,6 @@ text_on (Ok v) a b c ws chars last e steps bytes cell byte h =
       next = h.next ∙ ap (λ (n : ℕ). record { cell = n; byte = b.byte; withs = map (λ w. w.cell) ws }) cell
           ∙ ap (λ (n : ℕ). record { cell = a.cell; byte = n; withs = map (λ w. w.cell) ws }) (byte ∙ e);
     }
-
--- what a part appends behind
-abbrev pub extend : Made → Part → Made
-extend m r = record { code = m.code ++ (r m.next).code; bytes = m.bytes ++ (r m.next).bytes; next = (r m.next).next }
 
 ends_then : (a : Piece) (ws : List With) (p r : Part) → ends_as a ws (p ⨟ r) ≡ extend (ends_as a ws p) r
 ends_then a ws p r =

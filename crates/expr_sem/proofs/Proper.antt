@@ -10,7 +10,7 @@ use Rattle.expr_sem.proofs.Passing.{Moves-at, Passes, GoodCall, called-good, unl
 use Rattle.expr_sem.proofs.Law.{expression-good, passed-good, designated-good}
 use Rattle.code_form.specs.Valid.{jump_of}
 use Rattle.code_form.specs.declared.instr.Instr.{Instr}
-use Rattle.expr_sem.specs.Calls.{Called, call_coded, called, cells_of_all, no_call, procedure_call, standard_call}
+use Rattle.expr_sem.specs.Calls.{Called, call_coded, called, cells_of_all, lacking_call, no_call, procedure_call, standard_call}
 use Rattle.expr_sem.specs.Coded.{Coded, coded, in_error, taken, value_code}
 use Rattle.expr_sem.specs.Expressions.{by_called, call_alone, count_of_exprs, designated, expression, looked_at, passed, standard}
 use Rattle.expr_sem.specs.Fitting.{check_of, fitted_code, reaches_beyond}
@@ -219,6 +219,7 @@ by_called-proper : (c : Context) (withs : List Place) (args : Exprs) (call : Cal
 by_called-proper c withs args (standard_call f) g = standard-proper c withs f args g
 by_called-proper c withs args (procedure_call ps before i result more) g =
     call-proper c.scene ps before i result more (passed c withs ps args).value g.0 g.1 g.2 (passed-good c withs ps args)
+by_called-proper c withs args (lacking_call ps) g = λ b. absurd cc
 by_called-proper c withs args no_call g = looked-proper c withs args
 
 -- a call as a statement

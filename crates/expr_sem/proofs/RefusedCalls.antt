@@ -17,8 +17,8 @@ use Rattle.code_form.specs.declared.instr.Instr.{Instr}
 use Rattle.const_eval.proofs.RefusedSteps.{IsMissing, QuietOr, of-error, quiet, quiet-if, quiet-then, tests, wrong}
 use Rattle.expr_sem.proofs.RefusedValues.{Erred, QuietCoded, as_value-error, as_value-quiet, assigned-quiet, of-erred}
 use Rattle.expr_sem.specs.Arguments.{address_by, after_argument, alike, argument, array_argument, by_address, by_mode, by_value, checked_mode, open_argument, string_argument, value_argument, value_argument_by}
-use Rattle.expr_sem.specs.Calls.{Called, allowed, call_coded, called, called_by, no_call, procedure_call, standard_call}
-use Rattle.expr_sem.specs.Coded.{Coded}
+use Rattle.expr_sem.specs.Calls.{Called, allowed, call_coded, called, called_by, lacking_call, no_call, procedure_call, standard_call}
+use Rattle.expr_sem.specs.Coded.{Coded, in_error}
 use Rattle.expr_sem.specs.Expressions.{by_called}
 use Rattle.expr_sem.specs.Parts.{Part}
 use Rattle.expr_sem.specs.Values.{as_value, assigned_to}
@@ -120,6 +120,8 @@ module _ (c : Context) where
   by_called-quiet (procedure_call ps before i result more) standard passed looked s p l =
       quiet-then IsMissing Erred (passed ps) (λ args. gives (call_coded c.scene ps before i result more args)) (p ps)
       (call-missing ps before i result more (passed ps).value) (quiet refl)
+  by_called-quiet (lacking_call ps) standard passed looked s p l =
+      quiet-then IsMissing Erred (passed ps) (λ args. gives in_error) (p ps) (λ e. refl) (quiet refl)
   by_called-quiet no_call standard passed looked s p l = l
 
   -- where nothing is called, the arguments are looked at

@@ -25,7 +25,7 @@ use Rattle.expr_sem.proofs.WholeRows.{IsWhole, IsWholeParameter, kind-whole, par
 use Rattle.expr_sem.proofs.WholeValues.{Stands, as_value-stands, assigned-stands}
 use Rattle.code_form.specs.declared.instr.Instr.{Instr}
 use Rattle.expr_sem.specs.Arguments.{address_by, after_argument, alike, argument, array_argument, by_mode, by_value, checked_mode, is_variable, open_argument, open_element, value_argument, value_argument_by}
-use Rattle.expr_sem.specs.Calls.{Called, allowed, call_coded, called, called_by, is_same_truth, no_call, of_target, of_variable, procedure_call, standard_call}
+use Rattle.expr_sem.specs.Calls.{Called, allowed, call_coded, called, called_by, is_same_truth, lacking_call, no_call, of_target, of_variable, procedure_call, standard_call}
 use Rattle.expr_sem.specs.Coded.{Coded, in_error}
 use Rattle.expr_sem.specs.Parts.{Part}
 use Rattle.expr_sem.specs.ProcedureNames.{Target, target_of_procedure}
@@ -104,6 +104,7 @@ module _ (c : Context) (rows : AreWhole c.scene) where
 abbrev pub IsCalled : Scene → (count : ℕ) → Called → Type 0
 IsCalled scene n (standard_call f) = takes_count f n ≡ true
 IsCalled scene n (procedure_call ps before i result more) = (n ≡ length ps) × Each (IsWholeParameter scene) ps × WhereKept result (IsWholeType scene)
+IsCalled scene n (lacking_call ps) = ⊥
 IsCalled scene n no_call = ⊥
 
 module _ (c : Context) where

@@ -15,7 +15,7 @@ use Rattle.expr_sem.specs.Fragments.{IsIn, part}
 use Rattle.expr_sem.specs.Parts.{Part, none, plain, ◌⨟◌}
 use Rattle.expr_sem.specs.ProcedureNames as names
 use Rattle.expr_sem.specs.declared.calls.Callable.{Callable}
-use Rattle.expr_sem.specs.declared.calls.Callable.TheVariants.{Nothing, Procedure, Standard}
+use Rattle.expr_sem.specs.declared.calls.Callable.TheVariants.{Lacking, Nothing, Procedure, Standard}
 use Rattle.expr_sem.specs.declared.calls.Callee.{Callee}
 use Rattle.expr_sem.specs.declared.fragments.Node.{Node}
 
@@ -27,11 +27,13 @@ pub record IsCallee (f : Frame) (ns : List Node) (p : Callee) : Type 0 where
 
 abbrev pub IsCallable : Frame → List Node → Callable → Type 0
 IsCallable f ns (Procedure p) = IsCallee f ns p
+IsCallable f ns (Lacking ps) = Each (λ q. IsThere f q.of) ps.items
 IsCallable f ns other = Unit {0}
 
 abbrev pub called_in : List Node → Callable → calls.Called
 called_in ns (Standard f) = calls.standard_call f
 called_in ns (Procedure p) = calls.procedure_call (map parameter_view p.params.items) (part ns p.before) p.instr p.result p.more
+called_in ns (Lacking ps) = calls.lacking_call (map parameter_view ps.items)
 called_in ns Nothing = calls.no_call
 
 -- a call of something of these parameters and this result with so many arguments
@@ -40,7 +42,7 @@ allowed_by c at is_wanted n ps result what = calls.allowed c at is_wanted (is_so
 
 -- a call of a procedure of these parameters and this result
 abbrev pub target_called : Scene → List parts.Parameter → Option Place → Option names.Target → calls.Called
-target_called scene ps result None = calls.no_call
+target_called scene ps result None = calls.lacking_call ps
 target_called scene ps result (Some p) = calls.procedure_call ps none (calls.call_instr scene p) result 0
 
 -- a call of a procedure value, by the cells of all arguments and the code of the value

@@ -1,7 +1,8 @@
 -- What a call calls, and its code: of a procedure variable its value first, then the arguments in order, then the call. A
 -- call that stands where a value is wanted is of what gives a value, a call that is a statement of what gives none; and it
 -- has as many arguments as there are parameters. Where something was refused before, the arguments are looked at for their
--- own diagnostics alone.
+-- own diagnostics alone. Of a heading that the module lacks, which is refused elsewhere, the arguments stand beside the
+-- parameters all the same, and the call is in error.
 use Rattle.std.specs.Prelude.{ℕ, ◌+◌, ◌==◌, not, Bool, true, false, List, [], ◌∷◌, length, if◌then◌else◌, Option, Some, None, is_some}
 use Rattle.m2_base.specs.Gives.{Gives, gives}
 use Rattle.m2_base.specs.declared.rows.Place.{Place}
@@ -41,11 +42,12 @@ result_cells (Some t) = 1
 -- ---- what is called
 
 -- A standard procedure with its arguments; or a procedure or a procedure value, with its parameters, the code before the
--- arguments, the instruction, the result, and how many operands the call takes beside the arguments; or nothing, where a
--- diagnostic or a part in error came before.
+-- arguments, the instruction, the result, and how many operands the call takes beside the arguments; or a procedure that the
+-- module lacks, with its parameters; or nothing, where a diagnostic or a part in error came before.
 pub data Called : Type 0 where
   standard_call : Builtin → Called
   procedure_call : (params : List Parameter) → (before : Part) → (calls : Instr) → (result : Option Place) → (more : ℕ) → Called
+  lacking_call : (params : List Parameter) → Called
   no_call : Called
 
 -- how many static links lead from a block to the frame that encloses a procedure of this scope; none for one of a module
@@ -76,9 +78,9 @@ abbrev pub allowed_by_type : Context → (at : ℕ) → (is_wanted : Bool) → (
 allowed_by_type c at is_wanted n t what =
     allowed c at is_wanted (is_some (result_of_type c.scene t)) (n == length (parameters c.scene t)) what
 
--- a call of a procedure; one that the module lacks was refused elsewhere
+-- a call of a procedure of this type, which the module may lack
 abbrev pub of_target : Scene → Place → Option Target → Called
-of_target scene t None = no_call
+of_target scene t None = lacking_call (parameters scene t)
 of_target scene t (Some p) = procedure_call (parameters scene t) none (call_instr scene p) (result_of_type scene t) 0
 
 -- a call of a procedure variable whose address this code gives

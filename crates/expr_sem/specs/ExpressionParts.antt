@@ -12,7 +12,7 @@ use Rattle.code_form.specs.declared.instr.Instr.{Instr}
 use Rattle.type_rules.specs.Scenes.{IsThere}
 use Rattle.expr_sem.specs.Arguments.{after_argument, argument}
 use Rattle.expr_sem.specs.Calls.{Called, call_coded, called}
-use Rattle.expr_sem.specs.Coded.{Coded}
+use Rattle.expr_sem.specs.Coded.{Coded, in_error}
 use Rattle.expr_sem.specs.Elements.{select_element}
 use Rattle.expr_sem.specs.Expressions.{by_called, count_of_exprs, designated, elements, expression, looked_at, passed, standard, value}
 use Rattle.expr_sem.specs.Parts.{Part}
@@ -81,3 +81,7 @@ second_argument c withs f first_at v e = and_then (expression c withs e) (λ y. 
 -- a procedure with these arguments
 abbrev pub procedure : Context → (withs : List Place) → List Parameter → (before : Part) → Instr → Option Place → (more : ℕ) → Exprs → Gives Coded
 procedure c withs ps before calls result more args = and_then (passed c withs ps args) (λ codes. gives (call_coded c.scene ps before calls result more codes))
+
+-- a procedure that the module lacks, with these arguments
+abbrev pub lacking : Context → (withs : List Place) → List Parameter → Exprs → Gives Coded
+lacking c withs ps args = and_then (passed c withs ps args) (λ codes. gives in_error)

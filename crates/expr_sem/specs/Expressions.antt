@@ -12,7 +12,7 @@ use Rattle.m2_base.specs.Trees.{Designator, Expr, ExprForm, Exprs, Label, Labels
 use Rattle.m2_base.specs.declared.builtins.Builtin.{Builtin}
 use Rattle.m2_base.specs.declared.operands.Operand.TheVariants.{Constant, StringConstant}
 use Rattle.expr_sem.specs.Arguments.{after_argument, argument}
-use Rattle.expr_sem.specs.Calls.{Called, call_coded, called, no_call, procedure_call, standard_call}
+use Rattle.expr_sem.specs.Calls.{Called, call_coded, called, lacking_call, no_call, procedure_call, standard_call}
 use Rattle.expr_sem.specs.Coded.{Coded, bare, in_error}
 use Rattle.expr_sem.specs.Elements.{select_element, select_target}
 use Rattle.expr_sem.specs.Operators.{one_coded, two_coded}
@@ -33,11 +33,12 @@ count_of_exprs no_exprs = 0
 count_of_exprs (more_exprs e es) = suc (count_of_exprs es)
 
 -- What a call gives: as its standard procedure, with its arguments beside its parameters, or with its arguments looked at
--- alone.
+-- alone. That of a procedure which the module lacks is in error, once its arguments are there.
 abbrev pub by_called : Context → Called → (Builtin → Gives Coded) → (List Parameter → Gives (Option Part)) → Gives Coded → Gives Coded
 by_called c (standard_call f) standard passed looked = standard f
 by_called c (procedure_call ps before i result more) standard passed looked =
     and_then (passed ps) (λ args. gives (call_coded c.scene ps before i result more args))
+by_called c (lacking_call ps) standard passed looked = and_then (passed ps) (λ args. gives in_error)
 by_called c no_call standard passed looked = looked
 
 abbrev mutual

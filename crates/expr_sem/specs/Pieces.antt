@@ -2,13 +2,17 @@
 use Rattle.std.specs.Prelude.{◌≡◌, List, ◌++◌, map}
 use Rattle.m2_base.specs.Lists.{IsPrefixOf}
 use Rattle.expr_sem.specs.Fragments.{step_view}
-use Rattle.expr_sem.specs.Parts.{Part, Spot}
+use Rattle.expr_sem.specs.Parts.{Made, Part, Spot}
 use Rattle.expr_sem.specs.declared.pieces.Piece.{Piece}
 use Rattle.expr_sem.specs.declared.pieces.With.{With}
 
 -- where the next part begins
 abbrev pub spot_of : Piece → List With → Spot
 spot_of p ws = record { cell = p.cell; byte = p.byte; withs = map (λ w. w.cell) ws }
+
+-- what is made, with what this part makes behind it
+abbrev pub extend : Made → Part → Made
+extend m r = record { code = m.code ++ (r m.next).code; bytes = m.bytes ++ (r m.next).bytes; next = (r m.next).next }
 
 -- the piece has grown by the steps and the bytes of this part, and the next part begins where it says
 pub record Appended (before after : Piece) (ws : List With) (p : Part) : Type 0 where

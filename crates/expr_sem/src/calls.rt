@@ -58,11 +58,13 @@ pub struct Callee {
     pub more: u64,
 }
 
-/// What a call calls; nothing, where a diagnostic or a part in error came before.
+/// What a call calls; a procedure that the module lacks, with its parameters; nothing, where a diagnostic or a part in error
+/// came before.
 #[derive(Drop)]
 pub enum Callable {
     Standard(Builtin),
     Procedure(Callee),
+    Lacking(Vec<Parameter>),
     Nothing,
 }
 
@@ -161,7 +163,7 @@ fn call_instr(around: &Around, target: Target) -> Instr
     }
 }
 
-/// A call of a procedure; one that the module lacks was refused elsewhere.
+/// A call of a procedure, which the module may lack.
 fn procedure_callable(around: &Around, signature: Signature, target: Option<Target>) -> Callable
     ensures told { (tables : List (List RowOf)) (nodes : List Node) → called_in nodes result ≡ target_called (record { block = block_of around.now; tables = tables }) (map parameter_view signature.params.items) signature.result (option_map target_view target) }
     ensures there { (f : Frame) (nodes : List Node) → IsSignature f signature → IsCallable f nodes result }
@@ -174,7 +176,7 @@ fn procedure_callable(around: &Around, signature: Signature, target: Option<Targ
             result: signature.result,
             more: 0,
         }),
-        None => Callable::Nothing,
+        None => Callable::Lacking(signature.params),
     }
 }
 

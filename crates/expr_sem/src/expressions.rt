@@ -7,7 +7,7 @@ ghost use Rattle.m2_base.specs.Views.{designator_view, expr_view, label_view, ne
 ghost use Rattle.expr_sem.specs.ArgumentFits.{IsArgument, argument_in, parameter_view};
 ghost use Rattle.expr_sem.specs.Callees.{IsCallable, IsCallee, called_in};
 ghost use Rattle.expr_sem.specs.Codings.{Coding, IsCoded, coded_in, with_types};
-ghost use Rattle.expr_sem.specs.ExpressionParts.{IsPlace, called_as as spec_called_as, called_with as spec_called_with, first_argument as spec_first, index as spec_index, member as spec_member, next_passed as spec_next, place_in, procedure as spec_procedure, range_to as spec_range, second_argument as spec_second, set_of as spec_set, type_before as spec_type};
+ghost use Rattle.expr_sem.specs.ExpressionParts.{IsPlace, called_as as spec_called_as, called_with as spec_called_with, first_argument as spec_first, index as spec_index, lacking as spec_lacking, member as spec_member, next_passed as spec_next, place_in, procedure as spec_procedure, range_to as spec_range, second_argument as spec_second, set_of as spec_set, type_before as spec_type};
 ghost use Rattle.expr_sem.specs.Expressions.{call_alone as spec_alone, continued as spec_continued, designated as spec_designated, element as spec_element, elements as spec_elements, expression as spec_expression, followed as spec_followed, indexed as spec_indexed, looked_at as spec_looked, passed as spec_passed, selected as spec_selected, selector as spec_selector, standard as spec_standard, value as spec_value};
 ghost use Rattle.expr_sem.specs.Fragments.{part};
 ghost use Rattle.expr_sem.specs.SetCodings.{AreElements, elements_in};
@@ -475,6 +475,27 @@ fn procedure<S: Scopes>(
     call_coded(scopes, site, callee, codes, fragments)
 }
 
+/// A procedure that the module lacks, with these arguments: it is in error.
+#[cycle(expressions)]
+fn lacking<S: Scopes>(
+    scopes: &mut S,
+    site: &Site,
+    withs: &[With],
+    params: &[Parameter],
+    args: &[Expr],
+    fragments: &mut Fragments,
+    notes: &mut Notes,
+) -> Result<Ask<Coded>, Memory>
+    requires suits { SuitsSite (S.state scopes.old).frame site.now }
+    requires withs { Each (λ w. IsThere (S.state scopes.old).frame w.of) withs.now }
+    requires params { Each (λ p. IsThere (S.state scopes.old).frame p.of) params.now }
+    requires read { AreReadExprs site.now.texts.now.names (exprs (map expr_view args.now)) }
+    ensures { Coding (S.state scopes.old) (S.state scopes.new) notes.old notes.new fragments.old.nodes.items fragments.new.nodes.items site.now result IsCoded coded_in (λ c. spec_lacking c (with_types withs.now) (map parameter_view params.now) (exprs (map expr_view args.now))) }
+{
+    let _codes = analysed!(passed(scopes, site, withs, params, args, fragments, notes));
+    Ok(Ask::Known(Coded::in_error()))
+}
+
 /// What is called, with these arguments.
 #[cycle(expressions)]
 fn called_as<S: Scopes>(
@@ -496,6 +517,9 @@ fn called_as<S: Scopes>(
         Callable::Standard(f) => standard(scopes, site, withs, *f, args, fragments, notes),
         Callable::Procedure(callee) => {
             procedure(scopes, site, withs, callee, args, fragments, notes)
+        }
+        Callable::Lacking(params) => {
+            lacking(scopes, site, withs, params, args, fragments, notes)
         }
         Callable::Nothing => looked_at(scopes, site, withs, args, fragments, notes),
     }

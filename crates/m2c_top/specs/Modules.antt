@@ -1,5 +1,6 @@
 -- A module that is compiled: its text and its tree, and what its one block makes. It is a unit of one text.
-use Rattle.std.specs.Prelude.{ℕ, List, [], ◌∷◌, None}
+use Rattle.std.specs.Prelude.{ℕ, List, [], ◌∷◌, ◌++◌, None}
+use Rattle.m2_base.specs.declared.notes.Diag.{Diag}
 use Rattle.m2_base.specs.declared.rows.Row.{Row}
 use Rattle.m2_base.specs.Standard.{standard_rows}
 use Rattle.m2_base.specs.Statics.BlockRows.{declare_block}
@@ -12,7 +13,8 @@ use Rattle.m2_base.specs.Statics.UnitNotes.{complete_context}
 use Rattle.m2_base.specs.Statics.UnitRows.{unit_rows}
 use Rattle.m2_base.specs.Trees.{Stream}
 use Rattle.m2_base.specs.declared.token.Token.{Token}
-use Rattle.stmt_sem.specs.BlockCode.{ProcedureCode, block_code, body_of, run_of}
+use Rattle.stmt_sem.specs.BlockCode.{ProcedureCode, block_code, body_of, run_of, size_diags}
+use Rattle.stmt_sem.specs.Bodies.{Built, IsBuilt}
 use Rattle.stmt_sem.specs.Flows.{Flow, Run}
 
 -- the tokens of a text and the names that they number, and the tree that they spell
@@ -40,9 +42,13 @@ own_block names tree = main_block (lone_unit names tree) tree
 abbrev pub declared_in : List (List ℕ) → Stream → Makes BlockEffects
 declared_in names tree = declare_block (lone_unit names tree).source (standard_rows ∷ []) (own_block names tree)
 
+-- what its declarations leave
+abbrev pub effects_in : Module → BlockEffects
+effects_in m = (declared_in m.names m.tree).value
+
 -- how many cells its variables have
 abbrev pub cells_in : Module → ℕ
-cells_in m = (declared_in m.names m.tree).value.cell
+cells_in m = (effects_in m).cell
 
 -- where its statements stand
 abbrev pub context_in : Module → Context
@@ -54,7 +60,15 @@ body_in m = body_of (context_in m) (own_block m.names m.tree)
 
 -- what its statements and its end make
 abbrev pub run_in : Module → Run
-run_in m = run_of (own_block m.names m.tree) (declared_in m.names m.tree).value (body_in m).value
+run_in m = run_of (own_block m.names m.tree) (effects_in m) (body_in m).value
+
+-- what is noted of its statements and of its size
+abbrev pub stated_in : Module → List Diag
+stated_in m = (body_in m).diags ++ size_diags (context_in m) (own_block m.names m.tree) m.tree.kind (effects_in m) (run_in m)
+
+-- the code of its block in the making
+abbrev pub IsBegun : Module → Built → Type 0
+IsBegun m b = IsBuilt (context_in m) m.tree (effects_in m) b
 
 -- the code of its block
 abbrev pub code_in : Module → ProcedureCode

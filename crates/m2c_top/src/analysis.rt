@@ -1,37 +1,30 @@
 //! What the analysis of a module finds: its declarations are analysed item after item, and their rows entered into the module's
 //! scope; then its statements are analysed there, and their code is made.
-ghost use Rattle.std.specs.Prelude.{◌≡◌, ◌<◌, ◌^◌, ◌+◌, ◌||◌, ◌∷◌, ◌++◌, [], nat_lt, IfOk, OnOk};
+ghost use Rattle.std.specs.Prelude.{◌≡◌, ◌+◌, ◌<◌, ◌^◌, ◌∷◌, [], IfOk, OnOk, length};
 ghost use Rattle.m2_base.specs.States.{IsSound};
-ghost use Rattle.m2_base.specs.Statics.Blocks.{BlockTree};
-ghost use Rattle.m2_base.specs.Statics.Cells.{capped, most_cells};
-ghost use Rattle.m2_base.specs.Statics.Closing.{block_name};
-ghost use Rattle.m2_base.specs.Statics.Contexts.{Context};
 ghost use Rattle.m2_base.specs.Statics.Layouts.{layout_of};
 ghost use Rattle.m2_base.specs.Trees.{Stream};
 ghost use Rattle.scope_core.specs.PlainScopes.{started, state_of};
-ghost use Rattle.stmt_sem.specs.BlockCode.{size_by};
-ghost use Rattle.stmt_sem.specs.Blocks.{whole_in, whole_of};
+ghost use Rattle.stmt_sem.specs.Bodies.{whole_in, whole_of};
 ghost use Rattle.m2c_top.specs.Analyses.{IsFound};
 ghost use Rattle.m2c_top.specs.Diagnostics.{noted_in};
-ghost use Rattle.m2c_top.specs.Filled.{IsFilled, at_first, main_around, row_count as spec_count};
+ghost use Rattle.m2c_top.specs.Filled.{IsBlock, IsFilled, at_first, main_around, row_count as spec_count};
 ghost use Rattle.m2c_top.specs.Held.{IsHeld, held};
-ghost use Rattle.m2c_top.specs.Modules.{body_in, cells_in, run_in};
+ghost use Rattle.m2c_top.specs.Modules.{IsBegun, cells_in, run_in, stated_in};
 
 mod declaring;
 
 use crate::analysis::declaring::{Block, declare_block};
-use crate::diagnostic::diag_at;
 use crate::module::Module;
-use decl_sem::{Effect, layout};
+use decl_sem::layout;
 use expr_sem::Piece;
 use listings::put_in_order;
 use m2_base::{
-    Around, Ask, Chain, Diag, Diagnostic, Ident, Layout, MOST_CELLS, Memory, Notes, ProcCode,
-    STANDARD_ROWS, Scopes, Site, Texts,
+    Around, Ask, Chain, Diag, Layout, Memory, ProcCode, STANDARD_ROWS, Scopes, Site, Texts,
 };
 use scope_core::PlainScopes;
 use std::alloc::Global;
-use stmt_sem::{block, procedure_code};
+use stmt_sem::{Body, Stated, procedure_code};
 
 /// A block has at most so many rows.
 const MOST_ROWS: u32 = 2_147_483_647;
@@ -79,66 +72,65 @@ fn scopes_for<'u>(alloc: Global, texts: &'u Texts, rows: u32) -> Result<PlainSco
     PlainScopes::new(alloc, texts, &[STANDARD_ROWS as u32, rows])
 }
 
-/// What the module's statements and its end make. Its declarations left it so many cells.
-fn make_code<S: Scopes>(
-    alloc: Global,
-    scopes: &mut S,
-    module: &Module,
-    around: &Around,
-    cells: u32,
-    notes: &mut Notes,
-) -> Result<Piece, Memory>
-    requires held { IsHeld «module».now }
-    requires around { around.now ≡ main_around }
-    requires cells { cells ≡ cells_in (held «module».now) }
+/// Adds the module's next statement. Since all scopes are complete, nothing waits.
+fn add_statement<S: Scopes>(scopes: &mut S, block: &Block, body: &mut Body) -> Result<(), Memory>
+    requires block { IsBlock block.now }
     requires sound { IsSound (S.state scopes.old) }
-    requires filled { IsFilled (S.state scopes.old).frame «module».now }
-    ensures noted { OnOk result (notes.new.diags.items ≡ notes.old.diags.items ++ (body_in (held «module».now)).diags) }
-    ensures made { IfOk result (λ piece. whole_in piece ≡ whole_of (run_in (held «module».now))) }
+    requires filled { IsFilled (S.state scopes.old).frame block.now.compiled.now }
+    requires more { body.old.count < length block.now.compiled.now.tree.body.items }
+    requires built { IsBegun (held block.now.compiled.now) body.old }
+    ensures sound { OnOk result (IsSound (S.state scopes.new)) }
+    ensures filled { OnOk result (IsFilled (S.state scopes.new).frame block.now.compiled.now) }
+    ensures count { OnOk result (body.new.count ≡ body.old.count + 1) }
+    ensures built { OnOk result (IsBegun (held block.now.compiled.now) body.new) }
 {
-    let layout = Layout::new(alloc, Vec::new(alloc), Vec::new(alloc))?;
     let site = Site {
-        texts: &module.texts,
-        around,
-        layout: &layout,
+        texts: &block.compiled.texts,
+        around: block.around,
+        layout: block.layout,
         item: None,
     };
-    let effect = Effect {
-        cell: cells,
-        prologue: Vec::new(alloc),
-        heading: None,
-    };
-    match block(alloc, scopes, &site, &module.tree, &effect, None, notes) {
-        Ok(Ask::Known(piece)) => Ok(piece),
+    match body.add(scopes, &site, &block.compiled.tree, None) {
+        Ok(Ask::Known(())) => Ok(()),
         Ok(Ask::DontKnowYet(_)) => unreachable!(),
         Err(memory) => Err(memory),
     }
 }
 
-/// Whether the variables have too many cells with a body's temporary ones, or its data too many bytes.
-fn is_too_much(cells: u32, piece: &Piece) -> bool
-    ensures { result ≡ (nat_lt most_cells (capped (cells + piece.now.cell)) || nat_lt most_cells piece.now.byte) }
+/// Adds the module's statements, one after another.
+fn add_statements<S: Scopes>(scopes: &mut S, block: &Block, body: &mut Body) -> Result<(), Memory>
+    requires block { IsBlock block.now }
+    requires sound { IsSound (S.state scopes.old) }
+    requires filled { IsFilled (S.state scopes.old).frame block.now.compiled.now }
+    requires none { body.old.count ≡ 0 }
+    requires begun { IsBegun (held block.now.compiled.now) body.old }
+    ensures all { OnOk result (body.new.count ≡ length block.now.compiled.now.tree.body.items) }
+    ensures built { OnOk result (IsBegun (held block.now.compiled.now) body.new) }
 {
-    cells.saturating_add(piece.cell) > MOST_CELLS || piece.byte > MOST_CELLS
-}
-
-/// Too many cells or bytes are told at the module's name.
-fn note_size(
-    name: Option<Ident>,
-    cells: u32,
-    piece: &Piece,
-    diags: &mut Vec<Diag>,
-) -> Result<(), Memory>
-    ensures { OnOk result ((c : Context) (b : BlockTree) → c.scene.block.text ≡ 0 → block_name b.tree ≡ name →
-        diags.new.items ≡ diags.old.items ++ size_by c b (capped (cells + piece.now.cell)) piece.now.byte) }
-{
-    let Some(name) = name else {
-        return Ok(());
-    };
-    if is_too_much(cells, piece) {
-        diags.push(diag_at(name.at, Diagnostic::TooManyCells))?;
+    for _index in 0..block.compiled.tree.body.len() {
+        add_statement(scopes, block, body)?;
     }
     Ok(())
+}
+
+/// What the module's statements and its end make, and what is noted of them. Its declarations left it so many cells.
+fn make_code<S: Scopes>(
+    alloc: Global,
+    scopes: &mut S,
+    block: &Block,
+    cells: u32,
+) -> Result<Stated, Memory>
+    requires block { IsBlock block.now }
+    requires cells { cells ≡ cells_in (held block.now.compiled.now) }
+    requires sound { IsSound (S.state scopes.old) }
+    requires filled { IsFilled (S.state scopes.old).frame block.now.compiled.now }
+    ensures noted { IfOk result (λ stated. stated.notes.diags.items ≡ stated_in (held block.now.compiled.now)) }
+    ensures made { IfOk result (λ stated. whole_in stated.piece ≡ whole_of (run_in (held block.now.compiled.now))) }
+{
+    let tree = &block.compiled.tree;
+    let mut body = Body::begin(alloc, tree, cells, &[])?;
+    add_statements(scopes, block, &mut body)?;
+    body.end(block.around, tree)
 }
 
 /// Analyses the block of a module: the cells of its variables, and what its statements make.
@@ -146,13 +138,13 @@ fn analyse_block(
     alloc: Global,
     module: &Module,
     around: &Around,
-    notes: &mut Notes,
+    diags: &mut Vec<Diag>,
 ) -> Result<(u32, Piece), Memory>
     requires held { IsHeld «module».now }
     requires around { around.now ≡ main_around }
-    requires none { notes.old.diags.items ≡ [] }
+    requires none { diags.old.items ≡ [] }
     ensures few { OnOk result (spec_count (held «module».now).tree < 2 ^ 31) }
-    ensures noted { OnOk result (notes.new.diags.items ≡ noted_in (held «module».now)) }
+    ensures noted { OnOk result (diags.new.items ≡ noted_in (held «module».now)) }
     ensures cells { IfOk result (λ made. made.0 ≡ cells_in (held «module».now)) }
     ensures made { IfOk result (λ made. whole_in made.1 ≡ whole_of (run_in (held «module».now))) }
 {
@@ -164,10 +156,10 @@ fn analyse_block(
         around,
         layout: &layout,
     };
-    let cells = declare_block(alloc, &mut scopes, &block, &mut notes.diags)?;
-    let piece = make_code(alloc, &mut scopes, module, around, cells, notes)?;
-    note_size(module.tree.name, cells, &piece, &mut notes.diags)?;
-    Ok((cells, piece))
+    let cells = declare_block(alloc, &mut scopes, &block, diags)?;
+    let stated = make_code(alloc, &mut scopes, &block, cells)?;
+    diags.extend_from_slice(&stated.notes.diags)?;
+    Ok((cells, stated.piece))
 }
 
 /// Analyses a module. One without diagnostics has code.
@@ -176,9 +168,8 @@ pub fn analyse(alloc: Global, module: &Module) -> Result<Analysis, Memory>
     ensures { IfOk result (IsFound (held «module».now)) }
 {
     let around = around_main(alloc)?;
-    let mut notes = Notes::new(alloc);
-    let (cells, piece) = analyse_block(alloc, module, &around, &mut notes)?;
-    let Notes { mut diags, .. } = notes;
+    let mut diags = Vec::new(alloc);
+    let (cells, piece) = analyse_block(alloc, module, &around, &mut diags)?;
     put_in_order(&mut diags);
     if diags.is_empty() {
         let code = procedure_code(alloc, &around, &module.tree, piece)?;

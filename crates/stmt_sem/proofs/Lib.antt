@@ -33,4 +33,4 @@ pub mod SimpleGiven
 mod ProcedureCodes
 mod PiecesJoined
 mod TopStatements
-mod BlockStatements
+mod BodyStatements

@@ -1,16 +1,15 @@
 -- Pieces, and what parts of code append to them.
 use Rattle.std.proofs.Common.{◌+◌, ◌≡◌, ◌∙◌, ◌++◌, [], ℕ, List, map, drop, get_or, ◌<◌, length, ap, sym}
-use Rattle.std.proofs.lemmas.List.{append-nil, map-append, drop_more}
+use Rattle.std.proofs.lemmas.List.{append-nil, drop_more}
 use Rattle.code_form.specs.Heights.{Step}
 use Rattle.decl_sem.specs.Effects.{copy_view}
 use Rattle.decl_sem.specs.declared.effects.ParamCopy.{ParamCopy}
 use Rattle.expr_sem.specs.Fragments.{step_view}
 use Rattle.expr_sem.specs.Parts.{Made, Part, Spot, none}
-use Rattle.expr_sem.specs.Pieces.{Appended, spot_of}
+use Rattle.expr_sem.specs.Pieces.{Appended, IsAsBefore, extend, spot_of}
 use Rattle.expr_sem.specs.Stacks.{ends_as}
 use Rattle.expr_sem.specs.declared.pieces.Piece.{Piece}
-use Rattle.expr_sem.specs.declared.steps.Step.{Step as CodeStep}
-use Rattle.expr_sem.proofs.PieceParts.{ended, extend}
+use Rattle.expr_sem.proofs.PieceParts.{ended}
 use Rattle.stmt_sem.specs.BlockCode.{copy_code, prologue}
 use Rattle.stmt_sem.specs.Stating.{made_in, spot_at}
 
@@ -25,15 +24,9 @@ made_behind {a} {b} p h =
 pub made_alone : {a b : Piece} (p : Part) (at : Spot) → made_in a ≡ none at → Appended a b [] p → made_in b ≡ p at
 made_alone p at empty h = made_behind p h ∙ ap (λ (m : Made). extend m p) empty
 
--- a piece behind another
-pub piece_behind : (a b x : Piece) (p : Part) → b.steps.items ≡ a.steps.items ++ x.steps.items → b.bytes.items ≡ a.bytes.items ++ x.bytes.items → b.cell ≡ x.cell → b.byte ≡ x.byte
-    → made_in x ≡ p (spot_of a []) → Appended a b [] p
-piece_behind a b x p steps bytes cell byte same =
-    record {
-      steps = ap (λ (l : List CodeStep). map step_view l) steps ∙ map-append step_view a.steps.items x.steps.items ∙ ap (λ (m : Made). map step_view a.steps.items ++ m.code) same;
-      bytes = bytes ∙ ap (λ (m : Made). a.bytes.items ++ m.bytes) same;
-      next = ap (λ (n : ℕ). spot_at n b.byte) cell ∙ ap (λ (n : ℕ). spot_at x.cell n) byte ∙ ap (λ (m : Made). m.next) same;
-    }
+-- a piece that is as before has what it had
+pub made_same : {a b : Piece} → IsAsBefore a b → made_in b ≡ made_in a
+made_same {a} {b} h = λ k. record { code = map step_view (h.steps k); bytes = h.bytes k; next = spot_at (h.cell k) (h.byte k) }
 
 -- one more copy of those that are to be appended
 pub copy_appended : (a b c : Piece) (xs : List ParamCopy) (i : ℕ) (d : ParamCopy) → i < length xs

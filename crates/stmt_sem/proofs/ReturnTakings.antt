@@ -8,6 +8,7 @@ use Rattle.m2_base.specs.Gives.{gives}
 use Rattle.m2_base.specs.Standard.{broken}
 use Rattle.m2_base.specs.Statics.CaseLabels.{LabelTest, labels_of}
 use Rattle.m2_base.specs.Statics.Contexts.{Context, Source, refuse}
+use Rattle.m2_base.specs.Statics.Layouts.{layout_of}
 use Rattle.m2_base.specs.Statics.Diagnostics.{exit_outside_loop, not_assignable, result_not_scalar}
 use Rattle.m2_base.specs.Statics.Effects.{BlockEffects}
 use Rattle.m2_base.specs.Statics.Operands.{is_bad, operand_type}
@@ -19,7 +20,7 @@ use Rattle.m2_base.specs.Statics.BlockRows.{declare_block}
 use Rattle.m2_base.specs.Statics.Blocks.{BlockTree}
 use Rattle.m2_base.specs.Statics.UnitNotes.{complete_context}
 use Rattle.m2_base.specs.declared.rows.Row.{Row}
-use Rattle.m2_base.specs.Trees.{CaseArm, CaseArms, CaseElse, Expr, Heading, IfArm, IfArms, Statement, Statements, StmtForm, assign_form, call_statement, case_arm, case_else, case_form, designator_at, empty_form, exit_form, expr_at, for_form, if_arm, if_form, loop_form, more_case_arms, more_if_arms, more_statements, no_case_arms, no_case_else, no_if_arms, no_statements, repeat_form, return_form, statement, while_form, with_form}
+use Rattle.m2_base.specs.Trees.{CaseArm, CaseArms, CaseElse, Expr, Heading, IfArm, IfArms, Statement, Statements, StmtForm, Stream, assign_form, call_statement, case_arm, case_else, case_form, designator_at, empty_form, exit_form, expr_at, for_form, if_arm, if_form, loop_form, more_case_arms, more_if_arms, more_statements, no_case_arms, no_case_else, no_if_arms, no_statements, repeat_form, return_form, statement, while_form, with_form}
 use Rattle.m2_base.specs.declared.rows.Place.{Place}
 use Rattle.m2_base.specs.declared.trees.Qual.{Qual}
 use Rattle.expr_sem.proofs.NoReturns.{Quiet, Stays, Tame, assigned-quiet, call_alone-quiet, fitted-stays, goes_on, none-stays}
@@ -31,7 +32,7 @@ use Rattle.expr_sem.specs.Fitting.{fitted_code}
 use Rattle.expr_sem.specs.Parts.{Part, call, none, plain, ◌⨟◌}
 use Rattle.expr_sem.specs.Values.{assigned_to}
 use Rattle.stmt_sem.specs.Assignments.{assignment, code_unless_bad}
-use Rattle.stmt_sem.specs.BlockCode.{block_code, ending, first_spot, prologue, result_by, results_of, run_of, stand_of}
+use Rattle.stmt_sem.specs.BlockCode.{block_code, bound_result, ending, first_spot, prologue, result_by, results_of, run_of, stand_of}
 use Rattle.stmt_sem.specs.Cases.{labels_code, selector_code, selector_type}
 use Rattle.stmt_sem.specs.Counting.{bound_value, control_variable, for_first, for_last, for_more, for_step, for_test, has_code, or_one}
 use Rattle.stmt_sem.specs.Flows.{Flow, counted, exit, in_with, nothing, straight, with_cell, ◌⨾◌}
@@ -224,18 +225,18 @@ mutual
 -- ---- a block
 
 -- a heading has a result where its procedure has one, in error or not
-same-result : (c : Context) (h : Option Heading) → returned_cells (result_by c h) ≡ results_of h
-same-result c None = refl
-same-result c (Some h) = typed h.result
+bound-cells : (c : Context) (h : Option Heading) → returned_cells (bound_result c h) ≡ results_of h
+bound-cells c None = refl
+bound-cells c (Some h) = typed h.result
   where
-    d : Context
-    d = record c { item = Some 0 }
-
-    typed : (r : Option Qual) → returned_cells (result_type d r).value ≡ result_cells r
+    typed : (r : Option Qual) → returned_cells (result_type c r).value ≡ result_cells r
     typed None = refl
     typed (Some q) =
-        let t : Place = (type_of_qual d q).value in
-        both_ways (λ r. returned_cells r.value ≡ 1) (is_structured d t) (refuse d q.first.at result_not_scalar (Some broken)) (gives (Some t)) refl refl
+        let t : Place = (type_of_qual c q).value in
+        both_ways (λ r. returned_cells r.value ≡ 1) (is_structured c t) (refuse c q.first.at result_not_scalar (Some broken)) (gives (Some t)) refl refl
+
+same-result : (c : Context) (tree : Stream) → returned_cells (result_by c tree) ≡ results_of tree.heading
+same-result c tree = bound-cells (record c { layout = (layout_of tree).names; item = Some 0 }) tree.heading
 
 ending-returns : (h : Option Heading) → EachOf (ReturnsOnly (results_of h)) (straight (ending h))
 ending-returns None = λ at o. (λ e. refl, tt)
@@ -253,7 +254,7 @@ block-returns c b e =
     let q : Step → Type 0 = ReturnsOnly n in
     let body : Flow = (flow_of (stand_of c b) b.tree.body).value in
     let last : Flow = straight (ending b.tree.heading) in
-    let g : EachOf q body = subst (λ (m : ℕ). EachOf (ReturnsOnly m) body) (same-result c b.tree.heading) (all-return (stand_of c b) b.tree.body) in
+    let g : EachOf q body = subst (λ (m : ℕ). EachOf (ReturnsOnly m) body) (same-result c b.tree) (all-return (stand_of c b) b.tree.body) in
     then-each q (straight (prologue e.prologue)) (body ⨾ last) (quiet-each n (prologue e.prologue) (prologue-stays e.prologue))
     (then-each q body last g (ending-returns b.tree.heading)) (first_spot b.tree.kind e) 0
 

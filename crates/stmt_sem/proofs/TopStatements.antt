@@ -3,6 +3,7 @@ use Rattle.std.proofs.Common.{◌≡◌, ◌∙◌, ◌++◌, ◌∷◌, [], ◌
 use Rattle.std.proofs.lemmas.Bool.{false≢true}
 use Rattle.std.specs.Prelude.{IsErr}
 use Rattle.std.specs.Option.{IfSome}
+use Rattle.m2_base.specs.Asks.{IfKnown}
 use Rattle.m2_base.specs.Gives.{Adds, Gives}
 use Rattle.m2_base.specs.Lists.{Each}
 use Rattle.m2_base.specs.States.{Frame, IsAmong, Look, State}
@@ -18,20 +19,22 @@ use Rattle.m2_base.specs.declared.replies.Head.{Head}
 use Rattle.m2_base.specs.declared.rows.Place.{Place}
 use Rattle.m2_base.specs.declared.sites.Site.{Site}
 use Rattle.m2_base.specs.declared.trees.statements.Statement.{Statement as StatementOf}
-use Rattle.type_rules.specs.Scenes.{Hand}
-use Rattle.type_rules.specs.Sites.{AreOfItem, AreOfSite, context_of}
+use Rattle.m2_base.proofs.Kept.{Works-refl}
+use Rattle.type_rules.specs.Scenes.{Hand, scene_of}
+use Rattle.type_rules.specs.Sites.{AreOfItem, AreOfSite, context_of, source_of}
 use Rattle.expr_sem.specs.Parts.{Spot}
 use Rattle.expr_sem.specs.declared.pieces.Piece.{Piece}
-use Rattle.stmt_sem.specs.Blocks.{Returns}
+use Rattle.stmt_sem.specs.BlockCode.{in_statements}
 use Rattle.stmt_sem.specs.FlowNodes.{flow_in}
 use Rattle.stmt_sem.specs.Flowings.{Flowing, IsFlow}
 use Rattle.stmt_sem.specs.Flows as flow
 use Rattle.stmt_sem.specs.Flows.{part_at}
 use Rattle.m2_base.specs.Statics.ReadStatements.{AreReadStatements, IsReadStatement}
-use Rattle.stmt_sem.specs.Statements as spec
+use Rattle.stmt_sem.specs.Stands.{at_first}
 use Rattle.stmt_sem.specs.Statements.{statement_flow}
-use Rattle.stmt_sem.specs.Stating.{IsStated, Stating, given_at, made_in, statement_at}
+use Rattle.stmt_sem.specs.Stating.{IsStated, Returns, Stating, given_at, made_in, statement_at}
 use Rattle.stmt_sem.specs.declared.flows.Flow.{Flow}
+use Rattle.stmt_sem.proofs.FlowsKept.{Grows-refl}
 use Rattle.stmt_sem.specs.declared.flows.Flows.{Flows}
 use Rattle.stmt_sem.specs.declared.top_statements.Stated.{Stated}
 
@@ -52,16 +55,35 @@ statement_read names (more_statements s ss) (suc k) st is h = statement_read nam
 -- ---- a statement of its own
 
 -- no rows are in hand in statements
-none_in_hand : (s : Site) (made : Hand) → s.item ≡ None → AreOfSite s made
+pub none_in_hand : (s : Site) (made : Hand) → s.item ≡ None → AreOfSite s made
 none_in_hand s made e = subst (λ (o : Option ℕ). IfSome o (λ item. AreOfItem s.layout.now.names item made.rows)) (sym e) tt
 
 -- the answers that were added behind none
-answers_shown : (looks : List Look) (xs ys zs : List Answer) → xs ≡ [] → ys ≡ xs ++ zs → Each (IsAmong looks) zs → Each (IsAmong looks) ys
+pub answers_shown : (looks : List Look) (xs ys zs : List Answer) → xs ≡ [] → ys ≡ xs ++ zs → Each (IsAmong looks) zs → Each (IsAmong looks) ys
 answers_shown looks xs ys zs none e h = subst (λ l. Each (IsAmong looks) l) (sym (e ∙ ap (λ l. l ++ zs) none)) h
 
--- a stand at the beginning of a body
-abbrev pub at_first : Context → Option Place → spec.Stand
-at_first c r = record { context = c; result = r; withs = []; looped = false }
+-- nothing was begun, since memory was wanted
+pub unbegun : (a : State) (n : Notes) (fs : Flows) (s : Site) (h : Context → Gives flow.Flow) (r : Result (Ask Flow) Memory) → IsErr r → Flowing a a n n fs fs s r IsFlow flow_in h
+unbegun a n fs s h (Ok v) e = absurd (false≢true e)
+unbegun a n fs s h (Err m) e = record { works = Works-refl a n; waits = tt; grows = Grows-refl fs; told = λ made in_hand told of_site. tt; there = tt }
+
+-- what is analysed without a layout is that of statements, whatever the layout is
+pub without_layout : {a b : State} {x y : Notes} {f1 f2 : Flows} {v : Result (Ask Flow) Memory} (s t : Site) (r : Option Place) (st : Statement) → s.item ≡ None
+    → t.texts.now ≡ s.texts.now → t.around.now ≡ s.around.now → t.layout.now.names ≡ [] → t.item ≡ None
+    → Flowing a b x y f1 f2 t v IsFlow flow_in (λ c. statement_flow (at_first c r) st)
+    → Flowing a b x y f1 f2 s v IsFlow flow_in (λ c. statement_flow (at_first (in_statements c) r) st)
+without_layout {a} {b} {x} {y} {f1} {f2} {v} s t r st alone texts around layout item p =
+    record {
+      works = p.works;
+      waits = p.waits;
+      grows = p.grows;
+      told = λ made in_hand told of_site.
+          let same : context_of a.frame made t ≡ in_statements (context_of a.frame made s) =
+          λ k. record { source = source_of (texts k); scene = scene_of a.frame made (around k); layout = layout k; item = item k } in
+          subst (λ (c : Context). IfKnown v (λ w. (cell : ℕ) → Adds x y (statement_flow (at_first c r) st) (flow_in f2 w cell))) same
+          (p.told made in_hand told (none_in_hand t made item));
+      there = p.there;
+    }
 
 module _ {a b : State} {x y : Notes} {f1 f2 : Flows} {s : Site} (tree : Stream) (k : ℕ) (at : Spot) where
   -- after want of memory nothing is known
@@ -77,7 +99,7 @@ module _ {a b : State} {x y : Notes} {f1 f2 : Flows} {s : Site} (tree : Stream) 
   -- the whole code of a statement
   pub state_known : {v : Flow} (r : Option Place) (st : Statement) (piece : Piece) → s.item ≡ None → x.diags.items ≡ [] → x.answers.items ≡ [] → statement_at tree.body k ≡ Some st
       → Returns a.frame s tree r
-      → Flowing a b x y f1 f2 s (Ok (Known v)) IsFlow flow_in (λ c. statement_flow (at_first c r) st)
+      → Flowing a b x y f1 f2 s (Ok (Known v)) IsFlow flow_in (λ c. statement_flow (at_first (in_statements c) r) st)
       → made_in piece ≡ part_at 0 (flow_in f2 v 0) at
       → Stating a b s tree k at (Ok (Known (record { piece = piece; notes = y })))
   state_known {v} r st piece alone no_diags no_answers is returns p same =
@@ -87,7 +109,7 @@ module _ {a b : State} {x y : Notes} {f1 f2 : Flows} {s : Site} (tree : Stream) 
         shown = answers_shown p.works.looks x.answers.items y.answers.items p.works.answers no_answers p.works.noted p.works.shown;
         waits = tt;
         told = λ made in_hand told.
-            let c = context_of a.frame made s in
+            let c = in_statements (context_of a.frame made s) in
             let h : Adds x y (given_at c tree st) (flow_in f2 v 0) = subst (λ (u : Option Place). Adds x y (statement_flow (at_first c u) st) (flow_in f2 v 0)) (returns made in_hand told) (p.told made in_hand told (none_in_hand s made alone) 0) in
             subst (λ (o : Option Statement). IfSome o (λ u. IsStated (given_at c tree u) at (record { piece = piece; notes = y }))) (sym is) (record {
               made_is = same ∙ ap (λ (f : flow.Flow). part_at 0 f at) h.value_is;

@@ -14,10 +14,11 @@ use Rattle.m2_base.specs.Statics.Closing.{block_name, closing_diags}
 use Rattle.m2_base.specs.Statics.Contexts.{Block, Context, Source, diag}
 use Rattle.m2_base.specs.Statics.Diagnostics.{too_many_cells}
 use Rattle.m2_base.specs.Statics.Effects.{BlockEffects, ParamCopy, open_copy, own_copy}
+use Rattle.m2_base.specs.Statics.Layouts.{layout_of}
 use Rattle.m2_base.specs.Statics.ProcedureRows.{parameter_cells, result_cells}
 use Rattle.m2_base.specs.Statics.ProcedureTypes.{result_type}
 use Rattle.m2_base.specs.Statics.UnitNotes.{complete_context}
-use Rattle.m2_base.specs.Trees.{Heading}
+use Rattle.m2_base.specs.Trees.{Heading, Stream}
 use Rattle.m2_base.specs.declared.trees.declarations.StreamKind.{StreamKind}
 use Rattle.m2_base.specs.declared.trees.declarations.StreamKind.TheVariants.{Main, Definition, Procedure}
 use Rattle.code_form.specs.Bytes.{code_bytes}
@@ -42,14 +43,23 @@ pub record ProcedureCode : Type 0 where
 
 -- ---- where the statements of a block stand
 
--- the result of a procedure with this heading, as the heading binds it
-abbrev pub result_by : Context → Option Heading → Option Place
-result_by c None = None
-result_by c (Some h) = (result_type (record c { item = Some 0 }) h.result).value
+-- the result that a heading binds where it stands
+abbrev pub bound_result : Context → Option Heading → Option Place
+bound_result c None = None
+bound_result c (Some h) = (result_type c h.result).value
+
+-- The result of a block's procedure, as its heading binds it. The heading is the block's first item, so that a name which
+-- the block itself declares, as a parameter or in its declarations, stands for nothing there, and the result is in error.
+abbrev pub result_by : Context → Stream → Option Place
+result_by c tree = bound_result (record c { layout = (layout_of tree).names; item = Some 0 }) tree.heading
+
+-- where statements stand: all rows of the own scope count, so that no layout is asked
+abbrev pub in_statements : Context → Context
+in_statements c = record c { layout = []; item = None }
 
 -- in the statements of a block all rows count
 abbrev pub stand_of : Context → BlockTree → Stand
-stand_of c b = record { context = c; result = result_by c b.tree.heading; withs = []; looped = false }
+stand_of c b = record { context = c; result = result_by c b.tree; withs = []; looped = false }
 
 -- the statements of a block
 abbrev pub body_of : Context → BlockTree → Gives Flow

@@ -21,6 +21,6 @@ pub mod Stands
 pub mod StatementParts
 pub mod Taken
 pub mod Stated
-pub mod Blocks
 pub mod ProcedureCodes
 pub mod Stating
+pub mod Bodies

@@ -1,28 +1,35 @@
 -- What the analysis of one statement of a block's body leaves and gives: a piece with the statement's whole code, and notes of
 -- its own.
-use Rattle.std.specs.Prelude.{◌≡◌, ℕ, zero, suc, ◌++◌, List, Option, Some, None, Result, map, []}
+use Rattle.std.specs.Prelude.{◌≡◌, ℕ, zero, suc, List, Option, Some, None, Result, map, []}
 use Rattle.std.specs.Option.{IfSome}
 use Rattle.m2_base.specs.Asks.{IfKnown, IfWaits}
 use Rattle.m2_base.specs.Gives.{Gives}
 use Rattle.m2_base.specs.Lists.{Each}
-use Rattle.m2_base.specs.States.{IsAmong, Keeps, Look, State, Waits, Works}
+use Rattle.m2_base.specs.States.{Frame, IsAmong, Keeps, Look, State, Waits}
+use Rattle.m2_base.specs.Statics.Blocks.{BlockTree}
 use Rattle.m2_base.specs.Statics.Contexts.{Context}
 use Rattle.m2_base.specs.Trees.{Statement, Statements, Stream, more_statements, no_statements}
 use Rattle.m2_base.specs.declared.memory.Memory.{Memory}
-use Rattle.m2_base.specs.declared.notes.Notes.{Notes}
 use Rattle.m2_base.specs.declared.replies.Ask.{Ask}
+use Rattle.m2_base.specs.declared.rows.Place.{Place}
 use Rattle.m2_base.specs.declared.sites.Site.{Site}
 use Rattle.type_rules.specs.Scenes.{WhereTold}
 use Rattle.type_rules.specs.Sites.{context_of}
 use Rattle.expr_sem.specs.Fragments.{step_view}
 use Rattle.expr_sem.specs.Parts.{Made, Spot}
-use Rattle.expr_sem.specs.Pieces.{Appended}
 use Rattle.expr_sem.specs.declared.pieces.Piece.{Piece}
-use Rattle.stmt_sem.specs.BlockCode.{stand_of}
-use Rattle.stmt_sem.specs.Blocks.{block_at}
+use Rattle.stmt_sem.specs.BlockCode.{in_statements, result_by, stand_of}
 use Rattle.stmt_sem.specs.Flows.{Flow, part_at}
 use Rattle.stmt_sem.specs.Statements.{statement_flow}
 use Rattle.stmt_sem.specs.declared.top_statements.Stated.{Stated}
+
+-- the block of these statements, where they stand
+abbrev pub block_at : Context → Stream → BlockTree
+block_at c tree = record { block = c.scene.block; tree = tree }
+
+-- the result of the block's procedure is this, where the texts are told
+abbrev pub Returns : Frame → Site → Stream → Option Place → Type 0
+Returns f s tree place = WhereTold f (λ made. place ≡ result_by (context_of f made s) tree)
 
 -- the statement of this number, if there are so many
 abbrev pub statement_at : Statements → (k : ℕ) → Option Statement
@@ -55,18 +62,5 @@ pub record Stating (old new : State) (s : Site) (tree : Stream) (k : ℕ) (at : 
   pub keeps : Keeps old new looks
   pub shown : IfKnown answer (λ x. Each (IsAmong looks) x.notes.answers.items)
   pub waits : IfWaits answer (λ h. Waits old new h)
-  pub told : WhereTold old.frame (λ made. let c = context_of old.frame made s in
+  pub told : WhereTold old.frame (λ made. let c = in_statements (context_of old.frame made s) in
       IfKnown answer (λ x. IfSome (statement_at tree.body k) (λ st. IsStated (given_at c tree st) at x)))
-
--- the piece has grown by the code, and the notes by what is given beside it
-pub record IsJoined (before after : Notes) (from to : Piece) (given : Gives Flow) : Type 0 where
-  pub appended : Appended from to [] (part_at 0 given.value)
-  pub diags : after.diags.items ≡ before.diags.items ++ given.diags
-  pub answers : after.answers.items ≡ before.answers.items ++ given.answers
-
--- The same of a statement that is put behind those before it: previous notes stay.
-pub record Joining (old new : State) (before after : Notes) (from to : Piece) (s : Site) (tree : Stream) (k : ℕ) (answer : Result (Ask (Unit {0})) Memory) : Type 0 where
-  pub works : Works old new before after
-  pub waits : IfWaits answer (λ h. Waits old new h)
-  pub told : WhereTold old.frame (λ made. let c = context_of old.frame made s in
-      IfKnown answer (λ u. IfSome (statement_at tree.body k) (λ st. IsJoined before after from to (given_at c tree st))))

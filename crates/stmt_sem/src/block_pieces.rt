@@ -1,16 +1,15 @@
-//! Pieces of a block's code: what a body copies first, how it ends, and a piece behind another.
-ghost use Rattle.std.specs.Prelude.{◌≡◌, ◌++◌, [], IfOk, OnOk, map, option_map};
+//! Pieces of a block's code: what a body copies first, and how it ends.
+ghost use Rattle.std.specs.Prelude.{◌≡◌, [], IfOk, OnOk, map, option_map};
 ghost use Rattle.m2_base.specs.Views.{heading_view};
 ghost use Rattle.decl_sem.specs.Effects.{copy_view};
 ghost use Rattle.expr_sem.specs.Parts.{none};
 ghost use Rattle.expr_sem.specs.Pieces.{Appended};
-ghost use Rattle.stmt_sem.specs.BlockCode.{copy_code, ending as spec_ending, first_cell as spec_cell, first_spot, prologue as spec_prologue};
-ghost use Rattle.stmt_sem.specs.Blocks.{effects_of};
+ghost use Rattle.stmt_sem.specs.BlockCode.{copy_code, ending as spec_ending, first_cell as spec_cell, prologue as spec_prologue};
 ghost use Rattle.stmt_sem.specs.Stating.{made_in, spot_at};
 
 use crate::procedure_codes::results_of;
 use code_form::Instr;
-use decl_sem::{Effect, ParamCopy};
+use decl_sem::ParamCopy;
 use expr_sem::{Piece, Step, push_instr};
 use m2_base::{Heading, Memory, StreamKind};
 use std::alloc::Global;
@@ -65,12 +64,17 @@ fn append_copies(copies: &[ParamCopy], piece: &mut Piece) -> Result<(), Memory>
     Ok(())
 }
 
-/// A piece with what a procedure's body copies first.
-pub fn begun(alloc: Global, kind: StreamKind, effect: &Effect) -> Result<Piece, Memory>
-    ensures { IfOk result (λ piece. made_in piece ≡ spec_prologue effect.now.prologue (first_spot kind (effects_of effect.now))) }
+/// A piece with what a body copies first. The variables of its block end before this cell.
+pub fn begun(
+    alloc: Global,
+    kind: StreamKind,
+    cells: u32,
+    copies: &[ParamCopy],
+) -> Result<Piece, Memory>
+    ensures { IfOk result (λ piece. made_in piece ≡ spec_prologue (map copy_view copies.now) (spot_at (spec_cell kind cells) 0)) }
 {
-    let mut piece = empty_piece(alloc, first_cell(kind, effect.cell), 0);
-    append_copies(&effect.prologue, &mut piece)?;
+    let mut piece = empty_piece(alloc, first_cell(kind, cells), 0);
+    append_copies(copies, &mut piece)?;
     Ok(piece)
 }
 
@@ -86,19 +90,5 @@ pub fn append_ending(heading: &Option<Heading>, piece: &mut Piece) -> Result<(),
         takes: 0,
         leaves: 0,
     })?;
-    Ok(())
-}
-
-/// Appends a piece that begins where the other one ends.
-pub fn append_piece(piece: &mut Piece, more: &Piece) -> Result<(), Memory>
-    ensures steps { OnOk result (piece.new.steps.items ≡ piece.old.steps.items ++ more.now.steps.items) }
-    ensures bytes { OnOk result (piece.new.bytes.items ≡ piece.old.bytes.items ++ more.now.bytes.items) }
-    ensures cell { OnOk result (piece.new.cell ≡ more.now.cell) }
-    ensures byte { OnOk result (piece.new.byte ≡ more.now.byte) }
-{
-    piece.steps.extend_from_slice(&more.steps)?;
-    piece.bytes.extend_from_slice(&more.bytes)?;
-    piece.cell = more.cell;
-    piece.byte = more.byte;
     Ok(())
 }

@@ -3,10 +3,9 @@
 //! The words are those of Wirth's report and of the machine's instructions (`code_form`). The code of an expression is a
 //! part of code (`expr_sem`'s `specs/Parts`); that of statements is a flow, which is known once it is also told how far away
 //! the end of the innermost LOOP is (`specs/Flows`). `specs/Statements` goes over the trees, `specs/BlockCode` puts a block
-//! together; each kind of statement has a file of its own below them. `state` makes the code of one statement of a body, in a
-//! piece of its own (the record `Stating`, `specs/Stating`), and `block` puts these behind one another, between what a body
-//! copies first and its end, or waits (the record `Blocking`, `specs/Blocks`); `procedure_code` is what the object file has of
-//! the whole.
+//! together; each kind of statement has a file of its own below them. A `Body` is the code of a block in the making: it begins
+//! with what the body copies first, takes one statement after another, each as a whole or not at all, and ends (`specs/Bodies`);
+//! `procedure_code` is what the object file has of the whole. `state` makes the code of one statement alone (`specs/Stating`).
 #![tactic(auto)]
 
 /// The value of a question, or the end of the function where it isn't known yet.
@@ -44,7 +43,7 @@ macro_rules! analysed {
 
 mod assignments;
 mod block_pieces;
-mod blocks;
+mod bodies;
 mod cases;
 mod code_appending;
 mod control_variables;
@@ -66,7 +65,7 @@ mod tests;
 mod top_statements;
 mod withs;
 
-pub use blocks::block;
+pub use bodies::Body;
 pub use flow_appending::append_flow;
 pub use flows::{Arm, Code, Flow, FlowForm, FlowNode, Flows};
 pub use laws::{code_is_short, code_is_valid, heights_are_right, returns_agree};

@@ -1,12 +1,16 @@
-//! The statements of a block's body, each in a piece of its own.
+//! The statements of a block's body, each by itself.
 ghost use Rattle.std.specs.Prelude.{◌≡◌, ◌<◌, IfOk, None, length};
 ghost use Rattle.std.specs.Option.{IfSome};
 ghost use Rattle.m2_base.specs.Views.{stream_view};
-ghost use Rattle.stmt_sem.specs.Blocks.{Returns};
+ghost use Rattle.m2_base.specs.Views.{statement_view};
+ghost use Rattle.stmt_sem.specs.BlockCode.{in_statements};
+ghost use Rattle.stmt_sem.specs.Flowings.{Flowing, IsFlow};
 ghost use Rattle.stmt_sem.specs.FlowNodes.{AreSound, IsAmong, flow_in};
 ghost use Rattle.stmt_sem.specs.Flows.{part_at};
-ghost use Rattle.m2_base.specs.Statics.ReadStatements.{AreReadStatements};
-ghost use Rattle.stmt_sem.specs.Stating.{Stating, made_in, spot_at};
+ghost use Rattle.m2_base.specs.Statics.ReadStatements.{AreReadStatements, IsReadStatement};
+ghost use Rattle.stmt_sem.specs.Stands.{at_first};
+ghost use Rattle.stmt_sem.specs.Statements.{statement_flow};
+ghost use Rattle.stmt_sem.specs.Stating.{Returns, Stating, made_in, spot_at};
 ghost use Rattle.type_rules.specs.Scenes.{IsThere};
 ghost use Rattle.type_rules.specs.Sites.{SuitsSite};
 
@@ -16,7 +20,7 @@ use crate::flows::{Flow, Flows};
 use crate::stands::Stand;
 use crate::statements::statement;
 use expr_sem::Piece;
-use m2_base::{Ask, Memory, Notes, Place, Scopes, Site, Stream};
+use m2_base::{Ask, Layout, Memory, Notes, Place, Scopes, Site, Statement, Stream};
 use std::alloc::Global;
 
 /// What one statement of a body makes, and what it notes.
@@ -35,6 +39,40 @@ fn piece_of(alloc: Global, flows: &Flows, flow: Flow, cell: u32, byte: u32) -> R
     let mut piece = empty_piece(alloc, cell, byte);
     append_flow(flows, flow, &mut piece)?;
     Ok(piece)
+}
+
+/// What one statement of a body makes whose procedure has this result. All rows of the own scope count there, so the site's layout
+/// isn't asked.
+pub fn top_statement<S: Scopes>(
+    scopes: &mut S,
+    site: &Site,
+    of: &Statement,
+    returns: Option<Place>,
+    flows: &mut Flows,
+    notes: &mut Notes,
+) -> Result<Ask<Flow>, Memory>
+    requires suits { SuitsSite (S.state scopes.old).frame site.now }
+    requires item { site.now.item ≡ None }
+    requires sound { AreSound flows.old }
+    requires read { IsReadStatement site.now.texts.now.names (statement_view of.now) }
+    requires there { IfSome returns (λ t. IsThere (S.state scopes.old).frame t) }
+    ensures { Flowing (S.state scopes.old) (S.state scopes.new) notes.old notes.new flows.old flows.new site.now result IsFlow flow_in (λ c. statement_flow (at_first (in_statements c) returns) (statement_view of.now)) }
+{
+    let texts = site.texts;
+    let alloc = *texts.order.allocator();
+    let layout = Layout::new(alloc, Vec::new(alloc), Vec::new(alloc))?;
+    let place = Site {
+        texts,
+        around: site.around,
+        layout: &layout,
+        item: None,
+    };
+    let stand = Stand {
+        result: returns,
+        withs: &[],
+        looped: false,
+    };
+    statement(scopes, &place, &stand, of, flows, notes)
 }
 
 /// One statement of a body whose procedure has this result: its code, whose temporary cells begin at this cell and whose data
@@ -59,13 +97,8 @@ pub fn state<S: Scopes>(
 {
     let mut flows = Flows::new(alloc);
     let mut notes = Notes::new(alloc);
-    let stand = Stand {
-        result: returns,
-        withs: &[],
-        looped: false,
-    };
     let of = &stream.body[index];
-    let flow = analysed!(statement(scopes, site, &stand, of, &mut flows, &mut notes));
+    let flow = analysed!(top_statement(scopes, site, of, returns, &mut flows, &mut notes));
     let piece = piece_of(alloc, &flows, flow, cell, data_from)?;
     Ok(Ask::Known(Stated { piece, notes }))
 }

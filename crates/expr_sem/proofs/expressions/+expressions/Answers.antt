@@ -95,8 +95,7 @@ member-returns g t c =
     (λ k. ap (λ (at : ℕ). and_then (value k (with_types c.args.withs.now) (expr_view c.args.e.now)) (λ v. element_coded k c.args.base at v)) (sym (at_seen c.args.e.now)))
 
 pub followed-value_of-requires : goal.followed-value_of-requires
-followed-value_of-requires g t c κs within =
-    ((let small = next_smaller c.args.next.now in omega (arith, small, c.decreases)), (within, (c.requires.suits, (c.requires.withs, (next_read c.args.site.now.texts.now.names c.args.next.now c.requires.read)))))
+followed-value_of-requires g t c κs within = ((let small = next_smaller c.args.next.now in omega (arith, small, c.decreases)), (within, (c.requires.suits, (c.requires.withs, (next_read c.args.site.now.texts.now.names c.args.next.now c.requires.read)))))
 
 pub followed-returns-in-DontKnowYet : goal.followed-returns-in-DontKnowYet
 followed-returns-in-DontKnowYet g t c = unknown (rw c.in-DontKnowYet.is at c.in-Ok.ensures)
@@ -175,20 +174,17 @@ set_type-returns g t c =
     (λ k. ap (λ (at : ℕ). and_then (designated k (with_types c.args.withs.now) (designator_view d)) (λ x. set_type_of k at x.operand)) (sym (designator_at_seen d)))
 
 pub set_of-returns-in-DontKnowYet : goal.set_of-returns-in-DontKnowYet
-set_of-returns-in-DontKnowYet g t c =
-    unknown (rw c.in-DontKnowYet.is at (started c.args.notes.now c.args.fragments.now.nodes.items c.args.site.now c.set_start.result c.args.of c.set_start.ensures.reads c.set_start.ensures.waits c.set_start.ensures.based c.set_start.ensures.told c.set_start.ensures.base c.set_start.ensures.elements))
+set_of-returns-in-DontKnowYet g t c = unknown (rw c.in-DontKnowYet.is at (started c.args.notes.now c.args.fragments.now.nodes.items c.args.site.now c.set_start.result c.args.of c.set_start.ensures.reads c.set_start.ensures.waits c.set_start.ensures.based c.set_start.ensures.told c.set_start.ensures.base c.set_start.ensures.elements))
 
 pub set_of-elements-requires : goal.set_of-elements-requires
 set_of-elements-requires g t c κs within =
     (search rules, (within, (suits_after (rw c.in-Known.is at (started c.args.notes.now c.args.fragments.now.nodes.items c.args.site.now c.set_start.result c.args.of c.set_start.ensures.reads c.set_start.ensures.waits c.set_start.ensures.based c.set_start.ensures.told c.set_start.ensures.base c.set_start.ensures.elements)) c.requires.suits, (open_after (rw c.in-Known.is at (started c.args.notes.now c.args.fragments.now.nodes.items c.args.site.now c.set_start.result c.args.of c.set_start.ensures.reads c.set_start.ensures.waits c.set_start.ensures.based c.set_start.ensures.told c.set_start.ensures.base c.set_start.ensures.elements)) c.args.withs.now c.requires.withs, ((stands_after (rw c.in-Known.is at (started c.args.notes.now c.args.fragments.now.nodes.items c.args.site.now c.set_start.result c.args.of c.set_start.ensures.reads c.set_start.ensures.waits c.set_start.ensures.based c.set_start.ensures.told c.set_start.ensures.base c.set_start.ensures.elements))).0, ((stands_after (rw c.in-Known.is at (started c.args.notes.now c.args.fragments.now.nodes.items c.args.site.now c.set_start.result c.args.of c.set_start.ensures.reads c.set_start.ensures.waits c.set_start.ensures.based c.set_start.ensures.told c.set_start.ensures.base c.set_start.ensures.elements))).1, (c.requires.read)))))))
 
 pub set_of-returns-in-DontKnowYet-asked : goal.set_of-returns-in-DontKnowYet-asked
-set_of-returns-in-DontKnowYet-asked g t c =
-    unknown_after (rw c.in-Known.is at (started c.args.notes.now c.args.fragments.now.nodes.items c.args.site.now c.set_start.result c.args.of c.set_start.ensures.reads c.set_start.ensures.waits c.set_start.ensures.based c.set_start.ensures.told c.set_start.ensures.base c.set_start.ensures.elements)) (rw c.in-DontKnowYet-asked.is at c.in-Ok.ensures)
+set_of-returns-in-DontKnowYet-asked g t c = unknown_after (rw c.in-Known.is at (started c.args.notes.now c.args.fragments.now.nodes.items c.args.site.now c.set_start.result c.args.of c.set_start.ensures.reads c.set_start.ensures.waits c.set_start.ensures.based c.set_start.ensures.told c.set_start.ensures.base c.set_start.ensures.elements)) (rw c.in-DontKnowYet-asked.is at c.in-Ok.ensures)
 
 pub set_of-returns-in-Err : goal.set_of-returns-in-Err
-set_of-returns-in-Err g t c =
-    unmade_after (rw c.in-Known.is at (started c.args.notes.now c.args.fragments.now.nodes.items c.args.site.now c.set_start.result c.args.of c.set_start.ensures.reads c.set_start.ensures.waits c.set_start.ensures.based c.set_start.ensures.told c.set_start.ensures.base c.set_start.ensures.elements)) c.in-Err.ensures _
+set_of-returns-in-Err g t c = unmade_after (rw c.in-Known.is at (started c.args.notes.now c.args.fragments.now.nodes.items c.args.site.now c.set_start.result c.args.of c.set_start.ensures.reads c.set_start.ensures.waits c.set_start.ensures.based c.set_start.ensures.told c.set_start.ensures.base c.set_start.ensures.elements)) c.in-Err.ensures _
 
 pub set_of-returns : goal.set_of-returns
 set_of-returns g t c =
@@ -200,8 +196,7 @@ set_of-returns g t c =
     (c.set_coded.ensures (g.S.Scopes.state c.elements.new.scopes) c.elements.new.notes c.args.site.now of_there (stands_after more)))
 
 pub element-member-requires : goal.element-member-requires
-element-member-requires g t c κs within =
-    ((let small = low_smaller c.args.label.now in omega (arith, small, c.decreases)), (within, (c.requires.suits, (c.requires.withs, (c.requires.base, (low_read c.args.site.now.texts.now.names (expr_view (out-Label c.args.label.now).low) (option_map expr_view (out-Label c.args.label.now).high) (label_read c.args.site.now.texts.now.names c.args.label.now c.requires.read)))))))
+element-member-requires g t c κs within = ((let small = low_smaller c.args.label.now in omega (arith, small, c.decreases)), (within, (c.requires.suits, (c.requires.withs, (c.requires.base, (low_read c.args.site.now.texts.now.names (expr_view (out-Label c.args.label.now).low) (option_map expr_view (out-Label c.args.label.now).high) (label_read c.args.site.now.texts.now.names c.args.label.now c.requires.read)))))))
 
 pub element-returns-in-DontKnowYet : goal.element-returns-in-DontKnowYet
 element-returns-in-DontKnowYet g t c = unknown (rw c.in-DontKnowYet.is at c.in-Ok.ensures)
@@ -295,36 +290,30 @@ designated-returns g t c =
     (λ k. ap (designated k (with_types c.args.withs.now)) (sym (designator_seen d)))
 
 pub select-select_field-requires-clause-named : goal.select-select_field-requires-clause-named
-select-select_field-requires-clause-named g t c =
-    selector_read c.args.site.now.texts.now.names c.args.selector.now _ (ap selector_view c.in-Field.is ∙ field_seen c.in-Field.ident c.in-Field.at) c.requires.read
+select-select_field-requires-clause-named g t c = selector_read c.args.site.now.texts.now.names c.args.selector.now _ (ap selector_view c.in-Field.is ∙ field_seen c.in-Field.ident c.in-Field.at) c.requires.read
 
 pub select-indexed-requires : goal.select-indexed-requires
 select-indexed-requires g t c κs within =
     ((let small = index_smaller c.args.selector.now c.in-Index.es c.in-Index.at c.in-Index.is in let same = ap (most size-Expr) c.deref.ensures.value in omega (arith, small, same, c.decreases)), (within, (c.requires.suits, (c.requires.withs, (c.requires.x, (rw c.deref.ensures.value (selector_read c.args.site.now.texts.now.names c.args.selector.now _ (ap selector_view c.in-Index.is ∙ index_seen c.in-Index.es c.in-Index.at) c.requires.read)))))))
 
 pub select-returns-in-Field : goal.select-returns-in-Field
-select-returns-in-Field g t c =
-    described c.select_field.result c.select_field.ensures (λ k. ap (selector k (with_types c.args.withs.now) c.args.first (coded_in c.args.fragments.now.nodes.items c.args.x)) (sym (ap selector_view c.in-Field.is ∙ field_seen c.in-Field.ident c.in-Field.at)))
+select-returns-in-Field g t c = described c.select_field.result c.select_field.ensures (λ k. ap (selector k (with_types c.args.withs.now) c.args.first (coded_in c.args.fragments.now.nodes.items c.args.x)) (sym (ap selector_view c.in-Field.is ∙ field_seen c.in-Field.ident c.in-Field.at)))
 
 pub select-returns-in-Index : goal.select-returns-in-Index
-select-returns-in-Index g t c =
-    described c.indexed.result (rw c.deref.ensures.value at c.indexed.ensures) (λ k. ap (selector k (with_types c.args.withs.now) c.args.first (coded_in c.args.fragments.now.nodes.items c.args.x)) (sym (ap selector_view c.in-Index.is ∙ index_seen c.in-Index.es c.in-Index.at)))
+select-returns-in-Index g t c = described c.indexed.result (rw c.deref.ensures.value at c.indexed.ensures) (λ k. ap (selector k (with_types c.args.withs.now) c.args.first (coded_in c.args.fragments.now.nodes.items c.args.x)) (sym (ap selector_view c.in-Index.is ∙ index_seen c.in-Index.es c.in-Index.at)))
 
 pub select-returns-in-Deref : goal.select-returns-in-Deref
-select-returns-in-Deref g t c =
-    described c.select_target.result c.select_target.ensures (λ k. ap (selector k (with_types c.args.withs.now) c.args.first (coded_in c.args.fragments.now.nodes.items c.args.x)) (sym (ap selector_view c.in-Deref.is ∙ deref_seen c.in-Deref.at)))
+select-returns-in-Deref g t c = described c.select_target.result c.select_target.ensures (λ k. ap (selector k (with_types c.args.withs.now) c.args.first (coded_in c.args.fragments.now.nodes.items c.args.x)) (sym (ap selector_view c.in-Deref.is ∙ deref_seen c.in-Deref.at)))
 
 pub continued-loop-next-init : goal.continued-loop-next-init
-continued-loop-next-init g t c =
-    value_alone (g.S.Scopes.state c.args.scopes.now) c.args.notes.now c.args.fragments.now.nodes.items c.args.site.now c.args.left.coded IsCoded coded_in (λ k. coded_in c.args.fragments.now.nodes.items c.args.left.coded) c.requires.left (λ k. refl)
+continued-loop-next-init g t c = value_alone (g.S.Scopes.state c.args.scopes.now) c.args.notes.now c.args.fragments.now.nodes.items c.args.site.now c.args.left.coded IsCoded coded_in (λ k. coded_in c.args.fragments.now.nodes.items c.args.left.coded) c.requires.left (λ k. refl)
 
 pub continued-followed-requires : goal.continued-followed-requires
 continued-followed-requires g t c κs within =
     ((let small = item_small size-Next c.args.rest.now c.loop-next.next-index c.next-item.result c.loop-next-test.true c.next-item.is in omega (arith, small, c.decreases)), (within, (suits_after c.loop-next.invariant c.requires.suits, (open_after c.loop-next.invariant c.args.withs.now c.requires.withs, (stands_after c.loop-next.invariant, (read_next c.args.site.now.texts.now.names next_view c.args.rest.now c.loop-next.next-index c.next-item.result c.loop-next-test.true c.next-item.is c.requires.read))))))
 
 pub continued-loop-next-preserved : goal.continued-loop-next-preserved
-continued-loop-next-preserved g t c =
-    one_more (λ k o i. followed k (with_types c.args.withs.now) c.args.left.at o (next_view i)) (coded_in c.args.fragments.now.nodes.items c.args.left.coded) c.args.rest.now c.loop-next.next-index c.next-item.result c.loop-next-test.true c.next-item.is c.loop-next.invariant (rw c.in-Known.is at c.in-Ok.ensures)
+continued-loop-next-preserved g t c = one_more (λ k o i. followed k (with_types c.args.withs.now) c.args.left.at o (next_view i)) (coded_in c.args.fragments.now.nodes.items c.args.left.coded) c.args.rest.now c.loop-next.next-index c.next-item.result c.loop-next-test.true c.next-item.is c.loop-next.invariant (rw c.in-Known.is at c.in-Ok.ensures)
 
 pub continued-returns-in-DontKnowYet : goal.continued-returns-in-DontKnowYet
 continued-returns-in-DontKnowYet g t c = unknown_after c.loop-next.invariant (rw c.in-DontKnowYet.is at c.in-Ok.ensures)
@@ -337,16 +326,14 @@ continued-returns g t c =
     whole (λ k o i. followed k (with_types c.args.withs.now) c.args.left.at o (next_view i)) (coded_in c.args.fragments.now.nodes.items c.args.left.coded) c.args.rest.now c.loop-next.next-index (λ k. continued k (with_types c.args.withs.now) c.args.left.at (coded_in c.args.fragments.now.nodes.items c.args.left.coded) (nexts (map next_view c.args.rest.now))) c.loop-next-test.false c.loop-next.invariant (λ k. nexts_folded k (with_types c.args.withs.now) next_view c.args.left.at (coded_in c.args.fragments.now.nodes.items c.args.left.coded) c.args.rest.now)
 
 pub elements-loop-label-init : goal.elements-loop-label-init
-elements-loop-label-init g t c =
-    value_alone (g.S.Scopes.state c.args.scopes.now) c.args.notes.now c.args.fragments.now.nodes.items c.args.site.now c.args.es AreElements elements_in (λ k. elements_in c.args.fragments.now.nodes.items c.args.es) c.requires.es (λ k. refl)
+elements-loop-label-init g t c = value_alone (g.S.Scopes.state c.args.scopes.now) c.args.notes.now c.args.fragments.now.nodes.items c.args.site.now c.args.es AreElements elements_in (λ k. elements_in c.args.fragments.now.nodes.items c.args.es) c.requires.es (λ k. refl)
 
 pub elements-element-requires : goal.elements-element-requires
 elements-element-requires g t c κs within =
     ((let small = item_small size-Label c.args.items.now c.loop-label.label-index c.label-item.result c.loop-label-test.true c.label-item.is in omega (arith, small, c.decreases)), (within, (suits_after c.loop-label.invariant c.requires.suits, (open_after c.loop-label.invariant c.args.withs.now c.requires.withs, (there_after c.loop-label.invariant c.args.base c.requires.base, (stands_after c.loop-label.invariant, (read_label c.args.site.now.texts.now.names label_view c.args.items.now c.loop-label.label-index c.label-item.result c.loop-label-test.true c.label-item.is c.requires.read)))))))
 
 pub elements-loop-label-preserved : goal.elements-loop-label-preserved
-elements-loop-label-preserved g t c =
-    one_more (λ k o i. element k (with_types c.args.withs.now) c.args.base o (label_view i)) (elements_in c.args.fragments.now.nodes.items c.args.es) c.args.items.now c.loop-label.label-index c.label-item.result c.loop-label-test.true c.label-item.is c.loop-label.invariant (rw c.in-Known.is at c.in-Ok.ensures)
+elements-loop-label-preserved g t c = one_more (λ k o i. element k (with_types c.args.withs.now) c.args.base o (label_view i)) (elements_in c.args.fragments.now.nodes.items c.args.es) c.args.items.now c.loop-label.label-index c.label-item.result c.loop-label-test.true c.label-item.is c.loop-label.invariant (rw c.in-Known.is at c.in-Ok.ensures)
 
 pub elements-returns-in-DontKnowYet : goal.elements-returns-in-DontKnowYet
 elements-returns-in-DontKnowYet g t c = unknown_after c.loop-label.invariant (rw c.in-DontKnowYet.is at c.in-Ok.ensures)
@@ -359,16 +346,14 @@ elements-returns g t c =
     whole (λ k o i. element k (with_types c.args.withs.now) c.args.base o (label_view i)) (elements_in c.args.fragments.now.nodes.items c.args.es) c.args.items.now c.loop-label.label-index (λ k. elements k (with_types c.args.withs.now) c.args.base (elements_in c.args.fragments.now.nodes.items c.args.es) (labels (map label_view c.args.items.now))) c.loop-label-test.false c.loop-label.invariant (λ k. labels_folded k (with_types c.args.withs.now) label_view c.args.base (elements_in c.args.fragments.now.nodes.items c.args.es) c.args.items.now)
 
 pub selected-loop-selector-init : goal.selected-loop-selector-init
-selected-loop-selector-init g t c =
-    value_alone (g.S.Scopes.state c.args.scopes.now) c.args.notes.now c.args.fragments.now.nodes.items c.args.site.now c.args.x IsCoded coded_in (λ k. coded_in c.args.fragments.now.nodes.items c.args.x) c.requires.x (λ k. refl)
+selected-loop-selector-init g t c = value_alone (g.S.Scopes.state c.args.scopes.now) c.args.notes.now c.args.fragments.now.nodes.items c.args.site.now c.args.x IsCoded coded_in (λ k. coded_in c.args.fragments.now.nodes.items c.args.x) c.requires.x (λ k. refl)
 
 pub selected-select-requires : goal.selected-select-requires
 selected-select-requires g t c κs within =
     ((let small = item_small size-Selector c.args.rest.now c.loop-selector.selector-index c.selector-item.result c.loop-selector-test.true c.selector-item.is in omega (arith, small, c.decreases)), (within, (suits_after c.loop-selector.invariant c.requires.suits, (open_after c.loop-selector.invariant c.args.withs.now c.requires.withs, (stands_after c.loop-selector.invariant, (read_selector c.args.site.now.texts.now.names selector_view c.args.rest.now c.loop-selector.selector-index c.selector-item.result c.loop-selector-test.true c.selector-item.is c.requires.read))))))
 
 pub selected-loop-selector-preserved : goal.selected-loop-selector-preserved
-selected-loop-selector-preserved g t c =
-    one_more (λ k o i. selector k (with_types c.args.withs.now) c.args.first o (selector_view i)) (coded_in c.args.fragments.now.nodes.items c.args.x) c.args.rest.now c.loop-selector.selector-index c.selector-item.result c.loop-selector-test.true c.selector-item.is c.loop-selector.invariant (rw c.in-Known.is at c.in-Ok.ensures)
+selected-loop-selector-preserved g t c = one_more (λ k o i. selector k (with_types c.args.withs.now) c.args.first o (selector_view i)) (coded_in c.args.fragments.now.nodes.items c.args.x) c.args.rest.now c.loop-selector.selector-index c.selector-item.result c.loop-selector-test.true c.selector-item.is c.loop-selector.invariant (rw c.in-Known.is at c.in-Ok.ensures)
 
 pub selected-returns-in-DontKnowYet : goal.selected-returns-in-DontKnowYet
 selected-returns-in-DontKnowYet g t c = unknown_after c.loop-selector.invariant (rw c.in-DontKnowYet.is at c.in-Ok.ensures)
@@ -381,16 +366,14 @@ selected-returns g t c =
     whole (λ k o i. selector k (with_types c.args.withs.now) c.args.first o (selector_view i)) (coded_in c.args.fragments.now.nodes.items c.args.x) c.args.rest.now c.loop-selector.selector-index (λ k. selected k (with_types c.args.withs.now) c.args.first (coded_in c.args.fragments.now.nodes.items c.args.x) (selectors (map selector_view c.args.rest.now))) c.loop-selector-test.false c.loop-selector.invariant (λ k. selectors_folded k (with_types c.args.withs.now) selector_view c.args.first (coded_in c.args.fragments.now.nodes.items c.args.x) c.args.rest.now)
 
 pub indexed-loop-e-init : goal.indexed-loop-e-init
-indexed-loop-e-init g t c =
-    value_alone (g.S.Scopes.state c.args.scopes.now) c.args.notes.now c.args.fragments.now.nodes.items c.args.site.now c.args.x IsCoded coded_in (λ k. coded_in c.args.fragments.now.nodes.items c.args.x) c.requires.x (λ k. refl)
+indexed-loop-e-init g t c = value_alone (g.S.Scopes.state c.args.scopes.now) c.args.notes.now c.args.fragments.now.nodes.items c.args.site.now c.args.x IsCoded coded_in (λ k. coded_in c.args.fragments.now.nodes.items c.args.x) c.requires.x (λ k. refl)
 
 pub indexed-index-requires : goal.indexed-index-requires
 indexed-index-requires g t c κs within =
     ((let small = item_small size-Expr c.args.es.now c.loop-e.e-index c.e-item.result c.loop-e-test.true c.e-item.is in omega (arith, small, c.decreases)), (within, (suits_after c.loop-e.invariant c.requires.suits, (open_after c.loop-e.invariant c.args.withs.now c.requires.withs, (stands_after c.loop-e.invariant, (read_expr c.args.site.now.texts.now.names expr_view c.args.es.now c.loop-e.e-index c.e-item.result c.loop-e-test.true c.e-item.is c.requires.read))))))
 
 pub indexed-loop-e-preserved : goal.indexed-loop-e-preserved
-indexed-loop-e-preserved g t c =
-    one_more (λ k o i. index k (with_types c.args.withs.now) c.args.first c.args.at o (expr_view i)) (coded_in c.args.fragments.now.nodes.items c.args.x) c.args.es.now c.loop-e.e-index c.e-item.result c.loop-e-test.true c.e-item.is c.loop-e.invariant (rw c.in-Known.is at c.in-Ok.ensures)
+indexed-loop-e-preserved g t c = one_more (λ k o i. index k (with_types c.args.withs.now) c.args.first c.args.at o (expr_view i)) (coded_in c.args.fragments.now.nodes.items c.args.x) c.args.es.now c.loop-e.e-index c.e-item.result c.loop-e-test.true c.e-item.is c.loop-e.invariant (rw c.in-Known.is at c.in-Ok.ensures)
 
 pub indexed-returns-in-DontKnowYet : goal.indexed-returns-in-DontKnowYet
 indexed-returns-in-DontKnowYet g t c = unknown_after c.loop-e.invariant (rw c.in-DontKnowYet.is at c.in-Ok.ensures)
@@ -403,12 +386,10 @@ indexed-returns g t c =
     whole (λ k o i. index k (with_types c.args.withs.now) c.args.first c.args.at o (expr_view i)) (coded_in c.args.fragments.now.nodes.items c.args.x) c.args.es.now c.loop-e.e-index (λ k. indexed k (with_types c.args.withs.now) c.args.first c.args.at (coded_in c.args.fragments.now.nodes.items c.args.x) (exprs (map expr_view c.args.es.now))) c.loop-e-test.false c.loop-e.invariant (λ k. indices_folded k (with_types c.args.withs.now) expr_view c.args.first c.args.at (coded_in c.args.fragments.now.nodes.items c.args.x) c.args.es.now)
 
 pub expression-string_constant-requires-clause-named : goal.expression-string_constant-requires-clause-named
-expression-string_constant-requires-clause-named g t c =
-    (form_read c.args.site.now.texts.now.names c.args.e.now _ _ c.in-Str.is (string_seen c.in-Str.name) c.requires.read).0
+expression-string_constant-requires-clause-named g t c = (form_read c.args.site.now.texts.now.names c.args.e.now _ _ c.in-Str.is (string_seen c.in-Str.name) c.requires.read).0
 
 pub expression-string_constant-requires-clause-short : goal.expression-string_constant-requires-clause-short
-expression-string_constant-requires-clause-short g t c =
-    (form_read c.args.site.now.texts.now.names c.args.e.now _ _ c.in-Str.is (string_seen c.in-Str.name) c.requires.read).1
+expression-string_constant-requires-clause-short g t c = (form_read c.args.site.now.texts.now.names c.args.e.now _ _ c.in-Str.is (string_seen c.in-Str.name) c.requires.read).1
 
 pub expression-returns-in-Number : goal.expression-returns-in-Number
 expression-returns-in-Number g t c =
@@ -431,8 +412,7 @@ expression-set_of-requires g t c κs within =
     ((let small = set_smaller c.args.e.now c.in-Set.of c.in-Set.items c.in-Set.is in let same = ap (most size-Label) c.deref.ensures.value in omega (arith, small, same, c.decreases)), (within, (c.requires.suits, (c.requires.withs, (standard_there c.requires.suits.around 5, (rw c.deref.ensures.value (form_read c.args.site.now.texts.now.names c.args.e.now (Set None c.in-Set.items) _ (c.in-Set.is ∙ ap (λ o. Set o c.in-Set.items) c.in-None.is) (plain_set_seen c.in-Set.items) c.requires.read)))))))
 
 pub expression-returns-in-None : goal.expression-returns-in-None
-expression-returns-in-None g t c =
-    described c.set_of.result (rw c.deref.ensures.value at c.set_of.ensures) (λ k. form_given k (with_types c.args.withs.now) c.args.e.now (Set None c.in-Set.items) _ (c.in-Set.is ∙ ap (λ o. Set o c.in-Set.items) c.in-None.is) (plain_set_seen c.in-Set.items))
+expression-returns-in-None g t c = described c.set_of.result (rw c.deref.ensures.value at c.set_of.ensures) (λ k. form_given k (with_types c.args.withs.now) c.args.e.now (Set None c.in-Set.items) _ (c.in-Set.is ∙ ap (λ o. Set o c.in-Set.items) c.in-None.is) (plain_set_seen c.in-Set.items))
 
 pub expression-set_type-requires : goal.expression-set_type-requires
 expression-set_type-requires g t c κs within =
@@ -460,8 +440,7 @@ expression-designated-requires g t c κs within =
     ((let small = name_smaller c.args.e.now c.in-Name.name c.in-Name.is in omega (arith, small, c.decreases)), (within, (c.requires.suits, (c.requires.withs, ((form_read c.args.site.now.texts.now.names c.args.e.now _ _ c.in-Name.is (name_seen c.in-Name.name) c.requires.read))))))
 
 pub expression-returns-in-Name : goal.expression-returns-in-Name
-expression-returns-in-Name g t c =
-    described c.designated.result c.designated.ensures (λ k. form_given k (with_types c.args.withs.now) c.args.e.now _ _ c.in-Name.is (name_seen c.in-Name.name))
+expression-returns-in-Name g t c = described c.designated.result c.designated.ensures (λ k. form_given k (with_types c.args.withs.now) c.args.e.now _ _ c.in-Name.is (name_seen c.in-Name.name))
 
 pub expression-value_of-requires : goal.expression-value_of-requires
 expression-value_of-requires g t c κs within =
@@ -604,8 +583,7 @@ standard-returns-in-Known-asked g t c =
     ∙ two_arguments_given k (with_types c.args.withs.now) c.args.f expr_view c.args.args.now e d (omega (arith, c.in-len2-up.len_at_least)) c.e-item-2.is c.other-item.is)
 
 pub looked_at-loop-e-init : goal.looked_at-loop-e-init
-looked_at-loop-e-init g t c =
-    value_alone (g.S.Scopes.state c.args.scopes.now) c.args.notes.now c.args.fragments.now.nodes.items c.args.site.now true NoMatter error_in (λ k. in_error) tt (λ k. refl)
+looked_at-loop-e-init g t c = value_alone (g.S.Scopes.state c.args.scopes.now) c.args.notes.now c.args.fragments.now.nodes.items c.args.site.now true NoMatter error_in (λ k. in_error) tt (λ k. refl)
 
 pub looked_at-expression-requires : goal.looked_at-expression-requires
 looked_at-expression-requires g t c κs within =
@@ -658,8 +636,7 @@ passed-returns g t c =
     (λ k. passed_whole k (with_types c.args.withs.now) expr_view (map parameter_view c.args.params.now) c.args.args.now)
 
 pub procedure-passed-requires : goal.procedure-passed-requires
-procedure-passed-requires g t c κs within =
-    (search rules, (within, (c.requires.suits, (c.requires.withs, (rw c.deref.ensures.value c.requires.callee.params, (c.requires.read))))))
+procedure-passed-requires g t c κs within = (search rules, (within, (c.requires.suits, (c.requires.withs, (rw c.deref.ensures.value c.requires.callee.params, (c.requires.read))))))
 
 pub procedure-returns-in-DontKnowYet : goal.procedure-returns-in-DontKnowYet
 procedure-returns-in-DontKnowYet g t c = unknown (rw c.in-DontKnowYet.is at c.in-Ok.ensures)
@@ -684,12 +661,27 @@ procedure-returns g t c =
     coding_after (λ k. passed k (with_types c.args.withs.now) (map parameter_view p.params.items) (exprs (map expr_view c.args.args.now))) (λ codes k. gives (call_coded k.scene (map parameter_view p.params.items) (part c.args.fragments.now.nodes.items p.before) p.instr p.result p.more codes)) c.call_coded.result one
     (described c.call_coded.result (c.call_coded.ensures c.passed.new.notes) (λ k. ap (λ (before : Part). gives (call_coded k.scene (map parameter_view p.params.items) before p.instr p.result p.more (argument_in ms c.in-Known.value))) (part_later one.grows p.before c.requires.callee.before)))
 
+pub lacking-passed-requires : goal.lacking-passed-requires
+lacking-passed-requires g t c κs within = (search rules, (within, (c.requires.suits, (c.requires.withs, (c.requires.params, (c.requires.read))))))
+
+pub lacking-returns-in-DontKnowYet : goal.lacking-returns-in-DontKnowYet
+lacking-returns-in-DontKnowYet g t c = unknown (rw c.in-DontKnowYet.is at c.in-Ok.ensures)
+
+pub lacking-returns-in-Err : goal.lacking-returns-in-Err
+lacking-returns-in-Err g t c = unmade c.in-Err.ensures _
+
+pub lacking-returns : goal.lacking-returns
+lacking-returns g t c =
+    let ms = c.passed.new.fragments.nodes.items in
+    let state = g.S.Scopes.state c.passed.new.scopes in
+    coding_after (λ k. passed k (with_types c.args.withs.now) (map parameter_view c.args.params.now) (exprs (map expr_view c.args.args.now))) (λ codes k. gives in_error) (Ok (Known c.in_error.result)) (rw c.in-Known.is at c.in-Ok.ensures)
+    (value_alone state c.passed.new.notes ms c.args.site.now c.in_error.result IsCoded coded_in (λ k. in_error) (c.in_error.ensures.there state.frame ms) (λ k. c.in_error.ensures.told ms))
+
 pub called_as-standard-requires : goal.called_as-standard-requires
 called_as-standard-requires g t c κs within = (search rules, (within, (c.requires.suits, (c.requires.withs, (c.requires.read)))))
 
 pub called_as-procedure-requires : goal.called_as-procedure-requires
-called_as-procedure-requires g t c κs within =
-    (search rules, (within, (c.requires.suits, (c.requires.withs, (rw c.in-Procedure.is at c.requires.what, (c.requires.read))))))
+called_as-procedure-requires g t c κs within = (search rules, (within, (c.requires.suits, (c.requires.withs, (rw c.in-Procedure.is at c.requires.what, (c.requires.read))))))
 
 pub called_as-looked_at-requires : goal.called_as-looked_at-requires
 called_as-looked_at-requires g t c κs within = (search rules, (within, (c.requires.suits, (c.requires.withs, (c.requires.read)))))
@@ -701,6 +693,13 @@ called_as-returns-in-Standard g t c =
 pub called_as-returns-in-Procedure : goal.called_as-returns-in-Procedure
 called_as-returns-in-Procedure g t c =
     described c.procedure.result c.procedure.ensures (λ k. ap (λ (w : Callable). called_as k (with_types c.args.withs.now) (exprs (map expr_view c.args.args.now)) (called_in c.args.fragments.now.nodes.items w)) (sym c.in-Procedure.is))
+
+pub called_as-lacking-requires : goal.called_as-lacking-requires
+called_as-lacking-requires g t c κs within = (search rules, (within, (c.requires.suits, (c.requires.withs, (rw c.deref.ensures.value (rw c.in-Lacking.is at c.requires.what), (c.requires.read))))))
+
+pub called_as-returns-in-Lacking : goal.called_as-returns-in-Lacking
+called_as-returns-in-Lacking g t c =
+    described c.lacking.result (rw c.deref.ensures.value at c.lacking.ensures) (λ k. ap (λ (w : Callable). called_as k (with_types c.args.withs.now) (exprs (map expr_view c.args.args.now)) (called_in c.args.fragments.now.nodes.items w)) (sym c.in-Lacking.is))
 
 pub called_as-returns-in-Nothing : goal.called_as-returns-in-Nothing
 called_as-returns-in-Nothing g t c =
@@ -762,8 +761,7 @@ pub next_passed-argument-requires-clause-suits : goal.next_passed-argument-requi
 next_passed-argument-requires-clause-suits g t c = suits_after (rw c.in-Known.is at c.in-Ok.ensures) c.requires.suits
 
 pub next_passed-argument-requires-clause-p : goal.next_passed-argument-requires-clause-p
-next_passed-argument-requires-clause-p g t c =
-    there_after (rw c.in-Known.is at c.in-Ok.ensures) c.in-Some.p.now.of (first_there _ c.args.params.now c.in-Some.p.now (rw c.in-Some.is at c.first.ensures.value) c.requires.params)
+next_passed-argument-requires-clause-p g t c = there_after (rw c.in-Known.is at c.in-Ok.ensures) c.in-Some.p.now.of (first_there _ c.args.params.now c.in-Some.p.now (rw c.in-Some.is at c.first.ensures.value) c.requires.params)
 
 pub next_passed-argument-requires-clause-x : goal.next_passed-argument-requires-clause-x
 next_passed-argument-requires-clause-x g t c = stands_after (rw c.in-Known.is at c.in-Ok.ensures)
@@ -791,9 +789,7 @@ next_passed-returns-in-Known-asked g t c =
     ∙ parameter_given k (with_types c.args.withs.now) c.args.params.now p code (expr_view e) (rw c.in-Some.is at c.first.ensures.value))
 
 pub expression-overflow_cast-value : goal.expression-overflow_cast-value
-expression-overflow_cast-value g t c =
-    let small = (form_read c.args.site.now.texts.now.names c.args.e.now _ _ c.in-Number.is (number_seen c.in-Number.value) c.requires.read) in omega (arith, small)
+expression-overflow_cast-value g t c = let small = (form_read c.args.site.now.texts.now.names c.args.e.now _ _ c.in-Number.is (number_seen c.in-Number.value) c.requires.read) in omega (arith, small)
 
 pub expression-overflow_cast-value-in-Char : goal.expression-overflow_cast-value-in-Char
-expression-overflow_cast-value-in-Char g t c =
-    let small = (form_read c.args.site.now.texts.now.names c.args.e.now _ _ c.in-Char.is (char_seen c.in-Char.value) c.requires.read) in omega (arith, small)
+expression-overflow_cast-value-in-Char g t c = let small = (form_read c.args.site.now.texts.now.names c.args.e.now _ _ c.in-Char.is (char_seen c.in-Char.value) c.requires.read) in omega (arith, small)

@@ -1,7 +1,7 @@
-use Rattle.std.proofs.Common.{◌<◌, ◌^◌, refl, sym, ap, subst}
+use Rattle.std.proofs.Common.{◌<◌, ◌^◌, ◌∙◌, ◌++◌, List, ap, refl, sym, subst}
+use Rattle.m2_base.specs.declared.notes.Diag.{Diag}
 use Rattle.m2_base.specs.Views.{stream_view}
 use Rattle.scope_core.specs.PlainScopes.{Plain, state_of}
-use Rattle.stmt_sem.specs.Blocks.{Whole}
 use Rattle.m2c_top.specs.Filled.{HasDeclared, at_first}
 use Rattle.m2c_top.proofs.FirstDeclared.{none_declared}
 use Rattle.m2c_top.proofs.MainStatements.{noted_all}
@@ -20,9 +20,6 @@ returns-clause-few c =
 
 pub returns-clause-noted : goal.returns-clause-noted
 returns-clause-noted c =
-    let piece = c.in_ok-piece.piece in
-    noted_all c.args.«module».now c.requires.held c.in_ok-cells.cells piece.cell piece.byte
-    c.declare_block.new.diags.items c.make_code.new.notes.diags.items c.note_size.new.diags.items
-    c.in_ok-cells.ensures.cells
-    (ap (λ (w : Whole). w.cell) (sym c.in_ok-piece.ensures.made)) (ap (λ (w : Whole). w.byte) (sym c.in_ok-piece.ensures.made))
-    c.in_ok-cells.ensures.noted c.in_ok-piece.ensures.noted c.in_ok-note_size.ensures
+    noted_all c.args.«module».now c.requires.held c.declare_block.new.diags.items c.in_ok-stated.stated.notes.diags.items c.extend_from_slice.new.self.items
+    c.in_ok-cells.ensures.noted c.in_ok-stated.ensures.noted
+    (c.in_ok-extend_from_slice.ensures.items ∙ ap (λ (ds : List Diag). c.declare_block.new.diags.items ++ ds) c.deref.ensures.value)

@@ -4,11 +4,8 @@ use Rattle.stmt_sem.specs.Stating.{spot_at}
 use Rattle.stmt_sem.proofs.TopStatements.{state_known, state_waits, statement_is, statement_read, unstated}
 use Rattle.stmt_sem.proofs.top_statements.state.Goals as goal
 
-pub statement-requires-clause-stand : goal.statement-requires-clause-stand
-statement-requires-clause-stand g c = record { result = c.requires.there; withs = tt }
-
-pub statement-requires-clause-read : goal.statement-requires-clause-read
-statement-requires-clause-read g c =
+pub top_statement-requires-clause-read : goal.top_statement-requires-clause-read
+top_statement-requires-clause-read g c =
     let xs = c.args.stream.now.body.items in
     let k = c.args.index in
     let x = c.index-of.result.now in
