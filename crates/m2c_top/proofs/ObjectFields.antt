@@ -1,5 +1,5 @@
 -- An object without exports and imports, with one procedure, has the fields that are asked.
-use Rattle.std.specs.Prelude.{◌≡◌, ℕ, ◌<◌, ◌≤◌, ◌^◌, true, false, ◌&&◌, Bool, nat_le, List, [], ◌∷◌, length, replicate}
+use Rattle.std.specs.Prelude.{◌≡◌, ℕ, ◌<◌, ◌≤◌, ◌^◌, true, false, ◌&&◌, Bool, nat_le, List, [], length, replicate}
 use Rattle.std.proofs.Common.{refl, ap, arith, inr}
 use Rattle.std.proofs.lemmas.Bool.{le-leb}
 use Rattle.code_form.specs.Modules.{Procedure}
