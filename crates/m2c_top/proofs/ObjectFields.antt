@@ -1,5 +1,5 @@
 -- An object without exports and imports, with one procedure, has the fields that are asked.
-use Rattle.std.specs.Prelude.{◌≡◌, ℕ, ◌<◌, ◌≤◌, ◌^◌, true, false, ◌&&◌, Bool, nat_le, List, [], ◌∷◌, length}
+use Rattle.std.specs.Prelude.{◌≡◌, ℕ, ◌<◌, ◌≤◌, ◌^◌, true, false, ◌&&◌, Bool, nat_le, List, [], length, replicate}
 use Rattle.std.proofs.Common.{refl, ap, arith, inr}
 use Rattle.std.proofs.lemmas.Bool.{le-leb}
 use Rattle.code_form.specs.Modules.{Procedure}
@@ -20,6 +20,11 @@ pub record HasParts (name : List ℕ) (cells : ℕ) (p : Procedure) : Type 0 whe
   pub high_few : p.high < 2 ^ 32
   pub bytes_short : length p.bytes < 2 ^ 32
   pub code_short : length p.code < 2 ^ 32
+
+-- the key of a module alone
+pub zeros : replicate 32 0 ≡ no_key
+unfolding no_key
+zeros = refl
 
 both_true : (a b : Bool) → a ≡ true → b ≡ true → (a && b) ≡ true
 both_true true b e f = f
