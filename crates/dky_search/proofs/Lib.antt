@@ -1,0 +1,9 @@
+pub mod Seen
+pub mod Told
+pub mod Probes
+pub mod Flights
+pub mod Searches
+pub mod Sought
+pub mod Fetches
+pub mod Enters
+pub mod Telling
