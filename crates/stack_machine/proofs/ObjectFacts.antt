@@ -11,7 +11,7 @@ use Rattle.code_form.specs.Modules.{Procedure, World}
 use Rattle.code_form.specs.Valid.{AreInstrs, IsValidCode}
 use Rattle.code_form.proofs.Spellings.{one_instr, one_rest}
 use Rattle.object_file.specs.Contents.{Export, KeyedImport, Contents, world_of, object_bytes}
-use Rattle.object_file.specs.Formats.{Format, done, exact, number, text, ◌>>=◌, many, counted, Spells}
+use Rattle.object_file.specs.Formats.{Format, done, exact, number, raw, text, ◌>>=◌, many, counted, Spells}
 use Rattle.object_file.specs.ObjectFormat.{any, is_outer, is_params, is_result, is_locals, is_count, as_exported, export_format, import_format, procedure_format, fields_format, format_with, version_near}
 use Rattle.object_file.specs.Validity.{IsObject, IsValid, HaveValidCode}
 use Rattle.object_file.proofs.Outers.{smaller}
@@ -81,6 +81,7 @@ spells_then (done x) g bytes y rest s = (x, bytes, (refl, refl), s)
 spells_then (exact e next) g bytes y rest s = let t = spells_then next g s.0 y rest s.2 in (t.0, t.1, (s.0, s.1, t.2), t.3)
 spells_then (number ok next) g bytes y rest s = let t = spells_then (next s.0) g s.1 y rest s.5 in (t.0, t.1, (s.0, s.1, s.2, s.3, s.4, t.2), t.3)
 spells_then (text ok next) g bytes y rest s = let t = spells_then (next s.0) g s.1 y rest s.5 in (t.0, t.1, (s.0, s.1, s.2, s.3, s.4, t.2), t.3)
+spells_then (raw n next) g bytes y rest s = let t = spells_then (next s.0) g s.1 y rest s.4 in (t.0, t.1, (s.0, s.1, s.2, s.3, t.2), t.3)
 
 formed_one : (es : List Export) (before : List Procedure) (bytes : List ℕ) (x : Procedure) (rest : List ℕ) → Spells (procedure_format es before) bytes x rest → Formed es (length before) x
 unfolding procedure_format ◌>>=◌
