@@ -64,9 +64,11 @@ fn objects_are_read_and_written(rt: HostRuntime) {
 #[test]
 fn both_versions_are_read(rt: HostRuntime) {
     let object = read(&rt, rt.alloc(), &EMPTY);
-    assert_eq!(rt; (object.version(), object.key()), (1, b"".as_slice()));
+    assert_eq!(rt; object.version(), 1);
+    assert_eq!(rt; object.key(), b"".as_slice());
     let object = read(&rt, rt.alloc(), &KEYED);
-    assert_eq!(rt; (object.version(), object.key()), (2, [0; 32].as_slice()));
+    assert_eq!(rt; object.version(), 2);
+    assert_eq!(rt; object.key(), [0; 32].as_slice());
     is_written_so(&rt, rt.alloc(), &object, &KEYED);
     let mut bytes = KEYED;
     bytes[21] = 255;
