@@ -87,7 +87,7 @@ fn answers_faults(rt: HostRuntime) -> Result<(), Fail> {
     let table: [(&[&str], &str, &[u32], &[u32], u8, Option<usize>); 6] = [
         (&["compile", "A"], EMPTY_MODULE, &[1], &[], 4, None),
         (&["compile", "A"], EMPTY_MODULE, &[2], &[], 5, Some(10)),
-        (&["compile", "A"], EMPTY_MODULE, &[3], &[1], 0, Some(62)),
+        (&["compile", "A"], EMPTY_MODULE, &[3], &[1], 0, Some(94)),
         (&["compile", "A"], "", &[], &[1], 5, None),
         (&["compile", "B"], EMPTY_MODULE, &[], &[1], 5, None),
         (&["compile"], EMPTY_MODULE, &[], &[1], 5, None),
