@@ -28,13 +28,21 @@ digit_value digit = if is_digit digit then digit - 48 else digit - 55
 abbrev pub value_in : ℕ → List ℕ → ℕ
 value_in base digits = fold (λ value digit. value * base + digit_value digit) 0 digits
 
--- a number has at most 32 bits; a greater one is a fault
-abbrev pub number_of : ℕ → Meaning
-number_of value = if nat_le value 4294967295 then number value else bad (code_of NumberTooLarge)
+-- the greatest number, of 32 bits
+abbrev pub greatest_number : ℕ
+greatest_number = 4294967295
 
--- a character has at most 8 bits; a greater one is a fault
+-- the greatest number of a character, of 8 bits
+abbrev pub greatest_character : ℕ
+greatest_character = 255
+
+-- a greater number is a fault
+abbrev pub number_of : ℕ → Meaning
+number_of value = if nat_le value greatest_number then number value else bad (code_of NumberTooLarge)
+
+-- a greater character is a fault
 abbrev pub character_of : ℕ → Meaning
-character_of value = if nat_le value 255 then character value else bad (code_of NumberTooLarge)
+character_of value = if nat_le value greatest_character then character value else bad (code_of NumberTooLarge)
 
 -- What a numeral stands for: `H` ends hexadecimal digits, `B` octal ones, and `C` those of a character.
 abbrev pub numeral_meaning : List ℕ → Meaning

@@ -2,7 +2,7 @@
 use Rattle.std.specs.Prelude.{◌≡◌, ◌≢◌, ◌⊎◌, ℕ, ◌+◌, ◌<◌, ◌≤◌, ◌^◌, Bool, true, false, List, [], ◌∷◌, Option, Some, None, length, map, slice_get, slice_index_or, sum_by, IsTrue}
 use Rattle.m2_base.specs.Lexemes.{is_lexeme}
 use Rattle.m2_base.specs.Lists.{Each, IsIn, IsPrefixOf}
-use Rattle.m2_base.specs.Meanings.{name, meaning_of}
+use Rattle.m2_base.specs.Meanings.{greatest_character, greatest_number, name, meaning_of}
 use Rattle.m2_base.specs.Names.{standard_names}
 use Rattle.m2_base.specs.declared.kind.TokenKind.{TokenKind}
 use Rattle.m2_base.specs.declared.kind.TokenKind.TheVariants.{EndOfText, Identifier, Number, Character, «String», Bad, Cut, StreamEnd}
@@ -49,8 +49,8 @@ pub record IsNamed (names : List (List ℕ)) (number : ℕ) : Type 0 where
 abbrev pub HasValue : List (List ℕ) → TokenKind → ℕ → Type 0
 HasValue names Identifier value = IsNamed names value
 HasValue names «String» value = IsNumbered names value
-HasValue names Number value = value ≤ 4294967295
-HasValue names Character value = value ≤ 255
+HasValue names Number value = value ≤ greatest_number
+HasValue names Character value = value ≤ greatest_character
 HasValue names Bad value = (10 ≤ value) × (value ≤ 13)
 HasValue names other value = Unit {0}
 

@@ -1,5 +1,5 @@
 -- What an item declares, whatever it is.
-use Rattle.std.specs.Prelude.{[], ℕ}
+use Rattle.std.specs.Prelude.{[], ℕ, None}
 use Rattle.m2_base.specs.Statics.Contexts.{Context}
 use Rattle.m2_base.specs.Statics.Effects.{Effect, only_cell}
 use Rattle.m2_base.specs.Statics.HeadingRows.{heading_rows}
@@ -19,4 +19,5 @@ declare c kind (const_item i value) cell = make_then c (const_rows c i value) (�
 declare c kind (type_item i typ) cell = make_then c (type_name_rows c i typ) (λ d p. makes (only_cell cell))
 declare c kind (vars_item names typ) cell = make_then c (vars_rows c names typ cell) (λ d next. makes (only_cell next))
 declare c kind (proc_item h stream) cell =
-    make_then c (proc_rows c kind h stream) (λ d note. makes (record { cell = cell; prologue = []; heading = note }))
+    make_then c (proc_rows c kind h stream) (λ d note.
+    makes (record { cell = cell; prologue = []; result = None; heading = note }))

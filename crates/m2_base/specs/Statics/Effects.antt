@@ -1,6 +1,7 @@
--- What an item gives beside its rows: the next free cell, what its procedure's body copies first, and a note of its
--- heading.
+-- What an item gives beside its rows: the next free cell, what its procedure's body copies first, the type of the
+-- result that its own heading binds, and a note of its heading.
 use Rattle.std.specs.Prelude.{ℕ, List, [], ◌∷◌, ◌++◌, Option, Some, None}
+use Rattle.m2_base.specs.Rows.{Place}
 use Rattle.m2_base.specs.declared.outputs.HeadingNote.{HeadingNote}
 
 -- What a procedure's body copies first: a structured value parameter, whose address is in a cell, into cells of its
@@ -13,11 +14,12 @@ pub data ParamCopy : Type 0 where
 pub record Effect : Type 0 where
   pub cell : ℕ
   pub prologue : List ParamCopy
+  pub result : Option Place
   pub heading : Option HeadingNote
 
 -- the next free cell, and nothing else
 abbrev pub only_cell : ℕ → Effect
-only_cell n = record { cell = n; prologue = []; heading = None }
+only_cell n = record { cell = n; prologue = []; result = None; heading = None }
 
 -- what the items of a block give beside their rows
 pub record BlockEffects : Type 0 where
