@@ -1,13 +1,13 @@
 -- Procedure types of the same form.
 use Rattle.std.proofs.Common.{◌≡◌, ◌∙◌, ℕ, Bool, true, false, not, ◌&&◌, ◌||◌, Option, Some, None, refl, sym, ap, subst}
-use Rattle.std.specs.Prelude.{unwrap_or}
+use Rattle.std.specs.Prelude.{List, [], ◌∷◌, is_none, unwrap_or}
 use Rattle.m2_base.specs.States.{Frame}
 use Rattle.m2_base.specs.Statics.Assignable.{are_both_numbers, is_open_array, is_procedure_kind, takes, takes_procedure}
 use Rattle.m2_base.specs.Statics.Compatible.{is_compatible}
 use Rattle.m2_base.specs.Statics.Operands.{operand_type}
 use Rattle.m2_base.specs.Statics.Contexts.{Scene}
 use Rattle.m2_base.specs.Statics.SameForm.{are_same_parameters, is_same_by, is_same_form, is_same_parameter_type, is_same_result}
-use Rattle.m2_base.specs.Statics.TypeParts.{parameters_by as spec_parameters_by, result_by}
+use Rattle.m2_base.specs.Statics.TypeParts.{Parameter, parameters_by as spec_parameters_by, result_by}
 use Rattle.m2_base.specs.Statics.Types.{base_of, kind_of, stands_for}
 use Rattle.m2_base.specs.declared.operands.Operand.{Operand}
 use Rattle.m2_base.specs.declared.operands.Operand.TheVariants.{Computed, Procedure, StringConstant}
@@ -18,7 +18,7 @@ use Rattle.m2_base.specs.declared.rows.RowMeaning.TheVariants.{OpenArray, ProcTy
 use Rattle.m2_base.specs.declared.sites.Around.{Around}
 use Rattle.type_rules.specs.Asks.{WhereKnown}
 use Rattle.type_rules.specs.Assigning.{takes_closed, takes_value}
-use Rattle.type_rules.specs.Forms.{are_same_places, compared, form_by, parameters_by, parameters_from, same_by, same_forms, same_kinds}
+use Rattle.type_rules.specs.Forms.{are_none, are_same_places, compared, form_by, is_bare, parameters_by, parameters_from, same_by, same_forms, same_kinds}
 use Rattle.type_rules.specs.Scenes.{IsStood, WhereTold, scene_of}
 use Rattle.type_rules.specs.declared.forms.Compared.{Compared}
 use Rattle.type_rules.specs.declared.forms.Form.{Form}
@@ -108,6 +108,74 @@ pub none_of : (scene : Scene) (to of : Place) → form_by (stands_for scene of) 
 none_of scene to of none =
     false_right (is_procedure_kind (kind_of scene to)) (is_same_form scene to of)
     ∙ ap (λ b. is_procedure_kind (kind_of scene to) && b && is_same_form scene to of) (sym (no_form (stands_for scene of) (kind_of scene of) none))
+
+-- ** Headings
+
+-- what is no procedure type has no parameters and no result
+no_parts : (scene : Scene) (p : Place) (m : RowMeaning) → form_by p m ≡ None → (spec_parameters_by scene p m ≡ []) × (result_by m ≡ None)
+no_parts scene p (ProcType r n first) h = absurd (cc)
+no_parts scene p m h = (refl, refl)
+
+-- the same form, by the parameters and the results of both
+form_parts : (scene : Scene) (t u : Place) (ps qs : List Parameter) (r q : Option Place)
+    → spec_parameters_by scene (stands_for scene t) (kind_of scene t) ≡ ps → spec_parameters_by scene (stands_for scene u) (kind_of scene u) ≡ qs
+    → result_by (kind_of scene t) ≡ r → result_by (kind_of scene u) ≡ q
+    → is_same_form scene t u ≡ (are_same_parameters scene ps qs && is_same_result scene r q)
+form_parts scene t u ps qs r q left right to from =
+    ap (λ l. are_same_parameters scene l (spec_parameters_by scene (stands_for scene u) (kind_of scene u)) && is_same_result scene (result_by (kind_of scene t)) (result_by (kind_of scene u))) left
+    ∙ ap (λ l. are_same_parameters scene ps l && is_same_result scene (result_by (kind_of scene t)) (result_by (kind_of scene u))) right
+    ∙ ap (λ o. are_same_parameters scene ps qs && is_same_result scene o (result_by (kind_of scene u))) to
+    ∙ ap (λ o. are_same_parameters scene ps qs && is_same_result scene r o) from
+
+bare_before : (scene : Scene) (ps : List Parameter) (r : Option Place) → (are_none ps && is_none r) ≡ (are_same_parameters scene ps [] && is_same_result scene r None)
+bare_before scene [] None = refl
+bare_before scene [] (Some t) = refl
+bare_before scene (p ∷ ps) None = refl
+bare_before scene (p ∷ ps) (Some t) = refl
+
+bare_behind : (scene : Scene) (ps : List Parameter) (r : Option Place) → (are_none ps && is_none r) ≡ (are_same_parameters scene [] ps && is_same_result scene None r)
+bare_behind scene [] None = refl
+bare_behind scene [] (Some t) = refl
+bare_behind scene (p ∷ ps) None = refl
+bare_behind scene (p ∷ ps) (Some t) = refl
+
+-- no parameter is left where none is read
+pub none_left : (scene : Scene) (p : Place) (o : Option Formal) (ps : List Parameter) → ps ≡ parameters_by scene p o → is_none o ≡ are_none ps
+none_left scene p None ps h = sym (ap are_none h)
+none_left scene p (Some formal) ps h = sym (ap are_none h)
+
+module _ (scene : Scene) (t u : Place) where
+  abbrev to : Option Form
+  to = form_by (stands_for scene t) (kind_of scene t)
+
+  abbrev of : Option Form
+  of = form_by (stands_for scene u) (kind_of scene u)
+
+  pub both_same : (x y : Form) → to ≡ Some x → of ≡ Some y → same_forms scene x y ≡ is_same_form scene t u
+  both_same x y left right =
+      let l = has_form scene (stands_for scene t) (kind_of scene t) x left in
+      let r = has_form scene (stands_for scene u) (kind_of scene u) y right in
+      sym (form_parts scene t u (parameters_from scene x.of x.first) (parameters_from scene y.of y.first) x.result y.result l.list r.list l.result r.result)
+
+  pub left_bare : (x : Form) → to ≡ Some x → of ≡ None → is_bare scene x ≡ is_same_form scene t u
+  left_bare x left right =
+      let l = has_form scene (stands_for scene t) (kind_of scene t) x left in
+      let r = no_parts scene (stands_for scene u) (kind_of scene u) right in
+      bare_before scene (parameters_from scene x.of x.first) x.result
+      ∙ sym (form_parts scene t u (parameters_from scene x.of x.first) [] x.result None l.list r.0 l.result r.1)
+
+  pub right_bare : (y : Form) → to ≡ None → of ≡ Some y → is_bare scene y ≡ is_same_form scene t u
+  right_bare y left right =
+      let l = no_parts scene (stands_for scene t) (kind_of scene t) left in
+      let r = has_form scene (stands_for scene u) (kind_of scene u) y right in
+      bare_behind scene (parameters_from scene y.of y.first) y.result
+      ∙ sym (form_parts scene t u [] (parameters_from scene y.of y.first) None y.result l.0 r.list l.1 r.result)
+
+  pub none_same : to ≡ None → of ≡ None → true ≡ is_same_form scene t u
+  none_same left right =
+      let l = no_parts scene (stands_for scene t) (kind_of scene t) left in
+      let r = no_parts scene (stands_for scene u) (kind_of scene u) right in
+      sym (form_parts scene t u [] [] None None l.0 r.0 l.1 r.1)
 
 -- ** What a variable takes
 

@@ -199,6 +199,12 @@ waits_at old new at name chain head inner other searched =
     elim (below_or_same head.scope (fills_of old) (inside (fills_of old) head.scope chain inner unknown.on)) as (λ _. head.scope < fills_of old) [ inl below ↦ below | inr same ↦ absurd (other same) ] in
     record { smaller = smaller; incomplete = unknown.stops.incomplete; from = unknown.stops.loaded.from; upto = unknown.stops.loaded.upto }
 
+-- a complete own scope is none at whose head a search stops
+pub never_own : {old new : State} {at name : ℕ} {chain : List ℕ} {head : Head} → old.frame.closed ≡ true → Searched old new at chain name (DontKnowYet head) → head.scope ≢ fills_of old
+never_own closed searched same =
+    let open_yet = (searched.says.stops.own (same ∙ ap (λ (f : Frame). f.setting.fills) (sym searched.keeps.frame))).0 in
+    true≢false (sym closed ∙ ap (λ (f : Frame). f.closed) (sym searched.keeps.frame) ∙ open_yet)
+
 silent_look : (name : ℕ) (chain : List ℕ) (heads : List Head) (reply : Reply) → Each (λ (l : Look). l.at ≡ 0) (looks_of 0 name chain heads reply)
 silent_look name [] heads reply = tt
 silent_look name (s ∷ chain) heads reply = (refl, tt)

@@ -1,5 +1,5 @@
 -- Procedure types, as the walk through their parameters sees them.
-use Rattle.std.specs.Prelude.{◌≡◌, ℕ, ◌<◌, ◌≤◌, Bool, ◌&&◌, ◌||◌, List, [], ◌∷◌, Option, Some, None, filter_map}
+use Rattle.std.specs.Prelude.{◌≡◌, ℕ, ◌<◌, ◌≤◌, Bool, true, false, ◌&&◌, ◌||◌, List, [], ◌∷◌, Option, Some, None, filter_map, is_none}
 use Rattle.std.specs.Option.{IfSome}
 use Rattle.m2_base.specs.Rows.{is_same_place}
 use Rattle.m2_base.specs.Standard.{broken}
@@ -77,3 +77,12 @@ abbrev pub same_forms : Scene → Form → Form → Bool
 same_forms scene x y =
     are_same_parameters scene (parameters_from scene x.of x.first) (parameters_from scene y.of y.first)
     && is_same_result scene x.result y.result
+
+-- no parameters
+abbrev pub are_none : List Parameter → Bool
+are_none [] = true
+are_none (p ∷ ps) = false
+
+-- a procedure type without parameters and result
+abbrev pub is_bare : Scene → Form → Bool
+is_bare scene x = are_none (parameters_from scene x.of x.first) && is_none x.result

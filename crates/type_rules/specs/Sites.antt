@@ -66,20 +66,20 @@ pub record IsLookFor (at name : ℕ) (chain : List ℕ) (reply : Reply) (look : 
   pub chain_is : look.chain ≡ chain
   pub replied : look.reply ≡ reply
 
--- the row is an alias of a place of this scope
-abbrev pub LeadsTo : Row → (scope : ℕ) → Type 0
-LeadsTo r scope = (p : Place) × (row_meaning r ≡ Alias p) × (scope ≡ p.scope)
+-- the row is an alias of a place whose row this head doesn't count
+abbrev pub LeadsTo : Row → Head → Type 0
+LeadsTo r h = (p : Place) × (row_meaning r ≡ Alias p) × (h.scope ≡ p.scope) × (h.count ≤ p.ordinal)
 
--- the last answer noted is this name's, and its row an alias of a place of this scope
-abbrev pub EndsWithAlias : List Answer → (at name scope : ℕ) → Type 0
-EndsWithAlias answers at name scope =
-    (front : List Answer) × (e : Entry) × (answers ≡ front ++ answer_of name at e ∷ []) × LeadsTo e.1 scope
+-- the last answer noted is this name's, and its row an alias of a place whose row this head doesn't count
+abbrev pub EndsWithAlias : List Answer → (at name : ℕ) → Head → Type 0
+EndsWithAlias answers at name h =
+    (front : List Answer) × (e : Entry) × (answers ≡ front ++ answer_of name at e ∷ []) × LeadsTo e.1 h
 
--- The head is that at which the search for this name in this chain stopped, which was the last look; or its scope is that of the
--- target of an alias, which was the last answer noted.
+-- The head is that at which the search for this name in this chain stopped, which was the last look; or it doesn't count the row
+-- of the target of an alias, which was the last answer noted.
 abbrev pub IsAskedIn : State → Notes → (at name : ℕ) → List ℕ → Head → Type 0
 IsAskedIn new notes at name chain h =
-    WhereLast new.looks (IsLookFor at name chain (DontKnowYet h)) ⊎ EndsWithAlias notes.answers.items at name h.scope
+    WhereLast new.looks (IsLookFor at name chain (DontKnowYet h)) ⊎ EndsWithAlias notes.answers.items at name h
 
 -- the chain in which a name of a declaration is looked up: the own scope alone where the layout gives it to an earlier item,
 -- none where to this or a later one, else the scopes outside

@@ -8,11 +8,10 @@ ghost use Rattle.m2_base.specs.Statics.Ranges.{range};
 ghost use Rattle.m2_base.specs.Statics.Types.{stands_for as spec_stands, kind_of};
 ghost use Rattle.type_rules.specs.Asks.{Reads, WhereKnown, WhereWaiting};
 ghost use Rattle.type_rules.specs.Assigning.{takes_char as spec_takes_char, takes_text as spec_takes_text, takes_value as spec_takes_value, takes_other as spec_takes_other, takes_closed as spec_takes_closed, array_takes};
-ghost use Rattle.type_rules.specs.Forms.{form_by, IsFormHere};
 ghost use Rattle.type_rules.specs.Scenes.{Suits, IsThere, IsOperandThere, IsSaid, scene_of, WhereTold};
 
 use crate::compatibility::{bases_of, compatible};
-use crate::forms::{Form, form_of, same_form};
+use crate::forms::{forms_of, same_form};
 use crate::operands::{CHARACTER, is_integer_or_cardinal, operand_type};
 use crate::ordinals::{base_of, range_of};
 use crate::sameness::same;
@@ -31,30 +30,6 @@ pub fn is_open_array<S: Scopes>(scopes: &mut S, around: &Around, of: Place) -> A
 {
     let (_, meaning) = known!(stand(scopes, around, of));
     Ask::Known(matches!(meaning, RowMeaning::OpenArray(_)))
-}
-
-/// The forms of two procedure types.
-#[tactic(auto, using(crate::proofs::Reading::reading))]
-fn forms_of<S: Scopes>(
-    scopes: &mut S,
-    around: &Around,
-    x: Place,
-    y: Place,
-) -> Ask<(Option<Form>, Option<Form>)>
-    requires suits { Suits (S.state scopes.old).frame around.now }
-    requires x { IsThere (S.state scopes.old).frame x }
-    requires y { IsThere (S.state scopes.old).frame y }
-    ensures reads { Reads (S.state scopes.old) (S.state scopes.new) }
-    ensures waits { WhereWaiting result (λ head. Waits (S.state scopes.old) (S.state scopes.new) head) }
-    ensures left { WhereTold (S.state scopes.old).frame (λ made.
-        WhereKnown result (λ forms. forms.0 ≡ form_by (spec_stands (scene_of (S.state scopes.old).frame made around.now) x) (kind_of (scene_of (S.state scopes.old).frame made around.now) x))) }
-    ensures right { WhereTold (S.state scopes.old).frame (λ made.
-        WhereKnown result (λ forms. forms.1 ≡ form_by (spec_stands (scene_of (S.state scopes.old).frame made around.now) y) (kind_of (scene_of (S.state scopes.old).frame made around.now) y))) }
-    ensures here { WhereKnown result (λ forms. IfSome forms.0 (IsFormHere (S.state scopes.old).frame) × IfSome forms.1 (IsFormHere (S.state scopes.old).frame)) }
-{
-    let left = known!(form_of(scopes, around, x));
-    let right = known!(form_of(scopes, around, y));
-    Ask::Known((left, right))
 }
 
 /// Whether both are procedure types, of the same form.

@@ -1,5 +1,5 @@
 //! The type that a module declares under a name.
-ghost use Rattle.std.specs.Prelude.{◌≡◌, ◌≢◌, ◌≤◌, ◌∷◌, []};
+ghost use Rattle.std.specs.Prelude.{◌≡◌, ◌≢◌, ◌≤◌, ◌∷◌, [], true};
 ghost use Rattle.std.specs.Option.{IfSome};
 ghost use Rattle.m2_base.specs.States.{Waits};
 ghost use Rattle.m2_base.specs.Statics.Lookup.{entry_in};
@@ -31,6 +31,29 @@ pub(crate) fn declared<S: Scopes>(
         Reply::Found(place, row) => Ask::Known(Some((place, row))),
         Reply::Absent => Ask::Known(None),
         Reply::DontKnowYet(head) if head.scope == around.scope => Ask::Known(None),
+        Reply::DontKnowYet(head) => Ask::DontKnowYet(head),
+    }
+}
+
+/// The first row of the module's scope that has a name, where the own scope is complete.
+#[tactic(auto, using(crate::proofs::Reading::reading))]
+pub fn entry_of_module<S: Scopes>(
+    scopes: &mut S,
+    around: &Around,
+    name: u32,
+) -> Ask<Option<(Place, Row)>>
+    requires suits { Suits (S.state scopes.old).frame around.now }
+    requires complete { (S.state scopes.old).frame.closed ≡ true }
+    requires named { name ≢ 0 }
+    ensures reads { Reads (S.state scopes.old) (S.state scopes.new) }
+    ensures waits { WhereWaiting result (λ head. Waits (S.state scopes.old) (S.state scopes.new) head) }
+    ensures told { WhereTold (S.state scopes.old).frame (λ made.
+        WhereKnown result (λ entry. entry ≡ entry_in (rows_of (S.state scopes.old).frame made) around.now.module name)) }
+    ensures row { WhereKnown result (λ entry. IfSome entry (λ entry. IsRowOf (S.state scopes.old).frame entry.0 entry.1)) }
+{
+    match scopes.search(0, &[around.module], name) {
+        Reply::Found(place, row) => Ask::Known(Some((place, row))),
+        Reply::Absent => Ask::Known(None),
         Reply::DontKnowYet(head) => Ask::DontKnowYet(head),
     }
 }

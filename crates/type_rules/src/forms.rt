@@ -334,3 +334,27 @@ pub(crate) fn same_form<S: Scopes>(scopes: &mut S, around: &Around, x: Form, y: 
     }
     same_result(scopes, around, x.result, y.result)
 }
+
+/// The forms of two procedure types.
+#[tactic(auto, using(crate::proofs::Reading::reading))]
+pub(crate) fn forms_of<S: Scopes>(
+    scopes: &mut S,
+    around: &Around,
+    x: Place,
+    y: Place,
+) -> Ask<(Option<Form>, Option<Form>)>
+    requires suits { Suits (S.state scopes.old).frame around.now }
+    requires x { IsThere (S.state scopes.old).frame x }
+    requires y { IsThere (S.state scopes.old).frame y }
+    ensures reads { Reads (S.state scopes.old) (S.state scopes.new) }
+    ensures waits { WhereWaiting result (λ head. Waits (S.state scopes.old) (S.state scopes.new) head) }
+    ensures left { WhereTold (S.state scopes.old).frame (λ made.
+        WhereKnown result (λ forms. forms.0 ≡ form_by (spec_stands (scene_of (S.state scopes.old).frame made around.now) x) (kind_of (scene_of (S.state scopes.old).frame made around.now) x))) }
+    ensures right { WhereTold (S.state scopes.old).frame (λ made.
+        WhereKnown result (λ forms. forms.1 ≡ form_by (spec_stands (scene_of (S.state scopes.old).frame made around.now) y) (kind_of (scene_of (S.state scopes.old).frame made around.now) y))) }
+    ensures here { WhereKnown result (λ forms. IfSome forms.0 (IsFormHere (S.state scopes.old).frame) × IfSome forms.1 (IsFormHere (S.state scopes.old).frame)) }
+{
+    let left = known!(form_of(scopes, around, x));
+    let right = known!(form_of(scopes, around, y));
+    Ask::Known((left, right))
+}

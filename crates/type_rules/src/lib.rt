@@ -22,6 +22,7 @@ mod compatibility;
 mod finding;
 mod folding;
 mod forms;
+mod headings;
 mod looking;
 mod members;
 mod operands;
@@ -34,15 +35,17 @@ mod uses;
 
 pub use assigning::{assignable, is_open_array};
 pub use compatibility::{bases_of, compatible, is_pointer};
+pub use finding::entry_of_module;
 pub use folding::fold;
 pub use forms::{Form, Formal, form_of, next_parameter};
+pub use headings::has_same_form;
 pub use members::{field_of, index_of};
 pub use operands::{
     BITSET, BOOLEAN, BROKEN, CARDINAL, CHARACTER, INTEGER, NIL, TEXT, WHOLE,
     is_integer_or_cardinal, is_one_char, is_string, operand_type,
 };
 pub use ordinals::{base_of, range_by, range_of};
-pub use rows::row_at;
+pub use rows::{meaning_at, row_at, row_before};
 pub use sameness::same;
 pub use sizes::size_of;
 pub use standing::stand;

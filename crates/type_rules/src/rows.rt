@@ -1,8 +1,10 @@
 //! The row of a type, and what it says.
-ghost use Rattle.std.specs.Prelude.{◌≡◌};
+ghost use Rattle.std.specs.Prelude.{◌≡◌, ◌<◌, ◌≤◌, slice_get};
+ghost use Rattle.std.specs.Option.{IfSome};
 ghost use Rattle.m2_base.specs.Rows.{row_meaning};
-ghost use Rattle.m2_base.specs.States.{Waits};
+ghost use Rattle.m2_base.specs.States.{Waits, fills_of};
 ghost use Rattle.m2_base.specs.Statics.Contexts.{row_at as spec_row};
+ghost use Rattle.m2_base.specs.Tables.{rows_at};
 ghost use Rattle.type_rules.specs.Asks.{Reads, WhereKnown, WhereWaiting};
 ghost use Rattle.type_rules.specs.Scenes.{Suits, IsThere, IsSaid, IsRowOf, rows_of, WhereTold};
 
@@ -19,6 +21,7 @@ pub fn row_at<S: Scopes>(scopes: &mut S, around: &Around, place: Place) -> Ask<R
         WhereKnown result (λ row. row ≡ spec_row (rows_of (S.state scopes.old).frame made) place)) }
     ensures row { WhereKnown result (λ row. IsRowOf (S.state scopes.old).frame place row) }
     ensures of { WhereWaiting result (λ head. head.scope ≡ place.scope) }
+    ensures stops { WhereWaiting result (λ head. head.count ≤ place.ordinal) }
 {
     let _scope = around.scope;
     match scopes.fetch(0, place) {
@@ -28,9 +31,25 @@ pub fn row_at<S: Scopes>(scopes: &mut S, around: &Around, place: Place) -> Ask<R
     }
 }
 
+/// The row at a place of a scope before the own one; none past the scope's end.
+pub fn row_before<S: Scopes>(scopes: &mut S, around: &Around, place: Place) -> Ask<Option<Row>>
+    requires suits { Suits (S.state scopes.old).frame around.now }
+    requires before { place.scope < fills_of (S.state scopes.old) }
+    ensures reads { Reads (S.state scopes.old) (S.state scopes.new) }
+    ensures waits { WhereWaiting result (λ head. Waits (S.state scopes.old) (S.state scopes.new) head) }
+    ensures told { WhereTold (S.state scopes.old).frame (λ made.
+        WhereKnown result (λ row. row ≡ slice_get (rows_at (rows_of (S.state scopes.old).frame made) place.scope) place.ordinal)) }
+    ensures row { WhereKnown result (λ row. IfSome row (λ row. IsRowOf (S.state scopes.old).frame place row)) }
+    ensures of { WhereWaiting result (λ head. head.scope ≡ place.scope) }
+    ensures stops { WhereWaiting result (λ head. head.count ≤ place.ordinal) }
+{
+    let _scope = around.scope;
+    scopes.fetch(0, place)
+}
+
 /// What the row at a place says.
 #[tactic(auto, using(crate::proofs::Reading::reading))]
-pub(crate) fn meaning_at<S: Scopes>(
+pub fn meaning_at<S: Scopes>(
     scopes: &mut S,
     around: &Around,
     place: Place,
@@ -42,6 +61,8 @@ pub(crate) fn meaning_at<S: Scopes>(
     ensures told { WhereTold (S.state scopes.old).frame (λ made.
         WhereKnown result (λ meaning. meaning ≡ row_meaning (spec_row (rows_of (S.state scopes.old).frame made) place))) }
     ensures said { WhereKnown result (λ meaning. IsSaid (S.state scopes.old).frame place meaning) }
+    ensures of { WhereWaiting result (λ head. head.scope ≡ place.scope) }
+    ensures stops { WhereWaiting result (λ head. head.count ≤ place.ordinal) }
 {
     let row = known!(row_at(scopes, around, place));
     Ask::Known(read_row(&row))

@@ -54,7 +54,7 @@ pub fn follow<S: Scopes>(scopes: &mut S, around: &Around, entry: Entry) -> Ask<E
     ensures told { WhereTold (S.state scopes.old).frame (λ made.
         WhereKnown result (λ found. found ≡ followed (scene_of (S.state scopes.old).frame made around.now) entry)) }
     ensures row { WhereKnown result (λ found. IsRowOf (S.state scopes.old).frame found.0 found.1) }
-    ensures of { WhereWaiting result (λ head. LeadsTo entry.1 head.scope) }
+    ensures of { WhereWaiting result (λ head. LeadsTo entry.1 head) }
 {
     match read_row(&entry.1) {
         RowMeaning::Alias(target) => {
@@ -100,7 +100,7 @@ fn bind<S: Scopes>(
     ensures told { WhereTold (S.state scopes.old).frame (λ made.
         IfKnown result (λ found. found ≡ Some (followed (scene_of (S.state scopes.old).frame made around.now) entry))) }
     ensures row { IfKnown result (λ found. MatchOption found ⊥ (λ found. IsRowOf (S.state scopes.old).frame found.0 found.1)) }
-    ensures of { IfWaits result (λ head. LeadsTo entry.1 head.scope) }
+    ensures of { IfWaits result (λ head. LeadsTo entry.1 head) }
 {
     answer(notes, name, at, &entry)?;
     match follow(scopes, around, entry) {
@@ -125,6 +125,7 @@ fn bound_or<S: Scopes>(
     ensures works { Works (S.state scopes.old) (S.state scopes.new) notes.old notes.new }
     ensures waits { IfWaits result (λ head. Waits (S.state scopes.old) (S.state scopes.new) head) }
     ensures asked { IfWaits result (λ head. IsAskedIn (S.state scopes.new) notes.new at name chain.now head) }
+    ensures quiet { IfWaits result (λ head. notes.new.diags.items ≡ notes.old.diags.items) }
     ensures told { WhereTold (S.state scopes.old).frame (λ made.
         (IsIn (fills_of (S.state scopes.old)) chain.now → Lacks made.rows name) →
         IfKnown result (λ entry. Adds notes.old notes.new (spec_bound_or (context_of (S.state scopes.old).frame made site.now) (code_of diagnostic) name at (lookup (rows_of (S.state scopes.old).frame made) chain.now name)) entry)) }
@@ -178,6 +179,7 @@ fn bound_outside<S: Scopes>(
     ensures works { Works (S.state scopes.old) (S.state scopes.new) notes.old notes.new }
     ensures waits { IfWaits result (λ head. Waits (S.state scopes.old) (S.state scopes.new) head) }
     ensures asked { IfWaits result (λ head. IsAskedIn (S.state scopes.new) notes.new at name (drop 1 site.now.around.now.chain) head) }
+    ensures quiet { IfWaits result (λ head. notes.new.diags.items ≡ notes.old.diags.items) }
     ensures told { WhereTold (S.state scopes.old).frame (λ made.
         IfKnown result (λ entry. Adds notes.old notes.new (spec_bound_outside (context_of (S.state scopes.old).frame made site.now) name at (lookup (rows_of (S.state scopes.old).frame made) (drop 1 site.now.around.now.chain) name)) entry)) }
     ensures none { IfKnown result (λ entry. MatchOption entry (length notes.new.diags.items ≡ length notes.old.diags.items + 1) (λ _. notes.new.diags.items ≡ notes.old.diags.items)) }
@@ -215,6 +217,7 @@ fn use_in_item<S: Scopes>(
     ensures works { Works (S.state scopes.old) (S.state scopes.new) notes.old notes.new }
     ensures waits { IfWaits result (λ head. Waits (S.state scopes.old) (S.state scopes.new) head) }
     ensures asked { IfWaits result (λ head. IsAskedIn (S.state scopes.new) notes.new at name (chain_in_item site.now item (first_entry site.now.layout.now.names name)) head) }
+    ensures quiet { IfWaits result (λ head. notes.new.diags.items ≡ notes.old.diags.items) }
     ensures told { WhereTold (S.state scopes.old).frame (λ made.
         AreOfItem site.now.layout.now.names item made.rows →
         IfKnown result (λ entry. Adds notes.old notes.new (spec_use_in_item (context_of (S.state scopes.old).frame made site.now) item name at (first_entry site.now.layout.now.names name)) entry)) }
@@ -255,7 +258,7 @@ fn standard_entry(name: u32) -> Entry
 }
 
 /// What a name stands for where it is used at a token, with the place of its row; none with a diagnostic. A name after a
-/// module's point or in a FROM list is looked up `within` that module's scope alone.
+/// module's point or in a FROM list is looked up `within` that module's scope alone. What waits has noted no diagnostic.
 pub fn use_name<S: Scopes>(
     scopes: &mut S,
     site: &Site,
@@ -270,6 +273,7 @@ pub fn use_name<S: Scopes>(
     ensures works { Works (S.state scopes.old) (S.state scopes.new) notes.old notes.new }
     ensures waits { IfWaits result (λ head. Waits (S.state scopes.old) (S.state scopes.new) head) }
     ensures asked { IfWaits result (λ head. IsAskedIn (S.state scopes.new) notes.new at name (chain_of site.now within name) head) }
+    ensures quiet { IfWaits result (λ head. notes.new.diags.items ≡ notes.old.diags.items) }
     ensures told { WhereTold (S.state scopes.old).frame (λ made.
         AreOfSite site.now made →
         IfKnown result (λ entry. Adds notes.old notes.new (spec_use_of (context_of (S.state scopes.old).frame made site.now) within name at) entry)) }
