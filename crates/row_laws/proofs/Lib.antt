@@ -23,6 +23,7 @@ pub mod TreesOf
 pub mod DefinitionUnits
 pub mod Joined
 pub mod Numbered
+pub mod HeadingResults
 pub mod InnerBlocks
 pub mod TextBlocks
 pub mod ClearRows

@@ -18,17 +18,23 @@ use Rattle.m2_base.specs.declared.trees.declarations.StreamKind.TheVariants.{Mai
 use Rattle.m2_base.specs.Standard.{standard_rows}
 use Rattle.m2_base.specs.Tables.{rows_at}
 use Rattle.m2_base.specs.Statics.Assignable.{is_open_kind}
-use Rattle.m2_base.specs.Statics.BlockRows.{cells_after, context_of, declare_block, first_cell, scene_of}
-use Rattle.m2_base.specs.Statics.Blocks.{BlockTree, UnitTrees, blocks_of, home_of}
-use Rattle.m2_base.specs.Statics.Cells.{most_cells}
+use Rattle.m2_base.specs.Statics.BlockRows.{at_item, cells_after, context_of, declare_block, first_cell, scene_of}
+use Rattle.m2_base.specs.Statics.Blocks.{BlockTree, GoesDown, UnitTrees, blocks_of, home_of}
+use Rattle.m2_base.specs.Statics.Cells.{capped, most_cells}
 use Rattle.m2_base.specs.Statics.Contexts.{Block, Scene, Source}
+use Rattle.m2_base.specs.Statics.Declarations.{declare}
 use Rattle.m2_base.specs.Statics.Effects.{BlockEffects}
 use Rattle.m2_base.specs.Statics.FormedRows.{AreConsecutive, IsReady, IsSoundBlock}
-use Rattle.m2_base.specs.Statics.Items.{Item, items_of}
+use Rattle.m2_base.specs.Statics.HeadingRows.{own_sections_rows, placing}
+use Rattle.m2_base.specs.Statics.Items.{Item, heading_item, items_of}
+use Rattle.m2_base.specs.Statics.Layouts.{layout_of}
 use Rattle.m2_base.specs.Statics.Makes.{Makes, scene_with}
+use Rattle.m2_base.specs.Statics.ProcedureRows.{parameter_cells}
+use Rattle.m2_base.specs.Statics.ProcedureTypes.{result_type}
 use Rattle.m2_base.specs.Statics.Types.{meaning_at}
+use Rattle.m2_base.specs.Statics.UnitNotes.{complete_context}
 use Rattle.m2_base.specs.Statics.UnitRows.{rows_from, unit_rows}
-use Rattle.m2_base.proofs.ChainLaws.{each_then}
+use Rattle.m2_base.proofs.ChainLaws.{chains_down, each_then}
 use Rattle.m2_base.proofs.LayoutLaws.{AreShaped-length, block_shaped}
 use Rattle.m2_base.proofs.NoRepeats.{scene_empty, some_is}
 use Rattle.m2_base.proofs.SceneLaws.{own_of, own-with}
@@ -36,11 +42,13 @@ use Rattle.m2_base.proofs.Sound.{Sound, sound-with}
 use Rattle.m2_base.proofs.SoundUnits.{unit_right}
 use Rattle.row_laws.proofs.Numbers.{Agrees}
 use Rattle.row_laws.specs.Procedures.{IsDeclared, IsSeenAs, IsTypeOf, ProceduresAreDeclared}
+use Rattle.row_laws.specs.Results.{BindsItsResult, bound_first}
 use Rattle.row_laws.specs.RowRanges.{BlockInRange, CellsAreThere, EachBlock, EffectsInRange, HasOperands, IsBelow, IsCopyBelow, IsCopyInRange, IsSoundUnit, OwnCellsAreThere, RowsInRange}
 use Rattle.row_laws.proofs.Declared.{block_declared}
 use Rattle.row_laws.proofs.Signatures.{IsRawType, type_seen}
 use Rattle.row_laws.proofs.Fitting.{IsFit, IsInModule, blocks_fit}
 use Rattle.row_laws.proofs.Closed.{IsClosed, IsNamed, agrees_named}
+use Rattle.row_laws.proofs.HeadingResults.{result_same}
 use Rattle.row_laws.proofs.Later.{agree_each, agrees_later}
 use Rattle.row_laws.proofs.OwnCells.{block_counted}
 use Rattle.row_laws.proofs.Placing.{ArePlaced, IsCopyPlaced, IsPlaced, placed_more}
@@ -516,6 +524,51 @@ module _ (names : ℕ) (source : Source) (own : Option ℕ) (home : ℕ) (all : 
     all_suit blocks (standard_rows ∷ []) e row (omega arith) good fits,
   )
 
+  -- ** The results of headings
+
+  block_result : (before : List (List Row)) (b : BlockTree) → IsAt names source all before b → IsFit own home b.block → GoesDown b → home < b.block.scope → (h : Heading) (cell : ℕ)
+      → (declare (at_item (context_of source before b) 0) b.tree.kind (heading_item h) cell).value.result ≡ bound_first (complete_context source all b.block) b.tree h
+  block_result before b is fit down behind h cell = first
+    where
+      t : List (List Row)
+      t = (scene_of before b.block).tables
+
+      sections : List Row
+      sections = (own_sections_rows (at_item (context_of source before b) 0) (placing 0 (capped (parameter_cells h.sections)) []) h.sections).rows
+
+      in_module : IsInModule own home b.block → b.block.home < b.block.scope
+      in_module (inl d) = let e = d.1 in absurd (omega (arith, e, behind))
+      in_module (inr m) = let e = m.1 in omega (arith, e, behind)
+
+      made_same : (s : ℕ) → s < b.block.scope → rows_at (scene_with (scene_of before b.block) sections).tables s ≡ rows_at t s
+      made_same s k = get_or-set_other t b.block.scope s (own_of (scene_of before b.block) ++ sections) [] (λ e. omega (arith, e, k))
+
+      whole_same : (s : ℕ) → s < b.block.scope → rows_at (whole_scene all b.block).tables s ≡ rows_at t s
+      whole_same s k = whole-rows all b.block s is.there (omega (arith, k)) ∙ is.earlier s k ∙ sym (rows_before before b.block s is.ready.before k)
+
+      bound : (u : List (List Row)) → ((s : ℕ) → s < b.block.scope → rows_at u s ≡ rows_at t s)
+          → (result_type (record { source = source; scene = record { block = b.block; tables = u }; layout = (layout_of b.tree).names; item = Some 0 }) h.result).value
+          ≡ (result_type (record { source = source; scene = record { block = b.block; tables = t }; layout = (layout_of b.tree).names; item = Some 0 }) h.result).value
+      bound u same =
+          let ready = block_ready names source before b is.ready is.own_before in
+          result_same names source b.block (layout_of b.tree).names t u ready.sound.scene same down (in_module fit.in_module) is.own_before h.result
+
+      first : (declare (at_item (context_of source before b) 0) b.tree.kind (heading_item h) cell).value.result ≡ bound_first (complete_context source all b.block) b.tree h
+      first = bound (scene_with (scene_of before b.block) sections).tables made_same ∙ sym (bound (whole_scene all b.block).tables whole_same)
+
+  pub each_result : (blocks : List BlockTree) (before : List (List Row)) → rows_from source before blocks ≡ all → AreConsecutive (length before) blocks → 0 < length before → Each (IsSoundBlock names source) blocks
+      → Each (λ b. IsFit own home b.block) blocks → Each GoesDown blocks
+      → EachBlock (λ before b. home < b.block.scope → (h : Heading) (cell : ℕ) → (declare (at_item (context_of source before b) 0) b.tree.kind (heading_item h) cell).value.result ≡ bound_first (complete_context source all b.block) b.tree h) source before blocks
+  each_result [] before e row positive good fits down = tt
+  each_result (b ∷ blocks) before e row positive good fits down =
+      let made = (declare_block source before b).rows in
+      let next = length-append before (made ∷ []) in
+      let one : length before + 1 ≡ length (before ++ made ∷ []) = omega (arith, next) in
+      let is = is_at b blocks before e row.0 positive good.0 fits.0 in (
+        block_result before b is fits.0 down.0,
+        each_result blocks (before ++ made ∷ []) e (subst (λ n. AreConsecutive n blocks) one row.1) (omega (arith, next)) good.1 fits.1 down.1,
+      )
+
 -- ** Units
 
 few_from : (names : ℕ) (source : Source) (blocks : List BlockTree) (before : List (List Row)) → Each (IsSoundBlock names source) blocks → ((s : ℕ) → length (rows_at before s) < 2 ^ 31)
@@ -611,3 +664,8 @@ unit_declared names u is =
     (λ ts b h. each_then _ (λ (r : Row). IsDeclared (IsSeenAs u b) b.tree.kind b.block (declare_block u.source ts b).value.headings (items_of b.tree) (row_meaning r)) (declare_block u.source ts b).rows
     (λ r. declared_then _ (IsSeenAs u b) b.tree.kind b.block (declare_block u.source ts b).value.headings (items_of b.tree) (row_meaning r)
     (λ g t at q later there k. q later.block (each_in _ (blocks_of u) later seen.1 there) k)) h) seen.0
+
+pub unit_results : (names : List (List ℕ)) (u : UnitTrees) → IsSoundUnit names u → EachBlock (BindsItsResult u) u.source (standard_rows ∷ []) (blocks_of u)
+unfolding unit_rows
+unit_results names u is =
+    each_result (length names) u.source u.own (home_of u) (unit_rows u) (unit_whole names u is) (blocks_of u) (standard_rows ∷ []) refl is.scopes (omega arith) is.blocks (blocks_fit u) (chains_down u is.own)

@@ -1,3 +1,4 @@
+pub mod Results
 pub mod RowRanges
 pub mod Procedures
 pub mod Sight

@@ -21,6 +21,7 @@ ghost use Rattle.m2_base.specs.declared.trees.declarations.StreamKind.{StreamKin
 ghost use Rattle.row_laws.specs.Clear.{AreClear};
 ghost use Rattle.row_laws.specs.Headings.{HasSoundHeadings};
 ghost use Rattle.row_laws.specs.Procedures.{ProceduresAreDeclared};
+ghost use Rattle.row_laws.specs.Results.{BindsItsResult};
 ghost use Rattle.row_laws.specs.RowRanges.{BlockInRange, CellsAreThere, EachBlock, IsSoundUnit, OwnCellsAreThere};
 ghost use Rattle.row_laws.specs.Sight.{LeadsInSight};
 ghost use Rattle.row_laws.specs.TextTrees.{AreOfTexts, IsTreeOf};
@@ -75,4 +76,10 @@ pub fn headings_are_sound()
 /// leads to something.
 pub fn rows_are_clear()
     ensures { (names : List (List ℕ)) (u : UnitTrees) → IsSoundUnit names u → Each (λ b. Each (IsReadItem names) (items_of b.tree)) (blocks_of u) → EachBlock (λ before b. (declare_block u.source before b).diags ≡ []) u.source (standard_rows ∷ []) (blocks_of u) → EachBlock (λ before b. AreClear (complete_context u.source (unit_rows u) b.block).scene.tables) u.source (standard_rows ∷ []) (blocks_of u) }
+{}
+
+/// What the heading of a procedure gives as its result, where nothing of its block is declared yet, is what it binds where all
+/// rows of the block count, as they do in its statements: a name of the block itself stands for nothing in it.
+pub fn results_are_bound()
+    ensures { (names : List (List ℕ)) (u : UnitTrees) → IsSoundUnit names u → EachBlock (BindsItsResult u) u.source (standard_rows ∷ []) (blocks_of u) }
 {}

@@ -9,5 +9,6 @@ mod laws;
 
 pub use laws::{
     blocks_have_their_forms, definitions_are_as_noted, headings_are_sound, procedures_are_declared,
-    rows_are_clear, rows_are_in_range, sight_is_closed, trees_are_of_their_kinds,
+    results_are_bound, rows_are_clear, rows_are_in_range, sight_is_closed,
+    trees_are_of_their_kinds,
 };
