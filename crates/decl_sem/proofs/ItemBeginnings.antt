@@ -26,7 +26,7 @@ use Rattle.m2_base.proofs.Kept.{Keeps-refl}
 use Rattle.type_rules.specs.Scenes.{NamesNoType}
 use Rattle.type_rules.specs.Sites.{context_of}
 use Rattle.decl_sem.specs.DeclaredItems.{DeclaresItem}
-use Rattle.decl_sem.specs.Items.{IsAtItem}
+use Rattle.decl_sem.specs.Items.{IsAtItem, IsEffect}
 use Rattle.decl_sem.specs.LaidRows.{AreLaid, IsAhead}
 use Rattle.decl_sem.specs.Making.{next_ordinal}
 use Rattle.decl_sem.specs.Pieces.{AreNewRows, BeginsAt, Declares, IsMaking, IsOwned, end_by, item_end}
@@ -109,6 +109,8 @@ module _ {a b : State} {s : Site} {x y : Made} {shapes : List Shape} {given : Co
   declares_all d e none no_diags no_answers count rows diags answers effect p =
       let next : next_ordinal x ≡ length a.frame.entered = let l = ap length none in omega arith in
       let made : d.rows.items ≡ p.grown.rows = rows ∙ p.grown.more ∙ ap (λ (t : List Row). t ++ p.grown.rows) none in
+      let behind : next_ordinal y ≡ length a.frame.entered + length d.rows.items =
+      let first = p.first in let held = ap length rows in omega arith in
       let noted : d.notes.answers.items ≡ p.works.answers = answers ∙ p.works.noted ∙ ap (λ (t : List Answer). t ++ p.works.answers) no_answers in
       record {
         looks = p.works.looks;
@@ -119,6 +121,8 @@ module _ {a b : State} {s : Site} {x y : Made} {shapes : List Shape} {given : Co
             (subst (λ (n : ℕ). AreLaid s.layout.now.names n shapes p.grown.rows) next p.grown.laid);
         new_rows = subst (λ (rs : List Row). AreNewRows a.frame (item_end s) (length a.frame.entered) rs) (sym made)
             (subst (λ (n : ℕ). AreNewRows a.frame (item_end s) n p.grown.rows) next p.grown.new);
+        effect = subst (λ (v : Effect). IsEffect a.frame (length a.frame.entered + length d.rows.items) v) (sym effect)
+            (subst (λ (n : ℕ). IsEffect a.frame n e) behind p.there);
         told = λ hand in_hand told same.
             let m = p.told hand in_hand told (same ∙ sym none) in
             let g = given (context_of a.frame hand s) in
@@ -133,14 +137,14 @@ module _ {a b : State} {s : Site} {x y : Made} {shapes : List Shape} {given : Co
   -- nothing is known yet
   pub declares_waiting : (head : Head) → Declares a b x y s (Ok (DontKnowYet head)) shapes P given → DeclaresItem a b s (Ok (DontKnowYet head)) shapes given
   declares_waiting head p =
-      record { looks = p.works.looks; keeps = p.works.keeps; waits = p.waits; shown = tt; laid = tt; new_rows = tt; told = λ hand in_hand told same. tt }
+      record { looks = p.works.looks; keeps = p.works.keeps; waits = p.waits; shown = tt; laid = tt; new_rows = tt; effect = tt; told = λ hand in_hand told same. tt }
 
   -- memory is wanted
   pub declares_failed : (m n : Memory) → Declares a b x y s (Err m) shapes P given → DeclaresItem a b s (Err n) shapes given
   declares_failed m n p =
-      record { looks = p.works.looks; keeps = p.works.keeps; waits = tt; shown = tt; laid = tt; new_rows = tt; told = λ hand in_hand told same. tt }
+      record { looks = p.works.looks; keeps = p.works.keeps; waits = tt; shown = tt; laid = tt; new_rows = tt; effect = tt; told = λ hand in_hand told same. tt }
 
 -- no first ordinal is found
 pub declares_nothing : (a : State) (s : Site) (m : Memory) (shapes : List Shape) (given : Context → Makes Effect) → DeclaresItem a a s (Err m) shapes given
 declares_nothing a s m shapes given =
-    record { looks = []; keeps = Keeps-refl a; waits = tt; shown = tt; laid = tt; new_rows = tt; told = λ hand in_hand told same. tt }
+    record { looks = []; keeps = Keeps-refl a; waits = tt; shown = tt; laid = tt; new_rows = tt; effect = tt; told = λ hand in_hand told same. tt }

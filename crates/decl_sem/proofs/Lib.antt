@@ -1,4 +1,3 @@
-pub mod Alone
 pub mod ArrayCells
 pub mod ArrayLists
 pub mod Asking
@@ -19,7 +18,9 @@ pub mod ImportedNames
 pub mod ImportedScopes
 pub mod ItemBeginnings
 pub mod ItemEffects
+pub mod ItemPlaces
 pub mod ItemShapes
+pub mod LaidOnce
 pub mod MadeFields
 pub mod MakingOn
 pub mod ManyItems
@@ -28,6 +29,7 @@ pub mod NextRows
 pub mod NoTypeNames
 pub mod OneRows
 pub mod OwnHeadings
+pub mod OwnRows
 pub mod OwnParameterLists
 pub mod OwnParameters
 pub mod ParameterLists

@@ -26,6 +26,7 @@ use Rattle.m2_base.specs.declared.trees.declarations.Heading.{Heading}
 use Rattle.m2_base.specs.declared.trees.declarations.Section.{Section}
 use Rattle.type_rules.specs.Sites.{context_of}
 use Rattle.decl_sem.specs.Items.{IsEffect}
+use Rattle.decl_sem.specs.Making.{next_ordinal}
 use Rattle.decl_sem.specs.OwnParameters.{AreCells, IsPlaced, heading_effect, section_given}
 use Rattle.decl_sem.specs.Pieces.{Declares, IsBehind, IsMaking, IsOptionBehind}
 use Rattle.decl_sem.specs.declared.making.Made.{Made}
@@ -133,10 +134,11 @@ pub sections_read : (texts : List (List ℕ)) (h : Heading) (sections : List Sec
 sections_read texts h sections same all = subst (λ (xs : List Section). Each (IsReadSection texts) (map section_view xs)) (sym same) all
 
 -- what the heading gives, after its result
-pub effect_given : {a b : State} {x y : Made} {s : Site} {r : Option Place} (q : Option Qual) (p : Placing) (e : Effect) → e ≡ record { cell = p.own; prologue = p.copies; heading = None } → AreCells p
+pub effect_given : {a b : State} {x y : Made} {s : Site} {r : Option Place} (q : Option Qual) (p : Placing) (e : Effect) → e ≡ record { cell = p.own; prologue = p.copies; result = r; heading = None } → AreCells p
     → Declares a b x y s (Ok (Known r)) [] IsOptionBehind (λ c. only_gives (result_type c q)) → Declares a b x y s (Ok (Known e)) [] IsEffect (heading_effect q p)
-effect_given q p e same cells piece =
-    valued IsEffect (λ r. record { cell = p.own; prologue = p.copies; heading = None }) e same (subst (λ (v : Effect). v.cell ≤ most_cells + 1) (sym same) cells.own) piece
+effect_given {a = a} {y = y} q p e same cells piece =
+    valued IsEffect (λ r. record { cell = p.own; prologue = p.copies; result = r; heading = None }) e same
+    (subst (λ (v : Effect). IsEffect a.frame (next_ordinal y) v) (sym same) (record { cell = cells.own; result = piece.there })) piece
 
 -- what the sections need
 pub all_making : {f : Frame} {s : Site} {x : Made} (h : Heading) (sections : List Section) → sections ≡ h.sections.items → IsMaking f s x (flat_map own_section_shapes (heading_view h).sections) → IsMaking f s x (shapes sections)

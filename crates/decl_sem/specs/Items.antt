@@ -16,7 +16,7 @@ use Rattle.m2_base.specs.declared.sites.Site.{Site}
 use Rattle.type_rules.specs.Sites.{SuitsSite, source_of}
 use Rattle.decl_sem.specs.ImportedModules.{IsFromBefore}
 use Rattle.decl_sem.specs.LaidRows.{AreLaid}
-use Rattle.decl_sem.specs.Pieces.{IsOwned}
+use Rattle.decl_sem.specs.Pieces.{IsOptionBehind, IsOwned}
 use Rattle.m2_base.specs.Statics.ReadTrees.{IsReadItem}
 use Rattle.decl_sem.specs.declared.items.Item.{Item}
 use Rattle.decl_sem.specs.declared.items.Item.TheVariants.{Declaration, Heading, Import}
@@ -27,9 +27,17 @@ item_view (Heading h) = heading_item (heading_view h.now)
 item_view (Import from name) = import_item from.now name
 item_view (Declaration d) = decl_item (decl_view d.now)
 
--- the next free cell is one
-abbrev pub IsEffect : Frame → (next : ℕ) → Effect → Type 0
-IsEffect f next e = e.cell ≤ most_cells + 1
+-- this is the item of a block that has so many items before it
+pub record IsItemAt (stream : Stream) (k : ℕ) (x : items.Item) : Type 0 where
+  pub before : List items.Item
+  pub rest : List items.Item
+  pub items : items_of stream ≡ before ++ x ∷ rest
+  pub count : length before ≡ k
+
+-- the next free cell is one, and the type of the result, if there is one, stands before the row with this ordinal
+pub record IsEffect (f : Frame) (next : ℕ) (e : Effect) : Type 0 where
+  pub cell : e.cell ≤ most_cells + 1
+  pub result : IsOptionBehind f next e.result
 
 -- The site is in an item of the block: the rows of the items before are entered, as the layout gives them, each field before
 -- its record; the item was read from tokens, and its modules stand before.

@@ -6,6 +6,7 @@ pub mod Effects
 pub mod FieldNotes
 pub mod Hands
 pub mod ImportedModules
+pub mod Implementing
 pub mod Items
 pub mod LaidRows
 pub mod MadeRows

@@ -66,4 +66,5 @@ section_given s elem p c =
 -- the result of a heading after its parameters, and what the heading gives
 abbrev pub heading_effect : Option Qual → Placing → Context → Makes Effect
 heading_effect q p c =
-    make_then c (only_gives (result_type c q)) (λ d r. makes (record { cell = p.own; prologue = p.copies; heading = None }))
+    make_then c (only_gives (result_type c q)) (λ d r.
+    makes (record { cell = p.own; prologue = p.copies; result = r; heading = None }))

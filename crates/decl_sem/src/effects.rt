@@ -1,8 +1,8 @@
 //! What an item gives beside its rows.
-ghost use Rattle.std.specs.Prelude.{◌≡◌, []};
+ghost use Rattle.std.specs.Prelude.{◌≡◌, [], None};
 ghost use Rattle.m2_base.specs.Statics.Effects.{only_cell as spec_only};
 
-use m2_base::HeadingNote;
+use m2_base::{HeadingNote, Place};
 use std::alloc::Global;
 use std::marker::Model;
 
@@ -15,11 +15,13 @@ pub enum ParamCopy {
     Open(u32, u32),
 }
 
-/// The next free cell, what the procedure's body copies first, and a note of the heading.
+/// The next free cell, what the procedure's body copies first, the type of the result that the block's own heading
+/// binds, and a note of the heading of a procedure that the block declares.
 #[derive(Drop)]
 pub struct Effect {
     pub cell: u32,
     pub prologue: Vec<ParamCopy>,
+    pub result: Option<Place>,
     pub heading: Option<HeadingNote>,
 }
 
@@ -30,7 +32,7 @@ impl Model for Effect {
 
     ghost Value = { PlainEffect };
 
-    ghost view = { λ e. record { cell = e.cell; prologue = map copy_view e.prologue.items; heading = e.heading } };
+    ghost view = { λ e. record { cell = e.cell; prologue = map copy_view e.prologue.items; result = e.result; heading = e.heading } };
 }
 
 /// The next free cell, and nothing else.
@@ -40,17 +42,19 @@ pub(crate) fn only_cell(alloc: Global, cell: u32) -> Effect
     Effect {
         cell,
         prologue: Vec::new(alloc),
+        result: None,
         heading: None,
     }
 }
 
 /// The next free cell, and a note of a heading.
 pub(crate) fn noted(alloc: Global, cell: u32, heading: Option<HeadingNote>) -> Effect
-    ensures { result ≡ record { cell = cell; prologue = []; heading = heading } }
+    ensures { result ≡ record { cell = cell; prologue = []; result = None; heading = heading } }
 {
     Effect {
         cell,
         prologue: Vec::new(alloc),
+        result: None,
         heading,
     }
 }

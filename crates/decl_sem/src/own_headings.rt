@@ -97,7 +97,7 @@ fn effect_in<S: Scopes>(
     ensures { Declares (S.state scopes.old) (S.state scopes.new) made.old made.new site.now result [] IsEffect (heading_effect qual from) }
 {
     match result_in(scopes, site, qual, made) {
-        Ok(Ask::Known(_)) => Ok(Ask::Known(from.into_effect())),
+        Ok(Ask::Known(of)) => Ok(Ask::Known(from.into_effect(of))),
         Ok(Ask::DontKnowYet(head)) => Ok(Ask::DontKnowYet(head)),
         Err(memory) => Err(memory),
     }

@@ -5,7 +5,7 @@ ghost use Rattle.decl_sem.specs.OwnParameters.{after_cells as spec_cells, after_
 
 use crate::cells::capped;
 use crate::effects::{Effect, ParamCopy};
-use m2_base::Memory;
+use m2_base::{Memory, Place};
 use std::alloc::Global;
 use std::marker::Model;
 
@@ -89,13 +89,14 @@ impl Placing {
         Ok(Placing { cell, own, copies })
     }
 
-    /// What the heading gives, behind all parameters.
-    pub(crate) fn into_effect(self) -> Effect
-        ensures { result ≡ record { cell = self.own; prologue = self.copies; heading = None } }
+    /// What the heading gives, behind all parameters, with this result.
+    pub(crate) fn into_effect(self, of: Option<Place>) -> Effect
+        ensures { result ≡ record { cell = self.own; prologue = self.copies; result = of; heading = None } }
     {
         Effect {
             cell: self.own,
             prologue: self.copies,
+            result: of,
             heading: None,
         }
     }

@@ -38,7 +38,7 @@ fn row_in_hand(site: &Site, made: &Made, of: Place) -> Option<Row>
 }
 
 /// The cells of a type by its row.
-fn cells_in(row: &Row) -> u64
+pub(crate) fn cells_in(row: &Row) -> u64
     requires { HasSmallNumbers (row_meaning row.now) }
     ensures is { result ≡ spec_size_by (row_meaning row.now) }
     ensures small { result < 2 ^ 32 }

@@ -1,7 +1,8 @@
 //! The rows of a module of one block, and what is noted of its declarations.
 ghost use Rattle.std.specs.Prelude.{◌≡◌};
 ghost use Rattle.m2_base.specs.Views.{stream_view};
-ghost use Rattle.m2_samples.specs.Filled.{around_at};
+ghost use Rattle.scope_core.specs.PlainScopes.{state_of};
+ghost use Rattle.m2_samples.specs.Filled.{IsFull, around_at};
 ghost use Rattle.m2_samples.specs.Samples.{IsSample};
 
 use crate::case::Case;
@@ -29,7 +30,9 @@ const FAULT: &[u8] = b"!";
 
 /// Notes what the end of a block is refused for.
 fn close(scopes: &mut PlainScopes, of: &Block, made: &mut Made) -> Result<(), Memory>
-    requires { of.now.around.now ≡ around_at 0 }
+    requires sample { IsSample of.now.sample.now.texts (stream_view of.now.sample.now.tree) }
+    requires around { of.now.around.now ≡ around_at 0 }
+    requires full { IsFull (state_of scopes.old).frame of.now.sample.now.texts 1 }
 {
     let alloc = *made.rows.allocator();
     let site = of.site(None);

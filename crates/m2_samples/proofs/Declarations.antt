@@ -38,6 +38,7 @@ use Rattle.decl_sem.specs.LaidRows.{AreLaid, is_of, kept_name, more_laid, none_l
 use Rattle.decl_sem.specs.Pieces.{AreNewRows, IsOwned, end_by, item_end}
 use Rattle.decl_sem.proofs.FirstNames.{AreLaid-append}
 use Rattle.decl_sem.proofs.FirstOrdinals.{end_of}
+use Rattle.decl_sem.proofs.LaidOnce.{laid_once}
 use Rattle.decl_sem.proofs.Pieces.{laid-length}
 use Rattle.m2_samples.specs.Filled.{HasDeclared, IsFull, row_count}
 use Rattle.m2_samples.specs.Samples.{IsSample}
@@ -79,43 +80,6 @@ item_read {u} tree n d sample here =
     let items = map decl_item (map decl_view tree.decls.items) in
     each_at (IsReadItem u.names) items n (decl_item (decl_view d)) (subst (λ xs. Each (IsReadItem u.names) xs) sample.items sample.read)
     (slice_get-map decl_item (map decl_view tree.decls.items) n ∙ ap (λ o. option_map decl_item o) (slice_get-map decl_view tree.decls.items n ∙ ap (λ o. option_map decl_view o) here))
-
--- ** Rows as the layout gives them have no name twice
-
-same_number : (m n : ℕ) → (m == n) ≡ true → m ≡ n
-same_number m n h = grind arith
-
-of_one : (a b : ℕ) (e : Option Named) → is_of a e ≡ true → is_of b e ≡ true → a ≡ b
-of_one a b None h k = absurd (cc)
-of_one a b (Some e) h k = sym (same_number e.ordinal a h) ∙ same_number e.ordinal b k
-
-named_of : (names : List Named) (o name : ℕ) (standard of : Bool) → is_of o (first_entry names name) ≡ of → (if standard then 0 else if of then name else 0) ≢ 0 → is_of o (first_entry names (if standard then 0 else if of then name else 0)) ≡ true
-named_of names o name true of h some = absurd (some refl)
-named_of names o name false true h some = h
-named_of names o name false false h some = absurd (some refl)
-
-kept_here : (names : List Named) (o name : ℕ) → kept_name names o name ≢ 0 → is_of o (first_entry names (kept_name names o name)) ≡ true
-kept_here names o name some = named_of names o name (is_standard name) (is_of o (first_entry names name)) refl some
-
-row_at_first : {names : List Named} {o : ℕ} {ss : List Shape} {rs : List Row} → AreLaid names o ss rs → (i : ℕ) (r : Row) → slice_get rs i ≡ Some r → r.name ≢ 0 → is_of (o + i) (first_entry names r.name) ≡ true
-row_at_first none_laid i r e some = absurd (cc)
-row_at_first {names} {o} (more_laid {s = s} {r = x} l more) zero r e some =
-    let same : x ≡ r = some_is x r e in
-    let name : r.name ≡ kept_name names o s.name = ap (λ (z : Row). z.name) (sym same) ∙ l.name in
-    let at : o ≡ o + 0 = omega arith in
-    subst (λ (n : ℕ). is_of n (first_entry names r.name) ≡ true) at
-    (subst (λ (n : ℕ). is_of o (first_entry names n) ≡ true) (sym name) (kept_here names o s.name (λ none. some (name ∙ none))))
-row_at_first {names} {o} (more_laid l more) (suc i) r e some =
-    let at : o + 1 + i ≡ o + suc i = omega arith in
-    subst (λ (n : ℕ). is_of n (first_entry names r.name) ≡ true) at (row_at_first more i r e some)
-
-laid_once : {names : List Named} {ss : List Shape} {rs : List Row} → AreLaid names 0 ss rs → HasNoRepeats (λ r. r.name) rs
-laid_once {names} laid i j x y before a b some same =
-    let first : is_of (0 + i) (first_entry names x.name) ≡ true = row_at_first laid i x a some in
-    let second : is_of (0 + j) (first_entry names y.name) ≡ true = row_at_first laid j y b (λ none. some (same ∙ none)) in
-    let both : is_of (0 + j) (first_entry names x.name) ≡ true = subst (λ (n : ℕ). is_of (0 + j) (first_entry names n) ≡ true) (sym same) second in
-    let e = of_one (0 + i) (0 + j) (first_entry names x.name) first both in
-    omega (arith, e, before)
 
 -- ** The number of rows
 

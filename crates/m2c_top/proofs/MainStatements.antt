@@ -26,7 +26,7 @@ use Rattle.m2_base.specs.declared.sites.Site.{Site}
 use Rattle.m2_base.specs.declared.trees.declarations.StreamKind.{StreamKind}
 use Rattle.m2_base.specs.declared.trees.declarations.StreamKind.TheVariants.{Main}
 use Rattle.m2_base.proofs.Kept.{IsPrefixOf-refl}
-use Rattle.type_rules.specs.Scenes.{Agrees, AreInHand, Hand, block_of, hand}
+use Rattle.type_rules.specs.Scenes.{Agrees, AreInHand, Hand, WhereTold, block_of, hand}
 use Rattle.type_rules.specs.Sites.{SuitsSite, context_of}
 use Rattle.stmt_sem.specs.BlockCode.{bound_result, in_statements, size_diags}
 use Rattle.stmt_sem.specs.Bodies.{Built, IsBuilt}
@@ -108,6 +108,14 @@ module _ (m : HeldModule) (h : IsHeld m) where
       pub returns_none : Returns f s (stream_view m.tree) None
       returns_none made inhand finished =
           sym (ap (bound_result (record (context_of f made s) { layout = (layout_of (stream_view m.tree)).names; item = Some 0 })) (heading_none m h))
+
+      -- what is noted of the complete block is what the definition notes
+      pub closing_is : (closing : List Diag) → WhereTold f (λ made. closing ≡ closing_diags (context_of f made s) tree) → closing ≡ closing_diags (context_in (held m)) tree
+      closing_is closing told =
+          let made : Hand = hand (tables_of (held m)) [] in
+          let inhand : AreInHand f made = record { closed = λ closed. refl; types = tt } in
+          let finished : IsFinished f.setting.texts (tables_of (held m)) = subst (λ (u : UnitTexts). IsFinished u (tables_of (held m))) (sym filled.texts) (held_finished m h) in
+          told made inhand finished ∙ ap (λ (c : Context). closing_diags c tree) (context_is made inhand finished)
 
       -- what its code is built of is the definition's
       pub body_built : (before after : Built)

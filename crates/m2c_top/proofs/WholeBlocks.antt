@@ -6,21 +6,17 @@ use Rattle.std.proofs.Math.Seq.{take-length}
 use Rattle.m2_base.specs.Scopes.{CanComplete, Completed}
 use Rattle.m2_base.specs.States.{State}
 use Rattle.m2_base.specs.Statics.Closing.{closing_diags}
-use Rattle.m2_base.specs.Statics.Contexts.{Context}
 use Rattle.m2_base.specs.Statics.Effects.{BlockEffects}
 use Rattle.m2_base.specs.Statics.Items.{decl_item}
 use Rattle.m2_base.specs.Statics.Makes.{Makes}
-use Rattle.m2_base.specs.Statics.UnitNotes.{complete_context, declaration_diags}
-use Rattle.m2_base.specs.Statics.UnitRows.{unit_rows}
+use Rattle.m2_base.specs.Statics.UnitNotes.{declaration_diags}
 use Rattle.m2_base.specs.Tables.{rows_at}
 use Rattle.m2_base.specs.Views.{decl_view, stream_view}
 use Rattle.m2_base.specs.declared.notes.Diag.{Diag}
-use Rattle.m2_base.specs.declared.sites.Around.{Around}
-use Rattle.decl_sem.specs.Closing.{IsOfBlock}
 use Rattle.decl_sem.specs.declared.items.Before.{Before}
-use Rattle.m2c_top.specs.Filled.{HasDeclared, IsFilled, first_items, row_count, first_made, main_around, made_by}
+use Rattle.m2c_top.specs.Filled.{HasDeclared, IsFilled, first_items, row_count, first_made, made_by}
 use Rattle.m2c_top.specs.Held.{IsHeld, held}
-use Rattle.m2c_top.specs.Modules.{cells_in, declared_in, lone_unit, own_block, trees_of}
+use Rattle.m2c_top.specs.Modules.{cells_in, context_in, declared_in, trees_of}
 use Rattle.m2c_top.specs.declared.module.Module.{Module as HeldModule}
 use Rattle.m2c_top.proofs.HeldTables.{items_are}
 use Rattle.m2c_top.proofs.ItemSteps.{tables_are}
@@ -39,14 +35,9 @@ module _ (m : HeldModule) (h : IsHeld m) where
       ap (made_by m.texts.names (stream_view m.tree)) (all_items ∙ sym (items_are m h)) ∙ sym (all_made m.texts.names (stream_view m.tree))
 
   -- what is noted of them, and of the closing name
-  pub all_noted : (closing : List Diag) (around : Around) → around ≡ main_around → ((c : Context) → IsOfBlock c around → closing ≡ closing_diags c (stream_view m.tree))
+  pub all_noted : (closing : List Diag) → closing ≡ closing_diags (context_in (held m)) (stream_view m.tree)
       → (first_made (held m) (length m.tree.decls.items)).diags ++ closing ≡ declaration_diags (trees_of (held m))
-  all_noted closing around is told =
-      let names = m.texts.names in
-      let tree = stream_view m.tree in
-      let c : Context = complete_context (lone_unit names tree).source (unit_rows (lone_unit names tree)) (own_block names tree).block in
-      let closed = told c (subst (IsOfBlock c) (sym is) (record { text = refl; level = refl; own = refl })) in
-      (λ k. (all_first k).diags ++ closed k) ∙ sym (lone_diags names tree)
+  all_noted closing closed = (λ k. (all_first k).diags ++ closed k) ∙ sym (lone_diags m.texts.names (stream_view m.tree))
 
   module _ (a : State) (next : Before) (all : HasDeclared a.frame m (length m.tree.decls.items) next) where
     pub may_complete : CanComplete a

@@ -1,1 +1,2 @@
+pub mod OwnDefinitions
 pub mod Samples

@@ -141,8 +141,11 @@ fn close_block<S: Scopes>(
     diags: &mut Vec<Diag>,
 ) -> Result<(), Memory>
     requires block { IsBlock block.now }
+    requires sound { IsSound (S.state scopes.old) }
+    requires filled { IsFilled (S.state scopes.old).frame block.now.compiled.now }
     requires noted { diags.old.items ≡ (first_made (held block.now.compiled.now) (length block.now.compiled.now.tree.decls.items)).diags }
-    ensures unchanged { S.state scopes.new ≡ S.state scopes.old }
+    ensures sound { OnOk result (IsSound (S.state scopes.new)) }
+    ensures filled { OnOk result (IsFilled (S.state scopes.new).frame block.now.compiled.now) }
     ensures noted { OnOk result (diags.new.items ≡ declaration_diags (trees_of (held block.now.compiled.now))) }
 {
     let site = Site {

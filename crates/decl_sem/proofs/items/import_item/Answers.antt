@@ -6,4 +6,4 @@ use Rattle.decl_sem.proofs.items.import_item.Goals as goal
 pub returns-in-Ok-Known : goal.returns-in-Ok-Known
 returns-in-Ok-Known g c =
     let p = rw c.in-Ok-Known.field-0-is at c.in-Ok-Known.ensures in
-    valued IsEffect (λ p. only_cell c.args.cell) c.only_cell.result c.only_cell.ensures (rw c.only_cell.ensures c.requires.cell) p
+    valued IsEffect (λ p. only_cell c.args.cell) c.only_cell.result c.only_cell.ensures (rw c.only_cell.ensures (record { cell = c.requires.cell; result = tt })) p

@@ -1,4 +1,4 @@
-use Rattle.std.specs.Prelude.{[]}
+use Rattle.std.specs.Prelude.{[], None}
 use Rattle.decl_sem.specs.Items.{IsEffect}
 use Rattle.decl_sem.proofs.ItemEffects.{valued}
 use Rattle.decl_sem.proofs.items.proc_item.Goals as goal
@@ -6,4 +6,5 @@ use Rattle.decl_sem.proofs.items.proc_item.Goals as goal
 pub returns-in-Ok-Known : goal.returns-in-Ok-Known
 returns-in-Ok-Known g c =
     let p = rw c.in-Ok-Known.field-0-is at c.in-Ok-Known.ensures in
-    valued IsEffect (λ n. record { cell = c.args.before.cell; prologue = []; heading = n }) c.noted.result c.noted.ensures (rw c.noted.ensures c.requires.cell) p
+    valued IsEffect (λ n. record { cell = c.args.before.cell; prologue = []; result = None; heading = n }) c.noted.result c.noted.ensures
+    (rw c.noted.ensures (record { cell = c.requires.cell; result = tt })) p

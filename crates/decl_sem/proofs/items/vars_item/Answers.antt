@@ -6,4 +6,4 @@ use Rattle.decl_sem.proofs.items.vars_item.Goals as goal
 pub returns-in-Ok-Known : goal.returns-in-Ok-Known
 returns-in-Ok-Known g c =
     let p = rw c.in-Ok-Known.field-0-is at c.in-Ok-Known.ensures in
-    valued IsEffect (λ n. only_cell n) c.only_cell.result c.only_cell.ensures (rw c.only_cell.ensures p.there) p
+    valued IsEffect (λ n. only_cell n) c.only_cell.result c.only_cell.ensures (rw c.only_cell.ensures (record { cell = p.there; result = tt })) p

@@ -1,6 +1,8 @@
-use Rattle.std.proofs.Common.{◌∙◌, ap, inl}
-use Rattle.m2_base.specs.declared.sites.Around.{Around}
+use Rattle.std.proofs.Common.{◌∙◌}
+use Rattle.m2_samples.proofs.Samples.{site_full}
 use Rattle.m2_cases.proofs.rows.close.Goals as goal
 
-pub close_check-requires-clause-alone : goal.close_check-requires-clause-alone
-close_check-requires-clause-alone c = inl (ap (λ (a : Around). a.own) (c.site-site.ensures.around ∙ c.requires))
+pub close_check-requires-clause-suits : goal.close_check-requires-clause-suits
+close_check-requires-clause-suits c =
+    site_full {level = 0} c.requires.sample c.requires.full
+    (record { texts = c.site-site.ensures.texts; around = c.site-site.ensures.around ∙ c.requires.around })
