@@ -101,11 +101,11 @@ module _ {f : Frame} {s : Site} {stream : Stream} {x : items.Item} {cell procedu
 
 -- ** The end
 
-module _ {a b : State} {s : Site} {x y : Made} {shapes : List Shape} {given : Context → Makes Effect} {P : Frame → ℕ → Effect → Type 0} where
+module _ {a b : State} {s : Site} {x y : Made} {shapes : List Shape} {given : Context → Makes Effect} where
   -- the rows in hand are all
   pub declares_all : (d : Declared) (e : Effect) → x.rows.items ≡ [] → x.notes.diags.items ≡ [] → x.notes.answers.items ≡ [] → length a.frame.entered ≡ x.first
       → d.rows.items ≡ y.rows.items → d.notes.diags.items ≡ y.notes.diags.items → d.notes.answers.items ≡ y.notes.answers.items → d.effect ≡ e
-      → Declares a b x y s (Ok (Known e)) shapes P given → DeclaresItem a b s (Ok (Known d)) shapes given
+      → Declares a b x y s (Ok (Known e)) shapes IsEffect given → DeclaresItem a b s (Ok (Known d)) shapes given
   declares_all d e none no_diags no_answers count rows diags answers effect p =
       let next : next_ordinal x ≡ length a.frame.entered = let l = ap length none in omega arith in
       let made : d.rows.items ≡ p.grown.rows = rows ∙ p.grown.more ∙ ap (λ (t : List Row). t ++ p.grown.rows) none in
@@ -135,12 +135,12 @@ module _ {a b : State} {s : Site} {x y : Made} {shapes : List Shape} {given : Co
       }
 
   -- nothing is known yet
-  pub declares_waiting : (head : Head) → Declares a b x y s (Ok (DontKnowYet head)) shapes P given → DeclaresItem a b s (Ok (DontKnowYet head)) shapes given
+  pub declares_waiting : (head : Head) → Declares a b x y s (Ok (DontKnowYet head)) shapes IsEffect given → DeclaresItem a b s (Ok (DontKnowYet head)) shapes given
   declares_waiting head p =
       record { looks = p.works.looks; keeps = p.works.keeps; waits = p.waits; shown = tt; laid = tt; new_rows = tt; effect = tt; told = λ hand in_hand told same. tt }
 
   -- memory is wanted
-  pub declares_failed : (m n : Memory) → Declares a b x y s (Err m) shapes P given → DeclaresItem a b s (Err n) shapes given
+  pub declares_failed : (m n : Memory) → Declares a b x y s (Err m) shapes IsEffect given → DeclaresItem a b s (Err n) shapes given
   declares_failed m n p =
       record { looks = p.works.looks; keeps = p.works.keeps; waits = tt; shown = tt; laid = tt; new_rows = tt; effect = tt; told = λ hand in_hand told same. tt }
 

@@ -1,6 +1,6 @@
 -- The rows of an own definition, read one after another.
-use Rattle.std.specs.Prelude.{◌≡◌, ◌≢◌, ◌⊎◌, inl, inr, ℕ, ◌+◌, ◌-◌, ◌<◌, ◌≤◌, ◌^◌, ◌==◌, Bool, true, false, ◌||◌, if◌then◌else◌, List, [], ◌∷◌, ◌++◌, Option, Some, None, length, slice_get, Result, Ok}
-use Rattle.std.proofs.Common.{refl, sym, ap, ◌∙◌, subst, arith, drop}
+use Rattle.std.specs.Prelude.{◌≡◌, ◌≢◌, ℕ, ◌+◌, ◌-◌, ◌<◌, ◌≤◌, ◌^◌, ◌==◌, Bool, true, false, ◌||◌, if◌then◌else◌, List, [], ◌∷◌, ◌++◌, Option, Some, None, is_some, length, slice_get, Result, Ok}
+use Rattle.std.proofs.Common.{inl, inr, refl, sym, ap, ◌∙◌, subst, arith, drop}
 use Rattle.std.proofs.lemmas.List.{append-nil, append_assoc, drop_all, drop_more}
 use Rattle.std.proofs.lemmas.Option.{get_or_from_slice_get, slice_get_cases, slice_get_within}
 use Rattle.m2_base.specs.Asks.{IfKnown}
@@ -8,9 +8,10 @@ use Rattle.m2_base.specs.Finished.{IsFinished}
 use Rattle.m2_base.specs.Rows.{row_meaning}
 use Rattle.m2_base.specs.States.{Frame}
 use Rattle.m2_base.specs.Statics.BlockRows.{cell_after, cells_after}
-use Rattle.m2_base.specs.Statics.Closing.{Implemented, all_implemented, differing, differs_at, has_missing, implementation_diags, implemented, is_implemented, is_missing, own_diags}
+use Rattle.m2_base.specs.Statics.Closing.{Implemented, all_implemented, differing, differs_at, has_missing, implementation_diags, implemented, implements_opaque, is_implemented, is_missing, own_diags}
 use Rattle.m2_base.specs.Statics.Contexts.{Context, Scene, diag}
 use Rattle.m2_base.specs.Statics.Diagnostics.{heading_differs, not_implemented}
+use Rattle.m2_base.specs.Statics.Types.{is_broken, range_of}
 use Rattle.m2_base.specs.Tables.{rows_at}
 use Rattle.m2_base.specs.Trees.{Stream}
 use Rattle.m2_base.specs.declared.memory.Memory.{Memory}
@@ -19,6 +20,8 @@ use Rattle.m2_base.specs.declared.replies.Ask.{Ask}
 use Rattle.m2_base.specs.declared.replies.Ask.TheVariants.{Known}
 use Rattle.m2_base.specs.declared.rows.Place.{Place}
 use Rattle.m2_base.specs.declared.rows.Row.{Row}
+use Rattle.m2_base.specs.declared.rows.RowMeaning.{RowMeaning}
+use Rattle.m2_base.specs.declared.rows.RowMeaning.TheVariants.{Opaque, Pointer, Set}
 use Rattle.m2_base.specs.declared.sites.Around.{Around}
 use Rattle.m2_base.specs.declared.sites.Site.{Site}
 use Rattle.m2_base.specs.declared.trees.Ident.{Ident}
@@ -205,6 +208,14 @@ pub diags_there : (c : Context) (i : Ident) (all : List Implemented) (before aft
     → after ≡ before ++ implementation_diags c (Some i) all
 diags_there c i all before after missing is checked =
     checked.noted ∙ ap (λ (b : Bool). before ++ (if b then differing c all ++ diag c i.at not_implemented ∷ [] else differing c all)) (sym is ∙ checked.missing_is)
+
+-- a type that is neither opaque nor a set nor a pointer
+pub other_opaque : (scene : Scene) (t : Place) (m : RowMeaning) → (m ≡ Opaque → ⊥) → ((b : Place) → m ≡ Set b → ⊥) → ((p : Place) → m ≡ Pointer p → ⊥)
+    → (is_broken scene t || is_some (range_of scene t)) ≡ implements_opaque scene t m
+other_opaque scene t Opaque opaque set pointer = absurd (opaque refl)
+other_opaque scene t (Set b) opaque set pointer = absurd (set b refl)
+other_opaque scene t (Pointer p) opaque set pointer = absurd (pointer p refl)
+other_opaque scene t m opaque set pointer = refl
 
 -- ** What a block owes its definition
 

@@ -1,8 +1,7 @@
 //! What is checked when the scope of a block is complete: its closing name, and in an implementation module that it has all
 //! that its definition promises.
-ghost use Rattle.std.specs.Prelude.{◌≡◌, ◌<◌, ◌++◌, [], IfOk, None, Some, true};
+ghost use Rattle.std.specs.Prelude.{◌≡◌, ◌<◌, ◌++◌, ◌||◌, [], IfOk, None, Some, true};
 ghost use Rattle.m2_base.specs.Asks.{IfKnown, IfWaits};
-ghost use Rattle.m2_base.specs.Lists.{WhereKept};
 ghost use Rattle.m2_base.specs.States.{Waits, fills_of};
 ghost use Rattle.m2_base.specs.Statics.Closing.{all_implemented, block_name as spec_block_name, closing_diags, implementation_diags, name_diags, own_diags};
 ghost use Rattle.m2_base.specs.Statics.Contexts.{Context};
@@ -13,7 +12,7 @@ ghost use Rattle.type_rules.specs.Scenes.{IsRowOf, Suits, WhereTold, rows_of};
 ghost use Rattle.type_rules.specs.Sites.{SuitsSite, context_of};
 ghost use Rattle.decl_sem.specs.Closing.{AreChecked, row_implemented};
 
-use crate::implementing::{Implemented, implemented};
+use crate::implementing::{Implemented, implementation_of};
 use m2_base::{Ask, Diag, Diagnostic, Ident, Memory, Notes, Place, Row, Scopes, Site, Stream};
 use std::alloc::Global;
 use type_rules::row_before;
@@ -70,7 +69,7 @@ fn check_row<S: Scopes>(
     if row.name == 0 {
         return Ok(Ask::Known(false));
     }
-    match asked!(implemented(scopes, site.around, place, row)) {
+    match asked!(implementation_of(scopes, site.around, place, row)) {
         Implemented::Fully => Ok(Ask::Known(false)),
         Implemented::Missing => Ok(Ask::Known(true)),
         Implemented::Differs(at) => {
@@ -78,6 +77,13 @@ fn check_row<S: Scopes>(
             Ok(Ask::Known(false))
         }
     }
+}
+
+/// Whether one of two holds.
+fn either(one: bool, other: bool) -> bool
+    ensures { result ≡ (one || other) }
+{
+    one || other
 }
 
 /// Checks all rows of the definition: whether nothing implements one of them.
@@ -106,9 +112,8 @@ fn check_rows<S: Scopes>(
         let Some(row) = asked!(row_before(scopes, site.around, place)) else {
             return Ok(Ask::Known(missing));
         };
-        if analysed!(check_row(scopes, site, place, &row, notes)) {
-            missing = true;
-        }
+        let lacks = analysed!(check_row(scopes, site, place, &row, notes));
+        missing = either(missing, lacks);
     }
     Ok(Ask::Known(missing))
 }
@@ -132,10 +137,10 @@ fn check_own<S: Scopes>(
     ensures answers { notes.new.answers.items ≡ notes.old.answers.items }
 {
     let missing = analysed!(check_rows(scopes, site, own, notes));
-    if !missing {
+    if missing {
+        notes.refuse(site.around.text, name.at, Diagnostic::NotImplemented)?;
         return Ok(Ask::Known(()));
     }
-    notes.refuse(site.around.text, name.at, Diagnostic::NotImplemented)?;
     Ok(Ask::Known(()))
 }
 
@@ -167,6 +172,16 @@ fn check_definition<S: Scopes>(
     check_own(scopes, site, name, own, notes)
 }
 
+/// What is noted of the closing name of a block.
+fn check_closing(alloc: Global, text: u32, stream: &Stream) -> Result<Notes, Memory>
+    ensures told { IfOk result (λ notes. (c : Context) → c.scene.block.text ≡ text → notes.diags.items ≡ name_diags c stream.now.close (spec_block_name (stream_view stream.now))) }
+    ensures answers { IfOk result (λ notes. notes.answers.items ≡ []) }
+{
+    let mut notes = Notes::new(alloc);
+    check_name(text, stream.close, block_name(stream), &mut notes.diags)?;
+    Ok(notes)
+}
+
 /// Checks a block whose scope is complete: it is closed by its own name, and an implementation module has all that its
 /// definition promises. It waits until that is complete.
 #[tactic(auto, using(type_rules::proofs::Reading::reading))]
@@ -184,13 +199,7 @@ pub fn close_check<S: Scopes>(
         IfKnown result (λ notes. notes.diags.items ≡ closing_diags (context_of (S.state scopes.old).frame made site.now) (stream_view stream.now))) }
     ensures answers { IfKnown result (λ notes. notes.answers.items ≡ []) }
 {
-    let mut notes = Notes::new(alloc);
-    check_name(
-        site.around.text,
-        stream.close,
-        block_name(stream),
-        &mut notes.diags,
-    )?;
+    let mut notes = check_closing(alloc, site.around.text, stream)?;
     analysed!(check_definition(scopes, site, stream, &mut notes));
     Ok(Ask::Known(notes))
 }

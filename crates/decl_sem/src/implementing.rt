@@ -1,10 +1,11 @@
 //! How an implementation module implements what its definition promises.
-ghost use Rattle.std.specs.Prelude.{◌≡◌, ◌≢◌, true};
+ghost use Rattle.std.specs.Prelude.{◌≡◌, ◌≢◌, ◌||◌, is_some, true};
 ghost use Rattle.std.specs.Option.{IfSome};
-ghost use Rattle.m2_base.specs.Rows.{row_meaning};
+ghost use Rattle.m2_base.specs.Rows.{is_same_place, row_meaning};
+ghost use Rattle.m2_base.specs.Standard.{broken};
 ghost use Rattle.m2_base.specs.States.{Waits};
 ghost use Rattle.m2_base.specs.Statics.Closing.{implemented as spec_implemented, implements_heading, implements_opaque as spec_opaque, is_opaque_before as spec_before, type_implemented as spec_type};
-ghost use Rattle.m2_base.specs.Statics.Types.{meaning_at as spec_meaning};
+ghost use Rattle.m2_base.specs.Statics.Types.{meaning_at as spec_meaning, range_by as spec_range};
 ghost use Rattle.type_rules.specs.Asks.{Reads, WhereKnown, WhereWaiting};
 ghost use Rattle.type_rules.specs.Scenes.{IsRowOf, IsThere, Suits, WhereTold, scene_of};
 ghost use Rattle.decl_sem.specs.Implementing.{implemented_view};
@@ -14,11 +15,28 @@ use type_rules::{BROKEN, entry_of_module, has_same_form, meaning_at, range_by, s
 
 /// How a row of the definition is implemented: it is, or nothing does, or the heading of the procedure at this token
 /// differs.
-#[derive(Clone, Copy, Debug, PartialEq, Eq)]
+#[derive(Clone, Copy)]
 pub(crate) enum Implemented {
     Fully,
     Missing,
     Differs(u32),
+}
+
+/// Whether a type with this meaning is ordinal.
+fn is_ordinal(meaning: RowMeaning) -> bool
+    ensures { result ≡ is_some (spec_range meaning) }
+{
+    match range_by(meaning) {
+        Some(_) => true,
+        None => false,
+    }
+}
+
+/// Whether what a type stands for is scalar, or in error.
+fn is_scalar(stood: Place, meaning: RowMeaning) -> bool
+    ensures { result ≡ (is_same_place stood broken || is_some (spec_range meaning)) }
+{
+    stood == BROKEN || is_ordinal(meaning)
 }
 
 /// Whether a type can implement an opaque one: it is scalar, a set or a pointer, or in error.
@@ -36,7 +54,7 @@ fn implements_opaque<S: Scopes>(scopes: &mut S, around: &Around, of: Place) -> A
         RowMeaning::Set(_) | RowMeaning::Pointer(_) => Ask::Known(true),
         _ => {
             let (stood, meaning) = known!(stand(scopes, around, of));
-            Ask::Known(stood == BROKEN || range_by(meaning).is_some())
+            Ask::Known(is_scalar(stood, meaning))
         }
     }
 }
@@ -119,7 +137,7 @@ fn is_opaque_before<S: Scopes>(
 
 /// How the module implements a named row of its definition, which stands at this place.
 #[tactic(auto, using(type_rules::proofs::Reading::reading))]
-pub(crate) fn implemented<S: Scopes>(
+pub(crate) fn implementation_of<S: Scopes>(
     scopes: &mut S,
     around: &Around,
     place: Place,

@@ -54,14 +54,22 @@ fn add_declarations<'a>(declarations: &'a [Decl], items: &mut Vec<Item<'a>>) -> 
     Ok(())
 }
 
-/// The items of a block, in text order, each of which is at its place.
-pub fn items<'a>(alloc: Global, stream: &'a Stream) -> Result<Vec<Item<'a>>, Memory>
-    ensures all { IfOk result (λ items. map item_view items.items ≡ items_of (stream_view stream.now)) }
-    ensures at { IfOk result (λ items. (k : ℕ) (x : HeldItem) → slice_get items.items k ≡ Some x → IsItemAt (stream_view stream.now) k (item_view x)) }
+/// All items of a block, in text order.
+fn all_items<'a>(alloc: Global, stream: &'a Stream) -> Result<Vec<Item<'a>>, Memory>
+    ensures { IfOk result (λ items. map item_view items.items ≡ items_of (stream_view stream.now)) }
 {
     let mut items = Vec::new(alloc);
     add_heading(&stream.heading, &mut items)?;
     add_imports(&stream.imports, &mut items)?;
     add_declarations(&stream.decls, &mut items)?;
+    Ok(items)
+}
+
+/// The items of a block, in text order, each of which is at its place.
+pub fn block_items<'a>(alloc: Global, stream: &'a Stream) -> Result<Vec<Item<'a>>, Memory>
+    ensures all { IfOk result (λ items. map item_view items.items ≡ items_of (stream_view stream.now)) }
+    ensures at { IfOk result (λ items. (k : ℕ) (x : HeldItem) → slice_get items.items k ≡ Some x → IsItemAt (stream_view stream.now) k (item_view x)) }
+{
+    let items = all_items(alloc, stream)?;
     Ok(items)
 }

@@ -96,7 +96,7 @@ pub use closing::close_check;
 pub use declaring::{Declared, declare};
 pub use effects::{Effect, ParamCopy};
 pub use first_cells::first_cell;
-pub use item_lists::items;
+pub use item_lists::block_items;
 pub use items::{Before, Item};
 pub use laws::laid_rows_differ;
 pub use layouts::layout;

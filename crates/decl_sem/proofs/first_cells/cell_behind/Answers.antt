@@ -43,3 +43,7 @@ pub returns-clause-told : goal.returns-clause-told
 returns-clause-told g c =
     cells_full (g.S.Scopes.state c.args.scopes.now).frame c.args.around.now c.args.own c.loop-ordinal.ordinal c.loop-ordinal.cell c.requires.suits c.requires.before
     (let h = c.loop-ordinal-test.false in omega arith) c.loop-ordinal.invariant.left
+
+pub returns-in-DontKnowYet-cell_after-clause-reads : goal.returns-in-DontKnowYet-cell_after-clause-reads
+returns-in-DontKnowYet-cell_after-clause-reads g c =
+    Reads-trans (Reads-trans c.loop-ordinal.invariant.reads c.row_before.ensures.reads) c.cell_after.ensures.reads
