@@ -1,13 +1,15 @@
 -- Implementation modules with their definitions, whose diagnostics and rows are worked out by hand. Both modules are called A,
 -- and their names stand at token 2.
-use Rattle.std.specs.Prelude.{ℕ, Bool, true, false, List, [], ◌∷◌, ◌++◌, Option, Some, None, codes, map}
+use Rattle.std.specs.Prelude.{ℕ, ◌+◌, Bool, true, false, List, [], ◌∷◌, ◌++◌, Option, Some, None, codes, map}
 use Rattle.m2_base.specs.Names.{standard_names}
-use Rattle.m2_base.specs.Rows.{Plain, Var, row_of}
+use Rattle.m2_base.specs.Rows.{row_of}
 use Rattle.m2_base.specs.Standard.{integer}
 use Rattle.m2_base.specs.Statics.Blocks.{UnitTrees}
 use Rattle.m2_base.specs.Trees.{Decl, Heading, Section, Stream, TypeExpr, TypeForm, named_type, no_fields, more_fields, no_statements, plain_fields, pointer_type, proc_decl, proc_type, record_type, type_decl, type_expr, vars_decl}
 use Rattle.m2_base.specs.declared.notes.Diag.{Diag}
+use Rattle.m2_base.specs.declared.rows.Mode.TheVariants.{Plain}
 use Rattle.m2_base.specs.declared.rows.Row.{Row}
+use Rattle.m2_base.specs.declared.rows.RowMeaning.TheVariants.{Var}
 use Rattle.m2_base.specs.declared.trees.Ident.{Ident}
 use Rattle.m2_base.specs.declared.trees.Qual.{Qual}
 use Rattle.m2_base.specs.declared.trees.declarations.StreamKind.{StreamKind}
