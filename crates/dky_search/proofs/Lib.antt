@@ -2,6 +2,7 @@ pub mod Seen
 pub mod Told
 pub mod Probes
 pub mod Flights
+pub mod Lawful
 pub mod Searches
 pub mod Sought
 pub mod Fetches

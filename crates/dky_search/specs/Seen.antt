@@ -1,8 +1,9 @@
 -- What a seat has seen of the shared tables, in the terms of all scopes.
-use Rattle.std.specs.Prelude.{◌≡◌, ℕ, zero, suc, ◌-◌, ◌/◌, true, false, List, [], ◌∷◌, Option, None, Some, map, length, slice_get, if◌then◌else◌}
+use Rattle.std.specs.Prelude.{◌≡◌, ℕ, zero, suc, ◌-◌, ◌/◌, ◌≤◌, true, false, List, [], ◌∷◌, Option, None, Some, map, length, slice_get, if◌then◌else◌}
 use Rattle.m2_base.specs.Lists.{Each, IsIn, IsPrefixOf}
+use Rattle.m2_base.specs.Scopes.{IsTaken}
 use Rattle.m2_base.specs.States.{State, Look, Mark}
-use Rattle.m2_base.specs.Tables.{Table, Lacks, table_at, head_of}
+use Rattle.m2_base.specs.Tables.{Table, Lacks, table_at, head_of, reply_of_heads}
 use Rattle.m2_base.specs.declared.replies.Ask.{Ask}
 use Rattle.m2_base.specs.declared.replies.Ask.TheVariants.{Known, DontKnowYet as Waiting}
 use Rattle.m2_base.specs.declared.replies.Head.{Head}
@@ -50,6 +51,18 @@ TellsOf tables chain name (DontKnowYet h) =
 -- what is known of a place that a head of its scope doesn't count
 abbrev pub behind : Head → Ask (Option Row)
 behind h = if h.complete then Known None else Waiting h
+
+-- The head was shown: its scope has at least so many rows, and these are all where it is complete.
+pub record WasShown (t : Table) (h : Head) : Type 0 where
+  pub count : h.count ≤ length t.rows
+  pub whole : h.complete ≡ true → (t.complete ≡ true) × (length t.rows ≡ h.count)
+
+-- A look is lawful in tables: its heads were shown there, they are those of the chain's first scopes, all but the last are
+-- complete, and its reply comes from the last and is what the rows that the heads count answer.
+pub record IsLawful (tables : List Table) (l : Look) : Type 0 where
+  pub shown : Each (λ h. WasShown (table_at tables h.scope) h) l.heads
+  pub taken : IsTaken l.chain l.heads l.reply
+  pub reply : l.reply ≡ reply_of_heads (map (λ t. t.rows) tables) l.heads l.name
 
 -- ** What a handle holds, as Scopes
 

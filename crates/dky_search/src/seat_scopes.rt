@@ -1,6 +1,6 @@
 //! Scopes over the shared tables.
 ghost use Rattle.std.specs.Prelude.{◌≡◌, ◌≢◌, ◌++◌, ◌∷◌, [], ◌≤◌, ◌<◌, ℕ, List, length, map, Some};
-ghost use Rattle.m2_base.specs.Lists.{HasNoRepeats};
+ghost use Rattle.m2_base.specs.Lists.{Each, HasNoRepeats};
 ghost use Rattle.m2_base.specs.Scopes.{CanSearch, Searched, CanFetch, Fetched, CanEnter, Entered, CanComplete, Completed, looks_of};
 ghost use Rattle.m2_base.specs.States.{IsSound, areas_of, fills_of, texts_of};
 ghost use Rattle.m2_base.specs.Tables.{Table, one_thread, one_thread_row};
@@ -10,7 +10,7 @@ ghost use Rattle.scope_core.specs.Heads.{heads_of};
 ghost use Rattle.scope_table.specs.Plays.{head_in};
 ghost use Rattle.scope_table.specs.Rule.{shown_at, texts_in};
 ghost use Rattle.scope_table.specs.Seats.{IsOf, view, scope_of, key_of};
-ghost use Rattle.dky_search.specs.Seen.{behind, tables_in, look_of, state_in, HaveGrown};
+ghost use Rattle.dky_search.specs.Seen.{behind, tables_in, look_of, state_in, HaveGrown, IsLawful};
 
 use crate::entering::put_all;
 use crate::searching::{fly, load_row, note};
@@ -112,13 +112,14 @@ impl<'t> Scopes for SeatScopes<'t> {
     ghost state = { state_of };
 
     // The answer is what one thread gives in the tables that the handle has then seen, and its heads are the loads of
-    // this call.
+    // this call. Its look is lawful in these tables, and in all that they may become.
     fn search(&mut self, at: u32, chain: &[u32], name: u32) -> Reply
         requires { CanSearch (state_of self.old) chain.now name }
         ensures searched { Searched (state_of self.old) (state_of self.new) at chain.now name result }
         ensures answer { result ≡ one_thread (tables_in (view_in self.new)) chain.now name }
         ensures loads { (view_in self.new).loads ≡ (view_in self.old).loads ++ heads_of (tables_in (view_in self.new)) chain.now name }
         ensures look { (state_of self.new).looks ≡ Some (map look_of (view_in self.old).looks ++ looks_of at name chain.now (heads_of (tables_in (view_in self.new)) chain.now name) result) }
+        ensures lawful { (later : List Table) → HaveGrown (tables_in (view_in self.new)) later → Each (IsLawful later) (looks_of at name chain.now (heads_of (tables_in (view_in self.new)) chain.now name) result) }
         ensures stops { StopsNew (state_of self.old) result }
         ensures grown { HaveGrown (tables_in (view_in self.old)) (tables_in (view_in self.new)) }
         ensures stays { (later : List Table) → HaveGrown (tables_in (view_in self.new)) later → Stays result (one_thread later chain.now name) }

@@ -3,8 +3,10 @@ use Rattle.m2_base.specs.Lists.{Each}
 use Rattle.scope_core.specs.Flights.{Flown}
 use Rattle.scope_table.specs.Rule.{scopes}
 use Rattle.scope_table.specs.Seats.{scope_of, view}
+use Rattle.dky_search.specs.Seen.{tables_in}
 use Rattle.dky_search.specs.SeatScopes.{key_in, view_in}
 use Rattle.dky_search.proofs.Flights.{can_note}
+use Rattle.dky_search.proofs.Lawful.{look_lawful}
 use Rattle.dky_search.proofs.Seen.{length-areas}
 use Rattle.dky_search.proofs.Sought.{IsSought, sought_of}
 use Rattle.dky_search.proofs.seat_scopes.SeatScopesScopes.search.Goals as goal
@@ -32,6 +34,7 @@ returns c =
       answer = all.answer;
       loads = all.loads;
       look = all.look;
+      lawful = λ after more. look_lawful (tables_in (view c.note.new.seat)) after c.args.at c.args.chain.now c.args.name c.in-Some.reply all.answer more;
       stops = all.stops;
       grown = all.grown;
       stays = all.stays;
