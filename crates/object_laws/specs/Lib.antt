@@ -1,0 +1,2 @@
+pub mod UnitObject
+pub mod Texts

@@ -1,0 +1,2 @@
+mod Earliest
+mod TextFaults
