@@ -6,7 +6,7 @@ use Rattle.std.proofs.lemmas.List.{append-nil, get_or-replicate, get_or-set_othe
 use Rattle.m2_base.specs.Lists.{IsIn, WhereKept}
 use Rattle.m2_base.specs.declared.outputs.StreamFault.{StreamFault}
 use Rattle.stream_split.specs.Agreement.{fault_at}
-use Rattle.unit_merge.specs.Faults.{AreOf, earlier, earliest, text_of, with_fault, with_told}
+use Rattle.unit_merge.specs.Earliest.{AreOf, earlier, earliest, text_of, with_fault, with_told}
 
 -- ** One text
 

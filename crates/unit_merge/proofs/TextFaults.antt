@@ -1,10 +1,9 @@
 -- The earliest faults of the streams are those of the texts.
-use Rattle.std.proofs.Common.{◌≡◌, ◌∙◌, ◌⊎◌, inl, inr, ⊎_elim, ℕ, zero, suc, ◌+◌, ◌<◌, ◌≤◌, Bool, true, false, List, [], ◌∷◌, ◌++◌, length, map, Option, Some, None, refl, sym, ap, subst, arith}
+use Rattle.std.proofs.Common.{◌≡◌, ◌∙◌, ◌⊎◌, inl, inr, ⊎_elim, ℕ, zero, suc, ◌+◌, ◌<◌, ◌≤◌, Bool, true, false, List, [], ◌∷◌, ◌++◌, length, Option, Some, None, refl, sym, ap, subst, arith}
 use Rattle.std.specs.List.{AllZip}
 use Rattle.std.specs.Prelude.{slice_get, slice_index_or}
 use Rattle.ll_grammar.specs.Grammar.{sub}
-use Rattle.ll_grammar.specs.Sentences.{Fault}
-use Rattle.ll_grammar.specs.Sentences.Fault.TheVariants as reasons
+use Rattle.ll_grammar.specs.Sentences.{Fault, Syntax, TooDeep}
 use Rattle.ll_grammar.proofs.Decided.{is_decided}
 use Rattle.ll_grammar.proofs.OneAnswer.{one_first_fault}
 use Rattle.ll_grammar.proofs.OneFault.{no_fault}
@@ -26,10 +25,9 @@ use Rattle.stream_split.proofs.Agree.{fault_agrees, trees_agree}
 use Rattle.stream_split.proofs.DefinitionTexts.{definition_whole}
 use Rattle.stream_split.proofs.StreamCounts.{main_numbered}
 use Rattle.stream_split.proofs.WholeAgrees.{whole_agrees}
-use Rattle.unit_laws.specs.Outputs.{IsFaultTold, IsOutputOf}
-use Rattle.unit_merge.specs.Faults.{AreOf, earliest, text_of, told_by}
-use Rattle.unit_merge.specs.Outcome.{AreFaults, AreFaultsFrom, IsFirstIn, Spells}
-use Rattle.unit_merge.specs.Outcome as outcome
+use Rattle.unit_merge.specs.Earliest.{AreOf, earliest, text_of}
+use Rattle.unit_merge.specs.Outputs.{IsFaultTold, IsOutputOf, told_by}
+use Rattle.unit_merge.specs.TextFaults.{AreFaults, AreFaultsFrom, IsFaultOfText, IsFirstIn, Spells}
 use Rattle.unit_merge.proofs.Earliest.{IsEarliest, earliest_is, earliest_length}
 
 -- ** Lists
@@ -97,8 +95,8 @@ fault_text : (text : ℕ) (s : StreamOf) (f : StreamFault) → IsFaultOf text f 
 fault_text text s f h = ap text_of h.told ∙ by h.fault
   where
     by : (reason : Fault) → text_of (fault_in text reason h.rest) ≡ text
-    by reasons.Syntax = refl
-    by reasons.TooDeep = refl
+    by Syntax = refl
+    by TooDeep = refl
 
 -- a stream that spells a tree has no fault
 never_both : (s : StreamOf) (tree : Stream) (text : ℕ) (f : StreamFault) → SpellsStream tree s → IsFaultOf text f s → ⊥
@@ -285,14 +283,14 @@ module _ (u : UnitTexts) where
       tokens_at : (k : ℕ) (t : TextOf) → slice_get u.list k ≡ Some t → tokens_of u k ≡ t.tokens
       tokens_at k t e = ap tokens_in e
 
-      main_is : (t : TextOf) → slice_get u.list 0 ≡ Some t → (r : Option StreamFault) → IsEarliest 0 told r → t.definition ≡ false → outcome.IsFaultOf m 0 t r
+      main_is : (t : TextOf) → slice_get u.list 0 ≡ Some t → (r : Option StreamFault) → IsEarliest 0 told r → t.definition ≡ false → IsFaultOfText m 0 t r
       main_is t e None h d =
           let found = main_none h in
           subst (λ (b : Bool). Spells m b t) (sym d) (found.0, subst (SpellsMain m found.0) (tokens_at 0 t e) found.1)
       main_is t e (Some f) h d =
           subst (λ (b : Bool). IsFirstIn 0 b t f) (sym d) (subst (IsFirstInMain 0 f) (tokens_at 0 t e) (main_first f h))
 
-      definition_fault : (k : ℕ) (t : TextOf) → slice_get u.list k ≡ Some t → IsDefinition u.list k → (r : Option StreamFault) → IsEarliest k told r → t.definition ≡ true → outcome.IsFaultOf m k t r
+      definition_fault : (k : ℕ) (t : TextOf) → slice_get u.list k ≡ Some t → IsDefinition u.list k → (r : Option StreamFault) → IsEarliest k told r → t.definition ≡ true → IsFaultOfText m k t r
       definition_fault k t e i None h d =
           let found = definition_none k (all k i) h in
           subst (λ (b : Bool). Spells m b t) (sym d) (found.0, subst (SpellsDefinition (found.0 ∷ [])) (tokens_at k t e) found.1)
@@ -300,7 +298,7 @@ module _ (u : UnitTexts) where
           let one = h.one f refl in
           subst (λ (b : Bool). IsFirstIn k b t f) (sym d) (subst (IsFirstInDefinition k f) (tokens_at k t e) (definition_first k f i.0 one.0 one.1))
 
-      at : (k : ℕ) (t : TextOf) → slice_get u.list k ≡ Some t → k < length u.list → outcome.IsFaultOf m k t (slice_index_or faults k None)
+      at : (k : ℕ) (t : TextOf) → slice_get u.list k ≡ Some t → k < length u.list → IsFaultOfText m k t (slice_index_or faults k None)
       at zero t e low = main_is t e (slice_index_or faults 0 None) (earliest_is (length u.list) told told_low 0 low) (first u.list unit.main e)
         where
           first : (list : List TextOf) → HasOneMain list → slice_get list 0 ≡ Some t → t.definition ≡ false
@@ -317,14 +315,14 @@ module _ (u : UnitTexts) where
           behind [] h e = absurd h
           behind (x ∷ list) h e = got list k h.1 e
 
-      from : (k : ℕ) (list : List TextOf) (fs : List (Option StreamFault)) → length fs ≡ length list → ((i : ℕ) (t : TextOf) → slice_get list i ≡ Some t → outcome.IsFaultOf m (k + i) t (slice_index_or fs i None)) → AreFaultsFrom m k list fs
+      from : (k : ℕ) (list : List TextOf) (fs : List (Option StreamFault)) → length fs ≡ length list → ((i : ℕ) (t : TextOf) → slice_get list i ≡ Some t → IsFaultOfText m (k + i) t (slice_index_or fs i None)) → AreFaultsFrom m k list fs
       from k [] [] e f = tt
       from k [] (x ∷ fs) e f = absurd (omega (arith, e))
       from k (t ∷ list) [] e f = absurd (omega (arith, e))
       from k (t ∷ list) (x ∷ fs) e f =
           let here : k + 0 ≡ k = omega arith in
-          (subst (λ (n : ℕ). outcome.IsFaultOf m n t x) here (f 0 t refl),
-          from (k + 1) list fs (omega (arith, e)) (λ i s g. let next : k + suc i ≡ k + 1 + i = omega arith in subst (λ (n : ℕ). outcome.IsFaultOf m n s (slice_index_or fs i None)) next (f (suc i) s g)))
+          (subst (λ (n : ℕ). IsFaultOfText m n t x) here (f 0 t refl),
+          from (k + 1) list fs (omega (arith, e)) (λ i s g. let next : k + suc i ≡ k + 1 + i = omega arith in subst (λ (n : ℕ). IsFaultOfText m n s (slice_index_or fs i None)) next (f (suc i) s g)))
 
       within : {A : Type 0} (xs : List A) (i : ℕ) (x : A) → slice_get xs i ≡ Some x → i < length xs
       within [] i x e = absurd cc
@@ -335,4 +333,4 @@ module _ (u : UnitTexts) where
       pub faults_are : AreFaults u faults
       faults_are =
           from 0 u.list faults (earliest_length (length u.list) told)
-          (λ i t e. let same : i ≡ 0 + i = omega arith in subst (λ (n : ℕ). outcome.IsFaultOf m n t (slice_index_or faults i None)) same (at i t e (within u.list i t e)))
+          (λ i t e. let same : i ≡ 0 + i = omega arith in subst (λ (n : ℕ). IsFaultOfText m n t (slice_index_or faults i None)) same (at i t e (within u.list i t e)))

@@ -1,3 +1,6 @@
+pub mod Outputs
 pub mod Outcome
-pub mod Faults
-pub mod Gathered
+pub mod TextFaults
+pub mod Earliest
+pub mod Objects
+pub mod Merging

@@ -1,10 +1,8 @@
 //! What the definition modules of a unit give to those that import them.
 ghost use Rattle.std.specs.Prelude.{◌≡◌, ◌<◌, ◌+◌, length, map, option_map, IfOk};
-ghost use Rattle.block_laws.specs.Worlds.{callee_of, without_own};
 ghost use Rattle.m2_base.specs.Lists.{Each};
 ghost use Rattle.object_file.specs.Views.{heading_of, keyed_of};
-ghost use Rattle.object_laws.specs.Texts.{HasItsNumber};
-ghost use Rattle.unit_merge.specs.Gathered.{IsPlaceIn, import_from, imports_from};
+ghost use Rattle.unit_merge.specs.Objects.{HasItsNumber, IsPlaceIn, callee_of, import_from, imports_from, without_own};
 
 use m2_base::{HeadingNote, Memory, Names, Output};
 use object_file::ImportNote;

@@ -1,13 +1,12 @@
 //! Merging the outputs of a unit's streams.
 ghost use Rattle.std.specs.Prelude.{IfOk};
 ghost use Rattle.m2_base.specs.Units.{Front, TextOf};
-ghost use Rattle.object_laws.specs.Texts.{IsWhole};
 ghost use Rattle.stream_split.specs.Fronts.{AreFronts};
-ghost use Rattle.unit_laws.specs.Outputs.{AreOutputs};
-ghost use Rattle.unit_merge.specs.Outcome.{IsOutcome, outcome_view};
+ghost use Rattle.unit_merge.specs.Merging.{CanBeMerged, IsMerged};
+ghost use Rattle.unit_merge.specs.Outcome.{outcome_view};
 
 use crate::faults::{first_too_deep, refusals, text_faults};
-use crate::notes::unit_diags;
+use crate::notes::all_diags;
 use crate::object::unit_object;
 use m2_base::{Diag, Memory, Output, Texts};
 use object_file::Object;
@@ -24,12 +23,11 @@ pub enum Merged {
     TooDeep { text: u32, at: u32 },
 }
 
-/// What a unit comes to, of which nothing is left out, by the outputs of its streams: one for each, in their order. It takes a time linear
-/// in the code, and n log n in the diagnostics; code is moved, and none of it is copied.
+/// What a unit comes to, by the outputs of its streams: one for each, in their order. It takes a time linear in the code, and n log n in the
+/// diagnostics; code is moved, and none of it is copied.
 pub fn merge(alloc: Global, texts: &Texts, outputs: Vec<Output>) -> Result<Merged, Memory>
-    requires whole { IsWhole texts.now }
-    requires outputs { AreOutputs texts.now outputs.items }
-    ensures { (front : TextOf → Front) → AreFronts front texts.now → IfOk result (λ merged. IsOutcome front texts.now (outcome_view merged)) }
+    requires { CanBeMerged texts.now outputs.items }
+    ensures { (front : TextOf → Front) → AreFronts front texts.now → IfOk result (λ merged. IsMerged front texts.now outputs.items (outcome_view merged)) }
 {
     let faults = text_faults(alloc, texts.list.len(), &outputs)?;
     if let Some((text, at)) = first_too_deep(&faults) {
@@ -39,7 +37,7 @@ pub fn merge(alloc: Global, texts: &Texts, outputs: Vec<Output>) -> Result<Merge
     if !refused.is_empty() {
         return Ok(Merged::Diags(refused));
     }
-    let diags = unit_diags(alloc, &outputs)?;
+    let diags = all_diags(alloc, &outputs)?;
     if !diags.is_empty() {
         return Ok(Merged::Diags(diags));
     }

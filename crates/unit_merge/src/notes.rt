@@ -1,6 +1,6 @@
 //! The diagnostics of a unit.
 ghost use Rattle.std.specs.Prelude.{◌≡◌, flat_map, IfOk};
-ghost use Rattle.listings.specs.Ordering.{in_order};
+ghost use Rattle.unit_merge.specs.Outputs.{output_diags};
 
 use listings::put_in_order;
 use m2_base::{Diag, Memory, Output};
@@ -18,8 +18,8 @@ fn all_noted(alloc: Global, outputs: &[Output]) -> Result<Vec<Diag>, Memory>
 }
 
 /// The diagnostics of all outputs in order, each once.
-pub(crate) fn unit_diags(alloc: Global, outputs: &[Output]) -> Result<Vec<Diag>, Memory>
-    ensures { IfOk result (λ diags. diags.items ≡ in_order (flat_map (λ o. o.diags.items) outputs.now)) }
+pub(crate) fn all_diags(alloc: Global, outputs: &[Output]) -> Result<Vec<Diag>, Memory>
+    ensures { IfOk result (λ diags. diags.items ≡ output_diags outputs.now) }
 {
     let mut diags = all_noted(alloc, outputs)?;
     put_in_order(&mut diags);

@@ -1,14 +1,14 @@
 //! The object of a unit.
-ghost use Rattle.std.specs.Prelude.{◌≡◌, ◌^◌, ◌<◌, ◌+◌, map, option_map, IfOk};
-ghost use Rattle.m2_base.specs.Finished.{AreRead, own_scope};
+ghost use Rattle.std.specs.Prelude.{◌≡◌, ◌^◌, ◌<◌, ◌+◌, [], length, map, option_map, IfOk};
+ghost use Rattle.definition_keys.specs.Keys.{unit_keys as spec_unit_keys};
+ghost use Rattle.m2_base.specs.Finished.{own_scope};
 ghost use Rattle.m2_base.specs.Lists.{Each};
-ghost use Rattle.m2_base.specs.Statics.Blocks.{UnitTrees};
 ghost use Rattle.m2_base.specs.Units.{Front, TextOf};
-ghost use Rattle.object_laws.specs.Texts.{IsWhole};
-ghost use Rattle.object_laws.specs.UnitObject.{object_of as spec_object_of};
-ghost use Rattle.stmt_sem.specs.ProcedureCodes.{code_view};
+ghost use Rattle.object_file.specs.Views.{contents_of, procedure_of};
 ghost use Rattle.stream_split.specs.Fronts.{AreFronts};
-ghost use Rattle.unit_laws.specs.Outputs.{AreOutputs, HasNoDiags};
+ghost use Rattle.unit_merge.specs.Merging.{CanBeMerged, HaveNoFaults};
+ghost use Rattle.unit_merge.specs.Objects.{HaveLowHeights, HaveTheirNumbers, contents_from};
+ghost use Rattle.unit_merge.specs.Outputs.{output_diags};
 
 use crate::exports::own_part;
 use crate::imports::other_imports;
@@ -21,30 +21,32 @@ use std::alloc::Global;
 fn own_place(texts: &Texts) -> Option<usize>
     ensures { option_map (λ n. n + 1) result ≡ own_scope texts.now }
 {
-    let own = texts.own?;
-    texts.order.iter().position(|k| *k == own)
+    match texts.own {
+        Some(own) => texts.order.iter().position(|k| *k == own),
+        None => None,
+    }
 }
 
 /// The code of each output. It is moved, and none of it is copied.
 fn procedures_of(alloc: Global, outputs: Vec<Output>) -> Result<Vec<ProcCode>, Memory>
-    ensures codes { IfOk result (λ procedures. map code_view procedures.items ≡ map (λ o. code_view o.code) outputs.items) }
-    ensures heights { IfOk result (λ procedures. Each (λ p. p.high < 2 ^ 32) (map code_view procedures.items)) }
+    ensures codes { IfOk result (λ procedures. map procedure_of procedures.items ≡ map (λ o. procedure_of o.code) outputs.items) }
+    ensures heights { IfOk result (λ _. Each (λ o. o.code.high < 2 ^ 32) outputs.items) }
 {
     let mut procedures = Vec::with_capacity(alloc, outputs.len())?;
     for output in outputs {
-        let Output { code, .. } = output;
+        let code = output.code;
         let _high = code.high;
         procedures.push(code)?;
     }
     Ok(procedures)
 }
 
-/// The object of a unit without diagnostics, by the outputs of its streams.
-pub(crate) fn unit_object(alloc: Global, texts: &Texts, outputs: Vec<Output>) -> Result<Object, Memory>
-    requires whole { IsWhole texts.now }
-    requires outputs { AreOutputs texts.now outputs.items }
-    requires read { (u : UnitTrees) × AreRead texts.now u × HasNoDiags u }
-    ensures { (front : TextOf → Front) (u : UnitTrees) → AreFronts front texts.now → AreRead texts.now u → IfOk result (λ object. object ≡ spec_object_of front texts.now u) }
+/// What the object of a unit says, by the outputs of its streams.
+fn unit_parts(alloc: Global, texts: &Texts, outputs: Vec<Output>) -> Result<Parts, Memory>
+    requires { length texts.now.order < length outputs.items }
+    ensures contents { (front : TextOf → Front) → AreFronts front texts.now → IfOk result (λ parts. contents_of parts ≡ contents_from (spec_unit_keys front texts.now) texts.now outputs.items) }
+    ensures numbers { IfOk result (λ _. HaveTheirNumbers texts.now) }
+    ensures heights { IfOk result (λ _. HaveLowHeights texts.now outputs.items) }
 {
     let keys = unit_keys(alloc, texts)?;
     let own = own_place(texts);
@@ -54,15 +56,31 @@ pub(crate) fn unit_object(alloc: Global, texts: &Texts, outputs: Vec<Output>) ->
     let part = own_part(alloc, own, &keys, &definitions, &main.headings)?;
     let cells = main.cells;
     let imports = other_imports(alloc, &texts.names, &keys, &definitions, own)?;
-    let parts = Parts {
+    let name = texts.names.bytes(texts.main().name).to_vec(alloc)?;
+    let procedures = procedures_of(alloc, mains)?;
+    Ok(Parts {
         version: 2,
-        name: texts.names.bytes(texts.main().name).to_vec(alloc)?,
+        name,
         key: part.key,
         cells,
         own_cells: part.cells,
         exports: part.exports,
         imports,
-        procedures: procedures_of(alloc, mains)?,
-    };
+        procedures,
+    })
+}
+
+/// The object of a unit without faults and diagnostics, by the outputs of its streams.
+pub(crate) fn unit_object(
+    alloc: Global,
+    texts: &Texts,
+    outputs: Vec<Output>,
+) -> Result<Object, Memory>
+    requires mergeable { CanBeMerged texts.now outputs.items }
+    requires faultless { HaveNoFaults texts.now }
+    requires none { output_diags outputs.items ≡ [] }
+    ensures { (front : TextOf → Front) → AreFronts front texts.now → IfOk result (λ object. object ≡ contents_from (spec_unit_keys front texts.now) texts.now outputs.items) }
+{
+    let parts = unit_parts(alloc, texts, outputs)?;
     Ok(Object::build(parts))
 }

@@ -1,7 +1,6 @@
--- The faults of a unit's texts, as they are found by going over what is told of its streams.
-use Rattle.std.specs.Prelude.{ℕ, ◌<◌, nat_lt, if◌then◌else◌, List, fold, map, replicate, slice_index_or, slice_set, Option, Some, None}
+-- The faults of texts, as they are found by going over what is told of their streams: of each text the earliest.
+use Rattle.std.specs.Prelude.{ℕ, ◌<◌, nat_lt, if◌then◌else◌, List, fold, replicate, slice_index_or, slice_set, Option, Some, None}
 use Rattle.m2_base.specs.Lists.{Each, WhereKept}
-use Rattle.m2_base.specs.declared.outputs.Output.{Output}
 use Rattle.m2_base.specs.declared.outputs.StreamFault.{StreamFault}
 use Rattle.m2_base.specs.declared.outputs.StreamFault.TheVariants.{Syntax, TooDeep}
 use Rattle.stream_split.specs.Agreement.{fault_at}
@@ -27,10 +26,6 @@ with_told faults (Some f) = with_fault faults f
 -- the earliest fault of each of so many texts, by what is told of the streams
 abbrev pub earliest : (count : ℕ) → List (Option StreamFault) → List (Option StreamFault)
 earliest count told = fold with_told (replicate count None) told
-
--- the faults that outputs tell
-abbrev pub told_by : List Output → List (Option StreamFault)
-told_by outputs = map (λ o. o.fault) outputs
 
 -- each fault is of one of so many texts
 abbrev pub AreOf : (count : ℕ) → List (Option StreamFault) → Type 0
