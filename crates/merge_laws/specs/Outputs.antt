@@ -1,6 +1,6 @@
--- What the work on the streams of a unit leaves: one output for each stream, in their order. It is what merging asks for, in whichever
--- order and by however many workers the work was done.
-use Rattle.std.specs.Prelude.{◌≡◌, ℕ, List, [], ◌∷◌, drop, length, map, Option, Some, None}
+-- What the work on the streams of a unit leaves, by the definitions of its blocks: in whichever order and by however many workers
+-- the work was done.
+use Rattle.std.specs.Prelude.{◌≡◌, ℕ, List, [], ◌∷◌, drop, length, map, None}
 use Rattle.std.specs.List.{AllZip}
 use Rattle.m2_base.specs.Finished.{AreRead, main_tokens}
 use Rattle.m2_base.specs.Standard.{standard_rows}
@@ -8,18 +8,17 @@ use Rattle.m2_base.specs.Statics.BlockLimits.{limit_of}
 use Rattle.m2_base.specs.Statics.BlockRows.{declare_block}
 use Rattle.m2_base.specs.Statics.Blocks.{UnitTrees, blocks_of}
 use Rattle.m2_base.specs.Statics.UnitRows.{unit_rows}
-use Rattle.m2_base.specs.Trees.{Stream}
 use Rattle.m2_base.specs.Units.{UnitTexts}
 use Rattle.m2_base.specs.declared.notes.Diag.{Diag}
 use Rattle.m2_base.specs.declared.outputs.HeadingNote.{HeadingNote}
 use Rattle.m2_base.specs.declared.outputs.Output.{Output}
-use Rattle.m2_base.specs.declared.outputs.StreamFault.{StreamFault}
-use Rattle.stream_split.specs.Agreement.{IsFaultOf, SpellsStream}
-use Rattle.stream_split.specs.Streams.{StreamOf, streams_of}
+use Rattle.stream_split.specs.Streams.{streams_of}
 use Rattle.row_laws.specs.RowRanges.{EachBlock}
 use Rattle.stmt_sem.specs.BlockCode.{ProcedureCode, block_code, block_diags}
 use Rattle.stmt_sem.specs.ProcedureCodes.{code_view}
 use Rattle.block_laws.specs.Worlds.{of_blocks}
+use Rattle.unit_merge.specs.Objects.{cells_by, headings_by}
+use Rattle.unit_merge.specs.Outputs.{IsOutputOf}
 
 -- ** What the blocks of a unit make
 
@@ -45,24 +44,14 @@ HasNoDiags u = EachBlock (λ before b. block_diags u.source before (unit_rows u)
 
 -- ** Outputs
 
--- what is told of a stream: its first fault, or none where it spells a tree
-abbrev pub IsFaultTold : StreamOf → Option StreamFault → Type 0
-IsFaultTold s None = (tree : Stream) × SpellsStream tree s
-IsFaultTold s (Some fault) = IsFaultOf s.text fault s
-
--- the output is of this stream, and tells its fault
-pub record IsOutputOf (s : StreamOf) (o : Output) : Type 0 where
-  pub stream : o.stream ≡ s.stream
-  pub fault : IsFaultTold s o.fault
-
 -- the outputs have the diagnostics of the unit's blocks
 abbrev pub AreNoted : UnitTrees → List Output → Type 0
 AreNoted u outputs = map (λ o. o.diags.items) outputs ≡ noted_in u
 
 -- they have the cells, the headings and the code of the unit's blocks; a definition module has no code
 pub record AreCoded (u : UnitTrees) (outputs : List Output) : Type 0 where
-  pub cells : map (λ o. o.cells) outputs ≡ cells_in u
-  pub headings : map (λ o. o.headings.items) outputs ≡ headings_in u
+  pub cells : cells_by outputs ≡ cells_in u
+  pub headings : headings_by outputs ≡ headings_in u
   pub codes : map (λ o. code_view o.code) (drop (length u.definitions) outputs) ≡ codes_in u
 
 -- These are the outputs of a unit that is cut into streams: its main text passes no limit on procedures. Each is of the stream at its

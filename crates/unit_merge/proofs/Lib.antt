@@ -1,2 +1,3 @@
 mod Earliest
+pub mod NoKey
 mod TextFaults

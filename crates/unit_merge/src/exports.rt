@@ -59,7 +59,7 @@ fn exports_of(
 }
 
 /// The key of a module that has no definition.
-#[tactic(auto, unfolding(Rattle::object_file::specs::Contents::no_key))]
+#[tactic(auto, using(crate::proofs::NoKey::zeros))]
 fn key_of_none(alloc: Global) -> Result<Vec<u8>, Memory>
     ensures { IfOk result (λ key. key.items ≡ no_key) }
 {
