@@ -17,6 +17,7 @@ use Rattle.m2_base.specs.Units.{HasOneMain, IsDefinition, IsUnit, TextOf, UnitTe
 use Rattle.m2_base.specs.WholeTexts.{IsFirstInDefinition, IsFirstInMain, SpellsDefinition, SpellsMain, main_blocks}
 use Rattle.m2_base.specs.declared.outputs.Output.{Output}
 use Rattle.m2_base.specs.declared.outputs.StreamFault.{StreamFault}
+use Rattle.m2_base.specs.declared.token.Token.{Token}
 use Rattle.m2_base.proofs.GrammarChecks.{is_ll1, main_is_root}
 use Rattle.stream_split.specs.Agreement.{IsFaultOf, IsFirstOfStreams, SpellsStream, SpellsStreams, fault_at}
 use Rattle.stream_split.specs.Cut.{Enclosed, Event, events, opened, start}
@@ -176,7 +177,7 @@ module _ (u : UnitTexts) where
 
     -- ** The main text
 
-    abbrev ts : List _
+    abbrev ts : List Token
     ts = main_tokens u
 
     trees_of_mains : (streams : List StreamOf) → ((s : StreamOf) → IsIn s streams → (tree : Stream) × SpellsStream tree s) → (trees : List Stream) × SpellsStreams trees streams
@@ -184,7 +185,7 @@ module _ (u : UnitTexts) where
     trees_of_mains (s ∷ streams) f =
         let first = f s (inl refl) in
         let rest = trees_of_mains streams (λ x i. f x (inr i)) in
-        (first.0 ∷ rest.0, first.1, rest.1)
+        (first.0 ∷ rest.0, (first.1, rest.1))
 
     told_main : (s : StreamOf) → IsIn s mains → Told told s
     told_main s i = told_of (streams_of u) outputs each s (in_right s (definition_streams 1 u.list u.order) mains i)
@@ -244,7 +245,7 @@ module _ (u : UnitTexts) where
         let streams = fault_agrees m 0 ts (fault_in 0 f.0 f.1) (main_numbered u unit) first in
         let its = told_first (fault_in 0 f.0 f.1) streams in
         let low = h.least g (fault_in 0 f.0 f.1) refl its.0 its.1 in
-        subst (λ x. IsFirstInMain 0 x ts) (sym (by (fault_in 0 f.0 f.1) low (each_at (λ s. (other : StreamFault) → IsFaultOf 0 other s → (other ≡ fault_in 0 f.0 f.1) ⊎ (fault_at (fault_in 0 f.0 f.1) < fault_at other)) mine.0 mains streams.others mine.1 g mine.2))) first)
+        subst (λ x. IsFirstInMain 0 x ts) {x = fault_in 0 f.0 f.1} (sym (by (fault_in 0 f.0 f.1) low (each_at (λ s. (other : StreamFault) → IsFaultOf 0 other s → (other ≡ fault_in 0 f.0 f.1) ⊎ (fault_at (fault_in 0 f.0 f.1) < fault_at other)) mine.0 mains streams.others mine.1 g mine.2))) first)
         (is_decided grammar (main sub) is_ll1 main_is_root levels ts)
       where
         by : (f : StreamFault) → fault_at g ≤ fault_at f → (g ≡ f) ⊎ (fault_at f < fault_at g) → g ≡ f
@@ -254,7 +255,7 @@ module _ (u : UnitTexts) where
     -- ** All texts
 
     -- each fault that is told is of a text of the unit
-    told_low : AreOf (length u.list) told
+    pub told_low : AreOf (length u.list) told
     told_low = each_from (λ x. WhereKept x (λ f. text_of f < length u.list)) told (λ x i. by x i)
       where
         positive : (list : List TextOf) → HasOneMain list → 0 < length list

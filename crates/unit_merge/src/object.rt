@@ -1,5 +1,5 @@
 //! The object of a unit.
-ghost use Rattle.std.specs.Prelude.{◌≡◌, ◌^◌, ◌<◌, ◌+◌, [], length, map, option_map, IfOk};
+ghost use Rattle.std.specs.Prelude.{◌≡◌, ◌^◌, ◌<◌, ◌+◌, ◌==◌, [], map, option_map, position, IfOk};
 ghost use Rattle.definition_keys.specs.Keys.{unit_keys as spec_unit_keys};
 ghost use Rattle.m2_base.specs.Finished.{own_scope};
 ghost use Rattle.m2_base.specs.Lists.{Each};
@@ -17,12 +17,19 @@ use m2_base::{Memory, Output, ProcCode, Texts};
 use object_file::{Object, Parts};
 use std::alloc::Global;
 
+/// Where this text stands in the order.
+fn place_in(order: &[u32], text: u32) -> Option<usize>
+    ensures { result ≡ position (λ k. k == text) order.now }
+{
+    order.iter().position(|k| *k == text)
+}
+
 /// Where the own definition stands among the definition modules of a unit.
 fn own_place(texts: &Texts) -> Option<usize>
     ensures { option_map (λ n. n + 1) result ≡ own_scope texts.now }
 {
     match texts.own {
-        Some(own) => texts.order.iter().position(|k| *k == own),
+        Some(own) => place_in(&texts.order, own),
         None => None,
     }
 }
@@ -43,7 +50,7 @@ fn procedures_of(alloc: Global, outputs: Vec<Output>) -> Result<Vec<ProcCode>, M
 
 /// What the object of a unit says, by the outputs of its streams.
 fn unit_parts(alloc: Global, texts: &Texts, outputs: Vec<Output>) -> Result<Parts, Memory>
-    requires { length texts.now.order < length outputs.items }
+    requires { CanBeMerged texts.now outputs.items }
     ensures contents { (front : TextOf → Front) → AreFronts front texts.now → IfOk result (λ parts. contents_of parts ≡ contents_from (spec_unit_keys front texts.now) texts.now outputs.items) }
     ensures numbers { IfOk result (λ _. HaveTheirNumbers texts.now) }
     ensures heights { IfOk result (λ _. HaveLowHeights texts.now outputs.items) }
