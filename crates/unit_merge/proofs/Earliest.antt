@@ -1,6 +1,6 @@
 -- What is noted of a text is the earliest of the faults that are told of it.
 use Rattle.std.proofs.Common.{◌≡◌, ◌∙◌, ◌⊎◌, inl, inr, ℕ, ◌<◌, ◌≤◌, ◌==◌, nat_lt, if◌then◌else◌, Bool, true, false, List, [], ◌∷◌, ◌++◌, length, Option, Some, None, refl, sym, ap, subst, arith, append_assoc}
-use Rattle.std.specs.Prelude.{fold, replicate, slice_index_or, slice_set}
+use Rattle.std.specs.Prelude.{fold, replicate, slice_index_or}
 use Rattle.std.proofs.lemmas.Bool.{eqb-true, ltb-true, ltb-false}
 use Rattle.std.proofs.lemmas.List.{append-nil, get_or-replicate, get_or-set_other, get_or-set_same, length-replicate, length-set}
 use Rattle.m2_base.specs.Lists.{IsIn, WhereKept}

@@ -1,14 +1,14 @@
 -- The keys of a unit's definition texts are those of the texts in their order.
-use Rattle.std.specs.Prelude.{◌≡◌, refl, ℕ, zero, suc, ◌+◌, ◌<◌, List, [], ◌∷◌, ◌++◌, length, map, slice_get, slice_index_or, Option, Some, None}
+use Rattle.std.specs.Prelude.{◌≡◌, refl, ℕ, zero, suc, ◌<◌, List, [], ◌∷◌, ◌++◌, length, map, slice_get, slice_index_or, Some}
 use Rattle.std.proofs.Common.{ap, subst, sym, ◌∙◌, arith}
 use Rattle.std.proofs.lemmas.List.{append-nil, length-map}
 use Rattle.std.proofs.lemmas.Option.{get_or_from_slice_get}
 use Rattle.m2_base.specs.Finished.{no_text}
 use Rattle.m2_base.specs.Lists.{Each}
 use Rattle.m2_base.specs.Names.{number_in}
-use Rattle.m2_base.specs.Units.{Front, IsDefinition, IsNamed, IsText, IsUnit, TextOf, UnitTexts}
+use Rattle.m2_base.specs.Units.{Front, IsDefinition, IsText, IsUnit, TextOf, UnitTexts}
 use Rattle.definition_keys.specs.Keys.{Keys, key_of, keys_from, ordered_texts, unit_keys}
-use Rattle.unit_merge.specs.Objects.{HasItsNumber, HaveTheirNumbers, spelled}
+use Rattle.unit_merge.specs.Objects.{HasItsNumber, HaveTheirNumbers}
 
 moved : (xs : Keys) (x : ℕ × List ℕ) (ns : List ℕ) → map (λ (k : ℕ × List ℕ). k.0) (xs ++ x ∷ []) ++ ns ≡ map (λ (k : ℕ × List ℕ). k.0) xs ++ x.0 ∷ ns
 moved [] x ns = refl

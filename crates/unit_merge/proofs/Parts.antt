@@ -7,9 +7,8 @@ use Rattle.std.proofs.lemmas.List.Quantifiers.{position-Some}
 use Rattle.std.proofs.lemmas.Option.{get_or_from_slice_get}
 use Rattle.definition_keys.specs.Keys.{Keys}
 use Rattle.m2_base.specs.Finished.{main_number, main_tokens, own_scope, scope_in}
-use Rattle.m2_base.specs.Lists.{Each, WhereKept}
+use Rattle.m2_base.specs.Lists.{WhereKept}
 use Rattle.m2_base.specs.Units.{TextOf, UnitTexts}
-use Rattle.m2_base.specs.declared.outputs.HeadingNote.{HeadingNote}
 use Rattle.m2_base.specs.declared.outputs.Output.{Output}
 use Rattle.m2_base.specs.declared.outputs.StreamFault.{StreamFault}
 use Rattle.object_file.specs.Contents.{KeyedImport, no_key}
@@ -18,7 +17,7 @@ use Rattle.object_file.specs.declared.parts.ImportNote.{ImportNote}
 use Rattle.object_file.specs.declared.parts.Parts.{Parts}
 use Rattle.unit_merge.specs.Earliest.{AreOf, text_of}
 use Rattle.unit_merge.specs.Objects.{IsPlaceIn, callee_of, cells_by, contents_from, exports_in, headings_by, import_from, imports_from, name_in, of_own, spelled, without_own}
-use Rattle.stream_split.specs.Streams.{StreamOf, definition_streams, main_streams, streams_of}
+use Rattle.stream_split.specs.Streams.{definition_streams, main_streams, streams_of}
 use Rattle.unit_merge.specs.Outputs.{IsOutputOf, told_by}
 
 -- a vector has as many items as it says

@@ -8,10 +8,9 @@ use Rattle.ll_grammar.proofs.Decided.{is_decided}
 use Rattle.ll_grammar.proofs.OneAnswer.{one_first_fault}
 use Rattle.ll_grammar.proofs.OneFault.{no_fault}
 use Rattle.m2_base.specs.FaultsOf.{fault_in}
-use Rattle.m2_base.specs.Finished.{AreRead, main_number, main_tokens, source_of, tokens_in, tokens_of}
+use Rattle.m2_base.specs.Finished.{main_number, main_tokens, tokens_in, tokens_of}
 use Rattle.m2_base.specs.Grammar.{grammar, levels, main, stream}
 use Rattle.m2_base.specs.Lists.{Each, IsIn, WhereKept}
-use Rattle.m2_base.specs.Statics.Blocks.{UnitTrees}
 use Rattle.m2_base.specs.Trees.{Stream}
 use Rattle.m2_base.specs.Units.{HasOneMain, IsDefinition, IsUnit, TextOf, UnitTexts}
 use Rattle.m2_base.specs.WholeTexts.{IsFirstInDefinition, IsFirstInMain, SpellsDefinition, SpellsMain, main_blocks}
@@ -321,9 +320,10 @@ module _ (u : UnitTexts) where
       from k [] (x ∷ fs) e f = absurd (omega (arith, e))
       from k (t ∷ list) [] e f = absurd (omega (arith, e))
       from k (t ∷ list) (x ∷ fs) e f =
-          let here : k + 0 ≡ k = omega arith in
-          (subst (λ (n : ℕ). IsFaultOfText m n t x) here (f 0 t refl),
-          from (k + 1) list fs (omega (arith, e)) (λ i s g. let next : k + suc i ≡ k + 1 + i = omega arith in subst (λ (n : ℕ). IsFaultOfText m n s (slice_index_or fs i None)) next (f (suc i) s g)))
+          let here : k + 0 ≡ k = omega arith in (
+            subst (λ (n : ℕ). IsFaultOfText m n t x) here (f 0 t refl),
+            from (k + 1) list fs (omega (arith, e)) (λ i s g. let next : k + suc i ≡ k + 1 + i = omega arith in subst (λ (n : ℕ). IsFaultOfText m n s (slice_index_or fs i None)) next (f (suc i) s g)),
+          )
 
       within : {A : Type 0} (xs : List A) (i : ℕ) (x : A) → slice_get xs i ≡ Some x → i < length xs
       within [] i x e = absurd cc

@@ -1,6 +1,6 @@
 -- The object that outputs make: which module it is of, what it gives to other modules and what it asks of them, and the code of the
 -- blocks of the main text.
-use Rattle.std.specs.Prelude.{◌≡◌, ℕ, ◌+◌, ◌-◌, ◌^◌, ◌<◌, ◌==◌, if◌then◌else◌, List, [], ◌∷◌, ◌++◌, drop, length, map, slice_get, slice_index_or, take, unwrap_or, Option, Some, None}
+use Rattle.std.specs.Prelude.{◌≡◌, ℕ, ◌-◌, ◌^◌, ◌<◌, ◌==◌, if◌then◌else◌, List, [], ◌∷◌, ◌++◌, drop, length, map, slice_get, slice_index_or, take, unwrap_or, Option, Some, None}
 use Rattle.code_form.specs.Heights.{Callee}
 use Rattle.definition_keys.specs.Keys.{Keys}
 use Rattle.m2_base.specs.Finished.{no_text, own_scope}

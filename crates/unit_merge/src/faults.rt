@@ -84,10 +84,7 @@ pub(crate) fn first_too_deep(faults: &[Option<StreamFault>]) -> Option<(u32, u32
 }
 
 /// The syntax faults, in the order of the texts.
-pub(crate) fn refusals(
-    alloc: Global,
-    faults: &[Option<StreamFault>],
-) -> Result<Vec<Diag>, Memory>
+pub(crate) fn refusals(alloc: Global, faults: &[Option<StreamFault>]) -> Result<Vec<Diag>, Memory>
     ensures { IfOk result (λ diags. diags.items ≡ spec_refusals faults.now) }
 {
     let mut diags = Vec::new(alloc);

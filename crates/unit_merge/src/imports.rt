@@ -23,12 +23,7 @@ fn headings_of(alloc: Global, notes: &[HeadingNote]) -> Result<Vec<(u32, u32)>, 
 }
 
 /// A definition module as an import.
-fn import_of(
-    alloc: Global,
-    names: &Names,
-    key: &Key,
-    output: &Output,
-) -> Result<ImportNote, Memory>
+fn import_of(alloc: Global, names: &Names, key: &Key, output: &Output) -> Result<ImportNote, Memory>
     requires { key.now.0 < length names.now }
     ensures import { IfOk result (λ import. keyed_of import ≡ import_from names.now key.now output.now) }
     ensures number { HasItsNumber names.now key.now.0 }

@@ -1,4 +1,4 @@
-use Rattle.std.proofs.Common.{ap, ◌∙◌, arith, ◌≡◌, List, Option, Some, None, length, replicate, take}
+use Rattle.std.proofs.Common.{ap, ◌∙◌, arith, ◌≡◌, List, Option, None, length, replicate, take}
 use Rattle.std.proofs.lemmas.List.{length-replicate}
 use Rattle.m2_base.specs.declared.outputs.StreamFault.{StreamFault}
 use Rattle.unit_merge.specs.Outputs.{told_by}

@@ -1,7 +1,7 @@
-use Rattle.std.proofs.Common.{ap, ◌∙◌, sym, arith, ◌≡◌, ◌+◌, length, map, option_map, Option, Some, None}
+use Rattle.std.proofs.Common.{ap, ◌∙◌, arith, length, map}
 use Rattle.std.proofs.lemmas.List.{length-map}
 use Rattle.object_file.specs.Views.{keyed_of}
-use Rattle.unit_merge.specs.Objects.{imports_from, without_own}
+use Rattle.unit_merge.specs.Objects.{imports_from}
 use Rattle.unit_merge.proofs.Parts.{imports_long, none_removed, place_low, removed}
 use Rattle.unit_merge.proofs.imports.other_imports.Goals.{in-Some, in_default}
 use Rattle.unit_merge.proofs.imports.other_imports.Goals as goal
@@ -17,8 +17,8 @@ remove-requires c =
 pub returns-clause-imports : goal.returns-clause-imports
 returns-clause-imports c =
     elim c.match-own.branch [
-      in-Some w ↦ ap (λ (v : _). map keyed_of v.items) w.imports-is
-      ∙ removed c.args.own w.in-Some.place c.in_ok-imports.imports.items w.remove.new.self.items (imports_from c.args.names.now c.args.keys.now c.args.outputs.now) w.in-Some.is c.in_ok-imports.ensures.imports w.remove.ensures.by_index.2
+      | in-Some w ↦ ap (λ (v : _). map keyed_of v.items) w.imports-is
+          ∙ removed c.args.own w.in-Some.place c.in_ok-imports.imports.items w.remove.new.self.items (imports_from c.args.names.now c.args.keys.now c.args.outputs.now) w.in-Some.is c.in_ok-imports.ensures.imports w.remove.ensures.by_index.2
       | in_default w ↦ ap (λ (v : _). map keyed_of v.items) w.imports-is
-      ∙ none_removed c.args.own c.in_ok-imports.imports.items (imports_from c.args.names.now c.args.keys.now c.args.outputs.now) w.in_default.is c.in_ok-imports.ensures.imports
+          ∙ none_removed c.args.own c.in_ok-imports.imports.items (imports_from c.args.names.now c.args.keys.now c.args.outputs.now) w.in_default.is c.in_ok-imports.ensures.imports
     ]

@@ -8,7 +8,7 @@ use Rattle.m2_base.specs.declared.outputs.Output.{Output}
 use Rattle.object_file.specs.Contents.{no_key}
 use Rattle.object_file.specs.Views.{procedure_of}
 use Rattle.object_file.specs.declared.parts.Parts.{Parts}
-use Rattle.unit_merge.specs.Objects.{HasItsNumber, IsPlaceIn, cells_by, exports_in, headings_by, imports_from, of_own, spelled, without_own}
+use Rattle.unit_merge.specs.Objects.{HasItsNumber, IsPlaceIn, cells_by, exports_in, headings_by, imports_from, of_own, without_own}
 use Rattle.unit_merge.proofs.Keys.{keys_many, keys_there, numbers_of_texts}
 use Rattle.unit_merge.proofs.Parts.{Gathered, definitions_long, gathered_is, main_there, own_in, vec_long}
 use Rattle.unit_merge.proofs.object.unit_parts.Goals as goal
