@@ -17,8 +17,8 @@ use Rattle.m2_base.specs.Statics.Effects.{heading_list}
 use Rattle.m2_base.specs.Statics.Items.{Item, const_item, heading_item, import_item, items_of, proc_item, type_item, vars_item}
 use Rattle.m2_base.specs.Statics.Makes.{with_rows}
 use Rattle.m2_base.specs.Statics.ProcedureRows.{heading_note, parameter_cells, proc_number, result_cells, section_cells}
-use Rattle.m2_base.specs.Statics.Shapes.{item_shapes, nameless, open_shapes, section_shapes}
-use Rattle.m2_base.specs.Rows.{param_kind}
+use Rattle.m2_base.specs.Statics.Shapes.{item_shapes, named, nameless, open_shapes, section_shapes}
+use Rattle.m2_base.specs.Rows.{param_kind, proc_kind, proc_type_kind}
 use Rattle.m2_base.specs.Trees.{Heading, Section, Stream}
 use Rattle.m2_base.specs.Units.{AllDiffer, IsNamed}
 use Rattle.m2_base.specs.declared.outputs.HeadingNote.{HeadingNote}
@@ -159,7 +159,7 @@ item_bounded (type_item i t) c kind cell = record { few = omega arith; fit = tt 
 item_bounded (vars_item idents t) c kind cell = record { few = omega arith; fit = tt }
 item_bounded (proc_item h stream) c kind cell =
     let bound = sections_bound h.sections in
-    let all = length-append (flat_map section_shapes h.sections) _ in
+    let all = length-append (flat_map section_shapes h.sections) (nameless proc_type_kind h.name.at ∷ named proc_kind h.name ∷ []) in
     note_bounded kind h (proc_number c kind stream) (length (item_shapes (proc_item h stream))) (omega (arith, bound, all)) (omega (arith, all))
 
 each_append : {A : Type 0} (P : A → Type 0) (xs ys : List A) → Each P xs → Each P ys → Each P (xs ++ ys)

@@ -63,7 +63,7 @@ module _ (texts : UnitTexts) (unit : IsUnit texts) (front : TextOf → Front) (w
             subst IsValid (sym (object_is r.u r.read quiet)) (valid r.u r.read quiet numbers (heights_same texts unit front whole r.u r.read outputs (are.coded r.u r.read quiet) heights))
 
     pub gives : (outcome : Outcome) → IsMerged front texts outputs outcome → IsOutcome front texts outcome
-    gives outcome (of_faults faults outcome h e) = outcomes.of_faults faults outcome h e
+    gives _ (of_faults faults outcome h e) = outcomes.of_faults faults outcome h e
     gives _ (of_outputs faults h e) =
         let r = texts_read texts unit are.limits faults h e in
         subst (IsOutcome front texts) (sym (same r.u r.read (unit_diags r.u) refl)) (outcomes.of_trees r.u r.read)
@@ -140,11 +140,11 @@ module _ (texts : UnitTexts) (unit : IsUnit texts) (front : TextOf → Front) (w
   never_faulty u read fs o h e = let none = none_come fs (none_from (main_number texts) 0 texts.list fs (text_spells u read) h) in let no : None ≡ Some o = sym none ∙ e in cc
 
   pub one_outcome : (these those : Outcome) → IsOutcome front texts these → IsOutcome front texts those → these ≡ those
-  one_outcome these those (outcomes.of_faults fs these h e) (outcomes.of_faults gs those j f) =
+  one_outcome _ _ (outcomes.of_faults fs these h e) (outcomes.of_faults gs those j f) =
       let same = one_list (main_number texts) 0 texts.list fs gs h j in
       let all : Some these ≡ Some those = sym e ∙ ap outcome_of_faults same ∙ f in
       cc
-  one_outcome these _ (outcomes.of_faults fs these h e) (outcomes.of_trees u read) = absurd (never_faulty u read fs these h e)
-  one_outcome _ those (outcomes.of_trees u read) (outcomes.of_faults gs those j f) = absurd (never_faulty u read gs those j f)
+  one_outcome _ _ (outcomes.of_faults fs these h e) (outcomes.of_trees u read) = absurd (never_faulty u read fs these h e)
+  one_outcome _ _ (outcomes.of_trees u read) (outcomes.of_faults gs those j f) = absurd (never_faulty u read gs those j f)
   one_outcome _ _ (outcomes.of_trees u read) (outcomes.of_trees v other) =
       ap (λ (x : UnitTrees). or_object (unit_diags x) (object_of front texts x)) (one_reading texts u v read other)

@@ -4,7 +4,8 @@ use Rattle.std.proofs.Common.{ap, subst, sym, ◌∙◌, inl, inr, arith}
 use Rattle.std.proofs.lemmas.Bool.{cases_order}
 use Rattle.std.proofs.lemmas.List.{length-append, get_or-set_other}
 use Rattle.m2_base.specs.Lists.{IsIn, WhereKept}
-use Rattle.m2_base.specs.Rows.{at_place, row_meaning, row_of, Broken}
+use Rattle.m2_base.specs.Rows.{at_place, row_meaning, row_of}
+use Rattle.m2_base.specs.declared.rows.RowMeaning.TheVariants.{Broken}
 use Rattle.m2_base.specs.Standard.{standard_rows}
 use Rattle.m2_base.specs.Statics.BlockRows.{cells_after, context_of, declare_block, scene_of}
 use Rattle.m2_base.specs.Statics.Blocks.{BlockTree, UnitTrees, blocks_of, home_of}
@@ -30,7 +31,7 @@ use Rattle.row_laws.proofs.Whole.{Whole, there_scope}
 use Rattle.block_laws.proofs.BlocksAt.{before_at, before_of, unit_made, unit_place}
 use Rattle.block_laws.proofs.Links.{in_each}
 use Rattle.block_laws.proofs.UnitWorlds.{IsClear, form, made, there}
-use Rattle.object_laws.proofs.Growing.{first_fits}
+use Rattle.merge_laws.proofs.Growing.{first_fits}
 
 -- ** The finished scopes before a block
 

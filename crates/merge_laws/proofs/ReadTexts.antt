@@ -78,7 +78,7 @@ module _ (texts : UnitTexts) (unit : IsUnit texts) (limits : limit_of (main_toke
   definitions (k ∷ order) h =
       let first = definition_at k h.0 in
       let rest = definitions order h.1 in
-      (first.0 ∷ rest.0, first.1, rest.1)
+      (first.0 ∷ rest.0, (first.1, rest.1))
 
   main_spells : (trees : List Stream) × SpellsMain (main_number texts) trees (main_tokens texts)
   main_spells = by texts.list unit.main spells

@@ -8,7 +8,11 @@ use Rattle.std.proofs.lemmas.Option.{get_or_from_slice_get, slice_get_cases, sli
 use Rattle.std.proofs.lemmas.Slice.Zip.{AllZip-long}
 use Rattle.code_form.specs.Modules.{Import, Procedure, World}
 use Rattle.code_form.specs.Valid.{IsValidCode}
-use Rattle.m2_base.specs.Finished.{AreRead, no_text, source_of, tokens_of}
+use Rattle.m2_base.specs.Finished.{AreRead, main_number, main_tokens, no_text, source_of, tokens_of}
+use Rattle.m2_base.specs.Standard.{standard_rows}
+use Rattle.stream_split.specs.Agreement.{SpellsStreams}
+use Rattle.stream_split.specs.Streams.{main_streams}
+use Rattle.stream_split.proofs.Agree.{trees_agree}
 use Rattle.m2_base.specs.Lists.{Each, IsIn, WhereKept}
 use Rattle.m2_base.specs.Statics.BlockRows.{declare_block}
 use Rattle.m2_base.specs.Statics.Blocks.{BlockTree, UnitTrees, blocks_of, home_of}
@@ -33,7 +37,7 @@ use Rattle.row_laws.specs.UnitBlocks.{HasItsForm}
 use Rattle.row_laws.proofs.TextBlocks as texts_blocks
 use Rattle.stream_split.proofs.BlocksAgree.{blocks_agree}
 use Rattle.stream_split.proofs.ReadUnits.{trees_read}
-use Rattle.stmt_sem.specs.BlockCode.{ProcedureCode, block_code, first_cell, outer_of, params_of, results_of, run_of}
+use Rattle.stmt_sem.specs.BlockCode.{ProcedureCode, block_code, body_of, first_cell, outer_of, params_of, results_of, run_of}
 use Rattle.stmt_sem.specs.Tokens.{block_tokens}
 use Rattle.stmt_sem.proofs.LengthLaw.{block-in_range}
 use Rattle.block_laws.specs.Named.{procedure_of}
@@ -188,7 +192,7 @@ module _ (texts : UnitTexts) (unit : IsUnit texts) (front : TextOf → Front) (w
   statements : Each (λ b. AreReadStatements names b.tree.body) (blocks_of u)
   statements = statements_read texts u unit read
 
-  code : EachBlock (λ before b. home_of u ≤ b.block.scope → IsValidCode (unit_world u) (b.block.scope - home_of u) (procedure_of (block_code u.source before (unit_rows u) b))) u.source _ (blocks_of u)
+  code : EachBlock (λ before b. home_of u ≤ b.block.scope → IsValidCode (unit_world u) (b.block.scope - home_of u) (procedure_of (block_code u.source before (unit_rows u) b))) u.source (standard_rows ∷ []) (blocks_of u)
   code = code-valid names texts u is.sound read statements items (blocks_short texts u unit read) none
 
   -- ** The module's block
@@ -203,10 +207,10 @@ module _ (texts : UnitTexts) (unit : IsUnit texts) (front : TextOf → Front) (w
       let trees = ap length (blocks_agree texts u (trees_read texts u read)).same_trees in
       let blocks = length-map (blocks_of u) (λ (b : BlockTree). b.tree) in
       let all = length-append u.definitions u.main in
-      let some = main_some u.main (texts_blocks.trees_read texts u read).main in
+      let some = main_some u.main (trees_agree (main_number texts) (main_tokens texts) u.main read.main) in
       omega (arith, trees, blocks, all, some)
     where
-      main_some : (trees : List Stream) → AreOfMain trees → 0 < length trees
+      main_some : (trees : List Stream) → SpellsStreams trees (main_streams (main_number texts) (main_tokens texts)) → 0 < length trees
       main_some [] h = absurd h
       main_some (tree ∷ trees) h = omega arith
 
@@ -317,7 +321,7 @@ module _ (texts : UnitTexts) (unit : IsUnit texts) (front : TextOf → Front) (w
       by (Some q) = omega arith
 
   module _ (b : BlockTree) (i : IsIn b (blocks_of u)) (behind : home_of u ≤ b.block.scope) where
-    room : HasRoom (made names u is b).value (run_of b (made names u is b).value _)
+    room : HasRoom (made names u is b).value (run_of b (made names u is b).value (body_of (complete_context u.source (unit_rows u) b.block) b).value)
     room = has_room names u is statements b i behind
 
     place : (b.block.scope ≡ home_of u) ⊎ (home_of u < b.block.scope)
@@ -346,9 +350,9 @@ module _ (texts : UnitTexts) (unit : IsUnit texts) (front : TextOf → Front) (w
     headless : b.block.scope ≡ home_of u → b.tree.heading ≡ None
     headless e = (form names u is b i).module_heading e
 
-    above : {P : ℕ → Type 0} → P 0 → (o : (b.block.scope ≡ home_of u) ⊎ (home_of u < b.block.scope)) → (f : Option Heading → ℕ) → f None ≡ 0 → (0 < b.block.scope - home_of u) ⊎ (f b.tree.heading ≡ 0)
-    above z (inl e) f zero_is = inr (ap f (headless e) ∙ zero_is)
-    above z (inr l) f zero_is = inl (omega (arith, l))
+    above : (o : (b.block.scope ≡ home_of u) ⊎ (home_of u < b.block.scope)) → (f : Option Heading → ℕ) → f None ≡ 0 → (0 < b.block.scope - home_of u) ⊎ (f b.tree.heading ≡ 0)
+    above (inl e) f zero_is = inr (ap f (headless e) ∙ zero_is)
+    above (inr l) f zero_is = inl (omega (arith, l))
 
     params_fit : params_of b.tree.heading ≤ (code_of b).locals
     params_fit = by b.tree.heading refl place
@@ -373,8 +377,8 @@ module _ (texts : UnitTexts) (unit : IsUnit texts) (front : TextOf → Front) (w
     framed : Framed (b.block.scope - home_of u) (code_of b)
     framed = record {
       outer = outer_is;
-      params = above {P = λ n. Unit {0}} tt place params_of refl;
-      result = (results_few b.tree.heading, above {P = λ n. Unit {0}} tt place results_of refl);
+      params = above place params_of refl;
+      result = (results_few b.tree.heading, above place results_of refl);
       inside = params_fit;
       locals = room.cells;
       bytes = data_short;
@@ -415,7 +419,7 @@ module _ (texts : UnitTexts) (unit : IsUnit texts) (front : TextOf → Front) (w
   procedures_few =
       let f : List (List Row) → BlockTree → Procedure = λ before b. procedure_of (block_code u.source before (unit_rows u) b) in
       let dropped = length-drop (length u.definitions) (of_blocks f u) in
-      let all = over_long f u.source _ (blocks_of u) in
+      let all = over_long f u.source (standard_rows ∷ []) (blocks_of u) in
       let count = is.sound.count in
       omega (arith, dropped, all, count)
 
@@ -544,7 +548,7 @@ module _ (texts : UnitTexts) (unit : IsUnit texts) (front : TextOf → Front) (w
   definitions_many : length (definitions_in u) ≡ length u.definitions
   definitions_many =
       let t = length-take (length u.definitions) (of_blocks (import_over u.source) u) in
-      let all = over_long (import_over u.source) u.source _ (blocks_of u) in
+      let all = over_long (import_over u.source) u.source (standard_rows ∷ []) (blocks_of u) in
       let low = blocks_many in
       omega (arith, t, all, low)
 
