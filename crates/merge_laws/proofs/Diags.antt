@@ -3,7 +3,7 @@ use Rattle.std.specs.Prelude.{◌≡◌, refl, List, [], ◌∷◌, ◌++◌, fl
 use Rattle.std.proofs.Common.{ap, ◌∙◌, inl}
 use Rattle.listings.specs.Ordering.{in_order}
 use Rattle.listings.proofs.OneOrder.{ordered_to}
-use Rattle.m2_base.specs.Lists.{Each, IsIn}
+use Rattle.m2_base.specs.Lists.{IsIn}
 use Rattle.m2_base.specs.Standard.{standard_rows}
 use Rattle.m2_base.specs.Statics.BlockRows.{declare_block}
 use Rattle.m2_base.specs.Statics.Blocks.{BlockTree, UnitTrees, blocks_of}

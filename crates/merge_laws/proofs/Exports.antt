@@ -1,14 +1,13 @@
 -- Each heading of an implementation module's own definition is that of a procedure of the module, which takes and leaves the same.
-use Rattle.std.specs.Prelude.{◌≡◌, refl, ℕ, zero, suc, ◌+◌, ◌-◌, ◌<◌, ◌≤◌, ◌==◌, Bool, true, false, if◌then◌else◌, List, [], ◌∷◌, ◌++◌, length, map, slice_get, slice_index_or, unwrap_or, Option, Some, None}
+use Rattle.std.specs.Prelude.{◌≡◌, refl, ℕ, suc, ◌+◌, ◌-◌, ◌<◌, ◌≤◌, ◌==◌, if◌then◌else◌, List, [], ◌∷◌, slice_get, unwrap_or, Option, Some, None}
 use Rattle.std.proofs.Common.{ap, subst, sym, ◌∙◌, inl, inr, arith}
 use Rattle.code_form.specs.Modules.{Procedure}
-use Rattle.expr_sem.specs.Calls.{cells_of_all, result_cells}
 use Rattle.m2_base.specs.Lists.{Each, IsIn, WhereKept}
 use Rattle.m2_base.specs.Rows.{at_place, row_meaning}
 use Rattle.m2_base.specs.Statics.Blocks.{BlockTree, UnitTrees, blocks_of, home_of}
 use Rattle.m2_base.specs.Statics.BlockRows.{declare_block}
 use Rattle.m2_base.specs.Statics.Contexts.{Scene}
-use Rattle.m2_base.specs.Statics.Items.{Item, items_of, proc_item}
+use Rattle.m2_base.specs.Statics.Items.{items_of, proc_item}
 use Rattle.m2_base.specs.Statics.Lookup.{Entry, entry_in}
 use Rattle.m2_base.specs.Statics.ProcedureRows.{parameter_cells, result_cells as cells_of_result}
 use Rattle.m2_base.specs.Statics.ReadTrees.{IsReadItem}
@@ -22,7 +21,6 @@ use Rattle.m2_base.specs.declared.outputs.HeadingNote.{HeadingNote}
 use Rattle.m2_base.specs.declared.rows.Place.{Place}
 use Rattle.m2_base.specs.declared.rows.Row.{Row}
 use Rattle.m2_base.specs.declared.rows.RowMeaning.TheVariants.{Proc}
-use Rattle.m2_base.specs.declared.rows.RowMeaning.{RowMeaning}
 use Rattle.m2_base.specs.declared.trees.declarations.StreamKind.{StreamKind}
 use Rattle.m2_base.specs.declared.trees.declarations.StreamKind.TheVariants.{Definition, Main}
 use Rattle.row_laws.specs.Headings.{HasSoundHeadings}
@@ -40,8 +38,7 @@ use Rattle.block_laws.proofs.NamedHeadings.{headings-named}
 use Rattle.block_laws.proofs.OwnCalls.{IsCallable, callable, same_cells, same_result}
 use Rattle.block_laws.proofs.UnitWorlds.{IsClear, declared, form, furnishes, made, notes_of, told}
 use Rattle.block_laws.proofs.WorldCalls.{AreImplemented, IsImplemented}
-use Rattle.block_laws.proofs.WorldCells.{in_main}
-use Rattle.unit_merge.specs.Objects.{export_in, exports_in, number_of}
+use Rattle.unit_merge.specs.Objects.{export_in, number_of}
 use Rattle.merge_laws.proofs.Headings.{HasRow, NotesHeadings, NumberedFrom, block_numbered, block_tagged, first_tag, noted, row_tagged, tag_first, tags}
 use Rattle.merge_laws.proofs.OwnCells.{unit_before}
 

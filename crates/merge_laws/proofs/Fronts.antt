@@ -1,7 +1,6 @@
 -- The front of a text has the name of the text's module.
 use Rattle.std.proofs.Common.{◌≡◌, ◌∙◌, ℕ, Bool, true, false, List, [], ◌∷◌, ◌++◌, Some, refl, sym, ap, subst, append_assoc}
-use Rattle.std.specs.Prelude.{Option, option_map, unwrap_or}
-use Rattle.ll_grammar.specs.Derivations.{Tree, both, leaf, tokens, Derives, of_then, of_token, of_left, of_right, of_empty}
+use Rattle.ll_grammar.specs.Derivations.{Tree, both, leaf, tokens, Derives, of_then, of_token}
 use Rattle.ll_grammar.specs.Grammar.{Rule, sub, ◌⨾◌}
 use Rattle.ll_grammar.specs.LookAhead.{IsRoot}
 use Rattle.ll_grammar.specs.Sentences.{Begins}

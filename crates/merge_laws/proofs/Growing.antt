@@ -1,6 +1,6 @@
 -- The next free cell only grows from item to item: so a block has the cells of its parameters, and a module those of its definition.
-use Rattle.std.specs.Prelude.{◌≡◌, refl, ℕ, ◌+◌, ◌≤◌, Bool, true, false, if◌then◌else◌, List, [], ◌∷◌, ◌++◌, flat_map, map, min, Option, Some, None}
-use Rattle.std.proofs.Common.{ap, subst, sym, ◌∙◌, arith}
+use Rattle.std.specs.Prelude.{◌≡◌, ℕ, ◌+◌, ◌≤◌, List, [], ◌∷◌, ◌++◌, flat_map, map, Option, Some, None}
+use Rattle.std.proofs.Common.{ap, subst, arith}
 use Rattle.m2_base.specs.Lists.{Each}
 use Rattle.m2_base.specs.Statics.BlockRows.{at_item, cell_after, cells_after, context_of, declare_block, declare_items, first_cell, scene_of}
 use Rattle.m2_base.specs.Statics.Blocks.{BlockTree}
@@ -8,7 +8,7 @@ use Rattle.m2_base.specs.Statics.Cells.{capped}
 use Rattle.m2_base.specs.Statics.Contexts.{Context, Scene, Source}
 use Rattle.m2_base.specs.Statics.Declarations.{declare}
 use Rattle.m2_base.specs.Statics.HeadingRows.{Placing, own_section_rows, own_sections_rows, parameter_row, parameter_rows, placing}
-use Rattle.m2_base.specs.Statics.Items.{Item, const_item, decl_item, heading_item, heading_items, import_item, import_items, items_of, proc_item, type_item, vars_item}
+use Rattle.m2_base.specs.Statics.Items.{Item, const_item, decl_item, heading_item, heading_items, import_item, import_items, proc_item, type_item, vars_item}
 use Rattle.m2_base.specs.Statics.Makes.{Makes, makes_named, with_rows}
 use Rattle.m2_base.specs.Statics.NameRows.{var_rows}
 use Rattle.m2_base.specs.Statics.ProcedureRows.{parameter_cells}
@@ -18,7 +18,7 @@ use Rattle.m2_base.specs.Statics.TypeRows.{type_rows}
 use Rattle.m2_base.specs.Statics.Types.{size_of}
 use Rattle.m2_base.specs.Tables.{rows_at}
 use Rattle.m2_base.specs.Rows.{row_meaning}
-use Rattle.m2_base.specs.Trees.{Heading, Import, Section}
+use Rattle.m2_base.specs.Trees.{Heading, Section}
 use Rattle.m2_base.specs.declared.rows.Mode.TheVariants.{Plain}
 use Rattle.m2_base.specs.declared.rows.Place.{Place}
 use Rattle.m2_base.specs.declared.rows.Row.{Row}

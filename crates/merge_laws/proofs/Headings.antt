@@ -14,26 +14,25 @@ use Rattle.m2_base.specs.Statics.Effects.{heading_list}
 use Rattle.m2_base.specs.Statics.Items.{Item, const_item, heading_item, import_item, items_of, proc_item, type_item, vars_item}
 use Rattle.m2_base.specs.Statics.Lookup.{has_name}
 use Rattle.m2_base.specs.Statics.Makes.{makes_named, makes_row, next_place, one_row, own_rows, with_rows}
-use Rattle.m2_base.specs.Statics.ProcedureRows.{heading_note, is_proc, is_proc_meaning, parameter_cells, parameter_count, proc_number, proc_scope, result_cells, section_rows, sections_length}
+use Rattle.m2_base.specs.Statics.ProcedureRows.{heading_note, is_proc, is_proc_meaning, parameter_count, proc_number, proc_scope, section_rows, sections_length}
 use Rattle.m2_base.specs.Statics.ProcedureTypes.{result_type}
 use Rattle.m2_base.specs.Statics.ShapedRows.{AreShaped, none_of, more_of}
-use Rattle.m2_base.specs.Statics.Shapes.{Shape, item_shapes, named, nameless, section_shapes, type_item_shapes, type_shapes}
+use Rattle.m2_base.specs.Statics.Shapes.{Shape, named, section_shapes, type_item_shapes, type_shapes}
 use Rattle.m2_base.specs.Tables.{first_named}
-use Rattle.m2_base.specs.Trees.{Heading, Section}
+use Rattle.m2_base.specs.Trees.{Heading}
 use Rattle.m2_base.specs.declared.notes.Diag.{Diag}
 use Rattle.m2_base.specs.declared.outputs.HeadingNote.{HeadingNote}
 use Rattle.m2_base.specs.declared.rows.Place.{Place}
 use Rattle.m2_base.specs.declared.rows.Row.{Row}
 use Rattle.m2_base.specs.declared.rows.RowMeaning.TheVariants.{Proc, ProcType}
 use Rattle.m2_base.specs.declared.rows.RowMeaning.{RowMeaning}
-use Rattle.m2_base.specs.declared.trees.Ident.{Ident}
 use Rattle.m2_base.specs.declared.trees.declarations.StreamKind.{StreamKind}
 use Rattle.m2_base.specs.declared.trees.declarations.StreamKind.TheVariants.{Definition, Main, Procedure}
 use Rattle.m2_base.proofs.ItemLaws.{item_of, sections_of}
 use Rattle.m2_base.proofs.NoRepeats.{scene_empty, scene_open}
 use Rattle.m2_base.proofs.SceneLaws.{IsOpen, open-with, own-with}
 use Rattle.m2_base.proofs.SoundTypes.{either}
-use Rattle.row_laws.proofs.PlainShapes.{ArePlain, IsPlainKind, mapped, own_plain, plains, sections_plain, type_item_plain, type_plain}
+use Rattle.row_laws.proofs.PlainShapes.{ArePlain, mapped, own_plain, plains, sections_plain, type_item_plain, type_plain}
 
 -- ** The tags of procedures
 

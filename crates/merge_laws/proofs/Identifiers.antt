@@ -5,7 +5,7 @@ use Rattle.std.specs.Prelude.{nat_le, is_some, codes}
 use Rattle.m2_base.specs.Comments.{behind_comment, opens_comment}
 use Rattle.m2_base.specs.Kinds.{kind_in, reserved_words, symbols}
 use Rattle.m2_base.specs.Letters.{goes_on, is_blank, is_digit, is_hexadecimal_digit, is_letter, is_octal_digit, is_quote, stays_in}
-use Rattle.m2_base.specs.Meanings.{Meaning, bad, blank, character, character_of, comment_meaning, fixed, fixed_or, name, number, number_of, numeral_meaning, string, string_meaning, value_in}
+use Rattle.m2_base.specs.Meanings.{Meaning, bad, blank, character, comment_meaning, fixed, fixed_or, name, number, number_of, numeral_meaning, string, string_meaning, value_in}
 use Rattle.m2_base.specs.Runs.{is_run_and}
 use Rattle.m2_base.specs.Units.{IsIdentifier}
 use Rattle.m2_base.specs.declared.kind.TokenKind.{TokenKind}

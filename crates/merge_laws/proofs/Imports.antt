@@ -1,12 +1,11 @@
 -- The imports of a unit's object have the fields that are asked: their names are identifiers, and no two have one.
-use Rattle.std.specs.Prelude.{◌≡◌, refl, ℕ, zero, suc, ◌+◌, ◌*◌, ◌^◌, ◌<◌, ◌≤◌, ◌||◌, not, Bool, true, false, if◌then◌else◌, List, [], ◌∷◌, ◌++◌, flat_map, length, map, take, Option, Some, None}
+use Rattle.std.specs.Prelude.{◌≡◌, refl, ℕ, ◌+◌, ◌*◌, ◌^◌, ◌<◌, ◌≤◌, ◌||◌, not, Bool, true, false, if◌then◌else◌, List, [], ◌∷◌, ◌++◌, flat_map, length, map, take, Option, Some, None}
 use Rattle.std.specs.List.{AllZip, list_any}
 use Rattle.std.specs.Str.{bytes_eq}
 use Rattle.std.proofs.Common.{ap, subst, sym, ◌∙◌, inl, inr, arith}
 use Rattle.std.proofs.lemmas.List.{length-append, length-map}
 use Rattle.std.proofs.lemmas.Slice.Eq.{bytes_eq-Decides}
 use Rattle.code_form.specs.Heights.{Callee}
-use Rattle.code_form.specs.Modules.{Import}
 use Rattle.m2_base.specs.Lists.{Each, IsIn}
 use Rattle.m2_base.specs.Names.{number_in}
 use Rattle.m2_base.specs.Statics.BlockRows.{at_item, context_of, declare_block, declare_items, first_cell, scene_of}
@@ -27,15 +26,15 @@ use Rattle.m2_base.specs.declared.trees.Ident.{Ident}
 use Rattle.m2_base.specs.declared.trees.Qual.{Qual}
 use Rattle.m2_base.specs.declared.trees.declarations.StreamKind.{StreamKind}
 use Rattle.m2_base.specs.declared.trees.declarations.StreamKind.TheVariants.{Definition, Main, Procedure}
-use Rattle.block_laws.specs.Worlds.{callee_of, import_over, name_bytes, over_blocks, without_own}
+use Rattle.block_laws.specs.Worlds.{callee_of, import_over, name_bytes, over_blocks}
 use Rattle.definition_keys.specs.Keys.{Keys}
 use Rattle.object_file.specs.Contents.{KeyedImport}
-use Rattle.object_file.specs.FieldsOf.{AllBehind, HasHeading, HasImport, IsNumber}
-use Rattle.object_file.specs.ObjectFormat.{is_identifier, is_new_name, key_length}
+use Rattle.object_file.specs.FieldsOf.{AllBehind, HasHeading}
+use Rattle.object_file.specs.ObjectFormat.{is_identifier, is_new_name}
 use Rattle.unit_merge.specs.Objects.{HasItsNumber, spelled}
 use Rattle.merge_laws.specs.UnitObject.{keyed}
 use Rattle.merge_laws.proofs.Identifiers.{identifier_is}
-use Rattle.merge_laws.proofs.Lists.{behind_both, both_true}
+use Rattle.merge_laws.proofs.Lists.{both_true}
 
 -- ** The names of imports
 
@@ -103,9 +102,10 @@ module _ (names : List (List ℕ)) where
   names_are_new before bks (i ∷ xs) (k ∷ ks) zb z nb n d apart differ =
       let identifier : is_identifier i.definition.name ≡ true = ap is_identifier z.0 ∙ identifier_is (spelled names k.0) d.0.spelled in
       let none : list_any (λ (x : KeyedImport). bytes_eq i.definition.name x.definition.name) before ≡ false =
-      subst (λ (name : List ℕ). list_any (λ (x : KeyedImport). bytes_eq name x.definition.name) before ≡ false) (sym z.0) (not_among k.0 before bks n.0 zb nb apart.0) in
-      (both_true (is_identifier i.definition.name) (not (list_any (λ (x : KeyedImport). bytes_eq i.definition.name x.definition.name) before)) identifier (ap not none),
-      names_are_new (before ++ i ∷ []) (bks ++ k ∷ []) xs ks (zip_more before bks i k zb z.0) z.1 (each_more bks k nb n.0) n.1 d.1 (further ks apart.1 differ.0) differ.1)
+      subst (λ (name : List ℕ). list_any (λ (x : KeyedImport). bytes_eq name x.definition.name) before ≡ false) (sym z.0) (not_among k.0 before bks n.0 zb nb apart.0) in (
+        both_true (is_identifier i.definition.name) (not (list_any (λ (x : KeyedImport). bytes_eq i.definition.name x.definition.name) before)) identifier (ap not none),
+        names_are_new (before ++ i ∷ []) (bks ++ k ∷ []) xs ks (zip_more before bks i k zb z.0) z.1 (each_more bks k nb n.0) n.1 d.1 (further ks apart.1 differ.0) differ.1,
+      )
     where
       further : (qs : Keys) → Each (λ q. IsIn q.0 (map (λ x. x.0) bks) → ⊥) qs → (IsIn k.0 (map (λ q. q.0) qs) → ⊥) → Each (λ q. IsIn q.0 (map (λ x. x.0) (bks ++ k ∷ [])) → ⊥) qs
       further [] h g = tt

@@ -1,17 +1,17 @@
 -- What merging gives of the outputs of a unit's streams is what the unit comes to, and that is one.
-use Rattle.std.specs.Prelude.{◌≡◌, refl, ℕ, zero, suc, ◌+◌, ◌<◌, Bool, true, false, List, [], ◌∷◌, length, slice_get, Option, Some, None, Ok, Err, Result}
+use Rattle.std.specs.Prelude.{◌≡◌, refl, ℕ, zero, suc, ◌+◌, ◌<◌, Bool, true, false, List, [], ◌∷◌, length, slice_get, Option, Some, None}
 use Rattle.std.specs.List.{AllZip}
 use Rattle.std.proofs.Common.{ap, subst, sym, ◌∙◌, inl, inr, arith}
 use Rattle.ll_grammar.specs.Grammar.{sub}
 use Rattle.ll_grammar.proofs.OneAnswer.{one_first_fault}
 use Rattle.ll_grammar.proofs.OneFault.{no_fault}
 use Rattle.m2_base.specs.FaultsOf.{fault_in}
-use Rattle.m2_base.specs.Finished.{AreRead, main_number, main_tokens, tokens_in, tokens_of}
+use Rattle.m2_base.specs.Finished.{AreRead, main_number, tokens_in, tokens_of}
 use Rattle.m2_base.specs.Grammar.{definition, grammar, levels, main}
 use Rattle.m2_base.specs.Lists.{Each, IsIn}
 use Rattle.m2_base.specs.Statics.Blocks.{UnitTrees}
 use Rattle.m2_base.specs.Trees.{Stream}
-use Rattle.m2_base.specs.Units.{Front, HasOneMain, IsDefinition, IsUnit, TextOf, UnitTexts}
+use Rattle.m2_base.specs.Units.{Front, HasOneMain, IsUnit, TextOf, UnitTexts}
 use Rattle.m2_base.specs.WholeTexts.{SpellsDefinition, SpellsMain}
 use Rattle.m2_base.specs.declared.notes.Diag.{Diag}
 use Rattle.m2_base.specs.declared.outputs.Output.{Output}
@@ -32,7 +32,7 @@ use Rattle.merge_laws.specs.Outputs.{AreOutputs, HasNoDiags}
 use Rattle.merge_laws.specs.Texts.{HaveLowHeights, IsWhole}
 use Rattle.merge_laws.specs.UnitObject.{object_of}
 use Rattle.merge_laws.proofs.Diags.{none_noted, same_diags}
-use Rattle.merge_laws.proofs.ReadTexts.{Read, all_none, none_come, texts_read}
+use Rattle.merge_laws.proofs.ReadTexts.{none_come, texts_read}
 use Rattle.merge_laws.proofs.SameContents.{contents_same, heights_same}
 use Rattle.merge_laws.proofs.UnitFields.{object_valid}
 

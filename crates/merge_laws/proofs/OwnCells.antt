@@ -1,26 +1,24 @@
 -- The cells of an implementation module's own definition are the first of the module's.
-use Rattle.std.specs.Prelude.{◌≡◌, refl, ℕ, zero, suc, ◌+◌, ◌-◌, ◌^◌, ◌<◌, ◌≤◌, ◌⊎◌, List, [], ◌∷◌, ◌++◌, length, slice_get, slice_index_or, Option, Some, None}
+use Rattle.std.specs.Prelude.{◌≡◌, ℕ, zero, suc, ◌+◌, ◌-◌, ◌<◌, ◌≤◌, ◌⊎◌, List, [], ◌∷◌, ◌++◌, length, slice_get, slice_index_or, Option, Some, None}
 use Rattle.std.proofs.Common.{ap, subst, sym, ◌∙◌, inl, inr, arith}
 use Rattle.std.proofs.lemmas.Bool.{cases_order}
 use Rattle.std.proofs.lemmas.List.{length-append, get_or-set_other}
 use Rattle.m2_base.specs.Lists.{IsIn, WhereKept}
-use Rattle.m2_base.specs.Rows.{at_place, row_meaning, row_of}
+use Rattle.m2_base.specs.Rows.{row_meaning, row_of}
 use Rattle.m2_base.specs.declared.rows.RowMeaning.TheVariants.{Broken}
 use Rattle.m2_base.specs.Standard.{standard_rows}
 use Rattle.m2_base.specs.Statics.BlockRows.{cells_after, context_of, declare_block, scene_of}
 use Rattle.m2_base.specs.Statics.Blocks.{BlockTree, UnitTrees, blocks_of, home_of}
 use Rattle.m2_base.specs.Statics.Contexts.{Scene, Source}
-use Rattle.m2_base.specs.Statics.FormedRows.{IsReady, IsRight, IsSoundBlock}
+use Rattle.m2_base.specs.Statics.FormedRows.{IsReady, IsSoundBlock}
 use Rattle.m2_base.specs.Statics.Makes.{scene_with}
 use Rattle.m2_base.specs.Statics.UnitRows.{rows_from, unit_rows}
 use Rattle.m2_base.specs.Tables.{rows_at}
-use Rattle.m2_base.specs.declared.rows.Place.{Place}
 use Rattle.m2_base.specs.declared.rows.Row.{Row}
 use Rattle.m2_base.proofs.NoRepeats.{scene_empty}
 use Rattle.m2_base.proofs.SceneLaws.{own_of, own-with}
-use Rattle.m2_base.proofs.Sound.{IsThere, Sound, sound-with}
+use Rattle.m2_base.proofs.Sound.{Sound, sound-with}
 use Rattle.m2_base.proofs.SoundBlocks.{rows_before}
-use Rattle.row_laws.specs.RowRanges.{IsSoundUnit}
 use Rattle.row_laws.proofs.Agreeing.{Ready}
 use Rattle.row_laws.proofs.Fitting.{IsFit, IsInModule, blocks_fit}
 use Rattle.row_laws.proofs.MadeBy.{stays}
@@ -30,7 +28,7 @@ use Rattle.row_laws.proofs.Units.{unit_whole}
 use Rattle.row_laws.proofs.Whole.{Whole, there_scope}
 use Rattle.block_laws.proofs.BlocksAt.{before_at, before_of, unit_made, unit_place}
 use Rattle.block_laws.proofs.Links.{in_each}
-use Rattle.block_laws.proofs.UnitWorlds.{IsClear, form, made, there}
+use Rattle.block_laws.proofs.UnitWorlds.{IsClear, form, made}
 use Rattle.merge_laws.proofs.Growing.{first_fits}
 
 -- ** The finished scopes before a block

@@ -1,9 +1,9 @@
 -- Where no text of a unit has a fault, all texts are read.
-use Rattle.std.specs.Prelude.{◌≡◌, refl, ℕ, zero, suc, ◌+◌, ◌<◌, Bool, true, false, List, [], ◌∷◌, slice_get, slice_index_or, Option, Some, None}
+use Rattle.std.specs.Prelude.{◌≡◌, refl, ℕ, zero, suc, ◌+◌, ◌<◌, Bool, true, List, [], ◌∷◌, slice_get, slice_index_or, Option, Some, None}
 use Rattle.std.specs.List.{AllZip}
-use Rattle.std.proofs.Common.{ap, subst, sym, ◌∙◌, arith}
+use Rattle.std.proofs.Common.{ap, subst, sym, arith}
 use Rattle.m2_base.specs.Finished.{AreRead, main_number, main_tokens, no_text, own_scope, source_of, tokens_in, tokens_of}
-use Rattle.m2_base.specs.Lists.{Each, IsIn}
+use Rattle.m2_base.specs.Lists.{Each}
 use Rattle.m2_base.specs.Statics.BlockLimits.{limit_of}
 use Rattle.m2_base.specs.Statics.Blocks.{UnitTrees}
 use Rattle.m2_base.specs.Trees.{Stream}

@@ -1,11 +1,10 @@
 -- What the outputs of a unit make is what its object says.
-use Rattle.std.specs.Prelude.{◌≡◌, refl, ℕ, zero, suc, ◌+◌, ◌-◌, ◌^◌, ◌<◌, List, [], ◌∷◌, ◌++◌, drop, length, map, slice_get, slice_index_or, take, Option, Some, None}
+use Rattle.std.specs.Prelude.{◌≡◌, refl, ℕ, ◌^◌, ◌<◌, List, [], ◌∷◌, ◌++◌, drop, length, map, slice_get, slice_index_or, take, Option, Some, None}
 use Rattle.std.specs.List.{AllZip}
-use Rattle.std.proofs.Common.{ap, subst, sym, ◌∙◌, arith}
+use Rattle.std.proofs.Common.{ap, subst, sym, ◌∙◌}
 use Rattle.std.proofs.lemmas.List.{drop-map}
 use Rattle.std.proofs.lemmas.Slice.Zip.{AllZip-long}
-use Rattle.code_form.specs.Modules.{Import, Procedure}
-use Rattle.m2_base.specs.Finished.{AreRead, own_scope, source_of, tokens_of}
+use Rattle.m2_base.specs.Finished.{AreRead, own_scope, tokens_of}
 use Rattle.m2_base.specs.Lists.{Each}
 use Rattle.m2_base.specs.Standard.{standard_rows}
 use Rattle.m2_base.specs.Statics.BlockRows.{declare_block}
@@ -15,7 +14,6 @@ use Rattle.m2_base.specs.Statics.UnitRows.{unit_rows}
 use Rattle.m2_base.specs.Trees.{Stream}
 use Rattle.m2_base.specs.Units.{Front, IsUnit, TextOf, UnitTexts}
 use Rattle.m2_base.specs.WholeTexts.{SpellsDefinition}
-use Rattle.m2_base.specs.declared.outputs.HeadingNote.{HeadingNote}
 use Rattle.m2_base.specs.declared.outputs.Output.{Output}
 use Rattle.m2_base.specs.declared.rows.Row.{Row}
 use Rattle.stream_split.proofs.BlocksAgree.{blocks_agree}
@@ -26,14 +24,14 @@ use Rattle.block_laws.specs.Named as named
 use Rattle.block_laws.specs.Worlds as worlds
 use Rattle.block_laws.specs.Worlds.{import_over, name_bytes, of_blocks, over_blocks, unit_world}
 use Rattle.definition_keys.specs.Keys.{Keys}
-use Rattle.object_file.specs.Contents.{KeyedImport, no_key}
+use Rattle.object_file.specs.Contents.{no_key}
 use Rattle.object_file.specs.Views.{procedure_of}
 use Rattle.unit_merge.specs.Objects as objects
 use Rattle.unit_merge.specs.Objects.{cells_by, contents_from, exports_in, headings_by, imports_from, of_own, spelled}
-use Rattle.merge_laws.specs.Outputs.{AreCoded, cells_in, codes_in, headings_in}
+use Rattle.merge_laws.specs.Outputs.{AreCoded, codes_in, headings_in}
 use Rattle.merge_laws.specs.Texts.{HaveLowHeights, IsWhole}
 use Rattle.merge_laws.specs.UnitObject.{definitions_in, keyed, module_name, unit_contents}
-use Rattle.merge_laws.proofs.UnitNames.{IsKeyOf, keys, keys_name_trees, main_name}
+use Rattle.merge_laws.proofs.UnitNames.{keys, keys_name_trees, main_name}
 
 -- ** Imports
 

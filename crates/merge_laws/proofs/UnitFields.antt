@@ -1,5 +1,5 @@
 -- The object of a unit without diagnostics is valid.
-use Rattle.std.specs.Prelude.{◌≡◌, refl, ℕ, zero, suc, ◌+◌, ◌-◌, ◌^◌, ◌<◌, ◌≤◌, ◌⊎◌, ◌==◌, ◌&&◌, ◌||◌, not, nat_le, nat_lt, Bool, true, false, if◌then◌else◌, List, [], ◌∷◌, ◌++◌, drop, flat_map, length, map, slice_get, slice_index, slice_index_or, take, Option, Some, None}
+use Rattle.std.specs.Prelude.{◌≡◌, refl, ℕ, zero, suc, ◌+◌, ◌-◌, ◌^◌, ◌<◌, ◌≤◌, ◌⊎◌, ◌==◌, ◌&&◌, ◌||◌, not, nat_le, nat_lt, Bool, true, false, if◌then◌else◌, List, [], ◌∷◌, ◌++◌, drop, length, map, slice_get, slice_index, slice_index_or, take, Option, Some, None}
 use Rattle.std.specs.List.{AllZip, list_all}
 use Rattle.std.proofs.Common.{ap, subst, sym, ◌∙◌, inl, inr, arith}
 use Rattle.std.proofs.lemmas.Bool.{cases_order, eq-eqb, eqb-true, le-leb, lt-ltb}
@@ -8,7 +8,7 @@ use Rattle.std.proofs.lemmas.Option.{get_or_from_slice_get, slice_get_cases, sli
 use Rattle.std.proofs.lemmas.Slice.Zip.{AllZip-long}
 use Rattle.code_form.specs.Modules.{Import, Procedure, World}
 use Rattle.code_form.specs.Valid.{IsValidCode}
-use Rattle.m2_base.specs.Finished.{AreRead, main_number, main_tokens, no_text, source_of, tokens_of}
+use Rattle.m2_base.specs.Finished.{AreRead, main_number, main_tokens, no_text, tokens_of}
 use Rattle.m2_base.specs.Standard.{standard_rows}
 use Rattle.stream_split.specs.Agreement.{SpellsStreams}
 use Rattle.stream_split.specs.Streams.{main_streams}
@@ -19,10 +19,9 @@ use Rattle.m2_base.specs.Statics.Blocks.{BlockTree, UnitTrees, blocks_of, home_o
 use Rattle.m2_base.specs.Statics.Contexts.{Source}
 use Rattle.m2_base.specs.Statics.FormedRows.{IsImportedBefore, IsSoundBlock}
 use Rattle.m2_base.specs.Statics.Items.{items_of}
-use Rattle.m2_base.specs.Statics.ProcedureRows.{parameter_cells, result_cells}
+use Rattle.m2_base.specs.Statics.ProcedureRows.{result_cells}
 use Rattle.m2_base.specs.Statics.ReadStatements.{AreReadStatements}
 use Rattle.m2_base.specs.Statics.ReadTrees.{IsReadItem}
-use Rattle.m2_base.specs.Statics.Shapes.{item_shapes}
 use Rattle.m2_base.specs.Statics.UnitNotes.{complete_context}
 use Rattle.m2_base.specs.Statics.UnitRows.{unit_rows}
 use Rattle.m2_base.specs.Trees.{Heading, Stream}
@@ -32,8 +31,6 @@ use Rattle.m2_base.specs.declared.outputs.HeadingNote.{HeadingNote}
 use Rattle.m2_base.specs.declared.rows.Row.{Row}
 use Rattle.m2_base.specs.declared.trees.Qual.{Qual}
 use Rattle.row_laws.specs.RowRanges.{EachBlock}
-use Rattle.row_laws.specs.TextTrees.{AreOfMain, AreOfTexts}
-use Rattle.row_laws.specs.UnitBlocks.{HasItsForm}
 use Rattle.row_laws.proofs.TextBlocks as texts_blocks
 use Rattle.stream_split.proofs.BlocksAgree.{blocks_agree}
 use Rattle.stream_split.proofs.ReadUnits.{trees_read}
@@ -43,7 +40,7 @@ use Rattle.stmt_sem.proofs.LengthLaw.{block-in_range}
 use Rattle.block_laws.specs.Named.{procedure_of}
 use Rattle.block_laws.specs.Worlds.{callee_of, import_over, name_bytes, of_blocks, unit_world, without_own}
 use Rattle.block_laws.proofs.BlocksAt.{at_drop, before_of, in_at, scope_at, unit_each, unit_over, unit_place}
-use Rattle.block_laws.proofs.Chains.{IsInner, IsModuleBlock, Stands, blocks_stand}
+use Rattle.block_laws.proofs.Chains.{Stands, blocks_stand}
 use Rattle.block_laws.proofs.InRange.{block-leads}
 use Rattle.block_laws.proofs.Links.{begins, in_each, unequal}
 use Rattle.block_laws.proofs.Named.{HasRoom}
@@ -57,7 +54,7 @@ use Rattle.block_laws.proofs.CodeIsValid.{code-valid}
 use Rattle.definition_keys.specs.Keys.{Keys}
 use Rattle.object_file.specs.Contents.{Contents, Export, KeyedImport, no_key, world_of}
 use Rattle.object_file.specs.FieldsOf.{AllBehind, HasExport, HasFields, HasHeading, HasImport, HasProcedure, IsNumber}
-use Rattle.object_file.specs.ObjectFormat.{as_exported, is_count, is_export, is_identifier, is_locals, is_new_name, is_outer, is_params, is_result, key_length}
+use Rattle.object_file.specs.ObjectFormat.{as_exported, is_count, is_identifier, is_new_name, key_length}
 use Rattle.object_file.specs.Validity.{HaveValidCode, IsValid}
 use Rattle.object_file.proofs.Building.{valid_by_parts}
 use Rattle.unit_merge.specs.Objects.{HasItsNumber, HaveTheirNumbers, export_in, exports_in, name_in, of_own, spelled}
@@ -67,8 +64,8 @@ use Rattle.merge_laws.specs.UnitObject.{definitions_in, keyed, module_name, unit
 use Rattle.merge_laws.proofs.Exports.{IsExported, exported}
 use Rattle.merge_laws.proofs.Growing.{parameters_fit}
 use Rattle.merge_laws.proofs.Identifiers.{identifier_is}
-use Rattle.merge_laws.proofs.Imports.{HasHeadings, block_headings, keyed_named, names_are_new}
-use Rattle.merge_laws.proofs.Lists.{OfBlock, all_true, behind_both, behind_from, both_true, each_from, each_in, each_take, each_with, each_without, map_without, over_long, unit_from, zip_without}
+use Rattle.merge_laws.proofs.Imports.{block_headings, keyed_named, names_are_new}
+use Rattle.merge_laws.proofs.Lists.{all_true, behind_both, behind_from, both_true, each_from, each_take, each_with, each_without, map_without, over_long, unit_from, zip_without}
 use Rattle.merge_laws.proofs.OwnCells.{own_cells_fit}
 use Rattle.merge_laws.proofs.UnitNames.{keys, keys_are_long, keys_are_named, keys_differ, keys_name_trees, keys_of_order, main_is_named, main_name}
 

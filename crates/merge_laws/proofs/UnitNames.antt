@@ -1,11 +1,10 @@
 -- The modules of a unit have the names of their texts, and no two of the definition modules have one.
-use Rattle.std.specs.Prelude.{◌≡◌, refl, ℕ, zero, suc, ◌+◌, ◌<◌, Bool, true, false, List, [], ◌∷◌, ◌++◌, length, map, option_map, slice_get, slice_index_or, Option, Some, None}
+use Rattle.std.specs.Prelude.{◌≡◌, refl, ℕ, zero, suc, ◌<◌, Bool, true, false, List, [], ◌∷◌, ◌++◌, length, map, option_map, slice_get, slice_index_or, Option, Some}
 use Rattle.std.specs.List.{AllZip}
 use Rattle.std.proofs.Common.{ap, subst, sym, ◌∙◌, inl, inr, arith}
 use Rattle.std.proofs.lemmas.List.{append-nil}
-use Rattle.sha2.specs.Sha256.{sha256}
 use Rattle.sha2.proofs.Facts256.{length-sha256}
-use Rattle.m2_base.specs.Finished.{AreRead, definitions_of, no_text, source_of, tokens_in, tokens_of, main_number, main_tokens}
+use Rattle.m2_base.specs.Finished.{no_text, source_of, tokens_in, tokens_of, main_number, main_tokens}
 use Rattle.m2_base.specs.Fronts as grammar
 use Rattle.m2_base.specs.Fronts.{IsFront}
 use Rattle.m2_base.specs.Lists.{Each, IsIn}

@@ -1,5 +1,5 @@
 -- What is asked of a unit's texts. It holds of every unit that is gathered whole.
-use Rattle.std.specs.Prelude.{ℕ, ◌^◌, ◌<◌}
+use Rattle.std.specs.Prelude.{◌^◌, ◌<◌}
 use Rattle.m2_base.specs.Fronts as fronts
 use Rattle.m2_base.specs.Fronts.{IsFront}
 use Rattle.m2_base.specs.Lists.{Each}

@@ -1,5 +1,5 @@
 -- What the object of a unit says, by the definitions of its blocks.
-use Rattle.std.specs.Prelude.{ℕ, List, [], ◌∷◌, length, map, slice_index_or, take, Option, None}
+use Rattle.std.specs.Prelude.{List, [], ◌∷◌, length, map, slice_index_or, take, Option, None}
 use Rattle.code_form.specs.Modules.{Import}
 use Rattle.m2_base.specs.Statics.Blocks.{UnitTrees}
 use Rattle.m2_base.specs.Trees.{Stream}

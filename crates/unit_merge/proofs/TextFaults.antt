@@ -244,7 +244,7 @@ module _ (u : UnitTexts) where
         let streams = fault_agrees m 0 ts (fault_in 0 f.0 f.1) (main_numbered u unit) first in
         let its = told_first (fault_in 0 f.0 f.1) streams in
         let low = h.least g (fault_in 0 f.0 f.1) refl its.0 its.1 in
-        subst (λ x. IsFirstInMain 0 x ts) {x = fault_in 0 f.0 f.1} (sym (by (fault_in 0 f.0 f.1) low (each_at (λ s. (other : StreamFault) → IsFaultOf 0 other s → (other ≡ fault_in 0 f.0 f.1) ⊎ (fault_at (fault_in 0 f.0 f.1) < fault_at other)) mine.0 mains streams.others mine.1 g mine.2))) first)
+        subst (λ x. IsFirstInMain 0 x ts) {x = fault_in 0 f.0 f.1} (sym {b = fault_in 0 f.0 f.1} (by (fault_in 0 f.0 f.1) low (each_at (λ s. (other : StreamFault) → IsFaultOf 0 other s → (other ≡ fault_in 0 f.0 f.1) ⊎ (fault_at (fault_in 0 f.0 f.1) < fault_at other)) mine.0 mains streams.others mine.1 g mine.2))) first)
         (is_decided grammar (main sub) is_ll1 main_is_root levels ts)
       where
         by : (f : StreamFault) → fault_at g ≤ fault_at f → (g ≡ f) ⊎ (fault_at f < fault_at g) → g ≡ f
