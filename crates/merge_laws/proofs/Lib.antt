@@ -1,0 +1,14 @@
+mod Fronts
+mod Identifiers
+mod Headings
+mod Growing
+mod OwnCells
+mod UnitNames
+mod ReadTexts
+mod Diags
+mod SameContents
+mod Exports
+mod Lists
+mod Imports
+mod UnitFields
+mod Merged

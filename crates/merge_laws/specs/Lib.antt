@@ -1,0 +1,4 @@
+pub mod Outputs
+pub mod UnitObject
+pub mod Texts
+pub mod Outcome

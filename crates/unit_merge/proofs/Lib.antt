@@ -1,0 +1,7 @@
+mod Earliest
+mod Keys
+mod Merges
+pub mod NoKey
+mod Numbers
+mod Parts
+mod TextFaults
