@@ -15,7 +15,7 @@ use m2_base::{Memory, Texts};
 use m2_io::Shelf;
 use scope_core::PlainScopes;
 use std::alloc::Global;
-use stream_split::{StreamTokens, cut, sizes};
+use stream_split::{StreamTokens, cut, sizes, streams_have_their_places};
 use unit_laws::{
     blocks_are_short, imports_come_before, trees_are_read, unit_code_is_valid, units_are_sound,
 };
@@ -58,6 +58,8 @@ pub fn scopes_of<'u>(alloc: Global, unit: &'u Unit) -> Result<PlainScopes<'u>, M
     requires few { length unit.now.streams.items < 2 ^ 31 }
     ensures { IfOk result (λ scopes. scopes ≡ started unit.now.texts (sizes_of (streams_of unit.now.texts))) }
 {
+    streams_have_their_places();
+    let _main = unit.texts.main();
     let sizes = sizes(alloc, &unit.streams)?;
     PlainScopes::new(alloc, &unit.texts, &sizes)
 }
