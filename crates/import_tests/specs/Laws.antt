@@ -12,7 +12,7 @@ use Rattle.m2_base.specs.Statics.Items.{items_of}
 use Rattle.m2_base.specs.Statics.ReadStatements.{AreReadStatements}
 use Rattle.m2_base.specs.Statics.ReadTrees.{IsReadItem}
 use Rattle.m2_base.specs.Statics.UnitRows.{unit_rows}
-use Rattle.m2_base.specs.Units.{IsUnit, UnitTexts}
+use Rattle.m2_base.specs.Units.{UnitTexts}
 use Rattle.row_laws.specs.RowRanges.{EachBlock, IsSoundUnit}
 use Rattle.stmt_sem.specs.BlockCode.{block_code, block_diags}
 use Rattle.stmt_sem.specs.Lengths.{most_tokens}

@@ -1,7 +1,7 @@
 //! The calls of `def_import`. What comes of a shelf is told by the cases of `m2_cases`.
 use crate::behind::{scopes_of, whole_unit};
 use def_import::{Gathered, gather_text};
-use m2_base::Text;
+use m2_base::{Text, Texts};
 use m2_io::MemShelf;
 use std::alloc::{AllocError, Global};
 use std::collections::BTreeMap;
@@ -17,6 +17,14 @@ fn shelf_of(alloc: Global, files: &[(&str, &str)]) -> Result<MemShelf, AllocErro
     Ok(MemShelf::new(map, Vec::new(alloc), 0))
 }
 
+/// The texts of a whole unit.
+fn whole(gathered: Gathered) -> Option<Texts> {
+    match gathered {
+        Gathered::Whole(texts) => Some(texts),
+        Gathered::Wrong(_texts, _wrongs) => None,
+    }
+}
+
 /// How many tokens each text has.
 fn counts(alloc: Global, texts: &[Text]) -> Result<Vec<usize>, AllocError> {
     texts.iter().map(|text| text.tokens.len()).collect(alloc)
@@ -27,13 +35,10 @@ fn takes_the_main_text_from_its_caller(rt: HostRuntime) -> Result<(), Fail> {
     let alloc = rt.alloc();
     let mut shelf = shelf_of(alloc, &[("M.mod", "?"), ("A.def", "DEFINITION MODULE A;")])?;
     let main = b"MODULE M; IMPORT A; END M.";
-    match gather_text(alloc, &mut shelf, "M", main.as_slice())? {
-        Gathered::Whole(texts) => {
-            let counts = counts(alloc, &texts.list)?;
-            assert_eq!(rt; counts.as_slice(), [10, 5].as_slice());
-        }
-        Gathered::Wrong(_, wrongs) => assert_eq!(rt; wrongs.len(), 0),
-    }
+    let gathered = gather_text(alloc, &mut shelf, "M", main.as_slice())?;
+    let texts = whole(gathered).ok_or("no whole unit")?;
+    let counts = counts(alloc, &texts.list)?;
+    assert_eq!(rt; counts.as_slice(), [10, 5].as_slice());
     Ok(())
 }
 
