@@ -1,5 +1,8 @@
-//! Tests of the closure of imports.
+//! Tests of the closure of imports, and of what comes behind it.
 #![tactic(auto)]
 
+mod behind;
 #[cfg(test)]
 mod of_def_import;
+
+pub use behind::{Unit, scopes_of, whole_unit};

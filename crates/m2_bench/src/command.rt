@@ -6,16 +6,19 @@ use crate::object_shape::ObjectShape;
 use crate::shape::Shape;
 
 pub const USAGE: &str =
-    "usage: m2_bench [lex KIND BYTES | cut PROCEDURES | parse SHAPE TOKENS | compile MODULE SIZE | read OBJECT BYTES | run LOOP TIMES], \
+    "usage: m2_bench [lex KIND BYTES | gather MODULES | cut PROCEDURES | parse SHAPE TOKENS | compile MODULE SIZE | read OBJECT BYTES | run LOOP TIMES], \
     where KIND is ordinary, names, digits, blanks or symbols, \
     SHAPE is statements, semicolons, operators, names, brackets or loops, \
     MODULE is assignments, with SIZE in bytes, or declarations, statements or nested, with SIZE at most 80000, 100000 or 16000 of them, \
     OBJECT is flat, deep, long or short, \
     LOOP is add, index or call, \
-    BYTES and TOKENS are at most 1048576, and of an object 67108864, PROCEDURES at most 16384, and TIMES at most 100000000";
+    BYTES and TOKENS are at most 1048576, and of an object 67108864, MODULES at most 256, PROCEDURES at most 16384, and TIMES at most 100000000";
 
 /// The most bytes of a text, and the most tokens of a stream.
 pub const MOST: u32 = 1_048_576;
+
+/// The most definition modules of a unit.
+pub const MOST_MODULES: u32 = 256;
 
 /// The most procedures of a text.
 pub const MOST_PROCEDURES: u32 = 16_384;
@@ -31,6 +34,8 @@ pub const MOST_TIMES: u32 = 100_000_000;
 pub enum Command {
     Counts,
     Lex(Kind, u32),
+    /// How many definition modules there are.
+    Gather(u32),
     /// How many procedures the text has.
     Cut(u32),
     Parse(Shape, u32),
@@ -47,6 +52,9 @@ impl Command {
             [] => Some(Command::Counts),
             [part, kind, bytes] if part.as_str() == "lex" => {
                 Some(Command::Lex(kind.parse().ok()?, number_in(bytes, MOST)?))
+            }
+            [part, modules] if part.as_str() == "gather" => {
+                Some(Command::Gather(number_in(modules, MOST_MODULES)?))
             }
             [part, procedures] if part.as_str() == "cut" => {
                 Some(Command::Cut(number_in(procedures, MOST_PROCEDURES)?))

@@ -1,17 +1,19 @@
 //! How long does a call of one crate take, by the size of its input?
 //!
-//! `m2_bench lex KIND BYTES` times `lex` over a text of one kind, `m2_bench cut PROCEDURES` times `cut` over a text of so
-//! many procedures, `m2_bench parse SHAPE TOKENS` times `parse_stream` over a module of one shape, `m2_bench compile
-//! MODULE SIZE` times `m2c compile A` over a module of one shape, `m2_bench read OBJECT BYTES` times `read_object` over an
-//! object of one shape, and `m2_bench run LOOP TIMES` times a machine that makes a loop so many times, all in memory. The
-//! inputs are made from the words, and the times are those of the processor. With no words a small run of each part prints
-//! its counts alone, which are the same at every run. Each part stands in a module of its own; a part to come adds a variant
-//! to `Command`.
+//! `m2_bench lex KIND BYTES` times `lex` over a text of one kind, `m2_bench gather MODULES` times `gather` over so
+//! many definition modules that each import all before them, `m2_bench cut PROCEDURES` times `cut` over a text of
+//! so many procedures, `m2_bench parse SHAPE TOKENS` times `parse_stream` over a module of one shape, `m2_bench
+//! compile MODULE SIZE` times `m2c compile A` over a module of one shape, `m2_bench read OBJECT BYTES` times
+//! `read_object` over an object of one shape, and `m2_bench run LOOP TIMES` times a machine that makes a loop so
+//! many times, all in memory. The inputs are made from the words, and the times are those of the processor. With no
+//! words a small run of each part prints its counts alone, which are the same at every run. Each part stands in a
+//! module of its own; a part to come adds a variant to `Command`.
 #![tactic(auto)]
 
 mod command;
 mod compiling;
 mod cutting;
+mod gathering;
 mod head;
 mod kind;
 mod lexing;
@@ -42,6 +44,9 @@ const FEW_BYTES: u32 = 1000;
 
 /// How many bytes or declarations each module of the small run has.
 const FEW_SIZE: u32 = 1000;
+
+/// How many definition modules the small run has.
+const FEW_MODULES: u32 = 10;
 
 /// How many procedures the text of the small run has.
 const FEW_PROCEDURES: u32 = 10;
@@ -76,6 +81,7 @@ fn obey(rt: &HostRuntime, command: Command) -> Result<ExitCode> {
     match command {
         Command::Counts => print_counts(rt)?,
         Command::Lex(kind, bytes) => lexing::print_time(rt, kind, bytes)?,
+        Command::Gather(modules) => gathering::print_time(rt, modules)?,
         Command::Cut(procedures) => cutting::print_time(rt, procedures)?,
         Command::Parse(shape, tokens) => parsing::print_time(rt, shape, tokens)?,
         Command::Compile(shape, size) => compiling::print_time(rt, shape, size)?,
@@ -90,6 +96,7 @@ fn print_counts(rt: &HostRuntime) -> Result<()> {
     for kind in Kind::ALL {
         lexing::print_counts(rt, kind, FEW_BYTES)?;
     }
+    gathering::print_counts(rt, FEW_MODULES)?;
     cutting::print_counts(rt, FEW_PROCEDURES)?;
     for shape in Shape::ALL {
         parsing::print_counts(rt, shape, FEW_TOKENS)?;

@@ -2,6 +2,7 @@
 use crate::escapes::unescaped;
 use anyhow::{Context, Result};
 use std::alloc::{AllocError, Global};
+use std::collections::BTreeMap;
 
 /// A case: its name, and its other lines. Each line has a mark, and behind a blank what it says.
 #[derive(Clone, Copy, Debug)]
@@ -14,6 +15,33 @@ pub struct Case<'a> {
 fn behind<'a>(line: &'a str, mark: &str) -> Option<&'a str> {
     let (own, rest) = line.split_once(' ').unwrap_or((line, ""));
     if own == mark { Some(rest) } else { None }
+}
+
+/// Adds the same bytes so many times, as a line of a case says it, to the line before.
+fn push_times(alloc: Global, text: &mut Vec<u8>, line: &str) -> Result<()> {
+    let (times, same) = line.split_once(' ').context("nothing to add")?;
+    let bytes = unescaped(alloc, same)?;
+    text.pop();
+    for _ in 0..times.parse::<u32>()? {
+        text.extend_from_slice(&bytes)?;
+    }
+    text.push(b'\n')?;
+    Ok(())
+}
+
+/// The text of lines. Nothing ends its last line.
+fn text_of(alloc: Global, lines: &str) -> Result<Vec<u8>> {
+    let mut text = Vec::new(alloc);
+    for line in lines.lines() {
+        if let Some(rest) = behind(line, "|") {
+            text.extend_from_slice(&unescaped(alloc, rest)?)?;
+            text.push(b'\n')?;
+        } else if let Some(rest) = behind(line, "*") {
+            push_times(alloc, &mut text, rest)?;
+        }
+    }
+    text.pop();
+    Ok(text)
 }
 
 impl<'a> Case<'a> {
@@ -66,21 +94,30 @@ impl<'a> Case<'a> {
         self.text(alloc, &file)
     }
 
-    /// The text of a file, or the only text of a case without files. Nothing ends its last line.
-    pub fn text(&self, alloc: Global, file: &str) -> Result<Vec<u8>> {
-        let mut text = Vec::new(alloc);
-        let mut inside = true;
-        for line in self.body.lines() {
-            if let Some(name) = behind(line, "file") {
-                inside = name == file;
-            } else if let Some(rest) = behind(line, "|")
-                && inside
+    /// The lines of a file, or all lines of a case without files.
+    fn lines_in(&self, file: &str) -> &'a str {
+        for part in self.body.split("\nfile ").skip(1) {
+            if let Some((name, lines)) = part.split_once('\n')
+                && name == file
             {
-                text.extend_from_slice(&unescaped(alloc, rest)?)?;
-                text.push(b'\n')?;
+                return lines;
             }
         }
-        text.pop();
-        Ok(text)
+        self.body
+    }
+
+    /// The text of a file, or the only text of a case without files.
+    pub fn text(&self, alloc: Global, file: &str) -> Result<Vec<u8>> {
+        text_of(alloc, self.lines_in(file))
+    }
+
+    /// The texts of all files, under their names. The first line of the case is none of a file.
+    pub fn files(&self, alloc: Global) -> Result<BTreeMap<String, Vec<u8>>> {
+        let mut files = BTreeMap::new(alloc);
+        for file in self.body.split("\nfile ").skip(1) {
+            let (name, lines) = file.split_once('\n').context("no lines of a file")?;
+            files.insert(String::from_str(alloc, name)?, text_of(alloc, lines)?)?;
+        }
+        Ok(files)
     }
 }

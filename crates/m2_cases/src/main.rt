@@ -15,6 +15,7 @@ mod objects;
 mod rows;
 mod runs;
 mod sets;
+mod shelves;
 mod streams;
 mod syntax;
 mod tally;

@@ -1,6 +1,6 @@
 //! The sets of cases.
 use crate::case::Case;
-use crate::{codes, diagnostics, lexemes, objects, rows, runs, streams, syntax};
+use crate::{codes, diagnostics, lexemes, objects, rows, runs, shelves, streams, syntax};
 use anyhow::Result;
 use std::alloc::Global;
 use std::fmt;
@@ -14,6 +14,8 @@ pub enum Set {
     Syntax,
     /// Texts with the streams that they are cut into.
     Streams,
+    /// Shelves with the texts that a module rests on.
+    Shelves,
     /// Units with their rows.
     Rows,
     /// Modules with the code of their object.
@@ -27,10 +29,11 @@ pub enum Set {
 }
 
 impl Set {
-    pub const ALL: [Set; 8] = [
+    pub const ALL: [Set; 9] = [
         Set::Lex,
         Set::Syntax,
         Set::Streams,
+        Set::Shelves,
         Set::Rows,
         Set::Blocks,
         Set::Objects,
@@ -43,6 +46,7 @@ impl Set {
             Set::Lex => "lex",
             Set::Syntax => "syntax",
             Set::Streams => "streams",
+            Set::Shelves => "shelves",
             Set::Rows => "rows",
             Set::Blocks => "blocks",
             Set::Objects => "objects",
@@ -74,6 +78,7 @@ impl Set {
             Set::Lex => Ok(Some(lexemes::answer(alloc, case)?)),
             Set::Syntax => Ok(Some(syntax::answer(alloc, case)?)),
             Set::Streams => Ok(Some(streams::answer(alloc, case)?)),
+            Set::Shelves => Ok(Some(shelves::answer(alloc, case)?)),
             Set::Rows => rows::answer(alloc, case),
             Set::Blocks => codes::answer(alloc, case),
             Set::Objects => Ok(Some(objects::answer(alloc, case)?)),
