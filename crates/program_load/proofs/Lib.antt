@@ -1,0 +1,7 @@
+mod Fronts
+mod ImportNames
+mod Looping
+mod NamedOnce
+mod OneLoading
+mod Orders
+mod Reaching

@@ -1,0 +1,4 @@
+pub mod Answers
+pub mod Closure
+pub mod Loads
+pub mod Shelves
