@@ -1,0 +1,3 @@
+pub mod Unread
+pub mod Filled
+pub mod Three
