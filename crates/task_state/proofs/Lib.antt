@@ -1,0 +1,10 @@
+pub mod AtWork
+pub mod ItemsSoFar
+pub mod Lists
+pub mod NextItems
+pub mod ProcedureRows
+pub mod Stages
+pub mod Stepping
+pub mod UnitBlocks
+pub mod UnitRows
+pub mod WholeOutputs

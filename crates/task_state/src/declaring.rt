@@ -1,0 +1,118 @@
+//! The declarations of a block, one item after another.
+ghost use Rattle.std.specs.Prelude.{◌≡◌, ◌≤◌, ◌+◌, Some, IfOk, OnErr, OnOk, length, slice_get, true};
+ghost use Rattle.m2_base.specs.Scopes.{CanEnter, Entered};
+ghost use Rattle.m2_base.specs.States.{Turns};
+ghost use Rattle.m2_base.specs.Statics.Items.{items_of};
+ghost use Rattle.m2_base.specs.Views.{stream_view};
+ghost use Rattle.decl_sem.specs.Items.{item_view};
+ghost use Rattle.task_state.specs.Collecting.{with_item};
+ghost use Rattle.task_state.specs.Steps.{IsComplete, IsDeclaring, Stops};
+
+use crate::collecting::Collected;
+use crate::items::items;
+use crate::stages::Block;
+use crate::stops::Stop;
+use decl_sem::{Declared, Item, declare};
+use m2_base::{Ask, MOST_CELLS, Memory, Scopes, Site};
+use std::alloc::Global;
+
+/// Whether this is a next free cell. Every one that `declare` answers is, which it doesn't say yet of a unit that has a
+/// syntax error.
+fn is_cell(cell: u32) -> bool
+    ensures { result ≡ true → cell ≤ 16777216 }
+{
+    cell <= MOST_CELLS + 1
+}
+
+/// Keeps what an item gives, and enters its rows: both, or neither.
+fn take<S: Scopes>(
+    scopes: &mut S,
+    declared: &Declared,
+    collected: &mut Collected,
+) -> Result<(), Memory>
+    requires { CanEnter (S.state scopes.old) declared.now.rows.items }
+    ensures entered { OnOk result (Entered (S.state scopes.old) (S.state scopes.new) declared.now.rows.items) }
+    ensures added { OnOk result (collected.new ≡ with_item collected.old declared.now) }
+    ensures cell { OnOk result (declared.now.effect.cell ≤ 16777216) }
+    ensures same { OnErr result (S.state scopes.new ≡ S.state scopes.old) }
+    ensures kept { OnErr result (collected.new ≡ collected.old) }
+{
+    if !is_cell(declared.effect.cell) {
+        return Err(Memory);
+    }
+    collected.add(declared)?;
+    scopes.enter(&declared.rows);
+    Ok(())
+}
+
+/// Declares the next item. Where that must wait, or memory is wanted, nothing of it is kept.
+#[tactic(auto, using(m2_base::proofs::Kept::turning))]
+fn declare_next<S: Scopes>(
+    alloc: Global,
+    scopes: &mut S,
+    block: &Block,
+    item: &Item,
+    collected: &mut Collected,
+) -> Result<(), Stop>
+    requires far { IsDeclaring (S.state scopes.old) block.now collected.old }
+    requires here { slice_get (items_of (stream_view block.now.tree.now)) collected.old.count ≡ Some (item_view item.now) }
+    ensures turns { Turns (S.state scopes.old) (S.state scopes.new) }
+    ensures far { IsDeclaring (S.state scopes.new) block.now collected.new }
+    ensures stops { Stops (S.state scopes.old) (S.state scopes.new) result }
+    ensures next { OnOk result (collected.new.count ≡ collected.old.count + 1) }
+{
+    let site = Site {
+        texts: block.texts,
+        around: block.around,
+        layout: block.layout,
+        item: Some(collected.count),
+    };
+    match declare(alloc, scopes, &site, block.tree, item, collected.before) {
+        Ok(Ask::Known(declared)) => match take(scopes, &declared, collected) {
+            Ok(()) => Ok(()),
+            Err(Memory) => Err(Stop::NoMemory),
+        },
+        Ok(Ask::DontKnowYet(head)) => Err(Stop::Parked(head)),
+        Err(Memory) => Err(Stop::NoMemory),
+    }
+}
+
+/// Declares all items from the next one on.
+#[tactic(auto, using(m2_base::proofs::Kept::turning))]
+fn declare_items<S: Scopes>(
+    alloc: Global,
+    scopes: &mut S,
+    block: &Block,
+    collected: &mut Collected,
+) -> Result<(), Stop>
+    requires far { IsDeclaring (S.state scopes.old) block.now collected.old }
+    ensures turns { Turns (S.state scopes.old) (S.state scopes.new) }
+    ensures far { IsDeclaring (S.state scopes.new) block.now collected.new }
+    ensures stops { Stops (S.state scopes.old) (S.state scopes.new) result }
+    ensures all { OnOk result (collected.new.count ≡ length (items_of (stream_view block.now.tree.now))) }
+{
+    let items = items(alloc, block.tree)?;
+    'items: while let Some(item) = items.get(collected.count as usize) {
+        declare_next(alloc, scopes, block, item, collected)?;
+    }
+    Ok(())
+}
+
+/// Declares all items from the next one on, and completes the scope.
+#[tactic(auto, using(m2_base::proofs::Kept::turning))]
+pub(crate) fn declare_block<S: Scopes>(
+    alloc: Global,
+    scopes: &mut S,
+    block: &Block,
+    collected: &mut Collected,
+) -> Result<(), Stop>
+    requires far { IsDeclaring (S.state scopes.old) block.now collected.old }
+    ensures turns { Turns (S.state scopes.old) (S.state scopes.new) }
+    ensures far { OnErr result (IsDeclaring (S.state scopes.new) block.now collected.new) }
+    ensures complete { OnOk result (IsComplete (S.state scopes.new) block.now collected.new) }
+    ensures stops { Stops (S.state scopes.old) (S.state scopes.new) result }
+{
+    declare_items(alloc, scopes, block, collected)?;
+    scopes.complete();
+    Ok(())
+}
