@@ -21,13 +21,9 @@ use Rattle.task_state.specs.declared.stages.Stating.{Stating}
 use Rattle.task_state.proofs.Lists.{shown_front}
 
 -- before the scope is complete no statement is made
-not_stated : {P : Stating → Type 0} (w : Begun) (x : Option Stating) → w.closed ≡ false → IfSome x (λ y. (w.closed ≡ true) × P y) → x ≡ None
-not_stated w None open_yet h = refl
-not_stated w (Some x) open_yet h = absurd (let bad : true ≡ false = sym h.0 ∙ open_yet in cc)
-
-stated_none : {P : Stating → Type 0} (x : Option Stating) → x ≡ None → IfSome x P
-stated_none None e = tt
-stated_none (Some x) e = absurd (cc)
+not_stated : (P : Stating → Type 0) (w : Begun) (x : Option Stating) → w.closed ≡ false → IfSome x (λ y. (w.closed ≡ true) × P y) → x ≡ None
+not_stated P w None open_yet h = refl
+not_stated P w (Some x) open_yet h = absurd (let bad : true ≡ false = sym h.0 ∙ open_yet in cc)
 
 -- the block of a tree in hand
 module _ (bl : Block) (w : Begun) (tree : bl.tree.now ≡ w.tree) (layout : bl.layout.now ≡ w.layout) where
@@ -79,7 +75,7 @@ module _ (bl : Block) (w : Begun) (tree : bl.tree.now ≡ w.tree) (layout : bl.l
 
     without : w.stating ≡ None → WhereKept st.looks (λ looks. Each (IsAmong looks) w.collected.answers) → WhereKept st.looks (λ looks. Each (IsAmong looks) (answers_in (Working w)))
     without none h =
-        subst (λ (as : List Answer). WhereKept st.looks (λ looks. Each (IsAmong looks) as)) (sym (ap (λ (o : Option Stating). w.collected.answers ++ stated_answers o) none ∙ append-nil w.collected.answers)) h
+        subst (λ (xs : List Answer). WhereKept st.looks (λ looks. Each (IsAmong looks) xs)) (sym (ap (λ (o : Option Stating). w.collected.answers ++ stated_answers o) none ∙ append-nil w.collected.answers)) h
 
     pub from_declaring : w.closed ≡ false → w.stating ≡ None → IsDeclaring st bl w.collected → IsAtWork st bl.around.now w
     from_declaring open_yet none far =
@@ -91,7 +87,7 @@ module _ (bl : Block) (w : Begun) (tree : bl.tree.now ≡ w.tree) (layout : bl.l
                 closed = far.open_yet ∙ sym open_yet;
                 declared = has_declared far.declared;
                 all = λ closed. absurd (let bad : true ≡ false = sym closed ∙ open_yet in cc);
-                stated = stated_none w.stating none;
+                stated = subst (λ (o : Option Stating). IfSome o (λ y. (w.closed ≡ true) × HasStated st.frame bl.around.now w.tree y)) (sym none) tt;
               };
           shown = without none far.shown;
         }
@@ -106,7 +102,7 @@ module _ (bl : Block) (w : Begun) (tree : bl.tree.now ≡ w.tree) (layout : bl.l
                 closed = far.closed ∙ sym closed;
                 declared = has_declared far.declared;
                 all = λ c. far.all ∙ ap (λ (t : HeldStream). length (items_of (stream_view t))) tree;
-                stated = stated_none w.stating none;
+                stated = subst (λ (o : Option Stating). IfSome o (λ y. (w.closed ≡ true) × HasStated st.frame bl.around.now w.tree y)) (sym none) tt;
               };
           shown = without none far.shown;
         }
@@ -128,4 +124,4 @@ module _ (bl : Block) (w : Begun) (tree : bl.tree.now ≡ w.tree) (layout : bl.l
         }
 
 pub unstated : (st : State) (bl : Block) (w : Begun) → IsAtWork st bl.around.now w → w.closed ≡ false → w.stating ≡ None
-unstated st bl w far open_yet = not_stated w w.stating open_yet far.begun.stated
+unstated st bl w far open_yet = not_stated (HasStated st.frame bl.around.now w.tree) w w.stating open_yet far.begun.stated

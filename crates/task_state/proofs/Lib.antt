@@ -8,3 +8,4 @@ pub mod Stepping
 pub mod UnitBlocks
 pub mod UnitRows
 pub mod WholeOutputs
+pub mod Turning

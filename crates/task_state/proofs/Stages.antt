@@ -33,7 +33,7 @@ use Rattle.stream_split.specs.Streams.{StreamOf}
 use Rattle.task_state.specs.Blocks.{IsBlockOf, block_with}
 use Rattle.task_state.specs.Collecting.{Collected, IsMade, none_from}
 use Rattle.task_state.specs.Outputs.{IsOutput, IsOutputBy, IsOutputOf}
-use Rattle.task_state.specs.Progress.{HasDeclared, HasEnded, IsAsFar, IsAtStage, IsBegun, IsUnread, IsWorking, stated_answers}
+use Rattle.task_state.specs.Progress.{HasDeclared, HasEnded, HasStated, IsAsFar, IsAtStage, IsBegun, IsUnread, IsWorking, stated_answers}
 use Rattle.task_state.specs.Steps.{IsAtWork, IsFresh, Leaves}
 use Rattle.task_state.specs.Units.{IsOfUnit}
 use Rattle.task_state.specs.declared.stages.Begun.{Begun}
@@ -117,16 +117,12 @@ module _ (st : State) (t : Task) (far : IsAsFar st t) (tokens : List Token) (unr
                     closed = unread.open_yet ∙ sym fresh.closed;
                     declared = none_declared st.frame t.around (stream_view w.tree) w.collected block unread.entered fresh.collected;
                     all = λ closed. absurd (let bad : true ≡ false = sym closed ∙ fresh.closed in cc);
-                    stated = no_stating w.stating fresh.stating;
+                    stated = subst (λ (o : Option Stating). IfSome o (λ x. (w.closed ≡ true) × HasStated st.frame t.around w.tree x)) (sym fresh.stating) tt;
                   };
             };
-        shown = subst (λ (as : List Answer). WhereKept st.looks (λ looks. Each (IsAmong looks) as)) (no_answers w.collected w.stating fresh.collected fresh.stating) (shown_none st.looks);
+        shown = subst (λ (xs : List Answer). WhereKept st.looks (λ looks. Each (IsAmong looks) xs)) (no_answers w.collected w.stating fresh.collected fresh.stating) (shown_none st.looks);
       }
     where
-      no_stating : {P : Stating → Type 0} (x : Option Stating) → x ≡ None → IfSome x P
-      no_stating None e = tt
-      no_stating (Some x) e = absurd (cc)
-
       no_answers : (m : Collected) (x : Option Stating) → m ≡ none_from 0 → x ≡ None → [] ≡ m.answers ++ stated_answers x
       no_answers m x e n = λ k. (sym e k).answers ++ stated_answers (sym n k)
 
@@ -165,7 +161,7 @@ module _ (st : State) (t : Task) (far : IsAsFar st t) (tokens : List Token) (unr
                     by_fault = subst (λ (x : Option StreamFault). IsOutputBy st.frame.setting.texts s (around_view t.around) o x) (sym is) here;
                   };
             });
-        shown = λ tables finished. subst (λ (as : List Answer). WhereKept b.looks (λ looks. Each (IsAmong looks) as)) (sym answers) (shown_none b.looks);
+        shown = λ tables finished. subst (λ (xs : List Answer). WhereKept b.looks (λ looks. Each (IsAmong looks) xs)) (sym answers) (shown_none b.looks);
       }
 
 -- ** A block that is worked on

@@ -166,7 +166,7 @@ stating_begun st bl m x far none closing begun =
                       (sym (so.cell ∙ ap (λ (v : BlockEffects). v.cell) e)) (sym (so.copies ∙ ap (λ (v : BlockEffects). v.prologue) e)));
                 };
           };
-      shown = subst (λ (as : List Answer). WhereKept st.looks (λ looks. Each (IsAmong looks) as)) (sym (ap (λ as. m.answers ++ as) no_answers ∙ append-nil m.answers)) far.shown;
+      shown = subst (λ (xs : List Answer). WhereKept st.looks (λ looks. Each (IsAmong looks) xs)) (sym (ap (λ xs. m.answers ++ xs) no_answers ∙ append-nil m.answers)) far.shown;
     }
 
 -- ** Statements
@@ -258,6 +258,6 @@ module _ {a b : State} (bl : Block) (m : Collected) (x : Stating) (far : IsStati
         declared = subst (λ (f : Frame). HasDeclared f bl.around.now tree m) (sym p.keeps.frame) far.declared;
         all = far.all;
         stated = subst (λ (f : Frame). HasStated f bl.around.now bl.tree.now y) (sym p.keeps.frame) stated;
-        shown = subst (λ (as : List Answer). WhereKept b.looks (λ l. Each (IsAmong l) as)) (append_assoc m.answers x.body.answers p.answers ∙ sym (ap (λ as. m.answers ++ as) p.noted))
+        shown = subst (λ (xs : List Answer). WhereKept b.looks (λ l. Each (IsAmong l) xs)) (append_assoc m.answers x.body.answers p.answers ∙ sym (ap (λ xs. m.answers ++ xs) p.noted))
             (shown_more a.looks b.looks p.looks (m.answers ++ x.body.answers) p.answers p.keeps.grows far.shown p.shown);
       }

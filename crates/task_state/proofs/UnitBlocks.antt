@@ -77,6 +77,10 @@ from_before source scope (proc_item h n) k = tt
 
 -- ** The block
 
+unit_is : (trees : UnitTrees) → unit_rows trees ≡ rows_from trees.source (standard_rows ∷ []) (blocks_of trees)
+unfolding unit_rows
+unit_is trees = refl
+
 -- the block at a stream's place, with the tree of the stream
 pub record IsBlockAt (u : UnitTexts) (trees : UnitTrees) (n : ℕ) (s : StreamOf) (b : BlockTree) : Type 0 where
   pub there : slice_get (blocks_of trees) n ≡ Some b
@@ -136,10 +140,6 @@ module _ (g : Setting) (s : StreamOf) (a : Around) (tree : Stream) (of : IsOfUni
             (subst (λ (source : Source). rows_at tables (1 + of.index) ≡ (declare_block source (take (1 + of.index) tables) b).rows) is.read.source
             (subst (λ (ts : List (List Row)). rows_at ts (1 + of.index) ≡ (declare_block is.trees.source (take (1 + of.index) ts) b).rows) all made)));
       }
-    where
-      unit_is : (trees : UnitTrees) → unit_rows trees ≡ rows_from trees.source (standard_rows ∷ []) (blocks_of trees)
-      unfolding unit_rows
-      unit_is trees = refl
 
   pub block_is : IsBlockOf g a tree
   block_is =

@@ -108,4 +108,4 @@ module _ (st : State) (bl : Block) (m : Collected) (x : Stating) (far : IsStatin
 
   pub left_shown : (o : Output) → IsJoined m x whole o → WhereKept st.looks (λ looks. Each (IsAmong looks) o.answers.items)
   left_shown o parts =
-      subst (λ (as : List Answer). WhereKept st.looks (λ looks. Each (IsAmong looks) as)) (sym (parts.answers ∙ ap (λ as. m.answers ++ as) answers_are)) far.shown
+      subst (λ (xs : List Answer). WhereKept st.looks (λ looks. Each (IsAmong looks) xs)) (sym (parts.answers ∙ ap (λ xs. m.answers ++ xs) answers_are)) far.shown

@@ -51,8 +51,8 @@ first_made source before b count =
     declare_items (context_of source before b) b.tree.kind 0 (first_cell_of before b) (take count (items_of b.tree))
 
 -- All is what the definition says of the first items: the rows, and what was collected.
-pub record IsMade (source : Source) (before : List (List Row)) (b : BlockTree) (rows : List Row) (m : Collected) : Type 0 where
-  pub rows : rows ≡ (first_made source before b m.count).rows
+pub record IsMade (source : Source) (before : List (List Row)) (b : BlockTree) (entered : List Row) (m : Collected) : Type 0 where
+  pub rows : entered ≡ (first_made source before b m.count).rows
   pub cell : m.cell ≡ (first_made source before b m.count).value.cell
   pub copies : m.copies ≡ (first_made source before b m.count).value.prologue
   pub headings : m.headings ≡ (first_made source before b m.count).value.headings

@@ -1,7 +1,8 @@
 -- Which streams the analysers take so far. Each condition says what is missing below, and goes when it is there.
 use Rattle.std.specs.Prelude.{◌≡◌, ◌≢◌, ◌⊎◌, Option, Some, None}
-use Rattle.m2_base.specs.Trees.{Heading, Main, Stream}
+use Rattle.m2_base.specs.Trees.{Heading, Stream}
 use Rattle.m2_base.specs.declared.sites.Around.{Around}
+use Rattle.m2_base.specs.declared.trees.declarations.StreamKind.TheVariants.{Main}
 use Rattle.decl_sem.specs.Closing.{IsCheckedAlone}
 
 -- a heading gives no result

@@ -46,7 +46,7 @@ fn take<S: Scopes>(
 }
 
 /// Declares the next item. Where that must wait, or memory is wanted, nothing of it is kept.
-#[tactic(auto, using(m2_base::proofs::Kept::turning))]
+#[tactic(auto, using(crate::proofs::Turning::going))]
 fn declare_next<S: Scopes>(
     alloc: Global,
     scopes: &mut S,
@@ -78,7 +78,7 @@ fn declare_next<S: Scopes>(
 }
 
 /// Declares all items from the next one on.
-#[tactic(auto, using(m2_base::proofs::Kept::turning))]
+#[tactic(auto, using(crate::proofs::Turning::going))]
 fn declare_items<S: Scopes>(
     alloc: Global,
     scopes: &mut S,
@@ -91,15 +91,15 @@ fn declare_items<S: Scopes>(
     ensures stops { Stops (S.state scopes.old) (S.state scopes.new) result }
     ensures all { OnOk result (collected.new.count ≡ length (items_of (stream_view block.now.tree.now))) }
 {
-    let items = items(alloc, block.tree)?;
+    let items = taken!(items(alloc, block.tree));
     'items: while let Some(item) = items.get(collected.count as usize) {
-        declare_next(alloc, scopes, block, item, collected)?;
+        gone!(declare_next(alloc, scopes, block, item, collected));
     }
     Ok(())
 }
 
 /// Declares all items from the next one on, and completes the scope.
-#[tactic(auto, using(m2_base::proofs::Kept::turning))]
+#[tactic(auto, using(crate::proofs::Turning::going))]
 pub(crate) fn declare_block<S: Scopes>(
     alloc: Global,
     scopes: &mut S,
@@ -112,7 +112,7 @@ pub(crate) fn declare_block<S: Scopes>(
     ensures complete { OnOk result (IsComplete (S.state scopes.new) block.now collected.new) }
     ensures stops { Stops (S.state scopes.old) (S.state scopes.new) result }
 {
-    declare_items(alloc, scopes, block, collected)?;
+    gone!(declare_items(alloc, scopes, block, collected));
     scopes.complete();
     Ok(())
 }

@@ -12,7 +12,7 @@ use std::alloc::Global;
 use stmt_sem::Body;
 
 /// Checks the complete block, and begins its body.
-#[tactic(auto, using(m2_base::proofs::Kept::turning))]
+#[tactic(auto, using(crate::proofs::Turning::going))]
 pub(crate) fn begin<S: Scopes>(
     alloc: Global,
     scopes: &mut S,
@@ -34,7 +34,7 @@ pub(crate) fn begin<S: Scopes>(
     match close_check(alloc, scopes, &site, block.tree) {
         Ok(Ask::Known(notes)) => {
             let cells = collected.before.cell;
-            let body = Body::begin(alloc, block.tree, cells, &collected.copies)?;
+            let body = taken!(Body::begin(alloc, block.tree, cells, &collected.copies));
             Ok(Stating {
                 closing: notes.diags,
                 body,
@@ -46,7 +46,7 @@ pub(crate) fn begin<S: Scopes>(
 }
 
 /// Makes the next statement. Where that must wait, or memory is wanted, nothing of it is kept.
-#[tactic(auto, using(m2_base::proofs::Kept::turning))]
+#[tactic(auto, using(crate::proofs::Turning::going))]
 fn state_next<S: Scopes>(
     scopes: &mut S,
     block: &Block,
@@ -75,7 +75,7 @@ fn state_next<S: Scopes>(
 }
 
 /// Makes all statements from the next one on.
-#[tactic(auto, using(m2_base::proofs::Kept::turning))]
+#[tactic(auto, using(crate::proofs::Turning::going))]
 pub(crate) fn state_all<S: Scopes>(
     scopes: &mut S,
     block: &Block,
@@ -89,7 +89,7 @@ pub(crate) fn state_all<S: Scopes>(
     ensures all { OnOk result (stating.new.body.count ≡ length block.now.tree.now.body.items) }
 {
     'statements: while stating.body.count() < block.tree.body.len() {
-        state_next(scopes, block, collected, stating)?;
+        gone!(state_next(scopes, block, collected, stating));
     }
     Ok(())
 }

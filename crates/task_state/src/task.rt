@@ -91,7 +91,7 @@ impl Task {
     }
 
     /// Reads its stream. One with a fault enters nothing, and is done when its scope is complete.
-    #[tactic(auto, using(m2_base::proofs::Kept::turning))]
+    #[tactic(auto, using(crate::proofs::Turning::going))]
     fn read<S: Scopes>(&mut self, alloc: Global, scopes: &mut S) -> Result<(), Stop>
         requires far { IsAsFar (S.state scopes.old) self.old }
         ensures turns { Turns (S.state scopes.old) (S.state scopes.new) }
@@ -107,7 +107,7 @@ impl Task {
         }
         match parse_stream(alloc, tokens, self.text, self.kind) {
             Ok(tree) => {
-                let begun = begun(alloc, tree)?;
+                let begun = taken!(begun(alloc, tree));
                 self.stage = Stage::Working(begun);
                 Ok(())
             }
@@ -121,7 +121,7 @@ impl Task {
     }
 
     /// Works on its block, if that is read.
-    #[tactic(auto, using(m2_base::proofs::Kept::turning))]
+    #[tactic(auto, using(crate::proofs::Turning::going))]
     fn go_on<S: Scopes>(
         &mut self,
         alloc: Global,
@@ -137,14 +137,14 @@ impl Task {
         ensures done { OnOk result (spec_ended self.new.stage ≡ true) }
     {
         if let Stage::Working(begun) = &mut self.stage {
-            let output = work(alloc, texts, &self.around, scopes, begun)?;
+            let output = gone!(work(alloc, texts, &self.around, scopes, begun));
             self.stage = Stage::Ended(output);
         }
         Ok(())
     }
 
     /// Reads its stream, if that isn't done yet, and works on its block.
-    #[tactic(auto, using(m2_base::proofs::Kept::turning))]
+    #[tactic(auto, using(crate::proofs::Turning::going))]
     fn advance<S: Scopes>(
         &mut self,
         alloc: Global,
@@ -158,7 +158,7 @@ impl Task {
         ensures stops { Stops (S.state scopes.old) (S.state scopes.new) result }
         ensures done { OnOk result (spec_ended self.new.stage ≡ true) }
     {
-        self.read(alloc, scopes)?;
+        gone!(self.read(alloc, scopes));
         self.go_on(alloc, texts, scopes)
     }
 

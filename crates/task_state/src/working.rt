@@ -13,7 +13,7 @@ use m2_base::{Around, Memory, Output, Scopes, Texts};
 use std::alloc::Global;
 
 /// Declares what isn't declared yet, and completes the scope.
-#[tactic(auto, using(m2_base::proofs::Kept::turning))]
+#[tactic(auto, using(crate::proofs::Turning::going))]
 fn declare_rest<S: Scopes>(
     alloc: Global,
     texts: &Texts,
@@ -38,13 +38,13 @@ fn declare_rest<S: Scopes>(
         tree: &begun.tree,
         layout: &begun.layout,
     };
-    declare_block(alloc, scopes, &block, &mut begun.collected)?;
+    gone!(declare_block(alloc, scopes, &block, &mut begun.collected));
     begun.closed = true;
     Ok(())
 }
 
 /// Checks the block and begins its body, if that isn't done yet.
-#[tactic(auto, using(m2_base::proofs::Kept::turning))]
+#[tactic(auto, using(crate::proofs::Turning::going))]
 fn begin_rest<S: Scopes>(
     alloc: Global,
     texts: &Texts,
@@ -71,13 +71,13 @@ fn begin_rest<S: Scopes>(
         tree: &begun.tree,
         layout: &begun.layout,
     };
-    let stating = begin(alloc, scopes, &block, &begun.collected)?;
+    let stating = gone!(begin(alloc, scopes, &block, &begun.collected));
     begun.stating = Some(stating);
     Ok(())
 }
 
 /// Makes the statements that aren't made yet.
-#[tactic(auto, using(m2_base::proofs::Kept::turning))]
+#[tactic(auto, using(crate::proofs::Turning::going))]
 fn state_rest<S: Scopes>(
     texts: &Texts,
     around: &Around,
@@ -102,7 +102,7 @@ fn state_rest<S: Scopes>(
             tree: &begun.tree,
             layout: &begun.layout,
         };
-        state_all(scopes, &block, &begun.collected, stating)?;
+        gone!(state_all(scopes, &block, &begun.collected, stating));
     }
     Ok(())
 }
@@ -134,7 +134,7 @@ fn end(
 }
 
 /// Works on the block until all is done, or the work has to stop.
-#[tactic(auto, using(m2_base::proofs::Kept::turning))]
+#[tactic(auto, using(crate::proofs::Turning::going))]
 pub(crate) fn work<S: Scopes>(
     alloc: Global,
     texts: &Texts,
@@ -151,9 +151,11 @@ pub(crate) fn work<S: Scopes>(
     ensures left { IfOk result (Leaves (S.state scopes.new) around.now begun.old.tree) }
     ensures closed { IfOk result (λ _. (S.state scopes.new).frame.closed ≡ true) }
 {
-    declare_rest(alloc, texts, around, scopes, begun)?;
-    begin_rest(alloc, texts, around, scopes, begun)?;
-    state_rest(texts, around, scopes, begun)?;
-    let output = end(alloc, texts, around, begun)?;
-    Ok(output)
+    gone!(declare_rest(alloc, texts, around, scopes, begun));
+    gone!(begin_rest(alloc, texts, around, scopes, begun));
+    gone!(state_rest(texts, around, scopes, begun));
+    match end(alloc, texts, around, begun) {
+        Ok(output) => Ok(output),
+        Err(Memory) => Err(Stop::NoMemory),
+    }
 }
