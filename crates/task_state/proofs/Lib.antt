@@ -3,7 +3,7 @@ pub mod ItemsSoFar
 pub mod Lists
 pub mod NextItems
 pub mod ProcedureRows
-pub mod Stages
+pub mod StageSteps
 pub mod Stepping
 pub mod UnitBlocks
 pub mod UnitRows
