@@ -93,7 +93,7 @@ impl Collected {
         ensures headings { OnOk result (self.new.headings ≡ self.old.headings ++ heading_list more.now.effect.heading) }
         ensures diags { OnOk result (self.new.diags ≡ self.old.diags ++ more.now.notes.diags.items) }
         ensures answers { OnOk result (self.new.answers ≡ self.old.answers ++ more.now.notes.answers.items) }
-        ensures first_copies { IsPrefixOf self.old.copies self.new.copies }
+        ensures same_copies { OnErr result (self.new.copies ≡ self.old.copies) }
         ensures first_headings { IsPrefixOf self.old.headings self.new.headings }
         ensures first_diags { IsPrefixOf self.old.diags self.new.diags }
         ensures first_answers { IsPrefixOf self.old.answers self.new.answers }
@@ -101,12 +101,12 @@ impl Collected {
         ensures cell { self.new.cell ≡ self.old.cell }
         ensures procedures { self.new.procedures ≡ self.old.procedures }
     {
-        self.copies.extend_from_slice(&more.effect.prologue)?;
         if let Some(note) = more.effect.heading {
             self.headings.push(note)?;
         }
         self.notes.diags.extend_from_slice(&more.notes.diags)?;
         self.notes.answers.extend_from_slice(&more.notes.answers)?;
+        self.copies.extend_from_slice(&more.effect.prologue)?;
         Ok(())
     }
 
@@ -124,11 +124,10 @@ impl Collected {
         ensures cell { self.new.cell ≡ self.old.cell }
         ensures procedures { self.new.procedures ≡ self.old.procedures }
     {
-        let (copies, headings) = (self.copies.len(), self.headings.len());
+        let headings = self.headings.len();
         let (diags, answers) = (self.notes.diags.len(), self.notes.answers.len());
         let appended = self.append_some(more);
         if appended.is_err() {
-            self.copies.truncate(copies);
             self.headings.truncate(headings);
             self.notes.diags.truncate(diags);
             self.notes.answers.truncate(answers);

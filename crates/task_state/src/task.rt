@@ -84,7 +84,8 @@ impl Task {
         requires { spec_ended self.stage ≡ true }
         ensures { self.stage ≡ Ended result }
     {
-        match self.stage {
+        let Task { stage, .. } = self;
+        match stage {
             Stage::Ended(output) => output,
             Stage::Unread(_) | Stage::Working(_) => unreachable!(),
         }
