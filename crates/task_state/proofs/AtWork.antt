@@ -1,18 +1,17 @@
 -- A block with its tree is as far as its steps leave it.
-use Rattle.std.specs.Prelude.{◌≡◌, ℕ, true, false, List, [], ◌++◌, Option, Some, None, is_some, length}
+use Rattle.std.specs.Prelude.{◌≡◌, true, false, List, ◌++◌, Option, Some, None, length}
 use Rattle.std.specs.Option.{IfSome}
 use Rattle.std.proofs.Common.{refl, sym, ap, subst, ◌∙◌}
 use Rattle.std.proofs.lemmas.List.{append-nil}
 use Rattle.m2_base.specs.Lists.{Each, WhereKept}
-use Rattle.m2_base.specs.States.{IsAmong, Setting, State, texts_of}
+use Rattle.m2_base.specs.States.{IsAmong, State, texts_of}
 use Rattle.m2_base.specs.Statics.Items.{items_of}
 use Rattle.m2_base.specs.Statics.Layouts.{layout_of}
 use Rattle.m2_base.specs.Views.{stream_view}
 use Rattle.m2_base.specs.declared.notes.Answer.{Answer}
 use Rattle.m2_base.specs.declared.trees.declarations.Stream.{Stream as HeldStream}
 use Rattle.task_state.specs.Blocks.{IsBlockOf}
-use Rattle.task_state.specs.Collecting.{Collected}
-use Rattle.task_state.specs.Progress.{HasDeclared, HasStated, IsBegun, answers_in, stated_answers}
+use Rattle.task_state.specs.Progress.{HasDeclared, HasStated, answers_in, stated_answers}
 use Rattle.task_state.specs.Steps.{IsAtWork, IsComplete, IsDeclaring, IsInHand, IsStating}
 use Rattle.task_state.specs.declared.stages.Begun.{Begun}
 use Rattle.task_state.specs.declared.stages.Stage.TheVariants.{Working}

@@ -1,6 +1,6 @@
 -- Lists, and the answers that looks show.
-use Rattle.std.specs.Prelude.{◌≡◌, ℕ, zero, suc, ◌+◌, ◌<◌, ◌≤◌, List, [], ◌∷◌, ◌++◌, Option, Some, None, drop, length, slice_get, take, unwrap_or}
-use Rattle.std.proofs.Common.{refl, sym, ap, subst, ◌∙◌, arith}
+use Rattle.std.specs.Prelude.{◌≡◌, ℕ, zero, suc, ◌<◌, ◌≤◌, List, [], ◌∷◌, ◌++◌, Option, Some, None, drop, length, slice_get, take, unwrap_or}
+use Rattle.std.proofs.Common.{refl, sym, ap, subst, arith}
 use Rattle.m2_base.specs.Lists.{Each, Grows, WhereKept}
 use Rattle.m2_base.specs.States.{IsAmong, Look}
 use Rattle.m2_base.specs.declared.notes.Answer.{Answer}
@@ -49,9 +49,9 @@ shown_more None (Some b) more xs ys g old new = absurd g
 shown_more (Some a) None more xs ys g old new = absurd g
 shown_more (Some a) (Some b) more xs ys g old new =
     subst (λ l. Each (IsAmong l) (xs ++ ys)) (sym g)
-      (Each-append (IsAmong (a ++ more)) xs ys
-        (Each-map (IsAmong a) (IsAmong (a ++ more)) xs (λ r. IsAmong_left a more r) old)
-        (Each-map (IsAmong more) (IsAmong (a ++ more)) ys (λ r. IsAmong_right a more r) new))
+    (Each-append (IsAmong (a ++ more)) xs ys
+    (Each-map (IsAmong a) (IsAmong (a ++ more)) xs (λ r. IsAmong_left a more r) old)
+    (Each-map (IsAmong more) (IsAmong (a ++ more)) ys (λ r. IsAmong_right a more r) new))
 
 pub shown_still : (o o' : Option (List Look)) (more : List Look) (xs : List Answer) → Grows o more o' → WhereKept o (λ l. Each (IsAmong l) xs) → WhereKept o' (λ l. Each (IsAmong l) xs)
 shown_still None None more xs g old = tt

@@ -1,5 +1,5 @@
 -- An item is declared after those before: what it stands at, what it may enter, and what is declared then.
-use Rattle.std.specs.Prelude.{◌≡◌, ◌≢◌, ℕ, zero, suc, ◌+◌, ◌<◌, ◌≤◌, ◌^◌, ◌==◌, Bool, true, false, if◌then◌else◌, List, [], ◌∷◌, ◌++◌, Option, Some, None, drop, filter, flat_map, length, slice_get, slice_index, take}
+use Rattle.std.specs.Prelude.{◌≡◌, ◌≢◌, ℕ, zero, suc, ◌+◌, ◌<◌, ◌≤◌, ◌==◌, Bool, true, false, if◌then◌else◌, List, [], ◌∷◌, ◌++◌, Option, Some, None, drop, filter, flat_map, length, slice_get, take}
 use Rattle.std.proofs.Common.{refl, sym, ap, subst, ◌∙◌, arith}
 use Rattle.std.proofs.lemmas.List.{append-nil, length-append, length-take-le, take-append-drop, take-take, take_all}
 use Rattle.std.proofs.lemmas.List.Concat.{flat_map-append}
@@ -7,7 +7,7 @@ use Rattle.std.proofs.lemmas.List.Elements.{filter-append}
 use Rattle.m2_base.specs.Finished.{IsFinished, WhereFinished, source_of}
 use Rattle.m2_base.specs.Lists.{Each, HasNoRepeats, IsPrefixOf}
 use Rattle.m2_base.specs.Rows.{IsWellFormed, at_place, row_meaning}
-use Rattle.m2_base.specs.Scopes.{CanComplete, CanEnter, Completed, Entered}
+use Rattle.m2_base.specs.Scopes.{CanComplete, CanEnter}
 use Rattle.m2_base.specs.Standard.{is_standard}
 use Rattle.m2_base.specs.States.{Frame, Setting, State}
 use Rattle.m2_base.specs.Statics.BlockRows.{at_item, context_of as block_context, declare_block, declare_items}
@@ -33,7 +33,7 @@ use Rattle.m2_base.specs.declared.sites.Around.{Around}
 use Rattle.m2_base.specs.declared.sites.Named.{Named}
 use Rattle.m2_base.specs.declared.sites.Site.{Site}
 use Rattle.m2_base.proofs.Kept.{Each-append, Each-map}
-use Rattle.type_rules.specs.Scenes.{Agrees, AreInHand, Suits, WhereTold, block_of, hand}
+use Rattle.type_rules.specs.Scenes.{Agrees, Suits, WhereTold, block_of, hand}
 use Rattle.type_rules.specs.Sites.{SuitsSite, context_of}
 use Rattle.decl_sem.specs.DeclaredItems.{GivesAll}
 use Rattle.decl_sem.specs.ImportedModules.{IsFromBefore}
@@ -44,7 +44,7 @@ use Rattle.decl_sem.specs.declared.declaring.Declared.{Declared}
 use Rattle.decl_sem.proofs.FirstNames.{AreLaid-append}
 use Rattle.decl_sem.proofs.FirstOrdinals.{end_of}
 use Rattle.decl_sem.proofs.Pieces.{laid-length}
-use Rattle.task_state.specs.Blocks.{IsBlockIn, IsBlockOf, block_with, row_count}
+use Rattle.task_state.specs.Blocks.{IsBlockOf, block_with, row_count}
 use Rattle.task_state.specs.Collecting.{Collected, IsMade, first_cell_of, first_made, with_item}
 use Rattle.task_state.specs.Progress.{HasDeclared}
 use Rattle.task_state.proofs.ItemsSoFar.{GoesOn, first_rows, next_makes, one_more}
@@ -297,7 +297,7 @@ module _ (f : Frame) (s : Site) (a : Around) (tree : Stream) (m : Collected) (x 
           let long : length (take n tables) ≡ n = length-take-le n tables (omega (arith, scopes)) in
           let twice : take a.scope (take n tables) ≡ take n tables = take-take a.scope n tables (omega (arith, fills)) ∙ ap (λ (k : ℕ). take k tables) fills in
           let left : context_of f (hand tables []) s
-              ≡ record { source = source_of f.setting.texts; scene = record { block = block_of a; tables = take n tables ++ made ∷ [] }; layout = (layout_of tree).names; item = Some (0 + length (take m.count (items_of tree))) } =
+          ≡ record { source = source_of f.setting.texts; scene = record { block = block_of a; tables = take n tables ++ made ∷ [] }; layout = (layout_of tree).names; item = Some (0 + length (take m.count (items_of tree))) } =
           λ k. record {
             source = source_of (is.texts k);
             scene = record { block = block_of (is.around k); tables = take n tables ++ entered k ∷ [] };

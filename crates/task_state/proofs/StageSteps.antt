@@ -1,18 +1,16 @@
 -- A task goes from one stage to the next.
-use Rattle.std.specs.Prelude.{◌≡◌, ℕ, zero, suc, ◌≤◌, true, false, List, [], ◌∷◌, ◌++◌, Option, Some, None, Result, Ok, Err, filter, length, slice_get, take}
+use Rattle.std.specs.Prelude.{◌≡◌, ℕ, true, false, List, [], ◌++◌, Option, Some, None, Ok, Err, filter, length, take}
 use Rattle.std.specs.Option.{IfSome}
 use Rattle.std.proofs.Common.{refl, sym, ap, subst, ◌∙◌, arith}
-use Rattle.m2_base.specs.Finished.{IsFinished, WhereFinished, source_of}
 use Rattle.m2_base.specs.Lists.{Each, WhereKept}
 use Rattle.m2_base.specs.Rows.{row_meaning}
 use Rattle.m2_base.specs.Scopes.{CanComplete, Completed}
 use Rattle.m2_base.specs.States.{Frame, IsAmong, Look, Setting, State, Turns, texts_of}
-use Rattle.m2_base.specs.Statics.BlockRows.{cells_after, first_cell}
+use Rattle.m2_base.specs.Statics.BlockRows.{first_cell, scene_of}
 use Rattle.m2_base.specs.Statics.Contexts.{Scene}
 use Rattle.m2_base.specs.Statics.Layouts.{layout_of}
 use Rattle.m2_base.specs.Statics.ProcedureRows.{is_proc}
 use Rattle.m2_base.specs.Trees.{Stream}
-use Rattle.m2_base.specs.Units.{UnitTexts}
 use Rattle.m2_base.specs.Views.{stream_view}
 use Rattle.m2_base.specs.declared.notes.Answer.{Answer}
 use Rattle.m2_base.specs.declared.outputs.Output.{Output}
@@ -27,18 +25,18 @@ use Rattle.decl_sem.specs.LaidRows.{AreLaid, none_laid}
 use Rattle.decl_sem.specs.Pieces.{IsOwned}
 use Rattle.m2_parse.specs.Streams as parsed
 use Rattle.m2_parse.specs.declared.faults.ParseFault.TheVariants as parse_faults
+use Rattle.type_rules.specs.Scenes.{block_of}
 use Rattle.stream_split.specs.Agreement.{IsFaultOf, SpellsStream}
 use Rattle.stream_split.specs.Chains.{around_view}
-use Rattle.stream_split.specs.Streams.{StreamOf}
-use Rattle.task_state.specs.Blocks.{IsBlockOf, block_with}
-use Rattle.task_state.specs.Collecting.{Collected, IsMade, none_from}
-use Rattle.task_state.specs.Outputs.{IsOutput, IsOutputBy, IsOutputOf}
-use Rattle.task_state.specs.Progress.{HasDeclared, HasEnded, HasStated, IsAsFar, IsAtStage, IsBegun, IsUnread, IsWorking, stated_answers}
+use Rattle.task_state.specs.Blocks.{IsBlockOf}
+use Rattle.task_state.specs.Collecting.{Collected, none_from}
+use Rattle.task_state.specs.Outputs.{IsOutputBy}
+use Rattle.task_state.specs.Progress.{HasDeclared, HasEnded, HasStated, IsAsFar, IsUnread, IsWorking, stated_answers}
 use Rattle.task_state.specs.Steps.{IsAtWork, IsFresh, Leaves}
 use Rattle.task_state.specs.Units.{IsOfUnit}
 use Rattle.task_state.specs.declared.stages.Begun.{Begun}
 use Rattle.task_state.specs.declared.stages.Stage.{Stage}
-use Rattle.task_state.specs.declared.stages.Stage.TheVariants.{Ended, Unread, Working}
+use Rattle.task_state.specs.declared.stages.Stage.TheVariants.{Ended, Working}
 use Rattle.task_state.specs.declared.stages.Stating.{Stating}
 use Rattle.task_state.specs.declared.task.Task.{Task}
 use Rattle.task_state.proofs.UnitBlocks.{block_is, has_tree}
@@ -68,7 +66,7 @@ none_declared f a tree m block entered none =
       told = λ tables finished.
           record {
             rows = entered;
-            cell = sym (first_zero _ tree.kind a.own block.supported.cells);
+            cell = sym (first_zero (scene_of (take f.setting.fills tables) (block_of a)) tree.kind a.own block.supported.cells);
             copies = refl;
             headings = refl;
             diags = refl;

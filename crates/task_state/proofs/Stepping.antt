@@ -1,15 +1,15 @@
 -- A step of the work on a block: what it needs, and what it leaves.
-use Rattle.std.specs.Prelude.{◌≡◌, ℕ, zero, suc, ◌+◌, ◌<◌, ◌≤◌, true, false, List, [], ◌∷◌, ◌++◌, Option, Some, None, Result, Ok, Err, length, slice_get, take}
+use Rattle.std.specs.Prelude.{◌≡◌, ℕ, ◌+◌, ◌<◌, ◌≤◌, true, List, [], ◌∷◌, ◌++◌, Option, Some, None, Ok, length, slice_get, take}
 use Rattle.std.proofs.Common.{refl, sym, ap, subst, ◌∙◌, arith}
 use Rattle.std.proofs.lemmas.List.{append-nil, append_assoc, length-append}
-use Rattle.m2_base.specs.Finished.{IsFinished, WhereFinished, source_of}
+use Rattle.m2_base.specs.Finished.{IsFinished, source_of}
 use Rattle.m2_base.specs.Lists.{Each, WhereKept}
 use Rattle.m2_base.specs.Scopes.{CanComplete, CanEnter, Completed, Entered}
 use Rattle.m2_base.specs.States.{Frame, IsAmong, Keeps, Look, Setting, State}
 use Rattle.m2_base.specs.Statics.BlockRows.{declare_block}
 use Rattle.m2_base.specs.Statics.Cells.{most_cells}
 use Rattle.m2_base.specs.Statics.Closing.{closing_diags}
-use Rattle.m2_base.specs.Statics.Contexts.{Context, Source}
+use Rattle.m2_base.specs.Statics.Contexts.{Context}
 use Rattle.m2_base.specs.Statics.Declarations.{declare}
 use Rattle.m2_base.specs.Statics.Effects.{BlockEffects}
 use Rattle.m2_base.specs.Statics.Items.{Item, items_of}
@@ -20,28 +20,28 @@ use Rattle.m2_base.specs.Statics.Shapes.{item_shapes}
 use Rattle.m2_base.specs.Statics.UnitNotes.{complete_context}
 use Rattle.m2_base.specs.Tables.{rows_at}
 use Rattle.m2_base.specs.Statics.ProcedureTypes.{result_type}
-use Rattle.m2_base.specs.Trees.{Heading, Qual, Stream}
+use Rattle.m2_base.specs.Trees.{Heading, Stream}
 use Rattle.m2_base.specs.Units.{UnitTexts}
 use Rattle.m2_base.specs.Views.{stream_view}
 use Rattle.m2_base.specs.declared.notes.Answer.{Answer}
-use Rattle.m2_base.specs.declared.replies.Ask.TheVariants.{DontKnowYet, Known}
-use Rattle.m2_base.specs.declared.rows.Place.{Place}
+use Rattle.m2_base.specs.declared.replies.Ask.TheVariants.{Known}
 use Rattle.m2_base.specs.declared.rows.Row.{Row}
 use Rattle.m2_base.specs.declared.sites.Around.{Around}
 use Rattle.m2_base.specs.declared.sites.Site.{Site}
+use Rattle.m2_base.specs.declared.trees.Qual.{Qual}
 use Rattle.decl_sem.specs.Closing.{IsOfBlock}
 use Rattle.decl_sem.specs.DeclaredItems.{DeclaresItem}
 use Rattle.decl_sem.specs.Items.{IsAtItem}
 use Rattle.decl_sem.specs.declared.declaring.Declared.{Declared}
-use Rattle.type_rules.specs.Scenes.{AreInHand, Hand, block_of, hand}
+use Rattle.type_rules.specs.Scenes.{block_of, hand}
 use Rattle.type_rules.specs.Sites.{SuitsSite, context_of}
-use Rattle.stmt_sem.specs.BlockCode.{bound_result, in_statements, result_by}
+use Rattle.stmt_sem.specs.BlockCode.{bound_result, in_statements}
 use Rattle.stmt_sem.specs.Bodies.{Adding, Built, IsBuilt, left}
 use Rattle.stmt_sem.specs.Stating.{Returns}
-use Rattle.task_state.specs.Blocks.{IsBlockOf, block_with}
-use Rattle.task_state.specs.Collecting.{Collected, IsMade, first_made, with_item}
+use Rattle.task_state.specs.Blocks.{block_with}
+use Rattle.task_state.specs.Collecting.{Collected, first_made, with_item}
 use Rattle.task_state.specs.Conditions.{GivesNone}
-use Rattle.task_state.specs.Progress.{HasDeclared, HasStated, IsStated}
+use Rattle.task_state.specs.Progress.{HasDeclared, HasStated}
 use Rattle.task_state.specs.Steps.{IsComplete, IsDeclaring, IsInHand, IsStating}
 use Rattle.task_state.specs.declared.stages.Block.{Block}
 use Rattle.task_state.specs.declared.stages.Stating.{Stating}
@@ -192,7 +192,7 @@ returns_none st bl h made in_hand finished =
     let tree = stream_view bl.tree.now in
     no_result (record (context_of st.frame made (site_at bl None)) { layout = (layout_of tree).names; item = Some 0 }) tree.heading h.block.supported.plain
 
-module _ {a b : State} (bl : Block) (m : Collected) (x : Stating) (far : IsStating a bl m x) where
+module _ {a : State} (bl : Block) (m : Collected) (x : Stating) (far : IsStating a bl m x) where
   -- where the statements of the block stand
   context_is : (tables : List (List Row)) → IsFinished a.frame.setting.texts tables
       → in_statements (context_of a.frame (hand tables []) (record { texts = bl.texts; around = bl.around; layout = bl.layout; item = None })) ≡ complete_context (source_of a.frame.setting.texts) tables (block_of bl.around.now)
@@ -211,6 +211,7 @@ module _ {a b : State} (bl : Block) (m : Collected) (x : Stating) (far : IsStati
           append-nil a.frame.entered ∙ entered_all a.frame bl.around.now (stream_view bl.tree.now) m far.in_hand.block far.declared far.all tables finished
           ∙ ap (rows_at tables) (sym far.in_hand.block.fills)
 
+module _ {a b : State} (bl : Block) (m : Collected) (x : Stating) (far : IsStating a bl m x) where
   -- nothing was added
   pub stating_still : {looks : List Look} (y : Stating) → Keeps a b looks → y.closing.items ≡ x.closing.items → y.body ≡ x.body → IsStating b bl m y
   stating_still {looks} y keeps closing body =
@@ -248,7 +249,7 @@ module _ {a b : State} (bl : Block) (m : Collected) (x : Stating) (far : IsStati
             let t = s.told tables finished in
             record {
               closing = closing ∙ t.closing;
-              built = subst (λ (c : Context). IsBuilt c tree (effects tables) x.body → IsBuilt c tree (effects tables) y.body) (context_is tables finished)
+              built = subst (λ (c : Context). IsBuilt c tree (effects tables) x.body → IsBuilt c tree (effects tables) y.body) (context_is bl m x far tables finished)
                   (p.built (hand tables []) (record { closed = λ _. refl; types = tt }) finished (effects tables)) t.built;
             };
       } in

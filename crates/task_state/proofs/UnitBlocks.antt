@@ -1,5 +1,5 @@
 -- The block of a stream of a unit: it can be searched from, its tree was read, and it has the rows of its scope.
-use Rattle.std.specs.Prelude.{◌≡◌, ℕ, zero, suc, ◌+◌, ◌<◌, ◌≤◌, ◌^◌, List, [], ◌∷◌, ◌++◌, None, Option, Some, drop, length, map, option_map, slice_get, slice_index, take}
+use Rattle.std.specs.Prelude.{◌≡◌, ℕ, zero, suc, ◌+◌, ◌<◌, ◌≤◌, List, [], ◌∷◌, ◌++◌, None, Option, Some, drop, length, map, option_map, slice_get, slice_index, take}
 use Rattle.std.specs.List.{AllZip}
 use Rattle.std.proofs.Common.{refl, sym, ap, subst, ◌∙◌, arith}
 use Rattle.std.proofs.lemmas.List.{length-map}
@@ -22,7 +22,7 @@ use Rattle.m2_base.specs.declared.sites.Around.{Around}
 use Rattle.m2_base.proofs.FinishedLaws.{finished-standard}
 use Rattle.m2_base.proofs.Kept.{Each-map}
 use Rattle.decl_sem.specs.ImportedModules.{IsFromBefore}
-use Rattle.stream_split.specs.Agreement.{SpellsStream, SpellsStreams}
+use Rattle.stream_split.specs.Agreement.{SpellsStream}
 use Rattle.stream_split.specs.Chains.{around_view, block_of, own_scope}
 use Rattle.stream_split.specs.Sizes.{sizes_of}
 use Rattle.stream_split.specs.Streams.{StreamOf, main_number, streams_of}
@@ -34,7 +34,6 @@ use Rattle.stream_split.proofs.StreamCounts.{number_is, streams_few}
 use Rattle.stream_split.proofs.StreamTrees.{stream_few, stream_items, stream_room, stream_statements}
 use Rattle.stream_split.proofs.Surrounded.{level_low, surrounded}
 use Rattle.task_state.specs.Blocks.{IsBlockIn, IsBlockOf, block_with}
-use Rattle.task_state.specs.Conditions.{IsSupported}
 use Rattle.task_state.specs.Units.{IsOfUnit}
 use Rattle.task_state.proofs.Lists.{some_is}
 use Rattle.task_state.proofs.UnitRows.{made_over}
@@ -97,12 +96,14 @@ block_at u trees read n s there =
     let block : Some at.item.block ≡ Some (block_of (main_number u) (own_scope u) (streams_of u) s) =
     sym (slice_get-map (λ (b : BlockTree). b.block) (blocks_of trees) n ∙ ap (λ o. option_map (λ (b : BlockTree). b.block) o) at.there)
     ∙ ap (λ bs. slice_get bs n) agrees.blocks
-    ∙ slice_get-map (block_of (main_number u) (own_scope u) (streams_of u)) (streams_of u) n ∙ ap of there in
-    (at.item, record {
-      there = at.there;
-      block = some_is at.item.block (block_of (main_number u) (own_scope u) (streams_of u) s) block;
-      spelled = subst (λ t. SpellsStream t s) (sym at.gives) spelled.2;
-    })
+    ∙ slice_get-map (block_of (main_number u) (own_scope u) (streams_of u)) (streams_of u) n ∙ ap of there in (
+      at.item,
+      record {
+        there = at.there;
+        block = some_is at.item.block (block_of (main_number u) (own_scope u) (streams_of u) s) block;
+        spelled = subst (λ t. SpellsStream t s) (sym at.gives) spelled.2;
+      },
+    )
 
 module _ (g : Setting) (s : StreamOf) (a : Around) (tree : Stream) (of : IsOfUnit g s a) (spelled : SpellsStream tree s) (only : (t : Stream) → SpellsStream t s → t ≡ tree) where
   number : s.stream ≡ of.index + 1
@@ -124,7 +125,7 @@ module _ (g : Setting) (s : StreamOf) (a : Around) (tree : Stream) (of : IsOfUni
       let same : b ≡ block_with a tree = λ k. record { block = same_block k; tree = same_tree k } in
       let fills : 1 + of.index ≡ g.fills = let n = number in let f = of.fills in omega (arith, n, f) in
       let made : rows_at (rows_from is.trees.source (standard_rows ∷ []) (blocks_of is.trees)) (1 + of.index)
-          ≡ (declare_block is.trees.source (take (1 + of.index) (rows_from is.trees.source (standard_rows ∷ []) (blocks_of is.trees))) b).rows =
+      ≡ (declare_block is.trees.source (take (1 + of.index) (rows_from is.trees.source (standard_rows ∷ []) (blocks_of is.trees))) b).rows =
       made_over is.trees.source (standard_rows ∷ []) (blocks_of is.trees) of.index b at.1.there in
       let all : rows_from is.trees.source (standard_rows ∷ []) (blocks_of is.trees) ≡ tables = sym (unit_is is.trees) ∙ sym is.rows in
       let count = scopes_counted g.texts tables is in

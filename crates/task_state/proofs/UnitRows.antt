@@ -1,10 +1,10 @@
 -- The rows of a block of a unit are made over those of the scopes before it.
 use Rattle.std.specs.Prelude.{◌≡◌, refl, ℕ, zero, suc, ◌+◌, ◌<◌, ◌≤◌, List, [], ◌∷◌, ◌++◌, length, slice_get, slice_index_or, slice_set, take, Some, None}
 use Rattle.std.proofs.Common.{ap, subst, sym, ◌∙◌, arith}
-use Rattle.std.proofs.lemmas.List.{append_assoc, length-append, get_or_append_left, get_or_at, take_at, length-take-le, take-take}
+use Rattle.std.proofs.lemmas.List.{length-append, get_or_append_left, get_or_at, take_at, length-take-le, take-take}
 use Rattle.m2_base.specs.Statics.BlockRows.{context_of, declare_block}
 use Rattle.m2_base.specs.Statics.Blocks.{BlockTree}
-use Rattle.m2_base.specs.Statics.Contexts.{Context, Source}
+use Rattle.m2_base.specs.Statics.Contexts.{Source}
 use Rattle.m2_base.specs.Statics.Layouts.{layout_of}
 use Rattle.m2_base.specs.Statics.Makes.{with_rows}
 use Rattle.m2_base.specs.Statics.UnitRows.{rows_from}

@@ -1,10 +1,10 @@
 -- What a block leaves all of whose statements are made is what the definition says of it.
-use Rattle.std.specs.Prelude.{◌≡◌, ℕ, zero, suc, ◌≤◌, List, [], ◌∷◌, ◌++◌, Option, length, map, take}
+use Rattle.std.specs.Prelude.{◌≡◌, ℕ, zero, suc, ◌≤◌, List, [], ◌∷◌, ◌++◌, length, map, take}
 use Rattle.std.proofs.Common.{refl, sym, ap, subst, ◌∙◌, arith, append_assoc}
 use Rattle.std.proofs.lemmas.List.{append-nil}
-use Rattle.m2_base.specs.Finished.{IsFinished, WhereFinished, source_of}
+use Rattle.m2_base.specs.Finished.{IsFinished, source_of}
 use Rattle.m2_base.specs.Lists.{Each, WhereKept}
-use Rattle.m2_base.specs.States.{IsAmong, State, texts_of}
+use Rattle.m2_base.specs.States.{IsAmong, State}
 use Rattle.m2_base.specs.Statics.BlockRows.{declare_block}
 use Rattle.m2_base.specs.Statics.Closing.{closing_diags}
 use Rattle.m2_base.specs.Statics.Contexts.{Context}
@@ -14,14 +14,12 @@ use Rattle.m2_base.specs.Statics.UnitNotes.{complete_context}
 use Rattle.m2_base.specs.Trees.{Statements, Stream, no_statements, statements}
 use Rattle.m2_base.specs.Views.{statement_view, stream_view}
 use Rattle.m2_base.specs.declared.notes.Answer.{Answer}
-use Rattle.m2_base.specs.declared.notes.Diag.{Diag}
 use Rattle.m2_base.specs.declared.outputs.Output.{Output}
 use Rattle.m2_base.specs.declared.rows.Row.{Row}
-use Rattle.m2_base.specs.declared.sites.Around.{Around}
 use Rattle.m2_base.specs.declared.trees.statements.Statement.{Statement as StatementOf}
 use Rattle.type_rules.specs.Scenes.{block_of}
-use Rattle.stmt_sem.specs.BlockCode.{block_answers, block_code, block_diags, body_of, code_of_run, run_of, size_diags}
-use Rattle.stmt_sem.specs.Bodies.{Built, IsBuilt, IsWhole, left, rest_from, whole_in, whole_of}
+use Rattle.stmt_sem.specs.BlockCode.{body_of, code_of_run, run_of, size_diags}
+use Rattle.stmt_sem.specs.Bodies.{IsBuilt, IsWhole, rest_from, whole_in, whole_of}
 use Rattle.stmt_sem.specs.Flows.{Run}
 use Rattle.stmt_sem.specs.ProcedureCodes.{code_view}
 use Rattle.stmt_sem.specs.Statements.{flow_of}
@@ -99,7 +97,9 @@ module _ (st : State) (bl : Block) (m : Collected) (x : Stating) (far : IsStatin
       let diags : m.diags ≡ (declare_block (source_of st.frame.setting.texts) before (block_with bl.around.now tree)).diags = so.diags ∙ ap (λ (z : Makes BlockEffects). z.diags) made in
       let answers : m.answers ≡ (declare_block (source_of st.frame.setting.texts) before (block_with bl.around.now tree)).answers = so.answers ∙ ap (λ (z : Makes BlockEffects). z.answers) made in
       record {
-        diags = parts.diags ∙ (λ k. diags k ++ closing k ++ w.diags k);
+        diags =
+            parts.diags ∙ (λ k. diags k ++ closing k ++ w.diags k)
+            ∙ sym (append_assoc ((declare_block (source_of st.frame.setting.texts) before (block_with bl.around.now tree)).diags ++ closing_diags context tree) body.diags (size_diags context (block_at context tree) tree.kind effects run));
         answers = parts.answers ∙ (λ k. answers k ++ w.answers k);
         code = code run w.made_is;
         cells = parts.cells ∙ so.cell ∙ ap (λ (z : Makes BlockEffects). z.value.cell) made;

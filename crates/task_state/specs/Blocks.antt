@@ -1,5 +1,5 @@
 -- What a task asks of its block, in every unit.
-use Rattle.std.specs.Prelude.{◌≡◌, ℕ, ◌<◌, ◌≤◌, ◌^◌, List, [], ◌∷◌, drop, flat_map, length, slice_index, take, None}
+use Rattle.std.specs.Prelude.{◌≡◌, ℕ, ◌<◌, ◌≤◌, ◌^◌, List, ◌∷◌, drop, flat_map, length, slice_index, take}
 use Rattle.m2_base.specs.Finished.{WhereFinished, source_of}
 use Rattle.m2_base.specs.Lists.{Each, WhereKept}
 use Rattle.m2_base.specs.Standard.{standard_rows}

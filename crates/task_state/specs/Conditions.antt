@@ -1,5 +1,5 @@
 -- Which streams the analysers take so far. Each condition says what is missing below, and goes when it is there.
-use Rattle.std.specs.Prelude.{◌≡◌, ◌≢◌, ◌⊎◌, Option, Some, None}
+use Rattle.std.specs.Prelude.{◌≡◌, Option, Some, None}
 use Rattle.m2_base.specs.Trees.{Heading, Stream}
 use Rattle.m2_base.specs.declared.sites.Around.{Around}
 use Rattle.m2_base.specs.declared.trees.declarations.StreamKind.TheVariants.{Main}

@@ -1,11 +1,10 @@
 -- How far a task is: what a turn needs and leaves.
-use Rattle.std.specs.Prelude.{◌≡◌, ◌+◌, ◌≤◌, Bool, true, false, List, [], ◌++◌, Option, None, filter, flat_map, length, slice_get, Some, take}
+use Rattle.std.specs.Prelude.{◌≡◌, ◌+◌, ◌≤◌, Bool, true, false, List, [], ◌++◌, Option, None, filter, flat_map, length, Some, take}
 use Rattle.std.specs.Option.{IfSome}
 use Rattle.m2_base.specs.Finished.{WhereFinished, source_of}
 use Rattle.m2_base.specs.Lists.{Each, WhereKept}
 use Rattle.m2_base.specs.Rows.{row_meaning}
-use Rattle.m2_base.specs.States.{Frame, IsAmong, Setting, State, Waits, texts_of}
-use Rattle.m2_base.specs.Statics.BlockLimits.{limit_of}
+use Rattle.m2_base.specs.States.{Frame, IsAmong, State, Waits, texts_of}
 use Rattle.m2_base.specs.Statics.BlockRows.{declare_block}
 use Rattle.m2_base.specs.Statics.Blocks.{BlockTree}
 use Rattle.m2_base.specs.Statics.Cells.{most_cells}
@@ -17,7 +16,6 @@ use Rattle.m2_base.specs.Statics.ProcedureRows.{is_proc}
 use Rattle.m2_base.specs.Statics.Shapes.{item_shapes}
 use Rattle.m2_base.specs.Statics.UnitNotes.{complete_context}
 use Rattle.m2_base.specs.Trees.{Stream}
-use Rattle.m2_base.specs.Units.{Front, IsUnit, IsWholeBy, TextOf}
 use Rattle.m2_base.specs.Views.{stream_view}
 use Rattle.m2_base.specs.declared.notes.Answer.{Answer}
 use Rattle.m2_base.specs.declared.outputs.Output.{Output}
@@ -29,13 +27,10 @@ use Rattle.decl_sem.specs.LaidRows.{AreLaid}
 use Rattle.decl_sem.specs.Pieces.{IsOwned}
 use Rattle.stmt_sem.specs.Bodies.{IsBuilt}
 use Rattle.stream_split.specs.Agreement.{SpellsStream}
-use Rattle.stream_split.specs.Chains.{around_view, block_of, own_scope}
-use Rattle.stream_split.specs.Fronts.{AreFronts}
-use Rattle.stream_split.specs.Sizes.{sizes_of}
-use Rattle.stream_split.specs.Streams.{StreamOf, main_number, main_tokens, streams_of}
+use Rattle.stream_split.specs.Chains.{around_view}
+use Rattle.stream_split.specs.Streams.{StreamOf}
 use Rattle.task_state.specs.Blocks.{IsBlockOf, block_with}
 use Rattle.task_state.specs.Collecting.{Collected, IsMade}
-use Rattle.task_state.specs.Conditions.{IsSupported}
 use Rattle.task_state.specs.Outputs.{IsOutput}
 use Rattle.task_state.specs.Units.{IsOfUnit}
 use Rattle.task_state.specs.declared.stages.Begun.{Begun}

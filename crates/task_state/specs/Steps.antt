@@ -1,5 +1,5 @@
 -- What a step of the work on a block needs and leaves.
-use Rattle.std.specs.Prelude.{◌≡◌, true, false, ◌≤◌, ◌++◌, length, None, Result, Ok, Err}
+use Rattle.std.specs.Prelude.{◌≡◌, true, false, ◌++◌, length, None, Result, Ok, Err}
 use Rattle.m2_base.specs.Finished.{WhereFinished, source_of}
 use Rattle.m2_base.specs.Lists.{Each, WhereKept}
 use Rattle.m2_base.specs.States.{IsAmong, Setting, State, Waits, texts_of}

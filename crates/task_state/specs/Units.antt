@@ -1,5 +1,5 @@
 -- The unit of a stream, as its task asks it.
-use Rattle.std.specs.Prelude.{◌≡◌, ℕ, length, slice_get, None, Some}
+use Rattle.std.specs.Prelude.{◌≡◌, ℕ, slice_get, None, Some}
 use Rattle.m2_base.specs.States.{Setting}
 use Rattle.m2_base.specs.Statics.BlockLimits.{limit_of}
 use Rattle.m2_base.specs.Trees.{Stream}

@@ -9,10 +9,7 @@ use m2_base::{Decl, Heading, Ident, Import, Memory, Stream};
 use std::alloc::Global;
 
 /// The heading of a procedure's block is its first item.
-fn add_heading<'a>(
-    heading: &'a Option<Heading>,
-    items: &mut Vec<Item<'a>>,
-) -> Result<(), Memory>
+fn add_heading<'a>(heading: &'a Option<Heading>, items: &mut Vec<Item<'a>>) -> Result<(), Memory>
     ensures { OnOk result (map item_view items.new.items ≡ map item_view items.old.items ++ heading_items (option_map heading_view heading.now)) }
 {
     let Some(heading) = heading else {
@@ -47,10 +44,7 @@ fn add_imports<'a>(imports: &'a [Import], items: &mut Vec<Item<'a>>) -> Result<(
 }
 
 /// Each declaration is an item.
-fn add_declarations<'a>(
-    declarations: &'a [Decl],
-    items: &mut Vec<Item<'a>>,
-) -> Result<(), Memory>
+fn add_declarations<'a>(declarations: &'a [Decl], items: &mut Vec<Item<'a>>) -> Result<(), Memory>
     ensures { OnOk result (map item_view items.new.items ≡ map item_view items.old.items ++ map decl_item (map decl_view declarations.now)) }
 {
     for declaration in declarations {
