@@ -4,3 +4,4 @@ pub mod Named
 pub mod Sight
 pub mod Worlds
 pub mod MainBlocks
+pub mod Results

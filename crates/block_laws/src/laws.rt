@@ -29,6 +29,7 @@ ghost use Rattle.block_laws.specs.Lone.{IsLone, IsLoneTree, lone_unit, lone_worl
 ghost use Rattle.block_laws.specs.Named.{BlockNamesThere, procedure_of};
 ghost use Rattle.m2_base.specs.Statics.ReadStatements.{AreReadStatements};
 ghost use Rattle.row_laws.specs.RowRanges.{BlockInRange, EachBlock, IsSoundUnit};
+ghost use Rattle.block_laws.specs.Results.{ReturnsItsResult};
 ghost use Rattle.block_laws.specs.Sight.{IsInSight, Sees};
 ghost use Rattle.block_laws.specs.Worlds.{unit_world};
 ghost use Rattle.block_laws.specs.MainBlocks.{IsMainBlock};
@@ -91,4 +92,10 @@ pub fn rows_are_whole()
     ensures { (names : List (List ℕ)) (texts : UnitTexts) (u : UnitTrees) → IsSoundUnit names u → AreRead texts u → Each (λ b. Each (IsReadItem names) (items_of b.tree)) (blocks_of u)
         → EachBlock (λ before b. block_diags u.source before (unit_rows u) b ≡ []) u.source (standard_rows ∷ []) (blocks_of u)
         → EachBlock (λ before b. AreWhole (complete_context u.source (unit_rows u) b.block).scene) u.source (standard_rows ∷ []) (blocks_of u) }
+{}
+
+/// What the heading of a procedure gives as its result, where nothing of its block is declared yet, is what its statements
+/// return.
+pub fn results_are_returned()
+    ensures { (names : List (List ℕ)) (u : UnitTrees) → IsSoundUnit names u → EachBlock (ReturnsItsResult u) u.source (standard_rows ∷ []) (blocks_of u) }
 {}

@@ -15,7 +15,7 @@ use std::alloc::{AllocError, Global};
 use std::marker::Brand;
 use std::snapshot::Snapshot;
 
-/// No scope begins past this word.
+/// Every scope begins before this word.
 const MOST_WORDS: u64 = 1152921504606846976;
 
 /// How many cells go with so many rows.
@@ -31,7 +31,8 @@ fn cells_for(size: u32) -> u64
 fn lay(alloc: Global, sizes: &[u32]) -> Result<(Vec<u64>, Vec<u64>), AllocError>
     requires few { length sizes.now < 2 ^ 32 }
     requires narrow { (k : ℕ) → k < length sizes.now → slice_index sizes.now k < 2 ^ 31 }
-    ensures { IfOk result (λ v. AreBases v.0.items v.1.items sizes.now) }
+    ensures laid { IfOk result (λ v. AreBases v.0.items v.1.items sizes.now) }
+    ensures bounded { IfOk result (λ v. (k : ℕ) → k < length sizes.now → slice_index v.0.items k < 2 ^ 60) }
 {
     let mut bases = Vec::with_capacity(alloc, sizes.len() + 1)?;
     let mut mids = Vec::with_capacity(alloc, sizes.len())?;
@@ -54,7 +55,8 @@ impl ScopeTable {
 
     /// A table for these texts. Scope 0 is complete and has the standard rows, and all others are empty and have room
     /// for so many rows. There is a seat for each scope in order, which has the right to fill it and has seen all
-    /// this. Memory runs out, too, where the table would have more than 2^60 words.
+    /// this. Memory runs out, too, where a scope would begin past 2^60 words: the heads come first, a word for each
+    /// scope. All room is made here, and meanwhile the words lie in memory twice.
     pub fn open(
         alloc: Global,
         texts: &Texts,
@@ -63,7 +65,9 @@ impl ScopeTable {
         requires some { (0 < length sizes.now) × (length sizes.now < 2 ^ 32) }
         requires first { slice_index sizes.now 0 ≡ 37 }
         requires narrow { (k : ℕ) → k < length sizes.now → slice_index sizes.now k < 2 ^ 31 }
-        ensures { IfOk result (λ r. IsOpened r.0 r.1.items texts.now sizes.now) }
+        ensures opened { IfOk result (λ r. IsOpened r.0 r.1.items texts.now sizes.now) }
+        ensures first { IfOk result (λ r. base (key_of r.0) 0 ≡ length sizes.now) }
+        ensures bounded { IfOk result (λ r. (k : ℕ) → k < length sizes.now → base (key_of r.0) k < 2 ^ 60) }
     {
         let _unit = texts.main();
         let laid = lay(alloc, sizes)?;

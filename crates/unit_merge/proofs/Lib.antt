@@ -1,3 +1,4 @@
+mod Cases
 mod Earliest
 mod Keys
 mod Merges

@@ -1,4 +1,6 @@
-use Rattle.std.proofs.Common.{◌≡◌, ℕ, suc, ◌+◌, ◌-◌, ◌*◌, List, [], ◌∷◌, ◌++◌, length, get_or, sym, ap, ◌∙◌, subst, arith, length-append}
+use Rattle.std.proofs.Common.{◌≡◌, ℕ, suc, ◌+◌, ◌-◌, ◌*◌, ◌<◌, List, [], ◌∷◌, ◌++◌, length, get_or, sym, ap, ◌∙◌, subst, arith, length-append}
+use mathlib.Core.Logic.{dite}
+use native.Mathlib.Decide.{ℕ_discrete}
 use lib.ListN.{get_or-append}
 use lib.Seq.{get_or-append_seam}
 use Rattle.scope_table.specs.Cells.{IsWidth}
@@ -24,5 +26,8 @@ loop-size-preserved c =
       first = ap (λ (l : List ℕ). get_or l 0 0) bs' ∙ (get_or-append bs (e ∷ []) 0 0 (omega arith) ∙ inv.first);
       parts = λ k l. subst (λ (z : List ℕ × List ℕ). IsPart (get_or c.args.sizes.now k 0) (get_or z.0 k 0) (get_or z.1 k 0) (get_or z.0 (suc k) 0)) (λ i. (sym bs' i, sym ms' i)) (parts_more bs ms c.args.sizes.now n m e lb lm inv.parts new k l);
       end_is = ap (λ (l : List ℕ). get_or l (n + 1) 0) bs' ∙ (ap (λ (z : ℕ). get_or (bs ++ e ∷ []) z 0) (sym lb) ∙ get_or-append_seam bs e [] 0);
+      bounded = λ k l. subst (λ (b : List ℕ). get_or b k 0 < 1152921504606846976) (sym bs') (dite (ℕ_discrete k n)
+          (λ q. subst (λ (z : ℕ). get_or (bs ++ e ∷ []) z 0 < 1152921504606846976) (sym q) (let h = inv.end_is in let o = get_or-append bs (e ∷ []) 0 n (omega arith) in omega arith))
+          (λ q. let h = inv.bounded k (omega arith) in let o = get_or-append bs (e ∷ []) 0 k (omega arith) in omega arith));
       small = omega arith;
     }

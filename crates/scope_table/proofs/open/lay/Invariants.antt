@@ -9,5 +9,6 @@ invariant-loop-size l = record {
   first : get_or l.bases.items 0 0 ≡ length l.sizes;
   parts : (k : ℕ) → k < l.size-index → IsPart (get_or l.sizes k 0) (get_or l.bases.items k 0) (get_or l.mids.items k 0) (get_or l.bases.items (suc k) 0);
   end_is : get_or l.bases.items l.size-index 0 ≡ l.end;
+  bounded : (k : ℕ) → k < l.size-index → get_or l.bases.items k 0 < 1152921504606846976;
   small : l.end < 4611686018427387904;
 }

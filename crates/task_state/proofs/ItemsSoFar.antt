@@ -1,0 +1,88 @@
+-- What the items of a block make so far, and what the next makes after them.
+use Rattle.std.specs.Prelude.{◌≡◌, ℕ, suc, ◌+◌, List, [], ◌∷◌, ◌++◌, length}
+use Rattle.std.proofs.Common.{refl, sym, ap, ◌∙◌, arith}
+use Rattle.std.proofs.lemmas.List.{append-nil, append_assoc}
+use Rattle.m2_base.specs.Lists.{IsPrefixOf}
+use Rattle.m2_base.specs.declared.rows.Row.{Row}
+use Rattle.m2_base.specs.Statics.BlockRows.{at_item, declare_items}
+use Rattle.m2_base.specs.Statics.Contexts.{Context, Scene}
+use Rattle.m2_base.specs.Statics.Declarations.{declare}
+use Rattle.m2_base.specs.Statics.Effects.{BlockEffects, Effect, heading_list}
+use Rattle.m2_base.specs.Statics.Items.{Item}
+use Rattle.m2_base.specs.Statics.Makes.{Makes, with_rows}
+use Rattle.m2_base.specs.declared.trees.declarations.StreamKind.{StreamKind}
+use Rattle.m2_base.proofs.SceneLaws.{with-none, with-twice}
+
+-- what an item makes, as number i, after what those before have made
+abbrev pub next_makes : Context → StreamKind → (i : ℕ) → Makes BlockEffects → Item → Makes Effect
+next_makes c kind i made x = declare (at_item (with_rows c made.rows) i) kind x made.value.cell
+
+-- what the item makes comes behind, and its next cell is the next
+pub record GoesOn (before : Makes BlockEffects) (one : Makes Effect) (after : Makes BlockEffects) : Type 0 where
+  pub rows : after.rows ≡ before.rows ++ one.rows
+  pub diags : after.diags ≡ before.diags ++ one.diags
+  pub answers : after.answers ≡ before.answers ++ one.answers
+  pub cell : after.value.cell ≡ one.value.cell
+  pub copies : after.value.prologue ≡ before.value.prologue ++ one.value.prologue
+  pub headings : after.value.headings ≡ before.value.headings ++ heading_list one.value.heading
+
+joined : {A : Type 0} (d m n a : List A) → a ≡ m ++ n → d ++ (a ++ []) ≡ (d ++ (m ++ [])) ++ n
+joined d m n a e =
+    ap (λ z. d ++ z) (append-nil a ∙ e) ∙ sym (append_assoc d m n) ∙ ap (λ z. (d ++ z) ++ n) (sym (append-nil m))
+
+behind : {A : Type 0} (d m n a : List A) → a ≡ m ++ n → d ++ a ≡ (d ++ m) ++ n
+behind d m n a e = ap (λ z. d ++ z) e ∙ sym (append_assoc d m n)
+
+no_rows : (c : Context) → with_rows c [] ≡ c
+no_rows c = ap (λ (s : Scene). record { source = c.source; scene = s; layout = c.layout; item = c.item }) (with-none c.scene)
+
+rows_twice : (c : Context) (xs ys : List Row) → with_rows (with_rows c xs) ys ≡ with_rows c (xs ++ (ys ++ []))
+rows_twice c xs ys =
+    ap (λ (s : Scene). record { source = c.source; scene = s; layout = c.layout; item = c.item }) (with-twice c.scene xs ys)
+    ∙ ap (λ zs. with_rows c (xs ++ zs)) (sym (append-nil ys))
+
+pub one_more : (before : List Item) (x : Item) (c : Context) (kind : StreamKind) (i cell : ℕ)
+    → GoesOn (declare_items c kind i cell before) (next_makes c kind (i + length before) (declare_items c kind i cell before) x) (declare_items c kind i cell (before ++ x ∷ []))
+one_more [] x c kind i cell =
+    let number : i ≡ i + 0 = omega arith in
+    let same : declare (at_item c i) kind x cell ≡ declare (at_item (with_rows c []) (i + 0)) kind x cell =
+    λ k. declare (at_item (sym (no_rows c) k) (number k)) kind x cell in
+    record {
+      rows = append-nil (declare (at_item c i) kind x cell).rows ∙ ap (λ (m : Makes Effect). m.rows) same;
+      diags = append-nil (declare (at_item c i) kind x cell).diags ∙ ap (λ (m : Makes Effect). m.diags) same;
+      answers = append-nil (declare (at_item c i) kind x cell).answers ∙ ap (λ (m : Makes Effect). m.answers) same;
+      cell = ap (λ (m : Makes Effect). m.value.cell) same;
+      copies = append-nil (declare (at_item c i) kind x cell).value.prologue ∙ ap (λ (m : Makes Effect). m.value.prologue) same;
+      headings = append-nil (heading_list (declare (at_item c i) kind x cell).value.heading) ∙ ap (λ (m : Makes Effect). heading_list m.value.heading) same;
+    }
+one_more (y ∷ before) x c kind i cell =
+    let first = declare (at_item c i) kind y cell in
+    let d = with_rows c first.rows in
+    let some = declare_items d kind (i + 1) first.value.cell before in
+    let next = next_makes d kind (i + 1 + length before) some x in
+    let on : GoesOn some next (declare_items d kind (i + 1) first.value.cell (before ++ x ∷ [])) = one_more before x d kind (i + 1) first.value.cell in
+    let number : i + 1 + length before ≡ i + suc (length before) = omega arith in
+    let same : next ≡ next_makes c kind (i + suc (length before)) (declare_items c kind i cell (y ∷ before)) x =
+    λ k. declare (at_item (rows_twice c first.rows some.rows k) (number k)) kind x some.value.cell in
+    record {
+      rows = joined first.rows some.rows next.rows _ on.rows ∙ ap (λ (m : Makes Effect). (first.rows ++ (some.rows ++ [])) ++ m.rows) same;
+      diags = joined first.diags some.diags next.diags _ on.diags ∙ ap (λ (m : Makes Effect). (first.diags ++ (some.diags ++ [])) ++ m.diags) same;
+      answers = joined first.answers some.answers next.answers _ on.answers ∙ ap (λ (m : Makes Effect). (first.answers ++ (some.answers ++ [])) ++ m.answers) same;
+      cell = on.cell ∙ ap (λ (m : Makes Effect). m.value.cell) same;
+      copies = behind first.value.prologue some.value.prologue next.value.prologue _ on.copies ∙ ap (λ (m : Makes Effect). (first.value.prologue ++ some.value.prologue) ++ m.value.prologue) same;
+      headings = behind (heading_list first.value.heading) some.value.headings (heading_list next.value.heading) _ on.headings ∙ ap (λ (m : Makes Effect). (heading_list first.value.heading ++ some.value.headings) ++ heading_list m.value.heading) same;
+    }
+
+-- the rows of the items before are the first of all
+pub first_rows : (before rest : List Item) (c : Context) (kind : StreamKind) (i cell : ℕ)
+    → IsPrefixOf (declare_items c kind i cell before).rows (declare_items c kind i cell (before ++ rest)).rows
+first_rows [] rest c kind i cell = record { rest = (declare_items c kind i cell rest).rows; joined = refl }
+first_rows (y ∷ before) rest c kind i cell =
+    let first = declare (at_item c i) kind y cell in
+    let d = with_rows c first.rows in
+    let some = declare_items d kind (i + 1) first.value.cell before in
+    let more = first_rows before rest d kind (i + 1) first.value.cell in
+    record {
+      rest = more.rest;
+      joined = sym (joined first.rows some.rows more.rest _ (sym more.joined));
+    }

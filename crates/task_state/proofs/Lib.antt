@@ -1,0 +1,11 @@
+pub mod AtWork
+pub mod ItemsSoFar
+pub mod Lists
+pub mod NextItems
+pub mod ProcedureRows
+pub mod StageSteps
+pub mod Stepping
+pub mod UnitBlocks
+pub mod UnitRows
+pub mod WholeOutputs
+pub mod Turning

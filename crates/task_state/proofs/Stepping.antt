@@ -1,0 +1,264 @@
+-- A step of the work on a block: what it needs, and what it leaves.
+use Rattle.std.specs.Prelude.{◌≡◌, ℕ, ◌+◌, ◌<◌, ◌≤◌, true, List, [], ◌∷◌, ◌++◌, Option, Some, None, Ok, length, slice_get, take}
+use Rattle.std.proofs.Common.{refl, sym, ap, subst, ◌∙◌, arith}
+use Rattle.std.proofs.lemmas.List.{append-nil, append_assoc, length-append}
+use Rattle.m2_base.specs.Finished.{IsFinished, source_of}
+use Rattle.m2_base.specs.Lists.{Each, WhereKept}
+use Rattle.m2_base.specs.Scopes.{CanComplete, CanEnter, Completed, Entered}
+use Rattle.m2_base.specs.States.{Frame, IsAmong, Keeps, Look, Setting, State}
+use Rattle.m2_base.specs.Statics.BlockRows.{declare_block}
+use Rattle.m2_base.specs.Statics.Cells.{most_cells}
+use Rattle.m2_base.specs.Statics.Closing.{closing_diags}
+use Rattle.m2_base.specs.Statics.Contexts.{Context}
+use Rattle.m2_base.specs.Statics.Declarations.{declare}
+use Rattle.m2_base.specs.Statics.Effects.{BlockEffects}
+use Rattle.m2_base.specs.Statics.Items.{Item, items_of}
+use Rattle.m2_base.specs.Statics.Layouts.{layout_of}
+use Rattle.m2_base.specs.Statics.Makes.{Makes}
+use Rattle.m2_base.specs.Statics.ReadStatements.{AreReadStatements}
+use Rattle.m2_base.specs.Statics.Shapes.{item_shapes}
+use Rattle.m2_base.specs.Statics.UnitNotes.{complete_context}
+use Rattle.m2_base.specs.Tables.{rows_at}
+use Rattle.m2_base.specs.Statics.ProcedureTypes.{result_type}
+use Rattle.m2_base.specs.Trees.{Heading, Stream}
+use Rattle.m2_base.specs.Units.{UnitTexts}
+use Rattle.m2_base.specs.Views.{stream_view}
+use Rattle.m2_base.specs.declared.notes.Answer.{Answer}
+use Rattle.m2_base.specs.declared.replies.Ask.TheVariants.{Known}
+use Rattle.m2_base.specs.declared.rows.Row.{Row}
+use Rattle.m2_base.specs.declared.sites.Around.{Around}
+use Rattle.m2_base.specs.declared.sites.Site.{Site}
+use Rattle.m2_base.specs.declared.trees.Qual.{Qual}
+use Rattle.decl_sem.specs.Closing.{IsOfBlock}
+use Rattle.decl_sem.specs.DeclaredItems.{DeclaresItem}
+use Rattle.decl_sem.specs.Items.{IsAtItem}
+use Rattle.decl_sem.specs.declared.declaring.Declared.{Declared}
+use Rattle.type_rules.specs.Scenes.{block_of, hand}
+use Rattle.type_rules.specs.Sites.{SuitsSite, context_of}
+use Rattle.stmt_sem.specs.BlockCode.{bound_result, in_statements}
+use Rattle.stmt_sem.specs.Bodies.{Adding, Built, IsBuilt, left}
+use Rattle.stmt_sem.specs.Stating.{Returns}
+use Rattle.task_state.specs.Blocks.{block_with}
+use Rattle.task_state.specs.Collecting.{Collected, first_made, with_item}
+use Rattle.task_state.specs.Conditions.{GivesNone}
+use Rattle.task_state.specs.Progress.{HasDeclared, HasStated}
+use Rattle.task_state.specs.Steps.{IsComplete, IsDeclaring, IsInHand, IsStating}
+use Rattle.task_state.specs.declared.stages.Block.{Block}
+use Rattle.task_state.specs.declared.stages.Stating.{Stating}
+use Rattle.task_state.proofs.NextItems.{IsSiteOf, all_made, at_next, entered_all, frame_with, may_complete, may_enter, one_declared, suits}
+use Rattle.task_state.proofs.Lists.{shown_more, shown_still}
+
+-- the site of a block in hand
+pub site_of : (g : Setting) (bl : Block) (item : Option ℕ) → IsInHand g bl → IsSiteOf (record { texts = bl.texts; around = bl.around; layout = bl.layout; item = item }) g bl.around.now (stream_view bl.tree.now) item
+site_of g bl item h = record { texts = h.texts; around = refl; layout = h.layout; item_is = refl }
+
+abbrev site_at : Block → Option ℕ → Site
+site_at bl item = record { texts = bl.texts; around = bl.around; layout = bl.layout; item = item }
+
+-- ** Items
+
+-- only searches were made
+pub declaring_still : {a b : State} {looks : List Look} (bl : Block) (m : Collected) → Keeps a b looks → IsDeclaring a bl m → IsDeclaring b bl m
+declaring_still {a} {b} {looks} bl m keeps far =
+    record {
+      in_hand = subst (λ (f : Frame). IsInHand f.setting bl) (sym keeps.frame) far.in_hand;
+      open_yet = ap (λ (f : Frame). f.closed) keeps.frame ∙ far.open_yet;
+      declared = subst (λ (f : Frame). HasDeclared f bl.around.now (stream_view bl.tree.now) m) (sym keeps.frame) far.declared;
+      shown = shown_still a.looks b.looks looks m.answers keeps.grows far.shown;
+    }
+
+pub at_item_in_hand : (a : State) (bl : Block) (m : Collected) (x : Item) → IsDeclaring a bl m → slice_get (items_of (stream_view bl.tree.now)) m.count ≡ Some x
+    → IsAtItem a.frame (record { texts = bl.texts; around = bl.around; layout = bl.layout; item = Some m.count }) (stream_view bl.tree.now) x m.cell m.procedures
+at_item_in_hand a bl m x far here =
+    at_next a.frame (site_at bl (Some m.count)) bl.around.now (stream_view bl.tree.now) m x far.in_hand.block (site_of a.frame.setting bl (Some m.count) far.in_hand) here far.open_yet far.declared
+
+module _ {a b : State} (bl : Block) (m : Collected) (x : Item) (d : Declared) (far : IsDeclaring a bl m) (here : slice_get (items_of (stream_view bl.tree.now)) m.count ≡ Some x)
+    (p : DeclaresItem a b (record { texts = bl.texts; around = bl.around; layout = bl.layout; item = Some m.count }) (Ok (Known d)) (item_shapes x) (λ c. declare c bl.tree.now.kind x m.cell)) where
+  pub item_enters : CanEnter b d.rows.items
+  item_enters =
+      may_enter a.frame (site_at bl (Some m.count)) bl.around.now (stream_view bl.tree.now) m x far.in_hand.block (site_of a.frame.setting bl (Some m.count) far.in_hand) here far.open_yet far.declared
+      d p.laid p.new_rows p.told b p.keeps.frame
+
+  pub item_taken : (c : State) → Entered b c d.rows.items → d.effect.cell ≤ most_cells + 1 → IsDeclaring c bl (with_item m d)
+  item_taken c entered cells =
+      let frame : c.frame ≡ frame_with a.frame d.rows.items = entered.frame ∙ ap (λ g. frame_with g d.rows.items) p.keeps.frame in
+      let tree = stream_view bl.tree.now in
+      record {
+        in_hand = subst (λ (f : Frame). IsInHand f.setting bl) (sym frame) far.in_hand;
+        open_yet = ap (λ (f : Frame). f.closed) frame ∙ far.open_yet;
+        declared = subst (λ (f : Frame). HasDeclared f bl.around.now tree (with_item m d)) (sym frame)
+            (one_declared a.frame (site_at bl (Some m.count)) bl.around.now tree m x far.in_hand.block (site_of a.frame.setting bl (Some m.count) far.in_hand) here far.open_yet far.declared
+            d p.laid p.new_rows p.told cells);
+        shown = subst (λ (o : Option (List Look)). WhereKept o (λ looks. Each (IsAmong looks) (m.answers ++ d.notes.answers.items))) (sym entered.looks)
+            (shown_more a.looks b.looks p.looks m.answers d.notes.answers.items p.keeps.grows far.shown p.shown);
+      }
+
+-- all are declared
+pub completes : (a : State) (bl : Block) (m : Collected) → IsDeclaring a bl m → m.count ≡ length (items_of (stream_view bl.tree.now)) → CanComplete a
+completes a bl m far all = may_complete a bl.around.now (stream_view bl.tree.now) m far.in_hand.block far.declared far.open_yet all
+
+pub completed : {a b : State} (bl : Block) (m : Collected) → IsDeclaring a bl m → m.count ≡ length (items_of (stream_view bl.tree.now)) → Completed a b → IsComplete b bl m
+completed {a} {b} bl m far all done =
+    let closed : Frame = record { setting = a.frame.setting; entered = a.frame.entered; closed = true } in
+    let d = far.declared in
+    record {
+      in_hand = subst (λ (f : Frame). IsInHand f.setting bl) (sym done.frame) far.in_hand;
+      closed = ap (λ (f : Frame). f.closed) done.frame;
+      declared = subst (λ (f : Frame). HasDeclared f bl.around.now (stream_view bl.tree.now) m) (sym done.frame)
+          (record { within = d.within; laid = d.laid; owned = d.owned; cells = d.cells; procedures = d.procedures; told = d.told });
+      all = all;
+      shown = subst (λ (o : Option (List Look)). WhereKept o (λ looks. Each (IsAmong looks) m.answers)) (sym done.looks) far.shown;
+    }
+
+-- ** The complete block
+
+pub complete_still : {a b : State} {looks : List Look} (bl : Block) (m : Collected) → Keeps a b looks → IsComplete a bl m → IsComplete b bl m
+complete_still {a} {b} {looks} bl m keeps far =
+    record {
+      in_hand = subst (λ (f : Frame). IsInHand f.setting bl) (sym keeps.frame) far.in_hand;
+      closed = ap (λ (f : Frame). f.closed) keeps.frame ∙ far.closed;
+      declared = subst (λ (f : Frame). HasDeclared f bl.around.now (stream_view bl.tree.now) m) (sym keeps.frame) far.declared;
+      all = far.all;
+      shown = shown_still a.looks b.looks looks m.answers keeps.grows far.shown;
+    }
+
+none_before : {A : Type 0} (xs ys : List A) → xs ++ ys ≡ ys → xs ≡ []
+none_before [] ys e = refl
+none_before (x ∷ xs) ys e = let l = ap length e in let n = length-append (x ∷ xs) ys in absurd (omega (arith, l, n))
+
+-- what the declarations of a block leave
+module _ (st : State) (a : Around) (tree : Stream) (m : Collected) (declared : HasDeclared st.frame a tree m) (all : m.count ≡ length (items_of tree)) (tables : List (List Row)) (finished : IsFinished st.frame.setting.texts tables) where
+  pub effects_are : (first_made (source_of st.frame.setting.texts) (take st.frame.setting.fills tables) (block_with a tree) m.count).value ≡ (declare_block (source_of st.frame.setting.texts) (take st.frame.setting.fills tables) (block_with a tree)).value
+  effects_are = ap (λ (x : Makes BlockEffects). x.value) (all_made (source_of st.frame.setting.texts) (take st.frame.setting.fills tables) (block_with a tree) m.count all)
+
+-- a body is begun
+pub stating_begun : (st : State) (bl : Block) (m : Collected) (x : Stating) → IsComplete st bl m → x.body.count ≡ 0
+    → ((c : Context) → IsOfBlock c bl.around.now → x.closing.items ≡ closing_diags c (stream_view bl.tree.now))
+    → ((c : Context) (e : BlockEffects) → e.cell ≡ m.cell → e.prologue ≡ m.copies → IsBuilt c (stream_view bl.tree.now) e x.body)
+    → IsStating st bl m x
+stating_begun st bl m x far none closing begun =
+    let tree = stream_view bl.tree.now in
+    let a = bl.around.now in
+    let u = st.frame.setting.texts in
+    let b = block_with a tree in
+    let some : IsBuilt (complete_context (source_of u) [] b.block) tree (record { cell = m.cell; prologue = m.copies; headings = [] }) x.body = begun (complete_context (source_of u) [] b.block) (record { cell = m.cell; prologue = m.copies; headings = [] }) refl refl in
+    let no_answers : x.body.answers ≡ [] =
+    none_before x.body.answers (left (complete_context (source_of u) [] b.block) tree 0).answers
+    (ap (λ (n : ℕ). x.body.answers ++ (left (complete_context (source_of u) [] b.block) tree n).answers) (sym none) ∙ some.answers) in
+    record {
+      in_hand = far.in_hand;
+      closed = far.closed;
+      declared = far.declared;
+      all = far.all;
+      stated =
+          record {
+            within = omega (arith, none);
+            told = λ tables finished.
+                let fills = far.in_hand.block.fills in
+                let so = far.declared.told tables finished in
+                let e = effects_are st a tree m far.declared far.all tables finished in
+                let c = complete_context (source_of u) tables b.block in
+                let before : take st.frame.setting.fills tables ≡ take a.scope tables = ap (λ (n : ℕ). take n tables) (sym fills) in
+                record {
+                  closing = closing c (record { text = refl; level = refl; own = refl });
+                  built = subst (λ (ts : List (List Row)). IsBuilt c tree (declare_block (source_of u) ts b).value x.body) before
+                      (begun c (declare_block (source_of u) (take st.frame.setting.fills tables) b).value
+                      (sym (so.cell ∙ ap (λ (v : BlockEffects). v.cell) e)) (sym (so.copies ∙ ap (λ (v : BlockEffects). v.prologue) e)));
+                };
+          };
+      shown = subst (λ (xs : List Answer). WhereKept st.looks (λ looks. Each (IsAmong looks) xs)) (sym (ap (λ xs. m.answers ++ xs) no_answers ∙ append-nil m.answers)) far.shown;
+    }
+
+-- ** Statements
+
+pub suits_statements : (st : State) (bl : Block) (m : Collected) → IsInHand st.frame.setting bl → st.frame.closed ≡ true → HasDeclared st.frame bl.around.now (stream_view bl.tree.now) m → m.count ≡ length (items_of (stream_view bl.tree.now))
+    → SuitsSite st.frame (record { texts = bl.texts; around = bl.around; layout = bl.layout; item = None })
+suits_statements st bl m h closed declared all =
+    suits st.frame (site_at bl None) bl.around.now (stream_view bl.tree.now) m None h.block (site_of st.frame.setting bl None h) declared (λ none. closed) (λ c. all)
+
+pub statements_read : (g : Setting) (bl : Block) → IsInHand g bl → AreReadStatements bl.texts.now.names (stream_view bl.tree.now).body
+statements_read g bl h = subst (λ (u : UnitTexts). AreReadStatements u.names (stream_view bl.tree.now).body) (sym h.texts) h.block.statements
+
+no_result : (c : Context) (h : Option Heading) → GivesNone h → None ≡ bound_result c h
+no_result c None g = refl
+no_result c (Some h) g = go h.result g
+  where
+    go : (q : Option Qual) → q ≡ None → None ≡ (result_type c q).value
+    go None e = refl
+    go (Some q) e = absurd (cc)
+
+pub returns_none : (st : State) (bl : Block) → IsInHand st.frame.setting bl → Returns st.frame (record { texts = bl.texts; around = bl.around; layout = bl.layout; item = None }) (stream_view bl.tree.now) None
+returns_none st bl h made in_hand finished =
+    let tree = stream_view bl.tree.now in
+    no_result (record (context_of st.frame made (site_at bl None)) { layout = (layout_of tree).names; item = Some 0 }) tree.heading h.block.supported.plain
+
+module _ {a : State} (bl : Block) (m : Collected) (x : Stating) (far : IsStating a bl m x) where
+  -- where the statements of the block stand
+  context_is : (tables : List (List Row)) → IsFinished a.frame.setting.texts tables
+      → in_statements (context_of a.frame (hand tables []) (record { texts = bl.texts; around = bl.around; layout = bl.layout; item = None })) ≡ complete_context (source_of a.frame.setting.texts) tables (block_of bl.around.now)
+  context_is tables finished =
+      let h = far.in_hand in
+      let fills = h.block.fills in
+      λ k. record {
+        source = source_of (h.texts k);
+        scene = record { block = block_of bl.around.now; tables = take (sym fills k) tables ++ both k ∷ [] };
+        layout = [];
+        item = None;
+      }
+    where
+      both : a.frame.entered ++ [] ≡ rows_at tables bl.around.now.scope
+      both =
+          append-nil a.frame.entered ∙ entered_all a.frame bl.around.now (stream_view bl.tree.now) m far.in_hand.block far.declared far.all tables finished
+          ∙ ap (rows_at tables) (sym far.in_hand.block.fills)
+
+module _ {a b : State} (bl : Block) (m : Collected) (x : Stating) (far : IsStating a bl m x) where
+  -- nothing was added
+  pub stating_still : {looks : List Look} (y : Stating) → Keeps a b looks → y.closing.items ≡ x.closing.items → y.body ≡ x.body → IsStating b bl m y
+  stating_still {looks} y keeps closing body =
+      let tree = stream_view bl.tree.now in
+      let s = far.stated in
+      let stated : HasStated a.frame bl.around.now bl.tree.now y =
+      record {
+        within = subst (λ (z : Built). z.count ≤ length bl.tree.now.body.items) (sym body) s.within;
+        told = λ tables finished.
+            let t = s.told tables finished in
+            record { closing = closing ∙ t.closing; built = subst (λ (z : Built). IsBuilt (complete_context (source_of a.frame.setting.texts) tables (block_of bl.around.now)) tree (declare_block (source_of a.frame.setting.texts) (take bl.around.now.scope tables) (block_with bl.around.now tree)).value z) (sym body) t.built };
+      } in
+      record {
+        in_hand = subst (λ (f : Frame). IsInHand f.setting bl) (sym keeps.frame) far.in_hand;
+        closed = ap (λ (f : Frame). f.closed) keeps.frame ∙ far.closed;
+        declared = subst (λ (f : Frame). HasDeclared f bl.around.now tree m) (sym keeps.frame) far.declared;
+        all = far.all;
+        stated = subst (λ (f : Frame). HasStated f bl.around.now bl.tree.now y) (sym keeps.frame) stated;
+        shown = shown_still a.looks b.looks looks (m.answers ++ y.body.answers) keeps.grows
+            (subst (λ (z : Built). WhereKept a.looks (λ l. Each (IsAmong l) (m.answers ++ z.answers))) (sym body) far.shown);
+      }
+
+  -- a statement more
+  pub stating_next : (y : Stating) → x.body.count < length bl.tree.now.body.items → y.closing.items ≡ x.closing.items
+      → Adding a b x.body y.body (record { texts = bl.texts; around = bl.around; layout = bl.layout; item = None }) (stream_view bl.tree.now) (Ok (Known tt)) → IsStating b bl m y
+  stating_next y more closing p =
+      let tree = stream_view bl.tree.now in
+      let s = far.stated in
+      let count = p.count in
+      let effects : (tables : List (List Row)) → BlockEffects = λ tables. (declare_block (source_of a.frame.setting.texts) (take bl.around.now.scope tables) (block_with bl.around.now tree)).value in
+      let stated : HasStated a.frame bl.around.now bl.tree.now y =
+      record {
+        within = omega (arith, count, more);
+        told = λ tables finished.
+            let t = s.told tables finished in
+            record {
+              closing = closing ∙ t.closing;
+              built = subst (λ (c : Context). IsBuilt c tree (effects tables) x.body → IsBuilt c tree (effects tables) y.body) (context_is bl m x far tables finished)
+                  (p.built (hand tables []) (record { closed = λ _. refl; types = tt }) finished (effects tables)) t.built;
+            };
+      } in
+      record {
+        in_hand = subst (λ (f : Frame). IsInHand f.setting bl) (sym p.keeps.frame) far.in_hand;
+        closed = ap (λ (f : Frame). f.closed) p.keeps.frame ∙ far.closed;
+        declared = subst (λ (f : Frame). HasDeclared f bl.around.now tree m) (sym p.keeps.frame) far.declared;
+        all = far.all;
+        stated = subst (λ (f : Frame). HasStated f bl.around.now bl.tree.now y) (sym p.keeps.frame) stated;
+        shown = subst (λ (xs : List Answer). WhereKept b.looks (λ l. Each (IsAmong l) xs)) (append_assoc m.answers x.body.answers p.answers ∙ sym (ap (λ xs. m.answers ++ xs) p.noted))
+            (shown_more a.looks b.looks p.looks (m.answers ++ x.body.answers) p.answers p.keeps.grows far.shown p.shown);
+      }

@@ -1,0 +1,60 @@
+-- What the items of a block have given so far, and what the definition says of the first of them.
+use Rattle.std.specs.Prelude.{◌≡◌, ℕ, ◌+◌, List, [], ◌++◌, filter, length, take}
+use Rattle.m2_base.specs.Statics.BlockRows.{context_of, declare_items, first_cell, scene_of}
+use Rattle.m2_base.specs.Statics.Blocks.{BlockTree}
+use Rattle.m2_base.specs.Statics.Contexts.{Source}
+use Rattle.m2_base.specs.Statics.Effects.{BlockEffects, ParamCopy, heading_list}
+use Rattle.m2_base.specs.Statics.Items.{items_of}
+use Rattle.m2_base.specs.Statics.Makes.{Makes}
+use Rattle.m2_base.specs.Statics.ProcedureRows.{is_proc}
+use Rattle.m2_base.specs.declared.notes.Answer.{Answer}
+use Rattle.m2_base.specs.declared.notes.Diag.{Diag}
+use Rattle.m2_base.specs.declared.outputs.HeadingNote.{HeadingNote}
+use Rattle.m2_base.specs.declared.rows.Row.{Row}
+use Rattle.decl_sem.specs.declared.declaring.Declared.{Declared}
+
+-- How many items there are; the next free cell and the number of their procedures; what the body copies first; the notes of
+-- headings; and what was noted.
+pub record Collected : Type 0 where
+  pub count : ℕ
+  pub cell : ℕ
+  pub procedures : ℕ
+  pub copies : List ParamCopy
+  pub headings : List HeadingNote
+  pub diags : List Diag
+  pub answers : List Answer
+
+-- of no item
+abbrev pub none_from : (cell : ℕ) → Collected
+none_from cell = record { count = 0; cell = cell; procedures = 0; copies = []; headings = []; diags = []; answers = [] }
+
+-- with what the next item gives
+abbrev pub with_item : Collected → Declared → Collected
+with_item m d =
+    record {
+      count = m.count + 1;
+      cell = d.effect.cell;
+      procedures = m.procedures + length (filter is_proc d.rows.items);
+      copies = m.copies ++ d.effect.prologue;
+      headings = m.headings ++ heading_list d.effect.heading;
+      diags = m.diags ++ d.notes.diags.items;
+      answers = m.answers ++ d.notes.answers.items;
+    }
+
+-- the cell from which the variables of a block are placed, over the finished scopes before it
+abbrev pub first_cell_of : (before : List (List Row)) → BlockTree → ℕ
+first_cell_of before b = first_cell (scene_of before b.block) b.tree.kind b.block.own
+
+-- what the first items of a block make, so many of them, over the finished scopes before it
+abbrev pub first_made : Source → (before : List (List Row)) → BlockTree → (count : ℕ) → Makes BlockEffects
+first_made source before b count =
+    declare_items (context_of source before b) b.tree.kind 0 (first_cell_of before b) (take count (items_of b.tree))
+
+-- All is what the definition says of the first items: the rows, and what was collected.
+pub record IsMade (source : Source) (before : List (List Row)) (b : BlockTree) (entered : List Row) (m : Collected) : Type 0 where
+  pub rows : entered ≡ (first_made source before b m.count).rows
+  pub cell : m.cell ≡ (first_made source before b m.count).value.cell
+  pub copies : m.copies ≡ (first_made source before b m.count).value.prologue
+  pub headings : m.headings ≡ (first_made source before b m.count).value.headings
+  pub diags : m.diags ≡ (first_made source before b m.count).diags
+  pub answers : m.answers ≡ (first_made source before b m.count).answers

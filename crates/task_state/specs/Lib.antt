@@ -1,0 +1,7 @@
+pub mod Blocks
+pub mod Collecting
+pub mod Conditions
+pub mod Outputs
+pub mod Progress
+pub mod Steps
+pub mod Units

@@ -1,0 +1,41 @@
+//! How far the work on a stream is.
+use crate::collecting::Collected;
+use m2_base::{Around, Diag, Layout, Output, Stream, Texts, Token};
+use stmt_sem::Body;
+
+/// What was noted of a complete block, and its body in the making.
+#[derive(Drop)]
+pub(crate) struct Stating {
+    pub closing: Vec<Diag>,
+    pub body: Body,
+}
+
+/// A block whose tree is read.
+#[derive(Drop)]
+pub(crate) struct Begun {
+    pub tree: Stream,
+    pub layout: Layout,
+    pub collected: Collected,
+    /// Whether its scope is complete.
+    pub closed: bool,
+    pub stating: Option<Stating>,
+}
+
+/// How far a task is.
+#[derive(Drop)]
+pub(crate) enum Stage {
+    /// Its tokens aren't read yet.
+    Unread(Vec<Token>),
+    Working(Begun),
+    /// What it leaves.
+    Ended(Output),
+}
+
+/// A block in hand, and the texts of its unit.
+#[derive(Drop)]
+pub(crate) struct Block<'a> {
+    pub texts: &'a Texts,
+    pub around: &'a Around,
+    pub tree: &'a Stream,
+    pub layout: &'a Layout,
+}
