@@ -29,14 +29,14 @@ pub(crate) fn row_of(name: u32) -> Row
 }
 
 /// So many rows, the first of this name.
-#[tactic(auto, using(crate::proofs::Named::rows_step))]
 fn rows_from(alloc: Global, first: u32, many: u32) -> Result<Vec<Row>, Memory>
     requires { first + many < 2 ^ 32 }
     ensures { IfOk result (λ rows. rows.items ≡ rows_named first many) }
 {
     let mut rows = Vec::new(alloc);
     for name in first..first + many {
-        rows.push(row_of(name))?;
+        let row = row_of(name);
+        rows.push(row)?;
     }
     Ok(rows)
 }

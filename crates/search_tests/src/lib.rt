@@ -12,6 +12,4 @@ mod of_threads;
 mod opening;
 mod sending;
 
-pub use sending::{
-    sends_handles, sends_output, sends_tokens, sends_tree, sent, shared, shares,
-};
+pub use sending::{sends_handles, sends_output, sends_tokens, sent, shared, shares};

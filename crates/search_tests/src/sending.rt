@@ -1,7 +1,7 @@
 //! What a task holds can be handed to another thread, and what all tasks share can be seen by many at once. The functions do
 //! nothing: that they are proved is what they say.
 use dky_search::SeatScopes;
-use m2_base::{Around, Layout, Notes, Output, Stream, Texts};
+use m2_base::{Around, Layout, Notes, Output, Texts};
 use scope_table::{ScopeTable, TableSeat};
 use stream_split::StreamTokens;
 
@@ -23,11 +23,6 @@ pub fn sends_handles(seat: TableSeat, scopes: SeatScopes) -> (TableSeat, SeatSco
 /// The tokens of a stream.
 pub fn sends_tokens(tokens: StreamTokens) -> StreamTokens {
     sent(tokens)
-}
-
-/// The tree of a stream.
-pub fn sends_tree(tree: Stream) -> Stream {
-    sent(tree)
 }
 
 /// What surrounds a block, its layout, and what it comes to.
