@@ -1,7 +1,0 @@
-use Rattle.std.proofs.Common.{◌∙◌}
-use Rattle.m2_samples.proofs.Samples.{full_kept, site_full}
-use Rattle.analysis_tests.proofs.asking.evaluated.Goals as goal
-
-pub constant-requires-clause-suits : goal.constant-requires-clause-suits
-constant-requires-clause-suits g c =
-    site_full {level = 0} c.requires.sample c.requires.full (record { texts = c.site-site.ensures.texts; around = c.site-site.ensures.around ∙ c.requires.around })
