@@ -60,9 +60,25 @@ fn replies_as_rows_are_shown(rt: HostRuntime) -> Result<(), Fail> {
     assert_eq!(rt; look(&mut reader, 110), Reply::Absent);
     assert_eq!(rt; row_at(&mut reader, 3), Ask::Known(None));
     assert_eq!(rt; look(&mut reader, 101), found);
-    filled.tell(&mut reader);
     assert_eq!(rt; look(&mut filled, 102), Reply::Found(place(2), row_of(102)));
     assert_eq!(rt; (filled.filled(), reader.filled()), (1, 3));
+    Ok(())
+}
+
+/// A handle is told what another has seen, where no row is there yet.
+#[test]
+fn tells_another_handle(rt: HostRuntime) -> Result<(), Fail> {
+    let alloc = rt.alloc();
+    let sample = sample_with(alloc, 100)?;
+    let Opened {
+        table,
+        first,
+        third,
+    } = open(alloc, &sample.texts, 3)?;
+    let mut teller = SeatScopes::new(&table, &sample.texts, first);
+    let mut reader = SeatScopes::new(&table, &sample.texts, third);
+    teller.tell(&mut reader);
+    assert_eq!(rt; look(&mut reader, 101), Reply::DontKnowYet(head(0)));
     Ok(())
 }
 

@@ -3,7 +3,7 @@ use Rattle.search_tests.proofs.Tables.{narrow, table_opened}
 use Rattle.search_tests.proofs.opening.open.Goals as goal
 
 pub open-requires-clause-narrow : goal.open-requires-clause-narrow
-open-requires-clause-narrow c = narrow c.args.room c.requires
+open-requires-clause-narrow c = narrow c.args.room c.requires.room
 
 pub returns : goal.returns
 returns c =
