@@ -1,5 +1,6 @@
-//! Tests of searches over tables that another handle fills meanwhile: what they answer, how many rows they load, and whether
-//! an answer is ever taken back. What a task holds may be sent to another thread (`sending`).
+//! Tests of searches over tables that another handle fills meanwhile: what they answer, how many rows they load, and
+//! whether an answer is ever taken back. What a task holds, but for its tree, may be sent to another thread
+//! (`sending`).
 #![tactic(auto)]
 
 #[cfg(test)]

@@ -1,4 +1,4 @@
-//! Replies before a row is shown, after it is, and when its scope is complete, by hand; and how many rows searches load.
+//! Replies before a row is shown, after it is, and when its scope is complete, by hand; and how many rows are loaded.
 ghost use Rattle.std.specs.Prelude.{◌≢◌, ◌^◌, ◌<◌, ◌≤◌, ◌+◌};
 
 use crate::filling::{FIRST, Filler, row_of};
@@ -82,8 +82,8 @@ fn tells_another_handle(rt: HostRuntime) -> Result<(), Fail> {
     Ok(())
 }
 
-/// A scope is filled to its last row and complete. Of so many searches for names that it has, and as many for others, how
-/// many find a row, and how many rows they load together.
+/// A scope is filled to its last row and complete. Of so many searches, one for each name that it has: how many find a
+/// row, and how many rows they load together.
 fn searched(alloc: Global, many: u32) -> Result<(u32, u64), Memory>
     requires { many < 2 ^ 31 }
 {

@@ -39,8 +39,8 @@ struct Told {
 }
 
 impl Told {
-    /// Whether a reply takes nothing back of what was told before, and is right of a name that comes with the row of this
-    /// ordinal.
+    /// Whether a reply takes nothing back of what was told before, and is right of a name that comes with the row of
+    /// this ordinal.
     fn agrees(&mut self, ordinal: u32, reply: Reply) -> bool
         requires { ordinal < 10000 }
     {

@@ -1,5 +1,5 @@
-//! What a task holds can be handed to another thread, and what all tasks share can be seen by many at once. The functions do
-//! nothing: that they are proved is what they say.
+//! What a task holds, but for its tree, can be handed to another thread, and what all tasks share can be seen by many
+//! at once. The functions do nothing: that they are proved is what they say.
 use dky_search::SeatScopes;
 use m2_base::{Around, Layout, Notes, Output, Texts};
 use scope_table::{ScopeTable, TableSeat};
