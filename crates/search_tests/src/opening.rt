@@ -51,10 +51,7 @@ pub(crate) fn open(alloc: Global, texts: &Texts, room: u32) -> Result<Opened, Me
 }
 
 /// The seats of the scopes 1 and 3.
-fn first_and_third(
-    _table: &ScopeTable,
-    mut seats: Vec<TableSeat>,
-) -> Option<(TableSeat, TableSeat)>
+fn first_and_third(_table: &ScopeTable, mut seats: Vec<TableSeat>) -> Option<(TableSeat, TableSeat)>
     requires { AreFirst _table.now seats.items 4 }
     ensures { IfSome result (λ r. IsFirst _table.now 1 r.0 × IsFirst _table.now 3 r.1) }
 {
