@@ -1,0 +1,125 @@
+//! Replies before a row is shown, after it is, and when its scope is complete, by hand; and how many rows are loaded.
+ghost use Rattle.std.specs.Prelude.{◌≢◌, ◌^◌, ◌<◌, ◌≤◌, ◌+◌};
+
+use crate::filling::{FIRST, Filler, row_of};
+use crate::opening::{Opened, open, sample_with};
+use dky_search::SeatScopes;
+use m2_base::{Ask, Head, Memory, Place, Reply, Row, Scopes};
+use std::alloc::Global;
+use std::test::Fail;
+
+/// Looks a name up in scope 1.
+pub(crate) fn look(scopes: &mut SeatScopes, name: u32) -> Reply
+    requires { name ≢ 0 }
+{
+    let _own = scopes.filled();
+    scopes.search(0, &[1], name)
+}
+
+/// Fetches the row of this ordinal in scope 1.
+fn row_at(scopes: &mut SeatScopes, ordinal: u32) -> Ask<Option<Row>> {
+    let _own = scopes.filled();
+    scopes.fetch(0, Place { scope: 1, ordinal })
+}
+
+/// The head of scope 1 with so many rows, where more may follow.
+fn head(count: u32) -> Head {
+    Head {
+        scope: 1,
+        count,
+        complete: false,
+    }
+}
+
+/// The place of the row that has so many before it.
+fn place(ordinal: u32) -> Place {
+    Place { scope: 1, ordinal }
+}
+
+/// The names 100, 101 and 102 are shown together, and 110 never is.
+#[test]
+fn replies_as_rows_are_shown(rt: HostRuntime) -> Result<(), Fail> {
+    let alloc = rt.alloc();
+    let sample = sample_with(alloc, 100)?;
+    let Opened {
+        table,
+        first,
+        third,
+    } = open(alloc, &sample.texts, 3)?;
+    let mut filler = Filler::new(&table, &sample, first, 3);
+    let mut reader = SeatScopes::new(&table, &sample.texts, third);
+    assert_eq!(rt; look(&mut reader, 101), Reply::DontKnowYet(head(0)));
+    assert_eq!(rt; row_at(&mut reader, 2), Ask::DontKnowYet(head(0)));
+    filler.enter(alloc, 3)?;
+    let found = Reply::Found(place(1), row_of(101));
+    assert_eq!(rt; look(&mut reader, 101), found);
+    assert_eq!(rt; row_at(&mut reader, 2), Ask::Known(Some(row_of(102))));
+    assert_eq!(rt; look(&mut reader, 110), Reply::DontKnowYet(head(3)));
+    assert_eq!(rt; row_at(&mut reader, 3), Ask::DontKnowYet(head(3)));
+    let mut filled = filler.complete();
+    assert_eq!(rt; look(&mut reader, 110), Reply::Absent);
+    assert_eq!(rt; row_at(&mut reader, 3), Ask::Known(None));
+    assert_eq!(rt; look(&mut reader, 101), found);
+    assert_eq!(rt; look(&mut filled, 102), Reply::Found(place(2), row_of(102)));
+    assert_eq!(rt; (filled.filled(), reader.filled()), (1, 3));
+    Ok(())
+}
+
+/// A handle is told what another has seen, where no row is there yet.
+#[test]
+fn tells_another_handle(rt: HostRuntime) -> Result<(), Fail> {
+    let alloc = rt.alloc();
+    let sample = sample_with(alloc, 100)?;
+    let Opened {
+        table,
+        first,
+        third,
+    } = open(alloc, &sample.texts, 3)?;
+    let mut teller = SeatScopes::new(&table, &sample.texts, first);
+    let mut reader = SeatScopes::new(&table, &sample.texts, third);
+    teller.tell(&mut reader);
+    assert_eq!(rt; look(&mut reader, 101), Reply::DontKnowYet(head(0)));
+    Ok(())
+}
+
+/// A scope is filled to its last row and complete. Of so many searches, one for each name that it has: how many find a
+/// row, and how many rows they load together.
+fn searched(alloc: Global, many: u32) -> Result<(u32, u64), Memory>
+    requires { many < 2 ^ 31 }
+{
+    let sample = sample_with(alloc, FIRST + many)?;
+    let Opened {
+        table,
+        first,
+        third,
+    } = open(alloc, &sample.texts, many)?;
+    let mut filler = Filler::new(&table, &sample, first, many);
+    filler.enter(alloc, many)?;
+    let _filled = filler.complete();
+    let mut reader = SeatScopes::new(&table, &sample.texts, third);
+    let mut found = 0u32;
+    for name in FIRST..FIRST + many {
+        if let Reply::Found(_, _) = look(&mut reader, name) {
+            found = found.saturating_add(1);
+        }
+    }
+    Ok((found, reader.rows_loaded()))
+}
+
+/// The names 100 to 1123.
+#[test]
+fn loads_few_of_a_thousand_rows(rt: HostRuntime) -> Result<(), Fail> {
+    let (found, loaded) = searched(rt.alloc(), 1024)?;
+    assert_eq!(rt; found, 1024);
+    assert!(rt; loaded <= 2048, "{loaded} rows for 1,024 names");
+    Ok(())
+}
+
+/// So many rows with names has the scope of a module of as many procedures.
+#[test]
+fn loads_at_most_two_rows_a_search(rt: HostRuntime) -> Result<(), Fail> {
+    let (found, loaded) = searched(rt.alloc(), 16_384)?;
+    assert_eq!(rt; found, 16_384);
+    assert!(rt; loaded <= 32_768, "{loaded} rows for 16,384 names");
+    Ok(())
+}

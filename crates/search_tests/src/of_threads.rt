@@ -1,0 +1,125 @@
+//! One thread enters rows in pieces, while another searches for them.
+ghost use Rattle.std.specs.Prelude.{◌≢◌, ◌≤◌, ◌<◌};
+
+use crate::filling::{FIRST, Filler, row_of};
+use crate::of_dky_search::look;
+use crate::opening::{Opened, open, sample_with};
+use dky_search::SeatScopes;
+use m2_base::{Memory, Place, Reply};
+use std::alloc::Global;
+use std::test::Fail;
+use std::thread::join;
+
+/// So many rows are entered at a time, and so often.
+const PIECE: u32 = 100;
+
+const PIECES: u32 = 100;
+
+const ROWS: u32 = PIECE * PIECES;
+
+/// A name that no row has.
+const MISSING: u32 = 20_000;
+
+/// How often it is tried.
+const RUNS: u32 = 100;
+
+/// Enters all rows, in pieces.
+fn fill<'t>(alloc: Global, mut filler: Filler<'t>) -> Result<SeatScopes<'t>, Memory> {
+    for _ in 0..PIECES {
+        filler.enter(alloc, PIECE)?;
+    }
+    Ok(filler.complete())
+}
+
+/// What replies have told of the scope: at least so many rows, or all.
+#[derive(Clone, Copy, Debug)]
+struct Told {
+    rows: u32,
+    all: bool,
+}
+
+impl Told {
+    /// Whether a reply takes nothing back of what was told before, and is right of a name that comes with the row of
+    /// this ordinal.
+    fn agrees(&mut self, ordinal: u32, reply: Reply) -> bool
+        requires { ordinal < 10000 }
+    {
+        match reply {
+            Reply::Found(place, row) => {
+                self.rows = self.rows.max(ordinal + 1);
+                place == Place { scope: 1, ordinal } && row == row_of(FIRST + ordinal)
+            }
+            Reply::Absent => false,
+            Reply::DontKnowYet(head) => {
+                let grows = self.rows <= head.count && !self.all;
+                self.rows = head.count;
+                grows && head.scope == 1 && head.count <= ordinal && !head.complete
+            }
+        }
+    }
+
+    /// The same of the name that no row has.
+    fn agrees_missing(&mut self, reply: Reply) -> bool {
+        match reply {
+            Reply::Found(_, _) => false,
+            Reply::Absent => {
+                self.all = true;
+                true
+            }
+            Reply::DontKnowYet(head) => {
+                let grows = self.rows <= head.count && !self.all;
+                self.rows = head.count;
+                grows && head.scope == 1 && head.count <= ROWS && !head.complete
+            }
+        }
+    }
+}
+
+/// Searches until the scope is complete, and then for all names. Whether no reply takes another back.
+fn watch(mut reader: SeatScopes) -> bool {
+    let mut told = Told {
+        rows: 0,
+        all: false,
+    };
+    let mut agree = true;
+    for step in 0..u64::MAX {
+        let ordinal = (step % 10000 * 7919 % 10000) as u32;
+        agree &= told.agrees(ordinal, look(&mut reader, FIRST + ordinal));
+        agree &= told.agrees_missing(look(&mut reader, MISSING));
+        if told.all {
+            break;
+        }
+    }
+    agree && finds_all(&mut reader)
+}
+
+/// Whether all names are found.
+fn finds_all(reader: &mut SeatScopes) -> bool {
+    for ordinal in 0..ROWS {
+        let found = Reply::Found(Place { scope: 1, ordinal }, row_of(FIRST + ordinal));
+        if look(reader, FIRST + ordinal) != found {
+            return false;
+        }
+    }
+    true
+}
+
+#[test]
+fn takes_no_reply_back(rt: HostRuntime) -> Result<(), Fail> {
+    let alloc = rt.alloc();
+    let sample = sample_with(alloc, FIRST + ROWS)?;
+    for run in 0..RUNS {
+        let Opened {
+            table,
+            first,
+            third,
+        } = open(alloc, &sample.texts, ROWS)?;
+        let filler = Filler::new(&table, &sample, first, ROWS);
+        let reader = SeatScopes::new(&table, &sample.texts, third);
+        let (filled, agree) = join(&rt, move || fill(alloc, filler), move || watch(reader));
+        assert!(rt; agree, "run {run}");
+        let mut filled = filled?;
+        assert!(rt; finds_all(&mut filled), "run {run}");
+    }
+    Ok(())
+}
