@@ -1,0 +1,7 @@
+//! Tests of the shared tables.
+#![tactic(auto)]
+
+#[cfg(test)]
+mod by_hand;
+#[cfg(test)]
+mod by_threads;
