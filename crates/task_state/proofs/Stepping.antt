@@ -1,5 +1,5 @@
 -- A step of the work on a block: what it needs, and what it leaves.
-use Rattle.std.specs.Prelude.{◌≡◌, ℕ, ◌+◌, ◌<◌, ◌≤◌, true, List, [], ◌∷◌, ◌++◌, Option, Some, None, Ok, length, slice_get, take}
+use Rattle.std.specs.Prelude.{◌≡◌, ℕ, ◌+◌, ◌<◌, ◌≤◌, ◌==◌, true, if◌then◌else◌, List, [], ◌∷◌, ◌++◌, Option, Some, None, Ok, length, slice_get, take}
 use Rattle.std.proofs.Common.{refl, sym, ap, subst, ◌∙◌, arith}
 use Rattle.std.proofs.lemmas.List.{append-nil, append_assoc, length-append}
 use Rattle.m2_base.specs.Finished.{IsFinished, source_of}
@@ -8,9 +8,10 @@ use Rattle.m2_base.specs.Scopes.{CanComplete, CanEnter, Completed, Entered}
 use Rattle.m2_base.specs.States.{Frame, IsAmong, Keeps, Look, Setting, State}
 use Rattle.m2_base.specs.Statics.BlockRows.{declare_block}
 use Rattle.m2_base.specs.Statics.Cells.{most_cells}
-use Rattle.m2_base.specs.Statics.Closing.{closing_diags}
-use Rattle.m2_base.specs.Statics.Contexts.{Context}
+use Rattle.m2_base.specs.Statics.Closing.{Implemented, all_implemented, block_name, closing_diags, differing, differs_at, has_missing, implementation_diags, is_implemented, is_missing, name_diags, own_diags}
+use Rattle.m2_base.specs.Statics.Contexts.{Context, diag}
 use Rattle.m2_base.specs.Statics.Declarations.{declare}
+use Rattle.m2_base.specs.Statics.Diagnostics.{heading_differs, not_implemented}
 use Rattle.m2_base.specs.Statics.Effects.{BlockEffects}
 use Rattle.m2_base.specs.Statics.Items.{Item, items_of}
 use Rattle.m2_base.specs.Statics.Layouts.{layout_of}
@@ -28,12 +29,12 @@ use Rattle.m2_base.specs.declared.replies.Ask.TheVariants.{Known}
 use Rattle.m2_base.specs.declared.rows.Row.{Row}
 use Rattle.m2_base.specs.declared.sites.Around.{Around}
 use Rattle.m2_base.specs.declared.sites.Site.{Site}
+use Rattle.m2_base.specs.declared.trees.Ident.{Ident}
 use Rattle.m2_base.specs.declared.trees.Qual.{Qual}
-use Rattle.decl_sem.specs.Closing.{IsOfBlock}
 use Rattle.decl_sem.specs.DeclaredItems.{DeclaresItem}
 use Rattle.decl_sem.specs.Items.{IsAtItem}
 use Rattle.decl_sem.specs.declared.declaring.Declared.{Declared}
-use Rattle.type_rules.specs.Scenes.{block_of, hand}
+use Rattle.type_rules.specs.Scenes.{WhereTold, block_of, hand}
 use Rattle.type_rules.specs.Sites.{SuitsSite, context_of}
 use Rattle.stmt_sem.specs.BlockCode.{bound_result, in_statements}
 use Rattle.stmt_sem.specs.Bodies.{Adding, Built, IsBuilt, left}
@@ -131,9 +132,57 @@ module _ (st : State) (a : Around) (tree : Stream) (m : Collected) (declared : H
   pub effects_are : (first_made (source_of st.frame.setting.texts) (take st.frame.setting.fills tables) (block_with a tree) m.count).value ≡ (declare_block (source_of st.frame.setting.texts) (take st.frame.setting.fills tables) (block_with a tree)).value
   effects_are = ap (λ (x : Makes BlockEffects). x.value) (all_made (source_of st.frame.setting.texts) (take st.frame.setting.fills tables) (block_with a tree) m.count all)
 
+-- the closing check looks at no layout
+differing_in : (c : Context) (all : List Implemented) → differing (in_statements c) all ≡ differing c all
+differing_in c [] = refl
+differing_in c (is_implemented ∷ rest) = differing_in c rest
+differing_in c (is_missing ∷ rest) = differing_in c rest
+differing_in c (differs_at at ∷ rest) = ap (λ ds. diag c at heading_differs ∷ ds) (differing_in c rest)
+
+implementation_in : (c : Context) (name : Option Ident) (all : List Implemented) → implementation_diags (in_statements c) name all ≡ implementation_diags c name all
+implementation_in c None all = refl
+implementation_in c (Some i) all = ap (λ ds. if has_missing all then ds ++ diag c i.at not_implemented ∷ [] else ds) (differing_in c all)
+
+own_in : (c : Context) (s : Stream) (own : Option ℕ) → own_diags (in_statements c) s own ≡ own_diags c s own
+own_in c s None = refl
+own_in c s (Some own) = ap (λ ds. if c.scene.block.level == 0 then ds else []) (implementation_in c s.name (all_implemented c.scene own 0 (rows_at c.scene.tables own)))
+
+name_in : (c : Context) (close : Ident) (name : Option Ident) → name_diags (in_statements c) close name ≡ name_diags c close name
+name_in c close None = refl
+name_in c close (Some i) = refl
+
+closing_in : (c : Context) (s : Stream) → closing_diags (in_statements c) s ≡ closing_diags c s
+closing_in c s = λ k. name_in c s.close (block_name s) k ++ own_in c s c.scene.block.own k
+
+-- where the closing check and the statements of the block stand
+module _ (a : State) (bl : Block) (m : Collected) (h : IsInHand a.frame.setting bl) (declared : HasDeclared a.frame bl.around.now (stream_view bl.tree.now) m) (whole : m.count ≡ length (items_of (stream_view bl.tree.now))) where
+  context_is : (tables : List (List Row)) → IsFinished a.frame.setting.texts tables
+      → in_statements (context_of a.frame (hand tables []) (record { texts = bl.texts; around = bl.around; layout = bl.layout; item = None })) ≡ complete_context (source_of a.frame.setting.texts) tables (block_of bl.around.now)
+  context_is tables finished =
+      let fills = h.block.fills in
+      λ k. record {
+        source = source_of (h.texts k);
+        scene = record { block = block_of bl.around.now; tables = take (sym fills k) tables ++ both k ∷ [] };
+        layout = [];
+        item = None;
+      }
+    where
+      both : a.frame.entered ++ [] ≡ rows_at tables bl.around.now.scope
+      both =
+          append-nil a.frame.entered ∙ entered_all a.frame bl.around.now (stream_view bl.tree.now) m h.block declared whole tables finished
+          ∙ ap (rows_at tables) (sym h.block.fills)
+
+  -- what was noted of the complete block
+  closing_is : (x : Stating) → WhereTold a.frame (λ made. x.closing.items ≡ closing_diags (context_of a.frame made (record { texts = bl.texts; around = bl.around; layout = bl.layout; item = None })) (stream_view bl.tree.now))
+      → (tables : List (List Row)) → IsFinished a.frame.setting.texts tables → x.closing.items ≡ closing_diags (complete_context (source_of a.frame.setting.texts) tables (block_of bl.around.now)) (stream_view bl.tree.now)
+  closing_is x noted tables finished =
+      noted (hand tables []) (record { closed = λ _. refl; types = tt }) finished
+      ∙ sym (closing_in (context_of a.frame (hand tables []) (site_at bl None)) (stream_view bl.tree.now))
+      ∙ ap (λ (c : Context). closing_diags c (stream_view bl.tree.now)) (context_is tables finished)
+
 -- a body is begun
 pub stating_begun : (st : State) (bl : Block) (m : Collected) (x : Stating) → IsComplete st bl m → x.body.count ≡ 0
-    → ((c : Context) → IsOfBlock c bl.around.now → x.closing.items ≡ closing_diags c (stream_view bl.tree.now))
+    → WhereTold st.frame (λ made. x.closing.items ≡ closing_diags (context_of st.frame made (record { texts = bl.texts; around = bl.around; layout = bl.layout; item = None })) (stream_view bl.tree.now))
     → ((c : Context) (e : BlockEffects) → e.cell ≡ m.cell → e.prologue ≡ m.copies → IsBuilt c (stream_view bl.tree.now) e x.body)
     → IsStating st bl m x
 stating_begun st bl m x far none closing begun =
@@ -160,7 +209,7 @@ stating_begun st bl m x far none closing begun =
                 let c = complete_context (source_of u) tables b.block in
                 let before : take st.frame.setting.fills tables ≡ take a.scope tables = ap (λ (n : ℕ). take n tables) (sym fills) in
                 record {
-                  closing = closing c (record { text = refl; level = refl; own = refl });
+                  closing = closing_is st bl m far.in_hand far.declared far.all x closing tables finished;
                   built = subst (λ (ts : List (List Row)). IsBuilt c tree (declare_block (source_of u) ts b).value x.body) before
                       (begun c (declare_block (source_of u) (take st.frame.setting.fills tables) b).value
                       (sym (so.cell ∙ ap (λ (v : BlockEffects). v.cell) e)) (sym (so.copies ∙ ap (λ (v : BlockEffects). v.prologue) e)));
@@ -191,25 +240,6 @@ pub returns_none : (st : State) (bl : Block) → IsInHand st.frame.setting bl �
 returns_none st bl h made in_hand finished =
     let tree = stream_view bl.tree.now in
     no_result (record (context_of st.frame made (site_at bl None)) { layout = (layout_of tree).names; item = Some 0 }) tree.heading h.block.supported.plain
-
-module _ {a : State} (bl : Block) (m : Collected) (x : Stating) (far : IsStating a bl m x) where
-  -- where the statements of the block stand
-  context_is : (tables : List (List Row)) → IsFinished a.frame.setting.texts tables
-      → in_statements (context_of a.frame (hand tables []) (record { texts = bl.texts; around = bl.around; layout = bl.layout; item = None })) ≡ complete_context (source_of a.frame.setting.texts) tables (block_of bl.around.now)
-  context_is tables finished =
-      let h = far.in_hand in
-      let fills = h.block.fills in
-      λ k. record {
-        source = source_of (h.texts k);
-        scene = record { block = block_of bl.around.now; tables = take (sym fills k) tables ++ both k ∷ [] };
-        layout = [];
-        item = None;
-      }
-    where
-      both : a.frame.entered ++ [] ≡ rows_at tables bl.around.now.scope
-      both =
-          append-nil a.frame.entered ∙ entered_all a.frame bl.around.now (stream_view bl.tree.now) m far.in_hand.block far.declared far.all tables finished
-          ∙ ap (rows_at tables) (sym far.in_hand.block.fills)
 
 module _ {a b : State} (bl : Block) (m : Collected) (x : Stating) (far : IsStating a bl m x) where
   -- nothing was added
@@ -249,7 +279,7 @@ module _ {a b : State} (bl : Block) (m : Collected) (x : Stating) (far : IsStati
             let t = s.told tables finished in
             record {
               closing = closing ∙ t.closing;
-              built = subst (λ (c : Context). IsBuilt c tree (effects tables) x.body → IsBuilt c tree (effects tables) y.body) (context_is bl m x far tables finished)
+              built = subst (λ (c : Context). IsBuilt c tree (effects tables) x.body → IsBuilt c tree (effects tables) y.body) (context_is a bl m far.in_hand far.declared far.all tables finished)
                   (p.built (hand tables []) (record { closed = λ _. refl; types = tt }) finished (effects tables)) t.built;
             };
       } in

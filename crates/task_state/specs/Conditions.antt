@@ -3,16 +3,14 @@ use Rattle.std.specs.Prelude.{◌≡◌, Option, Some, None}
 use Rattle.m2_base.specs.Trees.{Heading, Stream}
 use Rattle.m2_base.specs.declared.sites.Around.{Around}
 use Rattle.m2_base.specs.declared.trees.declarations.StreamKind.TheVariants.{Main}
-use Rattle.decl_sem.specs.Closing.{IsCheckedAlone}
 
 -- a heading gives no result
 abbrev pub GivesNone : Option Heading → Type 0
 GivesNone None = Unit {0}
 GivesNone (Some h) = h.result ≡ None
 
--- The block is no implementation module's own: that has what its definition promises isn't checked yet, and its first cell
--- isn't asked for. It is no function: the place of its result isn't handed on yet.
+-- The block is no implementation module's own: its first cell isn't asked for yet. It is no function: the place of its result
+-- isn't handed on yet.
 pub record IsSupported (a : Around) (tree : Stream) : Type 0 where
-  pub alone : IsCheckedAlone a
   pub cells : tree.kind ≡ Main → a.own ≡ None
   pub plain : GivesNone tree.heading
