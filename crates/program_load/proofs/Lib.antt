@@ -2,6 +2,6 @@ mod Fronts
 mod ImportNames
 mod Looping
 mod NamedOnce
-mod OneLoading
+pub mod OneLoading
 mod Orders
 mod Reaching

@@ -1,0 +1,7 @@
+mod Doing
+mod Ending
+mod Faring
+mod Finishing
+mod OneCode
+mod OneOutcome
+mod Saying

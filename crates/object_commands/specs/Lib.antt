@@ -1,0 +1,4 @@
+pub mod Dumps
+pub mod Failures
+pub mod Outcomes
+pub mod Runs
