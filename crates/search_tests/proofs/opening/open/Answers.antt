@@ -8,4 +8,4 @@ open-requires-clause-narrow c = narrow c.args.room c.requires.room
 pub returns : goal.returns
 returns c =
     let s = c.in-Some.ensures in
-    record { table = table_opened _ _ c.args.texts.now _ c.args.room c.in_ok-table.ensures refl; first = s.0; third = s.1 }
+    record { table = table_opened _ _ c.args.texts.now _ c.args.room c.in_ok-table.ensures.opened refl; first = s.0; third = s.1 }
