@@ -1,6 +1,6 @@
 -- The next item, among those that are listed.
 use Rattle.std.specs.Prelude.{◌≡◌, false, is_some, Option, None, ℕ, zero, suc, ◌+◌, ◌-◌, ◌<◌, ◌≤◌, List, [], ◌∷◌, Some, length, map, slice_get}
-use Rattle.std.proofs.Common.{refl, sym, ap, subst, ◌∙◌, arith}
+use Rattle.std.proofs.Common.{ap, subst, arith}
 use Rattle.std.proofs.lemmas.List.{length-map}
 use Rattle.m2_base.specs.Statics.Items as items
 use Rattle.decl_sem.specs.Items.{item_view}
