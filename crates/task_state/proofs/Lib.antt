@@ -1,4 +1,5 @@
 pub mod AtWork
+pub mod ItemsHere
 pub mod ItemsSoFar
 pub mod Lists
 pub mod NextItems

@@ -94,6 +94,32 @@ module _ {a b : State} (bl : Block) (m : Collected) (x : Item) (d : Declared) (f
             (shown_more a.looks b.looks p.looks m.answers d.notes.answers.items p.keeps.grows far.shown p.shown);
       }
 
+-- ** An item, by what the code has collected
+
+module _ (a : State) (bl : Block) (m v : Collected) (x : Item) (same : v ≡ m) (far : IsDeclaring a bl m) (here : slice_get (items_of (stream_view bl.tree.now)) m.count ≡ Some x) where
+  far_by : IsDeclaring a bl v
+  far_by = subst (λ (z : Collected). IsDeclaring a bl z) (sym same) far
+
+  here_by : slice_get (items_of (stream_view bl.tree.now)) v.count ≡ Some x
+  here_by = subst (λ (z : Collected). slice_get (items_of (stream_view bl.tree.now)) z.count ≡ Some x) (sym same) here
+
+  pub at_item_by : IsAtItem a.frame (record { texts = bl.texts; around = bl.around; layout = bl.layout; item = Some v.count }) (stream_view bl.tree.now) x v.cell v.procedures
+  at_item_by = at_item_in_hand a bl v x far_by here_by
+
+  module _ (b : State) (d : Declared) (p : DeclaresItem a b (record { texts = bl.texts; around = bl.around; layout = bl.layout; item = Some v.count }) (Ok (Known d)) (item_shapes x) (λ c. declare c bl.tree.now.kind x v.cell)) where
+    pub enters_by : CanEnter b d.rows.items
+    enters_by = item_enters bl v x d far_by here_by p
+
+    pub taken_by : (c : State) (n : Collected) → Entered b c d.rows.items → n ≡ with_item m d → IsDeclaring c bl n
+    taken_by c n entered next =
+        let effect = p.effect in
+        subst (λ (z : Collected). IsDeclaring c bl z) (ap (λ (z : Collected). with_item z d) same ∙ sym next) (item_taken bl v x d far_by here_by p c entered effect.cell)
+
+-- nothing was kept
+pub declaring_kept : (a b c : State) (bl : Block) (m n : Collected) (looks : List Look) → Keeps a b looks → c ≡ b → n ≡ m → IsDeclaring a bl m → IsDeclaring c bl n
+declaring_kept a b c bl m n looks keeps same kept far =
+    subst (λ (z : State). IsDeclaring z bl n) (sym same) (subst (λ (z : Collected). IsDeclaring b bl z) (sym kept) (declaring_still bl m keeps far))
+
 -- all are declared
 pub completes : (a : State) (bl : Block) (m : Collected) → IsDeclaring a bl m → m.count ≡ length (items_of (stream_view bl.tree.now)) → CanComplete a
 completes a bl m far all = may_complete a bl.around.now (stream_view bl.tree.now) m far.in_hand.block far.declared far.open_yet all

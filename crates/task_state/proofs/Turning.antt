@@ -11,5 +11,10 @@ stops_after a b c (Ok v) t h = tt
 stops_after a b c (Err (Parked head)) t h = Waits_turned t h
 stops_after a b c (Err NoMemory) t h = tt
 
+-- the same of two functions that answer something else
+pub stop_later : (T U : Type 0) (a b c : State) (s : Stop) → Turns a b → Stops {T = T} b c (Err s) → Stops {T = U} a c (Err s)
+stop_later T U a b c (Parked head) t h = Waits_turned t h
+stop_later T U a b c NoMemory t h = tt
+
 -- turns one after another, and why they stop
 pub ruleset going = (Turns-refl, Turns-trans, Turns-keeps, Turns-entered, Turns-completed, stops_after)

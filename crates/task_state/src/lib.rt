@@ -8,7 +8,28 @@
 //! output is the definition's (`specs/Outputs`).
 #![tactic(auto)]
 
+/// The value of a step, or the end of the function where the work stops.
+macro_rules! gone {
+    ($step:expr) => {
+        match $step {
+            Ok(value) => value,
+            Err(stop) => return Err(stop),
+        }
+    };
+}
+
+/// The value of what takes memory, or the end of the function where there is none.
+macro_rules! taken {
+    ($value:expr) => {
+        match $value {
+            Ok(value) => value,
+            Err(_) => return Err(Stop::NoMemory),
+        }
+    };
+}
+
 mod collecting;
+mod declaring;
 mod items;
 mod stages;
 mod stops;
