@@ -1,6 +1,6 @@
 -- Where nothing is refused all imports are met.
-use Rattle.std.proofs.Common.{◌≡◌, ◌≢◌, ℕ, suc, ◌+◌, ◌-◌, ◌<◌, ◌^◌, Bool, true, false, cond, eqb, List, [], ◌∷◌, length, map, Option, Some, None, refl, sym, ap, subst, ◌∙◌, arith}
-use Rattle.std.specs.Prelude.{◌&&◌, ◌||◌, not, is_none, option_map, slice_get}
+use Rattle.std.proofs.Common.{◌≡◌, ◌≢◌, ℕ, suc, ◌-◌, ◌<◌, ◌^◌, Bool, true, false, cond, eqb, List, [], ◌∷◌, length, map, Option, Some, None, refl, sym, ap, subst, ◌∙◌, arith}
+use Rattle.std.specs.Prelude.{◌&&◌, ◌||◌, not, option_map}
 use Rattle.std.specs.List.{AllByRecursion}
 use Rattle.std.specs.Str.{bytes_eq}
 use Rattle.std.proofs.lemmas.Bool.{eqb-true, false≢true}
@@ -10,9 +10,9 @@ use Rattle.code_form.specs.Modules.{Import}
 use Rattle.object_file.specs.Contents.{Export, KeyedImport, Contents, definitions_of}
 use Rattle.object_file.specs.Views.{heading_of}
 use Rattle.object_file.specs.Naming.{object_named, name_again}
-use Rattle.object_file.specs.Programs.{in_out, IsApart, built_in, empty, IsMet, apart, by, AreLinked, given_headings}
+use Rattle.object_file.specs.Programs.{in_out, built_in, empty, IsMet, apart, by, AreLinked, given_headings}
 use Rattle.object_file.proofs.Directing.{named_is}
-use Rattle.m2_link.specs.Refusals.{Refusal, twice, missing, key_differs, lacks, is_in_out, is_missing, Given, given_by, in_out_given, same_headings, agrees, object_at, disagrees, differs, first_in, or_else, first_import, first_missing, first_differing, refusal}
+use Rattle.m2_link.specs.Refusals.{twice, missing, key_differs, lacks, is_in_out, is_missing, Given, given_by, in_out_given, same_headings, agrees, object_at, disagrees, differs, first_in, or_else, first_import, first_missing, first_differing, refusal}
 
 both : (a b : Bool) → a && b ≡ true → (a ≡ true) × (b ≡ true)
 both true b e = (refl, e)

@@ -6,7 +6,7 @@ use Rattle.object_file.specs.Directories.{IsDirectory, found_in}
 use Rattle.object_file.specs.Views.{keyed_of}
 use Rattle.object_file.specs.declared.directory.Directory.{Directory}
 use Rattle.object_file.specs.declared.parts.ImportNote.{ImportNote}
-use Rattle.m2_link.specs.Refusals.{lacks, is_missing, first_in, or_else, first_import, first_missing}
+use Rattle.m2_link.specs.Refusals.{lacks, is_missing, first_in, or_else, first_import}
 
 -- ---- the imports of one object
 

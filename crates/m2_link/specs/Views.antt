@@ -1,7 +1,7 @@
 -- What a fault tells of the objects.
 use Rattle.std.specs.Prelude.{◌≡◌, List, Some}
 use Rattle.object_file.specs.Contents.{Contents}
-use Rattle.m2_link.specs.Refusals.{Refusal, twice, missing, key_differs, refusal}
+use Rattle.m2_link.specs.Refusals.{twice, missing, key_differs, refusal}
 use Rattle.m2_link.specs.declared.fault.LinkFault.{LinkFault}
 use Rattle.m2_link.specs.declared.fault.LinkFault.TheVariants as faults
 

@@ -1,5 +1,5 @@
 -- What the commands leave, by what the calls below them leave.
-use Rattle.std.proofs.Common.{◌≡◌, ◌⊎◌, inl, inr, ℕ, ◌<◌, ◌≤◌, arith, codes, decimal, List, [], ◌++◌, Option, Some, None, Result, Ok, Err, refl, sym, ◌∙◌, ap, subst}
+use Rattle.std.proofs.Common.{◌≡◌, ◌⊎◌, inl, inr, ℕ, ◌<◌, ◌≤◌, arith, codes, decimal, List, ◌++◌, Option, Some, None, Result, Ok, Err, refl, sym, ◌∙◌, subst}
 use Rattle.std.specs.Prelude.{IfErr, IfOk, IfSome, IsErrOf, OnErr}
 use Rattle.std.proofs.lemmas.Bool.{cases_lt}
 use Rattle.m2_io.specs.Files.{Files}
@@ -15,7 +15,7 @@ use Rattle.stack_machine.specs.declared.machine.StartFault.{StartFault}
 use Rattle.stack_machine.specs.declared.machine.StartFault.TheVariants as start_faults
 use Rattle.object_commands.specs.Dumps.{Dumps, dumped, failed as dump_failed}
 use Rattle.object_commands.specs.Failures.{Says, SaysPart, failure_answer, failure_text, line}
-use Rattle.object_commands.specs.Outcomes.{Leaves, LeavesPart, Outcome, Prints, PrintsPart}
+use Rattle.object_commands.specs.Outcomes.{Leaves, LeavesPart, Prints, PrintsPart}
 use Rattle.object_commands.specs.Runs.{Runs, RunsProgram, failed, loaded, no_room, runs}
 use Rattle.object_commands.specs.declared.answer.Answer.{Answer}
 use Rattle.object_commands.specs.declared.answer.Answer.TheVariants.{Done, OverLimit}

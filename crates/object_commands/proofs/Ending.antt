@@ -1,13 +1,13 @@
 -- From the machine's end to what running a program leaves.
-use Rattle.std.proofs.Common.{◌≡◌, ◌⊎◌, inl, inr, ℕ, ◌<◌, ◌≤◌, List, [], ◌∷◌, ◌++◌, Option, Some, None, Result, Ok, Err, refl, sym, ◌∙◌, ap, subst, arith, append_assoc, append-nil}
+use Rattle.std.proofs.Common.{◌≡◌, ◌⊎◌, inl, inr, ℕ, ◌≤◌, List, [], ◌++◌, Option, Some, None, Result, Ok, Err, refl, sym, ◌∙◌, ap, subst, arith, append_assoc, append-nil}
 use Rattle.std.specs.Prelude.{IfOk, IfSome, OnErr, ◌==◌, if◌then◌else◌}
 use Rattle.m2_io.specs.Written.{with_bytes, WritesPart}
 use Rattle.object_file.specs.Contents.{Contents}
-use Rattle.object_text.proofs.Shown.{Shown, shown_all, shown_more, shown_part, shown_start}
+use Rattle.object_text.proofs.Shown.{shown_more, shown_part, shown_start}
 use Rattle.stack_machine.specs.Loading.{IsLoaded, begun, frames_of}
 use Rattle.stack_machine.specs.Machines.{EndsFrom}
 use Rattle.stack_machine.specs.Numbers.{code_of}
-use Rattle.stack_machine.specs.Runs.{AtPlace, Came, Ends, Halted, Run, Stopped, Traffic, Trapped, Unfinished, asked, prints_by, run_of}
+use Rattle.stack_machine.specs.Runs.{Ends, Stopped, Traffic, asked, prints_by}
 use Rattle.stack_machine.specs.State.{Program, State}
 use Rattle.stack_machine.specs.Step.{Goes, Halts, Next, NoFrame, Stuck, Traps}
 use Rattle.stack_machine.specs.declared.code.Origin.{Origin}

@@ -1,13 +1,8 @@
 -- What a run prints grows, and what is printed before it breaks off is a front of it.
-use Rattle.std.proofs.Common.{◌≡◌, ◌≢◌, ℕ, zero, suc, ◌+◌, ◌<◌, ◌≤◌, List, [], ◌∷◌, ◌++◌, Option, Some, None, length, refl, sym, ◌∙◌, ap, subst, arith, append-nil, append_assoc}
-use Rattle.m2_io.specs.Written.{with_bytes, WritesPart}
-use Rattle.object_text.proofs.Shown.{Shown, shown_more, shown_part, shown_start}
-use Rattle.stack_machine.specs.Runs.{AtPlace, Halted, Lost, Run, Traffic, Trapped, Unfinished, after, asked, got, passed, prints_by, run_of}
+use Rattle.std.proofs.Common.{◌≡◌, ℕ, zero, suc, ◌<◌, List, [], ◌++◌, sym, ◌∙◌, ap, subst, arith, append-nil, append_assoc}
+use Rattle.stack_machine.specs.Runs.{Halted, Lost, Run, Traffic, Trapped, Unfinished, after, asked, got, passed, prints_by, run_of}
 use Rattle.stack_machine.specs.State.{Program, State}
 use Rattle.stack_machine.specs.Step.{Goes, Halts, Next, NoFrame, Stuck, Traps, step}
-use Rattle.stack_machine.specs.declared.code.Origin.{Origin}
-use Rattle.stack_machine.specs.declared.trap.Trap.{Trap}
-use Rattle.object_commands.specs.Runs.{Fares, Ran, before, ends, no_frame, over, ran_text, spends, spent, trapped, traps_at}
 
 -- what was printed begins with these bytes
 abbrev pub Begins : List ℕ → Traffic → Type 0

@@ -1,16 +1,14 @@
 -- What is said of how a program ran.
-use Rattle.std.proofs.Common.{◌≡◌, ◌⊎◌, inl, inr, ℕ, List, [], ◌++◌, Option, Some, None, codes, decimal, map, refl, sym, ◌∙◌, ap, subst, slice_get, get_or}
+use Rattle.std.proofs.Common.{◌≡◌, inl, inr, ℕ, List, [], ◌++◌, Option, Some, codes, decimal, map, refl, sym, ◌∙◌, ap, subst, slice_get}
 use Rattle.std.proofs.lemmas.Option.{get_or_from_slice_get}
 use Rattle.m2_io.specs.Written.{with_bytes, WritesPart}
 use Rattle.object_file.specs.Contents.{Contents}
 use Rattle.stack_machine.specs.Numbers.{code_of}
-use Rattle.stack_machine.specs.declared.code.Origin.{Origin}
 use Rattle.stack_machine.specs.declared.run.End.{End}
 use Rattle.stack_machine.specs.declared.run.End.TheVariants as machine
 use Rattle.stack_machine.specs.declared.trap.Trap.{Trap}
 use Rattle.object_commands.specs.Failures.{line}
-use Rattle.object_commands.specs.Runs.{Finishes, FinishesPart, HasCode, IsFailed, IsRan, Ran, over, ran_text, spent, trap_word, trapped}
-use Rattle.object_commands.specs.declared.answer.Answer.{Answer}
+use Rattle.object_commands.specs.Runs.{Finishes, FinishesPart, HasCode, IsFailed, Ran, over, ran_text, spent, trap_word, trapped}
 use Rattle.object_commands.specs.declared.answer.Answer.TheVariants as answers
 use Rattle.object_commands.proofs.Saying.{with_nothing}
 

@@ -1,5 +1,5 @@
 -- Objects have one code.
-use Rattle.std.proofs.Common.{◌≡◌, ℕ, suc, ◌+◌, Bool, List, [], ◌∷◌, ◌++◌, length, refl, sym, ◌∙◌, ap, subst}
+use Rattle.std.proofs.Common.{◌≡◌, ℕ, suc, ◌+◌, Bool, List, [], ◌∷◌, ◌++◌, length, sym, ◌∙◌, ap}
 use Rattle.code_form.specs.declared.instr.Instr.{Instr}
 use Rattle.code_form.specs.Modules.{Procedure}
 use Rattle.object_file.specs.Contents.{Contents}

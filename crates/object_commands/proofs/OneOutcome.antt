@@ -1,27 +1,25 @@
 -- A command over given files has one outcome.
-use Rattle.std.proofs.Common.{◌≡◌, ℕ, ◌<◌, ◌≤◌, List, [], ◌∷◌, ◌++◌, Option, Some, None, refl, sym, ◌∙◌, ap, subst, arith, append_assoc}
+use Rattle.std.proofs.Common.{◌≡◌, ℕ, List, ◌++◌, Option, Some, refl, sym, ◌∙◌, ap, subst, arith}
 use Rattle.m2_io.specs.Files.{Files}
-use Rattle.m2_io.specs.Written.{with_bytes, WritesPart}
+use Rattle.m2_io.specs.Written.{WritesPart}
 use Rattle.object_file.specs.Contents.{Contents}
 use Rattle.object_text.proofs.Lines.{same_text}
-use Rattle.object_text.proofs.Shown.{shown_more, shown_part, shown_start}
 use Rattle.object_text.specs.Text.{IsText}
 use Rattle.program_load.specs.Closure.{start}
-use Rattle.program_load.specs.Loads.{Failure, Finds, Loading, Loads, Stops, fails, linked}
+use Rattle.program_load.specs.Loads.{Failure, Loads, fails, linked}
 use Rattle.program_load.proofs.OneLoading.{found_no_stop, one_found, one_loading_lem, one_stop}
-use Rattle.stack_machine.specs.Loading.{IsLoaded, begun, frames_of}
-use Rattle.stack_machine.specs.Runs.{AtPlace, Came, Halted, Run, Stopped, Traffic, Trapped, Unfinished, asked, prints_by, run_of}
+use Rattle.stack_machine.specs.Loading.{IsLoaded, begun}
+use Rattle.stack_machine.specs.Runs.{AtPlace, Halted, Run, Traffic, Trapped, Unfinished}
 use Rattle.stack_machine.specs.State.{Program, State}
-use Rattle.stack_machine.specs.Step.{Goes, Next, NoFrame}
+use Rattle.stack_machine.specs.Step.{Next}
 use Rattle.stack_machine.specs.declared.code.Origin.{Origin}
 use Rattle.stack_machine.specs.declared.trap.Trap.TheVariants as traps
 use Rattle.stack_machine.specs.declared.trap.Trap.{Trap}
 use Rattle.object_commands.specs.Dumps.{Dumps, dumped, failed as dump_failed}
 use Rattle.object_commands.specs.Failures.{failure_answer, failure_text, line}
 use Rattle.object_commands.specs.Outcomes.{LeavesPart, Outcome, PrintsPart}
-use Rattle.object_commands.specs.Runs.{Fares, Ran, Runs, RunsProgram, before, ends, failed, loaded, no_frame, no_room, over, ran_answer, ran_text, runs, spends, spent, trapped, traps_at}
+use Rattle.object_commands.specs.Runs.{Fares, Ran, Runs, RunsProgram, ends, failed, loaded, no_frame, no_room, over, ran_answer, ran_text, runs, spends, trapped, traps_at}
 use Rattle.object_commands.specs.declared.answer.Answer.{Answer}
-use Rattle.object_commands.proofs.Faring.{Begins, RunBegins, next_prints}
 use Rattle.object_commands.proofs.OneCode.{one_code}
 
 -- ** Dumping

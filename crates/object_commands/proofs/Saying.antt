@@ -1,5 +1,5 @@
 -- What is said where there is no program.
-use Rattle.std.proofs.Common.{◌≡◌, ℕ, List, [], ◌++◌, Option, Some, None, refl, sym, ◌∙◌, ap, subst, append-nil}
+use Rattle.std.proofs.Common.{◌≡◌, ℕ, List, [], Option, Some, None, refl, sym, ◌∙◌, ap, subst, append-nil}
 use Rattle.std.specs.Prelude.{IfSome, option_map}
 use Rattle.m2_io.specs.Written.{with_bytes, WritesPart}
 use Rattle.program_load.specs.Answers.{told}

@@ -1,6 +1,6 @@
 -- What running a module leaves: what its program prints and reads in at most so many steps, and then a line where it didn't end by itself; or
 -- the line that says why there is no program.
-use Rattle.std.specs.Prelude.{◌≡◌, ◌⊎◌, ℕ, ◌<◌, ◌≤◌, List, [], ◌++◌, Option, Some, codes, decimal, map, slice_get, slice_index_or}
+use Rattle.std.specs.Prelude.{◌≡◌, ◌⊎◌, ℕ, ◌<◌, ◌≤◌, List, [], ◌++◌, Option, codes, decimal, map, slice_index_or}
 use Rattle.m2_io.specs.Files.{Files}
 use Rattle.m2_io.specs.Written.{with_bytes, WritesPart}
 use Rattle.object_file.specs.Contents.{Contents}

@@ -8,7 +8,7 @@ use Rattle.object_file.specs.Contents.{Contents}
 use Rattle.object_file.specs.Validity.{IsObject}
 use Rattle.program_load.specs.Answers.{told}
 use Rattle.program_load.specs.Closure.{Progress, start}
-use Rattle.program_load.specs.Loads.{Asks, Blocks, Failure, Finds, Reads, Spoils, Stops, at_object, bad, is_there, nothing, not_there, spoilt, too_long, too_many}
+use Rattle.program_load.specs.Loads.{Asks, Blocks, Failure, Finds, Reads, Spoils, Stops, at_object, bad, is_there, spoilt, too_long, too_many}
 use Rattle.program_load.specs.declared.fault.LoadFault.{LoadFault}
 use Rattle.program_load.specs.Shelves.{HasObject, IsReadOf, object_file}
 

@@ -1,6 +1,6 @@
 -- What loading comes to, from the last module that was asked for.
-use Rattle.std.proofs.Common.{◌≡◌, ℕ, ◌+◌, ◌-◌, ◌<◌, ◌≤◌, ◌^◌, List, [], ◌∷◌, Option, Some, None, Result, Ok, Err, length, refl, sym, ◌∙◌, ap, subst, arith}
-use Rattle.std.specs.Prelude.{IfErr, IfOk, IfSome}
+use Rattle.std.proofs.Common.{◌≡◌, ℕ, ◌-◌, ◌<◌, ◌^◌, List, Option, Some, None, arith}
+use Rattle.std.specs.Prelude.{IfSome}
 use Rattle.m2_io.specs.Files.{Files}
 use Rattle.object_file.specs.Contents.{Contents}
 use Rattle.m2_link.specs.Refusals.{AreLinkedTo}

@@ -1,8 +1,8 @@
 -- Objects have one running order.
-use Rattle.std.proofs.Common.{◌≡◌, ℕ, Bool, true, false, List, [], ◌∷◌, ◌++◌, Option, Some, None, length, replicate, slice_get, refl, sym, ◌∙◌, ap, subst}
+use Rattle.std.proofs.Common.{◌≡◌, ℕ, Bool, true, false, List, [], ◌∷◌, ◌++◌, Option, Some, length, replicate, slice_get, refl, sym, ◌∙◌, ap, subst}
 use Rattle.std.specs.List.{slice_set}
 use Rattle.object_file.specs.Contents.{Contents, definitions_of}
-use Rattle.object_file.specs.Running.{IsRunningOrder, Walks, enters, objects_of, over, passes, picked}
+use Rattle.object_file.specs.Running.{Walks, enters, objects_of, over, passes, picked}
 use Rattle.m2_link.specs.Refusals.{AreLinkedTo}
 
 some_one : {A : Type 0} (x y : A) → Some x ≡ Some y → x ≡ y

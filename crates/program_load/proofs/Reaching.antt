@@ -1,11 +1,11 @@
 -- From object to object.
-use Rattle.std.proofs.Common.{◌≡◌, ◌≢◌, ◌⊎◌, inl, inr, ℕ, ◌+◌, ◌-◌, ◌<◌, ◌≤◌, ◌^◌, true, false, List, [], ◌∷◌, ◌++◌, Option, Some, None, length, length-append, refl, sym, ◌∙◌, ap, subst, arith}
+use Rattle.std.proofs.Common.{◌≡◌, ◌≢◌, ◌⊎◌, inl, inr, ℕ, ◌+◌, ◌<◌, ◌≤◌, true, false, List, [], ◌∷◌, ◌++◌, Option, Some, None, length, length-append, refl, sym, ◌∙◌, ap, arith}
 use Rattle.std.specs.Prelude.{◌==◌}
 use Rattle.std.proofs.lemmas.Bool.{false≢true}
 use Rattle.std.proofs.lemmas.Bool.Decides.{Decides-eqb}
 use Rattle.m2_io.specs.Files.{Files}
 use Rattle.object_file.specs.Contents.{Contents}
-use Rattle.program_load.specs.Closure.{Progress, longer, next_module, passed, start}
+use Rattle.program_load.specs.Closure.{Progress, next_module, start}
 use Rattle.program_load.specs.Loads.{Asks, Reaches, begins, is_there, not_there, then_asks}
 
 pub asked_one_more : (holds : Option Files) (p q : Progress) (name : List ℕ) → Asks holds p name q → q.asked ≡ p.asked + 1

@@ -1,7 +1,6 @@
-use Rattle.std.proofs.Common.{◌≡◌, ◌∙◌, ◌+◌, ℕ, Some, ap, drop, sym}
-use Rattle.object_file.specs.Directories.{found_in}
+use Rattle.std.proofs.Common.{◌∙◌, ◌+◌, ℕ, Some, ap, drop, sym}
 use Rattle.object_file.specs.Views.{keyed_of}
-use Rattle.m2_link.specs.Refusals.{lacks, differs, differs_at}
+use Rattle.m2_link.specs.Refusals.{differs, differs_at}
 use Rattle.m2_link.proofs.Firsts.{first_here, first_later, next_note}
 use Rattle.m2_link.proofs.imports.differing_in.Goals as goal
 

@@ -1,9 +1,8 @@
-use Rattle.std.proofs.Common.{◌≡◌, ◌∙◌, Bool, false, cond, Option, Some, None, ap, sym, List, ℕ}
+use Rattle.std.proofs.Common.{◌≡◌, ◌∙◌, Bool, false, cond, Some, None, ap, sym, List, ℕ}
 use Rattle.std.specs.Prelude.{not, option_map}
-use Rattle.object_file.specs.Contents.{Contents}
 use Rattle.object_file.specs.Directories.{found_in}
 use Rattle.object_file.specs.Naming.{object_named}
-use Rattle.object_file.specs.Views.{import_of, keyed_of}
+use Rattle.object_file.specs.Views.{keyed_of}
 use Rattle.m2_link.specs.Refusals.{is_in_out, agrees, in_out_given, disagrees, object_at}
 use Rattle.m2_link.proofs.imports.differs.Goals as goal
 

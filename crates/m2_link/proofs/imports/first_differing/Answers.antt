@@ -1,4 +1,4 @@
-use Rattle.std.proofs.Common.{◌≡◌, ◌∙◌, ◌+◌, Option, Some, None, ap, drop, sym}
+use Rattle.std.proofs.Common.{◌≡◌, ◌∙◌, ◌+◌, Some, None, ap, drop, sym}
 use Rattle.std.specs.Prelude.{option_map}
 use Rattle.m2_link.specs.Refusals.{differs, first_in}
 use Rattle.m2_link.proofs.Firsts.{import_here, import_later, next_object}

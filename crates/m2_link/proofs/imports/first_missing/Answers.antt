@@ -1,4 +1,4 @@
-use Rattle.std.proofs.Common.{◌≡◌, ◌∙◌, ◌+◌, Option, Some, None, ap, drop, sym}
+use Rattle.std.proofs.Common.{◌≡◌, ◌∙◌, ◌+◌, Some, None, ap, drop, sym}
 use Rattle.std.specs.Prelude.{option_map}
 use Rattle.m2_link.specs.Refusals.{is_missing, first_in}
 use Rattle.m2_link.proofs.Firsts.{import_here, import_later, missing_of, next_object}

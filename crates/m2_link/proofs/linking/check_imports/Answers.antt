@@ -1,4 +1,4 @@
-use Rattle.std.proofs.Common.{◌≡◌, ◌∙◌, Option, Some, None, ap, rules, sym}
+use Rattle.std.proofs.Common.{◌≡◌, ◌∙◌, Some, None, ap, rules, sym}
 use Rattle.std.specs.Prelude.{option_map}
 use Rattle.m2_link.specs.Refusals.{first_missing, first_differing}
 use Rattle.m2_link.proofs.Accepted.{refuses_differing, refuses_missing, refuses_nothing}

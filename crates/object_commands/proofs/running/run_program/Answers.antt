@@ -1,4 +1,4 @@
-use Rattle.std.proofs.Common.{◌≡◌, ◌≤◌, ◌<◌, ◌∙◌, ℕ, Err, List, ap, refl, subst, sym}
+use Rattle.std.proofs.Common.{◌≡◌, ◌∙◌, ℕ, Err, List, ap, subst}
 use Rattle.std.specs.Prelude.{IfOk, OnErr}
 use Rattle.object_file.specs.Contents.{Contents}
 use Rattle.object_text.proofs.Shown.{on_err}
@@ -6,7 +6,7 @@ use Rattle.m2_io.specs.Written.{WritesPart, with_bytes}
 use Rattle.stack_machine.specs.Loading.{frames_of}
 use Rattle.stack_machine.specs.declared.machine.StartFault.TheVariants.{NoRoom}
 use Rattle.object_commands.specs.Runs.{Finishes, FinishesPart, HasCode}
-use Rattle.object_commands.proofs.Doing.{enough_cells, nothing_part, room_leaves, room_part, too_few_cells}
+use Rattle.object_commands.proofs.Doing.{enough_cells, room_leaves, room_part, too_few_cells}
 use Rattle.object_commands.proofs.Ending.{run_leaves, run_part}
 use Rattle.object_commands.proofs.running.run_program.Goals as goal
 

@@ -1,7 +1,6 @@
-use Rattle.std.proofs.Common.{◌<◌, ◌≤◌, IsSome, List, arith, length, subst, sym}
+use Rattle.std.proofs.Common.{◌<◌, ◌≤◌, IsSome, arith, length, subst, sym}
 use Rattle.std.specs.Prelude.{IfSome}
 use Rattle.std.proofs.lemmas.Result.{err_from_is_err_and}
-use Rattle.object_file.specs.Contents.{KeyedImport}
 use Rattle.program_load.specs.Answers.{told}
 use Rattle.program_load.specs.Closure.{Progress, next_module, texts_of}
 use Rattle.program_load.specs.Loads.{Blocks, limited, objects, too_many}
