@@ -49,11 +49,7 @@ pub fn row_before<S: Scopes>(scopes: &mut S, around: &Around, place: Place) -> A
 
 /// What the row at a place says.
 #[tactic(auto, using(crate::proofs::Reading::reading))]
-pub fn meaning_at<S: Scopes>(
-    scopes: &mut S,
-    around: &Around,
-    place: Place,
-) -> Ask<RowMeaning>
+pub fn meaning_at<S: Scopes>(scopes: &mut S, around: &Around, place: Place) -> Ask<RowMeaning>
     requires suits { Suits (S.state scopes.old).frame around.now }
     requires there { IsThere (S.state scopes.old).frame place }
     ensures reads { Reads (S.state scopes.old) (S.state scopes.new) }
