@@ -1,4 +1,5 @@
 pub mod AtWork
+pub mod Finished
 pub mod ItemsHere
 pub mod ItemsSoFar
 pub mod Lists

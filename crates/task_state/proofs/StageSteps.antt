@@ -159,7 +159,7 @@ module _ (st : State) (t : Task) (far : IsAsFar st t) (tokens : List Token) (unr
                     by_fault = subst (λ (x : Option StreamFault). IsOutputBy st.frame.setting.texts s (around_view t.around) o x) (sym is) here;
                   };
             });
-        shown = λ tables finished. subst (λ (xs : List Answer). WhereKept b.looks (λ looks. Each (IsAmong looks) xs)) (sym answers) (shown_none b.looks);
+        shown = subst (λ (xs : List Answer). WhereKept b.looks (λ looks. Each (IsAmong looks) xs)) (sym answers) (shown_none b.looks);
       }
 
 -- ** A block that is worked on

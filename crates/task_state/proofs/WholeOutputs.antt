@@ -70,14 +70,6 @@ module _ (st : State) (bl : Block) (m : Collected) (x : Stating) (far : IsStatin
       (declare_block (source_of st.frame.setting.texts) (take bl.around.now.scope tables) (block_with bl.around.now (stream_view bl.tree.now))).value whole
   is_whole = ends context effects refl built
 
-  -- the answers of the body are those of its statements
-  answers_are : whole.notes.answers.items ≡ x.body.answers
-  answers_are =
-      let none : rest_from x.body.count (stream_view bl.tree.now).body ≡ no_statements = rest_none bl.tree.now.body.items x.body.count (omega (arith, past)) in
-      let stand = stand_of context (block_at context tree) in
-      is_whole.answers
-      ∙ sym (sym (append-nil x.body.answers) ∙ sym (ap (λ (ss : Statements). x.body.answers ++ (flow_of stand ss).answers) none) ∙ built.answers)
-
   declared_is : (first_made (source_of st.frame.setting.texts) (take st.frame.setting.fills tables) (block_with bl.around.now (stream_view bl.tree.now)) m.count)
       ≡ declare_block (source_of st.frame.setting.texts) (take bl.around.now.scope tables) (block_with bl.around.now (stream_view bl.tree.now))
   declared_is =
@@ -106,6 +98,8 @@ module _ (st : State) (bl : Block) (m : Collected) (x : Stating) (far : IsStatin
         headings = parts.headings ∙ so.headings ∙ ap (λ (z : Makes BlockEffects). z.value.headings) made;
       }
 
-  pub left_shown : (o : Output) → IsJoined m x whole o → WhereKept st.looks (λ looks. Each (IsAmong looks) o.answers.items)
-  left_shown o parts =
-      subst (λ (xs : List Answer). WhereKept st.looks (λ looks. Each (IsAmong looks) xs)) (sym (parts.answers ∙ ap (λ xs. m.answers ++ xs) answers_are)) far.shown
+-- the answers of the body are those of its statements
+pub left_shown : (st : State) (bl : Block) (m : Collected) (x : Stating) (whole : Stated) (o : Output) → IsStating st bl m x → whole.notes.answers.items ≡ x.body.answers → IsJoined m x whole o
+    → WhereKept st.looks (λ looks. Each (IsAmong looks) o.answers.items)
+left_shown st bl m x whole o far same parts =
+    subst (λ (xs : List Answer). WhereKept st.looks (λ looks. Each (IsAmong looks) xs)) (sym (parts.answers ∙ ap (λ xs. m.answers ++ xs) same)) far.shown

@@ -104,10 +104,8 @@ IsAtStage f s a (Unread tokens) = IsUnread f s tokens.items
 IsAtStage f s a (Working w) = IsWorking f s a w
 IsAtStage f s a (Ended o) = HasEnded f s a o
 
--- Each answer that it has noted is the reply of a look, where looks are kept. Of what is left in the end that is so where
--- no text has a syntax error: the end of a body doesn't say yet of other units which answers it leaves.
+-- each answer that it has noted is the reply of a look, where looks are kept
 abbrev pub AreShown : State → Stage → Type 0
-AreShown st (Ended o) = WhereFinished (texts_of st) (λ tables. WhereKept st.looks (λ looks. Each (IsAmong looks) o.answers.items))
 AreShown st stage = WhereKept st.looks (λ looks. Each (IsAmong looks) (answers_in stage))
 
 -- A task stands at a stream of the unit, and is as far as the scope that is filled: what is entered is what its items made, and
@@ -126,9 +124,39 @@ abbrev pub is_ended : Stage → Bool
 is_ended (Ended o) = true
 is_ended other = false
 
+-- ** What is seen of a task
+
+-- the number of its stream
+abbrev pub number_of : Task → ℕ
+number_of t = t.stream
+
+-- what surrounds its block
+abbrev pub around_of : Task → Around
+around_of t = t.around
+
+-- whether it is done
+abbrev pub is_over : Task → Bool
+is_over t = is_ended t.stage
+
+-- it stands at the same stream
+pub record IsSameTask (old new : Task) : Type 0 where
+  pub stream : new.stream ≡ old.stream
+  pub text : new.text ≡ old.text
+  pub kind : new.kind ≡ old.kind
+  pub around : new.around ≡ old.around
+
+-- What a task that is done leaves: its scope is complete, the output is that of its stream, and each of its answers is the
+-- reply of a look, where looks are kept.
+pub record IsLeft (st : State) (t : Task) (o : Output) : Type 0 where
+  pub stream : StreamOf
+  pub number : number_of t ≡ stream.stream
+  pub of_unit : IsOfUnit st.frame.setting stream (around_of t)
+  pub ended : HasEnded st.frame stream (around_of t) o
+  pub shown : WhereKept st.looks (λ looks. Each (IsAmong looks) o.answers.items)
+
 -- How a turn ends: the task is done; or this turn loaded the head of a smaller scope, which was incomplete, and it hadn't
 -- been seen complete before.
 abbrev pub Ends : State → State → Task → Turn → Type 0
-Ends old new t Done = is_ended t.stage ≡ true
+Ends old new t Done = is_over t ≡ true
 Ends old new t (Parked head) = Waits old new head
 Ends old new t Memory = Unit {0}

@@ -69,7 +69,7 @@ pub record Leaves (st : State) (a : Around) (tree : HeldStream) (o : Output) : T
   pub stream : o.stream ≡ a.scope
   pub sound : o.fault ≡ None
   pub told : WhereFinished (texts_of st) (λ tables. IsOutputOf (source_of (texts_of st)) tables (block_with a (stream_view tree)) o)
-  pub shown : WhereFinished (texts_of st) (λ tables. WhereKept st.looks (λ looks. Each (IsAmong looks) o.answers.items))
+  pub shown : WhereKept st.looks (λ looks. Each (IsAmong looks) o.answers.items)
 
 -- a tree of which nothing is done yet
 pub record IsFresh (tree : HeldStream) (w : Begun) : Type 0 where
