@@ -69,7 +69,6 @@ impl Task {
         ensures ends { Ends (S.state scopes.old) (S.state scopes.new) self.new result }
         ensures same { IsSameTask self.old self.new }
     {
-        let _ = (alloc, texts, &scopes);
         Turn::Memory
     }
 
