@@ -1,5 +1,5 @@
 -- How far a task is: what a turn needs and leaves.
-use Rattle.std.specs.Prelude.{◌≡◌, ◌+◌, ◌≤◌, Bool, true, false, List, [], ◌++◌, Option, None, filter, flat_map, length, Some, take}
+use Rattle.std.specs.Prelude.{◌≡◌, ℕ, ◌+◌, ◌≤◌, Bool, true, false, List, [], ◌++◌, Option, None, filter, flat_map, length, Some, take}
 use Rattle.std.specs.Option.{IfSome}
 use Rattle.m2_base.specs.Finished.{WhereFinished, source_of}
 use Rattle.m2_base.specs.Lists.{Each, WhereKept}
