@@ -7,7 +7,8 @@ use std::test::Fail;
 
 const EMPTY_MODULE: &str = "MODULE A; END A.";
 
-const USAGE: &str = "usage: m2c compile NAME\n";
+const USAGE: &str =
+    "usage: m2c compile NAME [--workers N] | run NAME [--steps N] [--cells N] | dump NAME\n";
 
 /// A shelf with this text as A.mod.
 fn shelf_of(
