@@ -28,26 +28,31 @@ fn compiled(alloc: Global, text: &[u8]) -> Result<(u8, Vec<u8>), Fail> {
     Ok((status, print.bytes().to_vec(alloc)?))
 }
 
-const NOT_BUILT: &str = "not built yet\n";
-
 const OTHER_NAME: &str = "A.mod:1:8: 31 module has another name\n";
 
 #[test]
 fn decides_in_order(rt: HostRuntime) -> Result<(), Fail> {
     let alloc = rt.alloc();
     let table = [
-        // A form that isn't built yet comes before all that is wrong with the text.
-        ("MODULE A; IMPORT B; IMPORT C D; END A.", 11, NOT_BUILT),
-        ("IMPLEMENTATION MODULE B; END B.", 11, NOT_BUILT),
-        ("MODULE A; PROCEDURE P; END P; END A.", 11, NOT_BUILT),
-        ("MODULE B; ? PROCEDURE P", 11, NOT_BUILT),
-        ("IMPORT", 11, NOT_BUILT),
+        // What is wrong with the imports comes before all that is wrong with the statements.
+        (
+            "MODULE A; IMPORT X; BEGIN y := 1 END A.",
+            1,
+            "A.mod:1:18: 30 no such definition text\n",
+        ),
+        (
+            "IMPLEMENTATION MODULE A; END A.",
+            1,
+            "A.mod:1:23: 30 no such definition text\n",
+        ),
         // Another name comes before a fault.
         ("MODULE B; END B.", 1, OTHER_NAME),
         ("MODULE B; ? END B.", 1, OTHER_NAME),
+        ("MODULE B; ? PROCEDURE P", 1, OTHER_NAME),
         ("MODULE B", 1, OTHER_NAME),
         // A fault.
         ("", 1, "A.mod:1:1: 20 unexpected token\n"),
+        ("IMPORT", 1, "A.mod:1:1: 20 unexpected token\n"),
         ("MODULE ; END A.", 1, "A.mod:1:8: 20 unexpected token\n"),
         (
             "MODULE A; x: INTEGER; END A.",
@@ -79,6 +84,24 @@ fn decides_in_order(rt: HostRuntime) -> Result<(), Fail> {
             "MODULE A; CONST c = 4294967296; END A.",
             1,
             "A.mod:1:21: 13 number too large\n",
+        ),
+        // Each stream's first fault is its own; a text has the first of them.
+        (
+            "MODULE A;\nPROCEDURE P;\nBEGIN IF TRUE THEN P END;\nPROCEDURE Q;\nEND Q;\nEND A.",
+            1,
+            "A.mod:4:1: 20 unexpected token\n",
+        ),
+        // Diagnostics of all blocks.
+        (
+            "MODULE A;\nPROCEDURE P;\nBEGIN a := 1 END P;\nPROCEDURE Q;\nBEGIN b := 1 END Q;\nBEGIN c := 1 END A.",
+            1,
+            "A.mod:3:7: 40 unknown name\nA.mod:5:7: 40 unknown name\nA.mod:6:7: 40 unknown name\n",
+        ),
+        // Nothing.
+        (
+            "MODULE A; PROCEDURE P; END P; PROCEDURE Q; END Q; END A.",
+            0,
+            "",
         ),
     ];
     for (text, status, printed) in table {

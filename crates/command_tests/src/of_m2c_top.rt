@@ -114,7 +114,7 @@ fn prints_a_front_before_a_fault(rt: HostRuntime) -> Result<(), Fail> {
     let mut shelf = shelf_of(alloc, b"IMPORT", &[], 0)?;
     let mut print = MemSink::new(alloc, [2u32].to_vec(alloc)?, 7, 1000)?;
     assert_eq!(rt; run(alloc, &["compile", "A"], &mut shelf, &mut print)?, 5);
-    assert!(rt; print.bytes() == b"not bui".as_slice());
+    assert!(rt; print.bytes() == b"A.mod:1".as_slice());
     Ok(())
 }
 
