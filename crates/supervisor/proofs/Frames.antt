@@ -4,8 +4,10 @@ use Rattle.std.specs.Option.{IfSome}
 use Rattle.m2_base.specs.States.{Frame, Mark, Setting, State}
 use Rattle.m2_base.specs.Tables.{Table}
 use Rattle.m2_base.specs.Trees.{Stream}
+use Rattle.m2_base.specs.declared.rows.Place.{Place}
 use Rattle.m2_base.specs.declared.sites.Around.{Around}
 use Rattle.stream_split.specs.Streams.{StreamOf}
+use Rattle.type_rules.specs.Scenes.{IsThere}
 use Rattle.task_state.specs.Blocks.{IsBlockOf}
 use Rattle.task_state.specs.Collecting.{Collected}
 use Rattle.task_state.specs.Progress.{HasDeclared, HasStated, IsAsFar, IsAtStage, IsBegun}
@@ -41,7 +43,6 @@ module _ (o : Option (List Table)) where
         around = h.around;
         fills = h.fills;
         areas = h.areas;
-        supported = h.supported;
       }
 
   block_beside : (g : Setting) (a : Around) (tree : Stream) → IsBlockOf g a tree → IsBlockOf (setting_beside o g) a tree
@@ -62,9 +63,12 @@ module _ (o : Option (List Table)) where
         imports = h.imports;
         few = h.few;
         room = h.room;
-        supported = h.supported;
         told = h.told;
       }
+
+  there_beside : (f : Frame) (x : Option Place) → IfSome x (λ t. IsThere f t) → IfSome x (λ t. IsThere (frame_beside o f) t)
+  there_beside f None h = tt
+  there_beside f (Some t) h = record { scope = h.scope; entered = h.entered }
 
   declared_beside : (f : Frame) (a : Around) (tree : Stream) (m : Collected) → HasDeclared f a tree m → HasDeclared (frame_beside o f) a tree m
   declared_beside f a tree m h =
@@ -74,6 +78,7 @@ module _ (o : Option (List Table)) where
         owned = h.owned;
         cells = h.cells;
         procedures = h.procedures;
+        there = there_beside f m.returns h.there;
         told = h.told;
       }
 
@@ -87,7 +92,8 @@ module _ (o : Option (List Table)) where
         block = block_beside f.setting a _ h.block;
         layout = h.layout;
         closed = h.closed;
-        declared = declared_beside f a _ w.collected h.declared;
+        unplaced = λ e. let u = h.unplaced e in record { entered = u.entered; open_yet = u.open_yet };
+        declared = λ e. declared_beside f a _ w.collected (h.declared e);
         all = h.all;
         stated = stated_beside f a w w.stating h.stated;
       }

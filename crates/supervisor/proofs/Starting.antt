@@ -138,7 +138,6 @@ module _ (u : UnitTexts) (unit : IsUnit u) (can : CanBeRun u) where
         around = around;
         fills = sym (number_is u k s there);
         areas = refl;
-        supported = λ tree spelled. can.supported k s a tree there around spelled;
       })
       (ap (λ (x : Table). x.rows) empty) (ap (λ (x : Table). x.complete) empty)
 

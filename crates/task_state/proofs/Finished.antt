@@ -1,6 +1,6 @@
 -- What a task that is done leaves.
-use Rattle.std.specs.Prelude.{◌≡◌, true, false}
-use Rattle.std.proofs.Common.{refl, ap, subst}
+use Rattle.std.specs.Prelude.{◌≡◌, true}
+use Rattle.std.proofs.Common.{subst}
 use Rattle.m2_base.specs.States.{Frame, State}
 use Rattle.m2_base.specs.declared.outputs.Output.{Output}
 use Rattle.m2_base.specs.declared.sites.Around.{Around}

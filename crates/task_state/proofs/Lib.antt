@@ -4,10 +4,12 @@ pub mod ItemsHere
 pub mod ItemsSoFar
 pub mod Lists
 pub mod NextItems
+pub mod Placing
 pub mod ProcedureRows
 pub mod StageSteps
 pub mod Stepping
 pub mod UnitBlocks
+pub mod UnitResults
 pub mod UnitRows
 pub mod WholeOutputs
 pub mod Turning

@@ -1,7 +1,6 @@
 -- What a block leaves all of whose statements are made is what the definition says of it.
 use Rattle.std.specs.Prelude.{◌≡◌, ℕ, zero, suc, ◌≤◌, List, [], ◌∷◌, ◌++◌, length, map, take}
 use Rattle.std.proofs.Common.{refl, sym, ap, subst, ◌∙◌, arith, append_assoc}
-use Rattle.std.proofs.lemmas.List.{append-nil}
 use Rattle.m2_base.specs.Finished.{IsFinished, source_of}
 use Rattle.m2_base.specs.Lists.{Each, WhereKept}
 use Rattle.m2_base.specs.States.{IsAmong, State}
@@ -11,7 +10,7 @@ use Rattle.m2_base.specs.Statics.Contexts.{Context}
 use Rattle.m2_base.specs.Statics.Effects.{BlockEffects}
 use Rattle.m2_base.specs.Statics.Makes.{Makes}
 use Rattle.m2_base.specs.Statics.UnitNotes.{complete_context}
-use Rattle.m2_base.specs.Trees.{Statements, Stream, no_statements, statements}
+use Rattle.m2_base.specs.Trees.{Stream, no_statements, statements}
 use Rattle.m2_base.specs.Views.{statement_view, stream_view}
 use Rattle.m2_base.specs.declared.notes.Answer.{Answer}
 use Rattle.m2_base.specs.declared.outputs.Output.{Output}
@@ -22,9 +21,7 @@ use Rattle.stmt_sem.specs.BlockCode.{body_of, code_of_run, run_of, size_diags}
 use Rattle.stmt_sem.specs.Bodies.{IsBuilt, IsWhole, rest_from, whole_in, whole_of}
 use Rattle.stmt_sem.specs.Flows.{Run}
 use Rattle.stmt_sem.specs.ProcedureCodes.{code_view}
-use Rattle.stmt_sem.specs.Statements.{flow_of}
 use Rattle.stmt_sem.specs.Stating.{block_at}
-use Rattle.stmt_sem.specs.BlockCode.{stand_of}
 use Rattle.stmt_sem.specs.declared.top_statements.Stated.{Stated}
 use Rattle.task_state.specs.Blocks.{block_with}
 use Rattle.task_state.specs.Collecting.{Collected, first_made}

@@ -4,7 +4,7 @@ use Rattle.std.specs.Option.{IfSome}
 use Rattle.m2_base.specs.Finished.{WhereFinished, source_of}
 use Rattle.m2_base.specs.Lists.{Each, WhereKept}
 use Rattle.m2_base.specs.Rows.{row_meaning}
-use Rattle.m2_base.specs.States.{Frame, IsAmong, State, Waits, texts_of}
+use Rattle.m2_base.specs.States.{Frame, IsAmong, State, Waits}
 use Rattle.m2_base.specs.Statics.BlockRows.{declare_block}
 use Rattle.m2_base.specs.Statics.Blocks.{BlockTree}
 use Rattle.m2_base.specs.Statics.Cells.{most_cells}
@@ -26,6 +26,7 @@ use Rattle.m2_base.specs.declared.trees.declarations.Stream.{Stream as HeldStrea
 use Rattle.decl_sem.specs.LaidRows.{AreLaid}
 use Rattle.decl_sem.specs.Pieces.{IsOwned}
 use Rattle.stmt_sem.specs.Bodies.{IsBuilt}
+use Rattle.type_rules.specs.Scenes.{IsThere}
 use Rattle.stream_split.specs.Agreement.{SpellsStream}
 use Rattle.stream_split.specs.Chains.{around_view}
 use Rattle.stream_split.specs.Streams.{StreamOf}
@@ -51,6 +52,7 @@ pub record HasDeclared (f : Frame) (a : Around) (tree : Stream) (m : Collected) 
   pub owned : Each (λ r. IsOwned (length f.entered) (row_meaning r)) f.entered
   pub cells : m.cell ≤ most_cells + 1
   pub procedures : m.procedures ≡ length (filter is_proc f.entered)
+  pub there : IfSome m.returns (λ t. IsThere f t)
   pub told : WhereFinished f.setting.texts (λ tables. IsMade (source_of f.setting.texts) (take f.setting.fills tables) (block_with a tree) f.entered m)
 
 -- What was noted of the complete block, and the statements that its body has, are the definition's.
@@ -63,12 +65,18 @@ pub record HasStated (f : Frame) (a : Around) (tree : HeldStream) (x : Stating) 
   pub within : x.body.count ≤ length tree.body.items
   pub told : WhereFinished f.setting.texts (λ tables. IsStated (source_of f.setting.texts) tables (block_with a (stream_view tree)) x)
 
+-- Before the first cell of its variables is known nothing is entered.
+pub record IsUnplaced (f : Frame) (w : Begun) : Type 0 where
+  pub entered : f.entered ≡ []
+  pub open_yet : w.closed ≡ false
+
 -- The block is that of the scope that is filled; its scope is complete only when all its items are entered.
 pub record IsBegun (f : Frame) (a : Around) (w : Begun) : Type 0 where
   pub block : IsBlockOf f.setting a (stream_view w.tree)
   pub layout : w.layout ≡ layout_of (stream_view w.tree)
   pub closed : f.closed ≡ w.closed
-  pub declared : HasDeclared f a (stream_view w.tree) w.collected
+  pub unplaced : w.placed ≡ false → IsUnplaced f w
+  pub declared : w.placed ≡ true → HasDeclared f a (stream_view w.tree) w.collected
   pub all : w.closed ≡ true → w.collected.count ≡ length (items_of (stream_view w.tree))
   pub stated : IfSome w.stating (λ x. (w.closed ≡ true) × HasStated f a w.tree x)
 

@@ -76,6 +76,7 @@ pub record IsFresh (tree : HeldStream) (w : Begun) : Type 0 where
   pub tree_is : w.tree ≡ tree
   pub layout : w.layout ≡ layout_of (stream_view tree)
   pub collected : w.collected ≡ none_from 0
+  pub placed : w.placed ≡ false
   pub closed : w.closed ≡ false
   pub stating : w.stating ≡ None
 

@@ -1,0 +1,39 @@
+-- What the words of a command line ask for: a verb, and behind it a module's name and the verb's options, in any order.
+use Rattle.std.specs.Prelude.{ℕ, List, ◌∷◌, Option, Some, None, codes, unwrap_or}
+use Rattle.command_words.specs.Parts.{Given, Gives}
+use Rattle.command_words.specs.Settings.{standard}
+use Rattle.command_words.specs.declared.command.Command.TheVariants as held
+use Rattle.command_words.specs.declared.command.Command.{Command as HeldCommand}
+use Rattle.command_words.specs.declared.setting.Setting.TheVariants.{Workers, Steps, Cells}
+
+-- compiling a module with so many workers, running one in so many steps at most and with so many cells, dumping one
+pub data Command : Type 0 where
+  compile : (name : List ℕ) (workers : ℕ) → Command
+  run : (name : List ℕ) (steps cells : ℕ) → Command
+  dump : (name : List ℕ) → Command
+
+-- the command of a verb with what is given behind it
+pub data Makes : List ℕ → Given → Command → Type 0 where
+  to_compile : (name : List ℕ) (workers : Option ℕ)
+      → Makes (codes "compile") (record { name = Some name; workers = workers; steps = None; cells = None }) (compile name (unwrap_or workers (standard Workers)))
+  to_run : (name : List ℕ) (steps cells : Option ℕ)
+      → Makes (codes "run") (record { name = Some name; workers = None; steps = steps; cells = cells }) (run name (unwrap_or steps (standard Steps)) (unwrap_or cells (standard Cells)))
+  to_dump : (name : List ℕ) → Makes (codes "dump") (record { name = Some name; workers = None; steps = None; cells = None }) (dump name)
+
+-- the words ask for it
+pub data Asks : List (List ℕ) → Command → Type 0 where
+  asks : (verb : List ℕ) (words : List (List ℕ)) (given : Given) (command : Command) → Gives words given → Makes verb given command → Asks (verb ∷ words) command
+
+-- the words are no command
+abbrev pub IsNoCommand : List (List ℕ) → Type 0
+IsNoCommand words = (command : Command) → Asks words command → ⊥
+
+-- the verb makes no command of what is given
+abbrev pub MakesNone : List ℕ → Given → Type 0
+MakesNone verb given = (command : Command) → Makes verb given command → ⊥
+
+-- the command that the program holds
+abbrev pub command_of : HeldCommand → Command
+command_of (held.Compile name workers) = compile name.now workers
+command_of (held.Run name steps cells) = run name.now steps cells
+command_of (held.Dump name) = dump name.now

@@ -1,0 +1,5 @@
+pub mod Command
+pub mod Names
+pub mod Parts
+pub mod Settings
+pub mod Words
