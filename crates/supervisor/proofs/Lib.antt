@@ -1,0 +1,4 @@
+pub mod UnitOutputs
+pub mod Frames
+pub mod Standing
+pub mod Starting

@@ -1,0 +1,4 @@
+pub mod Units
+pub mod Outputs
+pub mod Starts
+pub mod Stands

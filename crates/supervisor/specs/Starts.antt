@@ -1,0 +1,26 @@
+-- What is made of a unit's streams before the first turn.
+use Rattle.std.specs.Prelude.{◌≡◌, [], List, false}
+use Rattle.std.specs.List.{AllZip, zip}
+use Rattle.m2_base.specs.States.{State}
+use Rattle.m2_base.specs.Units.{UnitTexts}
+use Rattle.m2_base.specs.declared.sites.Around.{Around}
+use Rattle.scope_core.specs.PlainScopes.{Plain, started}
+use Rattle.stream_split.specs.Sizes.{sizes_of}
+use Rattle.stream_split.specs.Streams.{StreamOf, streams_of}
+use Rattle.stream_split.specs.Views.{stream_view}
+use Rattle.stream_split.specs.declared.streams.StreamTokens.{StreamTokens}
+use Rattle.task_state.specs.Progress.{IsAsFar}
+use Rattle.task_state.specs.Units.{IsOfUnit}
+use Rattle.task_state.specs.declared.task.Task.{Task}
+
+-- the scopes of one thread for a unit, in which nothing is entered yet
+abbrev pub first_scopes : UnitTexts → Plain
+first_scopes u = started u (sizes_of (streams_of u))
+
+-- the task stands at this stream, and has done nothing
+abbrev pub IsNew : StreamOf → Around → Task → Type 0
+IsNew s a t = (st : State) → IsOfUnit st.frame.setting s a → st.frame.entered ≡ [] → st.frame.closed ≡ false → IsAsFar st t
+
+-- each task is that of the stream at its place, whose block is surrounded so
+abbrev pub AreNew : List StreamTokens → List Around → List Task → Type 0
+AreNew streams arounds tasks = AllZip (λ p t. IsNew (stream_view p.0) p.1 t) (zip streams arounds) tasks
