@@ -9,22 +9,27 @@ ghost use Rattle.stream_split.specs.Streams.{main_tokens, streams_of};
 ghost use Rattle.stream_split.specs.Views.{stream_view};
 
 use m2_base::{Memory, Output, Texts};
+use scope_core::PlainScopes;
 use std::alloc::Global;
-use stream_split::StreamTokens;
+use stream_split::{StreamTokens, sizes, streams_have_their_places};
+use supervisor::run_turns;
 
-/// What the work on the streams of a whole unit leaves: the output of each, in their order. The turns of the tasks aren't there yet, so
-/// it takes memory that there isn't.
+/// What the work on the streams of a whole unit leaves: the output of each, in their order.
 pub(crate) fn work(
-    _alloc: Global,
-    _texts: &Texts,
-    _streams: Vec<StreamTokens>,
+    alloc: Global,
+    texts: &Texts,
+    streams: Vec<StreamTokens>,
 ) -> Result<Vec<Output>, Memory>
-    requires whole { (front : TextOf → Front) × IsWhole front _texts.now }
-    requires limits { limit_of (main_tokens _texts.now) ≡ None }
-    requires streams { map stream_view _streams.items ≡ streams_of _texts.now }
-    requires short { All (λ s. length s.tokens.items < 2 ^ 30) _streams.items }
-    requires few { length _streams.items < 2 ^ 31 }
-    ensures { IfOk result (λ outputs. AreOutputs _texts.now outputs.items) }
+    requires whole { (front : TextOf → Front) × IsWhole front texts.now }
+    requires limits { limit_of (main_tokens texts.now) ≡ None }
+    requires streams { map stream_view streams.items ≡ streams_of texts.now }
+    requires short { All (λ s. length s.tokens.items < 2 ^ 30) streams.items }
+    requires few { length streams.items < 2 ^ 31 }
+    ensures { IfOk result (λ outputs. AreOutputs texts.now outputs.items) }
 {
-    Err(Memory)
+    let _main = texts.main();
+    streams_have_their_places();
+    let sizes = sizes(alloc, &streams)?;
+    let mut scopes = PlainScopes::new(alloc, texts, &sizes)?;
+    run_turns(alloc, texts, streams, &mut scopes, &[])
 }

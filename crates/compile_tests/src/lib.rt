@@ -3,3 +3,5 @@
 
 #[cfg(test)]
 mod of_compile_command;
+#[cfg(test)]
+mod of_modules;

@@ -7,26 +7,26 @@ use std::test::Fail;
 
 /// Which calls of the shelf and of the sink fail.
 #[derive(Drop)]
-struct Faults {
-    shelf: &'static [u32],
-    print: &'static [u32],
+pub struct Faults {
+    pub shelf: &'static [u32],
+    pub print: &'static [u32],
 }
 
-const NO_FAULTS: Faults = Faults {
+pub const NO_FAULTS: Faults = Faults {
     shelf: &[],
     print: &[],
 };
 
 /// What compiling M left.
 #[derive(Drop)]
-struct Left {
-    answer: Result<Answer, Stop>,
-    printed: Vec<u8>,
-    has_object: bool,
+pub struct Left {
+    pub answer: Result<Answer, Stop>,
+    pub printed: Vec<u8>,
+    pub has_object: bool,
 }
 
 /// Compiles M on a shelf with these files.
-fn compiled(alloc: Global, files: &[(&str, &[u8])], faults: &Faults) -> Result<Left, Fail> {
+pub fn compiled(alloc: Global, files: &[(&str, &[u8])], faults: &Faults) -> Result<Left, Fail> {
     let mut map = BTreeMap::new(alloc);
     for (name, text) in files {
         map.insert(String::from_str(alloc, name)?, text.to_vec(alloc)?)?;
@@ -42,7 +42,7 @@ fn compiled(alloc: Global, files: &[(&str, &[u8])], faults: &Faults) -> Result<L
 }
 
 /// A text that comes so many times.
-fn repeated(alloc: Global, text: &[u8], count: usize) -> Result<Vec<u8>, AllocError> {
+pub fn repeated(alloc: Global, text: &[u8], count: usize) -> Result<Vec<u8>, AllocError> {
     let mut all = Vec::new(alloc);
     for _ in 0..count {
         all.extend_from_slice(text)?;
@@ -100,7 +100,7 @@ fn lists_what_is_wrong_with_imports(rt: HostRuntime) -> Result<(), Fail> {
 }
 
 /// A module with so many procedures, each in the one before it.
-fn nested(alloc: Global, front: &[u8], levels: usize) -> Result<Vec<u8>, AllocError> {
+pub fn nested(alloc: Global, front: &[u8], levels: usize) -> Result<Vec<u8>, AllocError> {
     let mut text = front.to_vec(alloc)?;
     text.extend_from_slice(&repeated(alloc, b"PROCEDURE p; ", levels)?)?;
     text.extend_from_slice(&repeated(alloc, b"END p; ", levels)?)?;
