@@ -224,7 +224,7 @@ impl Body {
     /// its size.
     pub fn end(self, around: &Around, stream: &Stream) -> Result<Stated, Memory>
         requires { self.count ≡ length stream.now.body.items }
-        ensures { IfOk result (λ whole. (c : Context) (e : BlockEffects) → c.scene.block.text ≡ around.now.text
+        ensures whole { IfOk result (λ whole. (c : Context) (e : BlockEffects) → c.scene.block.text ≡ around.now.text
             → IsBuilt c (stream_view stream.now) e self → IsWhole c (stream_view stream.now) e whole) }
         ensures answers { IfOk result (λ whole. whole.notes.answers.items ≡ self.answers) }
     {

@@ -13,9 +13,9 @@ add_statements-requires-clause-begun g c =
 pub returns-clause-noted : goal.returns-clause-noted
 returns-clause-noted g c =
     let m = held c.args.block.now.compiled.now in
-    of_ok c.end.result (λ v whole. (whole (context_in m) (effects_in m) (sym (ap (λ (a : Around). a.text) c.requires.block.around)) c.in_ok-add_statements.ensures.built).diags) c.end.ensures
+    of_ok c.end.result (λ v whole. (whole (context_in m) (effects_in m) (sym (ap (λ (a : Around). a.text) c.requires.block.around)) c.in_ok-add_statements.ensures.built).diags) c.end.ensures.whole
 
 pub returns-clause-made : goal.returns-clause-made
 returns-clause-made g c =
     let m = held c.args.block.now.compiled.now in
-    of_ok c.end.result (λ v whole. (whole (context_in m) (effects_in m) (sym (ap (λ (a : Around). a.text) c.requires.block.around)) c.in_ok-add_statements.ensures.built).made_is) c.end.ensures
+    of_ok c.end.result (λ v whole. (whole (context_in m) (effects_in m) (sym (ap (λ (a : Around). a.text) c.requires.block.around)) c.in_ok-add_statements.ensures.built).made_is) c.end.ensures.whole

@@ -7,8 +7,8 @@ use Rattle.stmt_sem.specs.Stating.{block_at}
 use Rattle.stmt_sem.proofs.BodyStatements.{built_whole}
 use Rattle.stmt_sem.proofs.bodies.Body.end.Goals as goal
 
-pub returns : goal.returns
-returns c k e text so =
+pub returns-clause-whole : goal.returns-clause-whole
+returns-clause-whole c k e text so =
     let tree = stream_view c.args.stream.now in
     let xs = c.args.stream.now.body.items in
     let size = c.size_of-size.result in
@@ -19,3 +19,6 @@ returns c k e text so =
     (c.in_ok-note_size.ensures.diags k (block_at k tree) text (sym c.block_name.ensures) ∙ ap (λ (b : Built). b.diags ++ size_by k (block_at k tree) size.0 size.1) c.self.view_is)
     (c.in_ok-note_size.ensures.answers ∙ ap (λ (b : Built). b.answers) c.self.view_is)
     so
+
+pub returns-clause-answers : goal.returns-clause-answers
+returns-clause-answers c = c.in_ok-note_size.ensures.answers ∙ ap (λ (b : Built). b.answers) c.self.view_is
