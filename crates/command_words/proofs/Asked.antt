@@ -1,10 +1,10 @@
 -- What holds of a command that words ask for: its module has a name, and no value is 0.
-use Rattle.std.proofs.Common.{◌≡◌, ◌≢◌, ℕ, ◌<◌, ◌≤◌, Bool, true, false, ◌&&◌, List, [], ◌∷◌, ◌++◌, map, Option, Some, None, IfSome, refl, sym, ◌∙◌, ap, subst, lit<, arith}
+use Rattle.std.proofs.Common.{◌≡◌, ℕ, ◌<◌, Bool, true, false, ◌&&◌, List, [], ◌∷◌, map, Option, Some, None, IfSome, refl, sym, ◌∙◌, ap, subst, lit<}
 use Rattle.std.specs.Prelude.{if◌then◌else◌, is_some, nat_le, option_and_then, unwrap_or}
 use Rattle.std.proofs.lemmas.Bool.{and_parts, leb-true}
 use Rattle.std.specs.Str.Parse.{digits_value}
 use Rattle.m2_base.specs.Lists.{Each}
-use Rattle.command_words.specs.Command.{Asks, Command, IsSound, Makes, asks, to_compile, to_dump, to_run}
+use Rattle.command_words.specs.Command.{Asks, Command, IsSound, Makes, behind_verb, to_compile, to_dump, to_run}
 use Rattle.command_words.specs.Parts.{Adds, Given, IsName, Part, Spells, a_name, a_value, joined, marked, named, nothing, over, spaced, with_part, with_parts}
 use Rattle.command_words.specs.Settings.{is_numeral, most, standard, value_in}
 use Rattle.command_words.specs.declared.setting.Setting.{Setting}
@@ -89,4 +89,4 @@ sound_made verb g c sound (to_run n steps cells) = (sound.name, sound_cells cell
 sound_made verb g c sound (to_dump n) = sound.name
 
 pub asked_sound : (words : List (List ℕ)) (c : Command) → Asks words c → IsSound c
-asked_sound words c (asks verb behind given command gives makes) = sound_made verb given command (sound_given behind given gives) makes
+asked_sound words c (behind_verb verb behind given command gives makes) = sound_made verb given command (sound_given behind given gives) makes

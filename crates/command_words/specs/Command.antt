@@ -23,7 +23,7 @@ pub data Makes : List ℕ → Given → Command → Type 0 where
 
 -- the words ask for it
 pub data Asks : List (List ℕ) → Command → Type 0 where
-  asks : (verb : List ℕ) (words : List (List ℕ)) (given : Given) (command : Command) → Gives words given → Makes verb given command → Asks (verb ∷ words) command
+  behind_verb : (verb : List ℕ) (words : List (List ℕ)) (given : Given) (command : Command) → Gives words given → Makes verb given command → Asks (verb ∷ words) command
 
 -- the words are no command
 abbrev pub IsNoCommand : List (List ℕ) → Type 0

@@ -1,5 +1,5 @@
 -- What words ask for.
-use Rattle.std.proofs.Common.{◌≡◌, ℕ, List, Option, subst}
+use Rattle.std.proofs.Common.{ℕ, List, Option, subst}
 use Rattle.command_words.specs.Command.{Asks, Command, IsNoCommand, compile}
 use Rattle.command_words.proofs.OneCommand.{one_command_lem}
 use Rattle.m2c_top.specs.Effects.{HasInput, IsTold}

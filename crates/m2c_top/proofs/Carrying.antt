@@ -1,23 +1,31 @@
 -- What carrying out a command leaves.
-use Rattle.std.proofs.Common.{◌≡◌, ◌⊎◌, ℕ, List, Option, Result, Ok, Err, Some, refl, sym, ◌∙◌, ap, subst, IfSome, IfOk, OnErr}
+use Rattle.std.proofs.Common.{◌≡◌, ℕ, List, Option, Result, Ok, Err, Some, refl, sym, ◌∙◌, ap, subst, IfSome, IfOk, OnErr}
 use Rattle.m2_io.specs.Files.{Files}
-use Rattle.m2_io.specs.Written.{WritesPart, with_bytes}
+use Rattle.m2_io.specs.Written.{WritesPart}
 use Rattle.command_words.specs.Command.{Command, compile, dump, run}
 use Rattle.object_commands.specs.Dumps.{Dumps}
-use Rattle.object_commands.specs.Outcomes.{Leaves as RunLeaves, LeavesPart, Outcome as ObjectOutcome, Prints, PrintsPart as DumpPart}
+use Rattle.object_commands.specs.Outcomes.{Leaves as RunLeaves, LeavesPart, Prints, PrintsPart as DumpPart}
 use Rattle.object_commands.specs.Runs.{Runs}
 use Rattle.object_commands.specs.declared.answer.Answer.{Answer}
 use Rattle.object_commands.specs.declared.answer.Stop.TheVariants as object_stop
 use Rattle.object_commands.specs.declared.answer.Stop.{Stop as ObjectStop}
 use Rattle.m2c_top.specs.Effects.{Does, Effect, IsTold, Leaves, PrintsPart, compiles, dumps, runs}
 use Rattle.m2c_top.specs.Ending.{ended_over}
-use Rattle.m2c_top.specs.Outcome.{Compiles, Outcome, Leaves as CompileLeaves, PrintsPart as CompilePart}
+use Rattle.m2c_top.specs.Outcome.{Compiles, Leaves as CompileLeaves, PrintsPart as CompilePart}
 use Rattle.m2c_top.specs.Statuses.{status_after, status_number}
 use Rattle.m2c_top.specs.declared.status.Status.{Status}
 use Rattle.m2c_top.specs.declared.top.Stop.{Stop}
 use Rattle.m2c_top.proofs.OtherCommands.{compile_dump, compile_run, run_dump}
 use Rattle.m2c_top.proofs.Outcomes.{some_same, tells, told}
 use Rattle.m2c_top.proofs.Table.{map_told}
+
+-- what the work for a command leaves, and what it prints where it is given up
+module _ (holds after : Option Files) (old new before left : Option (List ℕ)) (r : Result Status Stop) where
+  abbrev pub LeavesDone : Command → Type 0
+  LeavesDone command = IfOk r (λ status. IfSome holds (λ files. IsTold before command → Leaves (Does files before command) (status_number status) after old new left))
+
+  abbrev pub PrintsDone : Command → Type 0
+  PrintsDone command = OnErr r (IfSome holds (λ files. IsTold before command → PrintsPart (Does files before command) old new))
 
 err_ended : (s : ObjectStop) (P : Type 0) → P → OnErr (ended_over (Err s)) P
 err_ended object_stop.Read P p = p
@@ -51,7 +59,7 @@ module _ (holds : Option Files) (old new left : Option (List ℕ)) where
         → OnErr r (IfSome holds (λ files. IsTold left (compile name workers) → PrintsPart (Does files left (compile name workers)) old new))
     compiled_prints (Ok status) prints = tt
     compiled_prints (Err s) prints = map_told holds _ (λ files. IsTold left (compile name workers) → PrintsPart (Does files left (compile name workers)) old new)
-    (λ files p t effect does. compiled_part files (compile name workers) effect refl p does) prints
+        (λ files p t effect does. compiled_part files (compile name workers) effect refl p does) prints
 
   -- ** Running
 
@@ -99,7 +107,7 @@ module _ (holds : Option Files) (old new left : Option (List ℕ)) where
             → OnErr (ended_over r) (IfSome holds (λ files. IsTold left (run name steps cells) → PrintsPart (Does files left (run name steps cells)) old new))
         go (Ok answer) part = tt
         go (Err s) part = err_ended s _ (map_told holds _ (λ files. IsTold left (run name steps cells) → PrintsPart (Does files left (run name steps cells)) old new)
-        (λ files p t effect does. ran_part files (run name steps cells) effect t.0 refl t.1 (tells left t.0 (λ input. LeavesPart (Runs (Some files) name steps cells input) old new) p t.1) does) part)
+            (λ files p t effect does. ran_part files (run name steps cells) effect t.0 refl t.1 (tells left t.0 (λ input. LeavesPart (Runs (Some files) name steps cells input) old new) p t.1) does) part)
 
   -- ** Dumping
 
@@ -138,4 +146,4 @@ module _ (holds : Option Files) (old new left : Option (List ℕ)) where
             → OnErr (ended_over r) (IfSome holds (λ files. IsTold left (dump name) → PrintsPart (Does files left (dump name)) old new))
         go (Ok answer) part = tt
         go (Err s) part = err_ended s _ (map_told holds _ (λ files. IsTold left (dump name) → PrintsPart (Does files left (dump name)) old new)
-        (λ files p t effect does. dumped_part files (dump name) effect refl p does) part)
+            (λ files p t effect does. dumped_part files (dump name) effect refl p does) part)

@@ -2,7 +2,7 @@
 use Rattle.std.proofs.Common.{◌≡◌, ◌⊎◌, inl, inr, ℕ, List, Option, Some, None, Result, Ok, Err, refl, sym, ap, subst, arith, IfSome, IfOk, OnErr}
 use Rattle.std.specs.Prelude.{IsErrOf}
 use Rattle.m2_io.specs.Files.{Files}
-use Rattle.command_words.specs.Command.{Asks, Command, IsNoCommand, compile, dump, run}
+use Rattle.command_words.specs.Command.{Command, IsNoCommand, compile, dump, run}
 use Rattle.object_commands.specs.declared.answer.Answer.{Answer}
 use Rattle.object_commands.specs.declared.answer.Answer.TheVariants as answer
 use Rattle.m2c_top.specs.Ending.{IsWellEnded, ended_as}

@@ -5,7 +5,7 @@ use Rattle.std.specs.FinMap.{insert}
 use Rattle.m2_base.specs.declared.notes.Diag.{Diag}
 use Rattle.m2_io.specs.Files.{Files}
 use Rattle.m2_io.specs.Written.{WritesPart}
-use Rattle.command_words.specs.Command.{Asks, Command, IsNoCommand, compile, dump, run}
+use Rattle.command_words.specs.Command.{Command, compile, dump, run}
 use Rattle.command_words.proofs.OneCommand.{one_command_lem}
 use Rattle.object_commands.specs.Dumps.{Dumps}
 use Rattle.object_commands.specs.Outcomes.{Outcome as ObjectOutcome}

@@ -1,6 +1,6 @@
 -- The commands differ.
 use Rattle.std.proofs.Common.{◌≡◌, ℕ, List}
-use Rattle.command_words.specs.Command.{Command, compile, dump, run}
+use Rattle.command_words.specs.Command.{compile, dump, run}
 
 pub compile_run : (name : List ℕ) (workers : ℕ) (other : List ℕ) (steps cells : ℕ) → compile name workers ≡ run other steps cells → ⊥
 compile_run name workers other steps cells e = cc

@@ -2,7 +2,7 @@
 use Rattle.std.proofs.Common.{◌≡◌, ◌⊎◌, inl, inr, ℕ, ◌==◌, ◌||◌, Bool, true, not, List, Option, Some, None, refl, sym, ◌∙◌, ap, subst, arith, IfSome}
 use Rattle.std.proofs.lemmas.Bool.{false≢true}
 use Rattle.m2_io.specs.Files.{Files}
-use Rattle.command_words.specs.Command.{Asks, Command, IsNoCommand, compile}
+use Rattle.command_words.specs.Command.{Asks, Command, compile}
 use Rattle.command_words.proofs.OneCommand.{one_command_lem}
 use Rattle.m2c_top.specs.Effects.{Does, Effect, Gives, Leaves, commanded, compiles, dumps, no_command, runs}
 use Rattle.m2c_top.proofs.OtherCommands.{compile_dump, compile_run}
