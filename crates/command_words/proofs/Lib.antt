@@ -1,4 +1,5 @@
 pub mod Apart
+pub mod Asked
 pub mod Continuing
 pub mod Making
 pub mod OneCommand

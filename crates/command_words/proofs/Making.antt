@@ -2,7 +2,7 @@
 use Rattle.std.proofs.Common.{◌≡◌, ℕ, Bool, true, false, List, [], ◌∷◌, Option, Some, None, refl, sym, ◌∙◌, ap, subst}
 use Rattle.std.specs.Prelude.{codes, unwrap_or, is_some, option_map, if◌then◌else◌}
 use Rattle.std.proofs.lemmas.Bool.{false≢true}
-use Rattle.command_words.specs.Command.{Asks, Command, IsNoCommand, Makes, asks, compile, dump, run, to_compile, to_dump, to_run}
+use Rattle.command_words.specs.Command.{Asks, Command, IsNoCommand, Makes, behind_verb, compile, dump, run, to_compile, to_dump, to_run}
 use Rattle.command_words.specs.Names.{is_name}
 use Rattle.command_words.specs.Parts.{Adds, Given, a_name, nothing, with_part}
 use Rattle.command_words.specs.Words.{AddsNone, given_of, with_name}
@@ -43,7 +43,7 @@ module _ (verb : List ℕ) (g : Given) (name : List ℕ) (named : g.name ≡ Som
 
 -- the words ask for the command of their verb with what is given behind it
 pub asked : (all : List (List ℕ)) (c : Command) (verb : List ℕ) (words : List (List ℕ)) → all ≡ verb ∷ words → Asks all c → (g : Given) × Adds nothing words g × Makes verb g c
-asked all c verb words e (asks v ws g command given made) =
+asked all c verb words e (behind_verb v ws g command given made) =
     let same : v ≡ verb = cc in
     let others : ws ≡ words = cc in
     (g, subst (λ x. Adds nothing x g) others given, subst (λ x. Makes x g command) same made)
@@ -52,14 +52,14 @@ pub no_verb : (all : List (List ℕ)) → all ≡ [] → IsNoCommand all
 no_verb all e c h = wrong all c e h
   where
     wrong : (all : List (List ℕ)) (c : Command) → all ≡ [] → Asks all c → ⊥
-    wrong all c e (asks v ws g command given made) = cc
+    wrong all c e (behind_verb v ws g command given made) = cc
 
 pub not_given : (all : List (List ℕ)) (verb : List ℕ) (words : List (List ℕ)) → all ≡ verb ∷ words → AddsNone nothing words → IsNoCommand all
 not_given all verb words e none c h = let a = asked all c verb words e h in none a.0 a.1
 
 module _ (all : List (List ℕ)) (verb : List ℕ) (words : List (List ℕ)) (given : Given) (e : all ≡ verb ∷ words) (adds : Adds nothing words given) where
   pub asks_made : (c : Command) → Makes verb given c → Asks all c
-  asks_made c made = subst (λ x. Asks x c) (sym e) (asks verb words given c adds made)
+  asks_made c made = subst (λ x. Asks x c) (sym e) (behind_verb verb words given c adds made)
 
 -- ** A name more
 

@@ -1,7 +1,7 @@
 -- Words ask for one command.
 use Rattle.std.proofs.Common.{◌≡◌, ℕ, List, [], ◌∷◌, ◌++◌, map, Some, refl, sym, ◌∙◌, ap, subst}
 use Rattle.std.specs.Prelude.{codes, unwrap_or}
-use Rattle.command_words.specs.Command.{Asks, Command, Makes, asks, compile, dump, run, to_compile, to_dump, to_run}
+use Rattle.command_words.specs.Command.{Asks, Command, Makes, behind_verb, compile, dump, run, to_compile, to_dump, to_run}
 use Rattle.command_words.specs.Parts.{Adds, Given, Part, Spells, a_name, a_value, over, named, spaced, joined, marked, nothing, with_parts}
 use Rattle.command_words.specs.Settings.{spelling, standard, value_in}
 use Rattle.command_words.specs.declared.setting.Setting.TheVariants.{Workers, Steps, Cells}
@@ -95,10 +95,10 @@ one_made verb g this other (as_dump v c) (as_run w d) = absurd (other_verbs.2 (s
 one_made verb g this other (as_dump v c) (as_dump w d) = c ∙ sym d
 
 pub one_command_lem : (words : List (List ℕ)) (this other : Command) → Asks words this → Asks words other → this ≡ other
-one_command_lem words this other (asks verb behind given command gives makes) h = go (verb ∷ behind) other refl h
+one_command_lem words this other (behind_verb verb behind given command gives makes) h = go (verb ∷ behind) other refl h
   where
     go : (all : List (List ℕ)) (other : Command) → all ≡ verb ∷ behind → Asks all other → command ≡ other
-    go all other e (asks verb' behind' given' command' gives' makes') =
+    go all other e (behind_verb verb' behind' given' command' gives' makes') =
         let same : verb' ≡ verb = cc in
         let rest : behind' ≡ behind = cc in
         let one : given' ≡ given = one_given behind given' given (subst (λ x. Adds nothing x given') rest gives') gives in

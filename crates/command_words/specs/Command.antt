@@ -1,5 +1,6 @@
 -- What the words of a command line ask for: a verb, and behind it a module's name and the verb's options, in any order.
-use Rattle.std.specs.Prelude.{ℕ, List, ◌∷◌, Option, Some, None, codes, unwrap_or}
+use Rattle.std.specs.Prelude.{ℕ, ◌<◌, IsTrue, List, ◌∷◌, Option, Some, None, codes, unwrap_or}
+use Rattle.command_words.specs.Names.{is_name}
 use Rattle.command_words.specs.Parts.{Given, Gives}
 use Rattle.command_words.specs.Settings.{standard}
 use Rattle.command_words.specs.declared.command.Command.TheVariants as held
@@ -22,7 +23,7 @@ pub data Makes : List ℕ → Given → Command → Type 0 where
 
 -- the words ask for it
 pub data Asks : List (List ℕ) → Command → Type 0 where
-  asks : (verb : List ℕ) (words : List (List ℕ)) (given : Given) (command : Command) → Gives words given → Makes verb given command → Asks (verb ∷ words) command
+  behind_verb : (verb : List ℕ) (words : List (List ℕ)) (given : Given) (command : Command) → Gives words given → Makes verb given command → Asks (verb ∷ words) command
 
 -- the words are no command
 abbrev pub IsNoCommand : List (List ℕ) → Type 0
@@ -37,3 +38,9 @@ abbrev pub command_of : HeldCommand → Command
 command_of (held.Compile name workers) = compile name.now workers
 command_of (held.Run name steps cells) = run name.now steps cells
 command_of (held.Dump name) = dump name.now
+
+-- what holds of every command that can be asked for: its module has a name, and a program has a cell at least
+abbrev pub IsSound : Command → Type 0
+IsSound (compile name workers) = IsTrue (is_name name)
+IsSound (run name steps cells) = IsTrue (is_name name) × (0 < cells)
+IsSound (dump name) = IsTrue (is_name name)

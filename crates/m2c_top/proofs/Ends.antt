@@ -1,16 +1,18 @@
 -- What the end of the work says of the status.
-use Rattle.std.proofs.Common.{◌≡◌, ◌⊎◌, inl, inr, ℕ, List, Option, Some, None, Result, Ok, Err, refl, ap, subst, arith, IfSome, IfOk, OnErr}
+use Rattle.std.proofs.Common.{◌≡◌, ◌⊎◌, inl, inr, ℕ, List, Option, Some, None, Result, Ok, Err, refl, sym, ap, subst, arith, IfSome, IfOk, OnErr}
 use Rattle.std.specs.Prelude.{IsErrOf}
 use Rattle.m2_io.specs.Files.{Files}
-use Rattle.m2c_top.specs.Command.{IsNoCommand}
-use Rattle.m2c_top.specs.Ending.{ended_as}
-use Rattle.m2c_top.specs.Outcome.{Gives, AsksToCompile, Commands, Leaves}
-use Rattle.m2c_top.specs.Statuses.{status_number, IsFault, IsStatus, IsAnswer, Exactly}
+use Rattle.command_words.specs.Command.{Command, IsNoCommand, compile, dump, run}
+use Rattle.object_commands.specs.declared.answer.Answer.{Answer}
+use Rattle.object_commands.specs.declared.answer.Answer.TheVariants as answer
+use Rattle.m2c_top.specs.Ending.{IsWellEnded, ended_as}
+use Rattle.m2c_top.specs.Effects.{Gives, HasInput, Leaves, ToCompile}
+use Rattle.m2c_top.specs.Statuses.{Answers, Exactly, IsAnswer, IsFault, IsStatus, status_after, status_number}
 use Rattle.m2c_top.specs.declared.status.Status.{Status}
-use Rattle.m2c_top.specs.declared.status.Status.TheVariants.{Done, Diagnosed, NoCommand, NoText, ReadFault, WriteFault, NoMemory, OverLimit, NotBuilt}
+use Rattle.m2c_top.specs.declared.status.Status.TheVariants.{Done, Diagnosed, NoCommand, NoText, NoObject, ReadFault, WriteFault, NoMemory, OverLimit, BadObjects, Trapped, StepsSpent, NotBuilt}
 use Rattle.m2c_top.specs.declared.top.Stop.{Stop}
 use Rattle.m2c_top.specs.declared.top.Stop.TheVariants as stop
-use Rattle.m2c_top.proofs.Asking.{asks_none}
+use Rattle.m2c_top.proofs.Asking.{asks_none, compiling_told}
 use Rattle.m2c_top.proofs.Table.{RowOf, left_exactly, map_told}
 
 -- the number that the work ends with
@@ -33,36 +35,49 @@ told_all : (holds : Option Files) (P : Files → Type 0) → ((files : Files) �
 told_all None P h = tt
 told_all (Some files) P h = h files
 
-module _ (words : List (List ℕ)) (holds after : Option Files) (old new : Option (List ℕ)) where
-  pub ends_leaving : (r : Result Status Stop) → IfOk r (λ status. IfSome holds (λ files. Leaves (Gives words files) (status_number status) after old new))
-      → IsFault (number_of r) ⊎ IfSome holds (λ files. Leaves (Gives words files) (number_of r) after old new)
+module _ (words : List (List ℕ)) (holds after : Option Files) (old new before left : Option (List ℕ)) where
+  pub ends_leaving : (r : Result Status Stop) → IfOk r (λ status. IfSome holds (λ files. HasInput words before → Leaves (Gives words files before) (status_number status) after old new left))
+      → IsFault (number_of r) ⊎ IfSome holds (λ files. HasInput words before → Leaves (Gives words files before) (number_of r) after old new left)
   ends_leaving (Ok status) leaves = inr leaves
   ends_leaving (Err s) leaves = inl (stop_fault s)
 
   pub ends_exactly : (wanted : ℕ) (fact : List ℕ → Files → Type 0) → RowOf wanted fact → (r : Result Status Stop)
-      → IfOk r (λ status. IfSome holds (λ files. Leaves (Gives words files) (status_number status) after old new))
-      → IfSome holds (λ files. Exactly (number_of r) wanted (AsksToCompile words (λ n. fact n files)))
+      → IfOk r (λ status. IfSome holds (λ files. HasInput words before → Leaves (Gives words files before) (status_number status) after old new left))
+      → IfSome holds (λ files. ToCompile words (λ name. Exactly (number_of r) wanted (fact name files)))
   ends_exactly wanted fact row (Ok status) leaves =
-      map_told holds _ (λ files. Exactly (status_number status) wanted (AsksToCompile words (λ n. fact n files))) (λ files l. left_exactly words files old new wanted fact row (status_number status) after l) leaves
+      map_told holds _ (λ files. ToCompile words (λ name. Exactly (status_number status) wanted (fact name files)))
+      (λ files l name workers asks. left_exactly words files wanted fact row (status_number status) before left after old new (l (compiling_told words before name workers asks)) name workers asks) leaves
   ends_exactly wanted fact row (Err s) leaves =
-      told_all holds _ (λ files. faulty (number_of (Err s)) wanted (AsksToCompile words (λ n. fact n files)) (stop_fault s) (λ f. row.other (inr f)))
+      told_all holds (λ files. ToCompile words (λ name. Exactly (number_of (Err s)) wanted (fact name files)))
+      (λ files name workers asks. faulty (number_of (Err s)) wanted (fact name files) (stop_fault s) (λ f. row.other (inr f)))
 
--- what an end without a fault is
-abbrev pub IsWellEnded : List (List ℕ) → Status → Type 0
-IsWellEnded words status = (IsAnswer status × Commands words) ⊎ ((status ≡ NoCommand) × IsNoCommand words)
-
+-- the statuses without a fault, but for that of no command
 abbrev pub IsAnswered : ℕ → Type 0
-IsAnswered n = (n ≡ 0) ⊎ (n ≡ 1) ⊎ (n ≡ 3) ⊎ (n ≡ 7) ⊎ (n ≡ 11)
+IsAnswered n = (n ≡ 0) ⊎ (n ≡ 1) ⊎ (n ≡ 3) ⊎ (n ≡ 7) ⊎ (n ≡ 8) ⊎ (n ≡ 9) ⊎ (n ≡ 10) ⊎ (n ≡ 11)
+
+object_number : (a : Answer) → IsAnswered (status_number (status_after a))
+object_number answer.Done = inl refl
+object_number answer.NoObject = inr (inr (inl refl))
+object_number answer.OverLimit = inr (inr (inr (inl refl)))
+object_number answer.BadObjects = inr (inr (inr (inr (inl refl))))
+object_number answer.Trapped = inr (inr (inr (inr (inr (inl refl)))))
+object_number answer.StepsSpent = inr (inr (inr (inr (inr (inr (inl refl))))))
 
 answer_number : (status : Status) → IsAnswer status → IsAnswered (status_number status)
 answer_number status (inl e) = inl (ap status_number e)
 answer_number status (inr (inl e)) = inr (inl (ap status_number e))
 answer_number status (inr (inr (inl e))) = inr (inr (inl (ap status_number e)))
 answer_number status (inr (inr (inr (inl e)))) = inr (inr (inr (inl (ap status_number e))))
-answer_number status (inr (inr (inr (inr e)))) = inr (inr (inr (inr (ap status_number e))))
+answer_number status (inr (inr (inr (inr e)))) = inr (inr (inr (inr (inr (inr (inr (ap status_number e)))))))
+
+-- the number of what a command answers
+answers_number : (command : Command) (status : Status) → Answers command status → IsAnswered (status_number status)
+answers_number (compile name workers) status a = answer_number status a
+answers_number (run name steps cells) status a = subst (λ s. IsAnswered (status_number s)) (sym a.1) (object_number a.0)
+answers_number (dump name) status a = subst (λ s. IsAnswered (status_number s)) (sym a.1) (object_number a.0)
 
 well_number : (words : List (List ℕ)) (status : Status) → IsWellEnded words status → IsAnswered (status_number status) ⊎ (status_number status ≡ 2)
-well_number words status (inl p) = inl (answer_number status p.0)
+well_number words status (inl p) = inl (answers_number p.0 status p.2)
 well_number words status (inr p) = inr (ap status_number p.0)
 
 well_is_no_fault : (words : List (List ℕ)) (status : Status) → IsWellEnded words status → IsFault (status_number status) → ⊥
@@ -80,8 +95,8 @@ two_fault (inr (inr e)) = omega (arith, e)
 module _ (words : List (List ℕ)) where
   pub ends_as_no_command : (r : Result Status Stop) → IfOk r (IsWellEnded words) → Exactly (number_of r) 2 (IsNoCommand words)
   ends_as_no_command (Ok status) (inl p) = record {
-    only = λ e. absurd (clash (status_number status) (answer_number status p.0) e);
-    always = λ none. absurd (asks_none words p.1.0 p.1.1 none);
+    only = λ e. absurd (clash (status_number status) (answers_number p.0 status p.2) e);
+    always = λ none. absurd (asks_none words p.0 p.1 none);
   }
     where
       clash : (n : ℕ) → IsAnswered n → n ≡ 2 → ⊥
@@ -97,9 +112,12 @@ module _ (words : List (List ℕ)) where
       listed n (inl (inr (inl b))) = inr (inl b)
       listed n (inl (inr (inr (inl c)))) = inr (inr (inr (inl c)))
       listed n (inl (inr (inr (inr (inl d))))) = inr (inr (inr (inr (inl d))))
-      listed n (inl (inr (inr (inr (inr f))))) = inr (inr (inr (inr (inr (inl f)))))
+      listed n (inl (inr (inr (inr (inr (inl f)))))) = inr (inr (inr (inr (inr (inl f)))))
+      listed n (inl (inr (inr (inr (inr (inr (inl g))))))) = inr (inr (inr (inr (inr (inr (inl g))))))
+      listed n (inl (inr (inr (inr (inr (inr (inr (inl h)))))))) = inr (inr (inr (inr (inr (inr (inr (inl h)))))))
+      listed n (inl (inr (inr (inr (inr (inr (inr (inr k)))))))) = inr (inr (inr (inr (inr (inr (inr (inr (inl k))))))))
       listed n (inr e) = inr (inr (inl e))
-  ends_with_status (Err s) well = inr (inr (inr (inr (inr (inr (stop_fault s))))))
+  ends_with_status (Err s) well = inr (inr (inr (inr (inr (inr (inr (inr (inr (stop_fault s)))))))))
 
   -- which stop a fault's number tells
   pub ends_stopped : (P : Type 0) (r : Result Status Stop) → IfOk r (IsWellEnded words) → OnErr r P → IsFault (number_of r) → P
@@ -124,10 +142,14 @@ done_of Done e = refl
 done_of Diagnosed e = absurd (omega (arith, e))
 done_of NoCommand e = absurd (omega (arith, e))
 done_of NoText e = absurd (omega (arith, e))
+done_of NoObject e = absurd (omega (arith, e))
 done_of ReadFault e = absurd (omega (arith, e))
 done_of WriteFault e = absurd (omega (arith, e))
 done_of NoMemory e = absurd (omega (arith, e))
 done_of OverLimit e = absurd (omega (arith, e))
+done_of BadObjects e = absurd (omega (arith, e))
+done_of Trapped e = absurd (omega (arith, e))
+done_of StepsSpent e = absurd (omega (arith, e))
 done_of NotBuilt e = absurd (omega (arith, e))
 
 pub ends_done : (P : Type 0) (r : Result Status Stop) → IfOk r (λ status. status ≡ Done → P) → number_of r ≡ 0 → P

@@ -1,4 +1,5 @@
 mod Asking
+mod Carrying
 mod Decided
 mod Delivering
 mod DiagTokens
@@ -14,6 +15,7 @@ mod MainStatements
 mod Obeying
 mod OneDecision
 mod OneOutcome
+mod OtherCommands
 mod Outcomes
 mod ProcedureRows
 mod RefusalTokens
@@ -22,7 +24,6 @@ mod Table
 mod TextUnit
 mod TokenCounts
 mod WholeBlocks
-mod Words
 mod BlockTokens
 mod ExpressionTokens
 mod NoProcedures

@@ -1,65 +1,63 @@
 -- What doing the words' command leaves.
-use Rattle.std.proofs.Common.{◌≡◌, ◌⊎◌, inl, inr, ℕ, List, Option, Result, Ok, Err, sym, ◌∙◌, ap, arith, subst, IfSome, IfOk, OnOk, OnErr}
-use Rattle.std.specs.Prelude.{IsErrOf, codes}
+use Rattle.std.proofs.Common.{◌≡◌, ℕ, List, Option, Result, Ok, Err, refl, sym, ◌∙◌, subst, IfSome, IfOk, OnErr, OnOk}
 use Rattle.m2_io.specs.Files.{Files}
-use Rattle.m2_io.specs.Written.{with_bytes, WritesPart}
-use Rattle.m2c_top.specs.Command.{compile, Asks, IsNoCommand}
-use Rattle.m2c_top.specs.Outcome.{Gives, Compiles, AsksToCompile, Leaves, PrintsPart, PutsPart, KeepsButObject, line}
-use Rattle.m2c_top.specs.Statuses.{status_number, IsAnswer}
+use Rattle.m2_io.specs.Written.{WritesPart, with_bytes}
+use Rattle.command_words.specs.Command.{Asks, Command, IsNoCommand, compile}
+use Rattle.command_words.proofs.OneCommand.{one_command_lem}
+use Rattle.m2c_top.specs.Effects.{Does, Effect, Gives, HasInput, IsTold, Leaves, OfCompiled, PrintsPart, ToCompile, commanded, no_command, usage}
+use Rattle.m2c_top.specs.Statuses.{status_number}
 use Rattle.m2c_top.specs.declared.status.Status.{Status}
 use Rattle.m2c_top.specs.declared.status.Status.TheVariants.{Done, NoCommand}
 use Rattle.m2c_top.specs.declared.top.Stop.{Stop}
-use Rattle.m2c_top.proofs.Ends.{IsWellEnded}
 use Rattle.m2c_top.proofs.Outcomes.{told}
-use Rattle.m2c_top.proofs.Table.{leaves_given, prints_given, leaves_usage, prints_usage, map_told}
+use Rattle.m2c_top.proofs.Table.{map_told}
 
-module _ (words : List (List ℕ)) (holds after : Option Files) (old new : Option (List ℕ)) where
-  module _ (name : List ℕ) (asks : Asks words (compile name)) where
-    pub compiling_leaves : (r : Result Status Stop) → IfOk r (λ status. IfSome holds (λ files. Leaves (Compiles name files) (status_number status) after old new))
-        → IfOk r (λ status. IfSome holds (λ files. Leaves (Gives words files) (status_number status) after old new))
-    compiling_leaves (Ok status) leaves = map_told holds _ (λ files. Leaves (Gives words files) (status_number status) after old new) (λ files l. leaves_given words files old new name (status_number status) after asks l) leaves
-    compiling_leaves (Err s) leaves = tt
+module _ (words : List (List ℕ)) (holds after : Option Files) (old new before left : Option (List ℕ)) where
+  module _ (command : Command) (asks : Asks words command) where
+    given_part : (files : Files) (effect : Effect) → PrintsPart (Does files before command) old new → Gives words files before effect → WritesPart old effect.printed new
+    given_part files effect part (no_command none) = absurd (none command asks)
+    given_part files effect part (commanded c e other does) = part e (subst (λ x. Does files before x e) (one_command_lem words c command other asks) does)
 
-    pub compiling_prints : (r : Result Status Stop) → OnErr r (IfSome holds (λ files. PrintsPart (Compiles name files) old new)) → OnErr r (IfSome holds (λ files. PrintsPart (Gives words files) old new))
-    compiling_prints (Ok status) prints = tt
-    compiling_prints (Err s) prints = map_told holds _ (λ files. PrintsPart (Gives words files) old new) (λ files p. prints_given words files old new name asks p) prints
+    pub commanded_leaves : (r : Result Status Stop) → IfOk r (λ status. IfSome holds (λ files. IsTold before command → Leaves (Does files before command) (status_number status) after old new left))
+        → IfOk r (λ status. IfSome holds (λ files. HasInput words before → Leaves (Gives words files before) (status_number status) after old new left))
+    commanded_leaves (Ok status) leaves = map_told holds _ (λ files. HasInput words before → Leaves (Gives words files before) (status_number status) after old new left) (λ files h input.
+        let l = h (input command asks) in
+        record {
+          effect = l.effect;
+          is_given = commanded command l.effect asks l.is_given;
+          status_is = l.status_is;
+          files_are = l.files_are;
+          printed_is = l.printed_is;
+          left_is = l.left_is;
+        }) leaves
+    commanded_leaves (Err s) leaves = tt
 
-    pub compiling_ends : (r : Result Status Stop) → IfOk r IsAnswer → IfOk r (IsWellEnded words)
-    compiling_ends (Ok status) answer = inl (answer, (compile name, asks))
-    compiling_ends (Err s) answer = tt
+    pub commanded_prints : (r : Result Status Stop) → OnErr r (IfSome holds (λ files. IsTold before command → PrintsPart (Does files before command) old new))
+        → OnErr r (IfSome holds (λ files. HasInput words before → PrintsPart (Gives words files before) old new))
+    commanded_prints (Ok status) prints = tt
+    commanded_prints (Err s) prints = map_told holds _ (λ files. HasInput words before → PrintsPart (Gives words files before) old new) (λ files h input effect given. given_part files effect (h (input command asks)) given) prints
 
-    pub compiling_keeps : KeepsButObject name holds after → (after ≡ holds) ⊎ AsksToCompile words (λ n. PutsPart n holds after)
-    compiling_keeps (inl same) = inl same
-    compiling_keeps (inr part) = inr (name, asks, part)
+    pub commanded_object : (P : List ℕ → Type 0) (r : Result Status Stop) → IfOk r (λ status. status ≡ Done → OfCompiled command P) → IfOk r (λ status. status ≡ Done → ToCompile words P)
+    commanded_object P (Ok status) object = λ done name workers other. subst (λ c. OfCompiled c P) (one_command_lem words command (compile name workers) asks other) (object done)
+    commanded_object P (Err s) object = tt
 
-  module _ (none : IsNoCommand words) where
-    pub usage_leaves : (r : Result Status Stop) → after ≡ holds → IfOk r (λ status. status ≡ NoCommand) → OnOk r (new ≡ with_bytes old (line (codes "usage: m2c compile NAME")))
-        → IfOk r (λ status. IfSome holds (λ files. Leaves (Gives words files) (status_number status) after old new))
-    usage_leaves (Ok status) same is printed = told holds (λ files has.
-        subst (λ s. Leaves (Gives words files) (status_number s) after old new) (sym is) (leaves_usage words files after old new (same ∙ has) none printed))
-    usage_leaves (Err s) same is printed = tt
+  pub usage_leaves : (r : Result Status Stop) → after ≡ holds → left ≡ before → IsNoCommand words → IfOk r (λ status. status ≡ NoCommand) → OnOk r (new ≡ with_bytes old usage)
+      → IfOk r (λ status. IfSome holds (λ files. HasInput words before → Leaves (Gives words files before) (status_number status) after old new left))
+  usage_leaves (Ok status) same kept none is printed = told holds (λ files has input.
+      subst (λ s. Leaves (Gives words files before) (status_number s) after old new left) (sym is) (record {
+        effect = record { status = NoCommand; printed = usage; files = files; left = before };
+        is_given = no_command none;
+        status_is = refl;
+        files_are = same ∙ has;
+        printed_is = printed;
+        left_is = kept;
+      }))
+  usage_leaves (Err s) same kept none is printed = tt
 
-    pub usage_prints : (r : Result Status Stop) → OnErr r (WritesPart old (line (codes "usage: m2c compile NAME")) new) → OnErr r (IfSome holds (λ files. PrintsPart (Gives words files) old new))
-    usage_prints (Ok status) part = tt
-    usage_prints (Err s) part = told holds (λ files has. prints_usage words files old new none part)
-
-    pub usage_ends : (r : Result Status Stop) → IfOk r (λ status. status ≡ NoCommand) → IfOk r (IsWellEnded words)
-    usage_ends (Ok status) is = inr (is, none)
-    usage_ends (Err s) is = tt
-
--- what holds where compiling is done
-pub compiling_done : (words : List (List ℕ)) (P : List ℕ → Type 0) (name : List ℕ) → Asks words (compile name) → (r : Result Status Stop) → IfOk r (λ status. status ≡ Done → P name) → IfOk r (λ status. status ≡ Done → AsksToCompile words P)
-compiling_done words P name asks (Ok status) h = λ done. (name, asks, h done)
-compiling_done words P name asks (Err s) h = tt
-
-pub usage_not_done : (P : Type 0) (r : Result Status Stop) → IfOk r (λ status. status ≡ NoCommand) → IfOk r (λ status. status ≡ Done → P)
-usage_not_done P (Ok status) is = λ done. absurd (let two : 2 ≡ 0 = ap status_number (sym is ∙ done) in omega (arith, two))
-usage_not_done P (Err s) is = tt
-
--- what holds at every stop holds at this one
-pub on_stop : (P : Type 0) (r : Result Status Stop) (s : Stop) → OnErr r P → IsErrOf r s → P
-on_stop P (Ok status) s p e = absurd (wrong e)
-  where
-    wrong : Ok status ≡ Err s → ⊥
-    wrong p = cc
-on_stop P (Err t) s p e = p
+  pub usage_prints : (r : Result Status Stop) → IsNoCommand words → OnErr r (WritesPart old usage new) → OnErr r (IfSome holds (λ files. HasInput words before → PrintsPart (Gives words files before) old new))
+  usage_prints (Ok status) none part = tt
+  usage_prints (Err s) none part = told holds (λ files has input effect given. go effect given)
+    where
+      go : (effect : Effect) → {files : Files} → Gives words files before effect → WritesPart old effect.printed new
+      go effect (no_command other) = part
+      go effect (commanded c e asks does) = absurd (none c asks)

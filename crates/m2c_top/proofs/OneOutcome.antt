@@ -1,20 +1,27 @@
 -- The words have one outcome.
-use Rattle.std.proofs.Common.{◌≡◌, ◌≢◌, ◌⊎◌, inl, inr, ℕ, List, [], ◌∷◌, ◌++◌, Option, refl, sym, ◌∙◌, ap, subst}
+use Rattle.std.proofs.Common.{◌≡◌, ◌≢◌, ◌⊎◌, inl, inr, ℕ, List, [], ◌∷◌, ◌++◌, Option, Some, refl, sym, ◌∙◌, ap, subst}
 use Rattle.std.specs.Prelude.{codes}
 use Rattle.std.specs.FinMap.{insert}
 use Rattle.m2_base.specs.declared.notes.Diag.{Diag}
 use Rattle.m2_io.specs.Files.{Files}
 use Rattle.m2_io.specs.Written.{WritesPart}
-use Rattle.m2c_top.specs.Command.{compile, Asks, IsNoCommand}
+use Rattle.command_words.specs.Command.{Command, compile, dump, run}
+use Rattle.command_words.proofs.OneCommand.{one_command_lem}
+use Rattle.object_commands.specs.Dumps.{Dumps}
+use Rattle.object_commands.specs.Outcomes.{Outcome as ObjectOutcome}
+use Rattle.object_commands.specs.Runs.{Runs}
+use Rattle.object_commands.proofs.OneOutcome.{one_dump, one_dump_answer, one_run}
+use Rattle.m2c_top.specs.Effects.{Does, Effect, Gives, commanded, compiles, dumps, no_command, runs, usage}
+use Rattle.m2c_top.specs.Statuses.{status_after}
+use Rattle.m2c_top.proofs.OtherCommands.{compile_dump, compile_run, run_dump}
 use Rattle.m2c_top.specs.Decisions.{Decision, limited, unbuilt, refused, to_compile, Decides}
 use Rattle.m2c_top.specs.Diagnostics.{diags_of}
 use Rattle.m2c_top.specs.Limits.{limit_text}
 use Rattle.listings.specs.Listing.{listing}
 use Rattle.m2c_top.specs.Object.{object_bytes}
 use Rattle.m2c_top.specs.Modules.{Module}
-use Rattle.m2c_top.specs.Outcome.{Outcome, Gives, no_command, compiles, Compiles, compiled, diagnosed, wrong, no_text, over_limit, not_built, LacksText, IsDecided, text_name, object_name, line, PrintsPart}
-use Rattle.m2c_top.specs.declared.status.Status.TheVariants.{Done, Diagnosed, NoText, OverLimit, NotBuilt}
-use Rattle.m2c_top.proofs.Asking.{asks_none, same_name}
+use Rattle.m2c_top.specs.Outcome.{Outcome, Compiles, compiled, diagnosed, wrong, no_text, over_limit, not_built, LacksText, IsDecided, text_name, object_name, line, PrintsPart}
+use Rattle.m2c_top.specs.declared.status.Status.TheVariants.{Done, Diagnosed, NoCommand, NoText, OverLimit, NotBuilt}
 use Rattle.m2c_top.proofs.OneDecision.{one_decision}
 use Rattle.m2c_top.proofs.Outcomes.{lacks_has, some_same}
 
@@ -67,16 +74,48 @@ module _ (name : List ℕ) (files : Files) where
   pub prints_part : (outcome : Outcome) (old new : Option (List ℕ)) → Compiles name files outcome → WritesPart old outcome.printed new → PrintsPart (Compiles name files) old new
   prints_part outcome old new h part other k = subst (λ (o : Outcome). WritesPart old o.printed new) (one_compiling outcome other h k) part
 
-compiling_one : (words : List (List ℕ)) (files : Files) (name : List ℕ) (these those : Outcome) → Asks words (compile name) → Compiles name files these → Gives words files those → these ≡ those
-compiling_one words files name these those asks h (no_command none) = absurd (asks_none words (compile name) asks none)
-compiling_one words files name these those asks h (compiles other o p k) =
-    one_compiling name files these those h (subst (λ n. Compiles n files those) (same_name words other name p asks) k)
+-- a command leaves one thing
+one_doing : (files : Files) (left : Option (List ℕ)) (command same : Command) (these those : Effect) → command ≡ same → Does files left command these → Does files left same those → these ≡ those
+one_doing files left command same these those e (compiles name workers o h) d = go same those e d
+  where
+    go : (same : Command) (those : Effect) → compile name workers ≡ same → Does files left same those → record { status = o.status; printed = o.printed; files = o.files; left = left } ≡ those
+    go same those e (compiles n w p k) =
+        let is : n ≡ name = cc in
+        ap (λ (x : Outcome). record { status = x.status; printed = x.printed; files = x.files; left = left }) (one_compiling name files o p h (subst (λ x. Compiles x files p) is k))
+    go same those e (runs n steps cells input p t k) = absurd (compile_run name workers n steps cells e)
+    go same those e (dumps n printed answer k) = absurd (compile_dump name workers n e)
+one_doing files left command same these those e (runs name steps cells input o t h) d = go same those e d
+  where
+    go : (same : Command) (those : Effect) → run name steps cells ≡ same → Does files left same those → record { status = status_after o.answer; printed = o.printed; files = files; left = Some o.left } ≡ those
+    go same those e (compiles n w p k) = absurd (compile_run n w name steps cells (sym e))
+    go same those e (runs n s c i p u k) =
+        let is : n ≡ name = cc in
+        let most : s ≡ steps = cc in
+        let room : c ≡ cells = cc in
+        let read : i ≡ input = some_same i input (sym u ∙ t) in
+        let other : Runs (Some files) name steps cells input p =
+        subst (λ x. Runs (Some files) name steps cells x p) read (subst (λ x. Runs (Some files) name steps x i p) room (subst (λ x. Runs (Some files) name x c i p) most (subst (λ x. Runs (Some files) x s c i p) is k))) in
+        ap (λ (x : ObjectOutcome). record { status = status_after x.answer; printed = x.printed; files = files; left = Some x.left }) (one_run files name steps cells input o p h other)
+    go same those e (dumps n printed answer k) = absurd (run_dump name steps cells n e)
+one_doing files left command same these those e (dumps name printed answer h) d = go same those e d
+  where
+    go : (same : Command) (those : Effect) → dump name ≡ same → Does files left same those → record { status = status_after answer; printed = printed; files = files; left = left } ≡ those
+    go same those e (compiles n w p k) = absurd (compile_dump n w name (sym e))
+    go same those e (runs n s c i p u k) = absurd (run_dump n s c name (sym e))
+    go same those e (dumps n text other k) =
+        let is : n ≡ name = cc in
+        let this : Dumps (Some files) name text other = subst (λ x. Dumps (Some files) x text other) is k in
+        ap (λ x. record { status = status_after answer; printed = x; files = files; left = left }) (one_dump files name printed text answer other h this)
+        ∙ ap (λ x. record { status = status_after x; printed = text; files = files; left = left }) (one_dump_answer files name printed text answer other h this)
 
-no_command_one : (words : List (List ℕ)) (files : Files) (these those : Outcome) → IsNoCommand words → Gives words files these → Gives words files those → these ≡ those
-no_command_one words files these those none (no_command a) (no_command b) = refl
-no_command_one words files these those none (no_command a) (compiles name o asks h) = absurd (asks_none words (compile name) asks none)
-no_command_one words files these those none (compiles name o asks h) g = absurd (asks_none words (compile name) asks none)
-
-pub one_outcome_lem : (words : List (List ℕ)) (files : Files) (these those : Outcome) → Gives words files these → Gives words files those → these ≡ those
-one_outcome_lem words files these those (no_command none) g = no_command_one words files these those none (no_command none) g
-one_outcome_lem words files these those (compiles name o asks h) g = compiling_one words files name these those asks h g
+pub one_outcome_lem : (words : List (List ℕ)) (files : Files) (left : Option (List ℕ)) (these those : Effect) → Gives words files left these → Gives words files left those → these ≡ those
+one_outcome_lem words files left these those (no_command none) g = go those g
+  where
+    go : (those : Effect) → Gives words files left those → record { status = NoCommand; printed = usage; files = files; left = left } ≡ those
+    go those (no_command other) = refl
+    go those (commanded c e asks d) = absurd (none c asks)
+one_outcome_lem words files left these those (commanded command effect asks does) g = go those g
+  where
+    go : (those : Effect) → Gives words files left those → effect ≡ those
+    go those (no_command none) = absurd (none command asks)
+    go those (commanded c e other d) = one_doing files left command c effect e (one_command_lem words command c asks other) does d

@@ -8,7 +8,7 @@ use Rattle.std.proofs.lemmas.Bool.{and_parts, leb-true}
 use Rattle.m2_base.specs.Kinds.{kind_in, reserved_words}
 use Rattle.m2_io.specs.Files.{Files, front_of}
 use Rattle.m2_io.specs.Written.{with_bytes}
-use Rattle.m2c_top.specs.Command.{is_name, is_identifier}
+use Rattle.command_words.specs.Names.{is_name, is_identifier}
 use Rattle.m2c_top.specs.Decisions.{Decision, Decides, too_long, too_many_tokens, other_form, other_name, faulty, module_text}
 use Rattle.m2c_top.specs.Outcome.{Outcome, LacksText, IsDecided, text_name, line, Leaves, PrintsPart}
 

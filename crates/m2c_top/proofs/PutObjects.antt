@@ -16,7 +16,7 @@ use Rattle.object_file.specs.ObjectFormat.{is_identifier}
 use Rattle.object_file.specs.Validity.{IsObject, IsValid}
 use Rattle.object_file.specs.Views.{procedure_of}
 use Rattle.m2c_top.specs.Analyses.{IsSound}
-use Rattle.m2c_top.specs.Command.{is_name, is_identifier as is_identifier_word}
+use Rattle.command_words.specs.Names.{is_name, is_identifier as is_identifier_word}
 use Rattle.m2c_top.specs.Delivery.{Delivered}
 use Rattle.m2c_top.specs.Diagnostics.{diags_of}
 use Rattle.m2c_top.specs.Held.{IsHeld, held}

@@ -1,16 +1,15 @@
 -- The table of statuses, from the outcomes.
 use Rattle.std.proofs.Common.{◌≡◌, ◌⊎◌, inl, inr, ℕ, ◌==◌, ◌||◌, Bool, true, not, List, Option, Some, None, refl, sym, ◌∙◌, ap, subst, arith, IfSome}
-use Rattle.std.specs.Prelude.{codes}
 use Rattle.std.proofs.lemmas.Bool.{false≢true}
 use Rattle.m2_io.specs.Files.{Files}
-use Rattle.m2_io.specs.Written.{WritesPart, with_bytes}
-use Rattle.m2c_top.specs.Command.{compile, Asks, IsNoCommand}
+use Rattle.command_words.specs.Command.{Asks, Command, compile}
+use Rattle.command_words.proofs.OneCommand.{one_command_lem}
+use Rattle.m2c_top.specs.Effects.{Does, Effect, Gives, Leaves, commanded, compiles, dumps, no_command, runs}
+use Rattle.m2c_top.proofs.OtherCommands.{compile_dump, compile_run}
 use Rattle.m2c_top.specs.Modules.{Module}
-use Rattle.m2c_top.specs.Outcome.{Outcome, Gives, no_command, compiles, Compiles, no_text, compiled, diagnosed, wrong, over_limit, not_built, AsksToCompile, LacksText, HasSoundText, HasDiagnostics, HasTooMuchText, HasOtherText, line, Leaves, PrintsPart}
+use Rattle.m2c_top.specs.Outcome.{Outcome, Compiles, no_text, compiled, diagnosed, wrong, over_limit, not_built, LacksText, HasSoundText, HasDiagnostics, HasTooMuchText, HasOtherText}
 use Rattle.m2c_top.specs.Statuses.{status_number, IsFault, Exactly}
-use Rattle.m2c_top.specs.declared.status.Status.TheVariants.{NoCommand}
 use Rattle.m2c_top.specs.declared.verdict.Limit.{Limit}
-use Rattle.m2c_top.proofs.Asking.{asks_none, same_name}
 use Rattle.m2c_top.proofs.OneOutcome.{one_compiling}
 
 -- a status that is neither that of no command nor a fault
@@ -95,51 +94,33 @@ other_row = record { other = unlike 11 refl; only = only; always = λ name files
     only name files o (wrong tokens diag h) e = absurd (omega (arith, e))
     only name files o (over_limit limit h) e = absurd (omega (arith, e))
 
-module _ (words : List (List ℕ)) (files : Files) where
-  given_exactly : (wanted : ℕ) (fact : List ℕ → Files → Type 0) → RowOf wanted fact → (outcome : Outcome) → Gives words files outcome
-      → Exactly (status_number outcome.status) wanted (AsksToCompile words (λ n. fact n files))
-  given_exactly wanted fact row outcome (no_command n) = record { only = λ e. absurd (row.other (inl (sym e))); always = λ a. absurd (asks_none words (compile a.0) a.1 n) }
-  given_exactly wanted fact row outcome (compiles name o asks h) = record {
-    only = λ e. (name, asks, row.only name files outcome h e);
-    always = λ a. inl (row.always name files outcome (subst (λ n. fact n files) (same_name words a.0 name a.1 asks) a.2) h);
-  }
+-- what compiling leaves, from what its command leaves
+record Compiled (name : List ℕ) (files : Files) (effect : Effect) : Type 0 where
+  outcome : Outcome
+  is : Compiles name files outcome
+  status_is : effect.status ≡ outcome.status
 
-  -- a command gives what compiling its module does
-  compiles_given : (name : List ℕ) (outcome : Outcome) → Asks words (compile name) → Gives words files outcome → Compiles name files outcome
-  compiles_given name outcome asks (no_command n) = absurd (asks_none words (compile name) asks n)
-  compiles_given name outcome asks (compiles other o p h) = subst (λ n. Compiles n files outcome) (same_name words other name p asks) h
+compiled_effect : (files : Files) (left : Option (List ℕ)) (command : Command) (effect : Effect) (name : List ℕ) (workers : ℕ) → compile name workers ≡ command → Does files left command effect → Compiled name files effect
+compiled_effect files left command effect name workers e (compiles n w o h) =
+    let same : n ≡ name = cc in
+    record { outcome = o; is = subst (λ x. Compiles x files o) same h; status_is = refl }
+compiled_effect files left command effect name workers e (runs n steps cells input o t h) = absurd (compile_run name workers n steps cells e)
+compiled_effect files left command effect name workers e (dumps n printed answer h) = absurd (compile_dump name workers n e)
 
-  module _ (old new : Option (List ℕ)) where
-    pub leaves_given : (name : List ℕ) (status : ℕ) (after : Option Files) → Asks words (compile name) → Leaves (Compiles name files) status after old new → Leaves (Gives words files) status after old new
-    leaves_given name status after asks l = record {
-      outcome = l.outcome;
-      is_given = compiles name l.outcome asks l.is_given;
-      status_is = l.status_is;
-      files_are = l.files_are;
-      printed_is = l.printed_is;
+compiled_given : (words : List (List ℕ)) (files : Files) (left : Option (List ℕ)) (effect : Effect) (name : List ℕ) (workers : ℕ) → Asks words (compile name workers) → Gives words files left effect → Compiled name files effect
+compiled_given words files left effect name workers asks (no_command none) = absurd (none (compile name workers) asks)
+compiled_given words files left effect name workers asks (commanded c e other d) = compiled_effect files left c e name workers (one_command_lem words (compile name workers) c asks other) d
+
+-- the status of a row comes exactly where its fact holds of the module that is compiled
+pub left_exactly : (words : List (List ℕ)) (files : Files) (wanted : ℕ) (fact : List ℕ → Files → Type 0) → RowOf wanted fact → (status : ℕ) (before after : Option (List ℕ)) (holds : Option Files) (old new : Option (List ℕ))
+    → Leaves (Gives words files before) status holds old new after → (name : List ℕ) (workers : ℕ) → Asks words (compile name workers) → Exactly status wanted (fact name files)
+left_exactly words files wanted fact row status before after holds old new l name workers asks =
+    let given = compiled_given words files before l.effect name workers asks l.is_given in
+    let same : status ≡ status_number given.outcome.status = l.status_is ∙ ap status_number given.status_is in
+    record {
+      only = λ e. row.only name files given.outcome given.is (sym same ∙ e);
+      always = λ p. inl (same ∙ row.always name files given.outcome p given.is);
     }
-
-    pub prints_given : (name : List ℕ) → Asks words (compile name) → PrintsPart (Compiles name files) old new → PrintsPart (Gives words files) old new
-    prints_given name asks p outcome g = p outcome (compiles_given name outcome asks g)
-
-    pub left_exactly : (wanted : ℕ) (fact : List ℕ → Files → Type 0) → RowOf wanted fact → (status : ℕ) (after : Option Files) → Leaves (Gives words files) status after old new
-        → Exactly status wanted (AsksToCompile words (λ n. fact n files))
-    left_exactly wanted fact row status after l = subst (λ s. Exactly s wanted (AsksToCompile words (λ n. fact n files))) (sym l.status_is) (given_exactly wanted fact row l.outcome l.is_given)
-
--- where the words are no command, the usage line alone is printed
-pub prints_usage : (words : List (List ℕ)) (files : Files) (old new : Option (List ℕ)) → IsNoCommand words → WritesPart old (line (codes "usage: m2c compile NAME")) new → PrintsPart (Gives words files) old new
-prints_usage words files old new none part outcome (no_command n) = part
-prints_usage words files old new none part outcome (compiles name o asks h) = absurd (asks_none words (compile name) asks none)
-
-pub leaves_usage : (words : List (List ℕ)) (files : Files) (holds : Option Files) (old new : Option (List ℕ)) → holds ≡ Some files → IsNoCommand words → new ≡ with_bytes old (line (codes "usage: m2c compile NAME"))
-    → Leaves (Gives words files) (status_number NoCommand) holds old new
-leaves_usage words files holds old new has none printed = record {
-  outcome = record { status = NoCommand; printed = line (codes "usage: m2c compile NAME"); files = files };
-  is_given = no_command none;
-  status_is = refl;
-  files_are = has;
-  printed_is = printed;
-}
 
 pub map_told : (holds : Option Files) (P Q : Files → Type 0) → ((files : Files) → P files → Q files) → IfSome holds P → IfSome holds Q
 map_told None P Q h p = tt

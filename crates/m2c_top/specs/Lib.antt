@@ -1,8 +1,8 @@
 pub mod Analyses
-pub mod Command
 pub mod Decisions
 pub mod Delivery
 pub mod Diagnostics
+pub mod Effects
 pub mod Ending
 pub mod Filled
 pub mod Held

@@ -1,4 +1,4 @@
--- What a command leaves: its status, what it prints, and the files of the shelf. No command reads the input yet.
+-- What compiling a module leaves: its status, what is printed, and the files of the shelf.
 use Rattle.std.specs.Prelude.{◌≡◌, ◌≢◌, ◌⊎◌, ℕ, List, [], ◌∷◌, ◌++◌, Option, Some, None, IfSome, take, codes}
 use Rattle.std.specs.FinMap.{get, insert}
 use Rattle.m2_base.specs.declared.notes.Diag.{Diag}
@@ -7,7 +7,6 @@ use Rattle.m2_io.specs.Files.{Files, with_file}
 use Rattle.m2_io.specs.Written.{with_bytes, WritesPart}
 use Rattle.object_file.specs.Contents.{Contents}
 use Rattle.object_file.specs.Validity.{IsObject}
-use Rattle.m2c_top.specs.Command.{Command, compile, Asks, IsNoCommand}
 use Rattle.m2c_top.specs.Decisions.{Decision, limited, unbuilt, refused, to_compile, Decides}
 use Rattle.m2c_top.specs.Diagnostics.{diags_of}
 use Rattle.m2c_top.specs.Limits.{limit_text}
@@ -16,7 +15,7 @@ use Rattle.m2c_top.specs.Object.{object_bytes}
 use Rattle.m2c_top.specs.Statuses.{status_number}
 use Rattle.m2c_top.specs.Modules.{Module}
 use Rattle.m2c_top.specs.declared.status.Status.{Status}
-use Rattle.m2c_top.specs.declared.status.Status.TheVariants.{Done, Diagnosed, NoCommand, NoText, OverLimit, NotBuilt}
+use Rattle.m2c_top.specs.declared.status.Status.TheVariants.{Done, Diagnosed, NoText, OverLimit, NotBuilt}
 use Rattle.m2c_top.specs.declared.verdict.Limit.{Limit}
 
 pub record Outcome : Type 0 where
@@ -75,19 +74,6 @@ pub data Compiles (name : List ℕ) (files : Files) : Outcome → Type 0 where
   no_text : LacksText name files → Compiles name files (record { status = NoText; printed = line (codes "no text " ++ text_name name); files = files })
   over_limit : (limit : Limit) → HasTooMuchText name files limit → Compiles name files (record { status = OverLimit; printed = line (limit_text limit); files = files })
   not_built : HasOtherText name files → Compiles name files (record { status = NotBuilt; printed = line (codes "not built yet"); files = files })
-
--- The outcome of the words over these files.
-pub data Gives (words : List (List ℕ)) (files : Files) : Outcome → Type 0 where
-  no_command : IsNoCommand words → Gives words files (record { status = NoCommand; printed = line (codes "usage: m2c compile NAME"); files = files })
-  compiles : (name : List ℕ) (outcome : Outcome) → Asks words (compile name) → Compiles name files outcome → Gives words files outcome
-
--- the words ask to compile a module of which this holds
-abbrev pub AsksToCompile : List (List ℕ) → (List ℕ → Type 0) → Type 0
-AsksToCompile words P = (name : List ℕ) × Asks words (compile name) × P name
-
--- the words are a command
-abbrev pub Commands : List (List ℕ) → Type 0
-Commands words = (command : Command) × Asks words command
 
 -- what is left, where the files are told: the status, the files, and what was printed behind what was written before
 pub record Leaves (given : Outcome → Type 0) (status : ℕ) (files : Option Files) (old new : Option (List ℕ)) : Type 0 where

@@ -1,12 +1,12 @@
 //! Laws on the definitions, each the contract of a function that does nothing.
-ghost use Rattle.std.specs.Prelude.{◌≡◌, ◌<◌, ◌^◌, ℕ, true, List, [], length};
+ghost use Rattle.std.specs.Prelude.{◌≡◌, ◌<◌, ◌^◌, ℕ, true, List, [], Option, length};
 ghost use Rattle.m2_base.specs.Lists.{Each};
 ghost use Rattle.m2_io.specs.Files.{Files};
 ghost use Rattle.m2_base.specs.declared.notes.Diag.{Diag};
 ghost use Rattle.m2_base.specs.declared.token.Token.{Token};
 ghost use Rattle.m2c_top.specs.Decisions.{Decides, refused, to_compile};
 ghost use Rattle.m2c_top.specs.Diagnostics.{diags_of};
-ghost use Rattle.m2c_top.specs.Outcome.{Outcome, Gives};
+ghost use Rattle.m2c_top.specs.Effects.{Effect, Gives};
 ghost use Rattle.m2c_top.specs.Filled.{row_count};
 ghost use Rattle.m2c_top.specs.Held.{IsHeld, held};
 ghost use Rattle.m2c_top.specs.Modules.{Module, code_in};
@@ -16,9 +16,9 @@ ghost use Rattle.m2_base.specs.Views.{stream_view};
 ghost use Rattle.object_file.specs.ObjectFormat.{is_identifier};
 ghost use Rattle.object_file.specs.Validity.{IsObject};
 
-/// The words have one outcome over these files.
+/// The words have one outcome over these files, where this is left of the input.
 pub fn one_outcome()
-    ensures { (words : List (List ℕ)) (files : Files) (these those : Outcome) → Gives words files these → Gives words files those → these ≡ those }
+    ensures { (words : List (List ℕ)) (files : Files) (left : Option (List ℕ)) (these those : Effect) → Gives words files left these → Gives words files left those → these ≡ those }
 {}
 
 /// Each diagnostic of a module's text stands at one of its tokens, and so has a line in the listing.

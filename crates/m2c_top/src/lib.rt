@@ -1,12 +1,12 @@
 //! What does a command line do to a shelf of texts?
 //!
-//! `m2c` reads the words (`command`), does what they ask, and answers a status. What it leaves, the status, what is
-//! printed, the texts and the objects of the shelf, is defined in `specs/Outcome`, with one constructor for each row of the table of
-//! statuses; its clause `leaves` says that `m2c` leaves just that.
+//! `m2c` reads the words, does what they ask, and answers a status. What it leaves, the status, what is printed, the texts and the
+//! objects of the shelf, and what is left of the input, is defined in `specs/Effects`: of compiling by `specs/Outcome`, with one
+//! constructor for each row of the table of statuses, and of running and dumping by the definitions of `object_commands`. Its clause
+//! `leaves` says that `m2c` leaves just that.
 #![tactic(auto)]
 
 mod analysis;
-mod command;
 mod diagnostic;
 mod laws;
 mod module;

@@ -9,10 +9,14 @@ pub enum Status {
     Diagnosed,
     NoCommand,
     NoText,
+    NoObject,
     ReadFault,
     WriteFault,
     NoMemory,
     OverLimit,
+    BadObjects,
+    Trapped,
+    StepsSpent,
     NotBuilt,
 }
 
@@ -26,10 +30,14 @@ impl Status {
             Status::Diagnosed => 1,
             Status::NoCommand => 2,
             Status::NoText => 3,
+            Status::NoObject => 3,
             Status::ReadFault => 4,
             Status::WriteFault => 5,
             Status::NoMemory => 6,
             Status::OverLimit => 7,
+            Status::BadObjects => 8,
+            Status::Trapped => 9,
+            Status::StepsSpent => 10,
             Status::NotBuilt => 11,
         }
     }

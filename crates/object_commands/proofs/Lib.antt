@@ -3,5 +3,5 @@ mod Ending
 mod Faring
 mod Finishing
 mod OneCode
-mod OneOutcome
+pub mod OneOutcome
 mod Saying

@@ -1,8 +1,9 @@
 use Rattle.std.proofs.Common.{◌≡◌, ◌⊎◌, ◌∙◌, ℕ, List, sym, ap, subst, map, string_bytes, IfSome}
 use Rattle.m2_io.specs.Causes.{Rose}
 use Rattle.m2_io.specs.Files.{Files}
-use Rattle.m2c_top.specs.Command.{IsNoCommand}
-use Rattle.m2c_top.specs.Outcome.{Gives, AsksToCompile, HasObject, LacksText, HasSoundText, HasDiagnostics, HasTooMuchText, HasOtherText, Leaves, PrintsPart, PutsPart}
+use Rattle.command_words.specs.Command.{IsNoCommand}
+use Rattle.m2c_top.specs.Effects.{AsksToCompile, AsksToRun, Gives, HasInput, Leaves, PrintsPart, ToCompile}
+use Rattle.m2c_top.specs.Outcome.{HasObject, LacksText, HasSoundText, HasDiagnostics, HasTooMuchText, HasOtherText, PutsPart}
 use Rattle.m2c_top.specs.Statuses.{status_number, IsFault, IsStatus, Exactly}
 use Rattle.m2c_top.specs.Modules.{Module}
 use Rattle.m2c_top.specs.declared.verdict.Limit.{Limit}
@@ -21,12 +22,15 @@ returns-clause-leaves g c =
     let after = g.H.Shelf.holds c.obey.new.shelf in
     let old = g.P.Sink.written c.args.print.now in
     let new = g.P.Sink.written c.obey.new.print in
+    let before = g.K.Source.left c.args.keys.now in
+    let left = g.K.Source.left c.obey.new.keys in
     let words = map string_bytes c.args.words.now in
-    subst (λ n. IsFault n ⊎ IfSome holds (λ files. Leaves (Gives words files) n after old new)) (sym (numbered g c)) (ends_leaving words holds after old new c.obey.result c.obey.ensures.leaves)
+    subst (λ n. IsFault n ⊎ IfSome holds (λ files. HasInput words before → Leaves (Gives words files before) n after old new left)) (sym (numbered g c))
+    (ends_leaving words holds after old new before left c.obey.result c.obey.ensures.leaves)
 
 pub returns-clause-object : goal.returns-clause-object
 returns-clause-object g c zero =
-    ends_done (AsksToCompile (map string_bytes c.args.words.now) (λ name. IfSome (g.H.Shelf.holds c.obey.new.shelf) (HasObject name))) c.obey.result c.obey.ensures.object (sym (numbered g c) ∙ zero)
+    ends_done (ToCompile (map string_bytes c.args.words.now) (λ name. IfSome (g.H.Shelf.holds c.obey.new.shelf) (HasObject name))) c.obey.result c.obey.ensures.object (sym (numbered g c) ∙ zero)
 
 pub returns-clause-no_command : goal.returns-clause-no_command
 returns-clause-no_command g c =
@@ -35,12 +39,13 @@ returns-clause-no_command g c =
 
 -- the status of a row comes exactly where its fact holds
 exactly : (g : given.Over) (c : goal.After-number g) (wanted : ℕ) (fact : List ℕ → Files → Type 0) → RowOf wanted fact
-    → IfSome (g.H.Shelf.holds c.args.shelf.now) (λ files. Exactly c.number.result wanted (AsksToCompile (map string_bytes c.args.words.now) (λ name. fact name files)))
+    → IfSome (g.H.Shelf.holds c.args.shelf.now) (λ files. ToCompile (map string_bytes c.args.words.now) (λ name. Exactly c.number.result wanted (fact name files)))
 exactly g c wanted fact row =
     let holds = g.H.Shelf.holds c.args.shelf.now in
     let words = map string_bytes c.args.words.now in
-    subst (λ n. IfSome holds (λ files. Exactly n wanted (AsksToCompile words (λ name. fact name files)))) (sym (numbered g c))
-    (ends_exactly words holds (g.H.Shelf.holds c.obey.new.shelf) (g.P.Sink.written c.args.print.now) (g.P.Sink.written c.obey.new.print) wanted fact row c.obey.result c.obey.ensures.leaves)
+    subst (λ n. IfSome holds (λ files. ToCompile words (λ name. Exactly n wanted (fact name files)))) (sym (numbered g c))
+    (ends_exactly words holds (g.H.Shelf.holds c.obey.new.shelf) (g.P.Sink.written c.args.print.now) (g.P.Sink.written c.obey.new.print) (g.K.Source.left c.args.keys.now) (g.K.Source.left c.obey.new.keys) wanted fact row
+    c.obey.result c.obey.ensures.leaves)
 
 pub returns-clause-no_text : goal.returns-clause-no_text
 returns-clause-no_text g c = exactly g c 3 (λ name files. LacksText name files) lacks_row
@@ -59,12 +64,15 @@ returns-clause-not_built g c = exactly g c 11 (λ name files. HasOtherText name 
 
 pub returns-clause-read : goal.returns-clause-read
 returns-clause-read g c four =
-    ends_by_reading (map string_bytes c.args.words.now) (Rose (g.H.Shelf.faults c.args.shelf.now) (g.H.Shelf.faults c.obey.new.shelf)) c.obey.result c.obey.ensures.status c.obey.ensures.read (sym (numbered g c) ∙ four)
+    let words = map string_bytes c.args.words.now in
+    ends_by_reading words (Rose (g.H.Shelf.faults c.args.shelf.now) (g.H.Shelf.faults c.obey.new.shelf) ⊎ AsksToRun words × Rose (g.K.Source.faults c.args.keys.now) (g.K.Source.faults c.obey.new.keys))
+    c.obey.result c.obey.ensures.status c.obey.ensures.read (sym (numbered g c) ∙ four)
 
 pub returns-clause-write : goal.returns-clause-write
 returns-clause-write g c five =
-    ends_by_writing (map string_bytes c.args.words.now)
-    (Rose (g.H.Shelf.put_faults c.args.shelf.now) (g.H.Shelf.put_faults c.obey.new.shelf) ⊎ Rose (g.P.Sink.faults c.args.print.now) (g.P.Sink.faults c.obey.new.print))
+    let words = map string_bytes c.args.words.now in
+    ends_by_writing words
+    (Rose (g.P.Sink.faults c.args.print.now) (g.P.Sink.faults c.obey.new.print) ⊎ AsksToCompile words (λ name. Rose (g.H.Shelf.put_faults c.args.shelf.now) (g.H.Shelf.put_faults c.obey.new.shelf)))
     c.obey.result c.obey.ensures.status c.obey.ensures.write (sym (numbered g c) ∙ five)
 
 pub returns-clause-status : goal.returns-clause-status
@@ -73,7 +81,8 @@ returns-clause-status g c = subst IsStatus (sym (numbered g c)) (ends_with_statu
 pub returns-clause-prints : goal.returns-clause-prints
 returns-clause-prints g c fault =
     let words = map string_bytes c.args.words.now in
-    ends_stopped words (IfSome (g.H.Shelf.holds c.args.shelf.now) (λ files. PrintsPart (Gives words files) (g.P.Sink.written c.args.print.now) (g.P.Sink.written c.obey.new.print)))
+    let before = g.K.Source.left c.args.keys.now in
+    ends_stopped words (IfSome (g.H.Shelf.holds c.args.shelf.now) (λ files. HasInput words before → PrintsPart (Gives words files before) (g.P.Sink.written c.args.print.now) (g.P.Sink.written c.obey.new.print)))
     c.obey.result c.obey.ensures.status c.obey.ensures.prints (subst IsFault (numbered g c) fault)
 
 pub returns-clause-kept : goal.returns-clause-kept

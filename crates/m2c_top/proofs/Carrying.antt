@@ -1,0 +1,149 @@
+-- What carrying out a command leaves.
+use Rattle.std.proofs.Common.{◌≡◌, ℕ, List, Option, Result, Ok, Err, Some, refl, sym, ◌∙◌, ap, subst, IfSome, IfOk, OnErr}
+use Rattle.m2_io.specs.Files.{Files}
+use Rattle.m2_io.specs.Written.{WritesPart}
+use Rattle.command_words.specs.Command.{Command, compile, dump, run}
+use Rattle.object_commands.specs.Dumps.{Dumps}
+use Rattle.object_commands.specs.Outcomes.{Leaves as RunLeaves, LeavesPart, Prints, PrintsPart as DumpPart}
+use Rattle.object_commands.specs.Runs.{Runs}
+use Rattle.object_commands.specs.declared.answer.Answer.{Answer}
+use Rattle.object_commands.specs.declared.answer.Stop.TheVariants as object_stop
+use Rattle.object_commands.specs.declared.answer.Stop.{Stop as ObjectStop}
+use Rattle.m2c_top.specs.Effects.{Does, Effect, IsTold, Leaves, PrintsPart, compiles, dumps, runs}
+use Rattle.m2c_top.specs.Ending.{ended_over}
+use Rattle.m2c_top.specs.Outcome.{Compiles, Leaves as CompileLeaves, PrintsPart as CompilePart}
+use Rattle.m2c_top.specs.Statuses.{status_after, status_number}
+use Rattle.m2c_top.specs.declared.status.Status.{Status}
+use Rattle.m2c_top.specs.declared.top.Stop.{Stop}
+use Rattle.m2c_top.proofs.OtherCommands.{compile_dump, compile_run, run_dump}
+use Rattle.m2c_top.proofs.Outcomes.{some_same, tells, told}
+use Rattle.m2c_top.proofs.Table.{map_told}
+
+-- what the work for a command leaves, and what it prints where it is given up
+module _ (holds after : Option Files) (old new before left : Option (List ℕ)) (r : Result Status Stop) where
+  abbrev pub LeavesDone : Command → Type 0
+  LeavesDone command = IfOk r (λ status. IfSome holds (λ files. IsTold before command → Leaves (Does files before command) (status_number status) after old new left))
+
+  abbrev pub PrintsDone : Command → Type 0
+  PrintsDone command = OnErr r (IfSome holds (λ files. IsTold before command → PrintsPart (Does files before command) old new))
+
+err_ended : (s : ObjectStop) (P : Type 0) → P → OnErr (ended_over (Err s)) P
+err_ended object_stop.Read P p = p
+err_ended object_stop.Write P p = p
+err_ended object_stop.Memory P p = p
+
+module _ (holds : Option Files) (old new left : Option (List ℕ)) where
+  -- ** Compiling
+
+  module _ (name : List ℕ) (workers : ℕ) where
+    pub compiled_leaves : (after : Option Files) (r : Result Status Stop) → IfOk r (λ status. IfSome holds (λ files. CompileLeaves (Compiles name files) (status_number status) after old new))
+        → IfOk r (λ status. IfSome holds (λ files. IsTold left (compile name workers) → Leaves (Does files left (compile name workers)) (status_number status) after old new left))
+    compiled_leaves after (Ok status) leaves = map_told holds _ (λ files. IsTold left (compile name workers) → Leaves (Does files left (compile name workers)) (status_number status) after old new left) (λ files l t. record {
+      effect = record { status = l.outcome.status; printed = l.outcome.printed; files = l.outcome.files; left = left };
+      is_given = compiles name workers l.outcome l.is_given;
+      status_is = l.status_is;
+      files_are = l.files_are;
+      printed_is = l.printed_is;
+      left_is = refl;
+    }) leaves
+    compiled_leaves after (Err s) leaves = tt
+
+    compiled_part : (files : Files) (command : Command) (effect : Effect) → compile name workers ≡ command → CompilePart (Compiles name files) old new → Does files left command effect → WritesPart old effect.printed new
+    compiled_part files command effect e part (compiles n w o h) =
+        let same : n ≡ name = cc in
+        part o (subst (λ x. Compiles x files o) same h)
+    compiled_part files command effect e part (runs n steps cells input o t h) = absurd (compile_run name workers n steps cells e)
+    compiled_part files command effect e part (dumps n printed answer h) = absurd (compile_dump name workers n e)
+
+    pub compiled_prints : (r : Result Status Stop) → OnErr r (IfSome holds (λ files. CompilePart (Compiles name files) old new))
+        → OnErr r (IfSome holds (λ files. IsTold left (compile name workers) → PrintsPart (Does files left (compile name workers)) old new))
+    compiled_prints (Ok status) prints = tt
+    compiled_prints (Err s) prints = map_told holds _ (λ files. IsTold left (compile name workers) → PrintsPart (Does files left (compile name workers)) old new)
+        (λ files p t effect does. compiled_part files (compile name workers) effect refl p does) prints
+
+  -- ** Running
+
+  module _ (name : List ℕ) (steps cells : ℕ) where
+    ran_so : (after : Option Files) (behind : Option (List ℕ)) (r : Result Answer ObjectStop) → after ≡ holds
+        → IfOk r (λ answer. IfSome left (λ input. RunLeaves (Runs holds name steps cells input) answer old new behind))
+        → IfOk (ended_over r) (λ status. IfSome holds (λ files. IsTold left (run name steps cells) → Leaves (Does files left (run name steps cells)) (status_number status) after old new behind))
+    ran_so after behind (Ok answer) same leaves = told holds (λ files has t.
+        let l = tells left t.0 (λ input. RunLeaves (Runs holds name steps cells input) answer old new behind) leaves t.1 in
+        record {
+          effect = record { status = status_after l.outcome.answer; printed = l.outcome.printed; files = files; left = Some l.outcome.left };
+          is_given = runs name steps cells t.0 l.outcome t.1 (subst (λ h. Runs h name steps cells t.0 l.outcome) has l.is_given);
+          status_is = ap (λ a. status_number (status_after a)) l.answer_is;
+          files_are = same ∙ has;
+          printed_is = l.printed_is;
+          left_is = l.left_is;
+        })
+    ran_so after behind (Err object_stop.Read) same leaves = tt
+    ran_so after behind (Err object_stop.Write) same leaves = tt
+    ran_so after behind (Err object_stop.Memory) same leaves = tt
+
+    pub ran_leaves : (after : Option Files) (behind : Option (List ℕ)) (r : Result Answer ObjectStop) (ended : Result Status Stop) → after ≡ holds → ended ≡ ended_over r
+        → IfOk r (λ answer. IfSome left (λ input. RunLeaves (Runs holds name steps cells input) answer old new behind))
+        → IfOk ended (λ status. IfSome holds (λ files. IsTold left (run name steps cells) → Leaves (Does files left (run name steps cells)) (status_number status) after old new behind))
+    ran_leaves after behind r ended same e leaves =
+        subst (λ x. IfOk x (λ status. IfSome holds (λ files. IsTold left (run name steps cells) → Leaves (Does files left (run name steps cells)) (status_number status) after old new behind))) (sym e)
+        (ran_so after behind r same leaves)
+
+    ran_part : (files : Files) (command : Command) (effect : Effect) (input : List ℕ) → run name steps cells ≡ command → left ≡ Some input → LeavesPart (Runs (Some files) name steps cells input) old new
+        → Does files left command effect → WritesPart old effect.printed new
+    ran_part files command effect input e t part (compiles n w o h) = absurd (compile_run n w name steps cells (sym e))
+    ran_part files command effect input e t part (runs n s c i o u h) =
+        let is : n ≡ name = cc in
+        let most : s ≡ steps = cc in
+        let room : c ≡ cells = cc in
+        let read : i ≡ input = some_same i input (sym u ∙ t) in
+        part o (subst (λ x. Runs (Some files) name steps cells x o) read (subst (λ x. Runs (Some files) name steps x i o) room (subst (λ x. Runs (Some files) name x c i o) most (subst (λ x. Runs (Some files) x s c i o) is h))))
+    ran_part files command effect input e t part (dumps n printed answer h) = absurd (run_dump name steps cells n e)
+
+    pub ran_prints : (r : Result Answer ObjectStop) (ended : Result Status Stop) → ended ≡ ended_over r → OnErr r (IfSome holds (λ files. IfSome left (λ input. LeavesPart (Runs (Some files) name steps cells input) old new)))
+        → OnErr ended (IfSome holds (λ files. IsTold left (run name steps cells) → PrintsPart (Does files left (run name steps cells)) old new))
+    ran_prints r ended e part = subst (λ x. OnErr x (IfSome holds (λ files. IsTold left (run name steps cells) → PrintsPart (Does files left (run name steps cells)) old new))) (sym e) (go r part)
+      where
+        go : (r : Result Answer ObjectStop) → OnErr r (IfSome holds (λ files. IfSome left (λ input. LeavesPart (Runs (Some files) name steps cells input) old new)))
+            → OnErr (ended_over r) (IfSome holds (λ files. IsTold left (run name steps cells) → PrintsPart (Does files left (run name steps cells)) old new))
+        go (Ok answer) part = tt
+        go (Err s) part = err_ended s _ (map_told holds _ (λ files. IsTold left (run name steps cells) → PrintsPart (Does files left (run name steps cells)) old new)
+            (λ files p t effect does. ran_part files (run name steps cells) effect t.0 refl t.1 (tells left t.0 (λ input. LeavesPart (Runs (Some files) name steps cells input) old new) p t.1) does) part)
+
+  -- ** Dumping
+
+  module _ (name : List ℕ) where
+    dumped_so : (after : Option Files) (r : Result Answer ObjectStop) → after ≡ holds → IfOk r (λ answer. Prints (Dumps holds name) answer old new)
+        → IfOk (ended_over r) (λ status. IfSome holds (λ files. IsTold left (dump name) → Leaves (Does files left (dump name)) (status_number status) after old new left))
+    dumped_so after (Ok answer) same l = told holds (λ files has t. record {
+      effect = record { status = status_after answer; printed = l.printed; files = files; left = left };
+      is_given = dumps name l.printed answer (subst (λ h. Dumps h name l.printed answer) has l.is_given);
+      status_is = refl;
+      files_are = same ∙ has;
+      printed_is = l.printed_is;
+      left_is = refl;
+    })
+    dumped_so after (Err object_stop.Read) same leaves = tt
+    dumped_so after (Err object_stop.Write) same leaves = tt
+    dumped_so after (Err object_stop.Memory) same leaves = tt
+
+    pub dumped_leaves : (after : Option Files) (r : Result Answer ObjectStop) (ended : Result Status Stop) → after ≡ holds → ended ≡ ended_over r → IfOk r (λ answer. Prints (Dumps holds name) answer old new)
+        → IfOk ended (λ status. IfSome holds (λ files. IsTold left (dump name) → Leaves (Does files left (dump name)) (status_number status) after old new left))
+    dumped_leaves after r ended same e leaves =
+        subst (λ x. IfOk x (λ status. IfSome holds (λ files. IsTold left (dump name) → Leaves (Does files left (dump name)) (status_number status) after old new left))) (sym e) (dumped_so after r same leaves)
+
+    dumped_part : (files : Files) (command : Command) (effect : Effect) → dump name ≡ command → DumpPart (Dumps (Some files) name) old new → Does files left command effect → WritesPart old effect.printed new
+    dumped_part files command effect e part (compiles n w o h) = absurd (compile_dump n w name (sym e))
+    dumped_part files command effect e part (runs n s c i o u h) = absurd (run_dump n s c name (sym e))
+    dumped_part files command effect e part (dumps n printed answer h) =
+        let same : n ≡ name = cc in
+        part printed answer (subst (λ x. Dumps (Some files) x printed answer) same h)
+
+    pub dumped_prints : (r : Result Answer ObjectStop) (ended : Result Status Stop) → ended ≡ ended_over r → OnErr r (IfSome holds (λ files. DumpPart (Dumps (Some files) name) old new))
+        → OnErr ended (IfSome holds (λ files. IsTold left (dump name) → PrintsPart (Does files left (dump name)) old new))
+    dumped_prints r ended e part = subst (λ x. OnErr x (IfSome holds (λ files. IsTold left (dump name) → PrintsPart (Does files left (dump name)) old new))) (sym e) (go r part)
+      where
+        go : (r : Result Answer ObjectStop) → OnErr r (IfSome holds (λ files. DumpPart (Dumps (Some files) name) old new))
+            → OnErr (ended_over r) (IfSome holds (λ files. IsTold left (dump name) → PrintsPart (Does files left (dump name)) old new))
+        go (Ok answer) part = tt
+        go (Err s) part = err_ended s _ (map_told holds _ (λ files. IsTold left (dump name) → PrintsPart (Does files left (dump name)) old new)
+            (λ files p t effect does. dumped_part files (dump name) effect refl p does) part)

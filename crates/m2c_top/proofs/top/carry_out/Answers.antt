@@ -1,0 +1,64 @@
+use Rattle.std.proofs.Common.{ap, subst, sym}
+use Rattle.command_words.specs.Command.{command_of}
+use Rattle.m2c_top.proofs.Carrying.{LeavesDone, PrintsDone, compiled_leaves, compiled_prints, dumped_leaves, dumped_prints, ran_leaves, ran_prints}
+use Rattle.m2c_top.proofs.top.carry_out.Goals as goal
+
+pub returns-in-Compile-clause-leaves : goal.returns-in-Compile-clause-leaves
+returns-in-Compile-clause-leaves g c =
+    let holds = g.H.Shelf.holds c.args.shelf.now in
+    let after = g.H.Shelf.holds c.compile.new.shelf in
+    let old = g.P.Sink.written c.args.print.now in
+    let new = g.P.Sink.written c.compile.new.print in
+    let left = g.K.Source.left c.args.keys.now in
+    subst (LeavesDone holds after old new left left c.compile.result) (ap command_of (sym c.in-Compile.is))
+    (compiled_leaves holds old new left c.in-Compile.name.now c.in-Compile.workers after c.compile.result c.compile.ensures.leaves)
+
+pub returns-in-Compile-clause-prints : goal.returns-in-Compile-clause-prints
+returns-in-Compile-clause-prints g c =
+    let holds = g.H.Shelf.holds c.args.shelf.now in
+    let after = g.H.Shelf.holds c.compile.new.shelf in
+    let old = g.P.Sink.written c.args.print.now in
+    let new = g.P.Sink.written c.compile.new.print in
+    let left = g.K.Source.left c.args.keys.now in
+    subst (PrintsDone holds after old new left left c.compile.result) (ap command_of (sym c.in-Compile.is))
+    (compiled_prints holds old new left c.in-Compile.name.now c.in-Compile.workers c.compile.result c.compile.ensures.prints)
+
+pub returns-in-Run-clause-leaves : goal.returns-in-Run-clause-leaves
+returns-in-Run-clause-leaves g c =
+    let holds = g.H.Shelf.holds c.args.shelf.now in
+    let after = g.H.Shelf.holds c.run.new.shelf in
+    let old = g.P.Sink.written c.args.print.now in
+    let new = g.P.Sink.written c.run.new.print in
+    let left = g.K.Source.left c.args.keys.now in
+    subst (LeavesDone holds after old new left (g.K.Source.left c.run.new.keys) c.ended.result) (ap command_of (sym c.in-Run.is))
+    (ran_leaves holds old new left c.in-Run.name.now c.in-Run.steps c.in-Run.cells after (g.K.Source.left c.run.new.keys) c.run.result c.ended.result c.run.ensures.holds c.ended.ensures c.run.ensures.leaves)
+
+pub returns-in-Run-clause-prints : goal.returns-in-Run-clause-prints
+returns-in-Run-clause-prints g c =
+    let holds = g.H.Shelf.holds c.args.shelf.now in
+    let after = g.H.Shelf.holds c.run.new.shelf in
+    let old = g.P.Sink.written c.args.print.now in
+    let new = g.P.Sink.written c.run.new.print in
+    let left = g.K.Source.left c.args.keys.now in
+    subst (PrintsDone holds after old new left left c.ended.result) (ap command_of (sym c.in-Run.is))
+    (ran_prints holds old new left c.in-Run.name.now c.in-Run.steps c.in-Run.cells c.run.result c.ended.result c.ended.ensures c.run.ensures.part)
+
+pub returns-in-Dump-clause-leaves : goal.returns-in-Dump-clause-leaves
+returns-in-Dump-clause-leaves g c =
+    let holds = g.H.Shelf.holds c.args.shelf.now in
+    let after = g.H.Shelf.holds c.dump.new.shelf in
+    let old = g.P.Sink.written c.args.print.now in
+    let new = g.P.Sink.written c.dump.new.print in
+    let left = g.K.Source.left c.args.keys.now in
+    subst (LeavesDone holds after old new left left c.ended-in-Dump.result) (ap command_of (sym c.in-Dump.is))
+    (dumped_leaves holds old new left c.in-Dump.name.now after c.dump.result c.ended-in-Dump.result c.dump.ensures.holds c.ended-in-Dump.ensures c.dump.ensures.prints)
+
+pub returns-in-Dump-clause-prints : goal.returns-in-Dump-clause-prints
+returns-in-Dump-clause-prints g c =
+    let holds = g.H.Shelf.holds c.args.shelf.now in
+    let after = g.H.Shelf.holds c.dump.new.shelf in
+    let old = g.P.Sink.written c.args.print.now in
+    let new = g.P.Sink.written c.dump.new.print in
+    let left = g.K.Source.left c.args.keys.now in
+    subst (PrintsDone holds after old new left left c.ended-in-Dump.result) (ap command_of (sym c.in-Dump.is))
+    (dumped_prints holds old new left c.in-Dump.name.now c.dump.result c.ended-in-Dump.result c.ended-in-Dump.ensures c.dump.ensures.part)
