@@ -1,0 +1,158 @@
+-- Each diagnostic that stands in a listing has a line there.
+use Rattle.std.proofs.Common.{◌≡◌, ℕ, ◌+◌, ◌<◌, Bool, true, false, List, [], ◌∷◌, ◌++◌, Option, Some, None, length, length-append, map, refl, sym, ◌∙◌, ap, subst, arith, slice_get, append_assoc, if◌then◌else◌}
+use Rattle.std.proofs.lemmas.List.{length-map, map-append}
+use Rattle.ll_grammar.specs.Sentences.{Fault, Syntax, TooDeep}
+use Rattle.m2_io.specs.Files.{Files}
+use Rattle.std.specs.Prelude.{nat_eq, not}
+use Rattle.m2_base.specs.FaultsOf.{code_of, fault_in}
+use Rattle.m2_base.specs.Finished.{main_number}
+use Rattle.m2_base.specs.Lists.{Each}
+use Rattle.m2_base.specs.StatementsOf.{place}
+use Rattle.m2_base.specs.Statics.StandingTrees.{AreStandingNames, IsStandingOption}
+use Rattle.m2_base.specs.Units.{AreNumbered, IsText, IsUnit, TextOf, UnitTexts}
+use Rattle.m2_base.specs.declared.diagnostic.Diagnostic.TheVariants.{CircularImports, NoDefinitionText, OtherModuleName}
+use Rattle.m2_base.specs.declared.diagnostic.Diagnostic.{Diagnostic}
+use Rattle.m2_base.specs.declared.notes.Diag.{Diag}
+use Rattle.m2_base.specs.declared.outputs.StreamFault.{StreamFault}
+use Rattle.m2_base.specs.declared.outputs.StreamFault.TheVariants as faults
+use Rattle.m2_base.specs.declared.token.Token.{Token}
+use Rattle.m2_base.specs.declared.trees.Ident.{Ident}
+use Rattle.m2_base.proofs.Kept.{Each-append}
+use Rattle.m2_lex.proofs.TextUnit.{text_listed}
+use Rattle.def_import.specs.Closure.{Found, Progress, own_name}
+use Rattle.def_import.specs.Dependencies.{dependency_order}
+use Rattle.def_import.specs.Outcomes.{IsGatheredFrom, IsRead, Reaches, begun, is_there, main_read, not_there, then_asks}
+use Rattle.def_import.specs.Wrongs.{is_circular, is_missing, missing_imports, no_own, wrong_at, wrong_name, wrongs_from, wrongs_in}
+use Rattle.unit_merge.specs.Outcome.{refusals}
+use Rattle.unit_merge.specs.TextFaults.{AreFaults, AreFaultsFrom, IsFaultOfText, IsFirstIn}
+use Rattle.compile_command.specs.Lines.{HasLine}
+use Rattle.compile_command.proofs.StandingFronts.{IsStandingFront, each_behind, front_stands, tokens_below}
+
+-- the text at a place of a list
+at_place : {A : Type 0} (before : List A) (x : A) (behind : List A) → slice_get (before ++ x ∷ behind) (length before) ≡ Some x
+at_place [] x behind = refl
+at_place (b ∷ before) x behind = at_place before x behind
+
+-- ** What is wrong with imports
+
+-- the names of the text's front stand at its tokens
+abbrev IsListed : Found → Type 0
+IsListed f = IsStandingFront (length f.text.tokens) f.front
+
+each_pushed : {A : Type 0} (P : A → Type 0) (xs : List A) (x : A) → Each P xs → P x → Each P (xs ++ x ∷ [])
+each_pushed P xs x h p = Each-append P xs (x ∷ []) h (p, tt)
+
+read_listed : (old new : List (List ℕ)) (definition : Bool) (name : ℕ) (bytes : List ℕ) (f : Found) → IsRead old definition name bytes new f → IsListed f
+read_listed old new definition name bytes f read =
+    front_stands (length f.text.tokens) definition f.text.tokens f.front read.front (tokens_below f.text.tokens (text_listed old new bytes f.text.tokens read.tokens read.short).0)
+
+reached_listed : (holds : Option Files) (file main : List ℕ) (p : Progress) → Reaches holds file main p → Each IsListed p.found
+reached_listed holds file main p (main_read {number = number} numbered reads) =
+    subst (λ (q : Progress). Each IsListed q.found) (sym reads.longer) (read_listed (begun file).names reads.names false number main reads.found reads.read, tt)
+reached_listed holds file main _ (then_asks {p = p} reached next (not_there has)) = reached_listed holds file main p reached
+reached_listed holds file main q (then_asks {p = p} {name = name} reached next (is_there {bytes = bytes} has reads)) =
+    subst (λ (q : Progress). Each IsListed q.found) (sym reads.longer)
+    (each_pushed IsListed p.found reads.found (reached_listed holds file main p reached) (read_listed p.names reads.names true name bytes reads.found reads.read))
+
+module _ (u : UnitTexts) (text : ℕ) (f : Found) (there : slice_get u.list text ≡ Some f.text) where
+  one_line : (i : Ident) (kind : Diagnostic) (b : Bool) → i.at < length f.text.tokens → Each (HasLine u) (wrong_at text i kind b)
+  one_line i kind false low = tt
+  one_line i kind true low = ((f.text, there, low), tt)
+
+  own_line : (p : Progress) (o : Option Ident) → IsStandingOption (length f.text.tokens) o → Each (HasLine u) (no_own p text o)
+  own_line p None h = tt
+  own_line p (Some i) h = one_line i NoDefinitionText (is_missing p i) h
+
+  name_line : (order : List ℕ) (o : Option Ident) → IsStandingOption (length f.text.tokens) o → Each (HasLine u) (wrong_name order text f o)
+  name_line order None h = tt
+  name_line order (Some i) h =
+      Each-append (HasLine u) (wrong_at text i OtherModuleName (not (nat_eq i.name f.text.name))) (wrong_at text i CircularImports (is_circular order text))
+      (one_line i OtherModuleName (not (nat_eq i.name f.text.name)) h) (one_line i CircularImports (is_circular order text) h)
+
+  import_lines : (p : Progress) (imports : List Ident) → AreStandingNames (length f.text.tokens) imports → Each (HasLine u) (missing_imports p text imports)
+  import_lines p [] h = tt
+  import_lines p (i ∷ imports) h =
+      Each-append (HasLine u) (wrong_at text i NoDefinitionText (is_missing p i)) (missing_imports p text imports) (one_line i NoDefinitionText (is_missing p i) h.0) (import_lines p imports h.1)
+
+  own_stands : IsListed f → IsStandingOption (length f.text.tokens) (own_name f.front)
+  own_stands h = go f.front.implementation
+    where
+      go : (b : Bool) → IsStandingOption (length f.text.tokens) (if b then f.front.name else None)
+      go true = h.name
+      go false = tt
+
+  text_lines : (p : Progress) (order : List ℕ) → IsListed f → Each (HasLine u) (wrongs_in p order text f)
+  text_lines p order h =
+      let own = no_own p text (own_name f.front) in
+      let name = wrong_name order text f f.front.name in
+      Each-append (HasLine u) (own ++ name) (missing_imports p text f.front.imports)
+      (Each-append (HasLine u) own name (own_line p (own_name f.front) (own_stands h)) (name_line order f.front.name h.name)) (import_lines p f.front.imports h.imports)
+
+module _ (u : UnitTexts) (p : Progress) (texts : u.list ≡ map (λ (f : Found). f.text) p.found) where
+  found_at : (before : List Found) (f : Found) (behind : List Found) → p.found ≡ before ++ f ∷ behind → slice_get u.list (length before) ≡ Some f.text
+  found_at before f behind e =
+      ap (λ (l : List TextOf). slice_get l (length before)) (texts ∙ ap (map (λ (x : Found). x.text)) e ∙ map-append (λ (x : Found). x.text) before (f ∷ behind))
+      ∙ ap (slice_get (map (λ (x : Found). x.text) before ++ f.text ∷ map (λ (x : Found). x.text) behind)) (sym (length-map before (λ (x : Found). x.text)))
+      ∙ at_place (map (λ (x : Found). x.text) before) f.text (map (λ (x : Found). x.text) behind)
+
+  all_lines : (before behind : List Found) → p.found ≡ before ++ behind → Each IsListed behind → Each (HasLine u) (wrongs_from p (dependency_order p) (length before) behind)
+  all_lines before [] e h = tt
+  all_lines before (f ∷ behind) e h =
+      let there : slice_get u.list (length before) ≡ Some f.text = found_at before f behind e in
+      let rest = all_lines (before ++ f ∷ []) behind (e ∙ sym (append_assoc before (f ∷ []) behind)) h.1 in
+      Each-append (HasLine u) (wrongs_in p (dependency_order p) (length before) f) (wrongs_from p (dependency_order p) (length before + 1) behind)
+      (text_lines u (length before) f there p (dependency_order p) h.0)
+      (subst (λ (k : ℕ). Each (HasLine u) (wrongs_from p (dependency_order p) k behind)) (length-append before (f ∷ [])) rest)
+
+pub wrong_imports_lined : (holds : Option Files) (name : List ℕ) (unit : UnitTexts) (wrongs : List Diag) → IsGatheredFrom holds name unit wrongs → Each (HasLine unit) wrongs
+wrong_imports_lined holds name unit wrongs g =
+    let p = g.gathered.progress in
+    let texts : unit.list ≡ map (λ (f : Found). f.text) p.found = ap (λ (u : UnitTexts). u.list) g.gathered.texts in
+    subst (λ (ds : List Diag). Each (HasLine unit) ds) (sym g.gathered.wrong) (all_lines unit p texts [] p.found refl (reached_listed holds name g.main p g.gathered.reached))
+
+-- ** First faults
+
+fault_place : (k : ℕ) (diag : Diag) (fault : Fault) (rest : List Token) → faults.Syntax diag ≡ fault_in k fault rest → (diag.text ≡ k) × (diag.at ≡ place rest)
+fault_place k diag Syntax rest e =
+    let same : diag ≡ record { text = k; at = place rest; code = code_of rest } = cc in (ap (λ (d : Diag). d.text) same, ap (λ (d : Diag). d.at) same)
+fault_place k diag TooDeep rest e = absurd cc
+
+place_below : (n : ℕ) (rest : List Token) → 0 < n → Each (λ (t : Token). t.at < n) rest → place rest < n
+place_below n [] some h = some
+place_below n (t ∷ rest) some h = h.0
+
+some_tokens : (ts : List Token) → AreNumbered 0 ts → 0 < length ts
+some_tokens [] h = absurd h
+some_tokens (t ∷ ts) h = omega arith
+
+module _ (u : UnitTexts) where
+  first_line : (k : ℕ) (definition : Bool) (t : TextOf) (diag : Diag) → slice_get u.list k ≡ Some t → AreNumbered 0 t.tokens → IsFirstIn k definition t (faults.Syntax diag) → HasLine u diag
+  first_line k true t diag there numbered h =
+      let n = length t.tokens in
+      let at = fault_place k diag h.fault h.rest h.told in
+      let behind = each_behind (λ (x : Token). x.at < n) h.faulty.before h.rest (subst (λ (l : List Token). Each (λ (x : Token). x.at < n) l) h.faulty.is (tokens_below t.tokens numbered)) in
+      (t, ap (slice_get u.list) at.0 ∙ there, subst (λ (x : ℕ). x < n) (sym at.1) (place_below n h.rest (some_tokens t.tokens numbered) behind))
+  first_line k false t diag there numbered h =
+      let n = length t.tokens in
+      let at = fault_place k diag h.fault h.rest h.told in
+      let behind = each_behind (λ (x : Token). x.at < n) h.faulty.before h.rest (subst (λ (l : List Token). Each (λ (x : Token). x.at < n) l) h.faulty.is (tokens_below t.tokens numbered)) in
+      (t, ap (slice_get u.list) at.0 ∙ there, subst (λ (x : ℕ). x < n) (sym at.1) (place_below n h.rest (some_tokens t.tokens numbered) behind))
+
+  refusal_lines : (m : ℕ) (before behind : List TextOf) (fs : List (Option StreamFault)) → u.list ≡ before ++ behind → Each (IsText u.names) behind → AreFaultsFrom m (length before) behind fs → Each (HasLine u) (refusals fs)
+  refusal_lines m before [] [] e texts h = tt
+  refusal_lines m before [] (f ∷ fs) e texts h = absurd h
+  refusal_lines m before (t ∷ behind) [] e texts h = absurd h
+  refusal_lines m before (t ∷ behind) (f ∷ fs) e texts h = by f h.0
+      (refusal_lines m (before ++ t ∷ []) behind fs (e ∙ sym (append_assoc before (t ∷ []) behind)) texts.1
+      (subst (λ (k : ℕ). AreFaultsFrom m k behind fs) (sym (length-append before (t ∷ []))) h.1))
+    where
+      there : slice_get u.list (length before) ≡ Some t
+      there = ap (λ (l : List TextOf). slice_get l (length before)) e ∙ at_place before t behind
+
+      by : (o : Option StreamFault) → IsFaultOfText m (length before) t o → Each (HasLine u) (refusals fs) → Each (HasLine u) (refusals (o ∷ fs))
+      by None is rest = rest
+      by (Some (faults.TooDeep text at)) is rest = rest
+      by (Some (faults.Syntax diag)) is rest = (first_line (length before) t.definition t diag there texts.0.numbered is, rest)
+
+pub refusals_lined : (unit : UnitTexts) (fs : List (Option StreamFault)) → IsUnit unit → AreFaults unit fs → Each (HasLine unit) (refusals fs)
+refusals_lined unit fs is are = refusal_lines unit (main_number unit) [] unit.list fs refl is.texts are

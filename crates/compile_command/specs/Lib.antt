@@ -1,0 +1,7 @@
+pub mod Lines
+pub mod Limits
+pub mod Verdicts
+pub mod Decisions
+pub mod Faults
+pub mod Outcome
+pub mod Delivery

@@ -1,0 +1,11 @@
+-- The lines that are printed.
+use Rattle.std.specs.Prelude.{◌≡◌, ℕ, ◌<◌, List, [], ◌∷◌, ◌++◌, Some, length, slice_get}
+use Rattle.m2_base.specs.Units.{TextOf, UnitTexts}
+use Rattle.m2_base.specs.declared.notes.Diag.{Diag}
+
+abbrev pub line : List ℕ → List ℕ
+line text = text ++ 10 ∷ []
+
+-- the diagnostic stands at a token of a text of the unit, so that the listing has a line for it
+abbrev pub HasLine : UnitTexts → Diag → Type 0
+HasLine unit diag = (t : TextOf) × (slice_get unit.list diag.text ≡ Some t) × (diag.at < length t.tokens)

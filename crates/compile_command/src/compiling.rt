@@ -1,0 +1,42 @@
+//! Compiling.
+ghost use Rattle.std.specs.Prelude.{◌≡◌, ◌⊎◌, ◌≤◌, Some, IfOk, IfSome, IsErrOf, OnErr, length};
+ghost use Rattle.m2_base.specs.Units.{IsIdentifier};
+ghost use Rattle.m2_io.specs.Causes.{Rose};
+ghost use Rattle.compile_command.specs.Outcome.{Compiles, HasObject, KeepsButObject, Leaves, PrintsPart};
+
+use crate::answer::{Answer, Stop};
+use crate::delivering::deliver;
+use crate::judging::judge;
+use crate::laws::one_outcome;
+use m2_io::{Shelf, Sink};
+use std::alloc::Global;
+
+/// Compiles the module of that name: reads its text and the definition modules that it rests on, and puts its object on the shelf; or prints the
+/// listing of its diagnostics, which limit it passes, or that it has no text.
+pub fn compile<H: Shelf, P: Sink>(
+    alloc: Global,
+    name: &str,
+    shelf: &mut H,
+    print: &mut P,
+) -> Result<Answer, Stop>
+    requires named { IsIdentifier name.now }
+    requires short { length name.now ≤ 1048576 }
+    // The answer, what the shelf has then and what is printed are those of the definition.
+    ensures leaves { IfOk result (λ answer. Leaves (Compiles (H.holds shelf.old) name.now) answer (H.holds shelf.new) (P.written print.old) (P.written print.new)) }
+    ensures object { IfOk result (λ answer. answer ≡ Answer.Done → IfSome (H.holds shelf.new) (HasObject name.now)) }
+
+    // The files stay, but for the object where it is put, and a part of it where putting failed.
+    ensures kept { IfOk result (λ answer. (answer ≡ Answer.Done → ⊥) → H.holds shelf.new ≡ H.holds shelf.old) }
+    ensures unread { IsErrOf result Stop.Read → H.holds shelf.new ≡ H.holds shelf.old }
+    ensures memory { IsErrOf result Stop.Memory → H.holds shelf.new ≡ H.holds shelf.old }
+    ensures part { IsErrOf result Stop.Write → KeepsButObject name.now (H.holds shelf.old) (H.holds shelf.new) }
+
+    // After a fault a front of what the definition prints was printed. The shelf and the sink fail only where they count a fault.
+    ensures prints { OnErr result (IfSome (H.holds shelf.old) (λ files. PrintsPart (Compiles (Some files) name.now) (P.written print.old) (P.written print.new))) }
+    ensures read { IsErrOf result Stop.Read → Rose (H.faults shelf.old) (H.faults shelf.new) }
+    ensures write { IsErrOf result Stop.Write → Rose (H.put_faults shelf.old) (H.put_faults shelf.new) ⊎ Rose (P.faults print.old) (P.faults print.new) }
+{
+    one_outcome();
+    let verdict = judge(alloc, shelf, name)?;
+    deliver(alloc, name, &verdict, shelf, print)
+}

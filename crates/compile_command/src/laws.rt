@@ -1,0 +1,33 @@
+//! Laws on the definitions, each the contract of a function that does nothing.
+ghost use Rattle.std.specs.Prelude.{◌≡◌, ℕ, List, Option, Some};
+ghost use Rattle.def_import.specs.Outcomes.{IsGatheredFrom};
+ghost use Rattle.m2_base.specs.Lists.{Each};
+ghost use Rattle.m2_base.specs.Units.{IsUnit, UnitTexts};
+ghost use Rattle.m2_base.specs.declared.notes.Diag.{Diag};
+ghost use Rattle.m2_base.specs.declared.outputs.StreamFault.{StreamFault};
+ghost use Rattle.m2_io.specs.Files.{Files};
+ghost use Rattle.unit_merge.specs.Outcome.{refusals};
+ghost use Rattle.unit_merge.specs.TextFaults.{AreFaults};
+ghost use Rattle.compile_command.specs.Lines.{HasLine};
+ghost use Rattle.compile_command.specs.Outcome.{Compiles, Outcome};
+
+use def_import::given_files_have_one_outcome;
+use unit_outcome::whole_units_have_one_outcome;
+
+/// Compiling a module over given files has one outcome.
+pub fn one_outcome()
+    ensures { (files : Files) (name : List ℕ) (these those : Outcome) → Compiles (Some files) name these → Compiles (Some files) name those → these ≡ those }
+{
+    given_files_have_one_outcome();
+    whole_units_have_one_outcome();
+}
+
+/// What is wrong with the imports of a unit stands at tokens of its texts, and so has lines in the listing.
+pub fn wrong_imports_have_lines()
+    ensures { (files : Files) (name : List ℕ) (unit : UnitTexts) (wrongs : List Diag) → IsGatheredFrom (Some files) name unit wrongs → Each (HasLine unit) wrongs }
+{}
+
+/// The first faults of a unit's texts stand at tokens of their texts, and so have lines in the listing.
+pub fn refusals_have_lines()
+    ensures { (unit : UnitTexts) (faults : List (Option StreamFault)) → IsUnit unit → AreFaults unit faults → Each (HasLine unit) (refusals faults) }
+{}

@@ -1,0 +1,20 @@
+//! What does compiling a module leave?
+//!
+//! `compile` reads the texts of a module's unit from a shelf and puts the module's object there, or prints what is said of it: the
+//! listing of its diagnostics, which limit it passes, or that it has no text. What that comes to is decided by the texts as they stand
+//! (`specs/Decisions`), one case for each kind of it; what goes with a decision is `specs/Verdicts`, and `specs/Outcome` puts both
+//! together. The layer above uses the contract of `compile` and the law `one_outcome`.
+#![tactic(auto)]
+
+mod answer;
+mod compiling;
+mod delivering;
+mod judging;
+mod laws;
+mod limit;
+mod verdict;
+mod work;
+
+pub use answer::{Answer, Stop};
+pub use compiling::compile;
+pub use laws::{one_outcome, refusals_have_lines, wrong_imports_have_lines};

@@ -1,0 +1,5 @@
+//! Tests of compiling modules of a shelf in memory.
+#![tactic(auto)]
+
+#[cfg(test)]
+mod of_compile_command;

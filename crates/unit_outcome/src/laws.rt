@@ -1,0 +1,23 @@
+//! Laws on units that are gathered whole, each the contract of a function that does nothing but cite others.
+ghost use Rattle.std.specs.Prelude.{◌≡◌};
+ghost use Rattle.def_import.specs.Answers.{IsWhole};
+ghost use Rattle.m2_base.specs.Units.{Front, IsUnit, TextOf, UnitTexts};
+ghost use Rattle.merge_laws.specs.Texts.{IsWhole as IsWholeBy};
+ghost use Rattle.stream_split.specs.Fronts.{AreFronts};
+ghost use Rattle.unit_merge.specs.Outcome.{Outcome};
+ghost use Rattle.unit_outcome.specs.Outcomes.{ComesTo};
+
+use merge_laws::unit_has_one_outcome;
+
+/// Of a unit that is gathered whole nothing is left out, by whichever fronts of its texts the grammar tells. It has such fronts.
+pub fn gathered_units_are_whole()
+    ensures fronts { (texts : UnitTexts) (whole : IsWhole texts) → AreFronts whole.front texts }
+    ensures whole { (texts : UnitTexts) (front : TextOf → Front) → IsWhole texts → AreFronts front texts → IsWholeBy front texts }
+{}
+
+/// A unit that is gathered whole comes to one outcome at most.
+pub fn whole_units_have_one_outcome()
+    ensures { (texts : UnitTexts) (these those : Outcome) → IsUnit texts → IsWhole texts → ComesTo texts these → ComesTo texts those → these ≡ those }
+{
+    unit_has_one_outcome();
+}
