@@ -3,11 +3,10 @@ use Rattle.m2_io.specs.Causes.{Rose}
 use Rattle.m2_io.specs.Files.{Files}
 use Rattle.command_words.specs.Command.{IsNoCommand}
 use Rattle.m2c_top.specs.Effects.{AsksToCompile, AsksToRun, Gives, HasInput, Leaves, PrintsPart, ToCompile}
-use Rattle.m2c_top.specs.Outcome.{HasObject, LacksText, HasSoundText, HasDiagnostics, HasTooMuchText, HasOtherText, PutsPart}
+use Rattle.compile_command.specs.Outcome.{HasObject, KeepsButObject}
+use Rattle.m2c_top.specs.Rows.{HasDiagnostics, IsCompiled, LacksText, PassesLimit}
 use Rattle.m2c_top.specs.Statuses.{status_number, IsFault, IsStatus, Exactly}
-use Rattle.m2c_top.specs.Modules.{Module}
-use Rattle.m2c_top.specs.declared.verdict.Limit.{Limit}
-use Rattle.m2c_top.proofs.Table.{RowOf, lacks_row, sound_row, diagnostics_row, limit_row, other_row}
+use Rattle.m2c_top.proofs.Table.{RowOf, compiled_row, diagnostics_row, lacks_row, limit_row}
 use Rattle.m2c_top.proofs.Ends.{number_of, ends_done, ends_leaving, ends_exactly, ends_as_no_command, ends_with_status, ends_stopped, ends_by_reading, ends_by_writing, ends_keeping}
 use Rattle.m2c_top.proofs.top.m2c.Given as given
 use Rattle.m2c_top.proofs.top.m2c.Goals as goal
@@ -44,23 +43,20 @@ exactly g c wanted fact row =
     let holds = g.H.Shelf.holds c.args.shelf.now in
     let words = map string_bytes c.args.words.now in
     subst (λ n. IfSome holds (λ files. ToCompile words (λ name. Exactly n wanted (fact name files)))) (sym (numbered g c))
-    (ends_exactly words holds (g.H.Shelf.holds c.obey.new.shelf) (g.P.Sink.written c.args.print.now) (g.P.Sink.written c.obey.new.print) (g.K.Source.left c.args.keys.now) (g.K.Source.left c.obey.new.keys) wanted fact row
+    (ends_exactly words holds (g.H.Shelf.holds c.obey.new.shelf) (g.P.Sink.written c.args.print.now) (g.P.Sink.written c.obey.new.print) (g.K.Source.left c.args.keys.now) (g.K.Source.left c.obey.new.keys) c.one_outcome.ensures wanted fact row
     c.obey.result c.obey.ensures.leaves)
 
 pub returns-clause-no_text : goal.returns-clause-no_text
-returns-clause-no_text g c = exactly g c 3 (λ name files. LacksText name files) lacks_row
+returns-clause-no_text g c = exactly g c 3 LacksText lacks_row
 
 pub returns-clause-done : goal.returns-clause-done
-returns-clause-done g c = exactly g c 0 (λ name files. (m : Module) × HasSoundText name files m) sound_row
+returns-clause-done g c = exactly g c 0 IsCompiled compiled_row
 
 pub returns-clause-refused : goal.returns-clause-refused
-returns-clause-refused g c = exactly g c 1 (λ name files. HasDiagnostics name files) diagnostics_row
+returns-clause-refused g c = exactly g c 1 HasDiagnostics diagnostics_row
 
 pub returns-clause-limits : goal.returns-clause-limits
-returns-clause-limits g c = exactly g c 7 (λ name files. (limit : Limit) × HasTooMuchText name files limit) limit_row
-
-pub returns-clause-not_built : goal.returns-clause-not_built
-returns-clause-not_built g c = exactly g c 11 (λ name files. HasOtherText name files) other_row
+returns-clause-limits g c = exactly g c 7 PassesLimit limit_row
 
 pub returns-clause-read : goal.returns-clause-read
 returns-clause-read g c four =
@@ -95,4 +91,4 @@ returns-clause-part g c five =
     let holds = g.H.Shelf.holds c.args.shelf.now in
     let after = g.H.Shelf.holds c.obey.new.shelf in
     let words = map string_bytes c.args.words.now in
-    ends_by_writing words ((after ≡ holds) ⊎ AsksToCompile words (λ name. PutsPart name holds after)) c.obey.result c.obey.ensures.status c.obey.ensures.part (sym (numbered g c) ∙ five)
+    ends_by_writing words ((after ≡ holds) ⊎ AsksToCompile words (λ name. KeepsButObject name holds after)) c.obey.result c.obey.ensures.status c.obey.ensures.part (sym (numbered g c) ∙ five)

@@ -2,7 +2,7 @@ use Rattle.std.proofs.Common.{map, refl, string_bytes, IfSome}
 use Rattle.command_words.proofs.Asked.{asked_sound}
 use Rattle.command_words.specs.Command.{command_of}
 use Rattle.m2c_top.proofs.Obeying.{commanded_leaves, commanded_object, commanded_prints, usage_leaves, usage_prints}
-use Rattle.m2c_top.specs.Outcome.{HasObject}
+use Rattle.compile_command.specs.Outcome.{HasObject}
 use Rattle.m2c_top.proofs.top.obey.Goals as goal
 
 pub carry_out-requires : goal.carry_out-requires
