@@ -21,11 +21,11 @@ pub on_err : {T E : Type 0} (r : Result T E) {P : Type 0} → P → OnErr r P
 on_err (Ok x) p = tt
 on_err (Err e) p = p
 
-told_all : (holds : Option Files) (P : Files → Type 0) → ((files : Files) → holds ≡ Some files → P files) → IfSome holds P
+pub told_all : (holds : Option Files) (P : Files → Type 0) → ((files : Files) → holds ≡ Some files → P files) → IfSome holds P
 told_all None P h = tt
 told_all (Some files) P h = h files refl
 
-abbrev IsOne : (files : Files) (name : List ℕ) → Type 0
+abbrev pub IsOne : (files : Files) (name : List ℕ) → Type 0
 IsOne files name = (these those : Outcome) → Compiles (Some files) name these → Compiles (Some files) name those → these ≡ those
 
 module _ (holds : Option Files) (name : List ℕ) (old : Option (List ℕ)) where

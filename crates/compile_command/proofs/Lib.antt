@@ -6,3 +6,4 @@ pub mod Deciding
 pub mod Leaving
 pub mod StandingFronts
 pub mod HaveLines
+pub mod Answering

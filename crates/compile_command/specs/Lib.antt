@@ -5,3 +5,4 @@ pub mod Decisions
 pub mod Faults
 pub mod Outcome
 pub mod Delivery
+pub mod Answers

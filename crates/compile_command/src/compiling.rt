@@ -1,7 +1,9 @@
 //! Compiling.
-ghost use Rattle.std.specs.Prelude.{◌≡◌, ◌⊎◌, ◌≤◌, Some, IfOk, IfSome, IsErrOf, OnErr, length};
+ghost use Rattle.std.specs.Prelude.{◌≡◌, ◌↔◌, ◌⊎◌, ◌≤◌, Some, IfOk, IfSome, IsErrOf, OnErr, length};
 ghost use Rattle.m2_base.specs.Units.{IsIdentifier};
 ghost use Rattle.m2_io.specs.Causes.{Rose};
+ghost use Rattle.compile_command.specs.Answers.{Comes};
+ghost use Rattle.compile_command.specs.declared.answer.Answer.{Answer as AnswerOf};
 ghost use Rattle.compile_command.specs.Outcome.{Compiles, HasObject, KeepsButObject, Leaves, PrintsPart};
 
 use crate::answer::{Answer, Stop};
@@ -21,8 +23,9 @@ pub fn compile<H: Shelf, P: Sink>(
 ) -> Result<Answer, Stop>
     requires named { IsIdentifier name.now }
     requires short { length name.now ≤ 1048576 }
-    // The answer, what the shelf has then and what is printed are those of the definition.
+    // The answer, what the shelf has then and what is printed are those of the definition; and each answer comes exactly where that says so.
     ensures leaves { IfOk result (λ answer. Leaves (Compiles (H.holds shelf.old) name.now) answer (H.holds shelf.new) (P.written print.old) (P.written print.new)) }
+    ensures answers { IfOk result (λ answer. IfSome (H.holds shelf.old) (λ files. (a : AnswerOf) → (answer ≡ a) ↔ Comes files name.now a)) }
     ensures object { IfOk result (λ answer. answer ≡ Answer.Done → IfSome (H.holds shelf.new) (HasObject name.now)) }
 
     // The files stay, but for the object where it is put, and a part of it where putting failed.

@@ -1,8 +1,9 @@
 -- What the items of a block make so far, and what the next makes after them.
-use Rattle.std.specs.Prelude.{◌≡◌, ℕ, suc, ◌+◌, List, [], ◌∷◌, ◌++◌, length}
+use Rattle.std.specs.Prelude.{◌≡◌, ℕ, zero, suc, ◌+◌, ◌==◌, Bool, true, false, if◌then◌else◌, List, [], ◌∷◌, ◌++◌, Option, Some, length, slice_get, take}
 use Rattle.std.proofs.Common.{refl, sym, ap, ◌∙◌, arith}
 use Rattle.std.proofs.lemmas.List.{append-nil, append_assoc}
 use Rattle.m2_base.specs.Lists.{IsPrefixOf}
+use Rattle.m2_base.specs.declared.rows.Place.{Place}
 use Rattle.m2_base.specs.declared.rows.Row.{Row}
 use Rattle.m2_base.specs.Statics.BlockRows.{at_item, declare_items}
 use Rattle.m2_base.specs.Statics.Contexts.{Context, Scene}
@@ -12,6 +13,8 @@ use Rattle.m2_base.specs.Statics.Items.{Item}
 use Rattle.m2_base.specs.Statics.Makes.{Makes, with_rows}
 use Rattle.m2_base.specs.declared.trees.declarations.StreamKind.{StreamKind}
 use Rattle.m2_base.proofs.SceneLaws.{with-none, with-twice}
+use Rattle.task_state.specs.Collecting.{result_from}
+use Rattle.task_state.proofs.Lists.{some_is}
 
 -- what an item makes, as number i, after what those before have made
 abbrev pub next_makes : Context → StreamKind → (i : ℕ) → Makes BlockEffects → Item → Makes Effect
@@ -33,7 +36,7 @@ joined d m n a e =
 behind : {A : Type 0} (d m n a : List A) → a ≡ m ++ n → d ++ a ≡ (d ++ m) ++ n
 behind d m n a e = ap (λ z. d ++ z) e ∙ sym (append_assoc d m n)
 
-no_rows : (c : Context) → with_rows c [] ≡ c
+pub no_rows : (c : Context) → with_rows c [] ≡ c
 no_rows c = ap (λ (s : Scene). record { source = c.source; scene = s; layout = c.layout; item = c.item }) (with-none c.scene)
 
 rows_twice : (c : Context) (xs ys : List Row) → with_rows (with_rows c xs) ys ≡ with_rows c (xs ++ (ys ++ []))
@@ -86,3 +89,30 @@ first_rows (y ∷ before) rest c kind i cell =
       rest = more.rest;
       joined = sym (joined first.rows some.rows more.rest _ (sym more.joined));
     }
+
+-- ** The result
+
+-- the first item is made over no rows
+pub first_makes : (c : Context) (kind : StreamKind) (cell : ℕ) (items : List Item) (x : Item) (n : ℕ) → n ≡ 0
+    → next_makes c kind (0 + length (take n items)) (declare_items c kind 0 cell (take n items)) x ≡ declare (at_item c 0) kind x cell
+first_makes c kind cell items x n none =
+    (λ k. next_makes c kind (0 + length (take (none k) items)) (declare_items c kind 0 cell (take (none k) items)) x)
+    ∙ (λ k. declare (at_item (no_rows c k) 0) kind x cell)
+
+pub same_number : (m n : ℕ) → (m == n) ≡ true → m ≡ n
+same_number m n h = grind arith
+
+-- what the next item leaves of it
+pub result_next : (c : Context) (kind : StreamKind) (cell : ℕ) (items : List Item) (n : ℕ) (x : Item) (r before : Option Place) → slice_get items n ≡ Some x
+    → (n ≡ 0 → r ≡ (declare (at_item c 0) kind x cell).value.result) → before ≡ result_from c kind cell (take n items)
+    → (if n == 0 then r else before) ≡ result_from c kind cell (take (n + 1) items)
+result_next c kind cell [] n x r before e first h = absurd (cc)
+result_next c kind cell (y ∷ items) zero x r before e first h = first refl ∙ ap (λ (z : Item). (declare (at_item c 0) kind z cell).value.result) (sym (some_is y x e))
+result_next c kind cell (y ∷ items) (suc n) x r before e first h =
+    by (suc n == 0) refl
+  where
+    by : (b : Bool) → (suc n == 0) ≡ b → (if b then r else before) ≡ result_from c kind cell (take (suc n + 1) (y ∷ items))
+    by true e = absurd (let bad = same_number (suc n) 0 e in omega (arith, bad))
+    by false e =
+        let number : suc (suc n) ≡ suc n + 1 = omega arith in
+        h ∙ ap (λ (k : ℕ). result_from c kind cell (take k (y ∷ items))) number

@@ -1,12 +1,15 @@
 pub mod AtWork
+pub mod Finished
 pub mod ItemsHere
 pub mod ItemsSoFar
 pub mod Lists
 pub mod NextItems
+pub mod Placing
 pub mod ProcedureRows
 pub mod StageSteps
 pub mod Stepping
 pub mod UnitBlocks
+pub mod UnitResults
 pub mod UnitRows
 pub mod WholeOutputs
 pub mod Turning

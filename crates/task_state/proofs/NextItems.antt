@@ -1,5 +1,6 @@
 -- An item is declared after those before: what it stands at, what it may enter, and what is declared then.
 use Rattle.std.specs.Prelude.{◌≡◌, ◌≢◌, ℕ, zero, suc, ◌+◌, ◌<◌, ◌≤◌, ◌==◌, Bool, true, false, if◌then◌else◌, List, [], ◌∷◌, ◌++◌, Option, Some, None, drop, filter, flat_map, length, slice_get, take}
+use Rattle.std.specs.Option.{IfSome}
 use Rattle.std.proofs.Common.{refl, sym, ap, subst, ◌∙◌, arith}
 use Rattle.std.proofs.lemmas.List.{append-nil, length-append, length-take-le, take-append-drop, take-take, take_all}
 use Rattle.std.proofs.lemmas.List.Concat.{flat_map-append}
@@ -12,7 +13,6 @@ use Rattle.m2_base.specs.Standard.{is_standard}
 use Rattle.m2_base.specs.States.{Frame, Setting, State}
 use Rattle.m2_base.specs.Statics.BlockRows.{at_item, context_of as block_context, declare_block, declare_items}
 use Rattle.m2_base.specs.Statics.Blocks.{BlockTree}
-use Rattle.m2_base.specs.Statics.Cells.{most_cells}
 use Rattle.m2_base.specs.Statics.Contexts.{Context, Source}
 use Rattle.m2_base.specs.Statics.Declarations.{declare}
 use Rattle.m2_base.specs.Statics.Effects.{BlockEffects, Effect, heading_list}
@@ -26,6 +26,7 @@ use Rattle.m2_base.specs.Statics.Shapes.{Shape, item_shapes}
 use Rattle.m2_base.specs.Tables.{rows_at}
 use Rattle.m2_base.specs.Trees.{Stream}
 use Rattle.m2_base.specs.Units.{UnitTexts}
+use Rattle.m2_base.specs.declared.rows.Place.{Place}
 use Rattle.m2_base.specs.declared.rows.Row.{Row}
 use Rattle.m2_base.specs.declared.rows.RowMeaning.{RowMeaning}
 use Rattle.m2_base.specs.declared.rows.RowMeaning.TheVariants as meanings
@@ -33,28 +34,25 @@ use Rattle.m2_base.specs.declared.sites.Around.{Around}
 use Rattle.m2_base.specs.declared.sites.Named.{Named}
 use Rattle.m2_base.specs.declared.sites.Site.{Site}
 use Rattle.m2_base.proofs.Kept.{Each-append, Each-map}
-use Rattle.type_rules.specs.Scenes.{Agrees, Suits, WhereTold, block_of, hand}
+use Rattle.type_rules.specs.Scenes.{Agrees, IsThere, Suits, WhereTold, block_of, hand}
 use Rattle.type_rules.specs.Sites.{SuitsSite, context_of}
 use Rattle.decl_sem.specs.DeclaredItems.{GivesAll}
 use Rattle.decl_sem.specs.ImportedModules.{IsFromBefore}
-use Rattle.decl_sem.specs.Items.{IsAtItem}
+use Rattle.decl_sem.specs.Items.{IsAtItem, IsEffect}
 use Rattle.decl_sem.specs.LaidRows.{AreLaid, is_of, kept_name, more_laid, none_laid}
-use Rattle.decl_sem.specs.Pieces.{AreNewRows, IsOwned, end_by, item_end}
+use Rattle.decl_sem.specs.Pieces.{AreNewRows, IsOptionBehind, IsOwned, end_by, item_end}
 use Rattle.decl_sem.specs.declared.declaring.Declared.{Declared}
 use Rattle.decl_sem.proofs.FirstNames.{AreLaid-append}
 use Rattle.decl_sem.proofs.FirstOrdinals.{end_of}
 use Rattle.decl_sem.proofs.Pieces.{laid-length}
 use Rattle.task_state.specs.Blocks.{IsBlockOf, block_with, row_count}
-use Rattle.task_state.specs.Collecting.{Collected, IsMade, first_cell_of, first_made, with_item}
+use Rattle.task_state.specs.Collecting.{Collected, IsMade, first_cell_of, first_made, first_result, with_item}
 use Rattle.task_state.specs.Progress.{HasDeclared}
-use Rattle.task_state.proofs.ItemsSoFar.{GoesOn, first_rows, next_makes, one_more}
+use Rattle.task_state.proofs.ItemsSoFar.{GoesOn, first_makes, first_rows, next_makes, one_more, result_next, same_number}
 use Rattle.task_state.proofs.Lists.{Splits, each_at, some_is, splits}
 use Rattle.task_state.proofs.UnitRows.{context_with}
 
 -- ** Rows as the layout gives them have no name twice
-
-same_number : (m n : ℕ) → (m == n) ≡ true → m ≡ n
-same_number m n h = grind arith
 
 of_one : (a b : ℕ) (e : Option Named) → is_of a e ≡ true → is_of b e ≡ true → a ≡ b
 of_one a b None h k = absurd (cc)
@@ -239,6 +237,21 @@ module _ (f : Frame) (s : Site) (a : Around) (tree : Stream) (m : Collected) (x 
     number : suc m.count ≡ m.count + 1
     number = omega arith
 
+    -- the type of the result can be asked for
+    later_there : (o : Option Place) → IfSome o (λ t. IsThere f t) → IfSome o (λ t. IsThere (frame_with f d.rows.items) t)
+    later_there None h = tt
+    later_there (Some p) h =
+        record {
+          scope = h.scope;
+          entered = λ own closed. (let before = h.entered own open_yet in let l = length-append f.entered d.rows.items in omega (arith, before, l));
+        }
+
+    first_there : (first : Bool) (o : Option Place) → IsOptionBehind f (length f.entered + length d.rows.items) o → IfSome (if first then o else m.returns) (λ t. IsThere (frame_with f d.rows.items) t)
+    first_there true None h = tt
+    first_there true (Some p) h =
+        record { scope = h.scope; entered = λ own closed. (let before = h.before own in let l = length-append f.entered d.rows.items in omega (arith, before, l)) }
+    first_there false o h = later_there m.returns so_far.there
+
     next_items : take m.count (items_of tree) ++ x ∷ [] ≡ take (m.count + 1) (items_of tree)
     next_items = sym parts.next ∙ ap (λ n. take n (items_of tree)) number
 
@@ -326,6 +339,16 @@ module _ (f : Frame) (s : Site) (a : Around) (tree : Stream) (m : Collected) (x 
           (subst (λ items. GoesOn made (next_makes c tree.kind (0 + length (take m.count (items_of tree))) made x) (declare_items c tree.kind 0 cell items)) next_items
           (one_more (take m.count (items_of tree)) x c tree.kind 0 cell))
 
+      next_result : (if m.count == 0 then (declare (context_of f (hand tables []) s) tree.kind x m.cell).value.result else m.returns) ≡ first_result (source_of f.setting.texts) (take f.setting.fills tables) (block_with a tree) (m.count + 1)
+      next_result =
+          let b = block_with a tree in
+          let before = take f.setting.fills tables in
+          let c = block_context (source_of f.setting.texts) before b in
+          let cell = first_cell_of before b in
+          result_next c tree.kind cell (items_of tree) m.count x (declare (context_of f (hand tables []) s) tree.kind x m.cell).value.result m.returns here
+          (λ none. ap (λ (z : Makes Effect). z.value.result) (same_makes ∙ first_makes c tree.kind cell (items_of tree) x m.count none))
+          (so_far.told tables finished).returns
+
       pub made_on : IsMade (source_of f.setting.texts) (take f.setting.fills tables) (block_with a tree) (f.entered ++ d.rows.items) (with_item m d)
       made_on =
           let so = so_far.told tables finished in
@@ -333,6 +356,7 @@ module _ (f : Frame) (s : Site) (a : Around) (tree : Stream) (m : Collected) (x 
           record {
             rows = (λ k. so.rows k ++ gives.rows k) ∙ sym on.rows;
             cell = ap (λ (v : Effect). v.cell) e ∙ sym on.cell;
+            returns = (λ k. if m.count == 0 then (e k).result else m.returns) ∙ next_result;
             copies = (λ k. so.copies k ++ (e k).prologue) ∙ sym on.copies;
             headings = (λ k. so.headings k ++ heading_list (e k).heading) ∙ sym on.headings;
             diags = (λ k. so.diags k ++ gives.diags k) ∙ sym on.diags;
@@ -362,8 +386,8 @@ module _ (f : Frame) (s : Site) (a : Around) (tree : Stream) (m : Collected) (x 
     may_enter b same = subst (λ g. CanEnter (framed b g) d.rows.items) (sym same) (enter_framed b)
 
     -- one more is declared
-    pub one_declared : d.effect.cell ≤ most_cells + 1 → HasDeclared (frame_with f d.rows.items) a tree (with_item m d)
-    one_declared cells =
+    pub one_declared : IsEffect f (length f.entered + length d.rows.items) d.effect → HasDeclared (frame_with f d.rows.items) a tree (with_item m d)
+    one_declared effect =
         let more : length f.entered ≤ length (f.entered ++ d.rows.items) = let l = length-append f.entered d.rows.items in omega (arith, l) in
         let within = parts.within in
         record {
@@ -372,12 +396,13 @@ module _ (f : Frame) (s : Site) (a : Around) (tree : Stream) (m : Collected) (x 
           owned = Each-append (λ r. IsOwned (length (f.entered ++ d.rows.items)) (row_meaning r)) f.entered d.rows.items
               (Each-map (λ r. IsOwned (length f.entered) (row_meaning r)) (λ r. IsOwned (length (f.entered ++ d.rows.items)) (row_meaning r)) f.entered (λ r. owned_more (length f.entered) (length (f.entered ++ d.rows.items)) more (row_meaning r)) so_far.owned)
               (subst (λ limit. Each (λ r. IsOwned limit (row_meaning r)) d.rows.items) end_is (owned_rows f (item_end s) (length f.entered) d.rows.items new));
-          cells = cells;
+          cells = effect.cell;
           procedures =
               (let l = ap length (filter-append is_proc f.entered d.rows.items) in
               let n = length-append (filter is_proc f.entered) (filter is_proc d.rows.items) in
               let p = so_far.procedures in
               omega (arith, l, n, p));
+          there = first_there (m.count == 0) d.effect.result effect.result;
           told = λ tables finished. made_on tables finished;
         }
 

@@ -1,47 +1,46 @@
 -- A step of the work on a block: what it needs, and what it leaves.
-use Rattle.std.specs.Prelude.{◌≡◌, ℕ, ◌+◌, ◌<◌, ◌≤◌, ◌==◌, true, if◌then◌else◌, List, [], ◌∷◌, ◌++◌, Option, Some, None, Ok, length, slice_get, take}
+use Rattle.std.specs.Prelude.{◌≡◌, ℕ, ◌<◌, ◌≤◌, ◌==◌, true, false, if◌then◌else◌, List, [], ◌∷◌, ◌++◌, Option, Some, None, Ok, flat_map, length, map, slice_get, take}
+use Rattle.std.specs.Option.{IfSome}
 use Rattle.std.proofs.Common.{refl, sym, ap, subst, ◌∙◌, arith}
-use Rattle.std.proofs.lemmas.List.{append-nil, append_assoc, length-append}
+use Rattle.std.proofs.lemmas.List.{append-nil, append_assoc, length-append, take_all}
 use Rattle.m2_base.specs.Finished.{IsFinished, source_of}
 use Rattle.m2_base.specs.Lists.{Each, WhereKept}
 use Rattle.m2_base.specs.Scopes.{CanComplete, CanEnter, Completed, Entered}
 use Rattle.m2_base.specs.States.{Frame, IsAmong, Keeps, Look, Setting, State}
-use Rattle.m2_base.specs.Statics.BlockRows.{declare_block}
-use Rattle.m2_base.specs.Statics.Cells.{most_cells}
+use Rattle.m2_base.specs.Statics.BlockRows.{at_item, context_of as block_context, declare_block}
 use Rattle.m2_base.specs.Statics.Closing.{Implemented, all_implemented, block_name, closing_diags, differing, differs_at, has_missing, implementation_diags, is_implemented, is_missing, name_diags, own_diags}
-use Rattle.m2_base.specs.Statics.Contexts.{Context, diag}
+use Rattle.m2_base.specs.Statics.Contexts.{Context, Source, diag}
 use Rattle.m2_base.specs.Statics.Declarations.{declare}
 use Rattle.m2_base.specs.Statics.Diagnostics.{heading_differs, not_implemented}
 use Rattle.m2_base.specs.Statics.Effects.{BlockEffects}
-use Rattle.m2_base.specs.Statics.Items.{Item, items_of}
+use Rattle.m2_base.specs.Statics.Items.{Item, decl_item, heading_item, heading_items, import_items, items_of}
 use Rattle.m2_base.specs.Statics.Layouts.{layout_of}
 use Rattle.m2_base.specs.Statics.Makes.{Makes}
 use Rattle.m2_base.specs.Statics.ReadStatements.{AreReadStatements}
 use Rattle.m2_base.specs.Statics.Shapes.{item_shapes}
 use Rattle.m2_base.specs.Statics.UnitNotes.{complete_context}
 use Rattle.m2_base.specs.Tables.{rows_at}
-use Rattle.m2_base.specs.Statics.ProcedureTypes.{result_type}
 use Rattle.m2_base.specs.Trees.{Heading, Stream}
 use Rattle.m2_base.specs.Units.{UnitTexts}
 use Rattle.m2_base.specs.Views.{stream_view}
 use Rattle.m2_base.specs.declared.notes.Answer.{Answer}
 use Rattle.m2_base.specs.declared.replies.Ask.TheVariants.{Known}
+use Rattle.m2_base.specs.declared.rows.Place.{Place}
 use Rattle.m2_base.specs.declared.rows.Row.{Row}
 use Rattle.m2_base.specs.declared.sites.Around.{Around}
 use Rattle.m2_base.specs.declared.sites.Site.{Site}
 use Rattle.m2_base.specs.declared.trees.Ident.{Ident}
-use Rattle.m2_base.specs.declared.trees.Qual.{Qual}
+use Rattle.m2_base.specs.declared.trees.declarations.StreamKind.{StreamKind}
 use Rattle.decl_sem.specs.DeclaredItems.{DeclaresItem}
 use Rattle.decl_sem.specs.Items.{IsAtItem}
 use Rattle.decl_sem.specs.declared.declaring.Declared.{Declared}
-use Rattle.type_rules.specs.Scenes.{WhereTold, block_of, hand}
+use Rattle.type_rules.specs.Scenes.{IsThere, WhereTold, block_of, hand}
 use Rattle.type_rules.specs.Sites.{SuitsSite, context_of}
-use Rattle.stmt_sem.specs.BlockCode.{bound_result, in_statements}
+use Rattle.stmt_sem.specs.BlockCode.{bound_result, in_statements, result_by}
 use Rattle.stmt_sem.specs.Bodies.{Adding, Built, IsBuilt, left}
 use Rattle.stmt_sem.specs.Stating.{Returns}
 use Rattle.task_state.specs.Blocks.{block_with}
-use Rattle.task_state.specs.Collecting.{Collected, first_made, with_item}
-use Rattle.task_state.specs.Conditions.{GivesNone}
+use Rattle.task_state.specs.Collecting.{Collected, first_cell_of, first_made, result_from, returned, with_item}
 use Rattle.task_state.specs.Progress.{HasDeclared, HasStated}
 use Rattle.task_state.specs.Steps.{IsComplete, IsDeclaring, IsInHand, IsStating}
 use Rattle.task_state.specs.declared.stages.Block.{Block}
@@ -80,8 +79,8 @@ module _ {a b : State} (bl : Block) (m : Collected) (x : Item) (d : Declared) (f
       may_enter a.frame (site_at bl (Some m.count)) bl.around.now (stream_view bl.tree.now) m x far.in_hand.block (site_of a.frame.setting bl (Some m.count) far.in_hand) here far.open_yet far.declared
       d p.laid p.new_rows p.told b p.keeps.frame
 
-  pub item_taken : (c : State) → Entered b c d.rows.items → d.effect.cell ≤ most_cells + 1 → IsDeclaring c bl (with_item m d)
-  item_taken c entered cells =
+  pub item_taken : (c : State) → Entered b c d.rows.items → IsDeclaring c bl (with_item m d)
+  item_taken c entered =
       let frame : c.frame ≡ frame_with a.frame d.rows.items = entered.frame ∙ ap (λ g. frame_with g d.rows.items) p.keeps.frame in
       let tree = stream_view bl.tree.now in
       record {
@@ -89,7 +88,7 @@ module _ {a b : State} (bl : Block) (m : Collected) (x : Item) (d : Declared) (f
         open_yet = ap (λ (f : Frame). f.closed) frame ∙ far.open_yet;
         declared = subst (λ (f : Frame). HasDeclared f bl.around.now tree (with_item m d)) (sym frame)
             (one_declared a.frame (site_at bl (Some m.count)) bl.around.now tree m x far.in_hand.block (site_of a.frame.setting bl (Some m.count) far.in_hand) here far.open_yet far.declared
-            d p.laid p.new_rows p.told cells);
+            d p.laid p.new_rows p.told p.effect);
         shown = subst (λ (o : Option (List Look)). WhereKept o (λ looks. Each (IsAmong looks) (m.answers ++ d.notes.answers.items))) (sym entered.looks)
             (shown_more a.looks b.looks p.looks m.answers d.notes.answers.items p.keeps.grows far.shown p.shown);
       }
@@ -112,13 +111,17 @@ module _ (a : State) (bl : Block) (m v : Collected) (x : Item) (same : v ≡ m) 
 
     pub taken_by : (c : State) (n : Collected) → Entered b c d.rows.items → n ≡ with_item m d → IsDeclaring c bl n
     taken_by c n entered next =
-        let effect = p.effect in
-        subst (λ (z : Collected). IsDeclaring c bl z) (ap (λ (z : Collected). with_item z d) same ∙ sym next) (item_taken bl v x d far_by here_by p c entered effect.cell)
+        subst (λ (z : Collected). IsDeclaring c bl z) (ap (λ (z : Collected). with_item z d) same ∙ sym next) (item_taken bl v x d far_by here_by p c entered)
 
 -- nothing was kept
 pub declaring_kept : (a b c : State) (bl : Block) (m n : Collected) (looks : List Look) → Keeps a b looks → c ≡ b → n ≡ m → IsDeclaring a bl m → IsDeclaring c bl n
 declaring_kept a b c bl m n looks keeps same kept far =
     subst (λ (z : State). IsDeclaring z bl n) (sym same) (subst (λ (z : Collected). IsDeclaring b bl z) (sym kept) (declaring_still bl m keeps far))
+
+-- the type of the result can be asked for in the complete scope, too
+there_closed : (f : Frame) (o : Option Place) → IfSome o (λ t. IsThere f t) → IfSome o (λ t. IsThere (record { setting = f.setting; entered = f.entered; closed = true }) t)
+there_closed f None h = tt
+there_closed f (Some p) h = record { scope = h.scope; entered = λ own closed. absurd (let bad : true ≡ false = closed in cc) }
 
 -- all are declared
 pub completes : (a : State) (bl : Block) (m : Collected) → IsDeclaring a bl m → m.count ≡ length (items_of (stream_view bl.tree.now)) → CanComplete a
@@ -132,7 +135,7 @@ completed {a} {b} bl m far all done =
       in_hand = subst (λ (f : Frame). IsInHand f.setting bl) (sym done.frame) far.in_hand;
       closed = ap (λ (f : Frame). f.closed) done.frame;
       declared = subst (λ (f : Frame). HasDeclared f bl.around.now (stream_view bl.tree.now) m) (sym done.frame)
-          (record { within = d.within; laid = d.laid; owned = d.owned; cells = d.cells; procedures = d.procedures; told = d.told });
+          (record { within = d.within; laid = d.laid; owned = d.owned; cells = d.cells; procedures = d.procedures; there = there_closed a.frame m.returns d.there; told = d.told });
       all = all;
       shown = subst (λ (o : Option (List Look)). WhereKept o (λ looks. Each (IsAmong looks) m.answers)) (sym done.looks) far.shown;
     }
@@ -254,18 +257,66 @@ suits_statements st bl m h closed declared all =
 pub statements_read : (g : Setting) (bl : Block) → IsInHand g bl → AreReadStatements bl.texts.now.names (stream_view bl.tree.now).body
 statements_read g bl h = subst (λ (u : UnitTexts). AreReadStatements u.names (stream_view bl.tree.now).body) (sym h.texts) h.block.statements
 
-no_result : (c : Context) (h : Option Heading) → GivesNone h → None ≡ bound_result c h
-no_result c None g = refl
-no_result c (Some h) g = go h.result g
-  where
-    go : (q : Option Qual) → q ≡ None → None ≡ (result_type c q).value
-    go None e = refl
-    go (Some q) e = absurd (cc)
+-- the block's own heading is its first item
+heading_first : (c : Context) (kind : StreamKind) (cell : ℕ) (tree : Stream) (h : Heading) → tree.heading ≡ Some h → result_from c kind cell (items_of tree) ≡ (declare (at_item c 0) kind (heading_item h) cell).value.result
+heading_first c kind cell tree h e =
+    ap (λ (o : Option Heading). result_from c kind cell (heading_items o ++ flat_map import_items tree.imports ++ map decl_item tree.decls)) e
 
-pub returns_none : (st : State) (bl : Block) → IsInHand st.frame.setting bl → Returns st.frame (record { texts = bl.texts; around = bl.around; layout = bl.layout; item = None }) (stream_view bl.tree.now) None
-returns_none st bl h made in_hand finished =
-    let tree = stream_view bl.tree.now in
-    no_result (record (context_of st.frame made (site_at bl None)) { layout = (layout_of tree).names; item = Some 0 }) tree.heading h.block.supported.plain
+-- a body returns what the heading gives
+module _ (st : State) (bl : Block) (m : Collected) (h : IsInHand st.frame.setting bl) (declared : HasDeclared st.frame bl.around.now (stream_view bl.tree.now) m) where
+  pub returns_there : IfSome (returned (stream_view bl.tree.now).heading m.returns) (λ t. IsThere st.frame t)
+  returns_there = by (stream_view bl.tree.now).heading
+    where
+      by : (o : Option Heading) → IfSome (returned o m.returns) (λ t. IsThere st.frame t)
+      by None = tt
+      by (Some head) = declared.there
+
+  pub returns_is : st.frame.closed ≡ true → m.count ≡ length (items_of (stream_view bl.tree.now))
+      → Returns st.frame (record { texts = bl.texts; around = bl.around; layout = bl.layout; item = None }) (stream_view bl.tree.now) (returned (stream_view bl.tree.now).heading m.returns)
+  returns_is closed all made in_hand finished = by (stream_view bl.tree.now).heading refl ∙ sym here
+    where
+      tables : List (List Row)
+      tables = made.finished
+
+      tree : Stream
+      tree = stream_view bl.tree.now
+
+      source : Source
+      source = source_of st.frame.setting.texts
+
+      before : List (List Row)
+      before = take st.frame.setting.fills made.finished
+
+      -- where the statements stand
+      here : result_by (context_of st.frame made (record { texts = bl.texts; around = bl.around; layout = bl.layout; item = None })) (stream_view bl.tree.now)
+          ≡ result_by (complete_context (source_of st.frame.setting.texts) made.finished (block_of bl.around.now)) (stream_view bl.tree.now)
+      here =
+          ap (λ (rows : List Row). result_by (context_of st.frame (hand made.finished rows) (site_at bl None)) (stream_view bl.tree.now)) (in_hand.closed closed)
+          ∙ ap (λ (c : Context). result_by c (stream_view bl.tree.now)) (context_is st bl m h declared all made.finished finished)
+
+      by : (o : Option Heading) → (stream_view bl.tree.now).heading ≡ o
+          → returned o m.returns ≡ result_by (complete_context (source_of st.frame.setting.texts) made.finished (block_of bl.around.now)) (stream_view bl.tree.now)
+      by None e = sym (ap (λ (o : Option Heading). bound_result (record (complete_context (source_of st.frame.setting.texts) made.finished (block_of bl.around.now)) { layout = (layout_of (stream_view bl.tree.now)).names; item = Some 0 }) o) e)
+      by (Some head) e =
+          let b = block_with bl.around.now (stream_view bl.tree.now) in
+          let c = block_context (source_of st.frame.setting.texts) (take st.frame.setting.fills made.finished) b in
+          let cell = first_cell_of (take st.frame.setting.fills made.finished) b in
+          (declared.told made.finished finished).returns
+          ∙ ap (λ (xs : List Item). result_from c (stream_view bl.tree.now).kind cell xs) (take_all m.count (items_of (stream_view bl.tree.now)) (omega (arith, all)))
+          ∙ heading_first c (stream_view bl.tree.now).kind cell (stream_view bl.tree.now) head e
+          ∙ (h.block.told made.finished finished).returns head cell e
+
+-- the same of what code has for it
+pub returned_there : (st : State) (bl : Block) (m : Collected) → IsInHand st.frame.setting bl → HasDeclared st.frame bl.around.now (stream_view bl.tree.now) m → (r : Option Place) → r ≡ returned (stream_view bl.tree.now).heading m.returns
+    → IfSome r (λ t. IsThere st.frame t)
+returned_there st bl m h declared r is = subst (λ (o : Option Place). IfSome o (λ t. IsThere st.frame t)) (sym is) (returns_there st bl m h declared)
+
+pub returned_is : (st : State) (bl : Block) (m : Collected) → IsInHand st.frame.setting bl → HasDeclared st.frame bl.around.now (stream_view bl.tree.now) m → st.frame.closed ≡ true → m.count ≡ length (items_of (stream_view bl.tree.now))
+    → (r : Option Place) → r ≡ returned (stream_view bl.tree.now).heading m.returns
+    → Returns st.frame (record { texts = bl.texts; around = bl.around; layout = bl.layout; item = None }) (stream_view bl.tree.now) r
+returned_is st bl m h declared closed all r is =
+    subst (λ (o : Option Place). Returns st.frame (record { texts = bl.texts; around = bl.around; layout = bl.layout; item = None }) (stream_view bl.tree.now) o) (sym is)
+    (returns_is st bl m h declared closed all)
 
 module _ {a b : State} (bl : Block) (m : Collected) (x : Stating) (far : IsStating a bl m x) where
   -- nothing was added

@@ -37,6 +37,7 @@ use Rattle.task_state.specs.Blocks.{IsBlockIn, IsBlockOf, block_with}
 use Rattle.task_state.specs.Units.{IsOfUnit}
 use Rattle.task_state.proofs.Lists.{some_is}
 use Rattle.task_state.proofs.UnitRows.{made_over}
+use Rattle.task_state.proofs.UnitResults.{ReturnsIts, unit_returns}
 
 -- ** Lists
 
@@ -115,6 +116,18 @@ module _ (g : Setting) (s : StreamOf) (a : Around) (tree : Stream) (of : IsOfUni
   around : IsSurrounded s (around_view a)
   around = subst (IsSurrounded s) (sym of.around) (surrounded g.texts of.unit of.index s of.there)
 
+  -- the same of the block in the unit
+  returns_here : (tables : List (List Row)) (is : IsFinished g.texts tables) (b : BlockTree) → slice_get (blocks_of is.trees) of.index ≡ Some b → b ≡ block_with a tree → 1 + of.index ≡ g.fills
+      → rows_from is.trees.source (standard_rows ∷ []) (blocks_of is.trees) ≡ tables → ReturnsIts (source_of g.texts) (take g.fills tables) tables (block_with a tree)
+  returns_here tables is b there same fills all =
+      let made = rows_from is.trees.source (standard_rows ∷ []) (blocks_of is.trees) in
+      let at = unit_returns g.texts of.unit of.front of.fronts of.whole is.trees is.read of.index b there in
+      subst (λ (k : ℕ). ReturnsIts (source_of g.texts) (take k tables) tables (block_with a tree)) fills
+      (subst (λ (x : BlockTree). ReturnsIts (source_of g.texts) (take (1 + of.index) tables) tables x) same
+      (subst (λ (source : Source). ReturnsIts source (take (1 + of.index) tables) tables b) is.read.source
+      (subst (λ (ts : List (List Row)). ReturnsIts is.trees.source (take (1 + of.index) ts) ts b) all
+      (subst (λ (ts : List (List Row)). ReturnsIts is.trees.source (take (1 + of.index) made) ts b) (unit_is is.trees) at))))
+
   -- where no text has a syntax error
   told : (tables : List (List Row)) → IsFinished g.texts tables → IsBlockIn (source_of g.texts) tables g.fills (block_with a tree)
   told tables is =
@@ -136,6 +149,7 @@ module _ (g : Setting) (s : StreamOf) (a : Around) (tree : Stream) (of : IsOfUni
         scopes = omega (arith, count, n, f, h);
         standard = finished-standard g.texts tables is;
         few = finished_few g.texts tables of.unit is;
+        returns = returns_here tables is b at.1.there same fills all;
         rows = subst (λ (k : ℕ). rows_at tables k ≡ (declare_block (source_of g.texts) (take k tables) (block_with a tree)).rows) fills
             (subst (λ (x : BlockTree). rows_at tables (1 + of.index) ≡ (declare_block (source_of g.texts) (take (1 + of.index) tables) x).rows) same
             (subst (λ (source : Source). rows_at tables (1 + of.index) ≡ (declare_block source (take (1 + of.index) tables) b).rows) is.read.source
@@ -177,7 +191,6 @@ module _ (g : Setting) (s : StreamOf) (a : Around) (tree : Stream) (of : IsOfUni
             (let room = stream_room u of.index s tree of.there spelled in
             let area : slice_index g.areas g.fills ≡ slice_index (sizes_of (streams_of u)) s.stream = λ k. slice_index (of.areas k) (of.fills k) in
             omega (arith, room, area));
-        supported = of.supported tree spelled;
         told = told;
       }
 

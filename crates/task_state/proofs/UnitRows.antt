@@ -10,6 +10,7 @@ use Rattle.m2_base.specs.Statics.Makes.{with_rows}
 use Rattle.m2_base.specs.Statics.UnitRows.{rows_from}
 use Rattle.m2_base.specs.Tables.{rows_at}
 use Rattle.m2_base.specs.declared.rows.Row.{Row}
+use Rattle.row_laws.specs.RowRanges.{EachBlock}
 
 one_is : {A : Type 0} (x y : A) → Some x ≡ Some y → x ≡ y
 one_is x y e = cc
@@ -54,6 +55,21 @@ made_over source before (c ∷ blocks) (suc i) b e =
     let place : length (before ++ made ∷ []) + i ≡ length before + suc i = omega (arith, next) in
     subst (λ (n : ℕ). rows_at (rows_from source (before ++ made ∷ []) blocks) n ≡ (declare_block source (take n (rows_from source (before ++ made ∷ []) blocks)) b).rows) place
     (made_over source (before ++ made ∷ []) blocks i b e)
+
+-- what holds of each block holds of the block at this place, over the finished scopes before it
+pub each_block_at : (P : List (List Row) → BlockTree → Type 0) (source : Source) (before : List (List Row)) (blocks : List BlockTree) (i : ℕ) (b : BlockTree) → EachBlock P source before blocks → slice_get blocks i ≡ Some b
+    → P (take (length before + i) (rows_from source before blocks)) b
+each_block_at P source before [] i b h e = absurd cc
+each_block_at P source before (c ∷ blocks) zero b h e =
+    let place : length before ≡ length before + 0 = omega arith in
+    subst (λ (ts : List (List Row)). P ts b) (sym (first_stay source (c ∷ blocks) before) ∙ ap (λ n. take n (rows_from source before (c ∷ blocks))) place)
+    (subst (λ (x : BlockTree). P before x) (one_is c b e) h.0)
+each_block_at P source before (c ∷ blocks) (suc i) b h e =
+    let made = (declare_block source before c).rows in
+    let next = length-append before (made ∷ []) in
+    let place : length (before ++ made ∷ []) + i ≡ length before + suc i = omega (arith, next) in
+    subst (λ (n : ℕ). P (take n (rows_from source (before ++ made ∷ []) blocks)) b) place
+    (each_block_at P source (before ++ made ∷ []) blocks i b h.1 e)
 
 -- ** The scene of a block
 

@@ -1,7 +1,6 @@
 -- What a block leaves all of whose statements are made is what the definition says of it.
 use Rattle.std.specs.Prelude.{◌≡◌, ℕ, zero, suc, ◌≤◌, List, [], ◌∷◌, ◌++◌, length, map, take}
 use Rattle.std.proofs.Common.{refl, sym, ap, subst, ◌∙◌, arith, append_assoc}
-use Rattle.std.proofs.lemmas.List.{append-nil}
 use Rattle.m2_base.specs.Finished.{IsFinished, source_of}
 use Rattle.m2_base.specs.Lists.{Each, WhereKept}
 use Rattle.m2_base.specs.States.{IsAmong, State}
@@ -11,7 +10,7 @@ use Rattle.m2_base.specs.Statics.Contexts.{Context}
 use Rattle.m2_base.specs.Statics.Effects.{BlockEffects}
 use Rattle.m2_base.specs.Statics.Makes.{Makes}
 use Rattle.m2_base.specs.Statics.UnitNotes.{complete_context}
-use Rattle.m2_base.specs.Trees.{Statements, Stream, no_statements, statements}
+use Rattle.m2_base.specs.Trees.{Stream, no_statements, statements}
 use Rattle.m2_base.specs.Views.{statement_view, stream_view}
 use Rattle.m2_base.specs.declared.notes.Answer.{Answer}
 use Rattle.m2_base.specs.declared.outputs.Output.{Output}
@@ -22,9 +21,7 @@ use Rattle.stmt_sem.specs.BlockCode.{body_of, code_of_run, run_of, size_diags}
 use Rattle.stmt_sem.specs.Bodies.{IsBuilt, IsWhole, rest_from, whole_in, whole_of}
 use Rattle.stmt_sem.specs.Flows.{Run}
 use Rattle.stmt_sem.specs.ProcedureCodes.{code_view}
-use Rattle.stmt_sem.specs.Statements.{flow_of}
 use Rattle.stmt_sem.specs.Stating.{block_at}
-use Rattle.stmt_sem.specs.BlockCode.{stand_of}
 use Rattle.stmt_sem.specs.declared.top_statements.Stated.{Stated}
 use Rattle.task_state.specs.Blocks.{block_with}
 use Rattle.task_state.specs.Collecting.{Collected, first_made}
@@ -70,14 +67,6 @@ module _ (st : State) (bl : Block) (m : Collected) (x : Stating) (far : IsStatin
       (declare_block (source_of st.frame.setting.texts) (take bl.around.now.scope tables) (block_with bl.around.now (stream_view bl.tree.now))).value whole
   is_whole = ends context effects refl built
 
-  -- the answers of the body are those of its statements
-  answers_are : whole.notes.answers.items ≡ x.body.answers
-  answers_are =
-      let none : rest_from x.body.count (stream_view bl.tree.now).body ≡ no_statements = rest_none bl.tree.now.body.items x.body.count (omega (arith, past)) in
-      let stand = stand_of context (block_at context tree) in
-      is_whole.answers
-      ∙ sym (sym (append-nil x.body.answers) ∙ sym (ap (λ (ss : Statements). x.body.answers ++ (flow_of stand ss).answers) none) ∙ built.answers)
-
   declared_is : (first_made (source_of st.frame.setting.texts) (take st.frame.setting.fills tables) (block_with bl.around.now (stream_view bl.tree.now)) m.count)
       ≡ declare_block (source_of st.frame.setting.texts) (take bl.around.now.scope tables) (block_with bl.around.now (stream_view bl.tree.now))
   declared_is =
@@ -106,6 +95,8 @@ module _ (st : State) (bl : Block) (m : Collected) (x : Stating) (far : IsStatin
         headings = parts.headings ∙ so.headings ∙ ap (λ (z : Makes BlockEffects). z.value.headings) made;
       }
 
-  pub left_shown : (o : Output) → IsJoined m x whole o → WhereKept st.looks (λ looks. Each (IsAmong looks) o.answers.items)
-  left_shown o parts =
-      subst (λ (xs : List Answer). WhereKept st.looks (λ looks. Each (IsAmong looks) xs)) (sym (parts.answers ∙ ap (λ xs. m.answers ++ xs) answers_are)) far.shown
+-- the answers of the body are those of its statements
+pub left_shown : (st : State) (bl : Block) (m : Collected) (x : Stating) (whole : Stated) (o : Output) → IsStating st bl m x → whole.notes.answers.items ≡ x.body.answers → IsJoined m x whole o
+    → WhereKept st.looks (λ looks. Each (IsAmong looks) o.answers.items)
+left_shown st bl m x whole o far same parts =
+    subst (λ (xs : List Answer). WhereKept st.looks (λ looks. Each (IsAmong looks) xs)) (sym (parts.answers ∙ ap (λ xs. m.answers ++ xs) same)) far.shown

@@ -1,6 +1,5 @@
 pub mod Blocks
 pub mod Collecting
-pub mod Conditions
 pub mod Outputs
 pub mod Progress
 pub mod Steps

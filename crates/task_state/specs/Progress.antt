@@ -1,10 +1,10 @@
 -- How far a task is: what a turn needs and leaves.
-use Rattle.std.specs.Prelude.{◌≡◌, ◌+◌, ◌≤◌, Bool, true, false, List, [], ◌++◌, Option, None, filter, flat_map, length, Some, take}
+use Rattle.std.specs.Prelude.{◌≡◌, ℕ, ◌+◌, ◌≤◌, Bool, true, false, List, [], ◌++◌, Option, None, filter, flat_map, length, Some, take}
 use Rattle.std.specs.Option.{IfSome}
 use Rattle.m2_base.specs.Finished.{WhereFinished, source_of}
 use Rattle.m2_base.specs.Lists.{Each, WhereKept}
 use Rattle.m2_base.specs.Rows.{row_meaning}
-use Rattle.m2_base.specs.States.{Frame, IsAmong, State, Waits, texts_of}
+use Rattle.m2_base.specs.States.{Frame, IsAmong, State, Waits}
 use Rattle.m2_base.specs.Statics.BlockRows.{declare_block}
 use Rattle.m2_base.specs.Statics.Blocks.{BlockTree}
 use Rattle.m2_base.specs.Statics.Cells.{most_cells}
@@ -26,6 +26,7 @@ use Rattle.m2_base.specs.declared.trees.declarations.Stream.{Stream as HeldStrea
 use Rattle.decl_sem.specs.LaidRows.{AreLaid}
 use Rattle.decl_sem.specs.Pieces.{IsOwned}
 use Rattle.stmt_sem.specs.Bodies.{IsBuilt}
+use Rattle.type_rules.specs.Scenes.{IsThere}
 use Rattle.stream_split.specs.Agreement.{SpellsStream}
 use Rattle.stream_split.specs.Chains.{around_view}
 use Rattle.stream_split.specs.Streams.{StreamOf}
@@ -51,6 +52,7 @@ pub record HasDeclared (f : Frame) (a : Around) (tree : Stream) (m : Collected) 
   pub owned : Each (λ r. IsOwned (length f.entered) (row_meaning r)) f.entered
   pub cells : m.cell ≤ most_cells + 1
   pub procedures : m.procedures ≡ length (filter is_proc f.entered)
+  pub there : IfSome m.returns (λ t. IsThere f t)
   pub told : WhereFinished f.setting.texts (λ tables. IsMade (source_of f.setting.texts) (take f.setting.fills tables) (block_with a tree) f.entered m)
 
 -- What was noted of the complete block, and the statements that its body has, are the definition's.
@@ -63,12 +65,18 @@ pub record HasStated (f : Frame) (a : Around) (tree : HeldStream) (x : Stating) 
   pub within : x.body.count ≤ length tree.body.items
   pub told : WhereFinished f.setting.texts (λ tables. IsStated (source_of f.setting.texts) tables (block_with a (stream_view tree)) x)
 
+-- Before the first cell of its variables is known nothing is entered.
+pub record IsUnplaced (f : Frame) (w : Begun) : Type 0 where
+  pub entered : f.entered ≡ []
+  pub open_yet : w.closed ≡ false
+
 -- The block is that of the scope that is filled; its scope is complete only when all its items are entered.
 pub record IsBegun (f : Frame) (a : Around) (w : Begun) : Type 0 where
   pub block : IsBlockOf f.setting a (stream_view w.tree)
   pub layout : w.layout ≡ layout_of (stream_view w.tree)
   pub closed : f.closed ≡ w.closed
-  pub declared : HasDeclared f a (stream_view w.tree) w.collected
+  pub unplaced : w.placed ≡ false → IsUnplaced f w
+  pub declared : w.placed ≡ true → HasDeclared f a (stream_view w.tree) w.collected
   pub all : w.closed ≡ true → w.collected.count ≡ length (items_of (stream_view w.tree))
   pub stated : IfSome w.stating (λ x. (w.closed ≡ true) × HasStated f a w.tree x)
 
@@ -104,10 +112,8 @@ IsAtStage f s a (Unread tokens) = IsUnread f s tokens.items
 IsAtStage f s a (Working w) = IsWorking f s a w
 IsAtStage f s a (Ended o) = HasEnded f s a o
 
--- Each answer that it has noted is the reply of a look, where looks are kept. Of what is left in the end that is so where
--- no text has a syntax error: the end of a body doesn't say yet of other units which answers it leaves.
+-- each answer that it has noted is the reply of a look, where looks are kept
 abbrev pub AreShown : State → Stage → Type 0
-AreShown st (Ended o) = WhereFinished (texts_of st) (λ tables. WhereKept st.looks (λ looks. Each (IsAmong looks) o.answers.items))
 AreShown st stage = WhereKept st.looks (λ looks. Each (IsAmong looks) (answers_in stage))
 
 -- A task stands at a stream of the unit, and is as far as the scope that is filled: what is entered is what its items made, and
@@ -126,9 +132,39 @@ abbrev pub is_ended : Stage → Bool
 is_ended (Ended o) = true
 is_ended other = false
 
+-- ** What is seen of a task
+
+-- the number of its stream
+abbrev pub number_of : Task → ℕ
+number_of t = t.stream
+
+-- what surrounds its block
+abbrev pub around_of : Task → Around
+around_of t = t.around
+
+-- whether it is done
+abbrev pub is_over : Task → Bool
+is_over t = is_ended t.stage
+
+-- it stands at the same stream
+pub record IsSameTask (old new : Task) : Type 0 where
+  pub stream : new.stream ≡ old.stream
+  pub text : new.text ≡ old.text
+  pub kind : new.kind ≡ old.kind
+  pub around : new.around ≡ old.around
+
+-- What a task that is done leaves: its scope is complete, the output is that of its stream, and each of its answers is the
+-- reply of a look, where looks are kept.
+pub record IsLeft (st : State) (t : Task) (o : Output) : Type 0 where
+  pub stream : StreamOf
+  pub number : number_of t ≡ stream.stream
+  pub of_unit : IsOfUnit st.frame.setting stream (around_of t)
+  pub ended : HasEnded st.frame stream (around_of t) o
+  pub shown : WhereKept st.looks (λ looks. Each (IsAmong looks) o.answers.items)
+
 -- How a turn ends: the task is done; or this turn loaded the head of a smaller scope, which was incomplete, and it hadn't
 -- been seen complete before.
 abbrev pub Ends : State → State → Task → Turn → Type 0
-Ends old new t Done = is_ended t.stage ≡ true
+Ends old new t Done = is_over t ≡ true
 Ends old new t (Parked head) = Waits old new head
 Ends old new t Memory = Unit {0}

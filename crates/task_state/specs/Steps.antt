@@ -69,13 +69,14 @@ pub record Leaves (st : State) (a : Around) (tree : HeldStream) (o : Output) : T
   pub stream : o.stream ≡ a.scope
   pub sound : o.fault ≡ None
   pub told : WhereFinished (texts_of st) (λ tables. IsOutputOf (source_of (texts_of st)) tables (block_with a (stream_view tree)) o)
-  pub shown : WhereFinished (texts_of st) (λ tables. WhereKept st.looks (λ looks. Each (IsAmong looks) o.answers.items))
+  pub shown : WhereKept st.looks (λ looks. Each (IsAmong looks) o.answers.items)
 
 -- a tree of which nothing is done yet
 pub record IsFresh (tree : HeldStream) (w : Begun) : Type 0 where
   pub tree_is : w.tree ≡ tree
   pub layout : w.layout ≡ layout_of (stream_view tree)
   pub collected : w.collected ≡ none_from 0
+  pub placed : w.placed ≡ false
   pub closed : w.closed ≡ false
   pub stating : w.stating ≡ None
 

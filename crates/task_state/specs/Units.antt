@@ -2,15 +2,12 @@
 use Rattle.std.specs.Prelude.{◌≡◌, ℕ, slice_get, None, Some}
 use Rattle.m2_base.specs.States.{Setting}
 use Rattle.m2_base.specs.Statics.BlockLimits.{limit_of}
-use Rattle.m2_base.specs.Trees.{Stream}
 use Rattle.m2_base.specs.Units.{Front, IsUnit, IsWholeBy, TextOf}
 use Rattle.m2_base.specs.declared.sites.Around.{Around}
-use Rattle.stream_split.specs.Agreement.{SpellsStream}
 use Rattle.stream_split.specs.Chains.{around_view, block_of, own_scope}
 use Rattle.stream_split.specs.Fronts.{AreFronts}
 use Rattle.stream_split.specs.Sizes.{sizes_of}
 use Rattle.stream_split.specs.Streams.{StreamOf, main_number, main_tokens, streams_of}
-use Rattle.task_state.specs.Conditions.{IsSupported}
 
 -- The stream is one of a unit's, and its block is surrounded as the streams say; the scopes are the unit's, have the room that
 -- the streams ask, and fill the stream's own. Nothing is left out of the unit, by what the grammar tells of the fronts of
@@ -26,4 +23,3 @@ pub record IsOfUnit (g : Setting) (s : StreamOf) (a : Around) : Type 0 where
   pub around : around_view a ≡ block_of (main_number g.texts) (own_scope g.texts) (streams_of g.texts) s
   pub fills : g.fills ≡ s.stream
   pub areas : g.areas ≡ sizes_of (streams_of g.texts)
-  pub supported : (tree : Stream) → SpellsStream tree s → IsSupported a tree

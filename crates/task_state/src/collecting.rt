@@ -6,7 +6,7 @@ ghost use Rattle.m2_base.specs.Statics.ProcedureRows.{is_proc};
 ghost use Rattle.task_state.specs.Collecting.{none_from, with_item};
 
 use decl_sem::{Before, Declared, ParamCopy};
-use m2_base::{HeadingNote, Memory, Notes, Row};
+use m2_base::{HeadingNote, Memory, Notes, Place, Row};
 use std::alloc::Global;
 use std::marker::Model;
 
@@ -41,12 +41,13 @@ fn add_procedures(procedures: u32, rows: &[Row]) -> Result<u32, Memory>
     }
 }
 
-/// What the items so far have given: how many they are, the next free cell and the number of their procedures, what the body
-/// copies first, the notes of headings, and what was noted.
+/// What the items so far have given: how many they are, the next free cell and the number of their procedures, the type of the
+/// result that the block's own heading binds, what the body copies first, the notes of headings, and what was noted.
 #[derive(Drop)]
 pub(crate) struct Collected {
     pub count: u32,
     pub before: Before,
+    pub returns: Option<Place>,
     pub copies: Vec<ParamCopy>,
     pub headings: Vec<HeadingNote>,
     pub notes: Notes,
@@ -63,6 +64,7 @@ impl Model for Collected {
       count = m.count;
       cell = m.before.cell;
       procedures = m.before.procedures;
+      returns = m.returns;
       copies = map copy_view m.copies.items;
       headings = m.headings.items;
       diags = m.notes.diags.items;
@@ -81,6 +83,7 @@ impl Collected {
                 cell,
                 procedures: 0,
             },
+            returns: None,
             copies: Vec::new(alloc),
             headings: Vec::new(alloc),
             notes: Notes::new(alloc),
@@ -100,6 +103,7 @@ impl Collected {
         ensures count { self.new.count ≡ self.old.count }
         ensures cell { self.new.cell ≡ self.old.cell }
         ensures procedures { self.new.procedures ≡ self.old.procedures }
+        ensures returns { self.new.returns ≡ self.old.returns }
     {
         if let Some(note) = more.effect.heading {
             self.headings.push(note)?;
@@ -123,6 +127,7 @@ impl Collected {
         ensures count { self.new.count ≡ self.old.count }
         ensures cell { self.new.cell ≡ self.old.cell }
         ensures procedures { self.new.procedures ≡ self.old.procedures }
+        ensures returns { self.new.returns ≡ self.old.returns }
     {
         let headings = self.headings.len();
         let (diags, answers) = (self.notes.diags.len(), self.notes.answers.len());
@@ -145,6 +150,9 @@ impl Collected {
         };
         let procedures = add_procedures(self.before.procedures, &more.rows)?;
         self.append(more)?;
+        if self.count == 0 {
+            self.returns = more.effect.result;
+        }
         self.count = count;
         self.before = Before {
             cell: more.effect.cell,

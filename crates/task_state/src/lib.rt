@@ -31,8 +31,11 @@ macro_rules! taken {
 mod collecting;
 mod declaring;
 mod items;
+mod outputs;
 mod stages;
+mod stating;
 mod stops;
 mod task;
+mod working;
 
 pub use task::{Task, Turn};

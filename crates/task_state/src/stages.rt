@@ -16,6 +16,8 @@ pub(crate) struct Begun {
     pub tree: Stream,
     pub layout: Layout,
     pub collected: Collected,
+    /// Whether the first cell of its variables is known.
+    pub placed: bool,
     /// Whether its scope is complete.
     pub closed: bool,
     pub stating: Option<Stating>,

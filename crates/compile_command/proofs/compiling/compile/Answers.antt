@@ -1,6 +1,7 @@
 use Rattle.std.proofs.Common.{ℕ, ◌⊎◌, subst}
 use Rattle.m2_io.specs.Causes.{Rose}
 use Rattle.compile_command.specs.Verdicts.{decision_of}
+use Rattle.compile_command.proofs.Answering.{answers_come}
 use Rattle.compile_command.proofs.Leaving.{has_its_object, keeps_but_object, leaves, on_err, prints_nothing, prints_part}
 use Rattle.compile_command.proofs.compiling.compile.Goals as goal
 
@@ -11,6 +12,11 @@ pub returns-clause-leaves : goal.returns-clause-leaves
 returns-clause-leaves g c =
     leaves (g.H.Shelf.holds c.args.shelf.now) c.args.name.now (g.P.Sink.written c.args.print.now) (decision_of c.in_ok-verdict.verdict) c.in_ok-verdict.ensures.decides (g.P.Sink.written c.deliver.new.print)
     (g.H.Shelf.holds c.judge.new.shelf) (g.H.Shelf.holds c.deliver.new.shelf) c.judge.ensures.holds c.deliver.result c.deliver.ensures.delivers
+
+pub returns-clause-answers : goal.returns-clause-answers
+returns-clause-answers g c =
+    answers_come (g.H.Shelf.holds c.args.shelf.now) (g.H.Shelf.holds c.judge.new.shelf) (g.H.Shelf.holds c.deliver.new.shelf) c.args.name.now (decision_of c.in_ok-verdict.verdict) (g.P.Sink.written c.args.print.now)
+    (g.P.Sink.written c.deliver.new.print) (λ files. c.one_outcome.ensures files c.args.name.now) c.in_ok-verdict.ensures.decides c.deliver.result c.deliver.ensures.delivers
 
 pub returns-clause-object : goal.returns-clause-object
 returns-clause-object g c =
