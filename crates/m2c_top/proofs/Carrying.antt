@@ -1,10 +1,11 @@
 -- What carrying out a command leaves.
-use Rattle.std.proofs.Common.{◌≡◌, ℕ, List, Option, Result, Ok, Err, Some, refl, sym, ◌∙◌, ap, subst, IfSome, IfOk, OnErr}
+use Rattle.std.proofs.Common.{◌≡◌, ◌↔◌, ℕ, List, Option, Result, Ok, Err, Some, refl, sym, ◌∙◌, ap, subst, IfSome, IfOk, OnErr}
 use Rattle.std.specs.Prelude.{IsErrOf}
 use Rattle.m2_io.specs.Files.{Files}
 use Rattle.m2_io.specs.Written.{WritesPart}
 use Rattle.command_words.specs.Command.{Command, compile, dump, run}
-use Rattle.compile_command.specs.Outcome.{Compiles, Leaves as CompileLeaves, Outcome as CompileOutcome, PrintsPart as CompilePart}
+use Rattle.compile_command.specs.Answers.{Comes}
+use Rattle.compile_command.specs.Outcome.{Compiles, Leaves as CompileLeaves, PrintsPart as CompilePart}
 use Rattle.compile_command.specs.declared.answer.Answer.{Answer as CompileAnswer}
 use Rattle.compile_command.specs.declared.answer.Stop.TheVariants as compile_stop
 use Rattle.compile_command.specs.declared.answer.Stop.{Stop as CompileStop}
@@ -14,15 +15,15 @@ use Rattle.object_commands.specs.Runs.{Runs}
 use Rattle.object_commands.specs.declared.answer.Answer.{Answer}
 use Rattle.object_commands.specs.declared.answer.Stop.TheVariants as object_stop
 use Rattle.object_commands.specs.declared.answer.Stop.{Stop as ObjectStop}
-use Rattle.m2c_top.specs.Effects.{Does, Effect, IsTold, Leaves, PrintsPart, compiles, dumps, runs}
+use Rattle.m2c_top.specs.Effects.{Does, Effect, IsTold, Leaves, OfCompiled, PrintsPart, compiles, dumps, runs}
 use Rattle.m2c_top.specs.Ending.{ended_compiling, ended_over}
-use Rattle.m2c_top.specs.Statuses.{status_after, status_compiled, status_number}
+use Rattle.m2c_top.specs.Statuses.{IsCompiledAs, status_after, status_compiled, status_number}
 use Rattle.m2c_top.specs.declared.ending.Stop.{Stop}
 use Rattle.m2c_top.specs.declared.ending.Stop.TheVariants as stop
 use Rattle.m2c_top.specs.declared.status.Status.{Status}
 use Rattle.m2c_top.proofs.Compiled.{files_told}
 use Rattle.m2c_top.proofs.OtherCommands.{compile_dump, compile_run, run_dump}
-use Rattle.m2c_top.proofs.Told.{map_told, some_same, tells, told}
+use Rattle.m2c_top.proofs.Told.{map_told, some_same, tells, told, told_all}
 
 -- what the work for a command leaves, and what it prints where it is given up
 module _ (holds after : Option Files) (old new before left : Option (List ℕ)) (r : Result Status Stop) where
@@ -48,6 +49,32 @@ writing_ended (Ok answer) e = cc
 writing_ended (Err compile_stop.Read) e = cc
 writing_ended (Err compile_stop.Write) e = refl
 writing_ended (Err compile_stop.Memory) e = cc
+
+-- the status of what is compiled, where it is
+module _ (holds : Option Files) where
+  abbrev pub ComesDone : Result Status Stop → Command → Type 0
+  ComesDone r command = IfOk r (λ status. IfSome holds (λ files. OfCompiled command (λ name. IsCompiledAs files name status)))
+
+  compiled_comes_so : (name : List ℕ) (r : Result CompileAnswer CompileStop) → IfOk r (λ answer. IfSome holds (λ files. (a : CompileAnswer) → (answer ≡ a) ↔ Comes files name a))
+      → IfOk (ended_compiling r) (λ status. IfSome holds (λ files. IsCompiledAs files name status))
+  compiled_comes_so name (Ok answer) comes =
+      map_told holds (λ files. (a : CompileAnswer) → (answer ≡ a) ↔ Comes files name a) (λ files. IsCompiledAs files name (status_compiled answer))
+      (λ files h. record { answer = answer; status_is = refl; comes = h }) comes
+  compiled_comes_so name (Err compile_stop.Read) comes = tt
+  compiled_comes_so name (Err compile_stop.Write) comes = tt
+  compiled_comes_so name (Err compile_stop.Memory) comes = tt
+
+  pub compiled_comes : (name : List ℕ) (workers : ℕ) (r : Result CompileAnswer CompileStop) (ended : Result Status Stop) → ended ≡ ended_compiling r
+      → IfOk r (λ answer. IfSome holds (λ files. (a : CompileAnswer) → (answer ≡ a) ↔ Comes files name a)) → ComesDone ended (compile name workers)
+  compiled_comes name workers r ended e comes = subst (λ x. ComesDone x (compile name workers)) (sym e) (compiled_comes_so name r comes)
+
+  pub ran_comes : (ended : Result Status Stop) (name : List ℕ) (steps cells : ℕ) → ComesDone ended (run name steps cells)
+  ran_comes (Ok status) name steps cells = told_all holds (λ files. Unit {0}) (λ files. tt)
+  ran_comes (Err s) name steps cells = tt
+
+  pub dumped_comes : (ended : Result Status Stop) (name : List ℕ) → ComesDone ended (dump name)
+  dumped_comes (Ok status) name = told_all holds (λ files. Unit {0}) (λ files. tt)
+  dumped_comes (Err s) name = tt
 
 module _ (holds : Option Files) (old new left : Option (List ℕ)) where
   -- ** Compiling

@@ -6,5 +6,4 @@ mod Named
 mod Obeying
 mod OneOutcome
 mod OtherCommands
-mod Table
 mod Told

@@ -1,13 +1,12 @@
 -- A module's name is an identifier, and short.
-use Rattle.std.proofs.Common.{◌≡◌, ℕ, ◌≤◌, Bool, true, false, ◌&&◌, ◌||◌, not, List, [], ◌∷◌, Option, Some, None, arith, length, refl, sym, ◌∙◌, ap, subst}
+use Rattle.std.proofs.Common.{◌≡◌, ℕ, ◌≤◌, Bool, true, false, ◌&&◌, ◌||◌, not, List, [], ◌∷◌, Option, Some, None, arith, length, refl, ◌∙◌}
 use Rattle.std.specs.List.{list_all}
 use Rattle.std.specs.Prelude.{codes, if◌then◌else◌, is_some, nat_le, IsTrue}
 use Rattle.std.specs.Str.{bytes_eq}
 use Rattle.std.proofs.lemmas.Bool.{and_parts, leb-true}
 use Rattle.m2_base.specs.Kinds.{kind_in, reserved_words}
-use Rattle.m2_base.specs.Lexemes.{continues}
 use Rattle.m2_base.specs.Letters.{goes_on, is_blank, is_letter}
-use Rattle.m2_base.specs.Meanings.{Meaning, blank, fixed_or, meaning_of, name}
+use Rattle.m2_base.specs.Meanings.{Meaning, blank, fixed_or, name}
 use Rattle.m2_base.specs.Units.{IsIdentifier}
 use Rattle.m2_base.specs.declared.kind.TokenKind.{TokenKind}
 use Rattle.command_words.specs.Names.{is_identifier, is_name}
@@ -50,7 +49,7 @@ name_identifier word h = go word (made word h)
         record {
           one = second (is_blank b) (is_letter b) (list_all is_blank bs) (list_all goes_on bs) _ apart parts.0 ∙ parts.1;
           spells = second (is_blank b) (is_letter b) blank (fixed_or (kind_in reserved_words (b ∷ bs)) (name (b ∷ bs))) _ apart parts.0
-          ∙ unreserved (kind_in reserved_words (b ∷ bs)) (bytes_eq (b ∷ bs) (codes "InOut")) (name (b ∷ bs)) m.free;
+              ∙ unreserved (kind_in reserved_words (b ∷ bs)) (bytes_eq (b ∷ bs) (codes "InOut")) (name (b ∷ bs)) m.free;
         }
 
 pub name_short : (word : List ℕ) → IsTrue (is_name word) → length word ≤ 1048576

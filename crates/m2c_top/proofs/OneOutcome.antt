@@ -12,7 +12,6 @@ use Rattle.m2c_top.specs.Effects.{Does, Effect, Gives, commanded, compiles, dump
 use Rattle.m2c_top.specs.Statuses.{status_after, status_compiled}
 use Rattle.m2c_top.specs.declared.status.Status.TheVariants.{NoCommand}
 use Rattle.m2c_top.proofs.OtherCommands.{compile_dump, compile_run, run_dump}
-use Rattle.m2c_top.proofs.Table.{IsOneCompiled}
 use Rattle.m2c_top.proofs.Told.{some_same}
 
 -- what is left of an outcome of compiling
@@ -25,7 +24,7 @@ same_effect left o p these those e a b =
     ap (λ (x : CompileOutcome). compiled_effect x these left) e
     ∙ ap (λ (x : Files). compiled_effect p x left) (some_same these those (sym a ∙ ap (λ (x : CompileOutcome). x.files) e ∙ b))
 
-module _ (one_compiled : IsOneCompiled) where
+module _ (one_compiled : (files : Files) (name : List ℕ) (these those : CompileOutcome) → Compiles (Some files) name these → Compiles (Some files) name those → these ≡ those) where
   -- a command leaves one thing
   one_doing : (files : Files) (left : Option (List ℕ)) (command same : Command) (these those : Effect) → command ≡ same → Does files left command these → Does files left same those → these ≡ those
   one_doing files left command same these those e (compiles name workers o after h there) d = go same those e d

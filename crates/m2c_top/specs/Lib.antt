@@ -1,4 +1,3 @@
 pub mod Effects
 pub mod Ending
-pub mod Rows
 pub mod Statuses

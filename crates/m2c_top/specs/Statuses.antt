@@ -1,8 +1,10 @@
 -- The statuses, and when one is answered.
-use Rattle.std.specs.Prelude.{◌≡◌, ◌⊎◌, ℕ}
+use Rattle.std.specs.Prelude.{◌≡◌, ◌↔◌, ◌⊎◌, ℕ, List}
 use Rattle.command_words.specs.Command.{Command, compile}
+use Rattle.compile_command.specs.Answers.{Comes}
 use Rattle.compile_command.specs.declared.answer.Answer.{Answer as CompileAnswer}
 use Rattle.compile_command.specs.declared.answer.Answer.TheVariants as compiling
+use Rattle.m2_io.specs.Files.{Files}
 use Rattle.object_commands.specs.declared.answer.Answer.{Answer as ObjectAnswer}
 use Rattle.object_commands.specs.declared.answer.Answer.TheVariants as objects
 use Rattle.m2c_top.specs.declared.status.Status.{Status}
@@ -50,6 +52,12 @@ status_after objects.StepsSpent = StepsSpent
 abbrev pub Answers : Command → Status → Type 0
 Answers (compile name workers) status = (answer : CompileAnswer) × (status ≡ status_compiled answer)
 Answers _ status = (answer : ObjectAnswer) × (status ≡ status_after answer)
+
+-- the status of compiling this module is that of the answer which comes by the files
+pub record IsCompiledAs (files : Files) (name : List ℕ) (status : Status) : Type 0 where
+  pub answer : CompileAnswer
+  pub status_is : status ≡ status_compiled answer
+  pub comes : (other : CompileAnswer) → (answer ≡ other) ↔ Comes files name other
 
 -- The status is the wanted one exactly where the fact holds. Faults and want of memory come before it.
 pub record Exactly (status wanted : ℕ) (fact : Type 0) : Type 0 where

@@ -1,18 +1,19 @@
 //! The top call.
 ghost use Rattle.std.specs.Prelude.{◌≡◌, ◌⊎◌, IfErr, List, Option, map, string_bytes, IfOk, OnOk, OnErr, IsErrOf, IfSome};
 ghost use Rattle.command_words.specs.Command.{IsNoCommand, IsSound, command_of};
+ghost use Rattle.compile_command.specs.Answers.{Comes};
+ghost use Rattle.compile_command.specs.declared.answer.Answer.TheVariants.{Diagnosed, Done, NoText, OverLimit};
 ghost use Rattle.compile_command.specs.Outcome.{HasObject, KeepsButObject};
 ghost use Rattle.m2_io.specs.Causes.{Rose};
 ghost use Rattle.m2_io.specs.Written.{with_bytes, WritesPart};
 ghost use Rattle.m2c_top.specs.Ending.{IsWellEnded};
 ghost use Rattle.m2c_top.specs.Effects.{AsksToCompile, AsksToRun, Does, Gives, HasInput, IsToCompile, IsToRun, IsTold, Leaves, OfCompiled, PrintsPart, ToCompile, usage};
-ghost use Rattle.m2c_top.specs.Rows.{HasDiagnostics, IsCompiled, LacksText, PassesLimit};
-ghost use Rattle.m2c_top.specs.Statuses.{status_number, IsFault, IsStatus, Answers, Exactly};
+ghost use Rattle.m2c_top.specs.Statuses.{Answers, Exactly, IsCompiledAs, IsFault, IsStatus, status_number};
 
 use crate::ending::{Stop, ended, ended_compiling, status_of};
 use crate::status::Status;
 use command_words::{Command, read_command};
-use compile_command::{compile, one_outcome};
+use compile_command::compile;
 use m2_io::{Gate, Shelf, Sink, Source, write_all};
 use object_commands::{Settings, dump, run};
 use std::alloc::Global;
@@ -49,6 +50,7 @@ fn carry_out<H: Shelf, P: Sink, K: Source>(
     ensures prints { OnErr result (IfSome (H.holds shelf.old) (λ files. IsTold (K.left keys.old) (command_of command.now) →
         PrintsPart (Does files (K.left keys.old) (command_of command.now)) (P.written print.old) (P.written print.new))) }
     ensures answer { IfOk result (Answers (command_of command.now)) }
+    ensures comes { IfOk result (λ status. IfSome (H.holds shelf.old) (λ files. OfCompiled (command_of command.now) (λ name. IsCompiledAs files name status))) }
     ensures object { IfOk result (λ status. status ≡ Status.Done → OfCompiled (command_of command.now) (λ name. IfSome (H.holds shelf.new) (HasObject name))) }
 
     // The files stay, but where a module is compiled: there its object is put, or a part of it where putting failed.
@@ -90,6 +92,7 @@ fn obey<H: Shelf, P: Sink, K: Source>(
     ensures prints { OnErr result (IfSome (H.holds shelf.old) (λ files. HasInput (map string_bytes words.now) (K.left keys.old) →
         PrintsPart (Gives (map string_bytes words.now) files (K.left keys.old)) (P.written print.old) (P.written print.new))) }
     ensures status { IfOk result (IsWellEnded (map string_bytes words.now)) }
+    ensures comes { IfOk result (λ status. IfSome (H.holds shelf.old) (λ files. ToCompile (map string_bytes words.now) (λ name. IsCompiledAs files name status))) }
     ensures object { IfOk result (λ status. status ≡ Status.Done → ToCompile (map string_bytes words.now) (λ name. IfSome (H.holds shelf.new) (HasObject name))) }
     ensures kept { IfOk result (λ status. (status ≡ Status.Done → ⊥) → H.holds shelf.new ≡ H.holds shelf.old) }
     ensures unread { IsErrOf result Stop.Read → H.holds shelf.new ≡ H.holds shelf.old }
@@ -128,10 +131,10 @@ pub fn m2c<R, H: Shelf, P: Sink, K: Source, G: Gate>(
 
     // When each status comes.
     ensures no_command { Exactly result 2 (IsNoCommand (map string_bytes words.now)) }
-    ensures no_text { IfSome (H.holds shelf.old) (λ files. ToCompile (map string_bytes words.now) (λ name. Exactly result 3 (LacksText name files))) }
-    ensures done { IfSome (H.holds shelf.old) (λ files. ToCompile (map string_bytes words.now) (λ name. Exactly result 0 (IsCompiled name files))) }
-    ensures refused { IfSome (H.holds shelf.old) (λ files. ToCompile (map string_bytes words.now) (λ name. Exactly result 1 (HasDiagnostics name files))) }
-    ensures limits { IfSome (H.holds shelf.old) (λ files. ToCompile (map string_bytes words.now) (λ name. Exactly result 7 (PassesLimit name files))) }
+    ensures no_text { IfSome (H.holds shelf.old) (λ files. ToCompile (map string_bytes words.now) (λ name. Exactly result 3 (Comes files name NoText))) }
+    ensures done { IfSome (H.holds shelf.old) (λ files. ToCompile (map string_bytes words.now) (λ name. Exactly result 0 (Comes files name Done))) }
+    ensures refused { IfSome (H.holds shelf.old) (λ files. ToCompile (map string_bytes words.now) (λ name. Exactly result 1 (Comes files name Diagnosed))) }
+    ensures limits { IfSome (H.holds shelf.old) (λ files. ToCompile (map string_bytes words.now) (λ name. Exactly result 7 (Comes files name OverLimit))) }
     ensures read { result ≡ 4 → Rose (H.faults shelf.old) (H.faults shelf.new) ⊎ AsksToRun (map string_bytes words.now) × Rose (K.faults keys.old) (K.faults keys.new) }
     ensures write { result ≡ 5 → Rose (P.faults print.old) (P.faults print.new) ⊎ AsksToCompile (map string_bytes words.now) (λ name. Rose (H.put_faults shelf.old) (H.put_faults shelf.new)) }
     ensures status { IsStatus result }
@@ -146,6 +149,5 @@ pub fn m2c<R, H: Shelf, P: Sink, K: Source, G: Gate>(
     ensures others { (H.holds shelf.new ≡ H.holds shelf.old) ⊎ AsksToCompile (map string_bytes words.now) (λ name. Unit {0}) }
     ensures keys { (keys.new ≡ keys.old) ⊎ AsksToRun (map string_bytes words.now) }
 {
-    one_outcome();
     status_of(obey(alloc, words, shelf, print, keys)).number()
 }

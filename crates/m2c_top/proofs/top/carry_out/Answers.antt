@@ -4,7 +4,7 @@ use Rattle.command_words.specs.Command.{IsSound, command_of}
 use Rattle.compile_command.specs.Outcome.{KeepsButObject}
 use Rattle.m2c_top.specs.Effects.{IsToCompile}
 use Rattle.m2c_top.specs.declared.ending.Stop.TheVariants as stop
-use Rattle.m2c_top.proofs.Carrying.{LeavesDone, PrintsDone, compiled_leaves, compiled_prints, dumped_leaves, dumped_prints, ran_leaves, ran_prints, writing_ended}
+use Rattle.m2c_top.proofs.Carrying.{ComesDone, LeavesDone, PrintsDone, compiled_comes, compiled_leaves, compiled_prints, dumped_comes, dumped_leaves, dumped_prints, ran_comes, ran_leaves, ran_prints, writing_ended}
 use Rattle.m2c_top.proofs.Named.{name_identifier}
 use Rattle.m2c_top.proofs.top.carry_out.Goals as goal
 
@@ -37,6 +37,22 @@ returns-in-Compile-clause-prints g c =
     let left = g.K.Source.left c.args.keys.now in
     subst (PrintsDone holds after old new left left c.ended_compiling.result) (ap command_of (sym c.in-Compile.is))
     (compiled_prints holds old new left c.in-Compile.name.now c.in-Compile.workers c.compile.result c.ended_compiling.result c.ended_compiling.ensures c.compile.ensures.prints)
+
+pub returns-in-Compile-clause-comes : goal.returns-in-Compile-clause-comes
+returns-in-Compile-clause-comes g c =
+    let holds = g.H.Shelf.holds c.args.shelf.now in
+    subst (ComesDone holds c.ended_compiling.result) (ap command_of (sym c.in-Compile.is))
+    (compiled_comes holds c.in-Compile.name.now c.in-Compile.workers c.compile.result c.ended_compiling.result c.ended_compiling.ensures c.compile.ensures.answers)
+
+pub returns-in-Run-clause-comes : goal.returns-in-Run-clause-comes
+returns-in-Run-clause-comes g c =
+    let holds = g.H.Shelf.holds c.args.shelf.now in
+    subst (ComesDone holds c.ended.result) (ap command_of (sym c.in-Run.is)) (ran_comes holds c.ended.result c.in-Run.name.now c.in-Run.steps c.in-Run.cells)
+
+pub returns-in-Dump-clause-comes : goal.returns-in-Dump-clause-comes
+returns-in-Dump-clause-comes g c =
+    let holds = g.H.Shelf.holds c.args.shelf.now in
+    subst (ComesDone holds c.ended-in-Dump.result) (ap command_of (sym c.in-Dump.is)) (dumped_comes holds c.ended-in-Dump.result c.in-Dump.name.now)
 
 pub returns-in-Run-clause-leaves : goal.returns-in-Run-clause-leaves
 returns-in-Run-clause-leaves g c =
