@@ -1,23 +1,29 @@
 -- What carrying out a command leaves.
-use Rattle.std.proofs.Common.{◌≡◌, ℕ, List, Option, Result, Ok, Err, Some, refl, sym, ◌∙◌, ap, subst, IfSome, IfOk, OnErr}
+use Rattle.std.proofs.Common.{◌≡◌, ◌↔◌, ℕ, List, Option, Result, Ok, Err, Some, refl, sym, ◌∙◌, ap, subst, IfSome, IfOk, OnErr}
+use Rattle.std.specs.Prelude.{IsErrOf}
 use Rattle.m2_io.specs.Files.{Files}
 use Rattle.m2_io.specs.Written.{WritesPart}
 use Rattle.command_words.specs.Command.{Command, compile, dump, run}
+use Rattle.compile_command.specs.Answers.{Comes}
+use Rattle.compile_command.specs.Outcome.{Compiles, Leaves as CompileLeaves, PrintsPart as CompilePart}
+use Rattle.compile_command.specs.declared.answer.Answer.{Answer as CompileAnswer}
+use Rattle.compile_command.specs.declared.answer.Stop.TheVariants as compile_stop
+use Rattle.compile_command.specs.declared.answer.Stop.{Stop as CompileStop}
 use Rattle.object_commands.specs.Dumps.{Dumps}
 use Rattle.object_commands.specs.Outcomes.{Leaves as RunLeaves, LeavesPart, Prints, PrintsPart as DumpPart}
 use Rattle.object_commands.specs.Runs.{Runs}
 use Rattle.object_commands.specs.declared.answer.Answer.{Answer}
 use Rattle.object_commands.specs.declared.answer.Stop.TheVariants as object_stop
 use Rattle.object_commands.specs.declared.answer.Stop.{Stop as ObjectStop}
-use Rattle.m2c_top.specs.Effects.{Does, Effect, IsTold, Leaves, PrintsPart, compiles, dumps, runs}
-use Rattle.m2c_top.specs.Ending.{ended_over}
-use Rattle.m2c_top.specs.Outcome.{Compiles, Leaves as CompileLeaves, PrintsPart as CompilePart}
-use Rattle.m2c_top.specs.Statuses.{status_after, status_number}
+use Rattle.m2c_top.specs.Effects.{Does, Effect, IsTold, Leaves, OfCompiled, PrintsPart, compiles, dumps, runs}
+use Rattle.m2c_top.specs.Ending.{ended_compiling, ended_over}
+use Rattle.m2c_top.specs.Statuses.{IsCompiledAs, status_after, status_compiled, status_number}
+use Rattle.m2c_top.specs.declared.ending.Stop.{Stop}
+use Rattle.m2c_top.specs.declared.ending.Stop.TheVariants as stop
 use Rattle.m2c_top.specs.declared.status.Status.{Status}
-use Rattle.m2c_top.specs.declared.top.Stop.{Stop}
+use Rattle.m2c_top.proofs.Compiled.{files_told}
 use Rattle.m2c_top.proofs.OtherCommands.{compile_dump, compile_run, run_dump}
-use Rattle.m2c_top.proofs.Outcomes.{some_same, tells, told}
-use Rattle.m2c_top.proofs.Table.{map_told}
+use Rattle.m2c_top.proofs.Told.{map_told, some_same, tells, told, told_all}
 
 -- what the work for a command leaves, and what it prints where it is given up
 module _ (holds after : Option Files) (old new before left : Option (List ℕ)) (r : Result Status Stop) where
@@ -32,34 +38,87 @@ err_ended object_stop.Read P p = p
 err_ended object_stop.Write P p = p
 err_ended object_stop.Memory P p = p
 
+compiling_ended : (s : CompileStop) (P : Type 0) → P → OnErr (ended_compiling (Err s)) P
+compiling_ended compile_stop.Read P p = p
+compiling_ended compile_stop.Write P p = p
+compiling_ended compile_stop.Memory P p = p
+
+-- where writing failed, it failed while compiling
+pub writing_ended : (r : Result CompileAnswer CompileStop) → IsErrOf (ended_compiling r) stop.Write → IsErrOf r compile_stop.Write
+writing_ended (Ok answer) e = cc
+writing_ended (Err compile_stop.Read) e = cc
+writing_ended (Err compile_stop.Write) e = refl
+writing_ended (Err compile_stop.Memory) e = cc
+
+-- the status of what is compiled, where it is
+module _ (holds : Option Files) where
+  abbrev pub ComesDone : Result Status Stop → Command → Type 0
+  ComesDone r command = IfOk r (λ status. IfSome holds (λ files. OfCompiled command (λ name. IsCompiledAs files name status)))
+
+  compiled_comes_so : (name : List ℕ) (r : Result CompileAnswer CompileStop) → IfOk r (λ answer. IfSome holds (λ files. (a : CompileAnswer) → (answer ≡ a) ↔ Comes files name a))
+      → IfOk (ended_compiling r) (λ status. IfSome holds (λ files. IsCompiledAs files name status))
+  compiled_comes_so name (Ok answer) comes =
+      map_told holds (λ files. (a : CompileAnswer) → (answer ≡ a) ↔ Comes files name a) (λ files. IsCompiledAs files name (status_compiled answer))
+      (λ files h. record { answer = answer; status_is = refl; comes = h }) comes
+  compiled_comes_so name (Err compile_stop.Read) comes = tt
+  compiled_comes_so name (Err compile_stop.Write) comes = tt
+  compiled_comes_so name (Err compile_stop.Memory) comes = tt
+
+  pub compiled_comes : (name : List ℕ) (workers : ℕ) (r : Result CompileAnswer CompileStop) (ended : Result Status Stop) → ended ≡ ended_compiling r
+      → IfOk r (λ answer. IfSome holds (λ files. (a : CompileAnswer) → (answer ≡ a) ↔ Comes files name a)) → ComesDone ended (compile name workers)
+  compiled_comes name workers r ended e comes = subst (λ x. ComesDone x (compile name workers)) (sym e) (compiled_comes_so name r comes)
+
+  pub ran_comes : (ended : Result Status Stop) (name : List ℕ) (steps cells : ℕ) → ComesDone ended (run name steps cells)
+  ran_comes (Ok status) name steps cells = told_all holds (λ files. Unit {0}) (λ files. tt)
+  ran_comes (Err s) name steps cells = tt
+
+  pub dumped_comes : (ended : Result Status Stop) (name : List ℕ) → ComesDone ended (dump name)
+  dumped_comes (Ok status) name = told_all holds (λ files. Unit {0}) (λ files. tt)
+  dumped_comes (Err s) name = tt
+
 module _ (holds : Option Files) (old new left : Option (List ℕ)) where
   -- ** Compiling
 
   module _ (name : List ℕ) (workers : ℕ) where
-    pub compiled_leaves : (after : Option Files) (r : Result Status Stop) → IfOk r (λ status. IfSome holds (λ files. CompileLeaves (Compiles name files) (status_number status) after old new))
-        → IfOk r (λ status. IfSome holds (λ files. IsTold left (compile name workers) → Leaves (Does files left (compile name workers)) (status_number status) after old new left))
-    compiled_leaves after (Ok status) leaves = map_told holds _ (λ files. IsTold left (compile name workers) → Leaves (Does files left (compile name workers)) (status_number status) after old new left) (λ files l t. record {
-      effect = record { status = l.outcome.status; printed = l.outcome.printed; files = l.outcome.files; left = left };
-      is_given = compiles name workers l.outcome l.is_given;
-      status_is = l.status_is;
-      files_are = l.files_are;
-      printed_is = l.printed_is;
-      left_is = refl;
-    }) leaves
-    compiled_leaves after (Err s) leaves = tt
+    compiled_so : (after : Option Files) (r : Result CompileAnswer CompileStop) → IfOk r (λ answer. CompileLeaves (Compiles holds name) answer after old new)
+        → IfOk (ended_compiling r) (λ status. IfSome holds (λ files. IsTold left (compile name workers) → Leaves (Does files left (compile name workers)) (status_number status) after old new left))
+    compiled_so after (Ok answer) l = told holds (λ files has t.
+        let given : Compiles (Some files) name l.outcome = subst (λ h. Compiles h name l.outcome) has l.is_given in
+        let there = files_told files name l.outcome given in
+        record {
+          effect = record { status = status_compiled l.outcome.answer; printed = l.outcome.printed; files = there.0; left = left };
+          is_given = compiles name workers l.outcome there.0 given there.1;
+          status_is = ap (λ a. status_number (status_compiled a)) l.answer_is;
+          files_are = l.files_are ∙ there.1;
+          printed_is = l.printed_is;
+          left_is = refl;
+        })
+    compiled_so after (Err compile_stop.Read) leaves = tt
+    compiled_so after (Err compile_stop.Write) leaves = tt
+    compiled_so after (Err compile_stop.Memory) leaves = tt
 
-    compiled_part : (files : Files) (command : Command) (effect : Effect) → compile name workers ≡ command → CompilePart (Compiles name files) old new → Does files left command effect → WritesPart old effect.printed new
-    compiled_part files command effect e part (compiles n w o h) =
+    pub compiled_leaves : (after : Option Files) (r : Result CompileAnswer CompileStop) (ended : Result Status Stop) → ended ≡ ended_compiling r → IfOk r (λ answer. CompileLeaves (Compiles holds name) answer after old new)
+        → IfOk ended (λ status. IfSome holds (λ files. IsTold left (compile name workers) → Leaves (Does files left (compile name workers)) (status_number status) after old new left))
+    compiled_leaves after r ended e leaves =
+        subst (λ x. IfOk x (λ status. IfSome holds (λ files. IsTold left (compile name workers) → Leaves (Does files left (compile name workers)) (status_number status) after old new left))) (sym e)
+        (compiled_so after r leaves)
+
+    compiled_part : (files : Files) (command : Command) (effect : Effect) → compile name workers ≡ command → CompilePart (Compiles (Some files) name) old new → Does files left command effect → WritesPart old effect.printed new
+    compiled_part files command effect e part (compiles n w o after h there) =
         let same : n ≡ name = cc in
-        part o (subst (λ x. Compiles x files o) same h)
+        part o (subst (λ x. Compiles (Some files) x o) same h)
     compiled_part files command effect e part (runs n steps cells input o t h) = absurd (compile_run name workers n steps cells e)
     compiled_part files command effect e part (dumps n printed answer h) = absurd (compile_dump name workers n e)
 
-    pub compiled_prints : (r : Result Status Stop) → OnErr r (IfSome holds (λ files. CompilePart (Compiles name files) old new))
-        → OnErr r (IfSome holds (λ files. IsTold left (compile name workers) → PrintsPart (Does files left (compile name workers)) old new))
-    compiled_prints (Ok status) prints = tt
-    compiled_prints (Err s) prints = map_told holds _ (λ files. IsTold left (compile name workers) → PrintsPart (Does files left (compile name workers)) old new)
-        (λ files p t effect does. compiled_part files (compile name workers) effect refl p does) prints
+    pub compiled_prints : (r : Result CompileAnswer CompileStop) (ended : Result Status Stop) → ended ≡ ended_compiling r → OnErr r (IfSome holds (λ files. CompilePart (Compiles (Some files) name) old new))
+        → OnErr ended (IfSome holds (λ files. IsTold left (compile name workers) → PrintsPart (Does files left (compile name workers)) old new))
+    compiled_prints r ended e part = subst (λ x. OnErr x (IfSome holds (λ files. IsTold left (compile name workers) → PrintsPart (Does files left (compile name workers)) old new))) (sym e) (go r part)
+      where
+        go : (r : Result CompileAnswer CompileStop) → OnErr r (IfSome holds (λ files. CompilePart (Compiles (Some files) name) old new))
+            → OnErr (ended_compiling r) (IfSome holds (λ files. IsTold left (compile name workers) → PrintsPart (Does files left (compile name workers)) old new))
+        go (Ok answer) part = tt
+        go (Err s) part = compiling_ended s _ (map_told holds _ (λ files. IsTold left (compile name workers) → PrintsPart (Does files left (compile name workers)) old new)
+            (λ files p t effect does. compiled_part files (compile name workers) effect refl p does) part)
 
   -- ** Running
 
@@ -90,7 +149,7 @@ module _ (holds : Option Files) (old new left : Option (List ℕ)) where
 
     ran_part : (files : Files) (command : Command) (effect : Effect) (input : List ℕ) → run name steps cells ≡ command → left ≡ Some input → LeavesPart (Runs (Some files) name steps cells input) old new
         → Does files left command effect → WritesPart old effect.printed new
-    ran_part files command effect input e t part (compiles n w o h) = absurd (compile_run n w name steps cells (sym e))
+    ran_part files command effect input e t part (compiles n w o after h there) = absurd (compile_run n w name steps cells (sym e))
     ran_part files command effect input e t part (runs n s c i o u h) =
         let is : n ≡ name = cc in
         let most : s ≡ steps = cc in
@@ -132,7 +191,7 @@ module _ (holds : Option Files) (old new left : Option (List ℕ)) where
         subst (λ x. IfOk x (λ status. IfSome holds (λ files. IsTold left (dump name) → Leaves (Does files left (dump name)) (status_number status) after old new left))) (sym e) (dumped_so after r same leaves)
 
     dumped_part : (files : Files) (command : Command) (effect : Effect) → dump name ≡ command → DumpPart (Dumps (Some files) name) old new → Does files left command effect → WritesPart old effect.printed new
-    dumped_part files command effect e part (compiles n w o h) = absurd (compile_dump n w name (sym e))
+    dumped_part files command effect e part (compiles n w o after h there) = absurd (compile_dump n w name (sym e))
     dumped_part files command effect e part (runs n s c i o u h) = absurd (run_dump n s c name (sym e))
     dumped_part files command effect e part (dumps n printed answer h) =
         let same : n ≡ name = cc in

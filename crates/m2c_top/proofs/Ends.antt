@@ -1,19 +1,22 @@
 -- What the end of the work says of the status.
-use Rattle.std.proofs.Common.{◌≡◌, ◌⊎◌, inl, inr, ℕ, List, Option, Some, None, Result, Ok, Err, refl, sym, ap, subst, arith, IfSome, IfOk, OnErr}
+use Rattle.std.proofs.Common.{◌≡◌, ◌⊎◌, ◌∙◌, ◌==◌, inl, inr, ℕ, List, Option, Result, Ok, Err, if◌then◌else◌, refl, sym, ap, subst, arith, IfSome, IfOk, OnErr}
 use Rattle.std.specs.Prelude.{IsErrOf}
 use Rattle.m2_io.specs.Files.{Files}
 use Rattle.command_words.specs.Command.{Command, IsNoCommand, compile, dump, run}
-use Rattle.object_commands.specs.declared.answer.Answer.{Answer}
-use Rattle.object_commands.specs.declared.answer.Answer.TheVariants as answer
+use Rattle.compile_command.specs.Answers.{Comes}
+use Rattle.compile_command.specs.declared.answer.Answer.{Answer as CompileAnswer}
+use Rattle.compile_command.specs.declared.answer.Answer.TheVariants as compiling
+use Rattle.object_commands.specs.declared.answer.Answer.{Answer as ObjectAnswer}
+use Rattle.object_commands.specs.declared.answer.Answer.TheVariants as objects
 use Rattle.m2c_top.specs.Ending.{IsWellEnded, ended_as}
 use Rattle.m2c_top.specs.Effects.{Gives, HasInput, Leaves, ToCompile}
-use Rattle.m2c_top.specs.Statuses.{Answers, Exactly, IsAnswer, IsFault, IsStatus, status_after, status_number}
+use Rattle.m2c_top.specs.Statuses.{Answers, Exactly, IsCompiledAs, IsFault, IsStatus, status_after, status_compiled, status_number}
 use Rattle.m2c_top.specs.declared.status.Status.{Status}
-use Rattle.m2c_top.specs.declared.status.Status.TheVariants.{Done, Diagnosed, NoCommand, NoText, NoObject, ReadFault, WriteFault, NoMemory, OverLimit, BadObjects, Trapped, StepsSpent, NotBuilt}
-use Rattle.m2c_top.specs.declared.top.Stop.{Stop}
-use Rattle.m2c_top.specs.declared.top.Stop.TheVariants as stop
-use Rattle.m2c_top.proofs.Asking.{asks_none, compiling_told}
-use Rattle.m2c_top.proofs.Table.{RowOf, left_exactly, map_told}
+use Rattle.m2c_top.specs.declared.status.Status.TheVariants.{Done, Diagnosed, NoCommand, NoText, NoObject, ReadFault, WriteFault, NoMemory, OverLimit, BadObjects, Trapped, StepsSpent}
+use Rattle.m2c_top.specs.declared.ending.Stop.{Stop}
+use Rattle.m2c_top.specs.declared.ending.Stop.TheVariants as stop
+use Rattle.m2c_top.proofs.Asking.{asks_none}
+use Rattle.m2c_top.proofs.Told.{map_told, told_all}
 
 -- the number that the work ends with
 abbrev pub number_of : Result Status Stop → ℕ
@@ -31,48 +34,33 @@ faulty status wanted P fault other = record {
   always = λ p. inr fault;
 }
 
-told_all : (holds : Option Files) (P : Files → Type 0) → ((files : Files) → P files) → IfSome holds P
-told_all None P h = tt
-told_all (Some files) P h = h files
-
 module _ (words : List (List ℕ)) (holds after : Option Files) (old new before left : Option (List ℕ)) where
   pub ends_leaving : (r : Result Status Stop) → IfOk r (λ status. IfSome holds (λ files. HasInput words before → Leaves (Gives words files before) (status_number status) after old new left))
       → IsFault (number_of r) ⊎ IfSome holds (λ files. HasInput words before → Leaves (Gives words files before) (number_of r) after old new left)
   ends_leaving (Ok status) leaves = inr leaves
   ends_leaving (Err s) leaves = inl (stop_fault s)
 
-  pub ends_exactly : (wanted : ℕ) (fact : List ℕ → Files → Type 0) → RowOf wanted fact → (r : Result Status Stop)
-      → IfOk r (λ status. IfSome holds (λ files. HasInput words before → Leaves (Gives words files before) (status_number status) after old new left))
-      → IfSome holds (λ files. ToCompile words (λ name. Exactly (number_of r) wanted (fact name files)))
-  ends_exactly wanted fact row (Ok status) leaves =
-      map_told holds _ (λ files. ToCompile words (λ name. Exactly (status_number status) wanted (fact name files)))
-      (λ files l name workers asks. left_exactly words files wanted fact row (status_number status) before left after old new (l (compiling_told words before name workers asks)) name workers asks) leaves
-  ends_exactly wanted fact row (Err s) leaves =
-      told_all holds (λ files. ToCompile words (λ name. Exactly (number_of (Err s)) wanted (fact name files)))
-      (λ files name workers asks. faulty (number_of (Err s)) wanted (fact name files) (stop_fault s) (λ f. row.other (inr f)))
-
 -- the statuses without a fault, but for that of no command
 abbrev pub IsAnswered : ℕ → Type 0
-IsAnswered n = (n ≡ 0) ⊎ (n ≡ 1) ⊎ (n ≡ 3) ⊎ (n ≡ 7) ⊎ (n ≡ 8) ⊎ (n ≡ 9) ⊎ (n ≡ 10) ⊎ (n ≡ 11)
+IsAnswered n = (n ≡ 0) ⊎ (n ≡ 1) ⊎ (n ≡ 3) ⊎ (n ≡ 7) ⊎ (n ≡ 8) ⊎ (n ≡ 9) ⊎ (n ≡ 10)
 
-object_number : (a : Answer) → IsAnswered (status_number (status_after a))
-object_number answer.Done = inl refl
-object_number answer.NoObject = inr (inr (inl refl))
-object_number answer.OverLimit = inr (inr (inr (inl refl)))
-object_number answer.BadObjects = inr (inr (inr (inr (inl refl))))
-object_number answer.Trapped = inr (inr (inr (inr (inr (inl refl)))))
-object_number answer.StepsSpent = inr (inr (inr (inr (inr (inr (inl refl))))))
+compiled_number : (a : CompileAnswer) → IsAnswered (status_number (status_compiled a))
+compiled_number compiling.Done = inl refl
+compiled_number compiling.Diagnosed = inr (inl refl)
+compiled_number compiling.NoText = inr (inr (inl refl))
+compiled_number compiling.OverLimit = inr (inr (inr (inl refl)))
 
-answer_number : (status : Status) → IsAnswer status → IsAnswered (status_number status)
-answer_number status (inl e) = inl (ap status_number e)
-answer_number status (inr (inl e)) = inr (inl (ap status_number e))
-answer_number status (inr (inr (inl e))) = inr (inr (inl (ap status_number e)))
-answer_number status (inr (inr (inr (inl e)))) = inr (inr (inr (inl (ap status_number e))))
-answer_number status (inr (inr (inr (inr e)))) = inr (inr (inr (inr (inr (inr (inr (ap status_number e)))))))
+object_number : (a : ObjectAnswer) → IsAnswered (status_number (status_after a))
+object_number objects.Done = inl refl
+object_number objects.NoObject = inr (inr (inl refl))
+object_number objects.OverLimit = inr (inr (inr (inl refl)))
+object_number objects.BadObjects = inr (inr (inr (inr (inl refl))))
+object_number objects.Trapped = inr (inr (inr (inr (inr (inl refl)))))
+object_number objects.StepsSpent = inr (inr (inr (inr (inr (inr refl)))))
 
 -- the number of what a command answers
 answers_number : (command : Command) (status : Status) → Answers command status → IsAnswered (status_number status)
-answers_number (compile name workers) status a = answer_number status a
+answers_number (compile name workers) status a = subst (λ s. IsAnswered (status_number s)) (sym a.1) (compiled_number a.0)
 answers_number (run name steps cells) status a = subst (λ s. IsAnswered (status_number s)) (sym a.1) (object_number a.0)
 answers_number (dump name) status a = subst (λ s. IsAnswered (status_number s)) (sym a.1) (object_number a.0)
 
@@ -80,11 +68,45 @@ well_number : (words : List (List ℕ)) (status : Status) → IsWellEnded words 
 well_number words status (inl p) = inl (answers_number p.0 status p.2)
 well_number words status (inr p) = inr (ap status_number p.0)
 
+no_fault : (n : ℕ) → IsAnswered n ⊎ (n ≡ 2) → IsFault n → ⊥
+no_fault n a f = grind arith
+
 well_is_no_fault : (words : List (List ℕ)) (status : Status) → IsWellEnded words status → IsFault (status_number status) → ⊥
-well_is_no_fault words status well fault = clash (status_number status) (well_number words status well) fault
-  where
-    clash : (n : ℕ) → IsAnswered n ⊎ (n ≡ 2) → IsFault n → ⊥
-    clash n a f = grind arith
+well_is_no_fault words status well fault = no_fault (status_number status) (well_number words status well) fault
+
+-- ** Of compiling
+
+-- the number of an answer tells it
+abbrev answer_numbered : ℕ → CompileAnswer
+answer_numbered n = if n == 0 then compiling.Done else (if n == 1 then compiling.Diagnosed else (if n == 3 then compiling.NoText else compiling.OverLimit))
+
+told_by_number : (a : CompileAnswer) → answer_numbered (status_number (status_compiled a)) ≡ a
+told_by_number compiling.Done = refl
+told_by_number compiling.Diagnosed = refl
+told_by_number compiling.NoText = refl
+told_by_number compiling.OverLimit = refl
+
+same_answer : (a b : CompileAnswer) → status_number (status_compiled a) ≡ status_number (status_compiled b) → a ≡ b
+same_answer a b e = sym (told_by_number a) ∙ ap answer_numbered e ∙ told_by_number b
+
+comes_exactly : (files : Files) (name : List ℕ) (status : Status) → IsCompiledAs files name status → (a : CompileAnswer) → Exactly (status_number status) (status_number (status_compiled a)) (Comes files name a)
+comes_exactly files name status is a =
+    let number = ap status_number is.status_is in
+    record {
+      only = λ e. (is.comes a).0 (same_answer is.answer a (sym number ∙ e));
+      always = λ comes. inl (number ∙ ap (λ x. status_number (status_compiled x)) ((is.comes a).1 comes));
+    }
+
+pub ends_exactly : (words : List (List ℕ)) (holds : Option Files) (r : Result Status Stop) → IfOk r (λ status. IfSome holds (λ files. ToCompile words (λ name. IsCompiledAs files name status)))
+    → (a : CompileAnswer) → IfSome holds (λ files. ToCompile words (λ name. Exactly (number_of r) (status_number (status_compiled a)) (Comes files name a)))
+ends_exactly words holds (Ok status) comes a =
+    map_told holds (λ files. ToCompile words (λ name. IsCompiledAs files name status)) (λ files. ToCompile words (λ name. Exactly (status_number status) (status_number (status_compiled a)) (Comes files name a)))
+    (λ files h name workers asks. comes_exactly files name status (h name workers asks) a) comes
+ends_exactly words holds (Err s) comes a =
+    told_all holds (λ files. ToCompile words (λ name. Exactly (number_of (Err s)) (status_number (status_compiled a)) (Comes files name a)))
+    (λ files name workers asks. faulty (number_of (Err s)) (status_number (status_compiled a)) (Comes files name a) (stop_fault s) (no_fault (status_number (status_compiled a)) (inl (compiled_number a))))
+
+-- ** Of every command
 
 -- 2 is no fault
 two_fault : IsFault 2 → ⊥
@@ -114,10 +136,9 @@ module _ (words : List (List ℕ)) where
       listed n (inl (inr (inr (inr (inl d))))) = inr (inr (inr (inr (inl d))))
       listed n (inl (inr (inr (inr (inr (inl f)))))) = inr (inr (inr (inr (inr (inl f)))))
       listed n (inl (inr (inr (inr (inr (inr (inl g))))))) = inr (inr (inr (inr (inr (inr (inl g))))))
-      listed n (inl (inr (inr (inr (inr (inr (inr (inl h)))))))) = inr (inr (inr (inr (inr (inr (inr (inl h)))))))
-      listed n (inl (inr (inr (inr (inr (inr (inr (inr k)))))))) = inr (inr (inr (inr (inr (inr (inr (inr (inl k))))))))
+      listed n (inl (inr (inr (inr (inr (inr (inr h))))))) = inr (inr (inr (inr (inr (inr (inr (inl h)))))))
       listed n (inr e) = inr (inr (inl e))
-  ends_with_status (Err s) well = inr (inr (inr (inr (inr (inr (inr (inr (inr (stop_fault s)))))))))
+  ends_with_status (Err s) well = inr (inr (inr (inr (inr (inr (inr (inr (stop_fault s))))))))
 
   -- which stop a fault's number tells
   pub ends_stopped : (P : Type 0) (r : Result Status Stop) → IfOk r (IsWellEnded words) → OnErr r P → IsFault (number_of r) → P
@@ -150,7 +171,6 @@ done_of OverLimit e = absurd (omega (arith, e))
 done_of BadObjects e = absurd (omega (arith, e))
 done_of Trapped e = absurd (omega (arith, e))
 done_of StepsSpent e = absurd (omega (arith, e))
-done_of NotBuilt e = absurd (omega (arith, e))
 
 pub ends_done : (P : Type 0) (r : Result Status Stop) → IfOk r (λ status. status ≡ Done → P) → number_of r ≡ 0 → P
 ends_done P (Ok status) done e = done (done_of status e)

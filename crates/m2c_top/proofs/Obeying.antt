@@ -8,9 +8,8 @@ use Rattle.m2c_top.specs.Effects.{Does, Effect, Gives, HasInput, IsTold, Leaves,
 use Rattle.m2c_top.specs.Statuses.{status_number}
 use Rattle.m2c_top.specs.declared.status.Status.{Status}
 use Rattle.m2c_top.specs.declared.status.Status.TheVariants.{Done, NoCommand}
-use Rattle.m2c_top.specs.declared.top.Stop.{Stop}
-use Rattle.m2c_top.proofs.Outcomes.{told}
-use Rattle.m2c_top.proofs.Table.{map_told}
+use Rattle.m2c_top.specs.declared.ending.Stop.{Stop}
+use Rattle.m2c_top.proofs.Told.{map_told, told}
 
 module _ (words : List (List ℕ)) (holds after : Option Files) (old new before left : Option (List ℕ)) where
   module _ (command : Command) (asks : Asks words command) where

@@ -1,14 +1,15 @@
 -- What the words of a command line leave: the status, what is printed, the files of the shelf, and what is left of the input.
 use Rattle.std.specs.Prelude.{◌≡◌, ℕ, List, Option, Some, codes}
 use Rattle.command_words.specs.Command.{Asks, Command, IsNoCommand, compile, dump, run}
+use Rattle.compile_command.specs.Lines.{line}
+use Rattle.compile_command.specs.Outcome.{Compiles, Outcome as CompileOutcome}
 use Rattle.m2_io.specs.Files.{Files}
 use Rattle.m2_io.specs.Written.{WritesPart, with_bytes}
 use Rattle.object_commands.specs.Dumps.{Dumps}
 use Rattle.object_commands.specs.Outcomes.{Outcome as ObjectOutcome}
 use Rattle.object_commands.specs.Runs.{Runs}
 use Rattle.object_commands.specs.declared.answer.Answer.{Answer}
-use Rattle.m2c_top.specs.Outcome.{Compiles, Outcome, line}
-use Rattle.m2c_top.specs.Statuses.{status_after, status_number}
+use Rattle.m2c_top.specs.Statuses.{status_after, status_compiled, status_number}
 use Rattle.m2c_top.specs.declared.status.Status.{Status}
 use Rattle.m2c_top.specs.declared.status.Status.TheVariants.{NoCommand}
 
@@ -23,8 +24,8 @@ usage = line (codes "usage: m2c compile NAME [--workers N] | run NAME [--steps N
 
 -- What a command leaves over these files, where this is left of the input.
 pub data Does (files : Files) (left : Option (List ℕ)) : Command → Effect → Type 0 where
-  compiles : (name : List ℕ) (workers : ℕ) (outcome : Outcome) → Compiles name files outcome
-      → Does files left (compile name workers) (record { status = outcome.status; printed = outcome.printed; files = outcome.files; left = left })
+  compiles : (name : List ℕ) (workers : ℕ) (outcome : CompileOutcome) (after : Files) → Compiles (Some files) name outcome → outcome.files ≡ Some after
+      → Does files left (compile name workers) (record { status = status_compiled outcome.answer; printed = outcome.printed; files = after; left = left })
   runs : (name : List ℕ) (steps cells : ℕ) (input : List ℕ) (outcome : ObjectOutcome) → left ≡ Some input → Runs (Some files) name steps cells input outcome
       → Does files left (run name steps cells) (record { status = status_after outcome.answer; printed = outcome.printed; files = files; left = Some outcome.left })
   dumps : (name printed : List ℕ) (answer : Answer) → Dumps (Some files) name printed answer

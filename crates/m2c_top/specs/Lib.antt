@@ -1,16 +1,3 @@
-pub mod Analyses
-pub mod Decisions
-pub mod Delivery
-pub mod Diagnostics
 pub mod Effects
 pub mod Ending
-pub mod Filled
-pub mod Held
-pub mod Limits
-pub mod MainText
-pub mod Modules
-pub mod Names
-pub mod Object
-pub mod Outcome
 pub mod Statuses
-pub mod Verdicts

@@ -17,7 +17,6 @@ pub enum Status {
     BadObjects,
     Trapped,
     StepsSpent,
-    NotBuilt,
 }
 
 impl Status {
@@ -38,7 +37,6 @@ impl Status {
             Status::BadObjects => 8,
             Status::Trapped => 9,
             Status::StepsSpent => 10,
-            Status::NotBuilt => 11,
         }
     }
 }

@@ -1,13 +1,12 @@
-use Rattle.std.proofs.Common.{◌≡◌, ◌⊎◌, ◌∙◌, ℕ, List, sym, ap, subst, map, string_bytes, IfSome}
+use Rattle.std.proofs.Common.{◌≡◌, ◌⊎◌, ◌∙◌, sym, ap, subst, map, string_bytes, IfSome}
 use Rattle.m2_io.specs.Causes.{Rose}
-use Rattle.m2_io.specs.Files.{Files}
 use Rattle.command_words.specs.Command.{IsNoCommand}
 use Rattle.m2c_top.specs.Effects.{AsksToCompile, AsksToRun, Gives, HasInput, Leaves, PrintsPart, ToCompile}
-use Rattle.m2c_top.specs.Outcome.{HasObject, LacksText, HasSoundText, HasDiagnostics, HasTooMuchText, HasOtherText, PutsPart}
-use Rattle.m2c_top.specs.Statuses.{status_number, IsFault, IsStatus, Exactly}
-use Rattle.m2c_top.specs.Modules.{Module}
-use Rattle.m2c_top.specs.declared.verdict.Limit.{Limit}
-use Rattle.m2c_top.proofs.Table.{RowOf, lacks_row, sound_row, diagnostics_row, limit_row, other_row}
+use Rattle.compile_command.specs.Answers.{Comes}
+use Rattle.compile_command.specs.declared.answer.Answer.{Answer as CompileAnswer}
+use Rattle.compile_command.specs.declared.answer.Answer.TheVariants.{Diagnosed, Done, NoText, OverLimit}
+use Rattle.compile_command.specs.Outcome.{HasObject, KeepsButObject}
+use Rattle.m2c_top.specs.Statuses.{status_compiled, status_number, IsFault, IsStatus, Exactly}
 use Rattle.m2c_top.proofs.Ends.{number_of, ends_done, ends_leaving, ends_exactly, ends_as_no_command, ends_with_status, ends_stopped, ends_by_reading, ends_by_writing, ends_keeping}
 use Rattle.m2c_top.proofs.top.m2c.Given as given
 use Rattle.m2c_top.proofs.top.m2c.Goals as goal
@@ -37,30 +36,26 @@ returns-clause-no_command g c =
     let words = map string_bytes c.args.words.now in
     subst (λ n. Exactly n 2 (IsNoCommand words)) (sym (numbered g c)) (ends_as_no_command words c.obey.result c.obey.ensures.status)
 
--- the status of a row comes exactly where its fact holds
-exactly : (g : given.Over) (c : goal.After-number g) (wanted : ℕ) (fact : List ℕ → Files → Type 0) → RowOf wanted fact
-    → IfSome (g.H.Shelf.holds c.args.shelf.now) (λ files. ToCompile (map string_bytes c.args.words.now) (λ name. Exactly c.number.result wanted (fact name files)))
-exactly g c wanted fact row =
+-- the status of an answer to compiling comes exactly where the answer does
+exactly : (g : given.Over) (c : goal.After-number g) (a : CompileAnswer)
+    → IfSome (g.H.Shelf.holds c.args.shelf.now) (λ files. ToCompile (map string_bytes c.args.words.now) (λ name. Exactly c.number.result (status_number (status_compiled a)) (Comes files name a)))
+exactly g c a =
     let holds = g.H.Shelf.holds c.args.shelf.now in
     let words = map string_bytes c.args.words.now in
-    subst (λ n. IfSome holds (λ files. ToCompile words (λ name. Exactly n wanted (fact name files)))) (sym (numbered g c))
-    (ends_exactly words holds (g.H.Shelf.holds c.obey.new.shelf) (g.P.Sink.written c.args.print.now) (g.P.Sink.written c.obey.new.print) (g.K.Source.left c.args.keys.now) (g.K.Source.left c.obey.new.keys) wanted fact row
-    c.obey.result c.obey.ensures.leaves)
+    subst (λ n. IfSome holds (λ files. ToCompile words (λ name. Exactly n (status_number (status_compiled a)) (Comes files name a)))) (sym (numbered g c))
+    (ends_exactly words holds c.obey.result c.obey.ensures.comes a)
 
 pub returns-clause-no_text : goal.returns-clause-no_text
-returns-clause-no_text g c = exactly g c 3 (λ name files. LacksText name files) lacks_row
+returns-clause-no_text g c = exactly g c NoText
 
 pub returns-clause-done : goal.returns-clause-done
-returns-clause-done g c = exactly g c 0 (λ name files. (m : Module) × HasSoundText name files m) sound_row
+returns-clause-done g c = exactly g c Done
 
 pub returns-clause-refused : goal.returns-clause-refused
-returns-clause-refused g c = exactly g c 1 (λ name files. HasDiagnostics name files) diagnostics_row
+returns-clause-refused g c = exactly g c Diagnosed
 
 pub returns-clause-limits : goal.returns-clause-limits
-returns-clause-limits g c = exactly g c 7 (λ name files. (limit : Limit) × HasTooMuchText name files limit) limit_row
-
-pub returns-clause-not_built : goal.returns-clause-not_built
-returns-clause-not_built g c = exactly g c 11 (λ name files. HasOtherText name files) other_row
+returns-clause-limits g c = exactly g c OverLimit
 
 pub returns-clause-read : goal.returns-clause-read
 returns-clause-read g c four =
@@ -95,4 +90,4 @@ returns-clause-part g c five =
     let holds = g.H.Shelf.holds c.args.shelf.now in
     let after = g.H.Shelf.holds c.obey.new.shelf in
     let words = map string_bytes c.args.words.now in
-    ends_by_writing words ((after ≡ holds) ⊎ AsksToCompile words (λ name. PutsPart name holds after)) c.obey.result c.obey.ensures.status c.obey.ensures.part (sym (numbered g c) ∙ five)
+    ends_by_writing words ((after ≡ holds) ⊎ AsksToCompile words (λ name. KeepsButObject name holds after)) c.obey.result c.obey.ensures.status c.obey.ensures.part (sym (numbered g c) ∙ five)
