@@ -1,24 +1,22 @@
 -- The declarations of a sample are analysed one after another: where each stands, that its rows may be entered, and what holds then.
-use Rattle.std.specs.Prelude.{◌≡◌, ◌≢◌, ℕ, zero, suc, ◌+◌, ◌-◌, ◌<◌, ◌≤◌, ◌^◌, ◌==◌, Bool, true, false, if◌then◌else◌, List, [], ◌∷◌, ◌++◌, Option, Some, None, Result, Ok, Err, drop, filter, flat_map, length, map, option_map, slice_get, slice_index, slice_index_or, take, unwrap_or, IfOk, OnOk}
+use Rattle.std.specs.Prelude.{◌≡◌, ℕ, zero, suc, ◌+◌, ◌-◌, ◌<◌, ◌≤◌, ◌^◌, List, [], ◌∷◌, ◌++◌, Some, None, Result, Ok, Err, drop, filter, flat_map, length, map, option_map, slice_get, slice_index, slice_index_or, take, unwrap_or, IfOk, OnOk}
 use Rattle.std.proofs.Common.{refl, sym, ap, subst, ◌∙◌, arith}
 use Rattle.std.proofs.lemmas.List.{append-nil, length-append, take-append-drop}
 use Rattle.std.proofs.lemmas.List.Concat.{flat_map-append}
 use Rattle.std.proofs.lemmas.List.Elements.{filter-append}
 use Rattle.std.proofs.lemmas.Option.{slice_get-map}
 use Rattle.m2_base.specs.Finished.{source_of}
-use Rattle.m2_base.specs.Lists.{Each, HasNoRepeats}
+use Rattle.m2_base.specs.Lists.{Each}
 use Rattle.m2_base.specs.Rows.{IsWellFormed, at_place, row_meaning}
 use Rattle.m2_base.specs.Scopes.{CanComplete, CanEnter, Completed, Entered}
-use Rattle.m2_base.specs.Standard.{is_standard}
 use Rattle.m2_base.specs.States.{Frame, State}
 use Rattle.m2_base.specs.Statics.Cells.{most_cells}
 use Rattle.m2_base.specs.Statics.Contexts.{Source}
 use Rattle.m2_base.specs.Statics.Items.{Item, decl_item, items_of}
 use Rattle.m2_base.specs.Statics.Layouts.{Layout, firsts_from, layout_of}
-use Rattle.m2_base.specs.Statics.Lookup.{first_entry}
 use Rattle.m2_base.specs.Statics.ProcedureRows.{is_proc}
 use Rattle.m2_base.specs.Statics.ReadTrees.{IsReadItem}
-use Rattle.m2_base.specs.Statics.Shapes.{Shape, item_shapes}
+use Rattle.m2_base.specs.Statics.Shapes.{item_shapes}
 use Rattle.m2_base.specs.Trees.{Decl, Stream, const_decl, proc_decl, type_decl, vars_decl}
 use Rattle.m2_base.specs.Units.{UnitTexts}
 use Rattle.m2_base.specs.Views.{decl_view, stream_view}
@@ -34,7 +32,7 @@ use Rattle.m2_base.proofs.Kept.{Each-append, Each-map}
 use Rattle.scope_core.specs.PlainScopes.{Plain, started, state_of}
 use Rattle.decl_sem.specs.ImportedModules.{IsFromBefore}
 use Rattle.decl_sem.specs.Items.{IsAtItem}
-use Rattle.decl_sem.specs.LaidRows.{AreLaid, is_of, kept_name, more_laid, none_laid}
+use Rattle.decl_sem.specs.LaidRows.{AreLaid, none_laid}
 use Rattle.decl_sem.specs.Pieces.{AreNewRows, IsOwned, end_by, item_end}
 use Rattle.decl_sem.proofs.FirstNames.{AreLaid-append}
 use Rattle.decl_sem.proofs.FirstOrdinals.{end_of}
@@ -159,15 +157,12 @@ module _ (f : Frame) (s : Site) (u : UnitTexts) (tree : HeldStream) (n : ℕ) (d
   parts : Splits (map decl_item (stream_view tree).decls) n (decl_item (decl_view d))
   parts = splits items n item found
 
-  areas_two : 1 < length f.setting.areas
-  areas_two = let e = ap length so_far.areas in omega (arith, e)
-
   -- it stands after the declarations before
   pub at_declaration : IsAtItem f s (stream_view tree) (decl_item (decl_view d)) cell 0
   at_declaration =
       let names = ap (λ (l : Layout). l.names) is.layout in
       record {
-        suits = site_at f s 0 sample is.at so_far.texts so_far.fills areas_two (λ none. absurd (let bad : Some n ≡ None = sym is.item ∙ none in cc));
+        suits = site_at f s 0 sample is.at so_far.texts so_far.fills so_far.inside (λ none. absurd (let bad : Some n ≡ None = sym is.item ∙ none in cc));
         small = let e = so_far.fills in omega (arith, e);
         begun = so_far.open_yet;
         before = take n items;
@@ -214,10 +209,11 @@ module _ (f : Frame) (s : Site) (u : UnitTexts) (tree : HeldStream) (n : ℕ) (d
         record {
           open_yet = so_far.open_yet;
           room =
-              (let size : slice_index f.setting.areas f.setting.fills ≡ row_count (stream_view tree) = λ k. slice_index (so_far.areas k) (so_far.fills k) in
+              (let size : slice_index f.setting.areas f.setting.fills ≡ slice_index f.setting.areas 1 = ap (slice_index f.setting.areas) so_far.fills in
+              let room = so_far.room in
               let l = length-append f.entered rows in
               let e = fit in
-              omega (arith, size, l, e));
+              omega (arith, size, room, l, e));
           formed = formed_at f (item_end s) (length f.entered) rows new;
           once = laid_once laid_on;
           next = λ tables finished. absurd (none_finished sample so_far.texts finished);
@@ -245,7 +241,8 @@ module _ (f : Frame) (s : Site) (u : UnitTexts) (tree : HeldStream) (n : ℕ) (d
         record {
           texts = so_far.texts;
           fills = so_far.fills;
-          areas = so_far.areas;
+          inside = so_far.inside;
+          room = so_far.room;
           open_yet = so_far.open_yet;
           laid = laid_on;
           owned = Each-append (λ r. IsOwned (length (f.entered ++ rows)) (row_meaning r)) f.entered rows
@@ -272,7 +269,8 @@ begun {u} {tree} p rows is count =
     (record {
       texts = refl;
       fills = refl;
-      areas = ap (λ n. 37 ∷ n ∷ []) count;
+      inside = omega arith;
+      room = omega (arith, count);
       open_yet = refl;
       laid = none_laid;
       owned = tt;
@@ -286,7 +284,7 @@ may_complete a sample all = record { open_yet = all.open_yet; all = λ tables h.
 pub all_full : {u : UnitTexts} {tree : Stream} {count cell : ℕ} (a b : State) → HasDeclared a.frame u tree count cell → Completed a b → IsFull b.frame u 1
 all_full {u} a b all completed =
     subst (λ f. IsFull f u 1) (sym completed.frame)
-    (record { texts = all.texts; fills = all.fills; areas = let e = ap length all.areas in omega (arith, e); closed = refl })
+    (record { texts = all.texts; fills = all.fills; areas = all.inside; closed = refl })
 
 -- what follows of an answer that is there
 pub where_ok : {T E F : Type 0} {C Q : T → Type 0} (r : Result T Memory) → ((v : T) → C v → E → F → Q v) → IfOk r C → OnOk r E → OnOk r F → IfOk r Q

@@ -1,5 +1,5 @@
 -- The scopes of a sample, when a block's scope has all its rows.
-use Rattle.std.specs.Prelude.{◌≡◌, ℕ, zero, suc, ◌-◌, ◌+◌, ◌<◌, ◌≤◌, true, false, List, [], ◌∷◌, None, filter, flat_map, length, map, take}
+use Rattle.std.specs.Prelude.{◌≡◌, ℕ, zero, suc, ◌-◌, ◌+◌, ◌<◌, ◌≤◌, true, false, List, [], ◌∷◌, None, filter, flat_map, length, map, slice_index, take}
 use Rattle.m2_base.specs.Lists.{Each}
 use Rattle.m2_base.specs.Rows.{row_meaning}
 use Rattle.m2_base.specs.States.{Frame}
@@ -52,12 +52,13 @@ pub record IsBlock (u : UnitTexts) (tree : Stream) (a : Around) (l : Layout) : T
 abbrev pub row_count : Stream → ℕ
 row_count tree = length (flat_map item_shapes (items_of tree))
 
--- So many declarations of a tree are analysed: the rows that they make are entered, as the layout gives them, and none of them is
--- a procedure's; the next free cell is this.
+-- So many declarations of a tree are analysed, in a scope with room for the rows of all: the rows that they make are entered, as
+-- the layout gives them, and none of them is a procedure's; the next free cell is this.
 pub record HasDeclared (f : Frame) (u : UnitTexts) (tree : Stream) (count cell : ℕ) : Type 0 where
   pub texts : f.setting.texts ≡ u
   pub fills : f.setting.fills ≡ 1
-  pub areas : f.setting.areas ≡ 37 ∷ row_count tree ∷ []
+  pub inside : 1 < length f.setting.areas
+  pub room : row_count tree ≤ slice_index f.setting.areas 1
   pub open_yet : f.closed ≡ false
   pub laid : AreLaid (layout_of tree).names 0 (flat_map item_shapes (take count (map decl_item tree.decls))) f.entered
   pub owned : Each (λ r. IsOwned (length f.entered) (row_meaning r)) f.entered

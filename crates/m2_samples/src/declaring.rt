@@ -61,7 +61,7 @@ pub fn layout_of(alloc: Global, sample: &Sample) -> Result<Layout, Memory>
 }
 
 /// The number of rows of a block.
-fn row_count(layout: &Layout) -> Result<u32, Memory>
+pub fn row_count(layout: &Layout) -> Result<u32, Memory>
     ensures few { IfOk result (λ count. count ≤ 2 ^ 31) }
     ensures count { IfOk result (λ count. (tree : Stream) → layout.now ≡ spec_layout tree → count ≡ spec_count tree) }
 {
@@ -96,9 +96,9 @@ fn keep(made: &mut Made, declared: &Declared) -> Result<(), Memory> {
 }
 
 /// Enters the rows of a declaration, and gives the next free cell. A procedure finds no memory.
-fn enter(scopes: &mut PlainScopes, declared: &Declared, made: &mut Made) -> Result<u32, Memory>
-    requires { CanEnter (state_of scopes.old) declared.now.rows.items }
-    ensures entered { OnOk result (Entered (state_of scopes.old) (state_of scopes.new) declared.now.rows.items) }
+fn enter<S: Scopes>(scopes: &mut S, declared: &Declared, made: &mut Made) -> Result<u32, Memory>
+    requires { CanEnter (S.state scopes.old) declared.now.rows.items }
+    ensures entered { OnOk result (Entered (S.state scopes.old) (S.state scopes.new) declared.now.rows.items) }
     ensures none { OnOk result (length (filter is_proc declared.now.rows.items) ≡ 0) }
     ensures few { IfOk result (λ cell. cell ≤ 16777216) }
 {
@@ -112,8 +112,8 @@ fn enter(scopes: &mut PlainScopes, declared: &Declared, made: &mut Made) -> Resu
 }
 
 /// Analyses a declaration after those before, up to whose cells are these.
-fn declare_item(
-    scopes: &mut PlainScopes,
+fn declare_item<S: Scopes>(
+    scopes: &mut S,
     block: &Block,
     number: u32,
     declaration: &Decl,
@@ -123,8 +123,8 @@ fn declare_item(
     requires block { IsBlock block.now.sample.now.texts (stream_view block.now.sample.now.tree) block.now.around.now block.now.layout.now }
     requires few { spec_count (stream_view block.now.sample.now.tree) ≤ 2 ^ 31 }
     requires here { slice_get block.now.sample.now.tree.decls.items number ≡ Some declaration.now }
-    requires declared { HasDeclared (state_of scopes.old).frame block.now.sample.now.texts (stream_view block.now.sample.now.tree) number cell }
-    ensures { IfOk result (λ next. HasDeclared (state_of scopes.new).frame block.now.sample.now.texts (stream_view block.now.sample.now.tree) (number + 1) next) }
+    requires declared { HasDeclared (S.state scopes.old).frame block.now.sample.now.texts (stream_view block.now.sample.now.tree) number cell }
+    ensures { IfOk result (λ next. HasDeclared (S.state scopes.new).frame block.now.sample.now.texts (stream_view block.now.sample.now.tree) (number + 1) next) }
 {
     let alloc = *made.rows.allocator();
     let site = block.site(Some(number));
@@ -140,11 +140,11 @@ fn declare_item(
 }
 
 /// Analyses all declarations, one after another, and gives the next free cell.
-fn declare_items(scopes: &mut PlainScopes, block: &Block, made: &mut Made) -> Result<u32, Memory>
+fn declare_items<S: Scopes>(scopes: &mut S, block: &Block, made: &mut Made) -> Result<u32, Memory>
     requires block { IsBlock block.now.sample.now.texts (stream_view block.now.sample.now.tree) block.now.around.now block.now.layout.now }
     requires few { spec_count (stream_view block.now.sample.now.tree) ≤ 2 ^ 31 }
-    requires begun { HasDeclared (state_of scopes.old).frame block.now.sample.now.texts (stream_view block.now.sample.now.tree) 0 0 }
-    ensures { IfOk result (λ cell. HasDeclared (state_of scopes.new).frame block.now.sample.now.texts (stream_view block.now.sample.now.tree) (length block.now.sample.now.tree.decls.items) cell) }
+    requires begun { HasDeclared (S.state scopes.old).frame block.now.sample.now.texts (stream_view block.now.sample.now.tree) 0 0 }
+    ensures { IfOk result (λ cell. HasDeclared (S.state scopes.new).frame block.now.sample.now.texts (stream_view block.now.sample.now.tree) (length block.now.sample.now.tree.decls.items) cell) }
 {
     let mut cell = 0;
     for (index, declaration) in block.sample.tree.decls.iter().enumerate() {
@@ -156,6 +156,24 @@ fn declare_items(scopes: &mut PlainScopes, block: &Block, made: &mut Made) -> Re
     Ok(cell)
 }
 
+/// Analyses all declarations of a block, enters the rows that they make into its scope, and marks it as complete. What they
+/// make is kept.
+pub fn declare_block<S: Scopes>(
+    scopes: &mut S,
+    block: &Block,
+    made: &mut Made,
+) -> Result<(), Memory>
+    requires block { IsBlock block.now.sample.now.texts (stream_view block.now.sample.now.tree) block.now.around.now block.now.layout.now }
+    requires few { spec_count (stream_view block.now.sample.now.tree) ≤ 2 ^ 31 }
+    requires begun { HasDeclared (S.state scopes.old).frame block.now.sample.now.texts (stream_view block.now.sample.now.tree) 0 0 }
+    ensures { OnOk result (IsFull (S.state scopes.new).frame block.now.sample.now.texts 1) }
+{
+    let cell = declare_items(scopes, block, made)?;
+    scopes.complete();
+    made.cell = cell;
+    Ok(())
+}
+
 /// The scopes of a sample, once all its declarations are analysed. What they make is kept.
 pub fn scopes<'a>(block: &Block<'a>, made: &mut Made) -> Result<PlainScopes<'a>, Memory>
     requires { IsBlock block.now.sample.now.texts (stream_view block.now.sample.now.tree) block.now.around.now block.now.layout.now }
@@ -164,8 +182,6 @@ pub fn scopes<'a>(block: &Block<'a>, made: &mut Made) -> Result<PlainScopes<'a>,
     let alloc = *made.rows.allocator();
     let rows = row_count(block.layout)?;
     let mut scopes = PlainScopes::new(alloc, &block.sample.texts, &[STANDARD_ROWS, rows])?;
-    let cell = declare_items(&mut scopes, block, made)?;
-    scopes.complete();
-    made.cell = cell;
+    declare_block(&mut scopes, block, made)?;
     Ok(scopes)
 }

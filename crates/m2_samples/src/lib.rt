@@ -10,7 +10,7 @@ mod made;
 mod reading;
 mod surroundings;
 
-pub use declaring::{Block, layout_of, scopes};
+pub use declaring::{Block, declare_block, layout_of, row_count, scopes};
 pub use made::Made;
 pub use reading::{Sample, read};
 pub use surroundings::around;

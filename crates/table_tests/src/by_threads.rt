@@ -16,16 +16,23 @@ const ROWS: u32 = 10_000;
 /// Half of the constants are negative.
 const HALF: i64 = 5000;
 
-/// Puts and shows constants one after another, and marks the scope as complete. It answers whether all were put.
-fn fill(mut filler: Filler) -> bool {
+/// Puts and shows constants one after another. It answers whether all were put.
+fn put_all(filler: &mut Filler) -> bool {
     for number in 0..ROWS {
         if !filler.put(FIRST_NAME + number, number, number as i64 - HALF) {
             return false;
         }
         filler.show();
     }
-    let _seat = filler.seal();
     true
+}
+
+/// Puts all constants, and answers whether they were put. The scope is marked as complete even if not, so that who looks at it
+/// comes to an end.
+fn fill(mut filler: Filler) -> bool {
+    let all_put = put_all(&mut filler);
+    let _seat = filler.seal();
+    all_put
 }
 
 /// The row of this number.
