@@ -1,4 +1,3 @@
-use Rattle.supervisor.specs.Units.{CanBeRun}
 use Rattle.compile_command.proofs.work.work.Goals as goal
 
 pub run_turns-requires-clause-unit : goal.run_turns-requires-clause-unit
