@@ -1,6 +1,7 @@
 //! What comes behind gathering: the tasks of a whole unit are made, whatever the order of their turns, and merged.
 //!
-//! That these functions are proved is the test: what `gather` ensures meets each condition, and no caller adds a premise.
+//! That these functions are proved is the test: what `gather` ensures meets each condition, and no caller adds a
+//! premise.
 ghost use Rattle.std.specs.Prelude.{◌≡◌, ◌≤◌, IfSome, length};
 ghost use Rattle.def_import.specs.Answers.{IsWhole};
 ghost use Rattle.m2_base.specs.Units.{Front, IsIdentifier, TextOf};
