@@ -102,7 +102,8 @@ fn turns_named(
     Ok(())
 }
 
-/// A turn of the task at this place, where those before it are done. It never has to wait: every smaller scope is complete.
+/// A turn of the task at this place, where those before it are done. It never has to wait: every smaller scope is
+/// complete.
 fn last_turn(
     alloc: Global,
     texts: &Texts,
@@ -142,9 +143,10 @@ fn last_turns(
     Ok(())
 }
 
-/// What the streams of a unit leave, each its output, in their order. A turn is made for each number of the order that names a
-/// stream which isn't done, and other numbers are passed over; what is left is then finished in the order of the scopes. So
-/// whatever the order, the outputs are those of the unit's blocks, and each scope is complete in the end. The scopes are new.
+/// What the streams of a unit leave, each its output, in their order. A turn is made for each number of the order
+/// that names a stream which isn't done, and other numbers are passed over; what is left is then finished in the
+/// order of the scopes. So whatever the order, the outputs are those of the unit's blocks, and each scope is complete
+/// in the end. The scopes are new.
 pub fn run_turns(
     alloc: Global,
     texts: &Texts,

@@ -1,0 +1,147 @@
+//! The calls of `supervisor`: turns in many orders.
+use crate::behind::{merged, outputs, whole_texts};
+use crate::shelves::shelf_of;
+use m2_base::{Diag, Output, ProcCode};
+use std::alloc::{AllocError, Global};
+use std::fmt::Write;
+use std::test::Fail;
+use unit_merge::Merged;
+
+/// A procedure stands before the variable that it names.
+const NAMED_BEFORE: &str =
+    "MODULE A; PROCEDURE P; BEGIN v := 1 END P; VAR v: INTEGER; BEGIN P END A.";
+
+/// Procedures in one another, and names that are found in each of the scopes round them.
+const NESTED: &str = "MODULE A; IMPORT B; FROM B IMPORT T, n; TYPE R = RECORD f: T END; \
+    PROCEDURE P(VAR r: R; c: CHAR); VAR x: ARRAY [0..n] OF T; \
+    PROCEDURE Q(i: CARDINAL); PROCEDURE S; BEGIN x[i] := w; Q(i) END S; BEGIN r.f := x[i]; S; B.Put(i) END Q; \
+    BEGIN Q(l) END P; VAR w: T; r: R; l: CARDINAL; \
+    PROCEDURE U; BEGIN P(r, \"a\"); V END U; PROCEDURE V; BEGIN INC(l); w := r.f END V; BEGIN U; V END A.";
+
+/// What it imports, and what this imports.
+const IMPORTED: &str =
+    "DEFINITION MODULE B; IMPORT C; CONST n = C.m; TYPE T = [0..n]; PROCEDURE Put(i: CARDINAL); END B.";
+
+const FIRST: &str = "DEFINITION MODULE C; CONST m = 9; END C.";
+
+/// A name is unknown in each block.
+const UNKNOWN: &str =
+    "MODULE A; PROCEDURE P; BEGIN a := 1 END P; PROCEDURE Q; BEGIN b := 1 END Q; BEGIN c := 1 END A.";
+
+/// In so many orders.
+const ORDERS: u32 = 200;
+
+/// Bytes as two digits each.
+fn digits(alloc: Global, bytes: &[u8]) -> Result<String, Fail> {
+    let mut text = String::new(alloc);
+    for byte in bytes {
+        write!(text, "{byte:02x}")?;
+    }
+    Ok(text)
+}
+
+fn is_same_code(a: &ProcCode, b: &ProcCode) -> bool {
+    a.outer == b.outer
+        && a.params == b.params
+        && a.result == b.result
+        && a.locals == b.locals
+        && a.high == b.high
+        && a.bytes == b.bytes
+        && a.code == b.code
+}
+
+fn is_same(a: &Output, b: &Output) -> bool {
+    a.stream == b.stream
+        && a.fault == b.fault
+        && a.diags == b.diags
+        && a.answers == b.answers
+        && a.cells == b.cells
+        && a.headings == b.headings
+        && is_same_code(&a.code, &b.code)
+}
+
+fn are_same(these: &[Output], those: &[Output]) -> bool {
+    these.len() == those.len() && these.iter().zip(those).all(|(a, b)| is_same(a, b))
+}
+
+/// Twenty numbers of streams by a fixed rule, and of none.
+fn order_by(alloc: Global, rule: u32) -> Result<Vec<u32>, AllocError> {
+    let mut order = Vec::new(alloc);
+    for turn in 0..20 {
+        order.push((rule.wrapping_mul(7919 + turn) ^ (turn * turn * 101)) % 10)?;
+    }
+    Ok(order)
+}
+
+/// What is found of one unit in each of these orders: the code of its two blocks.
+#[test]
+fn makes_the_turns_that_it_is_told(rt: HostRuntime) -> Result<(), Fail> {
+    let alloc = rt.alloc();
+    let mut shelf = shelf_of(alloc, &[("A.mod", NAMED_BEFORE)])?;
+    let texts = whole_texts(alloc, &mut shelf, "A").ok_or("no unit")?;
+    for order in [[].as_slice(), [2, 1, 2].as_slice(), [2, 2, 2].as_slice()] {
+        let outputs = outputs(alloc, &texts, order).ok_or("no outputs")?;
+        assert_eq!(rt; outputs.len(), 2);
+        assert_eq!(rt; outputs[0].stream, 1);
+        assert_eq!(rt; outputs[0].cells, 1);
+        assert_eq!(rt;
+            digits(alloc, &outputs[0].code.code)?.as_str(),
+            "2a01000000000000002e"
+        );
+        assert_eq!(rt; outputs[1].stream, 2);
+        assert_eq!(rt; outputs[1].cells, 0);
+        assert_eq!(rt;
+            digits(alloc, &outputs[1].code.code)?.as_str(),
+            "030000000000000000010100000000000000062e"
+        );
+    }
+    Ok(())
+}
+
+#[test]
+fn leaves_the_same_in_every_order(rt: HostRuntime) -> Result<(), Fail> {
+    let alloc = rt.alloc();
+    let files = [("A.mod", NESTED), ("B.def", IMPORTED), ("C.def", FIRST)];
+    let mut shelf = shelf_of(alloc, &files)?;
+    let texts = whole_texts(alloc, &mut shelf, "A").ok_or("no unit")?;
+    let first = outputs(alloc, &texts, [].as_slice()).ok_or("no outputs")?;
+    assert_eq!(rt; first.len(), 8);
+    for output in &first {
+        assert!(rt; output.diags.is_empty(), "{}", output.stream);
+    }
+    for rule in 0..ORDERS {
+        let order = order_by(alloc, rule)?;
+        let outputs = outputs(alloc, &texts, &order).ok_or("no outputs")?;
+        assert!(rt; are_same(&first, &outputs), "rule {rule}");
+    }
+    Ok(())
+}
+
+#[test]
+fn outputs_come_to_an_object(rt: HostRuntime) -> Result<(), Fail> {
+    let alloc = rt.alloc();
+    let mut shelf = shelf_of(alloc, &[("A.mod", NAMED_BEFORE)])?;
+    let texts = whole_texts(alloc, &mut shelf, "A").ok_or("no unit")?;
+    let merged = merged(alloc, &texts, [2, 2, 2].as_slice()).ok_or("nothing merged")?;
+    assert!(rt; matches!(merged, Merged::Code(_)));
+    Ok(())
+}
+
+#[test]
+fn outputs_come_to_diagnostics(rt: HostRuntime) -> Result<(), Fail> {
+    let alloc = rt.alloc();
+    let mut shelf = shelf_of(alloc, &[("A.mod", UNKNOWN)])?;
+    let texts = whole_texts(alloc, &mut shelf, "A").ok_or("no unit")?;
+    let unknown = [7, 17, 24].map(|at| Diag {
+        text: 0,
+        at,
+        code: 40,
+    });
+    for order in [[].as_slice(), [3, 2, 1].as_slice(), [2, 3, 9, 0].as_slice()] {
+        let Some(Merged::Diags(diags)) = merged(alloc, &texts, order) else {
+            return Err(Fail::from("no diagnostics"));
+        };
+        assert_eq!(rt; diags.as_slice(), unknown.as_slice());
+    }
+    Ok(())
+}
