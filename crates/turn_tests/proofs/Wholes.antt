@@ -1,5 +1,4 @@
 -- A unit that is gathered whole, as the laws on merging ask it.
-use Rattle.m2_base.specs.Lists.{Each}
 use Rattle.m2_base.specs.Units.{UnitTexts}
 use Rattle.m2_base.proofs.Kept.{Each-map}
 use Rattle.def_import.specs.Answers.{HasFrontBy, IsWhole}
