@@ -11,14 +11,20 @@ use unit_merge::{Merged, merge};
 /// A diagnostic: its text, its token and its code.
 type Note = (u32, u32, u8);
 
-/// Some files, what is noted of each stream, and what is listed.
-type Row<'a> = (&'a [(&'a str, &'a str)], &'a [&'a [Note]], &'a [Note]);
-
 /// Two streams, of module M and of its procedure P.
 const TWO_STREAMS: (&str, &str) = ("M.mod", "MODULE M; PROCEDURE P; END P; END M.");
 
 /// The fault is at the END, token 9.
 const FAULT_AT_9: (&str, &str) = ("M.mod", "MODULE M; IMPORT A; BEGIN x := END M.");
+
+/// The fault is at INTEGER, token 6.
+const FAULT_AT_6: (&str, &str) = ("A.def", "DEFINITION MODULE A; VAR x INTEGER; END A.");
+
+/// The module's fault is at its last END, token 15, and its procedure's at the first, token 9.
+const TWO_FAULTS: (&str, &str) = (
+    "M.mod",
+    "MODULE M; PROCEDURE P; BEGIN x := END P; BEGIN y := END M.",
+);
 
 /// The object of two procedures that return.
 const TWO_PROCEDURES: &[u8] = b"M2OB\x02\0\0\0\x01\0\0\0M\0\0\0\0\0\0\0\0\
@@ -80,56 +86,52 @@ fn listed(merged: Merged) -> Option<Vec<Diag>> {
     }
 }
 
-#[test]
-fn lists_diagnostics(rt: HostRuntime) -> Result<(), Fail> {
-    let alloc = rt.alloc();
-    let rows: [Row; 5] = [
-        // Two texts have faults: what is noted elsewhere isn't listed.
-        (
-            &[
-                FAULT_AT_9,
-                ("A.def", "DEFINITION MODULE A; VAR x INTEGER; END A."),
-            ],
-            &[&[(1, 2, 31)], &[]],
-            &[(0, 9, 20), (1, 6, 20)],
-        ),
-        // Both streams of one text have faults: the procedure's is at an earlier token than the module's.
-        (
-            &[(
-                "M.mod",
-                "MODULE M; PROCEDURE P; BEGIN x := END P; BEGIN y := END M.",
-            )],
-            &[&[(0, 1, 31)], &[]],
-            &[(0, 9, 20)],
-        ),
-        // Two streams note the same, and one of them another code at the same token.
-        (
-            &[TWO_STREAMS],
-            &[&[(0, 4, 43)], &[(0, 4, 43), (0, 4, 40)]],
-            &[(0, 4, 40), (0, 4, 43)],
-        ),
-        // One stream notes before and behind what the other notes.
-        (
-            &[TWO_STREAMS],
-            &[&[(0, 1, 31), (0, 12, 40)], &[(0, 4, 43), (0, 8, 21)]],
-            &[(0, 1, 31), (0, 4, 43), (0, 8, 21), (0, 12, 40)],
-        ),
-        // The main text comes before its definition modules, whose streams come first.
-        (
-            &[
-                ("M.mod", "MODULE M; IMPORT B; END M."),
-                ("B.def", "DEFINITION MODULE B; IMPORT A; END B."),
-                ("A.def", "DEFINITION MODULE A; END A."),
-            ],
-            &[&[(2, 2, 31)], &[(1, 5, 40)], &[(0, 4, 41), (0, 4, 40)]],
-            &[(0, 4, 40), (0, 4, 41), (1, 5, 40), (2, 2, 31)],
-        ),
-    ];
-    for (number, (files, notes, wanted)) in rows.iter().enumerate() {
-        let found = listed(merged(alloc, files, notes)?).ok_or("nothing listed")?;
-        let wanted = diags_of(alloc, wanted)?;
-        assert_eq!(rt; found.as_slice(), wanted.as_slice(), "at row {number}");
+/// Whether these diagnostics, and no others, are listed of the files' unit with what is noted of its streams.
+fn are_listed(
+    alloc: Global,
+    files: &[(&str, &str)],
+    notes: &[&[Note]],
+    wanted: &[Note],
+) -> Result<bool, Unfit> {
+    match listed(merged(alloc, files, notes)?) {
+        Some(found) => Ok(found.as_slice() == diags_of(alloc, wanted)?.as_slice()),
+        None => Ok(false),
     }
+}
+
+#[test]
+fn lists_the_first_faults(rt: HostRuntime) -> Result<(), Fail> {
+    let alloc = rt.alloc();
+    // Two texts have faults: what is noted elsewhere isn't listed.
+    let files = [FAULT_AT_9, FAULT_AT_6];
+    let wanted = [(0, 9, 20), (1, 6, 20)];
+    assert!(rt; are_listed(alloc, &files, &[&[(1, 2, 31)], &[]], &wanted)?);
+    // Both streams of one text have faults: the procedure's is at an earlier token than the module's.
+    let wanted = [(0, 9, 20)];
+    assert!(rt; are_listed(alloc, &[TWO_FAULTS], &[&[(0, 1, 31)], &[]], &wanted)?);
+    Ok(())
+}
+
+#[test]
+fn lists_what_is_noted(rt: HostRuntime) -> Result<(), Fail> {
+    let alloc = rt.alloc();
+    // Two streams note the same, and one of them another code at the same token.
+    let wanted = [(0, 4, 40), (0, 4, 43)];
+    let notes: [&[Note]; 2] = [&[(0, 4, 43)], &[(0, 4, 43), (0, 4, 40)]];
+    assert!(rt; are_listed(alloc, &[TWO_STREAMS], &notes, &wanted)?);
+    // One stream notes before and behind what the other notes.
+    let wanted = [(0, 1, 31), (0, 4, 43), (0, 8, 21), (0, 12, 40)];
+    let notes: [&[Note]; 2] = [&[(0, 1, 31), (0, 12, 40)], &[(0, 4, 43), (0, 8, 21)]];
+    assert!(rt; are_listed(alloc, &[TWO_STREAMS], &notes, &wanted)?);
+    // The main text comes before its definition modules, whose streams come first.
+    let files = [
+        ("M.mod", "MODULE M; IMPORT B; END M."),
+        ("B.def", "DEFINITION MODULE B; IMPORT A; END B."),
+        ("A.def", "DEFINITION MODULE A; END A."),
+    ];
+    let wanted = [(0, 4, 40), (0, 4, 41), (1, 5, 40), (2, 2, 31)];
+    let notes: [&[Note]; 3] = [&[(2, 2, 31)], &[(1, 5, 40)], &[(0, 4, 41), (0, 4, 40)]];
+    assert!(rt; are_listed(alloc, &files, &notes, &wanted)?);
     Ok(())
 }
 
