@@ -6,7 +6,7 @@ use crate::object_shape::ObjectShape;
 use crate::shape::Shape;
 
 pub const USAGE: &str =
-    "usage: m2_bench [lex KIND BYTES | gather MODULES | cut PROCEDURES | parse SHAPE TOKENS | compile MODULE SIZE | read OBJECT BYTES | run LOOP TIMES], \
+    "usage: m2_bench [lex KIND BYTES | gather MODULES | cut PROCEDURES | merge PROCEDURES | parse SHAPE TOKENS | compile MODULE SIZE | read OBJECT BYTES | run LOOP TIMES], \
     where KIND is ordinary, names, digits, blanks or symbols, \
     SHAPE is statements, semicolons, operators, names, brackets or loops, \
     MODULE is assignments, with SIZE in bytes, or declarations, statements or nested, with SIZE at most 80000, 100000 or 16000 of them, \
@@ -38,6 +38,8 @@ pub enum Command {
     Gather(u32),
     /// How many procedures the text has.
     Cut(u32),
+    /// How many procedures the object has behind its body.
+    Merge(u32),
     Parse(Shape, u32),
     /// How large the module is, as its shape measures it.
     Compile(ModuleShape, u32),
@@ -58,6 +60,9 @@ impl Command {
             }
             [part, procedures] if part.as_str() == "cut" => {
                 Some(Command::Cut(number_in(procedures, MOST_PROCEDURES)?))
+            }
+            [part, procedures] if part.as_str() == "merge" => {
+                Some(Command::Merge(number_in(procedures, MOST_PROCEDURES)?))
             }
             [part, shape, tokens] if part.as_str() == "parse" => {
                 Some(Command::Parse(shape.parse().ok()?, number_in(tokens, MOST)?))

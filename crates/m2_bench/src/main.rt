@@ -2,12 +2,13 @@
 //!
 //! `m2_bench lex KIND BYTES` times `lex` over a text of one kind, `m2_bench gather MODULES` times `gather` over so
 //! many definition modules that each import all before them, `m2_bench cut PROCEDURES` times `cut` over a text of
-//! so many procedures, `m2_bench parse SHAPE TOKENS` times `parse_stream` over a module of one shape, `m2_bench
-//! compile MODULE SIZE` times `m2c compile A` over a module of one shape, `m2_bench read OBJECT BYTES` times
-//! `read_object` over an object of one shape, and `m2_bench run LOOP TIMES` times a machine that makes a loop so
-//! many times, all in memory. The inputs are made from the words, and the times are those of the processor. With no
-//! words a small run of each part prints its counts alone, which are the same at every run. Each part stands in a
-//! module of its own; a part to come adds a variant to `Command`.
+//! so many procedures, `m2_bench merge PROCEDURES` times `merge` over the outputs of so many, `m2_bench parse SHAPE
+//! TOKENS` times `parse_stream` over a module of one shape, `m2_bench compile MODULE SIZE` times `m2c compile A` over
+//! a module of one shape, `m2_bench read OBJECT BYTES` times `read_object` over an object of one shape, and
+//! `m2_bench run LOOP TIMES` times a machine that makes a loop so many times, all in memory. The inputs are made from
+//! the words, and the times are those of the processor. With no words a small run of each part prints its counts
+//! alone, which are the same at every run. Each part stands in a module of its own; a part to come adds a variant to
+//! `Command`.
 #![tactic(auto)]
 
 mod command;
@@ -18,6 +19,7 @@ mod head;
 mod kind;
 mod lexing;
 mod loop_shape;
+mod merging;
 mod module_shape;
 mod object_shape;
 mod parsing;
@@ -83,6 +85,7 @@ fn obey(rt: &HostRuntime, command: Command) -> Result<ExitCode> {
         Command::Lex(kind, bytes) => lexing::print_time(rt, kind, bytes)?,
         Command::Gather(modules) => gathering::print_time(rt, modules)?,
         Command::Cut(procedures) => cutting::print_time(rt, procedures)?,
+        Command::Merge(procedures) => merging::print_time(rt, procedures)?,
         Command::Parse(shape, tokens) => parsing::print_time(rt, shape, tokens)?,
         Command::Compile(shape, size) => compiling::print_time(rt, shape, size)?,
         Command::Read(shape, bytes) => reading::print_time(rt, shape, bytes)?,
@@ -98,6 +101,7 @@ fn print_counts(rt: &HostRuntime) -> Result<()> {
     }
     gathering::print_counts(rt, FEW_MODULES)?;
     cutting::print_counts(rt, FEW_PROCEDURES)?;
+    merging::print_counts(rt, FEW_PROCEDURES)?;
     for shape in Shape::ALL {
         parsing::print_counts(rt, shape, FEW_TOKENS)?;
     }

@@ -83,7 +83,22 @@ impl ObjectShape {
 
     /// An object of about so many bytes.
     pub fn object(self, alloc: Global, bytes: u32) -> Result<Vec<u8>, Memory> {
-        let plan = self.plan(bytes);
+        self.planned(alloc, self.plan(bytes))
+    }
+
+    /// An object with so many procedures behind its body.
+    pub fn with_procedures(self, alloc: Global, procedures: u32) -> Result<Vec<u8>, Memory> {
+        let statements = FEW_STATEMENTS;
+        self.planned(
+            alloc,
+            Plan {
+                procedures,
+                statements,
+            },
+        )
+    }
+
+    fn planned(self, alloc: Global, plan: Plan) -> Result<Vec<u8>, Memory> {
         let mut object = Vec::new(alloc);
         push_head(&mut object, 1, plan.procedures.saturating_add(1))?;
         push_procedure(&mut object, [0, 0], &returning(alloc)?)?;

@@ -1,0 +1,5 @@
+//! Tests of merging.
+#![tactic(auto)]
+
+#[cfg(test)]
+mod by_hand;
