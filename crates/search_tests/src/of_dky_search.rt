@@ -82,6 +82,25 @@ fn tells_another_handle(rt: HostRuntime) -> Result<(), Fail> {
     Ok(())
 }
 
+/// No two handles fill one scope.
+#[test]
+fn lie_apart(rt: HostRuntime) -> Result<(), Fail> {
+    let alloc = rt.alloc();
+    let sample = sample_with(alloc, 100)?;
+    let Opened {
+        table,
+        first,
+        third,
+    } = open(alloc, &sample.texts, 3)?;
+    let one = SeatScopes::new(&table, &sample.texts, first);
+    let other = SeatScopes::new(&table, &sample.texts, third);
+    if one.filled() == other.filled() {
+        one.apart(other);
+        unreachable!();
+    }
+    Ok(())
+}
+
 /// A scope is filled to its last row and complete. Of so many searches, one for each name that it has: how many find a
 /// row, and how many rows they load together.
 fn searched(alloc: Global, many: u32) -> Result<(u32, u64), Memory>

@@ -24,11 +24,20 @@ const MISSING: u32 = 20_000;
 const RUNS: u32 = 100;
 
 /// Enters all rows, in pieces.
-fn fill<'t>(alloc: Global, mut filler: Filler<'t>) -> Result<SeatScopes<'t>, Memory> {
+fn enter_all(alloc: Global, filler: &mut Filler) -> Result<(), Memory> {
     for _ in 0..PIECES {
         filler.enter(alloc, PIECE)?;
     }
-    Ok(filler.complete())
+    Ok(())
+}
+
+/// Enters all rows, and marks the scope as complete even if there is no memory for them, so that who waits for it comes to an
+/// end.
+fn fill<'t>(alloc: Global, mut filler: Filler<'t>) -> Result<SeatScopes<'t>, Memory> {
+    let entered = enter_all(alloc, &mut filler);
+    let filled = filler.complete();
+    entered?;
+    Ok(filled)
 }
 
 /// What replies have told of the scope: at least so many rows, or all.
@@ -116,9 +125,9 @@ fn takes_no_reply_back(rt: HostRuntime) -> Result<(), Fail> {
         } = open(alloc, &sample.texts, ROWS)?;
         let filler = Filler::new(&table, &sample, first, ROWS);
         let reader = SeatScopes::new(&table, &sample.texts, third);
-        let (filled, agree) = join(&rt, move || fill(alloc, filler), move || watch(reader));
-        assert!(rt; agree, "run {run}");
+        let (agree, filled) = join(&rt, move || watch(reader), move || fill(alloc, filler));
         let mut filled = filled?;
+        assert!(rt; agree, "run {run}");
         assert!(rt; finds_all(&mut filled), "run {run}");
     }
     Ok(())
