@@ -7,3 +7,5 @@ mod of_decisions;
 mod of_m2_io;
 #[cfg(test)]
 mod of_m2c_top;
+#[cfg(test)]
+mod of_objects;
