@@ -21,6 +21,7 @@ pub mod FormedRows
 pub mod Functions
 pub mod HeadingRows
 pub mod ImportRows
+pub mod ImportedConstants
 pub mod Items
 pub mod Layouts
 pub mod Lookup

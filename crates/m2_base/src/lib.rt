@@ -8,6 +8,7 @@
 //! `Scopes`). The layers above use `Names`, `Token`, the trees, the rows and the meanings of `Scopes`.
 #![tactic(auto)]
 
+mod brought;
 mod builtins;
 mod diagnostic;
 mod kind;
@@ -39,7 +40,7 @@ pub use letters::{
 };
 pub use limits::{
     DEEPEST_LEVEL, GREATEST_CARDINAL, GREATEST_CHARACTER, GREATEST_ELEMENT, GREATEST_INTEGER,
-    LEAST_INTEGER, LONGEST_CHAIN, MOST_CELLS, MOST_NESTED, MOST_PROCEDURES, MOST_TEXT_BYTES,
+    LEAST_INTEGER, LONGEST_CHAIN, MOST_BROUGHT, MOST_CELLS, MOST_NESTED, MOST_PROCEDURES, MOST_TEXT_BYTES,
     MOST_TEXTS, MOST_TOKENS, MOST_UNIT_TOKENS, STANDARD_ROWS,
 };
 pub use memory::Memory;

@@ -18,6 +18,9 @@ pub const MOST_NESTED: usize = 100;
 /// A main text has at most so many procedures.
 pub const MOST_PROCEDURES: usize = 16_384;
 
+/// The imports of a block bring at most so many constants of enumerations.
+pub const MOST_BROUGHT: usize = 16_384;
+
 /// A procedure has at most this level: 1 for those of the module.
 pub const DEEPEST_LEVEL: usize = 16;
 

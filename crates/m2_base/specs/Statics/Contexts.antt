@@ -7,6 +7,18 @@ use Rattle.m2_base.specs.Tables.{rows_at}
 use Rattle.m2_base.specs.declared.notes.Diag.{Diag}
 pub use Rattle.m2_base.specs.declared.sites.Named.{Named}
 
+-- The layout of a block. Of the names that its syntax declares each has the ordinal that its row would have if nothing
+-- were brought, and its kind, token and item; `firsts` has the first ordinal of each item so, and the number of all rows
+-- last; `brought` has the names that the block's imports have brought so far, with the ordinals of their rows.
+pub record Layout : Type 0 where
+  pub names : List Named
+  pub firsts : List ℕ
+  pub brought : List Named
+
+-- of a block that declares nothing
+abbrev pub no_layout : Layout
+no_layout = record { names = []; firsts = []; brought = [] }
+
 -- What surrounds a block. `home` is the scope of its module, of a definition module its own; `own` is the scope of the
 -- own definition of an implementation module; `level` is 0 for a module, 1 for its procedures; `chain` has the block,
 -- the procedures round it from the inside out, the module and the own definition.
@@ -39,7 +51,7 @@ pub record Scene : Type 0 where
 pub record Context : Type 0 where
   pub source : Source
   pub scene : Scene
-  pub layout : List Named
+  pub layout : Layout
   pub item : Option ℕ
 
 -- the scene of a block over these scopes, of its own scope these rows: in a declaration the rows made so far, in a

@@ -10,6 +10,7 @@ use Rattle.m2_base.specs.Statics.Operands.{first_of, string_length}
 use Rattle.m2_base.specs.Statics.Shapes.{item_shapes}
 use Rattle.m2_base.specs.Statics.SoundTrees.{IsSoundItem}
 use Rattle.m2_base.specs.Tables.{rows_at}
+use Rattle.m2_base.specs.declared.limits.TheConstants.{MOST_BROUGHT}
 use Rattle.m2_base.specs.declared.trees.Ident.{Ident}
 
 -- an array and a record have at least one cell
@@ -35,7 +36,7 @@ IsImportedBefore source s (import_item from i) = scope_of_module source (importe
 IsImportedBefore source s other = Unit {0}
 
 -- A block over finished scopes: those before it are there and their rows are right, scope 0 is the standard one, the block
--- has not too many rows, its numbers and names are those that tokens have, and modules are imported from scopes before.
+-- has not too many rows, with those that its imports bring, its numbers and names are those that tokens have, and modules are imported from scopes before.
 pub record IsReady (names : ℕ) (source : Source) (tables : List (List Row)) (b : BlockTree) : Type 0 where
   pub some_names : 0 < names
   pub few_names : names ≤ 2 ^ 32
@@ -43,7 +44,7 @@ pub record IsReady (names : ℕ) (source : Source) (tables : List (List Row)) (b
   pub before : b.block.scope ≤ length tables
   pub standard : rows_at tables 0 ≡ standard_rows
   pub right : (s o : ℕ) (r : Row) → s < b.block.scope → slice_get (rows_at tables s) o ≡ Some r → (o < 2 ^ 32) × IsRight names (at_place s o) r
-  pub few : length (flat_map item_shapes (items_of b.tree)) < 2 ^ 31
+  pub few : length (flat_map item_shapes (items_of b.tree)) + MOST_BROUGHT < 2 ^ 31
   pub short : (n : ℕ) → string_length source n < 2 ^ 32
   pub bytes : (n : ℕ) → first_of (spelling source n) < 256
   pub items : Each (IsSoundItem names) (items_of b.tree)
@@ -56,7 +57,7 @@ pub record IsSoundText (source : Source) : Type 0 where
 
 -- a block's tree, of a unit with so many names
 pub record IsSoundBlock (names : ℕ) (source : Source) (b : BlockTree) : Type 0 where
-  pub few : length (flat_map item_shapes (items_of b.tree)) < 2 ^ 31
+  pub few : length (flat_map item_shapes (items_of b.tree)) + MOST_BROUGHT < 2 ^ 31
   pub items : Each (IsSoundItem names) (items_of b.tree)
   pub imports : Each (IsImportedBefore source b.block.scope) (items_of b.tree)
 

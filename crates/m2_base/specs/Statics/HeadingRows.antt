@@ -64,4 +64,4 @@ abbrev pub heading_rows : Context → Heading → Makes Effect
 heading_rows c h =
     make_then c (own_sections_rows c (placing 0 (capped (parameter_cells h.sections)) []) h.sections) (λ d f.
     make_then d (only_gives (result_type d h.result)) (λ e r.
-    makes (record { cell = f.own; prologue = f.copies; result = r; heading = None })))
+    makes (record { cell = f.own; prologue = f.copies; result = r; heading = None; brought = [] })))

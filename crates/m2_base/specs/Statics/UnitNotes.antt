@@ -5,7 +5,7 @@ use Rattle.m2_base.specs.Standard.{standard_rows}
 use Rattle.m2_base.specs.Statics.BlockRows.{declare_block}
 use Rattle.m2_base.specs.Statics.Blocks.{BlockTree, UnitTrees, blocks_of}
 use Rattle.m2_base.specs.Statics.Closing.{closing_diags}
-use Rattle.m2_base.specs.Statics.Contexts.{Block, Context, Source, counting}
+use Rattle.m2_base.specs.Statics.Contexts.{Block, Context, Source, counting, no_layout}
 use Rattle.m2_base.specs.Statics.UnitRows.{unit_rows}
 use Rattle.m2_base.specs.Tables.{rows_at}
 use Rattle.m2_base.specs.declared.notes.Answer.{Answer}
@@ -14,7 +14,7 @@ use Rattle.m2_base.specs.declared.notes.Diag.{Diag}
 -- where a block's statements and its closing check stand: all rows of its own scope count
 abbrev pub complete_context : Source → (all : List (List Row)) → Block → Context
 complete_context source all b =
-    record { source = source; scene = counting all b (rows_at all b.scope); layout = []; item = None }
+    record { source = source; scene = counting all b (rows_at all b.scope); layout = no_layout; item = None }
 
 -- the diagnostics of one block's declarations, over the finished scopes before it, and of its closing check
 abbrev pub block_diags : Source → (before all : List (List Row)) → BlockTree → List Diag
