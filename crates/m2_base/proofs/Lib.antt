@@ -1,5 +1,6 @@
 pub mod GrammarChecks
 mod BlockLimitChecks
+mod BroughtLaws
 pub mod ChainLaws
 pub mod FinishedLaws
 pub mod Kept
