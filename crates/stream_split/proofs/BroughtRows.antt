@@ -18,13 +18,14 @@ use Rattle.m2_base.specs.declared.trees.declarations.StreamKind.{StreamKind}
 use Rattle.m2_base.specs.declared.trees.declarations.StreamKind.TheVariants as streams
 use Rattle.m2_base.specs.Grammar.{grammar, from, imported, procedure_cut, main, definition, procedure_stream, stream}
 use Rattle.m2_base.specs.KindNumbers.{kind_number}
+use Rattle.m2_base.specs.Statics.Bringing.{BringsIts, HaveBrought, may_bring}
 use Rattle.m2_base.specs.Statics.Items.{Item, decl_item, import_item, import_items, items_of}
-use Rattle.m2_base.specs.Statics.Layouts.{brought_shape, laid_shapes, with_brought}
+use Rattle.m2_base.specs.Statics.Layouts.{all_brought, brought_shape, laid_shapes, with_brought}
 use Rattle.m2_base.specs.Statics.Shapes.{Shape, item_shapes}
 use Rattle.m2_base.specs.StreamsOf as trees
 use Rattle.m2_base.specs.Trees.{Decl, Stream, const_decl, proc_decl, type_decl, vars_decl}
 use Rattle.stream_split.specs.Agreement.{SpellsStream, SpellsStreams}
-use Rattle.stream_split.specs.Rooms.{BringsIts, HaveBrought, count_brought, may_bring, most_brought, most_rows, most_rows_of_scopes}
+use Rattle.stream_split.specs.Rooms.{most_brought, most_rows, most_rows_of_scopes}
 use Rattle.stream_split.specs.Sizes.{brought_room, has_from, is_from, room_of, sizes_of}
 use Rattle.stream_split.specs.Streams.{StreamOf}
 use Rattle.stream_split.proofs.RowCounts.{rows_are_shapes, stream_rows}
@@ -179,7 +180,7 @@ with_count shapes (b ∷ brought) =
     let m = length-map brought brought_shape in
     omega (arith, l, m)
 
-laid_count : (items : List Item) (brought : List (List Named)) → AllZip BringsIts items brought → length (laid_shapes items brought) ≡ length (flat_map item_shapes items) + count_brought brought
+laid_count : (items : List Item) (brought : List (List Named)) → AllZip BringsIts items brought → length (laid_shapes items brought) ≡ length (flat_map item_shapes items) + length (all_brought brought)
 laid_count [] [] h = refl
 laid_count [] (b ∷ brought) h = absurd h
 laid_count (x ∷ items) [] h = absurd h
@@ -188,21 +189,23 @@ laid_count (x ∷ items) (b ∷ brought) h =
     let w = with_count (item_shapes x) b in
     let l = length-append (with_brought (item_shapes x) b) (laid_shapes items brought) in
     let m = length-append (item_shapes x) (flat_map item_shapes items) in
-    omega (arith, i, w, l, m)
+    let n = length-append b (all_brought brought) in
+    omega (arith, i, w, l, m, n)
 
-none_brought : (items : List Item) (brought : List (List Named)) → AllZip BringsIts items brought → bring items ≡ false → count_brought brought ≡ 0
+none_brought : (items : List Item) (brought : List (List Named)) → AllZip BringsIts items brought → bring items ≡ false → length (all_brought brought) ≡ 0
 none_brought [] [] h e = refl
 none_brought [] (b ∷ brought) h e = absurd h
 none_brought (x ∷ items) [] h e = absurd h
 none_brought (x ∷ items) (b ∷ brought) h e =
     let first = ap length (h.0 (first_not (may_bring x) (bring items) e)) in
     let rest = none_brought items brought h.1 (second_not (may_bring x) (bring items) e) in
-    omega (arith, first, rest)
+    let n = length-append b (all_brought brought) in
+    omega (arith, first, rest, n)
 
-brought_few : (items : List Item) (brought : List (List Named)) → HaveBrought items brought → count_brought brought ≤ most_brought items
+brought_few : (items : List Item) (brought : List (List Named)) → HaveBrought items brought → length (all_brought brought) ≤ most_brought items
 brought_few items brought h = by (bring items) refl
   where
-    by : (b : Bool) → bring items ≡ b → count_brought brought ≤ most_brought items
+    by : (b : Bool) → bring items ≡ b → length (all_brought brought) ≤ most_brought items
     by true e = let most = ap (λ c. if c then MOST_BROUGHT else 0) e in let few = h.few in omega (arith, most, few)
     by false e = let none = none_brought items brought h.each e in omega (arith, none)
 

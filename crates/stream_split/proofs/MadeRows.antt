@@ -9,10 +9,11 @@ use Rattle.m2_base.specs.declared.rows.Row.{Row}
 use Rattle.m2_base.specs.declared.trees.declarations.StreamKind.{StreamKind}
 use Rattle.m2_base.specs.Statics.BlockRows.{context_of, declare_block, declare_items, first_cell, scene_of}
 use Rattle.m2_base.specs.Statics.Blocks.{BlockTree}
+use Rattle.m2_base.specs.Statics.Bringing.{BringsIts, HaveBrought, may_bring}
 use Rattle.m2_base.specs.Statics.Contexts.{Context, Source}
 use Rattle.m2_base.specs.Statics.Declarations.{declare}
 use Rattle.m2_base.specs.Statics.Items.{Item, const_item, heading_item, import_item, items_of, proc_item, type_item, vars_item}
-use Rattle.stream_split.specs.Rooms.{BringsIts, HaveBrought, count_brought, may_bring, most_rows}
+use Rattle.stream_split.specs.Rooms.{most_rows}
 use Rattle.stream_split.proofs.BroughtRows.{laid_most}
 
 -- only a name of a module brings

@@ -1,12 +1,12 @@
 -- How many rows each scope has at most by its tree, for comparison with its room.
-use Rattle.std.specs.Prelude.{◌≡◌, ℕ, ◌+◌, ◌≤◌, Bool, true, false, if◌then◌else◌, List, [], ◌∷◌, Some, length, map}
-use Rattle.std.specs.List.{AllZip, list_any}
+use Rattle.std.specs.Prelude.{ℕ, ◌+◌, if◌then◌else◌, List, [], ◌∷◌, length, map}
+use Rattle.std.specs.List.{list_any}
 use Rattle.m2_base.specs.Standard.{standard_rows}
-use Rattle.m2_base.specs.Statics.Items.{Item, import_item, items_of}
+use Rattle.m2_base.specs.Statics.Bringing.{may_bring}
+use Rattle.m2_base.specs.Statics.Items.{Item, items_of}
 use Rattle.m2_base.specs.Statics.Layouts.{layout_of}
 use Rattle.m2_base.specs.Trees.{Stream}
 use Rattle.m2_base.specs.declared.limits.TheConstants.{MOST_BROUGHT}
-use Rattle.m2_base.specs.declared.sites.Named.{Named}
 
 abbrev pub last_of : List ℕ → ℕ
 last_of [] = 0
@@ -17,32 +17,9 @@ last_of (n ∷ next ∷ ns) = last_of (next ∷ ns)
 abbrev pub rows_of : Stream → ℕ
 rows_of tree = last_of (layout_of tree).firsts
 
--- ** What imports bring
-
--- the item is a name of a module, behind FROM
-abbrev pub may_bring : Item → Bool
-may_bring (import_item (Some m) i) = true
-may_bring other = false
-
--- an item that is no name of a module brings nothing
-abbrev pub BringsIts : Item → List Named → Type 0
-BringsIts x brought = may_bring x ≡ false → brought ≡ []
-
--- how many names these items have brought
-abbrev pub count_brought : List (List Named) → ℕ
-count_brought [] = 0
-count_brought (b ∷ brought) = length b + count_brought brought
-
--- each of these items has brought these names: only names of modules bring any, and all of them not too many
-pub record HaveBrought (items : List Item) (brought : List (List Named)) : Type 0 where
-  pub each : AllZip BringsIts items brought
-  pub few : count_brought brought ≤ MOST_BROUGHT
-
 -- how many rows the imports among these items bring at most
 abbrev pub most_brought : List Item → ℕ
 most_brought items = if list_any may_bring items then MOST_BROUGHT else 0
-
--- ** Rooms
 
 -- how many rows a block has at most: those of its items, and those that its imports bring
 abbrev pub most_rows : Stream → ℕ

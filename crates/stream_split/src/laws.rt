@@ -9,6 +9,7 @@ ghost use Rattle.m2_base.specs.Finished.{AreRead, IsFinished, source_of, tokens_
 ghost use Rattle.m2_base.specs.Statics.BlockLimits.{Begun, deepest_level, limit_of, procedures_of};
 ghost use Rattle.m2_base.specs.Statics.BlockRows.{declare_block};
 ghost use Rattle.m2_base.specs.Statics.Blocks.{BlockTree, UnitTrees, blocks_of};
+ghost use Rattle.m2_base.specs.Statics.Bringing.{HaveBrought};
 ghost use Rattle.m2_base.specs.Statics.Contexts.{Source};
 ghost use Rattle.m2_base.specs.Lists.{Each};
 ghost use Rattle.m2_base.specs.Statics.FormedRows.{IsImportedBefore};
@@ -25,7 +26,7 @@ ghost use Rattle.stream_split.specs.Agreement.{SpellsStream, SpellsStreams, IsFa
 ghost use Rattle.stream_split.specs.Chains.{block_of, own_scope};
 ghost use Rattle.stream_split.specs.Fronts.{AreFronts};
 ghost use Rattle.stream_split.specs.Procedures.{HasProcedure, HasStream};
-ghost use Rattle.stream_split.specs.Rooms.{HaveBrought, most_rows, most_rows_of_scopes, rows_of};
+ghost use Rattle.stream_split.specs.Rooms.{most_rows, most_rows_of_scopes, rows_of};
 ghost use Rattle.stream_split.specs.Sizes.{room_of, sizes_of};
 ghost use Rattle.stream_split.specs.Streams.{StreamOf, definition_stream, main_number, main_streams, main_tokens, module_stream, streams_of};
 ghost use Rattle.stream_split.specs.Surroundings.{AreTreesOf, IsSurrounded, surroundings_of};
