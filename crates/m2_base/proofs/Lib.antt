@@ -1,5 +1,6 @@
 pub mod GrammarChecks
 mod BlockLimitChecks
+pub mod BroughtLaws
 pub mod ChainLaws
 pub mod FinishedLaws
 pub mod Kept
@@ -27,6 +28,7 @@ pub mod LayoutLaws
 pub mod ShapeLaws
 pub mod Sound
 pub mod SoundBlocks
+pub mod SoundBrought
 pub mod SoundConstants
 pub mod SoundFunctions
 pub mod SoundItems
