@@ -10,6 +10,6 @@ pub moved-requires : goal.moved-requires
 moved-requires c =
     let names = c.self.inside.names.items in
     let is : entry_named names c.args.name ≡ Some c.in_ok-named-in-None.named =
-        sym (c.self.invariant.0 c.args.name) ∙ sym c.get.ensures.value ∙ sym c.copied.ensures ∙ c.in_ok-named-in-None.was in
+    sym (c.self.invariant.0 c.args.name) ∙ sym c.get.ensures.value ∙ sym c.copied.ensures ∙ c.in_ok-named-in-None.was in
     subst (λ (o : Option Named). WhereKept o (λ (n : Named). n.ordinal < 2 ^ 31)) is
     (each_found (λ (n : Named). n.ordinal < 2 ^ 31) (λ (n : Named). n.name == c.args.name) names c.self.invariant.1.names_small)
