@@ -1,151 +1,126 @@
--- The rows of the constants that an import brings: they have their shapes, are new in their scope, and aren't too many.
-use Rattle.std.specs.Prelude.{◌≡◌, ◌⊎◌, refl, ℕ, suc, ◌+◌, ◌<◌, ◌≤◌, ◌==◌, nat_lt, Bool, true, false, ◌||◌, if◌then◌else◌, is_some, List, [], ◌∷◌, ◌++◌, length, map, flat_map, slice_set, unwrap_or, Option, Some, None}
-use Rattle.std.proofs.Common.{ap, subst, sym, ◌∙◌, inl, inr, arith}
-use Rattle.std.specs.List.{list_any}
-use Rattle.std.proofs.lemmas.Bool.{cases_order, ltb-false}
-use Rattle.std.proofs.lemmas.List.{length-append, length-map, length-set, get_or_past}
-use Rattle.m2_base.specs.Rows.{Row, Alias, alias_kind, row_of}
-use Rattle.m2_base.specs.Standard.{is_standard}
-use Rattle.m2_base.specs.Tables.{first_named, found_or, rows_at}
-use Rattle.m2_base.specs.Statics.Contexts.{Context, Layout, Named, Scene}
-use Rattle.m2_base.specs.Statics.ImportedConstants.{Member, are_too_many, brings, brought_names, brought_row, is_given, new_members}
-use Rattle.m2_base.specs.Statics.Layouts.{brought_shape, extended, with_brought}
-use Rattle.m2_base.specs.Statics.Lookup.{has_name}
-use Rattle.m2_base.specs.Statics.Makes.{Makes, own_rows, scene_with}
-use Rattle.m2_base.specs.Statics.NewRows.{AreNew, no_new, more_new}
-use Rattle.m2_base.specs.Statics.ShapedRows.{AreShaped, none_of, more_of}
-use Rattle.m2_base.specs.Statics.Shapes.{Shape}
+-- The names that were brought: how many come before an item, and the first entry of each name.
+use Rattle.std.proofs.Common.{◌≡◌, ℕ, zero, suc, ◌+◌, ◌-◌, ◌<◌, ◌≤◌, refl, sym, ap, ◌∙◌, cond, Bool, true, false, nat_eq, nat_lt, List, [], ◌∷◌, ◌++◌, length, take, filter, Option, Some, None, slice_index_or, arith}
+use Rattle.std.specs.List.Sorted.{IsNonDecreasingBy, IsPartitionPoint, IsPartitionedBy}
+use Rattle.std.proofs.lemmas.List.Sorted.{IsPartitionedBy-ltb}
+use Rattle.std.proofs.lemmas.List.{take_all, take_more}
+use Rattle.m2_base.specs.Lists.{Each}
+use Rattle.m2_base.specs.Statics.Layouts.{Ascend, AreBrought}
+use Rattle.m2_base.specs.Statics.Lookup.{brought_before, entry_named, entry_or}
+use Rattle.m2_base.specs.declared.sites.Named.{Named}
 use Rattle.m2_base.specs.declared.limits.TheConstants.{MOST_BROUGHT}
-use Rattle.m2_base.proofs.SceneLaws.{own_of, own-with}
-use Rattle.m2_base.proofs.ShapeLaws.{AreShaped-append, AreShaped-end}
+use Rattle.m2_base.proofs.ChainLaws.{each_append}
 
--- ** Shapes
+-- ** The order
 
-members_shaped : (item o at : ℕ) (ms : List Member) → AreShaped (map brought_shape (brought_names item o at ms)) (map (brought_row at) ms)
-members_shaped item o at [] = none_of
-members_shaped item o at (m ∷ ms) = more_of (record { kind = refl; at = refl; name = inl refl }) (members_shaped item (o + 1) at ms)
+-- a fact of each is one of that at a place
+each_at : (P : Named → Type 0) (xs : List Named) (i : ℕ) (d : Named) → Each P xs → i < length xs → P (slice_index_or xs i d)
+each_at P [] i d h lt = absurd (omega (arith, lt))
+each_at P (x ∷ xs) zero d h lt = h.0
+each_at P (x ∷ xs) (suc i) d h lt = each_at P xs i d h.1 (omega (arith, lt))
 
-new_shaped : (item o at : ℕ) (ms : List Member) {shapes : List Shape} {rows : List Row} → AreShaped shapes rows
-    → AreShaped (with_brought shapes (brought_names item o at ms)) (rows ++ map (brought_row at) ms)
-new_shaped item o at [] h = AreShaped-end h
-new_shaped item o at (m ∷ ms) h = AreShaped-append h (members_shaped item o at (m ∷ ms))
+-- their items don't fall
+rises : (xs : List Named) → Ascend xs → IsNonDecreasingBy (λ (b : Named). b.item) xs
+rises [] h i j d le lt = absurd (omega (arith, lt))
+rises (x ∷ xs) h zero zero d le lt = omega arith
+rises (x ∷ xs) h zero (suc j) d le lt = each_at (λ b. x.item ≤ b.item) xs j d h.0 (omega (arith, lt))
+rises (x ∷ xs) h (suc i) zero d le lt = absurd (omega (arith, le))
+rises (x ∷ xs) h (suc i) (suc j) d le lt = rises xs h.1 i j d (omega (arith, le)) (omega (arith, lt))
 
--- behind rows of these shapes
-pub brings_shaped : (c : Context) (at : ℕ) (ms new : List Member) {shapes : List Shape} {rows : List Row} → AreShaped shapes rows
-    → AreShaped (with_brought shapes (brings c at ms new).value) (rows ++ (brings c at ms new).rows)
-brings_shaped c at ms new {shapes} {rows} h = by_test (are_too_many c new) _ _ (AreShaped-end h) (new_shaped (unwrap_or c.item 0) (length (own_rows c)) at new h)
-  where
-    by_test : (b : Bool) (x y : Makes (List Named)) → AreShaped (with_brought shapes x.value) (rows ++ x.rows) → AreShaped (with_brought shapes y.value) (rows ++ y.rows)
-        → AreShaped (with_brought shapes (if b then x else y).value) (rows ++ (if b then x else y).rows)
-    by_test true x y p q = p
-    by_test false x y p q = q
+-- so those of earlier items come first
+pub parted : (xs : List Named) (item : ℕ) → Ascend xs → IsPartitionedBy (λ (b : Named). nat_lt b.item item) xs
+parted xs item h = IsPartitionedBy-ltb (λ (b : Named). b.item) xs item (rises xs h)
 
--- ** How many
+-- those that pass a test all come before this place, and no other
+counted : (p : Named → Bool) (xs : List Named) (k : ℕ) → k ≤ length xs → IsPartitionPoint (λ y. p y ≡ true) (λ y. p y ≡ false) xs k → k ≡ length (filter p xs)
+counted p [] k le h = omega (arith, le)
+counted p (x ∷ xs) zero le h =
+    let e : p x ≡ false = h.1 0 x (omega arith) (omega arith) in
+    rw e
+    (counted p xs 0 (omega arith) ((λ j d lo hi. absurd (omega (arith, hi))), λ j d lo hi. h.1 (suc j) d (omega arith) (omega (arith, hi))))
+counted p (x ∷ xs) (suc k) le h =
+    let e : p x ≡ true = h.0 0 x (omega arith) (omega arith) in
+    let rest = counted p xs k (omega (arith, le)) ((λ j d lo hi. h.0 (suc j) d (omega arith) (omega (arith, hi))), λ j d lo hi. h.1 (suc j) d (omega (arith, lo)) (omega (arith, hi))) in
+    rw e (omega (arith, rest))
 
-pub names_length : (item o at : ℕ) (ms : List Member) → length (brought_names item o at ms) ≡ length ms
-names_length item o at [] = refl
-names_length item o at (m ∷ ms) = ap suc (names_length item (o + 1) at ms)
+-- where earlier items' names end
+pub point_counts : (xs : List Named) (item k : ℕ) → k ≤ length xs
+    → IsPartitionPoint (λ (y : Named). nat_lt y.item item ≡ true) (λ (y : Named). nat_lt y.item item ≡ false) xs k → k ≡ brought_before xs item
+point_counts xs item k le h = counted (λ (b : Named). nat_lt b.item item) xs k le h
 
-pub extended_length : (l : Layout) (b : List Named) → length (extended l b).brought ≡ length l.brought + length b
-extended_length l [] = omega arith
-extended_length l (n ∷ b) = length-append l.brought (n ∷ b)
+-- ** One more item
 
-pub extended_names : (l : Layout) (b : List Named) → (extended l b).names ≡ l.names
-extended_names l [] = refl
-extended_names l (n ∷ b) = refl
+each_up : (item : ℕ) (xs : List Named) → Each (λ (b : Named). b.item ≡ item) xs → Each (λ (b : Named). item ≤ b.item) xs
+each_up item [] h = tt
+each_up item (x ∷ xs) h = (let e : x.item ≡ item = h.0 in omega (arith, e), each_up item xs h.1)
 
-pub brings_few : (c : Context) (at : ℕ) (ms new : List Member) → length c.layout.brought ≤ MOST_BROUGHT
-    → length c.layout.brought + length (brings c at ms new).value ≤ MOST_BROUGHT
-brings_few c at ms new h = by_test (are_too_many c new) _ _ (omega (arith, h)) (λ e. let n = names_length (unwrap_or c.item 0) (length (own_rows c)) at new in omega (arith, n, e)) refl
-  where
-    by_test : (b : Bool) (x y : Makes (List Named)) → length c.layout.brought + length x.value ≤ MOST_BROUGHT
-        → (length c.layout.brought + length new ≤ MOST_BROUGHT → length c.layout.brought + length y.value ≤ MOST_BROUGHT)
-        → are_too_many c new ≡ b → length c.layout.brought + length (if b then x else y).value ≤ MOST_BROUGHT
-    by_test true x y p q e = p
-    by_test false x y p q e = q (ltb-false MOST_BROUGHT (length c.layout.brought + length new) e)
+same_ascend : (item : ℕ) (xs : List Named) → Each (λ (b : Named). b.item ≡ item) xs → Ascend xs
+same_ascend item [] h = tt
+same_ascend item (x ∷ xs) h = (rw (h.0) (each_up item xs h.1), same_ascend item xs h.1)
 
--- ** They are new
+each_from : (a b : ℕ) (xs : List Named) → a ≤ b → Each (λ (x : Named). x.item ≡ b) xs → Each (λ (x : Named). a ≤ x.item) xs
+each_from a b [] le h = tt
+each_from a b (x ∷ xs) le h = (let e : x.item ≡ b = h.0 in omega (arith, e), each_from a b xs le h.1)
 
-has_hit : (s : ℕ) (o : Option (ℕ × Row)) → is_some (found_or s o None) ≡ is_some o
-has_hit s None = refl
-has_hit s (Some hit) = refl
+ascend_append : (item : ℕ) (xs ys : List Named) → Ascend xs → Each (λ (b : Named). b.item ≤ item) xs → Each (λ (b : Named). b.item ≡ item) ys → Ascend (xs ++ ys)
+ascend_append item [] ys h low same = same_ascend item ys same
+ascend_append item (x ∷ xs) ys h low same =
+    (each_append (λ (d : Named). x.item ≤ d.item) xs ys h.0 (each_from x.item item ys low.0 same), ascend_append item xs ys h.1 low.1 same)
 
-lacks_more : (name : ℕ) (rows more : List Row) (k : ℕ) → is_some (first_named name rows k) ≡ false → ((j : ℕ) → is_some (first_named name more j) ≡ false)
-    → is_some (first_named name (rows ++ more) k) ≡ false
-lacks_more name [] more k h rest = rest k
-lacks_more name (r ∷ rows) more k h rest = by_test (r.name == name) h (λ e. lacks_more name rows more (k + 1) e rest)
-  where
-    by_test : (b : Bool) → is_some (if b then Some (k, r) else first_named name rows (k + 1)) ≡ false
-        → (is_some (first_named name rows (k + 1)) ≡ false → is_some (first_named name (rows ++ more) (k + 1)) ≡ false)
-        → is_some (if b then Some (k, r) else first_named name (rows ++ more) (k + 1)) ≡ false
-    by_test true e go = absurd (cc)
-    by_test false e go = go e
+length_append : (xs ys : List Named) → length (xs ++ ys) ≡ length xs + length ys
+length_append [] ys = omega arith
+length_append (x ∷ xs) ys = omega (arith, length_append xs ys)
 
-lacks_one : (name : ℕ) (r : Row) → (r.name == name) ≡ false → (j : ℕ) → is_some (first_named name (r ∷ []) j) ≡ false
-lacks_one name r e j = by_test (r.name == name) e
-  where
-    by_test : (b : Bool) → b ≡ false → is_some {T = ℕ × Row} (if b then Some (j, r) else None) ≡ false
-    by_test true e = absurd (cc)
-    by_test false e = refl
+pub more_brought : (item : ℕ) (xs ys : List Named) → AreBrought xs → Each (λ (b : Named). b.item ≤ item) xs → Each (λ (b : Named). b.item ≡ item) ys
+    → length xs + length ys ≤ MOST_BROUGHT → AreBrought (xs ++ ys)
+more_brought item xs ys h low same few =
+    record { order = ascend_append item xs ys h.order low same; few = omega (arith, length_append xs ys, few) }
 
--- a name that the own scope hasn't, and that isn't the row's, isn't there with the row either
-lacks_with : (scene : Scene) (r : Row) (name : ℕ) → has_name scene.tables scene.block.scope name ≡ false → (r.name == name) ≡ false
-    → has_name (scene_with scene (r ∷ [])).tables scene.block.scope name ≡ false
-lacks_with scene r name h e = by_order (cases_order scene.block.scope (length scene.tables))
-  where
-    s : ℕ
-    s = scene.block.scope
+-- ** The first entry of each name
 
-    there : is_some (first_named name (own_of scene) 0) ≡ false
-    there = sym (has_hit s (first_named name (own_of scene) 0)) ∙ h
+or_none : (o : Option Named) → entry_or o None ≡ o
+or_none None = refl
+or_none (Some n) = refl
 
-    none_there : length scene.tables ≤ s → has_name (scene_with scene (r ∷ [])).tables s name ≡ false
-    none_there k =
-        let many = length-set scene.tables s (own_of scene ++ r ∷ []) in
-        has_hit s (first_named name (own_of (scene_with scene (r ∷ []))) 0)
-        ∙ ap (λ (rows : List Row). is_some (first_named name rows 0)) (get_or_past (scene_with scene (r ∷ [])).tables s [] (omega (arith, many, k)))
+or_assoc : (a b c : Option Named) → entry_or (entry_or a b) c ≡ entry_or a (entry_or b c)
+or_assoc None b c = refl
+or_assoc (Some n) b c = refl
 
-    by_order : (s ≡ length scene.tables) ⊎ ((s < length scene.tables) ⊎ (length scene.tables < s)) → has_name (scene_with scene (r ∷ [])).tables s name ≡ false
-    by_order (inl same) = none_there (omega (arith, same))
-    by_order (inr (inl less)) =
-        has_hit s (first_named name (own_of (scene_with scene (r ∷ []))) 0)
-        ∙ ap (λ (rows : List Row). is_some (first_named name rows 0)) (own-with scene (r ∷ []) less)
-        ∙ lacks_more name (own_of scene) (r ∷ []) 0 there (lacks_one name r e)
-    by_order (inr (inr more)) = none_there (omega (arith, more))
+named_cons : (b : Bool) (x : Named) (o p : Option Named) → cond b (Some x) (entry_or o p) ≡ entry_or (cond b (Some x) o) p
+named_cons true x o p = refl
+named_cons false x o p = refl
 
--- what isn't given isn't in the scope
-abbrev NotGiven : Context → List ℕ → Scene → Type 0
-NotGiven c names scene = (name : ℕ) → is_given c names name ≡ false → has_name scene.tables scene.block.scope name ≡ false
+pub named_append : (xs ys : List Named) (name : ℕ) → entry_named (xs ++ ys) name ≡ entry_or (entry_named xs name) (entry_named ys name)
+named_append [] ys name = refl
+named_append (x ∷ xs) ys name = ap (cond (nat_eq x.name name) (Some x)) (named_append xs ys name) ∙ named_cons (nat_eq x.name name) x (entry_named xs name) (entry_named ys name)
 
-or_false : (a b : Bool) → (a || b) ≡ false → (a ≡ false) × (b ≡ false)
-or_false true b e = absurd (cc)
-or_false false b e = (refl, e)
+-- The index has the first entries of what it had and of the first i of these names, and room for the others.
+pub record IsIndexedTo (before after : ℕ → Option Named) (names : List Named) (i left : ℕ) : Type 0 where
+  pub first : (name : ℕ) → after name ≡ entry_or (before name) (entry_named (take i names) name)
+  pub room : length names ≤ i + left
 
-false_or : (a b : Bool) → a ≡ false → b ≡ false → (a || b) ≡ false
-false_or true b e f = absurd (cc)
-false_or false b e f = f
+-- at first
+pub none_yet : (before : ℕ → Option Named) (names : List Named) (left : ℕ) → length names ≤ left → IsIndexedTo before before names 0 left
+none_yet before names left h = record { first = λ name. sym (or_none (before name)); room = omega (arith, h) }
 
-members_new : (c : Context) (at : ℕ) (ms : List Member) (names : List ℕ) (scene : Scene) → NotGiven c names scene → AreNew scene (map (brought_row at) (new_members c names ms))
-members_new c at [] names scene h = no_new
-members_new c at (m ∷ ms) names scene h =
-    by_test (is_given c names m.name) (members_new c at ms names scene h) (λ e. more_new (inr (h m.name e)) (members_new c at ms (m.name ∷ names) (scene_with scene (brought_row at m ∷ [])) (more e))) refl
-  where
-    more : is_given c names m.name ≡ false → NotGiven c (m.name ∷ names) (scene_with scene (brought_row at m ∷ []))
-    more e name k =
-        let standard = or_false (is_standard name) _ k in
-        let own = or_false (has_name c.scene.tables c.scene.block.scope name) _ standard.1 in
-        let here = or_false (m.name == name) _ own.1 in
-        lacks_with scene (brought_row at m) name (h name (false_or (is_standard name) _ standard.0 (false_or (has_name c.scene.tables c.scene.block.scope name) _ own.0 here.1))) here.0
+-- one more
+pub one_further : (before between after : ℕ → Option Named) (names : List Named) (i left rest : ℕ) (d : Named) → IsIndexedTo before between names i left
+    → i < length names → left ≤ rest + 1
+    → ((name : ℕ) → after name ≡ entry_or (between name) (entry_named (slice_index_or names i d ∷ []) name)) → IsIndexedTo before after names (i + 1) rest
+one_further before between after names i left rest d so lt few updated =
+    let x = slice_index_or names i d in
+    let more : take (i + 1) names ≡ take i names ++ x ∷ [] = take_more names i d lt in
+    let first : (name : ℕ) → after name ≡ entry_or (before name) (entry_named (take (i + 1) names) name) =
+    λ name. updated name ∙ ap (λ o. entry_or o (entry_named (x ∷ []) name)) (so.first name)
+    ∙ or_assoc (before name) (entry_named (take i names) name) (entry_named (x ∷ []) name)
+    ∙ ap (entry_or (before name)) (sym (named_append (take i names) (x ∷ []) name) ∙ ap (λ xs. entry_named xs name) (sym more)) in
+    record { first = first; room = omega (arith, so.room, few) }
 
-    by_test : (b : Bool) → AreNew scene (map (brought_row at) (new_members c names ms))
-        → (is_given c names m.name ≡ false → AreNew scene (map (brought_row at) (m ∷ new_members c (m.name ∷ names) ms)))
-        → is_given c names m.name ≡ b → AreNew scene (map (brought_row at) (if b then new_members c names ms else m ∷ new_members c (m.name ∷ names) ms))
-    by_test true p q e = p
-    by_test false p q e = q e
+-- all
+pub all_indexed : (before after : ℕ → Option Named) (names : List Named) (i left : ℕ) → length names ≤ i → IsIndexedTo before after names i left
+    → (name : ℕ) → after name ≡ entry_or (before name) (entry_named names name)
+all_indexed before after names i left le so name = so.first name ∙ ap (λ xs. entry_or (before name) (entry_named xs name)) (take_all i names le)
 
-pub brought_new : (c : Context) (at : ℕ) (ms : List Member) → AreNew c.scene (brings c at ms (new_members c [] ms)).rows
-brought_new c at ms = by_test (are_too_many c (new_members c [] ms)) _ _ no_new (members_new c at ms [] c.scene (λ name e. (or_false (has_name c.scene.tables c.scene.block.scope name) _ (or_false (is_standard name) _ e).1).0))
-  where
-    by_test : (b : Bool) (x y : Makes (List Named)) → AreNew c.scene x.rows → AreNew c.scene y.rows → AreNew c.scene (if b then x else y).rows
-    by_test true x y p q = p
-    by_test false x y p q = q
+-- an index of these with the first entries of those behind them
+pub still_indexed : (before after : ℕ → Option Named) (xs ys : List Named) → ((name : ℕ) → before name ≡ entry_named xs name)
+    → ((name : ℕ) → after name ≡ entry_or (before name) (entry_named ys name)) → (name : ℕ) → after name ≡ entry_named (xs ++ ys) name
+still_indexed before after xs ys h k name = k name ∙ ap (λ o. entry_or o (entry_named ys name)) (h name) ∙ sym (named_append xs ys name)

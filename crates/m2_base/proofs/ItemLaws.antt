@@ -25,7 +25,7 @@ use Rattle.m2_base.specs.declared.operands.Operand.{Operand}
 use Rattle.m2_base.specs.declared.operands.Operand.TheVariants.{Constant, StringConstant}
 use Rattle.m2_base.specs.Statics.ShapedRows.{AreShaped, none_of}
 use Rattle.m2_base.proofs.ShapeLaws.{AreShaped-append, AreShaped-append3, AreShaped-end, one_of, plain_of, named_of, open_of, type_of}
-use Rattle.m2_base.proofs.BroughtLaws.{brings_shaped}
+use Rattle.m2_base.proofs.ImportLaws.{brings_shaped}
 use Rattle.std.proofs.Common.{inr}
 
 -- ** Variables and parameters

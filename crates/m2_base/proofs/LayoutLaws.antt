@@ -13,7 +13,7 @@ use Rattle.m2_base.specs.Statics.Layouts.{all_brought, brought_shape, laid_shape
 use Rattle.m2_base.specs.Statics.Makes.{with_rows}
 use Rattle.m2_base.specs.Statics.Uses.{use_of}
 use Rattle.m2_base.specs.declared.limits.TheConstants.{MOST_BROUGHT}
-use Rattle.m2_base.proofs.BroughtLaws.{brings_few, extended_length}
+use Rattle.m2_base.proofs.ImportLaws.{brings_few, extended_length}
 use Rattle.m2_base.specs.Statics.Items.{Item, heading_item, import_item, const_item, type_item, vars_item, proc_item, items_of}
 use Rattle.m2_base.specs.Statics.ShapedRows.{AreShaped, none_of, more_of}
 use Rattle.m2_base.specs.Statics.Shapes.{Shape, item_shapes}

@@ -1,8 +1,9 @@
 pub mod GrammarChecks
 mod BlockLimitChecks
-pub mod BroughtLaws
+mod BroughtLaws
 pub mod ChainLaws
 pub mod FinishedLaws
+pub mod ImportLaws
 pub mod Kept
 pub mod KindTables
 pub mod LoneModules

@@ -29,7 +29,7 @@ use Rattle.m2_base.specs.Statics.Targets.{target_name, target_by_name, target_or
 use Rattle.m2_base.specs.Statics.TypeNames.{type_of_qual}
 use Rattle.m2_base.specs.Statics.TypeRows.{type_rows, form_rows, index_rows, fields_rows, field_list_rows, arms_rows}
 use Rattle.m2_base.specs.Statics.Uses.{use_of}
-use Rattle.m2_base.proofs.BroughtLaws.{brought_new}
+use Rattle.m2_base.proofs.ImportLaws.{brought_new}
 use Rattle.m2_base.proofs.SceneLaws.{with-none, with-twice}
 
 pub new-append : {scene : Scene} {xs ys : List Row} → AreNew scene xs → AreNew (scene_with scene xs) ys → AreNew scene (xs ++ ys)

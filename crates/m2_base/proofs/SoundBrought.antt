@@ -12,7 +12,7 @@ use Rattle.m2_base.specs.Statics.Makes.{Makes, own_rows, scene_with, with_rows}
 use Rattle.m2_base.specs.Statics.Types.{meaning_at}
 use Rattle.m2_base.specs.Tables.{rows_at}
 use Rattle.m2_base.specs.declared.limits.TheConstants.{MOST_BROUGHT}
-use Rattle.m2_base.proofs.BroughtLaws.{names_length}
+use Rattle.m2_base.proofs.ImportLaws.{names_length}
 use Rattle.m2_base.proofs.ChainLaws.{each_append}
 use Rattle.m2_base.proofs.Sound.{Sound, EntryOk, AreOk, no_ok, ok-append, at_ordinal, IsThere, there-with, Room, room-left, room-right}
 use Rattle.m2_base.proofs.SoundMade.{context-with, row_made}
@@ -32,7 +32,7 @@ drop_get {A} zero xs k x e = let same : k ≡ 0 + k = omega arith in subst (λ n
     none_dropped [] e = e
     none_dropped (y ∷ xs) e = e
 drop_get (suc m) [] k x e = absurd (cc)
-drop_get (suc m) (y ∷ xs) k x e = drop_get m xs k x e
+drop_get (suc m) (y ∷ xs) k x e = let same : suc (m + k) ≡ suc m + k = omega arith in subst (λ n. slice_get (y ∷ xs) n ≡ Some x) same (drop_get m xs k x e)
 
 -- a layout that grows stays right
 pub extended_ok : (l : Layout) (b : List Named) → LayoutOk l → Each (λ n. n.ordinal < 2 ^ 32) b → length l.brought + length b ≤ MOST_BROUGHT → LayoutOk (extended l b)
