@@ -1,6 +1,5 @@
 -- The names that were brought: how many come before an item, and the first entry of each name.
-use Rattle.std.proofs.Common.{◌≡◌, ℕ, zero, suc, ◌+◌, ◌-◌, ◌<◌, ◌≤◌, refl, sym, ap, ◌∙◌, cond, Bool, true, false, nat_eq, nat_lt, List, [], ◌∷◌, ◌++◌, length, take, filter, Option, Some, None, slice_index_or, suc-ne-zero, arith}
-use Rattle.std.specs.List.{AllWithin}
+use Rattle.std.proofs.Common.{◌≡◌, ℕ, zero, suc, ◌+◌, ◌-◌, ◌<◌, ◌≤◌, refl, sym, ap, ◌∙◌, cond, Bool, true, false, nat_eq, nat_lt, List, [], ◌∷◌, ◌++◌, length, take, filter, Option, Some, None, slice_index_or, arith}
 use Rattle.std.specs.List.Sorted.{IsNonDecreasingBy, IsPartitionPoint, IsPartitionedBy}
 use Rattle.std.proofs.lemmas.List.Sorted.{IsPartitionedBy-ltb}
 use Rattle.std.proofs.lemmas.List.{take_all, take_more}
@@ -111,9 +110,9 @@ one_further before between after names i left rest d so lt few updated =
     let x = slice_index_or names i d in
     let more : take (i + 1) names ≡ take i names ++ x ∷ [] = take_more names i d lt in
     let first : (name : ℕ) → after name ≡ entry_or (before name) (entry_named (take (i + 1) names) name) =
-        λ name. updated name ∙ ap (λ o. entry_or o (entry_named (x ∷ []) name)) (so.first name)
-        ∙ or_assoc (before name) (entry_named (take i names) name) (entry_named (x ∷ []) name)
-        ∙ ap (entry_or (before name)) (sym (named_append (take i names) (x ∷ []) name) ∙ ap (λ xs. entry_named xs name) (sym more)) in
+    λ name. updated name ∙ ap (λ o. entry_or o (entry_named (x ∷ []) name)) (so.first name)
+    ∙ or_assoc (before name) (entry_named (take i names) name) (entry_named (x ∷ []) name)
+    ∙ ap (entry_or (before name)) (sym (named_append (take i names) (x ∷ []) name) ∙ ap (λ xs. entry_named xs name) (sym more)) in
     record { first = first; room = omega (arith, so.room, few) }
 
 -- all

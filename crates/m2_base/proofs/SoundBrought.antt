@@ -32,7 +32,7 @@ drop_get {A} zero xs k x e = let same : k ≡ 0 + k = omega arith in subst (λ n
     none_dropped [] e = e
     none_dropped (y ∷ xs) e = e
 drop_get (suc m) [] k x e = absurd (cc)
-drop_get (suc m) (y ∷ xs) k x e = drop_get m xs k x e
+drop_get (suc m) (y ∷ xs) k x e = let same : suc (m + k) ≡ suc m + k = omega arith in subst (λ n. slice_get (y ∷ xs) n ≡ Some x) same (drop_get m xs k x e)
 
 -- a layout that grows stays right
 pub extended_ok : (l : Layout) (b : List Named) → LayoutOk l → Each (λ n. n.ordinal < 2 ^ 32) b → length l.brought + length b ≤ MOST_BROUGHT → LayoutOk (extended l b)

@@ -1,4 +1,4 @@
-use Rattle.std.proofs.Common.{nat_eq, ◌≤◌, length, arith}
+use Rattle.std.proofs.Common.{nat_eq, arith}
 use Rattle.indexmap.specs.IndexMap.{get, spare}
 use Rattle.m2_base.proofs.BroughtLaws.{all_indexed, none_yet, one_further}
 use Rattle.m2_base.proofs.brought.index_all.Goals as goal
