@@ -1,15 +1,13 @@
 -- What a block makes is what it declares and what its imports bring.
-use Rattle.std.proofs.Common.{◌≡◌, ◌∙◌, ℕ, ◌+◌, ◌≤◌, List, [], ◌∷◌, refl, sym, ap, length, arith, Some, None}
+use Rattle.std.proofs.Common.{ℕ, ◌+◌, ◌≤◌, List, [], ◌∷◌, refl, sym, length, arith, Some, None}
 use Rattle.std.proofs.lemmas.Bool.{false≢true}
 use Rattle.std.specs.List.{AllZip}
-use Rattle.std.specs.Prelude.{false}
 use Rattle.m2_base.proofs.LayoutLaws.{AreShaped-length, block_few, block_shaped}
-use Rattle.m2_base.specs.declared.limits.TheConstants.{MOST_BROUGHT}
 use Rattle.m2_base.specs.declared.rows.Row.{Row}
 use Rattle.m2_base.specs.declared.trees.declarations.StreamKind.{StreamKind}
-use Rattle.m2_base.specs.Statics.BlockRows.{context_of, declare_block, declare_items, first_cell, scene_of}
+use Rattle.m2_base.specs.Statics.BlockRows.{declare_block, declare_items}
 use Rattle.m2_base.specs.Statics.Blocks.{BlockTree}
-use Rattle.m2_base.specs.Statics.Bringing.{BringsIts, HaveBrought, may_bring}
+use Rattle.m2_base.specs.Statics.Bringing.{BringsIts, HaveBrought}
 use Rattle.m2_base.specs.Statics.Contexts.{Context, Source}
 use Rattle.m2_base.specs.Statics.Declarations.{declare}
 use Rattle.m2_base.specs.Statics.Items.{Item, const_item, heading_item, import_item, items_of, proc_item, type_item, vars_item}

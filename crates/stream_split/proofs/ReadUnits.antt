@@ -25,7 +25,6 @@ use Rattle.stream_split.proofs.Agree.{trees_agree}
 use Rattle.stream_split.proofs.BlocksAgree.{blocks_agree}
 use Rattle.stream_split.proofs.BroughtRows.{room_over, scopes_most}
 use Rattle.stream_split.proofs.DefinitionTexts.{definition_spelled}
-use Rattle.stream_split.proofs.Definitions.{map_append}
 use Rattle.stream_split.proofs.Lengths.{IsShort, unit_short}
 use Rattle.stream_split.proofs.MadeRows.{finished_rows}
 
