@@ -173,14 +173,14 @@ room_over s = by s.kind (has_from s.tokens) (length s.tokens)
 
 -- ** Rows with those that are brought
 
-with_count : (shapes : List Shape) (brought : List Named) → length (with_brought shapes brought) ≡ length shapes + length brought
+pub with_count : (shapes : List Shape) (brought : List Named) → length (with_brought shapes brought) ≡ length shapes + length brought
 with_count shapes [] = omega arith
 with_count shapes (b ∷ brought) =
     let l = length-append shapes (brought_shape b ∷ map brought_shape brought) in
     let m = length-map brought brought_shape in
     omega (arith, l, m)
 
-laid_count : (items : List Item) (brought : List (List Named)) → AllZip BringsIts items brought → length (laid_shapes items brought) ≡ length (flat_map item_shapes items) + length (all_brought brought)
+pub laid_count : (items : List Item) (brought : List (List Named)) → AllZip BringsIts items brought → length (laid_shapes items brought) ≡ length (flat_map item_shapes items) + length (all_brought brought)
 laid_count [] [] h = refl
 laid_count [] (b ∷ brought) h = absurd h
 laid_count (x ∷ items) [] h = absurd h
