@@ -14,7 +14,7 @@ use Rattle.m2_base.proofs.Kept.{IsLater-refl, IsLater-trans}
 use Rattle.scope_core.specs.Fronts.{ShowsFront}
 use Rattle.scope_core.specs.PlainScopes.{IsBegun, Plain, moved}
 use Rattle.stream_split.specs.Sizes.{room_of}
-use Rattle.stream_split.specs.Streams.{StreamOf, streams_of}
+use Rattle.stream_split.specs.Streams.{streams_of}
 use Rattle.task_state.specs.Progress.{Ends, IsAsFar, is_over}
 use Rattle.task_state.specs.declared.task.Task.{Task}
 use Rattle.task_state.specs.declared.task.Turn.{Turn}
