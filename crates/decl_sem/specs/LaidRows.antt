@@ -3,6 +3,7 @@ use Rattle.std.specs.Prelude.{◌≡◌, ◌≢◌, ℕ, ◌+◌, ◌==◌, Bool
 use Rattle.m2_base.specs.declared.rows.Row.{Row}
 use Rattle.m2_base.specs.Standard.{is_standard}
 use Rattle.m2_base.specs.declared.sites.Named.{Named}
+use Rattle.m2_base.specs.Statics.Contexts.{Layout}
 use Rattle.m2_base.specs.Statics.Lookup.{first_entry}
 use Rattle.m2_base.specs.Statics.Shapes.{Shape}
 
@@ -13,20 +14,20 @@ is_of o (Some n) = n.ordinal == o
 
 -- the name that the row with this ordinal keeps: none, where it is a standard name, or where the layout has an earlier row of
 -- that name
-abbrev pub kept_name : List Named → (ordinal name : ℕ) → ℕ
-kept_name names o name = if is_standard name then 0 else if is_of o (first_entry names name) then name else 0
+abbrev pub kept_name : Layout → (ordinal name : ℕ) → ℕ
+kept_name l o name = if is_standard name then 0 else if is_of o (first_entry l name) then name else 0
 
 -- the row with this ordinal is as the layout gives it
-pub record IsLaid (names : List Named) (o : ℕ) (s : Shape) (r : Row) : Type 0 where
+pub record IsLaid (l : Layout) (o : ℕ) (s : Shape) (r : Row) : Type 0 where
   pub kind : r.kind ≡ s.kind
   pub at : r.at ≡ s.at
-  pub name : r.name ≡ kept_name names o s.name
+  pub name : r.name ≡ kept_name l o s.name
 
 -- the rows from this ordinal on are as many as the shapes, and each is as the layout gives it
-pub data AreLaid : List Named → (o : ℕ) → List Shape → List Row → Type 0 where
-  none_laid : {names : List Named} {o : ℕ} → AreLaid names o [] []
-  more_laid : {names : List Named} {o : ℕ} {s : Shape} {ss : List Shape} {r : Row} {rs : List Row}
-      → IsLaid names o s r → AreLaid names (o + 1) ss rs → AreLaid names o (s ∷ ss) (r ∷ rs)
+pub data AreLaid : Layout → (o : ℕ) → List Shape → List Row → Type 0 where
+  none_laid : {l : Layout} {o : ℕ} → AreLaid l o [] []
+  more_laid : {l : Layout} {o : ℕ} {s : Shape} {ss : List Shape} {r : Row} {rs : List Row}
+      → IsLaid l o s r → AreLaid l (o + 1) ss rs → AreLaid l o (s ∷ ss) (r ∷ rs)
 
 -- the ordinal of the first shape of this name, where the first of them has this ordinal
 abbrev pub first_shape : (name : ℕ) → List Shape → (o : ℕ) → Option ℕ
@@ -34,18 +35,18 @@ first_shape name [] o = None
 first_shape name (s ∷ ss) o = if s.name == name then Some o else first_shape name ss (o + 1)
 
 -- the layout has the first of each name among the shapes
-abbrev pub HasFirsts : List Named → List Shape → Type 0
-HasFirsts names shapes = (name : ℕ) → name ≢ 0 → option_map (λ n. n.ordinal) (first_entry names name) ≡ first_shape name shapes 0
+abbrev pub HasFirsts : Layout → List Shape → Type 0
+HasFirsts l shapes = (name : ℕ) → name ≢ 0 → option_map (λ n. n.ordinal) (first_entry l name) ≡ first_shape name shapes 0
 
 -- These rows of the block are made, as the layout gives them, and these shapes are the next.
-pub record IsAhead (names : List Named) (rows : List Row) (ahead : List Shape) : Type 0 where
+pub record IsAhead (l : Layout) (rows : List Row) (ahead : List Shape) : Type 0 where
   pub before : List Shape
   pub rest : List Shape
-  pub laid : AreLaid names 0 before rows
-  pub firsts : HasFirsts names (before ++ (ahead ++ rest))
+  pub laid : AreLaid l 0 before rows
+  pub firsts : HasFirsts l (before ++ (ahead ++ rest))
 
 -- The rows have grown by some that are as the layout gives them.
-pub record GrowsLaid (names : List Named) (before after : List Row) (o : ℕ) (shapes : List Shape) : Type 0 where
+pub record GrowsLaid (l : Layout) (before after : List Row) (o : ℕ) (shapes : List Shape) : Type 0 where
   pub rows : List Row
   pub more : after ≡ before ++ rows
-  pub laid : AreLaid names o shapes rows
+  pub laid : AreLaid l o shapes rows

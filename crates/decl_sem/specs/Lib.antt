@@ -1,5 +1,6 @@
 pub mod ArrayRows
 pub mod Bounds
+pub mod Brought
 pub mod Closing
 pub mod DeclaredItems
 pub mod Effects
@@ -9,6 +10,7 @@ pub mod ImportedModules
 pub mod Implementing
 pub mod Items
 pub mod LaidRows
+pub mod Layouts
 pub mod MadeRows
 pub mod Making
 pub mod OwnParameters

@@ -1,13 +1,12 @@
 -- The item in hand: what is made of it so far, and what a part of it makes.
 use Rattle.std.specs.Prelude.{◌≡◌, ℕ, ◌+◌, ◌<◌, false, not, is_some, if◌then◌else◌, List, [], ◌∷◌, ◌++◌, length}
 use Rattle.m2_base.specs.Standard.{is_standard}
-use Rattle.m2_base.specs.Statics.Contexts.{Context}
+use Rattle.m2_base.specs.Statics.Contexts.{Context, Layout}
 use Rattle.m2_base.specs.Statics.Diagnostics.{declared_twice, standard_declared}
 use Rattle.m2_base.specs.Statics.Lookup.{first_entry}
 use Rattle.m2_base.specs.Statics.Makes.{Makes, own_rows}
 use Rattle.m2_base.specs.Tables.{first_named}
 use Rattle.m2_base.specs.declared.notes.Diag.{Diag}
-use Rattle.m2_base.specs.declared.sites.Named.{Named}
 use Rattle.m2_base.specs.declared.sites.Site.{Site}
 use Rattle.decl_sem.specs.LaidRows.{is_of}
 use Rattle.decl_sem.specs.declared.making.Made.{Made}
@@ -17,10 +16,10 @@ abbrev pub diag_in : (text at code : ℕ) → Diag
 diag_in text at code = record { text = text; at = at; code = code }
 
 -- what is noted of the name that the row with this ordinal declares: it is a standard one, or an earlier row has it
-abbrev pub name_refusals : (text : ℕ) → List Named → (ordinal name at : ℕ) → List Diag
-name_refusals text names o name at =
+abbrev pub name_refusals : (text : ℕ) → Layout → (ordinal name at : ℕ) → List Diag
+name_refusals text l o name at =
     if is_standard name then diag_in text at standard_declared ∷ [] else
-    if is_of o (first_entry names name) then [] else diag_in text at declared_twice ∷ []
+    if is_of o (first_entry l name) then [] else diag_in text at declared_twice ∷ []
 
 -- the ordinal of the next row
 abbrev pub next_ordinal : Made → ℕ
@@ -31,7 +30,7 @@ pub record IsInHand (c : Context) (s : Site) (made : Made) : Type 0 where
   pub scope : c.scene.block.scope ≡ s.around.now.scope
   pub exists : c.scene.block.scope < length c.scene.tables
   pub text : c.scene.block.text ≡ s.around.now.text
-  pub layout : c.layout ≡ s.layout.now.names
+  pub layout : c.layout ≡ s.layout.now
   pub count : length (own_rows c) ≡ next_ordinal made
 
 -- One of the rows so far has the name of the next row exactly where the layout has it at an earlier ordinal.

@@ -1,12 +1,13 @@
 -- A piece of an item: what making it needs, leaves and gives. The rows of an item are in hand until all are made, and are
 -- then entered at once.
-use Rattle.std.specs.Prelude.{◌≡◌, ◌≢◌, ℕ, ◌+◌, ◌<◌, ◌≤◌, ◌^◌, false, List, [], ◌∷◌, ◌++◌, length, slice_index_or, Option, Some, None, Result, Ok, Err}
+use Rattle.std.specs.Prelude.{◌≡◌, ◌≢◌, ℕ, ◌+◌, ◌<◌, ◌≤◌, ◌^◌, false, List, [], ◌∷◌, ◌++◌, length, Option, Some, None, unwrap_or, Result, Ok, Err}
 use Rattle.m2_base.specs.Asks.{IfKnown, IfWaits}
 use Rattle.m2_base.specs.Lists.{Each}
 use Rattle.m2_base.specs.Rows.{Fits, HasSmallOrdinals, HasSmallScopes, at_place, numbers_of, row_meaning}
 use Rattle.m2_base.specs.States.{Frame, State, Waits, Works}
-use Rattle.m2_base.specs.Statics.Contexts.{Context}
+use Rattle.m2_base.specs.Statics.Contexts.{Context, Layout}
 use Rattle.m2_base.specs.Statics.FormedRows.{IsFilled, IsRight}
+use Rattle.m2_base.specs.Statics.Layouts.{first_row}
 use Rattle.m2_base.specs.Statics.Lookup.{first_entry}
 use Rattle.m2_base.specs.Statics.Makes.{Makes}
 use Rattle.m2_base.specs.Statics.Shapes.{Shape}
@@ -27,14 +28,14 @@ use Rattle.decl_sem.specs.declared.making.Made.{Made}
 
 -- ** Rows in hand
 
--- the ordinal behind the last row of an item
-abbrev pub end_by : List ℕ → Option ℕ → ℕ
-end_by firsts None = 0
-end_by firsts (Some item) = slice_index_or firsts (item + 1) 0
+-- the ordinal behind the rows of an item, before those of the names that it brings
+abbrev pub end_by : Layout → Option ℕ → ℕ
+end_by l None = 0
+end_by l (Some item) = unwrap_or (first_row l (item + 1)) 0
 
--- the ordinal behind the last row of the site's item
+-- that of the site's item
 abbrev pub item_end : Site → ℕ
-item_end s = end_by s.layout.now.firsts s.item
+item_end s = end_by s.layout.now s.item
 
 -- the record of a field stands before this ordinal
 abbrev pub IsOwned : (limit : ℕ) → RowMeaning → Type 0
@@ -87,7 +88,7 @@ kind_number m = (numbers_of m).0
 -- ** What making a piece needs
 
 -- the item begins at this ordinal: an earlier item's names have rows before it
-pub record BeginsAt (layout : List Named) (item first : ℕ) : Type 0 where
+pub record BeginsAt (layout : Layout) (item first : ℕ) : Type 0 where
   pub before : (name : ℕ) (e : Named) → name ≢ 0 → first_entry layout name ≡ Some e → e.item < item → e.ordinal < first
 
 -- The rows of the site's item are being made: these are in hand, and rows of these shapes are the next. The scope isn't complete;
@@ -98,12 +99,12 @@ pub record IsMaking (f : Frame) (s : Site) (made : Made) (shapes : List Shape) :
   pub begun : f.closed ≡ false
   pub item : ℕ
   pub of_item : s.item ≡ Some item
-  pub begins : BeginsAt s.layout.now.names item made.first
+  pub begins : BeginsAt s.layout.now item made.first
   pub count : length f.entered ≡ made.first
   pub entered : Each (λ r. IsOwned made.first (row_meaning r)) f.entered
   pub types : Each (λ r. NamesNoType (row_meaning r)) made.rows.items
   pub rows : AreNewRows f (item_end s) made.first made.rows.items
-  pub ahead : IsAhead s.layout.now.names (f.entered ++ made.rows.items) shapes
+  pub ahead : IsAhead s.layout.now (f.entered ++ made.rows.items) shapes
   pub room : next_ordinal made + length shapes ≤ item_end s
   pub few : item_end s ≤ 2 ^ 31
 
@@ -113,7 +114,7 @@ pub record IsMaking (f : Frame) (s : Site) (made : Made) (shapes : List Shape) :
 pub record Grown (f : Frame) (s : Site) (before after : Made) (shapes : List Shape) : Type 0 where
   pub rows : List Row
   pub more : after.rows.items ≡ before.rows.items ++ rows
-  pub laid : AreLaid s.layout.now.names (next_ordinal before) shapes rows
+  pub laid : AreLaid s.layout.now (next_ordinal before) shapes rows
   pub new : AreNewRows f (item_end s) (next_ordinal before) rows
 
 -- P of the rows in hand, where the texts are told
