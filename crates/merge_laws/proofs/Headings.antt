@@ -13,7 +13,7 @@ use Rattle.m2_base.specs.Statics.Diagnostics.{declared_twice, standard_declared}
 use Rattle.m2_base.specs.Statics.Effects.{heading_list}
 use Rattle.m2_base.specs.Statics.Items.{Item, const_item, heading_item, import_item, items_of, proc_item, type_item, vars_item}
 use Rattle.m2_base.specs.Statics.Lookup.{has_name}
-use Rattle.m2_base.specs.Statics.Makes.{makes_named, makes_row, next_place, one_row, own_rows, with_rows}
+use Rattle.m2_base.specs.Statics.Makes.{Makes, makes_named, makes_row, next_place, one_row, own_rows, with_rows}
 use Rattle.m2_base.specs.Statics.ProcedureRows.{heading_note, is_proc, is_proc_meaning, parameter_count, proc_number, proc_scope, section_rows, sections_length}
 use Rattle.m2_base.specs.Statics.ProcedureTypes.{result_type}
 use Rattle.m2_base.specs.Statics.ShapedRows.{AreShaped, none_of, more_of}
