@@ -42,7 +42,7 @@ module _ {f : Frame} {s : Site} {stream : Stream} {x : items.Item} {cell procedu
   all : List items.Item
   all = at.before ++ x ∷ at.rest
 
-  names_are : s.layout.now.names ≡ names_from 0 0 (at.before ++ x ∷ at.rest)
+  names_are : s.layout.now ≡ names_from 0 0 (at.before ++ x ∷ at.rest)
   names_are = ap (λ (l : Layout). l.names) at.layout ∙ ap (names_from 0 0) at.items
 
   firsts_are : s.layout.now.firsts ≡ firsts_from 0 (at.before ++ x ∷ at.rest)
@@ -86,13 +86,13 @@ module _ {f : Frame} {s : Site} {stream : Stream} {x : items.Item} {cell procedu
         begun = at.begun;
         item = length at.before;
         of_item = at.item;
-        begins = subst (λ (n : ℕ). BeginsAt s.layout.now.names (length at.before) n) (sym first)
+        begins = subst (λ (n : ℕ). BeginsAt s.layout.now (length at.before) n) (sym first)
             (subst (λ (names : List Named). BeginsAt names (length at.before) (rows_of at.before)) (sym names_are) (begins_behind at.before (x ∷ at.rest)));
         count = count;
         entered = subst (λ (n : ℕ). Each (λ r. IsOwned n (row_meaning r)) f.entered) count at.owned;
         types = subst (λ (rows : List Row). Each (λ r. NamesNoType (row_meaning r)) rows) (sym none) tt;
         rows = subst (λ (rows : List Row). AreNewRows f (item_end s) made.first rows) (sym none) tt;
-        ahead = subst (λ (rows : List Row). IsAhead s.layout.now.names rows (item_shapes x)) (sym no_rows)
+        ahead = subst (λ (rows : List Row). IsAhead s.layout.now rows (item_shapes x)) (sym no_rows)
             (subst (λ (names : List Named). IsAhead names f.entered (item_shapes x)) (sym names_are)
             (at_an_item at.before at.rest x f.entered (subst (λ (names : List Named). AreLaid names 0 (flat_map item_shapes at.before) f.entered) names_are at.entered)));
         room = let e = end_is in let l = ap length none in omega arith;
@@ -117,8 +117,8 @@ module _ {a b : State} {s : Site} {x y : Made} {shapes : List Shape} {given : Co
         keeps = p.works.keeps;
         waits = tt;
         shown = subst (λ (found : List Answer). Each (IsAmong p.works.looks) found) (sym noted) p.works.shown;
-        laid = subst (λ (rs : List Row). AreLaid s.layout.now.names (length a.frame.entered) shapes rs) (sym made)
-            (subst (λ (n : ℕ). AreLaid s.layout.now.names n shapes p.grown.rows) next p.grown.laid);
+        laid = subst (λ (rs : List Row). AreLaid s.layout.now (length a.frame.entered) shapes rs) (sym made)
+            (subst (λ (n : ℕ). AreLaid s.layout.now n shapes p.grown.rows) next p.grown.laid);
         new_rows = subst (λ (rs : List Row). AreNewRows a.frame (item_end s) (length a.frame.entered) rs) (sym made)
             (subst (λ (n : ℕ). AreNewRows a.frame (item_end s) n p.grown.rows) next p.grown.new);
         effect = subst (λ (v : Effect). IsEffect a.frame (length a.frame.entered + length d.rows.items) v) (sym effect)

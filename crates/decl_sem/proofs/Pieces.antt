@@ -61,7 +61,7 @@ grown_then {f} {s} {x} {y} {z} {ss} {ts} first p q =
     record {
       rows = p.rows ++ q.rows;
       more = q.more ∙ ap (λ t. t ++ q.rows) p.more ∙ append_assoc x.rows.items p.rows q.rows;
-      laid = AreLaid-append p.laid (subst (λ o. AreLaid s.layout.now.names o ts q.rows) n q.laid);
+      laid = AreLaid-append p.laid (subst (λ o. AreLaid s.layout.now o ts q.rows) n q.laid);
       new = new-append f (item_end s) (next_ordinal x) p.rows q.rows p.new (subst (λ o. AreNewRows f (item_end s) o q.rows) n q.new);
     }
 
@@ -188,7 +188,7 @@ making_on {a = a} {b = b} {x = x} {y = y} {s = s} {ss = ss} {ts = ts} none makin
       begun = making.begun;
       item = making.item;
       of_item = making.of_item;
-      begins = subst (λ n. BeginsAt s.layout.now.names making.item n) (sym p.first) making.begins;
+      begins = subst (λ n. BeginsAt s.layout.now making.item n) (sym p.first) making.begins;
       count = making.count ∙ sym p.first;
       entered = subst (λ n. Each (λ r. IsOwned n (row_meaning r)) a.frame.entered) (sym p.first) making.entered;
       types = subst (λ (rows : List Row). Each (λ r. NamesNoType (row_meaning r)) rows) (sym p.grown.more)
@@ -196,9 +196,9 @@ making_on {a = a} {b = b} {x = x} {y = y} {s = s} {ss = ss} {ts = ts} none makin
       rows = subst (λ (rows : List Row). AreNewRows a.frame (item_end s) y.first rows) (sym p.grown.more)
           (subst (λ n. AreNewRows a.frame (item_end s) n (x.rows.items ++ p.grown.rows)) (sym p.first)
           (new-append a.frame (item_end s) x.first x.rows.items p.grown.rows making.rows p.grown.new));
-      ahead = subst (λ (rows : List Row). IsAhead s.layout.now.names (a.frame.entered ++ rows) ts) (sym p.grown.more)
-          (subst (λ (rows : List Row). IsAhead s.layout.now.names rows ts) (append_assoc a.frame.entered x.rows.items p.grown.rows)
-          (gone_on ss ts making.ahead (subst (λ n. AreLaid s.layout.now.names n ss p.grown.rows) (sym at) p.grown.laid)));
+      ahead = subst (λ (rows : List Row). IsAhead s.layout.now (a.frame.entered ++ rows) ts) (sym p.grown.more)
+          (subst (λ (rows : List Row). IsAhead s.layout.now rows ts) (append_assoc a.frame.entered x.rows.items p.grown.rows)
+          (gone_on ss ts making.ahead (subst (λ n. AreLaid s.layout.now n ss p.grown.rows) (sym at) p.grown.laid)));
       room = let l = length-append ss ts in let r = making.room in let n = next in omega arith;
       few = making.few;
     }
@@ -252,7 +252,7 @@ making_front {f} {s} {x} ss ts h =
         before = h.ahead.before;
         rest = ts ++ h.ahead.rest;
         laid = h.ahead.laid;
-        firsts = subst (λ shapes. HasFirsts s.layout.now.names shapes) (ap (λ zs. h.ahead.before ++ zs) (append_assoc ss ts h.ahead.rest)) h.ahead.firsts;
+        firsts = subst (λ shapes. HasFirsts s.layout.now shapes) (ap (λ zs. h.ahead.before ++ zs) (append_assoc ss ts h.ahead.rest)) h.ahead.firsts;
       };
       room = let l = length-append ss ts in let r = h.room in omega arith;
       few = h.few;

@@ -5,6 +5,7 @@ pub mod Closing
 pub mod DeclaredItems
 pub mod Effects
 pub mod FieldNotes
+pub mod FoundConstants
 pub mod Hands
 pub mod ImportedModules
 pub mod Implementing
