@@ -4,11 +4,14 @@ use Rattle.m2_base.specs.Rows.{Place, Const, TypeName, Var, Proc, Module, Alias,
 use Rattle.m2_base.specs.Standard.{broken, text_type}
 use Rattle.m2_base.specs.Statics.Cells.{capped}
 use Rattle.m2_base.specs.Statics.Constants.{constant_of}
-use Rattle.m2_base.specs.Statics.Contexts.{Context, scope_of_module}
+use Rattle.m2_base.specs.Statics.Contexts.{Context, Named, scope_of_module}
 use Rattle.m2_base.specs.Statics.Declarations.{declare}
 use Rattle.m2_base.specs.Statics.HeadingRows.{Placing, placing, parameter_row, parameter_rows, own_section_rows, own_sections_rows}
-use Rattle.m2_base.specs.Statics.ImportRows.{place_or_broken}
+use Rattle.m2_base.specs.Statics.ImportRows.{alias_by, alias_row, place_or_broken}
+use Rattle.m2_base.specs.Statics.ImportedConstants.{members_of, new_members}
 use Rattle.m2_base.specs.Statics.Items.{heading_item, Item, import_item, const_item, type_item, vars_item, proc_item}
+use Rattle.m2_base.specs.Statics.Layouts.{with_brought}
+use Rattle.m2_base.specs.Statics.Lookup.{entry_named}
 use Rattle.m2_base.specs.Statics.Makes.{Makes, with_rows, makes_named, makes_row, next_place}
 use Rattle.m2_base.specs.Statics.NameRows.{const_meaning, declared_type, var_rows}
 use Rattle.m2_base.specs.Statics.ProcedureRows.{param_rows, section_rows, parameter_cells, sections_length, parameter_count, proc_number, proc_scope}
@@ -21,7 +24,9 @@ use Rattle.m2_base.specs.Trees.{Ident, Expr, TypeExpr, Section, Heading, StreamK
 use Rattle.m2_base.specs.declared.operands.Operand.{Operand}
 use Rattle.m2_base.specs.declared.operands.Operand.TheVariants.{Constant, StringConstant}
 use Rattle.m2_base.specs.Statics.ShapedRows.{AreShaped, none_of}
-use Rattle.m2_base.proofs.ShapeLaws.{AreShaped-append, AreShaped-append3, AreShaped-end, plain_of, named_of, open_of, type_of}
+use Rattle.m2_base.proofs.ShapeLaws.{AreShaped-append, AreShaped-append3, AreShaped-end, one_of, plain_of, named_of, open_of, type_of}
+use Rattle.m2_base.proofs.ImportLaws.{brings_shaped}
+use Rattle.std.proofs.Common.{inr}
 
 -- ** Variables and parameters
 
@@ -93,12 +98,19 @@ pub heading_item_of : (h : Heading) (c : Context) (kind : StreamKind) (cell : �
     → AreShaped (item_shapes (heading_item h)) (declare c kind (heading_item h) cell).rows
 heading_item_of h c kind cell = AreShaped-end (own_sections_of h.sections c (placing 0 (capped (parameter_cells h.sections)) []))
 
+alias_of : (c : Context) (i : Ident) (p : Place) (brought : Option Named) → AreShaped (named alias_kind i ∷ []) (alias_by c i p brought).rows
+alias_of c i p None = named_of c alias_kind i (Alias p) refl refl refl refl refl refl
+alias_of c i p (Some n) = one_of (record { kind = refl; at = refl; name = inr refl })
+
 pub import_item_of : (from : Option Ident) (i : Ident) (c : Context) (kind : StreamKind) (cell : ℕ)
-    → AreShaped (item_shapes (import_item from i)) (declare c kind (import_item from i) cell).rows
-import_item_of None i c kind cell = AreShaped-end (named_of c module_kind i (Module (scope_of_module c.source i.name)) refl refl refl refl refl refl)
+    → AreShaped (with_brought (item_shapes (import_item from i)) (declare c kind (import_item from i) cell).value.brought) (declare c kind (import_item from i) cell).rows
+import_item_of None i c kind cell = AreShaped-end (AreShaped-end (named_of c module_kind i (Module (scope_of_module c.source i.name)) refl refl refl refl refl refl))
 import_item_of (Some m) i c kind cell =
     let e = (use_of c (Some (scope_of_module c.source m.name)) i.name i.at).value in
-    AreShaped-end (named_of (with_rows c []) alias_kind i (Alias (place_or_broken e)) refl refl refl refl refl refl)
+    let d = with_rows c [] in
+    let f = with_rows d (alias_row d i (place_or_broken e)).rows in
+    let ms = members_of f.scene e in
+    AreShaped-end (brings_shaped f i.at ms (new_members f [] ms) (alias_of d i (place_or_broken e) (entry_named d.layout.brought i.name)))
 
 pub const_item_of : (i : Ident) (e : Expr) (c : Context) (kind : StreamKind) (cell : ℕ)
     → AreShaped (item_shapes (const_item i e)) (declare c kind (const_item i e) cell).rows
@@ -129,7 +141,7 @@ proc_item_of h stream c kind cell =
     (AreShaped-append (plain_of proc_type_kind h.name.at _ refl refl refl)
     (AreShaped-end (named_of (with_rows e t.rows) proc_kind h.name (Proc t.value (proc_number c kind stream) (proc_scope kind stream)) refl refl refl refl refl refl))))
 
-pub item_of : (x : Item) (c : Context) (kind : StreamKind) (cell : ℕ) → AreShaped (item_shapes x) (declare c kind x cell).rows
+pub item_of : (x : Item) (c : Context) (kind : StreamKind) (cell : ℕ) → AreShaped (with_brought (item_shapes x) (declare c kind x cell).value.brought) (declare c kind x cell).rows
 item_of (heading_item h) c kind cell = heading_item_of h c kind cell
 item_of (import_item from i) c kind cell = import_item_of from i c kind cell
 item_of (const_item i e) c kind cell = const_item_of i e c kind cell

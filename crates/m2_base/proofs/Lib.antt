@@ -1,7 +1,9 @@
 pub mod GrammarChecks
 mod BlockLimitChecks
+mod BroughtLaws
 pub mod ChainLaws
 pub mod FinishedLaws
+pub mod ImportLaws
 pub mod Kept
 pub mod KindTables
 pub mod LoneModules
@@ -27,6 +29,7 @@ pub mod LayoutLaws
 pub mod ShapeLaws
 pub mod Sound
 pub mod SoundBlocks
+pub mod SoundBrought
 pub mod SoundConstants
 pub mod SoundFunctions
 pub mod SoundItems

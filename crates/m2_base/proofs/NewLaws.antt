@@ -9,14 +9,15 @@ use Rattle.m2_base.specs.Statics.Arrays.{array_rows}
 use Rattle.m2_base.specs.Statics.BlockRows.{declare_items}
 use Rattle.m2_base.specs.Statics.Cells.{capped}
 use Rattle.m2_base.specs.Statics.Constants.{constant_of}
-use Rattle.m2_base.specs.Statics.Contexts.{Context, Scene, scope_of_module}
+use Rattle.m2_base.specs.Statics.Contexts.{Context, Named, Scene, scope_of_module}
 use Rattle.m2_base.specs.Statics.Declarations.{declare}
 use Rattle.m2_base.specs.Statics.Enumerations.{constant_rows}
 use Rattle.m2_base.specs.Statics.Fields.{field_row, plain_rows, tag_type, tag_rows}
 use Rattle.m2_base.specs.Statics.HeadingRows.{Placing, placing, parameter_row, parameter_rows, own_section_rows, own_sections_rows}
-use Rattle.m2_base.specs.Statics.ImportRows.{place_or_broken}
+use Rattle.m2_base.specs.Statics.ImportRows.{alias_by, alias_row, place_or_broken}
+use Rattle.m2_base.specs.Statics.ImportedConstants.{members_of}
 use Rattle.m2_base.specs.Statics.Items.{Item, heading_item, import_item, const_item, type_item, vars_item, proc_item}
-use Rattle.m2_base.specs.Statics.Lookup.{has_name}
+use Rattle.m2_base.specs.Statics.Lookup.{entry_named, has_name}
 use Rattle.m2_base.specs.Statics.Makes.{Makes, with_rows, scene_with, makes_named, makes_row, next_place}
 use Rattle.m2_base.specs.Statics.NameRows.{const_meaning, declared_type, var_rows}
 use Rattle.m2_base.specs.Statics.NewRows.{AreNew, no_new, more_new}
@@ -28,6 +29,7 @@ use Rattle.m2_base.specs.Statics.Targets.{target_name, target_by_name, target_or
 use Rattle.m2_base.specs.Statics.TypeNames.{type_of_qual}
 use Rattle.m2_base.specs.Statics.TypeRows.{type_rows, form_rows, index_rows, fields_rows, field_list_rows, arms_rows}
 use Rattle.m2_base.specs.Statics.Uses.{use_of}
+use Rattle.m2_base.proofs.ImportLaws.{brought_new}
 use Rattle.m2_base.proofs.SceneLaws.{with-none, with-twice}
 
 pub new-append : {scene : Scene} {xs ys : List Row} → AreNew scene xs → AreNew (scene_with scene xs) ys → AreNew scene (xs ++ ys)
@@ -193,12 +195,18 @@ proc_new h stream c kind =
     (new-then (new-append (plain_new e.scene _ refl)
     (new-end (named_new (with_rows e t.rows) h.name.name h.name.at (Proc t.value (proc_number c kind stream) (proc_scope kind stream))))))
 
+alias_new : (c : Context) (i : Ident) (p : Place) (brought : Option Named) → AreNew c.scene (alias_by c i p brought).rows
+alias_new c i p None = named_new c i.name i.at (Alias p)
+alias_new c i p (Some n) = plain_new c.scene _ refl
+
 pub item_new : (x : Item) (c : Context) (kind : StreamKind) (cell : ℕ) → AreNew c.scene (declare c kind x cell).rows
 item_new (heading_item h) c kind cell = new-end (own_sections_new h.sections c (placing 0 (capped (parameter_cells h.sections)) []))
-item_new (import_item None i) c kind cell = new-end (named_new c i.name i.at (Module (scope_of_module c.source i.name)))
+item_new (import_item None i) c kind cell = new-end (new-end (named_new c i.name i.at (Module (scope_of_module c.source i.name))))
 item_new (import_item (Some m) i) c kind cell =
     let e = (use_of c (Some (scope_of_module c.source m.name)) i.name i.at).value in
-    new-end (new-then (named_new (with_rows c []) i.name i.at (Alias (place_or_broken e))))
+    let d = with_rows c [] in
+    let f = with_rows d (alias_row d i (place_or_broken e)).rows in
+    new-end (new-then (new-append (alias_new d i (place_or_broken e) (entry_named d.layout.brought i.name)) (brought_new f i.at (members_of f.scene e))))
 item_new (const_item i e) c kind cell = new-end (new-then (named_new (with_rows c []) i.name i.at (const_meaning (constant_of c e).value)))
 item_new (type_item i t) c kind cell =
     let made = declared_type c i t in

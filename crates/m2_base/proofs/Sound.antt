@@ -147,7 +147,7 @@ pub record EntryOk (names : ℕ) (scene : Scene) (e : Entry) : Type 0 where
   pub there : IsThere scene e.0
   pub row : RowOk names e.0 e.1
 
-at_ordinal : {names : ℕ} {scene : Scene} → Sound names scene → (s o : ℕ) (r : Row) → slice_get (rows_at scene.tables s) o ≡ Some r → EntryOk names scene (at_place s o, r)
+pub at_ordinal : {names : ℕ} {scene : Scene} → Sound names scene → (s o : ℕ) (r : Row) → slice_get (rows_at scene.tables s) o ≡ Some r → EntryOk names scene (at_place s o, r)
 at_ordinal {names} {scene} sound s o r e = by_order (cases_order s scene.block.scope)
   where
     by_order : (s ≡ scene.block.scope) ⊎ ((s < scene.block.scope) ⊎ (scene.block.scope < s)) → EntryOk names scene (at_place s o, r)

@@ -15,8 +15,9 @@ use Rattle.m2_base.specs.Statics.Layouts.{names_of_item, names_from, layout_of}
 use Rattle.m2_base.specs.Statics.Makes.{scene_with}
 use Rattle.m2_base.specs.Statics.Shapes.{Shape, item_shapes}
 use Rattle.m2_base.specs.Statics.Types.{meaning_at, size_by}
+use Rattle.m2_base.specs.declared.limits.TheConstants.{MOST_BROUGHT}
 use Rattle.m2_base.proofs.ChainLaws.{each_found, each_append}
-use Rattle.m2_base.proofs.LayoutLaws.{AreShaped-length, block_shaped}
+use Rattle.m2_base.proofs.LayoutLaws.{block_counted, block_few}
 use Rattle.m2_base.proofs.NoRepeats.{scene_open, scene_empty, some_is}
 use Rattle.m2_base.proofs.SceneLaws.{IsOpen, own_of, own-with, open-with}
 use Rattle.m2_base.proofs.Sound.{Sound, RowOk, AreOk, no_ok, more_ok, next_of}
@@ -26,20 +27,20 @@ use Rattle.m2_base.proofs.SoundParts.{most, capped-most}
 
 -- ** The layout's ordinals
 
-shape_ordinals : (i o : ℕ) (shapes : List Shape) (most_ordinal : ℕ) → o + length shapes ≤ most_ordinal → Each (λ (n : Named). n.ordinal < most_ordinal) (names_of_item i o shapes)
+shape_ordinals : (i o : ℕ) (shapes : List Shape) (most_ordinal : ℕ) → o + length shapes + MOST_BROUGHT ≤ most_ordinal → Each (λ (n : Named). n.ordinal + MOST_BROUGHT < most_ordinal) (names_of_item i o shapes)
 shape_ordinals i o [] k h = tt
 shape_ordinals i o (s ∷ shapes) k h = by_test (s.name == 0) (shape_ordinals i (o + 1) shapes k (omega (arith, h)))
   where
-    by_test : (b : Bool) → Each (λ (n : Named). n.ordinal < k) (names_of_item i (o + 1) shapes)
-        → Each (λ (n : Named). n.ordinal < k) (if b then names_of_item i (o + 1) shapes else record { name = s.name; ordinal = o; kind = s.kind; at = s.at; item = i } ∷ names_of_item i (o + 1) shapes)
+    by_test : (b : Bool) → Each (λ (n : Named). n.ordinal + MOST_BROUGHT < k) (names_of_item i (o + 1) shapes)
+        → Each (λ (n : Named). n.ordinal + MOST_BROUGHT < k) (if b then names_of_item i (o + 1) shapes else record { name = s.name; ordinal = o; kind = s.kind; at = s.at; item = i } ∷ names_of_item i (o + 1) shapes)
     by_test true rest = rest
     by_test false rest = (omega (arith, h), rest)
 
-item_ordinals : (i o : ℕ) (items : List Item) (k : ℕ) → o + length (flat_map item_shapes items) ≤ k → Each (λ (n : Named). n.ordinal < k) (names_from i o items)
+item_ordinals : (i o : ℕ) (items : List Item) (k : ℕ) → o + length (flat_map item_shapes items) + MOST_BROUGHT ≤ k → Each (λ (n : Named). n.ordinal + MOST_BROUGHT < k) (names_from i o items)
 item_ordinals i o [] k h = tt
 item_ordinals i o (x ∷ items) k h =
     let e = length-append (item_shapes x) (flat_map item_shapes items) in
-    each_append (λ (n : Named). n.ordinal < k) (names_of_item i o (item_shapes x)) _
+    each_append (λ (n : Named). n.ordinal + MOST_BROUGHT < k) (names_of_item i o (item_shapes x)) _
     (shape_ordinals i o (item_shapes x) k (omega (arith, e, h)))
     (item_ordinals (i + 1) (o + length (item_shapes x)) items k (omega (arith, e, h)))
 
@@ -98,7 +99,7 @@ context_sound names source tables b ready =
       scene = scene_sound names source tables b ready;
       source = record { short = ready.short; bytes = ready.bytes };
       few_names = ready.few_names;
-      layout = λ name. each_found (λ (n : Named). n.ordinal < 2 ^ 32) (λ n. n.name == name) (layout_of b.tree).names layout;
+      layout = record { names_small = layout; brought_small = tt; few = omega arith };
     }
 
 -- each row is right at its place
@@ -124,11 +125,12 @@ block_right names source tables b ready k r e =
     let context : SoundContext names c = context_sound names source tables b ready in
     let cell = first_cell (scene_of tables b.block) b.tree.kind b.block.own in
     let rows = (declare_items c b.tree.kind 0 cell (items_of b.tree)).rows in
-    let many : length rows ≡ length (flat_map item_shapes (items_of b.tree)) = AreShaped-length (block_shaped source tables b) in
+    let many = block_counted source tables b in
+    let brought = block_few source tables b in
     let empty = scene_empty tables b.block ready.before in
     let none = ap length empty in
     let ok = items_ok names (items_of b.tree) c b.tree.kind 0 cell context ready.items ready.imports (first_cell_most (scene_of tables b.block) b.tree.kind b.block.own)
-    (record { enough = omega (arith, many, none, few) }) in
+    (record { enough = omega (arith, many, brought, none, few) }) in
     let row = at_each ok sound.room k r e in
     let at : length (own_of (scene_of tables b.block)) + k ≡ k = omega (arith, none) in
     let right = subst (λ n. RowOk names (at_place b.block.scope n) r) at row in

@@ -6,16 +6,18 @@ use Rattle.m2_base.specs.Lists.{Each, WhereKept}
 use Rattle.m2_base.specs.Rows.{Place, Mode, Alias, Const, Module, Opaque, Param, Proc, ProcType, TypeName, Var, Plain, ByAddress, Open, param_kind}
 use Rattle.m2_base.specs.Standard.{text_type, broken}
 use Rattle.m2_base.specs.Trees.{Ident, TypeExpr, Section, Heading, StreamKind, Definition}
-use Rattle.m2_base.specs.Statics.BlockRows.{declare_items, at_item}
+use Rattle.m2_base.specs.Statics.BlockRows.{at_item, brought_in, declare_items}
 use Rattle.m2_base.specs.Statics.Cells.{capped}
 use Rattle.m2_base.specs.Statics.Constants.{constant_of}
-use Rattle.m2_base.specs.Statics.Contexts.{Context, Scene, scope_of_module}
+use Rattle.m2_base.specs.Statics.Contexts.{Context, Named, Scene, scope_of_module}
 use Rattle.m2_base.specs.Statics.Declarations.{declare}
 use Rattle.m2_base.specs.Statics.FormedRows.{IsImportedBefore}
 use Rattle.m2_base.specs.Statics.HeadingRows.{Placing, placing, open_copies, parameter_row, parameter_rows, own_section_rows, own_sections_rows}
-use Rattle.m2_base.specs.Statics.ImportRows.{place_or_broken}
+use Rattle.m2_base.specs.Statics.ImportRows.{alias_by, alias_row, place_or_broken}
+use Rattle.m2_base.specs.Statics.ImportedConstants.{brings, members_of, new_members}
+use Rattle.m2_base.specs.Statics.Layouts.{extended}
 use Rattle.m2_base.specs.Statics.Items.{Item, heading_item, import_item, const_item, type_item, vars_item, proc_item}
-use Rattle.m2_base.specs.Statics.Lookup.{Entry}
+use Rattle.m2_base.specs.Statics.Lookup.{Entry, entry_named}
 use Rattle.m2_base.specs.Statics.Effects.{own_copy}
 use Rattle.m2_base.specs.Statics.Makes.{Makes, make_then, makes, with_rows, next_place, own_rows, makes_row, makes_named}
 use Rattle.m2_base.specs.Statics.NameRows.{const_meaning, declared_type, var_rows}
@@ -30,13 +32,14 @@ use Rattle.m2_base.specs.Statics.Uses.{use_of}
 use Rattle.m2_base.specs.declared.operands.Operand.{Operand}
 use Rattle.m2_base.specs.declared.operands.Operand.TheVariants.{Constant, StringConstant}
 use Rattle.m2_base.proofs.ItemLaws.{sections_of}
-use Rattle.m2_base.proofs.LayoutLaws.{AreShaped-length}
+use Rattle.m2_base.proofs.LayoutLaws.{AreShaped-length, import_few}
 use Rattle.m2_base.proofs.SceneLaws.{own_of, own-with, with-none}
 use Rattle.m2_base.proofs.Sound.{Sound, EntryOk, AreOk, no_ok, ok-append, ok-end, ok-then, IsThere, there-with, Room, room-left, room-right, room-then}
 use Rattle.m2_base.proofs.SoundConstants.{constant_ok}
 use Rattle.m2_base.proofs.SoundMade.{Made, context-with, context-then, there-then, plain_made, named_made}
 use Rattle.m2_base.proofs.SoundOperands.{OperandOk, natural-value}
-use Rattle.m2_base.proofs.SoundOperations.{SoundContext}
+use Rattle.m2_base.proofs.SoundOperations.{LayoutOk, SoundContext}
+use Rattle.m2_base.proofs.SoundBrought.{brought_ok, members_ok}
 use Rattle.m2_base.proofs.SoundParts.{most, capped-most, parameter_made, open_made, result_ok}
 use Rattle.m2_base.proofs.SoundRows.{type_made, result_small, result_before}
 use Rattle.m2_base.proofs.SoundTypes.{either, broken-there, standard-there, use_ok, qual_there}
@@ -241,26 +244,44 @@ module _ (names : ℕ) where
 
   -- ** Items
 
-  -- rows that are right, and the next free cell
+  alias_made : (c : Context) → SoundContext names c → (i : Ident) (p : Place) (brought : Option Named) → i.name < names → IsThere c.scene p → AreOk names c.scene (alias_by c i p brought).rows
+  alias_made c sound i p None good there = (named_made c sound i.name i.at (Alias p) good there.0 there.1 tt).rows_ok
+  alias_made c sound i p (Some n) good there = (plain_made c sound i.at (Alias p) there.0 there.1 tt).rows_ok
+
+  -- rows that are right, the next free cell, and a right layout
   abbrev pub ItemOk : Context → StreamKind → Item → ℕ → Type 0
-  ItemOk c kind x cell = AreOk names c.scene (declare c kind x cell).rows × ((declare c kind x cell).value.cell ≤ most)
+  ItemOk c kind x cell =
+      AreOk names c.scene (declare c kind x cell).rows × ((declare c kind x cell).value.cell ≤ most)
+      × LayoutOk (extended c.layout (declare c kind x cell).value.brought)
 
   pub item_ok : (x : Item) (c : Context) (kind : StreamKind) (cell : ℕ) → SoundContext names c → IsSoundItem names x → IsImportedBefore c.source c.scene.block.scope x → cell ≤ most
       → Room c.scene (declare c kind x cell).rows → ItemOk c kind x cell
   item_ok (heading_item h) c kind cell sound good imported small room =
       let m = own_sections_rows c (placing 0 (capped (parameter_cells h.sections)) []) h.sections in
       let made = own_sections_ok h.sections c (placing 0 (capped (parameter_cells h.sections)) []) sound good (omega arith, capped-most (parameter_cells h.sections)) (room-left m.rows [] room) in
-      (ok-end made.0, made.1.1)
+      (ok-end made.0, made.1.1, sound.layout)
   item_ok (import_item None i) c kind cell sound good imported small room =
-      (ok-end (named_made c sound i.name i.at (Module (scope_of_module c.source i.name)) good tt imported tt).rows_ok, small)
+      (ok-end (ok-end (named_made c sound i.name i.at (Module (scope_of_module c.source i.name)) good tt imported tt).rows_ok), small, sound.layout)
   item_ok (import_item (Some m) i) c kind cell sound good imported small room =
       let e = (use_of c (Some (scope_of_module c.source m.name)) i.name i.at).value in
       let there = there-then c.scene (place_or_broken e) (place_there c.scene sound.scene e (use_ok c sound.scene (Some (scope_of_module c.source m.name)) i.name i.at)) in
-      (ok-end (ok-then (named_made (with_rows c []) (context-then sound) i.name i.at (Alias (place_or_broken e)) good there.0 there.1 tt).rows_ok), small)
+      let d = with_rows c [] in
+      let sd = context-then sound in
+      let own = alias_row d i (place_or_broken e) in
+      let f = with_rows d own.rows in
+      let ms = members_of f.scene e in
+      let b = brings f i.at ms (new_members f [] ms) in
+      let few = import_few (Some m) i c kind cell sound.layout.few in
+      let rd = room-then (room-left (own.rows ++ b.rows) [] room) in
+      let left = room-left own.rows b.rows rd in
+      let first = alias_made d sd i (place_or_broken e) (entry_named d.layout.brought i.name) good there in
+      let sf = context-with sd first left in
+      let brought = brought_ok names f sf i.at ms (members_ok names f.scene sf.scene e) (room-right d.scene own.rows b.rows sd.scene.room rd) few in
+      (ok-end (ok-then (ok-append first brought.0)), small, brought.1)
   item_ok (const_item i e) c kind cell sound good imported small room =
       let o = (constant_of c e).value in
       let ok : WhereKept o (OperandOk names (with_rows c []).scene) = subst (λ s. WhereKept o (OperandOk names s)) (sym (with-none c.scene)) (constant_ok names e c sound good.1) in
-      (ok-end (ok-then (const_made (with_rows c []) (context-then sound) i o good.0 ok)), small)
+      (ok-end (ok-then (const_made (with_rows c []) (context-then sound) i o good.0 ok)), small, sound.layout)
   item_ok (type_item i t) c kind cell sound good imported small room =
       let made = declared_type c i t in
       let d = with_rows c made.rows in
@@ -268,7 +289,7 @@ module _ (names : ℕ) where
       let rc = room-left (made.rows ++ name.rows) [] room in
       let left = room-left made.rows name.rows rc in
       let first = declared_made i t c sound good.1 left in
-      (ok-end (ok-append first.rows_ok (named_made d (context-with sound first.rows_ok left) i.name i.at (TypeName made.value) good.0 first.there.0 first.there.1 tt).rows_ok), small)
+      (ok-end (ok-append first.rows_ok (named_made d (context-with sound first.rows_ok left) i.name i.at (TypeName made.value) good.0 first.there.0 first.there.1 tt).rows_ok), small, sound.layout)
   item_ok (vars_item idents t) c kind cell sound good imported small room =
       let made = type_rows c t in
       let d = with_rows c made.rows in
@@ -277,9 +298,9 @@ module _ (names : ℕ) where
       let left = room-left made.rows vars.rows rc in
       let first = type_made names t c sound good.1 left in
       let rest = vars_made idents d made.value cell (context-with sound first.rows_ok left) good.0 first.there small (room-right c.scene made.rows vars.rows sound.scene.room rc) in
-      (ok-end (ok-append first.rows_ok rest.0), rest.1)
+      (ok-end (ok-append first.rows_ok rest.0), rest.1, sound.layout)
   item_ok (proc_item h stream) c kind cell sound good imported small room =
-      (ok-end (proc_ok h stream c kind sound good.0 good.2 (room-left (proc_rows c kind h stream).rows [] room)), small)
+      (ok-end (proc_ok h stream c kind sound good.0 good.2 (room-left (proc_rows c kind h stream).rows [] room)), small, sound.layout)
 
   pub items_ok : (items : List Item) (c : Context) (kind : StreamKind) (i cell : ℕ) → SoundContext names c → Each (IsSoundItem names) items → Each (IsImportedBefore c.source c.scene.block.scope) items → cell ≤ most
       → Room c.scene (declare_items c kind i cell items).rows → AreOk names c.scene (declare_items c kind i cell items).rows
@@ -289,8 +310,11 @@ module _ (names : ℕ) where
       let sa : SoundContext names a = record { scene = sound.scene; source = sound.source; few_names = sound.few_names; layout = sound.layout } in
       let m = declare a kind x cell in
       let d = with_rows c m.rows in
-      let more = declare_items d kind (i + 1) m.value.cell items in
+      let g = brought_in d m.value.brought in
+      let more = declare_items g kind (i + 1) m.value.cell items in
       let left = room-left m.rows (more.rows ++ []) room in
       let first = item_ok x a kind cell sa good.0 imported.0 small left in
       let rest = room-right c.scene m.rows (more.rows ++ []) sound.scene.room room in
-      ok-append first.0 (ok-end (items_ok items d kind (i + 1) m.value.cell (context-with sound first.0 left) good.1 imported.1 first.1 (room-left more.rows [] rest)))
+      let sd = context-with sound first.0 left in
+      let sg : SoundContext names g = record { scene = sd.scene; source = sd.source; few_names = sd.few_names; layout = first.2 } in
+      ok-append first.0 (ok-end (items_ok items g kind (i + 1) m.value.cell sg good.1 imported.1 first.1 (room-left more.rows [] rest)))

@@ -1,40 +1,70 @@
 -- In a sound context operators, sets and functions give what is right.
-use Rattle.std.specs.Prelude.{◌≡◌, ℕ, ◌+◌, ◌-◌, ◌^◌, ◌<◌, ◌≤◌, Bool, true, false, not, ◌&&◌, ◌||◌, if◌then◌else◌, ◌⊎◌, ℤ, pos, negsuc, nat_le, List, Option, Some, None, slice_index_or}
+use Rattle.std.specs.Prelude.{◌≡◌, ℕ, ◌+◌, ◌-◌, ◌^◌, ◌<◌, ◌≤◌, Bool, true, false, not, ◌&&◌, ◌||◌, if◌then◌else◌, ◌⊎◌, ℤ, pos, negsuc, nat_le, nat_lt, ◌==◌, List, [], ◌∷◌, filter, length, Option, Some, None, option_map, slice_index_or}
 use Rattle.std.proofs.Common.{ap, subst, sym, ◌∙◌, refl, inl, inr, arith}
 use Rattle.std.proofs.Math.Facts.{leb_yes}
 use Rattle.std.proofs.Math.Pow.{pow_mono}
 use Rattle.std.proofs.lemmas.Bool.{both_ways, and_parts, or_cases, leb-true}
 use Rattle.std.proofs.lemmas.Nat.{or_lt, pow_pos}
 use Rattle.m2_base.specs.Gives.{Gives, gives}
-use Rattle.m2_base.specs.Lists.{WhereKept}
+use Rattle.m2_base.specs.Lists.{Each, WhereKept}
 use Rattle.m2_base.specs.Rows.{Row, Place, at_place, natural, row_of, row_meaning, RowMeaning, Text, Broken, Set, IsValue, is_same_place}
 use Rattle.m2_base.specs.Standard.{integer, cardinal, boolean, whole, text_type, broken, standard_rows}
 use Rattle.m2_base.specs.Trees.{Operator}
-use Rattle.m2_base.specs.Statics.Contexts.{Context, Scene, refuse}
+use Rattle.m2_base.specs.Statics.Contexts.{Context, Layout, Named, Scene, refuse}
 use Rattle.m2_base.specs.Statics.Compatible.{is_beside_char, is_integer_or_cardinal, is_number_type, is_compatible, taken_beside}
 use Rattle.m2_base.specs.Statics.Folding.{fold, is_arithmetic, is_relation, number_kind, number_type, where_in}
-use Rattle.m2_base.specs.Statics.Lookup.{first_entry}
+use Rattle.m2_base.specs.Statics.Lookup.{entry_named, entry_or, first_entry, moved}
 use Rattle.m2_base.specs.Statics.Operands.{operand_type, is_bad, is_procedure, constant_of_operand, worse, is_one_char, as_char, char_or_same}
 use Rattle.m2_base.specs.Statics.Operations.{makes_set, compares_sets, wrong, folded, result_of, gives_result, base_type, is_boolean, is_ordinal, as_number, logical, are_sets_alike, set_operation, number_operation, on_numbers, on_scalars, on_compatible, on_alike, member_of_set, membership_in, membership, operate_by, operate, negated, signed, with_sign, sign_of, apply_one_by, apply_one, is_set_kind}
 use Rattle.m2_base.specs.Statics.Ranges.{Range, integer_range, whole_range, is_within}
 use Rattle.m2_base.specs.Statics.Sets.{set_type_of, set_base_by, set_base, checked_element, element_of, span, with_elements, no_elements}
 use Rattle.m2_base.specs.Statics.Types.{meaning_at, stands_as, stands_for, kind_of, is_broken, range_by, range_of, base_of}
+use Rattle.m2_base.specs.declared.limits.TheConstants.{MOST_BROUGHT}
 use Rattle.m2_base.specs.declared.operands.FoldKind.{FoldKind}
 use Rattle.m2_base.specs.declared.operands.FoldKind.TheVariants as kinds
 use Rattle.m2_base.specs.declared.operands.Operand.{Operand}
 use Rattle.m2_base.specs.declared.operands.Operand.TheVariants.{Constant, StringConstant, Computed, Variable, NamedType, InError}
 use Rattle.m2_base.specs.declared.trees.operators.Operator.TheVariants.{In, Or, And, Not}
+use Rattle.m2_base.proofs.ChainLaws.{each_found}
 use Rattle.m2_base.proofs.Sound.{Sound, IsThere}
 use Rattle.m2_base.proofs.SoundOperands.{SoundSource, OperandOk, IsConstant, AreValues, natural-value, truth-value, fold_value, where_in_value, integer_values, whole_values}
 use Rattle.m2_base.proofs.SoundTypes.{either, broken-there, standard-there, stands_there}
 use Rattle.m2_base.proofs.TypeLaws.{same_place-is}
+
+-- a layout's ordinals have 32 bits, also behind all that imports may bring
+pub record LayoutOk (l : Layout) : Type 0 where
+  pub names_small : Each (λ n. n.ordinal + MOST_BROUGHT < 2 ^ 32) l.names
+  pub brought_small : Each (λ n. n.ordinal < 2 ^ 32) l.brought
+  pub few : length l.brought ≤ MOST_BROUGHT
+
+filter_count : {A : Type 0} (p : A → Bool) (xs : List A) → length (filter p xs) ≤ length xs
+filter_count p [] = omega arith
+filter_count {A} p (x ∷ xs) = by_test (p x) (filter_count p xs)
+  where
+    by_test : (b : Bool) → length (filter p xs) ≤ length xs → length (if b then x ∷ filter p xs else filter p xs) ≤ length (x ∷ xs)
+    by_test true h = omega (arith, h)
+    by_test false h = omega (arith, h)
+
+pub layout_small : (l : Layout) → LayoutOk l → (name : ℕ) → WhereKept (first_entry l name) (λ n. n.ordinal < 2 ^ 32)
+layout_small l ok name = by_entry (entry_named l.brought name) (each_found (λ n. n.ordinal < 2 ^ 32) (λ n. n.name == name) l.brought ok.brought_small)
+  where
+    by_syntax : (o : Option Named) → WhereKept o (λ n. n.ordinal + MOST_BROUGHT < 2 ^ 32) → WhereKept (option_map (moved l.brought) o) (λ n. n.ordinal < 2 ^ 32)
+    by_syntax None h = tt
+    by_syntax (Some n) h =
+        let few = ok.few in
+        let many = filter_count (λ (b : Named). nat_lt b.item n.item) l.brought in
+        omega (arith, h, few, many)
+
+    by_entry : (o : Option Named) → WhereKept o (λ n. n.ordinal < 2 ^ 32) → WhereKept (entry_or o (option_map (moved l.brought) (entry_named l.names name))) (λ n. n.ordinal < 2 ^ 32)
+    by_entry None h = by_syntax (entry_named l.names name) (each_found (λ n. n.ordinal + MOST_BROUGHT < 2 ^ 32) (λ n. n.name == name) l.names ok.names_small)
+    by_entry (Some n) h = h
 
 -- where a declaration stands: its scene and its texts are sound, and its layout has small ordinals
 pub record SoundContext (names : ℕ) (c : Context) : Type 0 where
   pub scene : Sound names c.scene
   pub source : SoundSource c.source
   pub few_names : names ≤ 2 ^ 32
-  pub layout : (name : ℕ) → WhereKept (first_entry c.layout name) (λ n. n.ordinal < 2 ^ 32)
+  pub layout : LayoutOk c.layout
 
 abbrev pub GivesOk : ℕ → Context → Gives Operand → Type 0
 GivesOk names c g = OperandOk names c.scene g.value

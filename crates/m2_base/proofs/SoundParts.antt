@@ -32,7 +32,7 @@ use Rattle.m2_base.proofs.Sound.{Sound, AreOk, no_ok, ok-append, IsThere, there-
 use Rattle.m2_base.proofs.SoundConstants.{constant_ok}
 use Rattle.m2_base.proofs.SoundMade.{Made, made-append, made-then, made-before, context-with, context-then, there-then, row_made, plain_made, named_made}
 use Rattle.m2_base.proofs.SoundOperands.{OperandOk, natural-value}
-use Rattle.m2_base.proofs.SoundOperations.{SoundContext, operand_there, char_or_same_ok}
+use Rattle.m2_base.proofs.SoundOperations.{layout_small, SoundContext, operand_there, char_or_same_ok}
 use Rattle.m2_base.proofs.SoundTypes.{either, broken-there, standard-there, stands_there, base_there, qual_there}
 
 -- as many cells as a number can name
@@ -214,7 +214,7 @@ module _ (names : ℕ) where
 
   pub by_name_ok : (c : Context) → SoundContext names c → (o : Option Ident) → TargetOk c.scene (target_by_name c o)
   by_name_ok c sound None = tt
-  by_name_ok c sound (Some i) = by_layout_ok c sound.scene i (first_entry c.layout i.name) (sound.layout i.name)
+  by_name_ok c sound (Some i) = by_layout_ok c sound.scene i (first_entry c.layout i.name) (layout_small c.layout sound.layout i.name)
 
   -- ** Parameters and results
 

@@ -14,7 +14,7 @@ use Rattle.m2_base.specs.Statics.Blocks.{BlockTree, UnitTrees, blocks_of}
 use Rattle.m2_base.specs.Statics.Contexts.{Source}
 use Rattle.m2_base.specs.Statics.FormedRows.{IsFilled, IsRight, IsReady, IsSoundText, IsSoundBlock, AreConsecutive, AreRight}
 use Rattle.m2_base.specs.Statics.UnitRows.{rows_from, unit_rows}
-use Rattle.m2_base.proofs.LayoutLaws.{AreShaped-length, block_shaped}
+use Rattle.m2_base.proofs.LayoutLaws.{block_counted, block_few}
 use Rattle.m2_base.proofs.NoRepeats.{some_is}
 use Rattle.m2_base.proofs.SoundBlocks.{block_right}
 use Rattle.m2_base.proofs.StandardLaws.{IsWellFormed-standard}
@@ -84,7 +84,8 @@ blocks_right names source some few text (b ∷ blocks) tables positive standard 
       items = good.0.items;
       imports = good.0.imports;
     } in
-    let many = AreShaped-length (block_shaped source tables b) in
+    let many = block_counted source tables b in
+    let brought = block_few source tables b in
     let next = length-append tables (rows ∷ []) in
     let one : length tables + 1 ≡ length (tables ++ rows ∷ []) = omega (arith, next) in
     blocks_right names source some few text blocks (tables ++ rows ∷ [])
@@ -92,7 +93,7 @@ blocks_right names source some few text (b ∷ blocks) tables positive standard 
     (get_or_append_left tables (rows ∷ []) [] 0 positive ∙ standard)
     (more_right names tables rows right
     (λ o r e. let within = slice_get_within rows o r e in
-    (omega (arith, within, many, small), subst (λ n. IsRight names (at_place n o) r) same (block_right names source tables b ready o r e))))
+    (omega (arith, within, many, brought, small), subst (λ n. IsRight names (at_place n o) r) same (block_right names source tables b ready o r e))))
     (subst (λ n. AreConsecutive n blocks) one row.1)
     good.1
 

@@ -6,17 +6,20 @@ use Rattle.m2_base.specs.Lists.{Each, WhereKept}
 use Rattle.m2_base.specs.Rows.{Place, Row, Alias, ByAddress, Module, Open, Param, Plain, Proc, ProcType, TypeName, Var}
 use Rattle.m2_base.specs.Standard.{standard_rows}
 use Rattle.m2_base.specs.Trees.{Heading, Ident, Section, Stream, StreamKind, TypeExpr}
-use Rattle.m2_base.specs.Statics.BlockRows.{at_item, context_of, declare_block, declare_items, first_cell, scene_of}
+use Rattle.m2_base.specs.Statics.BlockRows.{at_item, brought_in, context_of, declare_block, declare_items, first_cell, scene_of}
 use Rattle.m2_base.specs.Statics.Blocks.{BlockTree, UnitTrees, blocks_of, blocks_of_main, declares, definition_blocks, encloser, home_of, main_block, main_blocks, procedure_block}
 use Rattle.m2_base.specs.Statics.Cells.{capped}
 use Rattle.m2_base.specs.Statics.Closing.{block_name, name_diags, own_diags}
 use Rattle.m2_base.specs.Statics.Constants.{constant_of}
-use Rattle.m2_base.specs.Statics.Contexts.{Context, DefinitionModule, Source, scope_of_module}
+use Rattle.m2_base.specs.Statics.Contexts.{Context, DefinitionModule, Named, Source, diag, scope_of_module}
 use Rattle.m2_base.specs.Statics.Declarations.{declare}
+use Rattle.m2_base.specs.Statics.Diagnostics.{declared_twice, too_many_constants}
 use Rattle.m2_base.specs.Statics.Effects.{own_copy}
 use Rattle.m2_base.specs.Statics.HeadingRows.{Placing, open_copies, own_section_rows, own_sections_rows, parameter_row, parameter_rows, placing}
-use Rattle.m2_base.specs.Statics.ImportRows.{place_or_broken}
+use Rattle.m2_base.specs.Statics.ImportedConstants.{Member, are_too_many, brings, hidden_diags, is_hidden, leads_elsewhere, members_of, new_members}
+use Rattle.m2_base.specs.Statics.ImportRows.{again_diags, alias_by, alias_row, import_rows, place_or_broken}
 use Rattle.m2_base.specs.Statics.Items.{Item, const_item, heading_item, import_item, items_of, proc_item, type_item, vars_item}
+use Rattle.m2_base.specs.Statics.Lookup.{entry_in, entry_named}
 use Rattle.m2_base.specs.Statics.Makes.{Makes, make_then, makes, makes_named, makes_row, next_place, with_rows}
 use Rattle.m2_base.specs.Statics.NameRows.{const_meaning, declared_type, var_rows}
 use Rattle.m2_base.specs.Statics.ProcedureRows.{param_rows, parameter_cells, parameter_count, proc_number, proc_rows, proc_scope, section_rows, sections_length}
@@ -115,6 +118,37 @@ module _ (n : ℕ) where
       let m = own_section_rows c f s in
       join n (own_section_at s c f h.0) (own_sections_at sections (with_rows c m.rows) m.value h.1)
 
+  -- ** Imports
+
+  again_at : (c : Context) (i : Ident) (p : Place) → i.at < n → AtTokens n (again_diags c i p)
+  again_at c i p h =
+      either (AtTokens n) (leads_elsewhere c.scene p (entry_in c.scene.tables c.scene.block.scope i.name)) (diag c i.at declared_twice ∷ []) []
+      (one n (diag c i.at declared_twice) h) (none n)
+
+  alias_by_at : (c : Context) (i : Ident) (p : Place) (brought : Option Named) → i.at < n → MakesAt n (alias_by c i p brought)
+  alias_by_at c i p None h = named_at n c i.name i.at (Alias p) h
+  alias_by_at c i p (Some x) h = again_at c i p h
+
+  hidden_at : (c : Context) (at : ℕ) (members : List Member) → at < n → AtTokens n (hidden_diags c at members)
+  hidden_at c at members h =
+      either (AtTokens n) (list_any (is_hidden c) members) (diag c at declared_twice ∷ []) [] (one n (diag c at declared_twice) h) (none n)
+
+  brings_at : (c : Context) (at : ℕ) (members new : List Member) → at < n → MakesAt n (brings c at members new)
+  brings_at c at members new h =
+      either (λ (m : Makes (List Named)). MakesAt n m) (are_too_many c new) _ _ (one n (diag c at too_many_constants) h) (hidden_at c at members h)
+
+  import_at : (m i : Ident) (c : Context) → i.at < n → MakesAt n (import_rows c (Some m) i)
+  import_at m i c h =
+      let scope = scope_of_module c.source m.name in
+      let e = (use_of c (Some scope) i.name i.at).value in
+      let d = with_rows c [] in
+      let p = place_or_broken e in
+      let named = alias_row d i p in
+      let f = with_rows d named.rows in
+      let members = members_of f.scene e in
+      join n (use_at n c (Some scope) i.name i.at h)
+      (join n (alias_by_at d i p (entry_named d.layout.brought i.name) h) (brings_at f i.at members (new_members f [] members) h))
+
   -- ** Items
 
   item_at : (x : Item) (c : Context) (kind : StreamKind) (cell : ℕ) → StandsIn n x → MakesAt n (declare c kind x cell)
@@ -122,11 +156,8 @@ module _ (n : ℕ) where
       let f = placing 0 (capped (parameter_cells h.sections)) [] in
       let d = with_rows c (own_sections_rows c f h.sections).rows in
       join n (own_sections_at h.sections c f s.sections) (join n (result_at n d h.result s.result) (none n))
-  item_at (import_item None i) c kind cell s = join n (named_at n c i.name i.at (Module (scope_of_module c.source i.name)) s.1) (none n)
-  item_at (import_item (Some m) i) c kind cell s =
-      let scope = scope_of_module c.source m.name in
-      let e = (use_of c (Some scope) i.name i.at).value in
-      join n (join n (use_at n c (Some scope) i.name i.at s.1) (named_at n (with_rows c []) i.name i.at (Alias (place_or_broken e)) s.1)) (none n)
+  item_at (import_item None i) c kind cell s = join n (join n (named_at n c i.name i.at (Module (scope_of_module c.source i.name)) s.1) (none n)) (none n)
+  item_at (import_item (Some m) i) c kind cell s = join n (import_at m i c s.1) (none n)
   item_at (const_item i e) c kind cell s =
       join n (join n (constant_at n e c s.1) (named_at n (with_rows c []) i.name i.at (const_meaning (constant_of c e).value) s.0)) (none n)
   item_at (type_item i typ) c kind cell s =
@@ -141,7 +172,8 @@ module _ (n : ℕ) where
   items_at [] c kind i cell h = none n
   items_at (x ∷ items) c kind i cell h =
       let m = declare (at_item c i) kind x cell in
-      join n (item_at x (at_item c i) kind cell h.0) (join n (items_at items (with_rows c m.rows) kind (i + 1) m.value.cell h.1) (none n))
+      join n (item_at x (at_item c i) kind cell h.0)
+      (join n (items_at items (brought_in (with_rows c m.rows) m.value.brought) kind (i + 1) m.value.cell h.1) (none n))
 
   -- ** Blocks
 

@@ -4,6 +4,7 @@ pub mod Assignable
 pub mod BlockLimits
 pub mod BlockRows
 pub mod Blocks
+pub mod Bringing
 pub mod Builtins
 pub mod CaseLabels
 pub mod Cells

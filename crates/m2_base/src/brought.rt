@@ -70,13 +70,20 @@ impl BroughtNames {
         ensures extended { OnOk result (self.new ≡ self.old ++ brought.now) }
         ensures unchanged { OnErr result (self.new ≡ self.old) }
     {
-        self.list.reserve(brought.len())?;
         self.index.reserve(brought.len())?;
-        for named in brought {
-            self.list.push_reserved(*named);
-            index_one(&mut self.index, *named);
-        }
+        self.list.extend_from_slice(brought)?;
+        index_all(&mut self.index, brought);
         Ok(())
+    }
+}
+
+/// With the first entry of each of these names that isn't there.
+fn index_all(index: &mut IndexMap<u32, Named>, brought: &[Named])
+    requires room { length brought.now ≤ spare index.old }
+    ensures { (name : ℕ) → get nat_eq index.new name ≡ entry_or (get nat_eq index.old name) (entry_named brought.now name) }
+{
+    for named in brought {
+        index_one(index, *named);
     }
 }
 

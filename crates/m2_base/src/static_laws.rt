@@ -1,5 +1,5 @@
 //! Laws on the static rules, each the contract of a function that does nothing.
-ghost use Rattle.std.specs.Prelude.{◌≡◌, ◌<◌, ◌≤◌, ◌^◌, ℕ, List, [], ◌∷◌, Option, Some, None, true, length, flat_map, slice_get};
+ghost use Rattle.std.specs.Prelude.{◌≡◌, ◌+◌, ◌<◌, ◌≤◌, ◌^◌, ℕ, List, [], ◌∷◌, Option, Some, None, true, length, flat_map, slice_get};
 ghost use Rattle.ll_grammar.specs.Texts.{Spells};
 ghost use Rattle.m2_base.specs.Finished.{AreRead, HasNoProcedure, IsFinished, lone_trees, main_tokens};
 ghost use Rattle.m2_base.specs.Grammar.{grammar, levels, stream};
@@ -12,6 +12,7 @@ ghost use Rattle.m2_base.specs.Statics.Contexts.{Context, Scene, Source, row_at}
 ghost use Rattle.m2_base.specs.Statics.Declarations.{declare};
 ghost use Rattle.m2_base.specs.Statics.FormedRows.{AreConsecutive, AreRight, IsReady, IsRight, IsSoundBlock, IsSoundText};
 ghost use Rattle.m2_base.specs.Statics.Items.{Item, items_of};
+ghost use Rattle.m2_base.specs.Statics.Layouts.{all_brought, laid_shapes, with_brought};
 ghost use Rattle.m2_base.specs.Statics.NewRows.{AreNew};
 ghost use Rattle.m2_base.specs.Statics.Ranges.{Range};
 ghost use Rattle.m2_base.specs.Statics.ShapedRows.{AreShaped};
@@ -25,6 +26,7 @@ ghost use Rattle.m2_base.specs.Statics.ReadTrees.{IsReadItem, IsReadToken};
 ghost use Rattle.m2_base.specs.StreamsOf.{stream_of};
 ghost use Rattle.m2_base.specs.Trees.{Stream as StreamTree, StreamKind as KindOfStream, Main};
 ghost use Rattle.m2_base.specs.Units.{UnitTexts};
+ghost use Rattle.m2_base.specs.declared.limits.TheConstants.{MOST_BROUGHT};
 ghost use Rattle.m2_base.specs.declared.notes.Diag.{Diag};
 ghost use Rattle.m2_base.specs.declared.token.Token.{Token};
 
@@ -40,12 +42,13 @@ pub fn ranges_are_whole()
     ensures { (scene : Scene) (t : Place) (r : Range) (names : ℕ) → IsWellFormed names (stands_for scene t) (row_at scene.tables (stands_for scene t)) → range_of scene t ≡ Some r → IsValue r.low × IsValue r.high }
 {}
 
-/// The rows of an item, and those of a block, are as many as the syntax says, and each has its name or none, its kind
-/// and its token.
+/// The rows of an item, and those of a block, are those of its syntax with those of the names that imports bring: as many,
+/// and each has its name or none, its kind and its token. Not too many are brought.
 pub fn rows_have_their_shapes()
-    ensures items { (c : Context) (kind : KindOfStream) (x : Item) (cell : ℕ) → AreShaped (item_shapes x) (declare c kind x cell).rows }
-    ensures blocks { (source : Source) (tables : List (List Row)) (b : BlockTree) → AreShaped (flat_map item_shapes (items_of b.tree)) (declare_block source tables b).rows }
-    ensures count { (source : Source) (tables : List (List Row)) (b : BlockTree) → length (declare_block source tables b).rows ≡ length (flat_map item_shapes (items_of b.tree)) }
+    ensures items { (c : Context) (kind : KindOfStream) (x : Item) (cell : ℕ) → AreShaped (with_brought (item_shapes x) (declare c kind x cell).value.brought) (declare c kind x cell).rows }
+    ensures blocks { (source : Source) (tables : List (List Row)) (b : BlockTree) → AreShaped (laid_shapes (items_of b.tree) (declare_block source tables b).value.brought) (declare_block source tables b).rows }
+    ensures count { (source : Source) (tables : List (List Row)) (b : BlockTree) → length (declare_block source tables b).rows ≡ length (flat_map item_shapes (items_of b.tree)) + length (all_brought (declare_block source tables b).value.brought) }
+    ensures few { (source : Source) (tables : List (List Row)) (b : BlockTree) → length (all_brought (declare_block source tables b).value.brought) ≤ MOST_BROUGHT }
 {}
 
 /// Every chain goes down, where the own definition comes before the module: all its scopes but the first have smaller

@@ -37,7 +37,7 @@ abbrev rows_2 : List Row
 rows_2 = ((numbers_row 0 7 11 (pos 2) (pos 0) (pos 0) (pos 0)) ∷ (numbers_row 33 8 1 (pos 8589934592) (pos 0) (pos 0) (pos 0)) ∷ (numbers_row 42 10 1 (pos 8589934592) (pos 1) (pos 0) (pos 0)) ∷ (numbers_row 31 5 2 (pos 8589934592) (pos 0) (pos 0) (pos 0)) ∷ (numbers_row 0 15 11 (pos 1) (pos 0) (pos 0) (pos 0)) ∷ (numbers_row 43 16 1 (pos 8589934596) (pos 0) (pos 0) (pos 0)) ∷ (numbers_row 32 13 2 (pos 8589934596) (pos 0) (pos 0) (pos 0)) ∷ [])
 
 abbrev rows_3 : List Row
-rows_3 = ((numbers_row 29 6 6 (pos 4294967299) (pos 0) (pos 0) (pos 0)) ∷ (numbers_row 31 11 6 (pos 8589934595) (pos 0) (pos 0) (pos 0)) ∷ (numbers_row 32 13 6 (pos 8589934598) (pos 0) (pos 0) (pos 0)) ∷ [])
+rows_3 = ((numbers_row 29 6 6 (pos 4294967299) (pos 0) (pos 0) (pos 0)) ∷ (numbers_row 33 6 6 (pos 4294967297) (pos 0) (pos 0) (pos 0)) ∷ (numbers_row 34 6 6 (pos 4294967298) (pos 0) (pos 0) (pos 0)) ∷ (numbers_row 31 11 6 (pos 8589934595) (pos 0) (pos 0) (pos 0)) ∷ (numbers_row 42 11 6 (pos 8589934594) (pos 0) (pos 0) (pos 0)) ∷ (numbers_row 32 13 6 (pos 8589934598) (pos 0) (pos 0) (pos 0)) ∷ (numbers_row 43 13 6 (pos 8589934597) (pos 0) (pos 0) (pos 0)) ∷ [])
 
 abbrev unit : UnitTrees
 unit = record {
@@ -51,7 +51,7 @@ pub rows_are : unit_rows unit ≡ standard_rows ∷ (rows_1 ∷ rows_2 ∷ rows_
 unfolding unit_rows declare_block blocks_of standard_names
 rows_are = refl
 
-pub diagnostics_are : sorted_diags (declaration_diags unit) ≡ ([])
+pub diagnostics_are : sorted_diags (declaration_diags unit) ≡ ((0 ∷ 11 ∷ 42 ∷ []) ∷ [])
 unfolding unit_rows declare_block blocks_of declaration_diags standard_names
 diagnostics_are = refl
 

@@ -37,7 +37,7 @@ abbrev rows_2 : List Row
 rows_2 = ((numbers_row 0 7 11 (pos 2) (pos 0) (pos 0) (pos 0)) ∷ (numbers_row 29 8 1 (pos 8589934592) (pos 0) (pos 0) (pos 0)) ∷ (numbers_row 41 10 1 (pos 8589934592) (pos 1) (pos 0) (pos 0)) ∷ (numbers_row 40 5 2 (pos 8589934592) (pos 0) (pos 0) (pos 0)) ∷ (numbers_row 0 15 11 (pos 1) (pos 0) (pos 0) (pos 0)) ∷ (numbers_row 43 16 1 (pos 8589934596) (pos 0) (pos 0) (pos 0)) ∷ (numbers_row 42 13 2 (pos 8589934596) (pos 0) (pos 0) (pos 0)) ∷ [])
 
 abbrev rows_3 : List Row
-rows_3 = ((numbers_row 29 6 6 (pos 4294967297) (pos 0) (pos 0) (pos 0)) ∷ (numbers_row 30 8 6 (pos 4294967299) (pos 0) (pos 0) (pos 0)) ∷ (numbers_row 0 10 6 (pos 4294967299) (pos 0) (pos 0) (pos 0)) ∷ (numbers_row 0 15 6 (pos 8589934593) (pos 0) (pos 0) (pos 0)) ∷ [])
+rows_3 = ((numbers_row 29 6 6 (pos 4294967297) (pos 0) (pos 0) (pos 0)) ∷ (numbers_row 30 8 6 (pos 4294967299) (pos 0) (pos 0) (pos 0)) ∷ (numbers_row 32 8 6 (pos 4294967298) (pos 0) (pos 0) (pos 0)) ∷ (numbers_row 0 10 6 (pos 4294967299) (pos 0) (pos 0) (pos 0)) ∷ (numbers_row 0 15 6 (pos 8589934593) (pos 0) (pos 0) (pos 0)) ∷ [])
 
 abbrev unit : UnitTrees
 unit = record {

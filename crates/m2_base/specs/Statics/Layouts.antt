@@ -1,5 +1,5 @@
 -- The layout of a block: what follows from the syntax alone, and how it grows by the names that imports bring.
-use Rattle.std.specs.Prelude.{◌≡◌, ◌<◌, ◌≤◌, ◌^◌, List, [], length, map, nat_eq, ℕ, ◌+◌, if◌then◌else◌, Option, option_map, slice_get, ◌∷◌, ◌++◌, ◌==◌}
+use Rattle.std.specs.Prelude.{◌≡◌, ◌<◌, ◌≤◌, ◌^◌, List, [], flat_map, length, map, nat_eq, ℕ, ◌+◌, if◌then◌else◌, Option, option_map, slice_get, ◌∷◌, ◌++◌, ◌==◌}
 use Rattle.indexmap.specs.IndexMap.{IndexMap, get}
 use Rattle.m2_base.specs.Lists.{Each}
 pub use Rattle.m2_base.specs.Statics.Contexts.{Layout}
@@ -58,6 +58,10 @@ abbrev pub laid_shapes : List Item → List (List Named) → List Shape
 laid_shapes [] brought = []
 laid_shapes (x ∷ items) [] = item_shapes x ++ laid_shapes items []
 laid_shapes (x ∷ items) (b ∷ brought) = with_brought (item_shapes x) b ++ laid_shapes items brought
+
+-- all that is brought
+abbrev pub all_brought : List (List Named) → List Named
+all_brought brought = flat_map (λ b. b) brought
 
 -- ** What code keeps of a layout
 

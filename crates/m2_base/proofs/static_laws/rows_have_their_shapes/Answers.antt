@@ -1,5 +1,5 @@
 use Rattle.m2_base.proofs.ItemLaws.{item_of}
-use Rattle.m2_base.proofs.LayoutLaws.{block_shaped, AreShaped-length}
+use Rattle.m2_base.proofs.LayoutLaws.{block_counted, block_few, block_shaped}
 use Rattle.m2_base.proofs.static_laws.rows_have_their_shapes.Goals as goal
 
 pub returns-clause-items : goal.returns-clause-items
@@ -9,4 +9,7 @@ pub returns-clause-blocks : goal.returns-clause-blocks
 returns-clause-blocks c = block_shaped
 
 pub returns-clause-count : goal.returns-clause-count
-returns-clause-count c = λ source tables b. AreShaped-length (block_shaped source tables b)
+returns-clause-count c = block_counted
+
+pub returns-clause-few : goal.returns-clause-few
+returns-clause-few c = block_few
