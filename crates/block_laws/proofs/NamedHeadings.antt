@@ -7,7 +7,7 @@ use Rattle.m2_base.proofs.SoundTypes.{either}
 use Rattle.m2_base.specs.Lists.{Each, IsIn, WhereKept}
 use Rattle.m2_base.specs.Rows.{row_of, row_meaning, basic_of, natural, const_kind, type_name_kind, var_kind, proc_kind, module_kind, alias_kind, field_kind, param_kind, standard_kind, basic_kind, enum_kind, subrange_kind, array_kind, open_array_kind, record_kind, set_kind, pointer_kind, proc_type_kind, opaque_kind}
 use Rattle.m2_base.specs.Standard.{is_standard}
-use Rattle.m2_base.specs.Statics.BlockRows.{at_item, context_of, declare_block, declare_items, first_cell, scene_of}
+use Rattle.m2_base.specs.Statics.BlockRows.{at_item, brought_in, context_of, declare_block, declare_items, first_cell, scene_of}
 use Rattle.m2_base.specs.Statics.Blocks.{BlockTree, UnitTrees, blocks_of, home_of}
 use Rattle.m2_base.specs.Statics.Closing.{closing_diags}
 use Rattle.m2_base.specs.Statics.Contexts.{Context, Source, diag}
@@ -34,6 +34,7 @@ use Rattle.m2_base.specs.declared.trees.Qual.{Qual}
 use Rattle.m2_base.specs.declared.trees.declarations.StreamKind.{StreamKind}
 use Rattle.m2_base.specs.declared.trees.types.Formal.{Formal}
 use Rattle.stmt_sem.specs.BlockCode.{body_of, run_of, size_diags}
+use Rattle.row_laws.proofs.ImportedRows.{alias_shapes, import_aliases, own_shaped}
 use Rattle.block_laws.specs.Headings.{HasNamedHeadings, IsNamedProcedure}
 use Rattle.block_laws.proofs.BlocksAt.{before_of, unit_made}
 use Rattle.block_laws.proofs.Implemented.{none_left}
@@ -191,7 +192,8 @@ procedure_named names h stream c kind cell read none =
 item_named : (names : List (List ℕ)) (x : Item) (c : Context) (kind : StreamKind) (cell : ℕ) → IsReadItem names x → (declare c kind x cell).diags ≡ [] → Each IsNamedRow (declare c kind x cell).rows
 item_named names (heading_item h) c kind cell read none = shaped_named _ _ (item_of (heading_item h) c kind cell) (own_sections_others h.sections)
 item_named names (import_item None i) c kind cell read none = shaped_named _ _ (item_of (import_item None i) c kind cell) (refl, tt)
-item_named names (import_item (Some m) i) c kind cell read none = shaped_named _ _ (item_of (import_item (Some m) i) c kind cell) (refl, tt)
+item_named names (import_item (Some m) i) c kind cell read none =
+    shaped_named _ _ (own_shaped _) (alias_shapes (λ (k : ℕ). (k == proc_kind) ≡ false) refl _ (import_aliases m i c kind cell))
 item_named names (const_item i e) c kind cell read none = shaped_named _ _ (item_of (const_item i e) c kind cell) (refl, tt)
 item_named names (type_item i t) c kind cell read none = shaped_named _ _ (item_of (type_item i t) c kind cell) (others (type_item_shapes i t) _ (type_item_others i t) (refl, tt))
 item_named names (vars_item idents t) c kind cell read none = shaped_named _ _ (item_of (vars_item idents t) c kind cell) (others (type_shapes t) _ (type_others t) (mapped _ idents (λ i. refl)))
@@ -202,7 +204,7 @@ items_named names [] c kind i cell read none = tt
 items_named names (x ∷ items) c kind i cell read none =
     let a = at_item c i in
     let m = declare a kind x cell in
-    let d = with_rows c m.rows in
+    let d = brought_in (with_rows c m.rows) m.value.brought in
     let more = declare_items d kind (i + 1) m.value.cell items in
     let parts = none_left m.diags (more.diags ++ []) none in
     rows_append m.rows (more.rows ++ []) (item_named names x a kind cell read.0 parts.0)

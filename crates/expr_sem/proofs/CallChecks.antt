@@ -13,7 +13,7 @@ use Rattle.expr_sem.specs.Expressions.{call_alone, value}
 use Rattle.expr_sem.specs.Parts.{Made, Spot}
 use Rattle.m2_base.specs.Rows.{at_place, row_of}
 use Rattle.m2_base.specs.Standard.{cardinal, character, integer, standard_rows}
-use Rattle.m2_base.specs.Statics.Contexts.{Context, diag}
+use Rattle.m2_base.specs.Statics.Contexts.{Context, diag, no_layout}
 use Rattle.m2_base.specs.Statics.Diagnostics.{not_a_procedure, not_a_procedure_value, wrong_count}
 use Rattle.m2_base.specs.Trees.{Designator, Expr, ExprForm, call_form, designator, expr, exprs, field_selector, name_form, no_selectors, selectors, string_form}
 use Rattle.m2_base.specs.declared.rows.Mode.TheVariants.{ByAddress, Open, Plain}
@@ -54,7 +54,7 @@ context = record {
     block = record { scope = 6; text = 0; level = 2; home = 3; own = Some 1; chain = 6 ∷ 5 ∷ 3 ∷ 1 ∷ [] };
     tables = standard_rows ∷ own_rows ∷ import_rows ∷ module_rows ∷ [] ∷ outer_rows ∷ [] ∷ [];
   };
-  layout = [];
+  layout = no_layout;
   item = None;
 }
 

@@ -11,7 +11,7 @@ use Rattle.expr_sem.specs.Expressions.{call_alone, value}
 use Rattle.expr_sem.specs.Parts.{Made, Spot}
 use Rattle.m2_base.specs.Rows.{at_place, row_of}
 use Rattle.m2_base.specs.Standard.{bitset, boolean, cardinal, character, integer, standard_rows}
-use Rattle.m2_base.specs.Statics.Contexts.{Context}
+use Rattle.m2_base.specs.Statics.Contexts.{Context, no_layout}
 use Rattle.m2_base.specs.Trees.{Designator, Expr, ExprForm, call_form, designator, expr, exprs, index_selector, labels, many_form, name_form, next, nexts, no_selectors, number_form, one_form, one_label, range_label, selectors, set_form, string_form}
 use Rattle.m2_base.specs.declared.rows.Mode.TheVariants.{Plain}
 use Rattle.m2_base.specs.declared.rows.Row.{Row}
@@ -36,7 +36,7 @@ context = record {
     block = record { scope = 1; text = 0; level = 0; home = 1; own = None; chain = 1 ∷ [] };
     tables = standard_rows ∷ rows ∷ [];
   };
-  layout = [];
+  layout = no_layout;
   item = None;
 }
 

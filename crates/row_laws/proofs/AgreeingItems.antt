@@ -7,18 +7,17 @@ use Rattle.m2_base.specs.declared.operands.Operand.TheVariants.{Constant, String
 use Rattle.m2_base.specs.declared.rows.Mode.{Mode}
 use Rattle.m2_base.specs.declared.rows.Mode.TheVariants.{Plain, ByAddress, Open}
 use Rattle.m2_base.specs.declared.rows.Place.{Place}
-use Rattle.m2_base.specs.declared.rows.RowMeaning.TheVariants.{Alias, Const, Module, Opaque, Param, Proc, ProcType, TypeName, Var}
+use Rattle.m2_base.specs.declared.rows.RowMeaning.TheVariants.{Const, Module, Opaque, Param, Proc, ProcType, TypeName, Var}
 use Rattle.m2_base.specs.declared.trees.Ident.{Ident}
 use Rattle.m2_base.specs.declared.trees.declarations.StreamKind.{StreamKind}
 use Rattle.m2_base.specs.Standard.{broken, text_type}
 use Rattle.m2_base.specs.Trees.{TypeExpr, Section, Heading}
-use Rattle.m2_base.specs.Statics.BlockRows.{declare_items, at_item}
+use Rattle.m2_base.specs.Statics.BlockRows.{at_item, brought_in, declare_items}
 use Rattle.m2_base.specs.Statics.Cells.{capped}
 use Rattle.m2_base.specs.Statics.Constants.{constant_of}
 use Rattle.m2_base.specs.Statics.Contexts.{Context, scope_of_module}
 use Rattle.m2_base.specs.Statics.Declarations.{declare}
 use Rattle.m2_base.specs.Statics.HeadingRows.{Placing, placing, parameter_row, parameter_rows, own_section_rows, own_sections_rows}
-use Rattle.m2_base.specs.Statics.ImportRows.{place_or_broken}
 use Rattle.m2_base.specs.Statics.Items.{Item, heading_item, import_item, const_item, type_item, vars_item, proc_item}
 use Rattle.m2_base.specs.Statics.Makes.{Makes, with_rows, next_place, makes_row, makes_named, scene_with}
 use Rattle.m2_base.specs.Statics.NameRows.{const_meaning, declared_type, var_rows}
@@ -28,7 +27,6 @@ use Rattle.m2_base.specs.Statics.SoundTrees.{IsSoundOption, IsSoundItem}
 use Rattle.m2_base.specs.Statics.TypeNames.{type_of_qual}
 use Rattle.m2_base.specs.Statics.TypeRows.{type_rows}
 use Rattle.m2_base.specs.Statics.Types.{size_of}
-use Rattle.m2_base.specs.Statics.Uses.{use_of}
 use Rattle.m2_base.proofs.RowLaws.{place_of-number_of}
 use Rattle.m2_base.proofs.SceneLaws.{with-none}
 use Rattle.m2_base.proofs.Sound.{IsThere, next_of}
@@ -40,7 +38,8 @@ use Rattle.m2_base.specs.Statics.Assignable.{is_open_kind}
 use Rattle.row_laws.proofs.Numbers.{AllAgree, none_agree}
 use Rattle.row_laws.proofs.Closed.{IsClosed, closed_with}
 use Rattle.row_laws.proofs.ClosedTypes.{IsNoOpen, fresh_at, type_no_open}
-use Rattle.row_laws.proofs.Agreeing.{Ready, ready-left, ready-right, agree-append, agree-end, agree-then, one_agrees, named_agrees}
+use Rattle.row_laws.proofs.Agreeing.{Ready, ready-left, agree-append, agree-end, agree-then, one_agrees, named_agrees}
+use Rattle.row_laws.proofs.ImportedRows.{import_agrees, ready-next}
 use Rattle.row_laws.proofs.AgreeingTypes.{open_agrees, parameter_agrees, result_agrees, type_agrees}
 
 -- ** Constants, variables and parameters
@@ -135,10 +134,8 @@ module _ (names : ℕ) where
 
   item_agrees : (x : Item) (c : Context) (kind : StreamKind) (cell : ℕ) → IsSoundItem names x → Ready names c (declare c kind x cell).rows → IsClosed c.scene → AllAgree c.scene (declare c kind x cell).rows
   item_agrees (heading_item h) c kind cell good ready closed = agree-end (own_sections_agree h.sections c (placing 0 (capped (parameter_cells h.sections)) []))
-  item_agrees (import_item None i) c kind cell good ready closed = agree-end (named_agrees c i.name i.at (Module (scope_of_module c.source i.name)) (λ n. tt))
-  item_agrees (import_item (Some m) i) c kind cell good ready closed =
-      let e = (use_of c (Some (scope_of_module c.source m.name)) i.name i.at).value in
-      agree-end (agree-then (named_agrees (with_rows c []) i.name i.at (Alias (place_or_broken e)) (λ n. tt)))
+  item_agrees (import_item None i) c kind cell good ready closed = agree-end (agree-end (named_agrees c i.name i.at (Module (scope_of_module c.source i.name)) (λ n. tt)))
+  item_agrees (import_item (Some m) i) c kind cell good ready closed = import_agrees m i c kind cell
   item_agrees (const_item i e) c kind cell good ready closed = agree-end (agree-then (const_agrees (with_rows c []) i (constant_of c e).value))
   item_agrees (type_item i t) c kind cell good ready closed =
       let made = declared_type c i t in
@@ -162,7 +159,7 @@ module _ (names : ℕ) where
   items_agree (x ∷ items) c kind i cell good ready closed =
       let a = at_item c i in
       let m = declare a kind x cell in
-      let d = with_rows c m.rows in
+      let d = brought_in (with_rows c m.rows) m.value.brought in
       let more = declare_items d kind (i + 1) m.value.cell items in
       let first = ready-left m.rows (more.rows ++ []) ready in
       let sound = first.sound in
@@ -172,6 +169,6 @@ module _ (names : ℕ) where
         ok = first.ok;
         room = first.room;
       } in
-      let rest = ready-right m.rows (more.rows ++ []) ready in
+      let rest = ready-next c x kind i cell (more.rows ++ []) ready in
       let agrees = item_agrees x a kind cell good.0 ra closed in
       agree-append agrees (agree-end (items_agree items d kind (i + 1) m.value.cell good.1 (ready-left more.rows [] rest) (closed_with names a m.rows ra agrees closed)))

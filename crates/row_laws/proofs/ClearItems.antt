@@ -1,5 +1,5 @@
 -- The rows of every item in a clear scene, where it has no diagnostic.
-use Rattle.std.specs.Prelude.{◌≡◌, ℕ, ◌+◌, ◌^◌, ◌<◌, ◌⊎◌, Bool, flat_map, map, length, List, [], ◌∷◌, ◌++◌, Option, Some, None}
+use Rattle.std.specs.Prelude.{◌≡◌, ℕ, ◌+◌, ◌^◌, ◌<◌, ◌≤◌, ◌⊎◌, Bool, flat_map, map, length, List, [], ◌∷◌, ◌++◌, Option, Some, None}
 use Rattle.std.proofs.Common.{ap, subst, sym, ◌∙◌, refl, inl, inr, arith}
 use Rattle.std.proofs.lemmas.Bool.{cases_order}
 use Rattle.std.proofs.lemmas.List.{length-append}
@@ -12,18 +12,19 @@ use Rattle.m2_base.specs.declared.rows.Row.{Row}
 use Rattle.m2_base.specs.declared.rows.RowMeaning.TheVariants.{Alias, Module, Opaque, Param, Proc, ProcType, TypeName, Var}
 use Rattle.m2_base.specs.declared.trees.Ident.{Ident}
 use Rattle.m2_base.specs.declared.trees.declarations.StreamKind.{StreamKind}
-use Rattle.m2_base.specs.Standard.{text_type}
+use Rattle.m2_base.specs.Standard.{is_standard, text_type}
 use Rattle.m2_base.specs.Tables.{rows_at}
-use Rattle.m2_base.specs.Trees.{Decl, Expr, Heading, Section, Stream, TypeExpr}
-use Rattle.m2_base.specs.Statics.BlockRows.{at_item, declare_items}
+use Rattle.m2_base.specs.Trees.{Decl, Expr, Heading, Section, Stream, TypeExpr, const_decl, proc_decl, type_decl, vars_decl}
+use Rattle.m2_base.specs.Statics.BlockRows.{at_item, brought_in, declare_items}
 use Rattle.m2_base.specs.Statics.Cells.{capped}
 use Rattle.m2_base.specs.Statics.Constants.{constant_of}
 use Rattle.m2_base.specs.Statics.Contexts.{Context, Scene, row_at, scope_of_module}
 use Rattle.m2_base.specs.Statics.Declarations.{declare}
 use Rattle.m2_base.specs.Statics.HeadingRows.{Placing, heading_rows, own_section_rows, own_sections_rows, parameter_row, parameter_rows, placing}
-use Rattle.m2_base.specs.Statics.ImportRows.{import_rows, place_or_broken}
+use Rattle.m2_base.specs.Statics.ImportRows.{alias_by, import_rows, place_or_broken}
+use Rattle.m2_base.specs.Statics.ImportedConstants.{members_of}
 use Rattle.m2_base.specs.Statics.Items.{decl_item, heading_items, import_items, items_of, Item, const_item, heading_item, import_item, proc_item, type_item, vars_item}
-use Rattle.m2_base.specs.Statics.Lookup.{Entry}
+use Rattle.m2_base.specs.Statics.Lookup.{Entry, entry_named, has_name}
 use Rattle.m2_base.specs.Statics.Makes.{Makes, makes_named, makes_row, next_place, scene_with, with_rows}
 use Rattle.m2_base.specs.Statics.NameRows.{const_meaning, const_rows, declared_type, type_name_rows, var_rows, vars_rows}
 use Rattle.m2_base.specs.Statics.ProcedureRows.{param_rows, parameter_cells, parameter_count, proc_number, proc_rows, proc_scope, section_rows, sections_length}
@@ -40,13 +41,16 @@ use Rattle.m2_base.proofs.SceneLaws.{IsOpen, own_of, own-with, with-none}
 use Rattle.m2_base.proofs.SoundTypes.{either}
 use Rattle.row_laws.specs.Clear.{IsNamedTarget, LeadsOn, HasClear, IsClear, IsNamable}
 use Rattle.row_laws.proofs.ClearRows.{IsClearScene, clear_again, other_rows, target_there}
-use Rattle.row_laws.proofs.ClearNotes.{IsEntry, MakesFine, chain, done, named_fine, only, qual_fine, row_fine, use_fine}
+use Rattle.row_laws.proofs.ClearNotes.{IsEntry, MakesFine, chain, done, named_fine, one_row_fine, only, qual_fine, row_fine, use_fine}
 use Rattle.row_laws.proofs.ClearConstants.{IsConstant, constant_fine}
 use Rattle.row_laws.proofs.ClearTypes.{IsAny, looked, open_fine, parameter_fine, result_again, result_fine, type_fine}
 use Rattle.row_laws.proofs.ClearTargets.{HasImports, imports_with}
 use Rattle.row_laws.proofs.ClearImports.{IsFront, Waits, all_made, first_waits, fronts, waits_with}
-use Rattle.m2_base.proofs.ItemLaws.{item_of}
+use Rattle.row_laws.proofs.ClearBrought.{brought_fine, members_there}
+use Rattle.row_laws.proofs.ImportedRows.{item_splits}
 use Rattle.m2_base.specs.Statics.Layouts.{layout_of}
+use Rattle.m2_base.specs.Statics.Shapes.{item_shapes}
+use Rattle.m2_base.specs.declared.sites.Named.{Named}
 
 -- ** Constants, types and variables
 
@@ -116,15 +120,47 @@ alias_leads tables (Some e) n at few h =
     let small = few e.0.scope in
     subst (λ p. IsNamedTarget (row_at tables p)) (sym (place_of-number_of e.0 (omega (arith, there, small)))) target
 
+-- an import's own row, whatever was brought under its name
+own_alias_fine : (c : Context) (i : Ident) (p : Place) (o : Option Named) → IsClearScene c.scene → LeadsOn c.scene.tables (row_meaning (row_of i.name i.at (Alias p))) → MakesFine IsAny c (alias_by c i p o)
+own_alias_fine c i p None clear leads = named_fine c i.name i.at (Alias p) clear tt leads tt
+own_alias_fine c i p (Some n) clear leads = one_row_fine c.scene (row_of 0 i.at (Alias p)) clear (tt, leads, λ some. absurd (some refl)) tt
+
+one_alias : (c : Context) (i : Ident) (p : Place) (o : Option Named) → length (alias_by c i p o).rows ≡ 1
+one_alias c i p None =
+    either (λ (x : Makes Place). length x.rows ≡ 1) (is_standard i.name) _ _ refl (either (λ (x : Makes Place). length x.rows ≡ 1) (has_name c.scene.tables c.scene.block.scope i.name) _ _ refl refl)
+one_alias c i p (Some n) = refl
+
+-- a scope has at most so many rows more
+longer_by : (scene : Scene) (xs : List Row) → IsOpen scene → (s : ℕ) → length (rows_at (scene_with scene xs).tables s) ≤ length (rows_at scene.tables s) + length xs
+longer_by scene xs room s = by_order (cases_order s scene.block.scope)
+  where
+    by_order : (s ≡ scene.block.scope) ⊎ ((s < scene.block.scope) ⊎ (scene.block.scope < s)) → length (rows_at (scene_with scene xs).tables s) ≤ length (rows_at scene.tables s) + length xs
+    by_order (inl same) =
+        let made = ap length (ap (rows_at (scene_with scene xs).tables) same ∙ own-with scene xs room) in
+        let own = ap length (ap (rows_at scene.tables) same) in
+        let longer = length-append (own_of scene) xs in
+        omega (arith, made, own, longer)
+    by_order (inr (inl less)) = let e = ap length (other_rows scene xs s (λ q. omega (arith, q, less))) in omega (arith, e)
+    by_order (inr (inr more)) = let e = ap length (other_rows scene xs s (λ q. omega (arith, q, more))) in omega (arith, e)
+
 import_fine : (names : List (List ℕ)) (c : Context) (from : Option Ident) (i : Ident) → IsClearScene c.scene → AreFew c.scene.tables → IsReadName names i → MakesFine IsAny c (import_rows c from i)
-import_fine names c None i clear few read = named_fine c i.name i.at (Module (scope_of_module c.source i.name)) clear tt tt tt
+import_fine names c None i clear few read = chain (named_fine c i.name i.at (Module (scope_of_module c.source i.name)) clear tt tt tt) (λ more k. done more tt)
 import_fine names c (Some m) i clear few read =
     let within = Some (scope_of_module c.source m.name) in
     let o = (use_of c within i.name i.at).value in
-    let row = row_of i.name i.at (Alias (place_or_broken o)) in
+    let d = with_rows c [] in
+    let p = place_or_broken o in
+    let brought = entry_named d.layout.brought i.name in
+    let own = alias_by d i p brought in
+    let f = with_rows d own.rows in
     chain (only clear (use_fine c clear within i.name i.at read.some))
-    (λ more h. named_fine (with_rows c []) i.name i.at (Alias (place_or_broken o)) more tt
-    (subst (λ (s : Scene). LeadsOn s.tables (row_meaning row)) (sym (with-none c.scene)) (alias_leads c.scene.tables o i.name i.at few h)) tt)
+    (λ one h. chain (own_alias_fine d i p brought one (subst (λ (s : Scene). LeadsOn s.tables (row_meaning (row_of i.name i.at (Alias p)))) (sym (with-none c.scene)) (alias_leads c.scene.tables o i.name i.at few h)))
+    (λ two k. brought_fine f i.at (members_of f.scene o) two (members_there f.scene (λ s.
+    let a = longer_by d.scene own.rows one.room s in
+    let b = one_alias d i p brought in
+    let e = ap (λ (q : Scene). length (rows_at q.tables s)) (with-none c.scene) in
+    let l = few s in
+    omega (arith, a, b, e, l)) o)))
 
 -- ** Headings
 
@@ -240,32 +276,42 @@ space_left scene xs ys h = let joined = length-append xs ys in let own = h.own i
 -- an item, and then the items behind it
 step : (names : List (List ℕ)) (x : Item) (items : List Item) (c : Context) (kind : StreamKind) (i cell : ℕ) → IsClearScene c.scene → HasSpace c.scene (declare_items c kind i cell (x ∷ items)).rows → Wants (at_item c i) x
     → IsReadItem names x
-    → ((d : Context) (next : ℕ) → d ≡ with_rows c (declare (at_item c i) kind x cell).rows → IsClearScene d.scene → HasSpace d.scene (declare_items d kind (i + 1) next items).rows → MakesFine IsAny d (declare_items d kind (i + 1) next items))
+    → ((d : Context) (next : ℕ) → d ≡ brought_in (with_rows c (declare (at_item c i) kind x cell).rows) (declare (at_item c i) kind x cell).value.brought → IsClearScene d.scene → HasSpace d.scene (declare_items d kind (i + 1) next items).rows
+    → MakesFine IsAny d (declare_items d kind (i + 1) next items))
     → MakesFine IsAny c (declare_items c kind i cell (x ∷ items))
 step names x items c kind i cell clear space wants read rest =
     let a = at_item c i in
     let m = declare a kind x cell in
-    let d = with_rows c m.rows in
+    let d = brought_in (with_rows c m.rows) m.value.brought in
     let more = declare_items d kind (i + 1) m.value.cell items in
     chain (item_fine names a kind x cell clear space.few wants read)
     (λ one k. chain (rest d m.value.cell refl one (space_left d.scene more.rows [] (space_right c.scene m.rows (more.rows ++ []) clear.room space))) (λ two j. done two tt))
 
--- the declarations, where each import is made
-decls_fine : (names : List (List ℕ)) (items : List Item) (c : Context) (kind : StreamKind) (i cell : ℕ) → IsClearScene c.scene → HasImports c → HasSpace c.scene (declare_items c kind i cell items).rows
-    → Each (IsReadItem names) items → MakesFine IsAny c (declare_items c kind i cell items)
-decls_fine names [] c kind i cell clear imports space read = done clear tt
-decls_fine names (x ∷ items) c kind i cell clear imports space read =
-    step names x items c kind i cell clear space (wants_less (at_item c i) x imports) read.0
-    (λ d next is one room. decls_fine names items d kind (i + 1) next one
-    (subst HasImports (sym is) (imports_with c (declare (at_item c i) kind x cell).rows clear imports)) room read.1)
+-- a declaration brings nothing
+decl_brings : (x : Decl) (c : Context) (kind : StreamKind) (cell : ℕ) → (declare c kind (decl_item x) cell).value.brought ≡ []
+decl_brings (const_decl i e) c kind cell = refl
+decl_brings (type_decl i t) c kind cell = refl
+decl_brings (vars_decl idents t) c kind cell = refl
+decl_brings (proc_decl h s) c kind cell = refl
 
-fronts_fine : (names : List (List ℕ)) (front : List Item) (ds : List Decl) (c : Context) (kind : StreamKind) (i cell : ℕ) → IsClearScene c.scene → Each IsFront front → Waits c i (front ++ map decl_item ds)
+-- the declarations, where each import is made
+decls_fine : (names : List (List ℕ)) (ds : List Decl) (c : Context) (kind : StreamKind) (i cell : ℕ) → IsClearScene c.scene → HasImports c → HasSpace c.scene (declare_items c kind i cell (map decl_item ds)).rows
+    → Each (IsReadItem names) (map decl_item ds) → MakesFine IsAny c (declare_items c kind i cell (map decl_item ds))
+decls_fine names [] c kind i cell clear imports space read = done clear tt
+decls_fine names (x ∷ ds) c kind i cell clear imports space read =
+    let m = declare (at_item c i) kind (decl_item x) cell in
+    step names (decl_item x) (map decl_item ds) c kind i cell clear space (wants_less (at_item c i) (decl_item x) (record { brought = imports.brought; names = imports.names })) read.0
+    (λ d next is one room. decls_fine names ds d kind (i + 1) next one
+    (subst HasImports (sym is) (subst (λ (ns : List Named). HasImports (brought_in (with_rows c m.rows) ns)) (sym (decl_brings x (at_item c i) kind cell)) (imports_with c m.rows clear imports))) room read.1)
+
+fronts_fine : (names : List (List ℕ)) (front : List Item) (ds : List Decl) (c : Context) (kind : StreamKind) (i o cell : ℕ) → IsClearScene c.scene → Each IsFront front → Waits c i o (front ++ map decl_item ds)
     → HasSpace c.scene (declare_items c kind i cell (front ++ map decl_item ds)).rows → Each (IsReadItem names) (front ++ map decl_item ds) → MakesFine IsAny c (declare_items c kind i cell (front ++ map decl_item ds))
-fronts_fine names [] ds c kind i cell clear fronts waits space read = decls_fine names (map decl_item ds) c kind i cell clear (all_made c i ds waits) space read
-fronts_fine names (x ∷ front) ds c kind i cell clear fronts waits space read =
+fronts_fine names [] ds c kind i o cell clear fronts waits space read = decls_fine names ds c kind i cell clear (all_made c i o ds waits) space read
+fronts_fine names (x ∷ front) ds c kind i o cell clear fronts waits space read =
     step names x (front ++ map decl_item ds) c kind i cell clear space (wants_none (at_item c i) x fronts.0) read.0
-    (λ d next is one room. fronts_fine names front ds d kind (i + 1) next one fronts.1
-    (subst (λ (e : Context). Waits e (i + 1) (front ++ map decl_item ds)) (sym is) (waits_with c x (front ++ map decl_item ds) i _ clear.room (item_of x (at_item c i) kind cell) waits)) room read.1)
+    (λ d next is one room. fronts_fine names front ds d kind (i + 1) (o + length (item_shapes x)) next one fronts.1
+    (subst (λ (e : Context). Waits e (i + 1) (o + length (item_shapes x)) (front ++ map decl_item ds)) (sym is)
+    (waits_with c x (front ++ map decl_item ds) i o _ clear.room (item_splits x c kind i cell clear.room) waits)) room read.1)
   where
     wants_none : (c : Context) (x : Item) → IsFront x → Wants c x
     wants_none c (heading_item h) k = tt
@@ -273,7 +319,7 @@ fronts_fine names (x ∷ front) ds c kind i cell clear fronts waits space read =
     wants_none c x k = absurd k
 
 -- the items of a block, none of whose rows is made yet
-pub items_fine : (names : List (List ℕ)) (tree : Stream) (c : Context) (kind : StreamKind) (cell : ℕ) → c.layout ≡ (layout_of tree).names → own_of c.scene ≡ [] → IsClearScene c.scene
+pub items_fine : (names : List (List ℕ)) (tree : Stream) (c : Context) (kind : StreamKind) (cell : ℕ) → c.layout ≡ layout_of tree → own_of c.scene ≡ [] → IsClearScene c.scene
     → HasSpace c.scene (declare_items c kind 0 cell (items_of tree)).rows → Each (IsReadItem names) (items_of tree) → MakesFine IsAny c (declare_items c kind 0 cell (items_of tree))
 items_fine names tree c kind cell layout none clear space read =
-    fronts_fine names (heading_items tree.heading ++ flat_map import_items tree.imports) tree.decls c kind 0 cell clear (fronts tree.heading tree.imports) (first_waits c (items_of tree) layout none) space read
+    fronts_fine names (heading_items tree.heading ++ flat_map import_items tree.imports) tree.decls c kind 0 0 cell clear (fronts tree.heading tree.imports) (first_waits c tree layout none) space read

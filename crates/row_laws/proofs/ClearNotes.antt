@@ -104,7 +104,7 @@ next_clear c clear = behind_clear c.scene.block.scope _ clear.positive
 pub row_fine : (c : Context) (at : ℕ) (m : RowMeaning) → IsClearScene c.scene → HasClear (row_meaning (row_of 0 at m)) → LeadsOn c.scene.tables (row_meaning (row_of 0 at m)) → MakesFine IsClear c (makes_row c at m)
 row_fine c at m clear h leads = one_row_fine c.scene (row_of 0 at m) clear (h, leads, λ some. absurd (some refl)) (next_clear c clear)
 
-row_refused : {T : Type 0} {P : T → Type 0} {scene : Scene} {rows : List Row} {d : Diag} {v : T} → Leaves P scene rows (d ∷ []) v
+pub row_refused : {T : Type 0} {P : T → Type 0} {scene : Scene} {rows : List Row} {d : Diag} {v : T} → Leaves P scene rows (d ∷ []) v
 row_refused = record { clear = λ e. absurd (cc); value = λ e. absurd (cc) }
 
 -- a row with a name

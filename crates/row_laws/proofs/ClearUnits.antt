@@ -24,7 +24,7 @@ use Rattle.m2_base.specs.Statics.TypeParts.{Parameter, parameter_by, parameter_o
 use Rattle.m2_base.specs.Statics.Types.{is_broken, kind_of, stands_for}
 use Rattle.m2_base.specs.Statics.UnitNotes.{complete_context}
 use Rattle.m2_base.specs.Statics.UnitRows.{rows_from, unit_rows}
-use Rattle.m2_base.proofs.LayoutLaws.{AreShaped-length, block_shaped}
+use Rattle.m2_base.proofs.LayoutLaws.{block_counted, block_few}
 use Rattle.m2_base.proofs.NoRepeats.{scene_empty, scene_open}
 use Rattle.m2_base.proofs.SceneLaws.{own-with}
 use Rattle.row_laws.specs.Headings.{AreSoundFor, HasSoundHeadings, HasSoundParameters}
@@ -67,14 +67,14 @@ scene_clear before b is =
       rows = same_clear before (scene_of before b.block).tables (scene_same before b at) is.clear;
     }
 
-block_few : (names : ℕ) (source : Source) (before : List (List Row)) (b : BlockTree) → IsSoundBlock names source b → length (declare_block source before b).rows < 2 ^ 31
-block_few names source before b sound = let few = sound.few in let e = AreShaped-length (block_shaped source before b) in omega (arith, few, e)
+block_small : (names : ℕ) (source : Source) (before : List (List Row)) (b : BlockTree) → IsSoundBlock names source b → length (declare_block source before b).rows < 2 ^ 31
+block_small names source before b sound = let few = sound.few in let e = block_counted source before b in let brought = block_few source before b in omega (arith, few, e, brought)
 
 block_space : (names : ℕ) (source : Source) (before : List (List Row)) (b : BlockTree) → IsBehind before b → IsSoundBlock names source b → HasSpace (scene_of before b.block) (declare_block source before b).rows
 block_space names source before b is sound =
     let at = is.scope in
     let none = ap length (scene_empty before b.block (omega (arith, at))) in
-    let many = block_few names source before b sound in
+    let many = block_small names source before b sound in
     record {
       few = λ s. let few = is.few s in let e = ap length (scene_same before b at s) in omega (arith, few, e);
       own = omega (arith, none, many);
@@ -153,7 +153,7 @@ all_clear names count source all (b ∷ blocks) before e row positive standard c
     let seen = seen_same all before made b.block row.0 (omega (arith, long, whole)) (λ s h. sym (ap (λ (ts : List (List Row)). rows_at ts s) e) ∙ stays source blocks (before ++ made ∷ []) s h) in (
       same_clear (before ++ made ∷ []) (whole_scene all b.block).tables seen more,
       all_clear names count source all blocks (before ++ made ∷ []) e (subst (λ n. AreConsecutive n blocks) one row.1) (omega (arith, next)) (get_or_append_left before (made ∷ []) [] 0 positive ∙ standard) more
-          (few_behind before made few (block_few count source before b sound.0)) sound.1 read.1 none.1,
+          (few_behind before made few (block_small count source before b sound.0)) sound.1 read.1 none.1,
     )
 
 standard_few : AreFew (standard_rows ∷ [])

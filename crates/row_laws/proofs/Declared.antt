@@ -13,7 +13,7 @@ use Rattle.m2_base.specs.declared.trees.declarations.StreamKind.{StreamKind}
 use Rattle.m2_base.specs.declared.trees.declarations.StreamKind.TheVariants.{Main, Definition, Procedure}
 use Rattle.m2_base.specs.Standard.{is_standard}
 use Rattle.m2_base.specs.Trees.{Section, Heading}
-use Rattle.m2_base.specs.Statics.BlockRows.{declare_block, declare_items, at_item, context_of, scene_of, first_cell}
+use Rattle.m2_base.specs.Statics.BlockRows.{declare_block, declare_items, at_item, brought_in, context_of, scene_of, first_cell}
 use Rattle.m2_base.specs.Statics.Blocks.{BlockTree}
 use Rattle.m2_base.specs.Statics.Contexts.{Block, Context, Scene, Source}
 use Rattle.m2_base.specs.Statics.Declarations.{declare}
@@ -35,6 +35,7 @@ use Rattle.m2_base.proofs.SoundTypes.{either}
 use Rattle.row_laws.specs.Procedures.{HasNumber, IsDeclared}
 use Rattle.row_laws.proofs.Numbers.{AllAgree}
 use Rattle.row_laws.proofs.Agreeing.{Ready, agree-left, agree-right, ready-left, ready-right, ready-then}
+use Rattle.row_laws.proofs.ImportedRows.{alias_shapes, import_aliases, own_shaped, ready-next}
 use Rattle.row_laws.proofs.Closed.{IsClosed, closed_with}
 use Rattle.row_laws.proofs.PlainShapes.{ArePlain, IsPlainKind, mapped, otherwise, own_plain, plains, sections_plain, type_item_plain, type_plain}
 use Rattle.row_laws.proofs.Signatures.{IsRawType, Under, type_made_raw, under-left, under-right}
@@ -230,7 +231,7 @@ module _ (names : ℕ) (final : Scene) where
   item_declared (import_item None i) c kind cell items front more is_in ready under closed step =
       plain_declared Q kind c.scene.block items front more (own_rows c) _ refl (shaped_none _ _ (item_of (import_item None i) c kind cell) (refl, tt)) step
   item_declared (import_item (Some m) i) c kind cell items front more is_in ready under closed step =
-      plain_declared Q kind c.scene.block items front more (own_rows c) _ refl (shaped_none _ _ (item_of (import_item (Some m) i) c kind cell) (refl, tt)) step
+      plain_declared Q kind c.scene.block items front more (own_rows c) _ refl (shaped_none _ _ (own_shaped _) (alias_shapes (λ (k : ℕ). (k == proc_kind) ≡ false) refl _ (import_aliases m i c kind cell))) step
   item_declared (const_item i e) c kind cell items front more is_in ready under closed step =
       plain_declared Q kind c.scene.block items front more (own_rows c) _ refl (shaped_none _ _ (item_of (const_item i e) c kind cell) (refl, tt)) step
   item_declared (type_item i t) c kind cell items front more is_in ready under closed step =
@@ -246,7 +247,7 @@ module _ (names : ℕ) (final : Scene) where
   items_declared (x ∷ xs) c kind i cell items front within ready under agree closed step =
       let a = at_item c i in
       let m = declare a kind x cell in
-      let d = with_rows c m.rows in
+      let d = brought_in (with_rows c m.rows) m.value.brought in
       let more = declare_items d kind (i + 1) m.value.cell xs in
       let left = ready-left m.rows (more.rows ++ []) ready in
       let sound = left.sound in
@@ -257,7 +258,7 @@ module _ (names : ℕ) (final : Scene) where
         room = left.room;
       } in
       let first = item_declared x a kind cell items front more.value.headings (within x (inl refl)) ra (under-left m.rows (more.rows ++ []) under) closed step in
-      let behind = ready-left more.rows [] (ready-right m.rows (more.rows ++ []) ready) in
+      let behind = ready-left more.rows [] (ready-next c x kind i cell (more.rows ++ []) ready) in
       let next : List HeadingNote = front ++ heading_list m.value.heading in
       let rest = items_declared xs d kind (i + 1) m.value.cell items next (λ y h. within y (inr h)) behind
       (under-left more.rows [] (under-right m.rows (more.rows ++ []) under)) (agree-left more.rows [] (agree-right m.rows (more.rows ++ []) agree))

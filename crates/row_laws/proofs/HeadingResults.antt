@@ -7,7 +7,7 @@ use Rattle.m2_base.specs.Gives.{and_then, gives, gives_answer}
 use Rattle.m2_base.specs.Lists.{Each, WhereKept}
 use Rattle.m2_base.specs.Rows.{Fits, HasSmallOrdinals, IsBefore, at_place, row_meaning, row_of}
 use Rattle.m2_base.specs.Standard.{broken, is_standard, standard_place}
-use Rattle.m2_base.specs.Statics.Contexts.{Block, Context, Scene, Source, refuse, row_at}
+use Rattle.m2_base.specs.Statics.Contexts.{Block, Context, Layout, Scene, Source, refuse, row_at}
 use Rattle.m2_base.specs.Statics.Diagnostics.{not_declared_there, result_not_scalar, unknown_name, used_before}
 use Rattle.m2_base.specs.Statics.Lookup.{Entry, entry_at, entry_in, first_entry}
 use Rattle.m2_base.specs.Statics.ProcedureTypes.{checked_result, is_structured_kind, result_type}
@@ -31,7 +31,7 @@ no_less n false e = refl
 standard_small : (name : ℕ) → is_standard name ≡ true → name + 10 < 2 ^ 32
 standard_small name h = let e = leb-true name 26 (and_parts (nat_le 1 name) (nat_le name 26) h).1 in omega (arith, e)
 
-module _ (names : ℕ) (source : Source) (b : Block) (layout : List Named) (t u : List (List Row))
+module _ (names : ℕ) (source : Source) (b : Block) (layout : Layout) (t u : List (List Row))
     (sound : Sound names (record { block = b; tables = t })) (same : (s : ℕ) → s < b.scope → rows_at u s ≡ rows_at t s)
     (down : Each (λ s. s < b.scope) (drop 1 b.chain)) (home : b.home < b.scope) (own : WhereKept b.own (λ s. s < b.scope)) where
   abbrev scene : Scene

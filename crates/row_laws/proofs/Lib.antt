@@ -5,6 +5,7 @@ pub mod AgreeingTypes
 pub mod Later
 pub mod Closed
 pub mod ClosedTypes
+pub mod ImportedRows
 pub mod AgreeingItems
 pub mod Scenes
 pub mod Placing
@@ -32,6 +33,7 @@ pub mod ClearOperations
 pub mod ClearConstants
 pub mod ClearTargets
 pub mod ClearTypes
+pub mod ClearBrought
 pub mod ClearImports
 pub mod ClearItems
 pub mod ClearUnits

@@ -1,5 +1,5 @@
 -- The cells of an own definition's variables are those that its rows count.
-use Rattle.std.specs.Prelude.{◌≡◌, ℕ, ◌+◌, ◌^◌, ◌<◌, ◌==◌, List, [], ◌∷◌, ◌++◌, map, flat_map, Option, Some, None}
+use Rattle.std.specs.Prelude.{◌≡◌, ℕ, ◌+◌, ◌^◌, ◌<◌, ◌==◌, false, List, [], ◌∷◌, ◌++◌, map, flat_map, Option, Some, None}
 use Rattle.std.proofs.Common.{ap, subst, sym, ◌∙◌, refl}
 use Rattle.std.proofs.lemmas.List.{append-nil}
 use Rattle.m2_base.specs.Lists.{Each}
@@ -14,7 +14,7 @@ use Rattle.m2_base.specs.declared.trees.declarations.StreamKind.{StreamKind}
 use Rattle.m2_base.specs.declared.trees.declarations.StreamKind.TheVariants.{Main, Definition, Procedure}
 use Rattle.m2_base.specs.Standard.{is_standard}
 use Rattle.m2_base.specs.Trees.{Heading}
-use Rattle.m2_base.specs.Statics.BlockRows.{cell_after, cells_after, declare_block, declare_items, at_item, context_of, scene_of, first_cell}
+use Rattle.m2_base.specs.Statics.BlockRows.{cell_after, cells_after, declare_block, declare_items, at_item, brought_in, context_of, scene_of, first_cell}
 use Rattle.m2_base.specs.Statics.Blocks.{BlockTree}
 use Rattle.m2_base.specs.Statics.Cells.{capped}
 use Rattle.m2_base.specs.Statics.Contexts.{Context, Scene, Source}
@@ -37,6 +37,7 @@ use Rattle.m2_base.proofs.Sound.{IsThere, there-with, sound-with}
 use Rattle.m2_base.proofs.SoundRows.{type_made}
 use Rattle.m2_base.proofs.SoundTypes.{either}
 use Rattle.row_laws.proofs.Agreeing.{Ready, ready-left, ready-right}
+use Rattle.row_laws.proofs.ImportedRows.{alias_shapes, import_aliases, own_shaped, ready-next}
 use Rattle.row_laws.proofs.Placing.{AreOther, IsOther, kind_other, others, type_others}
 use Rattle.row_laws.proofs.PlacingItems.{IsInner, decls_inner, imports_inner, sections_others, type_item_others}
 use Rattle.row_laws.proofs.Settled.{row_stays}
@@ -116,7 +117,7 @@ module _ (names : ℕ) (scene : Scene) where
       → Sees scene (scene_with c.scene (declare c kind x cell).rows) → cells_after scene cell (declare c kind x cell).rows ≡ (declare c kind x cell).value.cell
   item_counted (heading_item h) c kind cell inner good ready own sees = absurd inner
   item_counted (import_item None i) c kind cell inner good ready own sees = shaped_counted scene cell _ _ (item_of (import_item None i) c kind cell) (refl, tt)
-  item_counted (import_item (Some m) i) c kind cell inner good ready own sees = shaped_counted scene cell _ _ (item_of (import_item (Some m) i) c kind cell) (refl, tt)
+  item_counted (import_item (Some m) i) c kind cell inner good ready own sees = shaped_counted scene cell _ _ (own_shaped _) (alias_shapes (λ (k : ℕ). (k == var_kind) ≡ false) refl _ (import_aliases m i c kind cell))
   item_counted (const_item i e) c kind cell inner good ready own sees = shaped_counted scene cell _ _ (item_of (const_item i e) c kind cell) (refl, tt)
   item_counted (type_item i t) c kind cell inner good ready own sees =
       shaped_counted scene cell _ _ (item_of (type_item i t) c kind cell) (others (type_item_shapes i t) _ (type_item_others i t) (refl, tt))
@@ -142,7 +143,7 @@ module _ (names : ℕ) (scene : Scene) where
   items_counted (x ∷ items) c kind i cell inner good ready own sees =
       let a = at_item c i in
       let m = declare a kind x cell in
-      let d = with_rows c m.rows in
+      let d = brought_in (with_rows c m.rows) m.value.brought in
       let more = declare_items d kind (i + 1) m.value.cell items in
       let same : m.rows ++ (more.rows ++ []) ≡ m.rows ++ more.rows = ap (λ rs. m.rows ++ rs) (append-nil more.rows) in
       let all : Ready names c (m.rows ++ more.rows) = subst (Ready names c) same ready in
@@ -158,7 +159,7 @@ module _ (names : ℕ) (scene : Scene) where
       ap (cells_after scene cell) same
       ∙ counted_append scene cell m.rows more.rows
       ∙ ap (λ n. cells_after scene n more.rows) (item_counted x a kind cell inner.0 good.0 ra own (sees_left c m.rows more.rows all seen))
-      ∙ items_counted items d kind (i + 1) m.value.cell inner.1 good.1 (ready-right m.rows more.rows all) own (sees_right c m.rows more.rows seen)
+      ∙ items_counted items d kind (i + 1) m.value.cell inner.1 good.1 (ready-next c x kind i cell more.rows all) own (sees_right c m.rows more.rows seen)
 
   -- without an own definition the first cell is 0
   first_is : (s : Scene) (kind : StreamKind) (own : Option ℕ) → own ≡ None → first_cell s kind own ≡ 0

@@ -1,14 +1,14 @@
 -- The variables of a block are placed below its next free cell.
-use Rattle.std.specs.Prelude.{◌≡◌, ℕ, ◌+◌, ◌≤◌, List, [], ◌∷◌, ◌++◌, map, flat_map, Option, Some, None}
+use Rattle.std.specs.Prelude.{◌≡◌, ℕ, ◌+◌, ◌≤◌, ◌==◌, false, List, [], ◌∷◌, ◌++◌, map, flat_map, Option, Some, None}
 use Rattle.std.proofs.Common.{ap, subst, sym, ◌∙◌, refl, arith}
 use Rattle.m2_base.proofs.SoundBlocks.{first_cell_most}
 use Rattle.m2_base.specs.Lists.{Each}
-use Rattle.m2_base.specs.Rows.{row_meaning, param_kind}
+use Rattle.m2_base.specs.Rows.{row_meaning, param_kind, var_kind}
 use Rattle.m2_base.specs.declared.rows.Row.{Row}
 use Rattle.m2_base.specs.declared.trees.Ident.{Ident}
 use Rattle.m2_base.specs.declared.trees.declarations.StreamKind.{StreamKind}
 use Rattle.m2_base.specs.Trees.{Decl, const_decl, type_decl, vars_decl, proc_decl, TypeExpr, Import, Section, Heading}
-use Rattle.m2_base.specs.Statics.BlockRows.{declare_block, declare_items, at_item, context_of, scene_of, first_cell}
+use Rattle.m2_base.specs.Statics.BlockRows.{declare_block, declare_items, at_item, brought_in, context_of, scene_of, first_cell}
 use Rattle.m2_base.specs.Statics.Blocks.{BlockTree}
 use Rattle.m2_base.specs.Statics.Cells.{capped}
 use Rattle.m2_base.specs.Statics.Contexts.{Context, Source}
@@ -26,6 +26,7 @@ use Rattle.m2_base.proofs.ItemLaws.{item_of}
 use Rattle.m2_base.proofs.ShapeLaws.{type_of}
 use Rattle.m2_base.proofs.SoundParts.{most}
 use Rattle.row_laws.proofs.Agreeing.{Ready, ready-left, ready-right}
+use Rattle.row_laws.proofs.ImportedRows.{alias_shapes, import_aliases, own_shaped, ready-next}
 use Rattle.row_laws.proofs.Placing.{AreOther, ArePlaced, IsPlaced, IsCopyPlaced, Cells, copies-more, mapped, open_others, others, placed-more, sections_placed, shaped_placed, type_others, type_placed, vars_placed}
 
 -- ** Items that declare no variables
@@ -81,7 +82,7 @@ module _ (names : ℕ) where
   item_placed (import_item None i) c kind cell good ready small =
       record { cells = record { more = omega arith; few = small; placed = shaped_placed cell _ _ (item_of (import_item None i) c kind cell) (refl, tt) }; none = refl }
   item_placed (import_item (Some m) i) c kind cell good ready small =
-      record { cells = record { more = omega arith; few = small; placed = shaped_placed cell _ _ (item_of (import_item (Some m) i) c kind cell) (refl, tt) }; none = refl }
+      record { cells = record { more = omega arith; few = small; placed = shaped_placed cell _ _ (own_shaped _) (alias_shapes (λ (k : ℕ). (k == var_kind) ≡ false) refl _ (import_aliases m i c kind cell)) }; none = refl }
   item_placed (const_item i e) c kind cell good ready small =
       record { cells = record { more = omega arith; few = small; placed = shaped_placed cell _ _ (item_of (const_item i e) c kind cell) (refl, tt) }; none = refl }
   item_placed (type_item i t) c kind cell good ready small =
@@ -124,7 +125,7 @@ module _ (names : ℕ) where
   items_placed (x ∷ items) c kind i cell good ready small =
       let a = at_item c i in
       let m = declare a kind x cell in
-      let d = with_rows c m.rows in
+      let d = brought_in (with_rows c m.rows) m.value.brought in
       let more = declare_items d kind (i + 1) m.value.cell items in
       let left = ready-left m.rows (more.rows ++ []) ready in
       let sound = left.sound in
@@ -135,7 +136,7 @@ module _ (names : ℕ) where
         room = left.room;
       } in
       let first = item_placed x a kind cell good.0 ra small in
-      let rest = items_placed items d kind (i + 1) m.value.cell good.1 (ready-left more.rows [] (ready-right m.rows (more.rows ++ []) ready)) first.cells.few in
+      let rest = items_placed items d kind (i + 1) m.value.cell good.1 (ready-left more.rows [] (ready-next c x kind i cell (more.rows ++ []) ready)) first.cells.few in
       let up = first.cells.more in
       let further = rest.cells.more in
       let end = more.value.cell in
@@ -159,7 +160,7 @@ module _ (names : ℕ) where
       let a = at_item c 0 in
       let m = declare a kind (heading_item h) cell in
       let sections = own_sections_rows a (placing 0 (capped (parameter_cells h.sections)) []) h.sections in
-      let d = with_rows c m.rows in
+      let d = brought_in (with_rows c m.rows) m.value.brought in
       let more = declare_items d kind 1 m.value.cell (xs ++ ys) in
       let left = ready-left m.rows (more.rows ++ []) ready in
       let sound = left.sound in
@@ -170,7 +171,7 @@ module _ (names : ℕ) where
         room = left.room;
       } in
       let first = sections_placed names h.sections a (ready-left sections.rows [] ra) in
-      let rest = items_placed (xs ++ ys) d kind 1 m.value.cell good (ready-left more.rows [] (ready-right m.rows (more.rows ++ []) ready)) first.few in
+      let rest = items_placed (xs ++ ys) d kind 1 m.value.cell good (ready-left more.rows [] (ready-next c (heading_item h) kind 0 cell (more.rows ++ []) ready)) first.few in
       let further = rest.cells.more in
       let end = more.value.cell in
       let P : Row → Type 0 = λ (r : Row). IsPlaced end (row_meaning r) in

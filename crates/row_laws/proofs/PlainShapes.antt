@@ -1,5 +1,5 @@
 -- The rows of a block that imports nothing are of plain kinds: only a procedure's own name makes a row of a procedure, only an import one of a module or an alias.
-use Rattle.std.specs.Prelude.{◌≡◌, ℕ, ◌==◌, Bool, true, false, if◌then◌else◌, List, [], ◌∷◌, ◌++◌, map, flat_map, Option, Some, None}
+use Rattle.std.specs.Prelude.{◌≡◌, ℕ, ◌+◌, ◌==◌, Bool, true, false, if◌then◌else◌, List, [], ◌∷◌, ◌++◌, map, flat_map, Option, Some, None}
 use Rattle.std.proofs.Common.{ap, subst, sym, ◌∙◌, refl}
 use Rattle.m2_base.specs.Lists.{Each}
 use Rattle.m2_base.specs.Rows.{row_meaning, basic_of, natural, const_kind, type_name_kind, var_kind, proc_kind, module_kind, alias_kind, field_kind, param_kind, standard_kind, basic_kind, enum_kind, subrange_kind, array_kind, open_array_kind, record_kind, set_kind, pointer_kind, proc_type_kind, opaque_kind}
@@ -7,16 +7,19 @@ use Rattle.m2_base.specs.declared.rows.Row.{Row}
 use Rattle.m2_base.specs.declared.rows.RowMeaning.{RowMeaning}
 use Rattle.m2_base.specs.declared.trees.Ident.{Ident}
 use Rattle.m2_base.specs.declared.trees.Qual.{Qual}
+use Rattle.m2_base.specs.declared.trees.declarations.StreamKind.{StreamKind}
 use Rattle.m2_base.specs.declared.trees.types.Formal.{Formal}
 use Rattle.m2_base.specs.Trees.{TypeExpr, type_expr, TypeForm, named_type, enum_type, sub_type, array_type, record_type, set_type, pointer_type, proc_type, TypeExprs, no_types, more_types, FieldList, plain_fields, case_fields, FieldLists, no_fields, more_fields, variant_arm, VariantArms, no_variant_arms, more_variant_arms, Decl, const_decl, proc_decl, type_decl, vars_decl, Heading, Import, Section}
-use Rattle.m2_base.specs.Statics.BlockRows.{declare_block}
+use Rattle.m2_base.specs.Statics.BlockRows.{at_item, brought_in, context_of, declare_block, declare_items, first_cell, scene_of}
 use Rattle.m2_base.specs.Statics.Blocks.{BlockTree}
-use Rattle.m2_base.specs.Statics.Contexts.{Source}
-use Rattle.m2_base.specs.Statics.Items.{decl_item, heading_items, import_items, items_of}
+use Rattle.m2_base.specs.Statics.Contexts.{Context, Source}
+use Rattle.m2_base.specs.Statics.Declarations.{declare}
+use Rattle.m2_base.specs.Statics.Items.{Item, const_item, decl_item, heading_item, heading_items, import_item, import_items, items_of, proc_item, type_item, vars_item}
+use Rattle.m2_base.specs.Statics.Makes.{with_rows}
 use Rattle.m2_base.specs.Statics.ShapedRows.{AreShaped, none_of, more_of}
 use Rattle.m2_base.specs.Statics.Shapes.{Shape, named, nameless, item_shapes, type_shapes, form_shapes, types_shapes, fields_shapes, field_shapes, arms_shapes, array_shapes, formal_shapes, open_shapes, tag_shapes, type_item_shapes, section_shapes, own_section_shapes}
 use Rattle.m2_base.proofs.ChainLaws.{each_append, each_then}
-use Rattle.m2_base.proofs.LayoutLaws.{block_shaped}
+use Rattle.m2_base.proofs.ItemLaws.{item_of}
 use Rattle.m2_base.proofs.SoundTypes.{either}
 use Rattle.row_laws.specs.Sight.{LeadsTo}
 
@@ -133,19 +136,35 @@ own_append xs ys h k = each_append (λ (s : Shape). ((s.kind == module_kind) ≡
 plain_own : (shapes : List Shape) → ArePlain shapes → AreOwn shapes
 plain_own shapes h = each_then (λ (s : Shape). IsPlainKind s.kind) (λ (s : Shape). ((s.kind == module_kind) ≡ false) × ((s.kind == alias_kind) ≡ false)) shapes (λ s k. (k.1, k.2)) h
 
+-- the item is no import
+abbrev IsOwnItem : Item → Type 0
+IsOwnItem (import_item from i) = ⊥
+IsOwnItem other = Unit {0}
+
+item_own : (x : Item) → IsOwnItem x → AreOwn (item_shapes x)
+item_own (heading_item h) k = plain_own _ (own_plain h.sections)
+item_own (import_item from i) k = absurd k
+item_own (const_item i e) k = ((refl, refl), tt)
+item_own (type_item i t) k = own_append (type_item_shapes i t) _ (plain_own _ (type_item_plain i t)) ((refl, refl), tt)
+item_own (vars_item idents t) k = own_append (type_shapes t) _ (plain_own _ (type_plain t)) (plain_own _ (mapped (named var_kind) idents (λ i. (refl, refl, refl))))
+item_own (proc_item h stream) k = own_append (flat_map section_shapes h.sections) _ (plain_own _ (sections_plain h.sections)) ((refl, refl), ((refl, refl), tt))
+
+own_decl : (d : Decl) → IsOwnItem (decl_item d)
+own_decl (const_decl name value) = tt
+own_decl (type_decl name t) = tt
+own_decl (vars_decl idents t) = tt
+own_decl (proc_decl h stream) = tt
+
 pub decl_own : (d : Decl) → AreOwn (item_shapes (decl_item d))
-decl_own (const_decl name value) = ((refl, refl), tt)
-decl_own (type_decl name t) = own_append (type_item_shapes name t) _ (plain_own _ (type_item_plain name t)) ((refl, refl), tt)
-decl_own (vars_decl idents t) = own_append (type_shapes t) _ (plain_own _ (type_plain t)) (plain_own _ (mapped (named var_kind) idents (λ i. (refl, refl, refl))))
-decl_own (proc_decl h stream) = own_append (flat_map section_shapes h.sections) _ (plain_own _ (sections_plain h.sections)) ((refl, refl), ((refl, refl), tt))
+decl_own d = item_own (decl_item d) (own_decl d)
 
-decls_own : (ds : List Decl) → AreOwn (flat_map item_shapes (map decl_item ds))
-decls_own [] = tt
-decls_own (d ∷ ds) = own_append (item_shapes (decl_item d)) _ (decl_own d) (decls_own ds)
+own_decls : (ds : List Decl) → Each IsOwnItem (map decl_item ds)
+own_decls [] = tt
+own_decls (d ∷ ds) = (own_decl d, own_decls ds)
 
-items_own : (h : Option Heading) (ds : List Decl) → AreOwn (flat_map item_shapes ((heading_items h ++ []) ++ map decl_item ds))
-items_own None ds = decls_own ds
-items_own (Some h) ds = own_append (flat_map own_section_shapes h.sections) _ (plain_own _ (own_plain h.sections)) (decls_own ds)
+own_items : (h : Option Heading) (ds : List Decl) → Each IsOwnItem ((heading_items h ++ []) ++ map decl_item ds)
+own_items None ds = own_decls ds
+own_items (Some h) ds = (tt, own_decls ds)
 
 shaped_leads : (shapes : List Shape) (rows : List Row) → AreShaped shapes rows → AreOwn shapes → Each (λ r. LeadsNowhere (row_meaning r)) rows
 shaped_leads [] [] none_of h = tt
@@ -154,8 +173,28 @@ shaped_leads (s ∷ shapes) [] is h = elim is [ ]
 shaped_leads (s ∷ shapes) (r ∷ rows) (more_of is rest) h =
     (kind_leads r (ap (λ k. k == module_kind) is.kind ∙ h.0.0) (ap (λ k. k == alias_kind) is.kind ∙ h.0.1), shaped_leads shapes rows rest h.1)
 
+-- what isn't an import makes the rows of its syntax and no others
+own_shaped : (x : Item) (c : Context) (kind : StreamKind) (cell : ℕ) → IsOwnItem x → AreShaped (item_shapes x) (declare c kind x cell).rows
+own_shaped (heading_item h) c kind cell k = item_of (heading_item h) c kind cell
+own_shaped (import_item from i) c kind cell k = absurd k
+own_shaped (const_item i e) c kind cell k = item_of (const_item i e) c kind cell
+own_shaped (type_item i t) c kind cell k = item_of (type_item i t) c kind cell
+own_shaped (vars_item idents t) c kind cell k = item_of (vars_item idents t) c kind cell
+own_shaped (proc_item h stream) c kind cell k = item_of (proc_item h stream) c kind cell
+
+items_lead : (items : List Item) (c : Context) (kind : StreamKind) (i cell : ℕ) → Each IsOwnItem items → Each (λ r. LeadsNowhere (row_meaning r)) (declare_items c kind i cell items).rows
+items_lead [] c kind i cell h = tt
+items_lead (x ∷ items) c kind i cell h =
+    let a = at_item c i in
+    let m = declare a kind x cell in
+    let more = declare_items (brought_in (with_rows c m.rows) m.value.brought) kind (i + 1) m.value.cell items in
+    let P : Row → Type 0 = λ (r : Row). LeadsNowhere (row_meaning r) in
+    each_append P m.rows (more.rows ++ []) (shaped_leads (item_shapes x) m.rows (own_shaped x a kind cell h.0) (item_own x h.0))
+    (each_append P more.rows [] (items_lead items (brought_in (with_rows c m.rows) m.value.brought) kind (i + 1) m.value.cell h.1) tt)
+
 -- a block that imports nothing has no row that leads to another scope
 pub nothing_leads : (source : Source) (before : List (List Row)) (b : BlockTree) → b.tree.imports ≡ [] → Each (λ r. LeadsNowhere (row_meaning r)) (declare_block source before b).rows
+unfolding declare_block
 nothing_leads source before b e =
-    shaped_leads (flat_map item_shapes (items_of b.tree)) (declare_block source before b).rows (block_shaped source before b)
-    (subst (λ (is : List Import). AreOwn (flat_map item_shapes ((heading_items b.tree.heading ++ flat_map import_items is) ++ map decl_item b.tree.decls))) (sym e) (items_own b.tree.heading b.tree.decls))
+    items_lead (items_of b.tree) (context_of source before b) b.tree.kind 0 (first_cell (scene_of before b.block) b.tree.kind b.block.own)
+    (subst (λ (is : List Import). Each IsOwnItem ((heading_items b.tree.heading ++ flat_map import_items is) ++ map decl_item b.tree.decls)) (sym e) (own_items b.tree.heading b.tree.decls))

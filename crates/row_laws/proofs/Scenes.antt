@@ -20,7 +20,7 @@ use Rattle.m2_base.specs.Statics.Layouts.{names_of_item, names_from, layout_of}
 use Rattle.m2_base.specs.Statics.Shapes.{Shape, item_shapes}
 use Rattle.m2_base.specs.Statics.Types.{meaning_at, size_by}
 use Rattle.m2_base.proofs.ChainLaws.{each_found, each_append}
-use Rattle.m2_base.proofs.LayoutLaws.{AreShaped-length, block_shaped}
+use Rattle.m2_base.proofs.LayoutLaws.{block_counted, block_few}
 use Rattle.m2_base.proofs.NoRepeats.{scene_open, scene_empty}
 use Rattle.m2_base.proofs.SoundBlocks.{context_sound, first_cell_most}
 use Rattle.m2_base.proofs.SoundItems.{items_ok}
@@ -40,15 +40,15 @@ block_ready names source tables b ready own =
     let few = ready.few in
     let context : SoundContext names c = context_sound names source tables b ready in
     let cell = first_cell (scene_of tables b.block) b.tree.kind b.block.own in
-    let rows = (declare_items c b.tree.kind 0 cell (items_of b.tree)).rows in
-    let many : length rows ≡ length (flat_map item_shapes (items_of b.tree)) = AreShaped-length (block_shaped source tables b) in
+    let many = block_counted source tables b in
+    let brought = block_few source tables b in
     let none = ap length (scene_empty tables b.block ready.before) in
     record {
       sound = context;
       before = own;
       ok = items_ok names (items_of b.tree) c b.tree.kind 0 cell context ready.items ready.imports (first_cell_most (scene_of tables b.block) b.tree.kind b.block.own)
-          (record { enough = omega (arith, many, none, few) });
-      room = record { enough = omega (arith, many, none, few) };
+          (record { enough = omega (arith, many, brought, none, few) });
+      room = record { enough = omega (arith, many, brought, none, few) };
     }
 
 pub block_agrees : (names : ℕ) (source : Source) (tables : List (List Row)) (b : BlockTree) → IsReady names source tables b → WhereKept b.block.own (λ s. s < b.block.scope)

@@ -35,7 +35,7 @@ use Rattle.m2_base.specs.Statics.Types.{meaning_at}
 use Rattle.m2_base.specs.Statics.UnitNotes.{complete_context}
 use Rattle.m2_base.specs.Statics.UnitRows.{rows_from, unit_rows}
 use Rattle.m2_base.proofs.ChainLaws.{chains_down, each_then}
-use Rattle.m2_base.proofs.LayoutLaws.{AreShaped-length, block_shaped}
+use Rattle.m2_base.proofs.LayoutLaws.{block_counted as rows_counted, block_few}
 use Rattle.m2_base.proofs.NoRepeats.{scene_empty, some_is}
 use Rattle.m2_base.proofs.SceneLaws.{own_of, own-with}
 use Rattle.m2_base.proofs.Sound.{Sound, sound-with}
@@ -547,11 +547,11 @@ module _ (names : ℕ) (source : Source) (own : Option ℕ) (home : ℕ) (all : 
       whole_same s k = whole-rows all b.block s is.there (omega (arith, k)) ∙ is.earlier s k ∙ sym (rows_before before b.block s is.ready.before k)
 
       bound : (u : List (List Row)) → ((s : ℕ) → s < b.block.scope → rows_at u s ≡ rows_at t s)
-          → (result_type (record { source = source; scene = record { block = b.block; tables = u }; layout = (layout_of b.tree).names; item = Some 0 }) h.result).value
-          ≡ (result_type (record { source = source; scene = record { block = b.block; tables = t }; layout = (layout_of b.tree).names; item = Some 0 }) h.result).value
+          → (result_type (record { source = source; scene = record { block = b.block; tables = u }; layout = layout_of b.tree; item = Some 0 }) h.result).value
+          ≡ (result_type (record { source = source; scene = record { block = b.block; tables = t }; layout = layout_of b.tree; item = Some 0 }) h.result).value
       bound u same =
           let ready = block_ready names source before b is.ready is.own_before in
-          result_same names source b.block (layout_of b.tree).names t u ready.sound.scene same down (in_module fit.in_module) is.own_before h.result
+          result_same names source b.block (layout_of b.tree) t u ready.sound.scene same down (in_module fit.in_module) is.own_before h.result
 
       first : (declare (at_item (context_of source before b) 0) b.tree.kind (heading_item h) cell).value.result ≡ bound_first (complete_context source all b.block) b.tree h
       first = bound (scene_with (scene_of before b.block) sections).tables made_same ∙ sym (bound (whole_scene all b.block).tables whole_same)
@@ -578,7 +578,7 @@ few_from names source (b ∷ blocks) before good few =
     few_from names source blocks (before ++ (declare_block source before b).rows ∷ []) good.1 (λ s. by_order s (cases_order s (length before)))
   where
     many : length (declare_block source before b).rows < 2 ^ 31
-    many = let e = AreShaped-length (block_shaped source before b) in let g = good.0.few in omega (arith, e, g)
+    many = let e = rows_counted source before b in let brought = block_few source before b in let g = good.0.few in omega (arith, e, brought, g)
 
     by_order : (s : ℕ) → (s ≡ length before) ⊎ ((s < length before) ⊎ (length before < s)) → length (rows_at (before ++ (declare_block source before b).rows ∷ []) s) < 2 ^ 31
     by_order s (inl same) = let e = ap length (get_or_at before (declare_block source before b).rows [] [] s (sym same)) in omega (arith, e, many)

@@ -15,7 +15,7 @@ use Rattle.m2_base.specs.declared.rows.Row.{Row}
 
 -- the result of a heading that is the first item of this tree's block
 abbrev pub bound_first : Context → Stream → Heading → Option Place
-bound_first c tree h = (result_type (record c { layout = (layout_of tree).names; item = Some 0 }) h.result).value
+bound_first c tree h = (result_type (record c { layout = layout_of tree; item = Some 0 }) h.result).value
 
 -- What a heading gives as its result, where nothing of the block is declared yet, is what it binds where all rows of the block
 -- count.

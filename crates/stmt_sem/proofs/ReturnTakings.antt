@@ -236,7 +236,7 @@ bound-cells c (Some h) = typed h.result
         both_ways (λ r. returned_cells r.value ≡ 1) (is_structured c t) (refuse c q.first.at result_not_scalar (Some broken)) (gives (Some t)) refl refl
 
 same-result : (c : Context) (tree : Stream) → returned_cells (result_by c tree) ≡ results_of tree.heading
-same-result c tree = bound-cells (record c { layout = (layout_of tree).names; item = Some 0 }) tree.heading
+same-result c tree = bound-cells (record c { layout = layout_of tree; item = Some 0 }) tree.heading
 
 ending-returns : (h : Option Heading) → EachOf (ReturnsOnly (results_of h)) (straight (ending h))
 ending-returns None = λ at o. (λ e. refl, tt)

@@ -7,7 +7,7 @@ use Rattle.code_form.specs.declared.instr.Instr.TheVariants.{Push, Local, Global
 use Rattle.m2_base.specs.Rows.{at_place, row_of}
 use Rattle.m2_base.specs.Standard.{bitset, boolean, cardinal, character, integer, standard_rows}
 use Rattle.m2_base.specs.Statics.Blocks.{BlockTree}
-use Rattle.m2_base.specs.Statics.Contexts.{Context}
+use Rattle.m2_base.specs.Statics.Contexts.{Context, no_layout}
 use Rattle.m2_base.specs.Statics.Effects.{no_effects}
 use Rattle.m2_base.specs.Trees.{Designator, Expr, ExprForm, Statement, Statements, StmtForm, assign_form, call_form, call_statement, case_arm, case_else, case_form, char_form, designator, empty_form, exit_form, expr, exprs, for_form, if_arm, if_form, labels, loop_form, many_form, more_case_arms, more_if_arms, name_form, next, nexts, no_case_arms, no_case_else, no_if_arms, no_selectors, number_form, one_form, one_label, range_label, repeat_form, return_form, statement, statements, string_form, while_form, with_form}
 use Rattle.m2_base.specs.declared.rows.Mode.TheVariants.{Plain}
@@ -34,7 +34,7 @@ context = record {
     block = record { scope = 1; text = 0; level = 0; home = 1; own = None; chain = 1 ∷ [] };
     tables = standard_rows ∷ rows ∷ [];
   };
-  layout = [];
+  layout = no_layout;
   item = None;
 }
 

@@ -7,7 +7,7 @@ use Rattle.m2_base.specs.Asks.{IfKnown}
 use Rattle.m2_base.specs.Gives.{Adds, Gives}
 use Rattle.m2_base.specs.Lists.{Each}
 use Rattle.m2_base.specs.States.{Frame, IsAmong, Look, State}
-use Rattle.m2_base.specs.Statics.Contexts.{Context}
+use Rattle.m2_base.specs.Statics.Contexts.{Context, no_layout}
 use Rattle.m2_base.specs.Trees.{Statement, Statements, Stream, more_statements, no_statements, statements}
 use Rattle.m2_base.specs.Views.{statement_view}
 use Rattle.m2_base.specs.declared.memory.Memory.{Memory}
@@ -56,7 +56,7 @@ statement_read names (more_statements s ss) (suc k) st is h = statement_read nam
 
 -- no rows are in hand in statements
 pub none_in_hand : (s : Site) (made : Hand) → s.item ≡ None → AreOfSite s made
-none_in_hand s made e = subst (λ (o : Option ℕ). IfSome o (λ item. AreOfItem s.layout.now.names item made.rows)) (sym e) tt
+none_in_hand s made e = subst (λ (o : Option ℕ). IfSome o (λ item. AreOfItem s.layout.now item made.rows)) (sym e) tt
 
 -- the answers that were added behind none
 pub answers_shown : (looks : List Look) (xs ys zs : List Answer) → xs ≡ [] → ys ≡ xs ++ zs → Each (IsAmong looks) zs → Each (IsAmong looks) ys
@@ -69,7 +69,7 @@ unbegun a n fs s h (Err m) e = record { works = Works-refl a n; waits = tt; grow
 
 -- what is analysed without a layout is that of statements, whatever the layout is
 pub without_layout : {a b : State} {x y : Notes} {f1 f2 : Flows} {v : Result (Ask Flow) Memory} (s t : Site) (r : Option Place) (st : Statement) → s.item ≡ None
-    → t.texts.now ≡ s.texts.now → t.around.now ≡ s.around.now → t.layout.now.names ≡ [] → t.item ≡ None
+    → t.texts.now ≡ s.texts.now → t.around.now ≡ s.around.now → t.layout.now ≡ no_layout → t.item ≡ None
     → Flowing a b x y f1 f2 t v IsFlow flow_in (λ c. statement_flow (at_first c r) st)
     → Flowing a b x y f1 f2 s v IsFlow flow_in (λ c. statement_flow (at_first (in_statements c) r) st)
 without_layout {a} {b} {x} {y} {f1} {f2} {v} s t r st alone texts around layout item p =

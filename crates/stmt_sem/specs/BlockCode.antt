@@ -11,7 +11,7 @@ use Rattle.m2_base.specs.Statics.BlockRows.{declare_block}
 use Rattle.m2_base.specs.Statics.Blocks.{BlockTree}
 use Rattle.m2_base.specs.Statics.Cells.{capped, most_cells}
 use Rattle.m2_base.specs.Statics.Closing.{block_name, closing_diags}
-use Rattle.m2_base.specs.Statics.Contexts.{Block, Context, Source, diag}
+use Rattle.m2_base.specs.Statics.Contexts.{Block, Context, Source, diag, no_layout}
 use Rattle.m2_base.specs.Statics.Diagnostics.{too_many_cells}
 use Rattle.m2_base.specs.Statics.Effects.{BlockEffects, ParamCopy, open_copy, own_copy}
 use Rattle.m2_base.specs.Statics.Layouts.{layout_of}
@@ -51,11 +51,11 @@ bound_result c (Some h) = (result_type c h.result).value
 -- The result of a block's procedure, as its heading binds it. The heading is the block's first item, so that a name which
 -- the block itself declares, as a parameter or in its declarations, stands for nothing there, and the result is in error.
 abbrev pub result_by : Context → Stream → Option Place
-result_by c tree = bound_result (record c { layout = (layout_of tree).names; item = Some 0 }) tree.heading
+result_by c tree = bound_result (record c { layout = layout_of tree; item = Some 0 }) tree.heading
 
 -- where statements stand: all rows of the own scope count, so that no layout is asked
 abbrev pub in_statements : Context → Context
-in_statements c = record c { layout = []; item = None }
+in_statements c = record c { layout = no_layout; item = None }
 
 -- in the statements of a block all rows count
 abbrev pub stand_of : Context → BlockTree → Stand

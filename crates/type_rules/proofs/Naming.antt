@@ -73,13 +73,13 @@ outside_later f s name at e x y there found later noted refused made in_hand tol
 -- ** A name in a declaration, of an earlier item
 
 module _ (answer : Result (Ask (Option Entry)) Memory) (f : Frame) (s : Site) (name at : ℕ) (x y : Notes) where
-  pub earlier_told : (item : ℕ) (e : Named) (chain : List ℕ) → first_entry s.layout.now.names name ≡ Some e → e.item < item → chain ≡ s.around.now.scope ∷ [] → name ≢ 0
+  pub earlier_told : (item : ℕ) (e : Named) (chain : List ℕ) → first_entry s.layout.now name ≡ Some e → e.item < item → chain ≡ s.around.now.scope ∷ [] → name ≢ 0
       → WhereTold f (λ made. (IsIn f.setting.fills chain → Lacks made.rows name) → IfKnown answer (λ entry. Adds x y (bound_or (context_of f made s) unknown_name name at (lookup (rows_of f made) chain name)) entry))
-      → WhereTold f (λ made. AreOfItem s.layout.now.names item made.rows → IfKnown answer (λ entry. Adds x y (use_in_item (context_of f made s) item name at (first_entry s.layout.now.names name)) entry))
+      → WhereTold f (λ made. AreOfItem s.layout.now item made.rows → IfKnown answer (λ entry. Adds x y (use_in_item (context_of f made s) item name at (first_entry s.layout.now name)) entry))
   earlier_told item e chain first earlier own named asked made in_hand told of_item =
       let c = context_of f made s in
       let there = bound_or c unknown_name name at (entry_in c.scene.tables c.scene.block.scope name) in
-      let given : use_in_item c item name at (first_entry s.layout.now.names name) ≡ bound_or c unknown_name name at (lookup (rows_of f made) chain name) =
+      let given : use_in_item c item name at (first_entry s.layout.now name) ≡ bound_or c unknown_name name at (lookup (rows_of f made) chain name) =
       ap (use_in_item c item name at) first
       ∙ ap (λ b. if b then there else refuse c at used_before None) (lt-ltb e.item item earlier)
       ∙ ap (λ scopes. bound_or c unknown_name name at (lookup (rows_of f made) scopes name)) (sym own) in

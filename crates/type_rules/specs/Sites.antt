@@ -6,7 +6,7 @@ use Rattle.m2_base.specs.Lists.{IsIn, Each, WhereLast}
 use Rattle.m2_base.specs.Rows.{row_meaning}
 use Rattle.m2_base.specs.Standard.{is_standard}
 use Rattle.m2_base.specs.States.{State, Frame, Look, Keeps, IsAmong}
-use Rattle.m2_base.specs.Statics.Contexts.{Context}
+use Rattle.m2_base.specs.Statics.Contexts.{Context, Layout}
 use Rattle.m2_base.specs.Statics.Lookup.{Entry, first_entry}
 use Rattle.m2_base.specs.Statics.Uses.{answer_of}
 use Rattle.m2_base.specs.Tables.{Lacks}
@@ -26,15 +26,15 @@ use Rattle.type_rules.specs.Scenes.{Hand, Suits, scene_of}
 
 -- the place where a name stands, as the definitions see it
 abbrev pub context_of : Frame → (made : Hand) → Site → Context
-context_of f made s = record { source = source_of s.texts.now; scene = scene_of f made s.around.now; layout = s.layout.now.names; item = s.item }
+context_of f made s = record { source = source_of s.texts.now; scene = scene_of f made s.around.now; layout = s.layout.now; item = s.item }
 
 -- rows of an item: none has a name that the layout first gives to an earlier item
-pub record AreOfItem (layout : List Named) (item : ℕ) (made : List Row) : Type 0 where
+pub record AreOfItem (layout : Layout) (item : ℕ) (made : List Row) : Type 0 where
   pub lack : (name : ℕ) (e : Named) → name ≢ 0 → first_entry layout name ≡ Some e → e.item < item → Lacks made name
 
 -- rows of the item in which a name stands
 abbrev pub AreOfSite : Site → Hand → Type 0
-AreOfSite s made = IfSome s.item (λ item. AreOfItem s.layout.now.names item made.rows)
+AreOfSite s made = IfSome s.item (λ item. AreOfItem s.layout.now item made.rows)
 
 -- The scopes suit a site: its texts are theirs, its chain has the own scope and then scopes before it, and where it stands in no
 -- declaration the own scope is complete.
@@ -89,7 +89,7 @@ chain_in_item s item None = drop 1 s.around.now.chain
 
 -- in statements the whole chain
 abbrev pub chain_by_item : Site → (name : ℕ) → Option ℕ → List ℕ
-chain_by_item s name (Some item) = chain_in_item s item (first_entry s.layout.now.names name)
+chain_by_item s name (Some item) = chain_in_item s item (first_entry s.layout.now name)
 chain_by_item s name None = s.around.now.chain
 
 -- after a module's point its scope alone; a standard name isn't looked up

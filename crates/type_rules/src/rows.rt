@@ -1,5 +1,5 @@
 //! The row of a type, and what it says.
-ghost use Rattle.std.specs.Prelude.{◌≡◌, ◌<◌, ◌≤◌, slice_get};
+ghost use Rattle.std.specs.Prelude.{◌≡◌, ◌<◌, ◌≤◌, length, slice_get};
 ghost use Rattle.std.specs.Option.{IfSome};
 ghost use Rattle.m2_base.specs.Rows.{row_meaning};
 ghost use Rattle.m2_base.specs.States.{Waits, fills_of};
@@ -40,6 +40,7 @@ pub fn row_before<S: Scopes>(scopes: &mut S, around: &Around, place: Place) -> A
     ensures told { WhereTold (S.state scopes.old).frame (λ made.
         WhereKnown result (λ row. row ≡ slice_get (rows_at (rows_of (S.state scopes.old).frame made) place.scope) place.ordinal)) }
     ensures row { WhereKnown result (λ row. IfSome row (λ row. IsRowOf (S.state scopes.old).frame place row)) }
+    ensures named { WhereKnown result (λ row. IfSome row (λ row. row.name < length (S.state scopes.old).frame.setting.texts.names)) }
     ensures of { WhereWaiting result (λ head. head.scope ≡ place.scope) }
     ensures stops { WhereWaiting result (λ head. head.count ≤ place.ordinal) }
 {

@@ -216,11 +216,11 @@ fn use_in_item<S: Scopes>(
     requires named { name ≢ 0 }
     ensures works { Works (S.state scopes.old) (S.state scopes.new) notes.old notes.new }
     ensures waits { IfWaits result (λ head. Waits (S.state scopes.old) (S.state scopes.new) head) }
-    ensures asked { IfWaits result (λ head. IsAskedIn (S.state scopes.new) notes.new at name (chain_in_item site.now item (first_entry site.now.layout.now.names name)) head) }
+    ensures asked { IfWaits result (λ head. IsAskedIn (S.state scopes.new) notes.new at name (chain_in_item site.now item (first_entry site.now.layout.now name)) head) }
     ensures quiet { IfWaits result (λ head. notes.new.diags.items ≡ notes.old.diags.items) }
     ensures told { WhereTold (S.state scopes.old).frame (λ made.
-        AreOfItem site.now.layout.now.names item made.rows →
-        IfKnown result (λ entry. Adds notes.old notes.new (spec_use_in_item (context_of (S.state scopes.old).frame made site.now) item name at (first_entry site.now.layout.now.names name)) entry)) }
+        AreOfItem site.now.layout.now item made.rows →
+        IfKnown result (λ entry. Adds notes.old notes.new (spec_use_in_item (context_of (S.state scopes.old).frame made site.now) item name at (first_entry site.now.layout.now name)) entry)) }
     ensures none { IfKnown result (λ entry. MatchOption entry (length notes.new.diags.items ≡ length notes.old.diags.items + 1) (λ _. notes.new.diags.items ≡ notes.old.diags.items)) }
     ensures row { IfKnown result (λ entry. IfSome entry (λ entry. IsRowOf (S.state scopes.old).frame entry.0 entry.1)) }
 {

@@ -18,6 +18,7 @@ use Rattle.m2_base.specs.Statics.ReadTrees.{IsReadItem}
 use Rattle.m2_base.specs.Statics.Shapes.{item_shapes}
 use Rattle.m2_base.specs.Statics.SoundTrees.{IsSoundItem}
 use Rattle.m2_base.specs.Units.{IsUnit, UnitTexts}
+use Rattle.m2_base.specs.declared.limits.TheConstants.{MOST_BROUGHT}
 use Rattle.m2_base.specs.declared.trees.declarations.StreamKind.{StreamKind}
 use Rattle.m2_base.specs.declared.trees.declarations.StreamKind.TheVariants.{Definition, Main, Procedure}
 use Rattle.row_laws.specs.RowRanges.{IsSoundUnit}
@@ -72,7 +73,7 @@ module _ (texts : UnitTexts) (u : UnitTrees) (unit : IsUnit texts) (read : AreRe
       blocks_spelled (λ tree. rows_of tree < 2 ^ 30) IsShort texts u (λ tree s spelled short. let rows = stream_rows tree s spelled in omega (arith, rows, short)) read
       (few_from (streams_of texts) (unit_short texts unit))
 
-  shapes_few : (b : BlockTree) → rows_of b.tree < 2 ^ 30 → length (flat_map item_shapes (items_of b.tree)) < 2 ^ 31
+  shapes_few : (b : BlockTree) → rows_of b.tree < 2 ^ 30 → length (flat_map item_shapes (items_of b.tree)) + MOST_BROUGHT < 2 ^ 31
   shapes_few b h = let shapes = rows_are_shapes b.tree in omega (arith, h, shapes)
 
   three : {A : Type 0} (P Q R S : A → Type 0) (xs : List A) → ((x : A) → P x → Q x → R x → S x) → Each P xs → Each Q xs → Each R xs → Each S xs

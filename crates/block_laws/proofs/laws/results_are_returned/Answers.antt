@@ -17,5 +17,5 @@ returns c names u is =
     each_block_then (BindsItsResult u) (ReturnsItsResult u) u.source (blocks_of u) (standard_rows ∷ [])
     (λ before b bound behind h cell there.
     bound behind h cell
-    ∙ sym (ap (λ (o : Option Heading). bound_result (record (complete_context u.source (unit_rows u) b.block) { layout = (layout_of b.tree).names; item = Some 0 }) o) there))
+    ∙ sym (ap (λ (o : Option Heading). bound_result (record (complete_context u.source (unit_rows u) b.block) { layout = layout_of b.tree; item = Some 0 }) o) there))
     (unit_results names u is)
