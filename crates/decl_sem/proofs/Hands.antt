@@ -8,6 +8,7 @@ use Rattle.m2_base.specs.Lists.{Each}
 use Rattle.m2_base.specs.Rows.{row_meaning}
 use Rattle.m2_base.specs.Standard.{is_standard}
 use Rattle.m2_base.specs.States.{Frame}
+use Rattle.m2_base.specs.Statics.Contexts.{Layout}
 use Rattle.m2_base.specs.Statics.Lookup.{first_entry}
 use Rattle.m2_base.specs.Statics.Makes.{own_rows, with_rows}
 use Rattle.m2_base.specs.Statics.Shapes.{Shape}

@@ -3,6 +3,7 @@ use Rattle.std.specs.Prelude.{◌≡◌, ◌≢◌, ℕ, zero, suc, ◌+◌, ◌
 use Rattle.std.proofs.Common.{refl, sym, ap, subst, ◌∙◌, arith}
 use Rattle.m2_base.specs.Lists.{HasNoRepeats}
 use Rattle.m2_base.specs.Standard.{is_standard}
+use Rattle.m2_base.specs.Statics.Contexts.{Layout}
 use Rattle.m2_base.specs.Statics.Lookup.{first_entry}
 use Rattle.m2_base.specs.Statics.Shapes.{Shape}
 use Rattle.m2_base.specs.declared.rows.Row.{Row}

@@ -11,6 +11,7 @@ use Rattle.m2_base.specs.Rows.{Fits, HasSmallOrdinals, IsBefore, IsSmallScope, a
 use Rattle.m2_base.specs.States.{Frame, State}
 use Rattle.m2_base.specs.Statics.Contexts.{Context}
 use Rattle.m2_base.specs.Statics.FormedRows.{IsFilled}
+use Rattle.m2_base.specs.Statics.Contexts.{Layout}
 use Rattle.m2_base.specs.Statics.Lookup.{first_entry}
 use Rattle.m2_base.specs.Statics.Makes.{Makes, makes_named, makes_row}
 use Rattle.m2_base.specs.Statics.Shapes.{Shape, named, nameless}

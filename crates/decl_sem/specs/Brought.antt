@@ -1,16 +1,14 @@
 -- The names that an item brings.
-use Rattle.std.specs.Prelude.{◌≡◌, ◌≢◌, ◌≤◌, ℕ, ◌+◌, ◌-◌, nat_lt, Bool, false, if◌then◌else◌, List, [], ◌∷◌, ◌++◌, length, map, Option, None, Some, unwrap_or, Result, Ok, Err}
+use Rattle.std.specs.Prelude.{◌≡◌, ◌≤◌, ℕ, ◌+◌, ◌-◌, Bool, if◌then◌else◌, List, [], ◌∷◌, ◌++◌, length, map, unwrap_or, Result, Ok, Err}
 use Rattle.std.specs.declared.alloc.Global.{Global}
 use Rattle.std.specs.declared.vec.Vec.{Vec}
 use Rattle.m2_base.specs.Asks.{IfKnown, IfWaits}
-use Rattle.m2_base.specs.Lists.{Each}
-use Rattle.m2_base.specs.Rows.{alias_kind}
-use Rattle.m2_base.specs.Standard.{is_standard}
 use Rattle.m2_base.specs.States.{Frame, State, Waits, Works}
-use Rattle.m2_base.specs.Statics.Contexts.{Context, Layout, Named, diag}
+use Rattle.m2_base.specs.Statics.Bringing.{BringsIts}
+use Rattle.m2_base.specs.Statics.Contexts.{Context, diag}
 use Rattle.m2_base.specs.Statics.Diagnostics.{declared_twice, too_many_constants}
 use Rattle.m2_base.specs.Statics.ImportedConstants.{Member, are_too_many, brought_names, brought_row}
-use Rattle.m2_base.specs.Statics.Lookup.{first_entry}
+use Rattle.m2_base.specs.Statics.Items.{Item}
 use Rattle.m2_base.specs.Statics.Makes.{Makes, own_rows}
 use Rattle.m2_base.specs.Statics.Shapes.{Shape}
 use Rattle.m2_base.specs.declared.limits.TheConstants.{MOST_BROUGHT}
@@ -20,42 +18,12 @@ use Rattle.m2_base.specs.declared.replies.Ask.TheVariants.{Known, DontKnowYet}
 use Rattle.m2_base.specs.declared.rows.Row.{Row}
 use Rattle.m2_base.specs.declared.sites.Site.{Site}
 use Rattle.type_rules.specs.Sites.{context_of}
+use Rattle.m2_base.specs.declared.sites.Named.{Named}
 use Rattle.decl_sem.specs.LaidRows.{AreLaid}
 use Rattle.decl_sem.specs.Making.{MakesAll, next_ordinal}
+use Rattle.decl_sem.specs.NewNames.{AreNewNames, AreRowsOf}
 use Rattle.decl_sem.specs.Pieces.{AreNewRows, WhereMaking, item_end}
 use Rattle.decl_sem.specs.declared.making.Made.{Made}
-
--- ** New names
-
--- the ordinal of the row that the entry is of, if it stands before this one
-abbrev pub ordinal_before : (next : ℕ) → Option Named → Option ℕ
-ordinal_before next None = None
-ordinal_before next (Some n) = if nat_lt n.ordinal next then Some n.ordinal else None
-
--- the ordinal of the block's row of this name, where this is that of the next row; no row has a standard name
-abbrev pub earlier_row : Layout → (next name : ℕ) → Option ℕ
-earlier_row l next name = if is_standard name then None else ordinal_before next (first_entry l name)
-
--- An alias that an item brings, in the row with this ordinal. Its name is no standard one, and the layout has no row of that name
--- before the limit.
-pub record IsNewName (l : Layout) (item limit o : ℕ) (b : Named) : Type 0 where
-  pub named : b.name ≢ 0
-  pub plain : is_standard b.name ≡ false
-  pub kind : b.kind ≡ alias_kind
-  pub of_item : b.item ≡ item
-  pub at : b.ordinal ≡ o
-  pub unknown : ordinal_before limit (first_entry l b.name) ≡ None
-
--- aliases that an item brings, one row after another from this ordinal on; their names differ
-abbrev pub AreNewNames : Layout → (item limit o : ℕ) → List Named → Type 0
-AreNewNames l i limit o [] = Unit {0}
-AreNewNames l i limit o (b ∷ brought) = IsNewName l i limit o b × (Each (λ d. d.name ≢ b.name) brought × AreNewNames l i limit (o + 1) brought)
-
--- rows of these names
-abbrev pub AreRowsOf : List Named → List Row → Type 0
-AreRowsOf [] [] = Unit {0}
-AreRowsOf (b ∷ brought) (r ∷ rows) = (r.kind ≡ b.kind) × (r.at ≡ b.at) × (r.name ≡ b.name) × AreRowsOf brought rows
-AreRowsOf brought rows = ⊥
 
 -- ** What an item makes with the names that it brings
 
@@ -85,6 +53,10 @@ abbrev pub listed : Result (Ask (Vec Named Global)) Memory → Result (Ask (List
 listed (Ok (Known brought)) = Ok (Known brought.items)
 listed (Ok (DontKnowYet head)) = Ok (DontKnowYet head)
 listed (Err m) = Err m
+
+-- only a name of a module brings any
+abbrev pub BringAny : Item → Frame → (next : ℕ) → List Named → Type 0
+BringAny x f next brought = BringsIts x brought
 
 -- the names that an answer has are those brought
 abbrev pub all_names : List Named → List Named

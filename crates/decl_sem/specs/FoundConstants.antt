@@ -14,8 +14,9 @@ use Rattle.m2_base.specs.declared.rows.Place.{Place}
 use Rattle.m2_base.specs.declared.rows.Row.{Row}
 use Rattle.m2_base.specs.declared.sites.Site.{Site}
 use Rattle.type_rules.specs.Sites.{context_of}
-use Rattle.decl_sem.specs.Brought.{brings_new, earlier_row}
+use Rattle.decl_sem.specs.Brought.{brings_new}
 use Rattle.decl_sem.specs.Making.{next_ordinal}
+use Rattle.decl_sem.specs.NewNames.{earlier_row}
 use Rattle.decl_sem.specs.Pieces.{WhereMaking}
 use Rattle.decl_sem.specs.declared.brought.Found.{Found}
 use Rattle.decl_sem.specs.declared.brought.Member.{Member}

@@ -1,6 +1,6 @@
 -- The modules that an item imports.
 use Rattle.std.specs.Prelude.{ℕ, ◌+◌, ◌<◌, ◌==◌, Bool, if◌then◌else◌, List, [], ◌∷◌, slice_index_or, Option, Some, None}
-use Rattle.m2_base.specs.Statics.Contexts.{Context, Named, Source, scope_of_module}
+use Rattle.m2_base.specs.Statics.Contexts.{Context, Source, scope_of_module}
 use Rattle.m2_base.specs.Statics.ImportRows.{alias_row, place_or_broken}
 use Rattle.m2_base.specs.Statics.ImportedConstants.{brought_by, members_of}
 use Rattle.m2_base.specs.Statics.Items as items
@@ -11,6 +11,7 @@ use Rattle.m2_base.specs.Statics.Uses.{use_of}
 use Rattle.m2_base.specs.Units.{UnitTexts}
 use Rattle.m2_base.specs.declared.trees.Ident.{Ident}
 use Rattle.m2_base.specs.Finished.{no_text}
+use Rattle.m2_base.specs.declared.sites.Named.{Named}
 
 -- a module that an import names has a scope before this one
 abbrev pub IsFromBefore : Source → (scope : ℕ) → items.Item → Type 0

@@ -14,6 +14,7 @@ pub mod LaidRows
 pub mod Layouts
 pub mod MadeRows
 pub mod Making
+pub mod NewNames
 pub mod OwnParameters
 pub mod Pieces
 pub mod Progress

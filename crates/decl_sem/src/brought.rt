@@ -15,9 +15,9 @@ ghost use Rattle.m2_base.specs.declared.limits.TheConstants as limits;
 ghost use Rattle.type_rules.specs.Asks.{Reads, WhereKnown, WhereWaiting};
 ghost use Rattle.type_rules.specs.Scenes.{IsRowOf, IsThere, WhereTold, rows_of, scene_of};
 ghost use Rattle.type_rules.specs.Sites.{SuitsSite};
-ghost use Rattle.decl_sem.specs.Brought.{earlier_row};
 ghost use Rattle.decl_sem.specs.FoundConstants.{AreFound, AreSeen, IsMember, constant_by, constants_of, member_view};
 ghost use Rattle.decl_sem.specs.Making.{next_ordinal};
+ghost use Rattle.decl_sem.specs.NewNames.{earlier_row};
 ghost use Rattle.decl_sem.specs.Pieces.{IsMaking, WhereMaking};
 
 use crate::making::{Made, is_standard, next_row};

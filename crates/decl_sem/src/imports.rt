@@ -16,7 +16,7 @@ ghost use Rattle.m2_base.specs.Statics.Shapes.{import_kind, named};
 ghost use Rattle.m2_base.specs.declared.rows.RowMeaning.TheVariants.{Alias, Module};
 ghost use Rattle.type_rules.specs.Scenes.{IsRowOf};
 ghost use Rattle.type_rules.specs.Sites.{source_of};
-ghost use Rattle.decl_sem.specs.Brought.{DeclaresWith, all_names, brings_new, listed};
+ghost use Rattle.decl_sem.specs.Brought.{BringAny, DeclaresWith, all_names, brings_new, listed};
 ghost use Rattle.decl_sem.specs.FoundConstants.{AreNewMembers, AreSeen, member_view};
 ghost use Rattle.decl_sem.specs.ImportedModules.{IsFromBefore, alias_rows, first_from, is_text_named};
 ghost use Rattle.decl_sem.specs.Making.{next_ordinal};
@@ -282,7 +282,7 @@ pub(crate) fn import_rows<S: Scopes>(
     requires read { IsReadOption site.now.texts.now.names from.now }
     requires named { IsReadName site.now.texts.now.names name }
     requires before { IsFromBefore (source_of site.now.texts.now) (S.state scopes.old).frame.setting.fills (import_item from.now name) }
-    ensures { DeclaresWith (S.state scopes.old) (S.state scopes.new) made.old made.new site.now (listed result) (named (import_kind from.now) name ∷ []) all_names IsAny (λ c. spec_rows c from.now name) }
+    ensures { DeclaresWith (S.state scopes.old) (S.state scopes.new) made.old made.new site.now (listed result) (named (import_kind from.now) name ∷ []) all_names (BringAny (import_item from.now name)) (λ c. spec_rows c from.now name) }
 {
     let Some(module) = from else {
         put!(put_module(scopes, site, name, made));

@@ -8,7 +8,7 @@ ghost use Rattle.m2_base.specs.Views.{decl_view, expr_view, heading_view, type_v
 ghost use Rattle.type_rules.specs.Sites.{source_of};
 ghost use Rattle.decl_sem.specs.ImportedModules.{IsFromBefore};
 ghost use Rattle.decl_sem.specs.Brought.{DeclaresWith};
-ghost use Rattle.decl_sem.specs.Items.{IsEffect, IsLoneEffect, item_view};
+ghost use Rattle.decl_sem.specs.Items.{IsEffectOf, IsLoneEffect, item_view};
 ghost use Rattle.decl_sem.specs.Pieces.{Declares, IsMaking};
 ghost use Rattle.m2_base.specs.Statics.ReadTrees.{IsReadItem};
 
@@ -55,7 +55,7 @@ fn import_item<S: Scopes>(
     requires read { IsReadItem site.now.texts.now.names (spec_import from.now name) }
     requires before { IsFromBefore (source_of site.now.texts.now) (S.state scopes.old).frame.setting.fills (spec_import from.now name) }
     requires cell { cell ≤ 16777216 }
-    ensures { DeclaresWith (S.state scopes.old) (S.state scopes.new) made.old made.new site.now result (item_shapes (spec_import from.now name)) (λ e. e.brought) IsEffect (λ c. spec_declare c kind (spec_import from.now name) cell) }
+    ensures { DeclaresWith (S.state scopes.old) (S.state scopes.new) made.old made.new site.now result (item_shapes (spec_import from.now name)) (λ e. e.brought) (IsEffectOf (spec_import from.now name)) (λ c. spec_declare c kind (spec_import from.now name) cell) }
 {
     let _kind = kind;
     match import_rows(alloc, scopes, site, from, name, made) {
@@ -209,7 +209,7 @@ pub(crate) fn item_rows<S: Scopes>(
     requires before { IsFromBefore (source_of site.now.texts.now) (S.state scopes.old).frame.setting.fills (item_view item.now) }
     requires cell { before.cell ≤ 16777216 }
     requires number { before.procedures ≡ length (filter is_proc (S.state scopes.old).frame.entered) }
-    ensures { DeclaresWith (S.state scopes.old) (S.state scopes.new) made.old made.new site.now result (item_shapes (item_view item.now)) (λ e. e.brought) IsEffect (λ c. spec_declare c kind (item_view item.now) before.cell) }
+    ensures { DeclaresWith (S.state scopes.old) (S.state scopes.new) made.old made.new site.now result (item_shapes (item_view item.now)) (λ e. e.brought) (IsEffectOf (item_view item.now)) (λ c. spec_declare c kind (item_view item.now) before.cell) }
 {
     match item {
         Item::Heading(heading) => heading_rows(alloc, scopes, site, heading, made),
