@@ -3,8 +3,8 @@ use Rattle.std.specs.Prelude.{◌≡◌, ℕ, ◌+◌, ◌<◌, Bool, if◌then�
 use Rattle.std.specs.List.{list_any}
 use Rattle.std.proofs.Common.{subst, sym, refl}
 use Rattle.m2_base.specs.Lists.{Each, WhereKept}
-use Rattle.m2_base.specs.Rows.{Place, Row, Alias, ByAddress, Module, Open, Param, Plain, Proc, ProcType, TypeName, Var}
-use Rattle.m2_base.specs.Standard.{standard_rows}
+use Rattle.m2_base.specs.Rows.{Place, Row, is_same_place, Alias, ByAddress, Module, Open, Param, Plain, Proc, ProcType, TypeName, Var}
+use Rattle.m2_base.specs.Standard.{broken, standard_rows}
 use Rattle.m2_base.specs.Trees.{Heading, Ident, Section, Stream, StreamKind, TypeExpr}
 use Rattle.m2_base.specs.Statics.BlockRows.{at_item, brought_in, context_of, declare_block, declare_items, first_cell, scene_of}
 use Rattle.m2_base.specs.Statics.Blocks.{BlockTree, UnitTrees, blocks_of, blocks_of_main, declares, definition_blocks, encloser, home_of, main_block, main_blocks, procedure_block}
@@ -122,8 +122,9 @@ module _ (n : ℕ) where
 
   again_at : (c : Context) (i : Ident) (p : Place) → i.at < n → AtTokens n (again_diags c i p)
   again_at c i p h =
-      either (AtTokens n) (leads_elsewhere c.scene p (entry_in c.scene.tables c.scene.block.scope i.name)) (diag c i.at declared_twice ∷ []) []
-      (one n (diag c i.at declared_twice) h) (none n)
+      either (AtTokens n) (is_same_place p broken) [] _ (none n)
+      (either (AtTokens n) (leads_elsewhere c.scene p (entry_in c.scene.tables c.scene.block.scope i.name)) (diag c i.at declared_twice ∷ []) []
+      (one n (diag c i.at declared_twice) h) (none n))
 
   alias_by_at : (c : Context) (i : Ident) (p : Place) (brought : Option Named) → i.at < n → MakesAt n (alias_by c i p brought)
   alias_by_at c i p None h = named_at n c i.name i.at (Alias p) h

@@ -1,6 +1,6 @@
 -- The rows of an import.
 use Rattle.std.specs.Prelude.{None, Option, Some, List, [], ◌∷◌, if◌then◌else◌}
-use Rattle.m2_base.specs.Rows.{Alias, Module, Place, row_of}
+use Rattle.m2_base.specs.Rows.{Alias, Module, Place, is_same_place, row_of}
 use Rattle.m2_base.specs.Standard.{broken}
 use Rattle.m2_base.specs.Statics.Contexts.{Context, Named, diag, scope_of_module}
 use Rattle.m2_base.specs.Statics.Diagnostics.{declared_twice}
@@ -16,9 +16,11 @@ abbrev pub place_or_broken : Option Entry → Place
 place_or_broken None = broken
 place_or_broken (Some e) = e.0
 
--- a name that was brought before is declared twice only where it leads elsewhere
+-- A name that was brought before is declared twice only where it leads elsewhere. Where it leads to a part in error,
+-- nothing more is said of it.
 abbrev pub again_diags : Context → Ident → Place → List Diag
 again_diags c i p =
+    if is_same_place p broken then [] else
     if leads_elsewhere c.scene p (entry_in c.scene.tables c.scene.block.scope i.name) then
     diag c i.at declared_twice ∷ [] else []
 
