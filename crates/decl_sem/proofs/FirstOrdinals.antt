@@ -1,5 +1,5 @@
 -- Where the rows of an item begin and end, by the layout.
-use Rattle.std.specs.Prelude.{◌≡◌, ℕ, suc, ◌+◌, ◌<◌, ◌≤◌, ◌==◌, Bool, true, false, if◌then◌else◌, List, [], ◌∷◌, ◌++◌, length, flat_map, slice_get, slice_index_or, cond, filter, nat_lt, option_map, Option, None, Some}
+use Rattle.std.specs.Prelude.{◌≡◌, ℕ, suc, ◌+◌, ◌<◌, ◌≤◌, ◌==◌, Bool, true, false, if◌then◌else◌, List, [], ◌∷◌, ◌++◌, length, flat_map, slice_get, cond, filter, nat_lt, option_map, Option, None, Some}
 use Rattle.std.proofs.Common.{refl, sym, ap, ◌∙◌, subst, arith}
 use Rattle.std.proofs.lemmas.List.{length-append}
 use Rattle.m2_base.specs.Lists.{Each}
@@ -26,17 +26,17 @@ first_of (y ∷ before) rest x o =
     first_of before rest x (o + length (item_shapes y))
     ∙ ap (λ (n : ℕ). Some n) (let e = rows_more y before in let g : o + length (item_shapes y) + rows_of before ≡ o + rows_of (y ∷ before) = omega arith in g)
 
-head_of : (items : List Item) (o : ℕ) → slice_index_or (firsts_from o items) 0 0 ≡ o
+head_of : (items : List Item) (o : ℕ) → slice_get (firsts_from o items) 0 ≡ Some o
 head_of [] o = refl
 head_of (x ∷ items) o = refl
 
 -- and the ordinal behind its last row
-pub end_of : (before rest : List Item) (x : Item) (o : ℕ) → slice_index_or (firsts_from o (before ++ x ∷ rest)) (length before + 1) 0 ≡ o + rows_of before + length (item_shapes x)
-end_of [] rest x o = head_of rest (o + length (item_shapes x)) ∙ (let e : o + length (item_shapes x) ≡ o + 0 + length (item_shapes x) = omega arith in e)
+pub end_of : (before rest : List Item) (x : Item) (o : ℕ) → slice_get (firsts_from o (before ++ x ∷ rest)) (length before + 1) ≡ Some (o + rows_of before + length (item_shapes x))
+end_of [] rest x o = head_of rest (o + length (item_shapes x)) ∙ ap (λ (n : ℕ). Some n) (let e : o + length (item_shapes x) ≡ o + 0 + length (item_shapes x) = omega arith in e)
 end_of (y ∷ before) rest x o =
-    (let at : suc (length before) + 1 ≡ suc (length before + 1) = omega arith in ap (λ (n : ℕ). slice_index_or (firsts_from o ((y ∷ before) ++ x ∷ rest)) n 0) at)
+    (let at : suc (length before) + 1 ≡ suc (length before + 1) = omega arith in ap (λ (n : ℕ). slice_get (firsts_from o ((y ∷ before) ++ x ∷ rest)) n) at)
     ∙ end_of before rest x (o + length (item_shapes y))
-    ∙ (let e = rows_more y before in let g : o + length (item_shapes y) + rows_of before + length (item_shapes x) ≡ o + rows_of (y ∷ before) + length (item_shapes x) = omega arith in g)
+    ∙ ap (λ (n : ℕ). Some n) (let e = rows_more y before in let g : o + length (item_shapes y) + rows_of before + length (item_shapes x) ≡ o + rows_of (y ∷ before) + length (item_shapes x) = omega arith in g)
 
 -- ** Earlier items' names have rows before
 
@@ -44,7 +44,7 @@ abbrev IsEarly : (item first : ℕ) → Named → Type 0
 IsEarly item first e = e.item < item → e.ordinal < first
 
 -- the names of one item
-of_item : (P : Named → Type 0) (i o : ℕ) (ss : List Shape) → ((name n kind at : ℕ) → o ≤ n → n < o + length ss → P (record { name = name; ordinal = n; kind = kind; at = at; item = i })) → Each P (names_of_item i o ss)
+pub of_item : (P : Named → Type 0) (i o : ℕ) (ss : List Shape) → ((name n kind at : ℕ) → o ≤ n → n < o + length ss → P (record { name = name; ordinal = n; kind = kind; at = at; item = i })) → Each P (names_of_item i o ss)
 of_item P i o [] h = tt
 of_item P i o (s ∷ ss) h =
     go (s.name == 0) (of_item P i (o + 1) ss (λ name n kind at m k. h name n kind at (omega (arith, m)) (let e : o + length (s ∷ ss) ≡ o + 1 + length ss = omega arith in omega arith)))

@@ -109,7 +109,7 @@ new_unknown l name i limit o (c ∷ b) d new h = go (c.name == name) refl h (λ 
     go true q e later = let same : c.name ≡ name = grind (arith, q) in subst (λ (n : ℕ). ordinal_before limit (first_entry l n) ≡ None) same new.0.unknown
     go false q e later = later e
 
-new_items : (l : Layout) (i limit o : ℕ) (b : List Named) → AreNewNames l i limit o b → Each (λ d. d.item ≡ i) b
+pub new_items : (l : Layout) (i limit o : ℕ) (b : List Named) → AreNewNames l i limit o b → Each (λ d. d.item ≡ i) b
 new_items l i limit o [] new = tt
 new_items l i limit o (c ∷ b) new = (new.0.of_item, new_items l i limit (o + 1) b new.1.1)
 

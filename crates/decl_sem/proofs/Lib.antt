@@ -2,6 +2,7 @@ pub mod ArrayCells
 pub mod ArrayLists
 pub mod Asking
 pub mod BoundRanges
+pub mod BroughtRows
 pub mod Checks
 pub mod ConstantRows
 pub mod Constants
@@ -10,9 +11,11 @@ pub mod FieldNames
 pub mod FieldLists
 pub mod FirstNames
 pub mod FirstOrdinals
+pub mod FoundConstants
 pub mod Hands
 pub mod HeadingRows
 pub mod HeadingSums
+pub mod HiddenNames
 pub mod Held
 pub mod ImportedNames
 pub mod ImportedScopes
@@ -21,6 +24,7 @@ pub mod ItemEffects
 pub mod ItemPlaces
 pub mod ItemShapes
 pub mod LaidOnce
+pub mod LayoutSteps
 pub mod MadeFields
 pub mod MakingOn
 pub mod ManyItems

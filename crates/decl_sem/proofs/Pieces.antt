@@ -1,5 +1,5 @@
 -- Pieces of an item, one after another.
-use Rattle.std.specs.Prelude.{◌≡◌, ◌≢◌, ℕ, suc, ◌+◌, ◌==◌, Bool, true, false, if◌then◌else◌, List, [], ◌∷◌, ◌++◌, length, Result, Ok, Err}
+use Rattle.std.specs.Prelude.{◌≡◌, ◌≢◌, ℕ, suc, ◌+◌, ◌<◌, ◌==◌, Bool, true, false, if◌then◌else◌, List, [], ◌∷◌, ◌++◌, length, Result, Ok, Err}
 use Rattle.std.proofs.Common.{refl, sym, ap, ◌∙◌, subst, arith}
 use Rattle.std.proofs.lemmas.List.{append_assoc, append-nil, length-append}
 use Rattle.m2_base.specs.Asks.{IfKnown, IfWaits}
@@ -7,7 +7,7 @@ use Rattle.m2_base.specs.Gives.{Gives}
 use Rattle.m2_base.specs.Lists.{Each}
 use Rattle.m2_base.specs.Rows.{basic_of, natural, row_meaning, type_name_kind}
 use Rattle.m2_base.specs.States.{Frame, State, Waits, Works}
-use Rattle.m2_base.specs.Statics.Contexts.{Context}
+use Rattle.m2_base.specs.Statics.Contexts.{Context, Layout}
 use Rattle.m2_base.specs.Statics.Makes.{Makes, make_then, makes, only_gives}
 use Rattle.m2_base.specs.Statics.Shapes.{Shape}
 use Rattle.m2_base.specs.declared.memory.Memory.{Memory}
@@ -40,7 +40,7 @@ new-append f limit o [] ys h k = subst (λ n. AreNewRows f limit n ys) (let e : 
 new-append f limit o (x ∷ xs) ys h k =
     (h.0, new-append f limit (o + 1) xs ys h.1 (subst (λ n. AreNewRows f limit n ys) (let e : o + suc (length xs) ≡ o + 1 + length xs = omega arith in e) k))
 
-pub laid-length : {names : List Named} {o : ℕ} {ss : List Shape} {rs : List Row} → AreLaid names o ss rs → length rs ≡ length ss
+pub laid-length : {layout : Layout} {o : ℕ} {ss : List Shape} {rs : List Row} → AreLaid layout o ss rs → length rs ≡ length ss
 laid-length none_laid = refl
 laid-length (more_laid l more) = ap suc (laid-length more)
 
@@ -159,7 +159,7 @@ no_type r h =
     (unless (k == 9) _ _ tt (unless (k == 10) _ _ (basic (natural r.a)) (unless (k == 11) _ _ tt (unless (k == 12) _ _ tt (unless (k == 13) _ _ tt
     (unless (k == 14) _ _ tt (unless (k == 15) _ _ tt (unless (k == 16) _ _ tt (unless (k == 17) _ _ tt (unless (k == 18) _ _ tt (unless (k == 19) _ _ tt tt))))))))))))))))))
 
-no_types : {names : List Named} {o : ℕ} {ss : List Shape} {rs : List Row} → AreLaid names o ss rs → AreNoTypes ss → Each (λ r. NamesNoType (row_meaning r)) rs
+no_types : {layout : Layout} {o : ℕ} {ss : List Shape} {rs : List Row} → AreLaid layout o ss rs → AreNoTypes ss → Each (λ r. NamesNoType (row_meaning r)) rs
 no_types none_laid h = tt
 no_types (more_laid {r = r} l more) h = (no_type r (λ e. h.0 (sym l.kind ∙ e)), no_types more h.1)
 
@@ -189,6 +189,7 @@ making_on {a = a} {b = b} {x = x} {y = y} {s = s} {ss = ss} {ts = ts} none makin
       item = making.item;
       of_item = making.of_item;
       begins = subst (λ n. BeginsAt s.layout.now making.item n) (sym p.first) making.begins;
+      old = subst (λ n. Each (λ b. b.ordinal < n) s.layout.now.brought) (sym p.first) making.old;
       count = making.count ∙ sym p.first;
       entered = subst (λ n. Each (λ r. IsOwned n (row_meaning r)) a.frame.entered) (sym p.first) making.entered;
       types = subst (λ (rows : List Row). Each (λ r. NamesNoType (row_meaning r)) rows) (sym p.grown.more)
@@ -244,6 +245,7 @@ making_front {f} {s} {x} ss ts h =
       item = h.item;
       of_item = h.of_item;
       begins = h.begins;
+      old = h.old;
       count = h.count;
       entered = h.entered;
       types = h.types;

@@ -54,6 +54,11 @@ listed (Ok (Known brought)) = Ok (Known brought.items)
 listed (Ok (DontKnowYet head)) = Ok (DontKnowYet head)
 listed (Err m) = Err m
 
+-- the names of which a result has a list
+abbrev pub listed_of : Result (Vec Named Global) Memory → Result (List Named) Memory
+listed_of (Ok brought) = Ok brought.items
+listed_of (Err m) = Err m
+
 -- only a name of a module brings any
 abbrev pub BringAny : Item → Frame → (next : ℕ) → List Named → Type 0
 BringAny x f next brought = BringsIts x brought

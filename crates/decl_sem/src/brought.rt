@@ -21,6 +21,7 @@ ghost use Rattle.decl_sem.specs.NewNames.{earlier_row};
 ghost use Rattle.decl_sem.specs.Pieces.{IsMaking, WhereMaking};
 
 use crate::making::{Made, is_standard, next_row};
+use crate::names::small_place;
 use crate::standing::meaning_in;
 use m2_base::{Ask, MOST_BROUGHT, Memory, Place, Row, RowMeaning, Scopes, Site, read_row};
 use std::alloc::Global;
@@ -110,7 +111,7 @@ fn leads_to<S: Scopes>(scopes: &mut S, site: &Site, made: &Made, ordinal: u32) -
 }
 
 /// Whether two places differ.
-fn differ(one: Place, other: Place) -> bool
+pub(crate) fn differ(one: Place, other: Place) -> bool
     ensures { result ≡ not (is_same_place one other) }
 {
     one.scope != other.scope || one.ordinal != other.ordinal
@@ -186,7 +187,7 @@ fn constant_at<S: Scopes>(scopes: &mut S, site: &Site, place: Place) -> Ask<Opti
     ensures member { WhereKnown result (λ member. IfSome member (λ m. IsMember (S.state scopes.old).frame m)) }
 {
     match known!(row_before(scopes, site.around, place)) {
-        Some(row) => Ask::Known(constant_in(&row, place)),
+        Some(row) => Ask::Known(constant_in(&row, small_place(place))),
         None => Ask::Known(None),
     }
 }

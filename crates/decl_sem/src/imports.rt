@@ -1,29 +1,32 @@
 //! The rows of an import.
-ghost use Rattle.std.specs.Prelude.{◌≡◌, ◌≢◌, ◌∷◌, [], ◌<◌, ◌+◌, ◌^◌, map, if◌then◌else◌, IfOk};
+ghost use Rattle.std.specs.Prelude.{◌≡◌, ◌≢◌, ◌∷◌, ◌++◌, ◌-◌, [], ◌<◌, ◌+◌, ◌^◌, ◌≤◌, map, is_some, true, length, if◌then◌else◌, unwrap_or, IfOk};
 ghost use Rattle.std.specs.Option.{IfSome};
 ghost use Rattle.m2_base.specs.Rows.{alias_kind, module_kind};
 ghost use Rattle.m2_base.specs.Statics.Contexts.{scope_of_module};
 ghost use Rattle.m2_base.specs.Rows.{row_of};
-ghost use Rattle.m2_base.specs.States.{State};
+ghost use Rattle.m2_base.specs.States.{State, Waits};
+ghost use Rattle.m2_base.specs.Statics.Lookup.{entry_named};
+ghost use Rattle.type_rules.specs.Asks.{Reads, WhereKnown, WhereWaiting};
 ghost use Rattle.m2_base.specs.Statics.Contexts.{diag};
 ghost use Rattle.m2_base.specs.Statics.Diagnostics.{declared_twice};
-ghost use Rattle.m2_base.specs.Statics.ImportRows.{alias_row, import_rows as spec_rows, place_or_broken as spec_target};
-ghost use Rattle.m2_base.specs.Statics.ImportedConstants.{brought_by, members_of};
+ghost use Rattle.m2_base.specs.Statics.ImportRows.{again_diags, alias_row, import_rows as spec_rows, place_or_broken as spec_target};
+ghost use Rattle.m2_base.specs.Statics.ImportedConstants.{brought_by, brought_names, brought_row, members_of};
+ghost use Rattle.m2_base.specs.Lists.{Each};
 ghost use Rattle.m2_base.specs.Statics.Makes.{make_then, one_row};
 ghost use Rattle.m2_base.specs.Statics.Items.{import_item};
 ghost use Rattle.m2_base.specs.Statics.Makes.{makes_named as spec_named};
 ghost use Rattle.m2_base.specs.Statics.Shapes.{import_kind, named};
 ghost use Rattle.m2_base.specs.declared.rows.RowMeaning.TheVariants.{Alias, Module};
 ghost use Rattle.type_rules.specs.Scenes.{IsRowOf};
-ghost use Rattle.type_rules.specs.Sites.{source_of};
-ghost use Rattle.decl_sem.specs.Brought.{BringAny, DeclaresWith, all_names, brings_new, listed};
+ghost use Rattle.type_rules.specs.Sites.{context_of, source_of};
+ghost use Rattle.decl_sem.specs.Brought.{BringAny, DeclaresWith, all_names, brings_new, listed, listed_of};
 ghost use Rattle.decl_sem.specs.FoundConstants.{AreNewMembers, AreSeen, member_view};
 ghost use Rattle.decl_sem.specs.ImportedModules.{IsFromBefore, alias_rows, first_from, is_text_named};
 ghost use Rattle.decl_sem.specs.Making.{next_ordinal};
-ghost use Rattle.decl_sem.specs.Pieces.{Declares, IsAny, IsBehind, IsMaking, known_of};
+ghost use Rattle.decl_sem.specs.Pieces.{Declares, IsAny, IsBehind, IsMaking, WhereMaking, known_of};
 ghost use Rattle.m2_base.specs.Statics.ReadTrees.{IsReadName, IsReadOption};
 
-use crate::brought::{Found, Member, is_full, is_hidden, members_in};
+use crate::brought::{Found, Member, differ, is_full, is_hidden, members_in};
 use crate::kinds::ALIAS;
 use crate::making::{Made, make_again, make_new};
 use crate::names::small_place;
@@ -119,21 +122,42 @@ fn put_alias<S: Scopes>(
     name_row(scopes, site, made, name, RowMeaning::Alias(target))
 }
 
+/// Whether the name of an alias that an import has brought before is declared twice: it leads elsewhere, and isn't in error.
+fn is_again<S: Scopes>(
+    scopes: &mut S,
+    site: &Site,
+    name: Ident,
+    target: Place,
+    made: &Made,
+) -> Ask<bool>
+    requires making { IsMaking (S.state scopes.old).frame site.now made.now [] }
+    requires named { name.name ≢ 0 }
+    ensures reads { Reads (S.state scopes.old) (S.state scopes.new) }
+    ensures waits { WhereWaiting result (λ head. Waits (S.state scopes.old) (S.state scopes.new) head) }
+    ensures told { WhereMaking (S.state scopes.old).frame made.now (λ hand.
+        WhereKnown result (λ again. let c = context_of (S.state scopes.old).frame hand site.now in again_diags c name target ≡ (if again then diag c name.at declared_twice ∷ [] else []))) }
+{
+    if !differ(target, BROKEN) {
+        return Ask::Known(false);
+    }
+    is_hidden(scopes, site, made, name.name, target)
+}
+
 /// The row of an alias whose name an import has brought before.
 fn put_again<S: Scopes>(
     _scopes: &S,
     site: &Site,
     name: Ident,
     target: Place,
-    elsewhere: bool,
+    again: bool,
     made: &mut Made,
 ) -> Result<Place, Memory>
     requires making { IsMaking (S.state _scopes.now).frame site.now made.old (named alias_kind name ∷ []) }
-    requires brought { IfSome (entry_named site.now.layout.now.brought name.name) (λ n. entry_named site.now.layout.now.brought name.name ≡ Some n) }
+    requires brought { is_some (entry_named site.now.layout.now.brought name.name) ≡ true }
     requires target { IsBehind (S.state _scopes.now).frame (next_ordinal made.old) target }
-    ensures { Declares (S.state _scopes.now) (S.state _scopes.now) made.old made.new site.now (known_of result) (named alias_kind name ∷ []) IsBehind (λ c. one_row c (row_of 0 name.at (Alias target)) (if elsewhere then diag c name.at declared_twice ∷ [] else [])) }
+    ensures { Declares (S.state _scopes.now) (S.state _scopes.now) made.old made.new site.now (known_of result) (named alias_kind name ∷ []) IsBehind (λ c. one_row c (row_of 0 name.at (Alias target)) (if again then diag c name.at declared_twice ∷ [] else [])) }
 {
-    make_again(site, made, name.at, RowMeaning::Alias(target), elsewhere)
+    make_again(site, made, name.at, RowMeaning::Alias(target), again)
 }
 
 /// The row of an alias. It has no name where an earlier import brought that.
@@ -153,8 +177,8 @@ fn own_row<S: Scopes>(
     let placed = match site.layout.brought(name.name) {
         None => put_alias(scopes, site, name, entry, made),
         Some(_) => {
-            let elsewhere = asked!(is_hidden(scopes, site, made, name.name, target));
-            put_again(scopes, site, name, target, elsewhere, made)
+            let again = asked!(is_again(scopes, site, name, target, made));
+            put_again(scopes, site, name, target, again, made)
         }
     };
     match placed {
@@ -170,7 +194,14 @@ fn put_members(
     at: u32,
     members: &[Member],
     made: &mut Made,
-) -> Result<Vec<Named>, Memory> {
+) -> Result<Vec<Named>, Memory>
+    requires room { next_ordinal made.old + length members.now < 2 ^ 32 }
+    requires places { Each (λ m. m.place.scope < 2 ^ 31) members.now }
+    ensures names { IfOk result (λ brought. brought.items ≡ brought_names (unwrap_or site.now.item 0) (next_ordinal made.old) at (map member_view members.now)) }
+    ensures rows { IfOk result (λ brought. made.new.rows.items ≡ made.old.rows.items ++ map (brought_row at) (map member_view members.now)) }
+    ensures notes { made.new.notes ≡ made.old.notes }
+    ensures first { made.new.first ≡ made.old.first }
+{
     let item = site.item.unwrap_or(0);
     let mut brought = Vec::new(alloc);
     for member in members {
@@ -196,7 +227,11 @@ fn put_found(
     at: u32,
     found: &Found,
     made: &mut Made,
-) -> Result<Vec<Named>, Memory> {
+) -> Result<Vec<Named>, Memory>
+    requires room { next_ordinal made.old < 2 ^ 32 - 16384 }
+    requires places { Each (λ m. m.place.scope < 2 ^ 31) found.now.new.items }
+    ensures { (a : State) → IsMaking a.frame site.now made.old [] → AreNewMembers a.frame site.now made.old found.now.new.items → DeclaresWith a a made.old made.new site.now (known_of (listed_of result)) [] all_names IsAny (λ c. brings_new c at (map member_view found.now.new.items) found.now.hidden) }
+{
     let text = site.around.text;
     if is_full(site, found) {
         made.notes.refuse(text, at, Diagnostic::TooManyConstants)?;
