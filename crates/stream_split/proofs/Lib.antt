@@ -32,6 +32,8 @@ pub mod WholeAgrees
 pub mod Lengths
 pub mod TypeSizes
 pub mod RowCounts
+pub mod BroughtRows
+pub mod MadeRows
 pub mod Enclosures
 pub mod Declared
 pub mod BlocksAgree

@@ -17,16 +17,16 @@ use Rattle.m2_base.specs.Tables.{rows_at}
 use Rattle.m2_base.specs.Units.{IsUnit, UnitTexts}
 use Rattle.m2_base.specs.WholeTexts.{SpellsDefinition}
 use Rattle.stream_split.specs.Agreement.{SpellsStreams}
-use Rattle.stream_split.specs.Rooms.{rows_of, rows_of_scopes}
-use Rattle.stream_split.specs.Sizes.{sizes_of}
+use Rattle.stream_split.specs.Rooms.{most_rows, most_rows_of_scopes}
+use Rattle.stream_split.specs.Sizes.{room_of, sizes_of}
 use Rattle.stream_split.specs.Streams.{StreamOf, definition_streams, main_number, main_streams, main_tokens, streams_of}
 use Rattle.stream_split.specs.Surroundings.{AreTreesOf}
 use Rattle.stream_split.proofs.Agree.{trees_agree}
 use Rattle.stream_split.proofs.BlocksAgree.{blocks_agree}
+use Rattle.stream_split.proofs.BroughtRows.{room_over, scopes_most}
 use Rattle.stream_split.proofs.DefinitionTexts.{definition_spelled}
-use Rattle.stream_split.proofs.Definitions.{map_append}
 use Rattle.stream_split.proofs.Lengths.{IsShort, unit_short}
-use Rattle.stream_split.proofs.RowCounts.{finished_rows, scope_rows}
+use Rattle.stream_split.proofs.MadeRows.{finished_rows}
 
 -- ** Trees
 
@@ -67,53 +67,68 @@ streams_spelled u trees read =
 
 -- ** Rows
 
--- the scopes have as many rows as their blocks' trees say
-rows_counted : (source : Source) (blocks : List BlockTree) (tables : List (List Row))
-    → map length (rows_from source tables blocks) ≡ map length tables ++ map rows_of (map (λ (b : BlockTree). b.tree) blocks)
-rows_counted source [] tables = sym (append-nil (map length tables))
-rows_counted source (b ∷ blocks) tables =
-    let rows : List Row = (declare_block source tables b).rows in
-    let rest : List ℕ = map rows_of (map (λ (b : BlockTree). b.tree) blocks) in
-    rows_counted source blocks (tables ++ rows ∷ [])
-    ∙ ap (λ ns. ns ++ rest) (map_append length tables (rows ∷ []))
-    ∙ append_assoc (map length tables) (length rows ∷ []) rest
-    ∙ ap (λ n. map length tables ++ n ∷ rest) (finished_rows source tables b)
+-- a scope has no more rows than this
+abbrev Fits : List Row → ℕ → Type 0
+Fits rows room = length rows ≤ room
 
-unit_counted : (u : UnitTexts) (trees : UnitTrees) → AreRead u trees → map length (unit_rows trees) ≡ rows_of_scopes (trees.definitions ++ trees.main)
+fit_append : (tables more : List (List Row)) (rooms others : List ℕ) → AllZip Fits tables rooms → AllZip Fits more others → AllZip Fits (tables ++ more) (rooms ++ others)
+fit_append [] more [] others h k = k
+fit_append [] more (room ∷ rooms) others h k = absurd h
+fit_append (rows ∷ tables) more [] others h k = absurd h
+fit_append (rows ∷ tables) more (room ∷ rooms) others h k = (h.0, fit_append tables more rooms others h.1 k)
+
+fit_wider : (tables : List (List Row)) (rooms wider : List ℕ) → AllZip Fits tables rooms → AllZip (λ n room. n ≤ room) rooms wider → AllZip Fits tables wider
+fit_wider [] [] [] h k = tt
+fit_wider [] [] (w ∷ wider) h k = absurd k
+fit_wider [] (room ∷ rooms) wider h k = absurd h
+fit_wider (rows ∷ tables) [] wider h k = absurd h
+fit_wider (rows ∷ tables) (room ∷ rooms) [] h k = absurd k
+fit_wider (rows ∷ tables) (room ∷ rooms) (w ∷ wider) h k =
+    let first : length rows ≤ room = h.0 in
+    let next : room ≤ w = k.0 in
+    (omega (arith, first, next), fit_wider tables rooms wider h.1 k.1)
+
+-- the scopes have as many rows at most as their blocks' trees say
+rows_counted : (source : Source) (blocks : List BlockTree) (tables : List (List Row)) (rooms : List ℕ) → AllZip Fits tables rooms
+    → AllZip Fits (rows_from source tables blocks) (rooms ++ map most_rows (map (λ (b : BlockTree). b.tree) blocks))
+rows_counted source [] tables rooms h = subst (λ ns. AllZip Fits tables ns) (sym (append-nil rooms)) h
+rows_counted source (b ∷ blocks) tables rooms h =
+    let rows : List Row = (declare_block source tables b).rows in
+    let rest : List ℕ = map most_rows (map (λ (b : BlockTree). b.tree) blocks) in
+    subst (λ ns. AllZip Fits (rows_from source (tables ++ rows ∷ []) blocks) ns) (append_assoc rooms (most_rows b.tree ∷ []) rest)
+    (rows_counted source blocks (tables ++ rows ∷ []) (rooms ++ most_rows b.tree ∷ [])
+    (fit_append tables (rows ∷ []) rooms (most_rows b.tree ∷ []) h (finished_rows source tables b, tt)))
+
+unit_counted : (u : UnitTexts) (trees : UnitTrees) → AreRead u trees → AllZip Fits (unit_rows trees) (most_rows_of_scopes (trees.definitions ++ trees.main))
 unfolding unit_rows
 unit_counted u trees read =
-    rows_counted trees.source (blocks_of trees) (standard_rows ∷ [])
-    ∙ ap (λ (all : List Stream). length standard_rows ∷ map rows_of all) (blocks_agree u trees (trees_read u trees read)).same_trees
-
-fit_each : (tables : List (List Row)) (rooms : List ℕ) → AllZip (λ n room. n ≤ room) (map length tables) rooms → AllZip (λ rows room. length rows ≤ room) tables rooms
-fit_each [] [] h = tt
-fit_each [] (room ∷ rooms) h = absurd h
-fit_each (rows ∷ tables) [] h = absurd h
-fit_each (rows ∷ tables) (room ∷ rooms) h = (h.0, fit_each tables rooms h.1)
+    subst (λ (all : List Stream). AllZip Fits (rows_from trees.source (standard_rows ∷ []) (blocks_of trees)) (length standard_rows ∷ map most_rows all)) (blocks_agree u trees (trees_read u trees read)).same_trees
+    (rows_counted trees.source (blocks_of trees) (standard_rows ∷ []) (length standard_rows ∷ []) (omega arith, tt))
 
 -- no scope has more finished rows than its room
 pub rows_fit : (u : UnitTexts) (tables : List (List Row)) → IsFinished u tables → AllZip (λ rows room. length rows ≤ room) tables (sizes_of (streams_of u))
 rows_fit u tables is =
-    let counted : map length tables ≡ rows_of_scopes (is.trees.definitions ++ is.trees.main) = ap (map length) is.rows ∙ unit_counted u is.trees is.read in
-    fit_each tables (sizes_of (streams_of u))
-    (subst (λ ns. AllZip (λ n room. n ≤ room) ns (sizes_of (streams_of u))) (sym counted)
-    (scope_rows (is.trees.definitions ++ is.trees.main) (streams_of u) (streams_spelled u is.trees is.read)))
+    let all = is.trees.definitions ++ is.trees.main in
+    fit_wider tables (most_rows_of_scopes all) (sizes_of (streams_of u))
+    (subst (λ rows. AllZip Fits rows (most_rows_of_scopes all)) (sym is.rows) (unit_counted u is.trees is.read))
+    (scopes_most all (streams_of u) (streams_spelled u is.trees is.read))
 
 -- beside scope 0 there is one for each stream
 pub scopes_counted : (u : UnitTexts) (tables : List (List Row)) → IsFinished u tables → length tables ≡ length (streams_of u) + 1
 scopes_counted u tables is =
     let long : length (sizes_of (streams_of u)) ≡ length tables = AllZip-long (λ rows room. length rows ≤ room) tables (sizes_of (streams_of u)) (rows_fit u tables is) in
-    let many = length-map (streams_of u) (λ (s : StreamOf). length s.tokens) in
+    let many = length-map (streams_of u) room_of in
     omega (arith, long, many)
 
-few_each : (streams : List StreamOf) → All IsShort streams → (tables : List (List Row)) → AllZip (λ rows room. length rows ≤ room) tables (map (λ (s : StreamOf). length s.tokens) streams)
+few_each : (streams : List StreamOf) → All IsShort streams → (tables : List (List Row)) → AllZip (λ rows room. length rows ≤ room) tables (map room_of streams)
     → (s : ℕ) → length (rows_at tables s) < 2 ^ 32
 few_each streams short [] h s = omega arith
 few_each [] short (rows ∷ tables) h s = absurd h
 few_each (x ∷ streams) short (rows ∷ tables) h zero =
-    let room : length x.tokens < 2 ^ 30 = All-head IsShort x streams short in
-    let fits : length rows ≤ length x.tokens = h.0 in
-    omega (arith, fits, room)
+    let short : length x.tokens < 2 ^ 30 = All-head IsShort x streams short in
+    let fits : length rows ≤ room_of x = h.0 in
+    let over = room_over x in
+    omega (arith, short, fits, over)
 few_each (x ∷ streams) short (rows ∷ tables) h (suc s) = few_each streams (All-tail IsShort x streams short) tables h.1 s
 
 few_all : (streams : List StreamOf) → All IsShort streams → (tables : List (List Row)) → AllZip (λ rows room. length rows ≤ room) tables (sizes_of streams) → (s : ℕ) → length (rows_at tables s) < 2 ^ 32

@@ -1,8 +1,6 @@
--- A block has no more rows than tokens.
+-- A block declares no more rows than its stream has tokens.
 use Rattle.std.proofs.Common.{◌≡◌, ℕ, List, [], ◌∷◌, ◌++◌, refl, ap, length, length-append, ◌≤◌, ◌+◌, arith, map, flat_map, Option}
 use Rattle.std.proofs.lemmas.List.{length-map}
-use Rattle.std.specs.List.{AllZip}
-use Rattle.m2_base.proofs.LayoutLaws.{block_shaped, AreShaped-length}
 use Rattle.m2_base.specs.declared.kind.TokenKind.TheVariants.{Semicolon}
 use Rattle.m2_base.specs.declared.token.Token.{Token}
 use Rattle.m2_base.specs.declared.trees.declarations.StreamKind.{StreamKind}
@@ -11,10 +9,6 @@ use Rattle.m2_base.specs.ExpressionsOf.{ident_of_token, idents_of, qual_of}
 use Rattle.m2_base.specs.Grammar.{grammar, levels, a, section, parameters, heading, constant, variables, type_declaration, defined_type, declaration, definition_declaration, procedure_cut, block, main, definition, procedure_stream, imported, stream}
 use Rattle.m2_base.specs.Grammar as rules
 use Rattle.m2_base.specs.Rows.{var_kind, param_kind, proc_kind, proc_type_kind, type_name_kind}
-use Rattle.m2_base.specs.declared.rows.Row.{Row}
-use Rattle.m2_base.specs.Statics.BlockRows.{declare_block}
-use Rattle.m2_base.specs.Statics.Blocks.{BlockTree}
-use Rattle.m2_base.specs.Statics.Contexts.{Source}
 use Rattle.m2_base.specs.Statics.Items.{Item, proc_item, import_item, import_items, decl_item, items_of}
 use Rattle.m2_base.specs.Statics.Layouts.{firsts_from}
 use Rattle.m2_base.specs.Statics.Shapes.{Shape, nameless, named, open_shapes, own_section_shapes, section_shapes, item_shapes, type_shapes}
@@ -24,9 +18,8 @@ use Rattle.m2_base.specs.Trees.{Section, Decl, Stream}
 use Rattle.m2_base.specs.TypesOf.{type_of}
 use Rattle.ll_grammar.specs.Derivations.{Tree, both, tokens, Derives, of_empty, of_token, of_then, of_left, of_right, of_last, of_more}
 use Rattle.ll_grammar.specs.Grammar.{many, optional, ◌⨾◌}
-use Rattle.stream_split.specs.Agreement.{SpellsStream, SpellsStreams}
-use Rattle.stream_split.specs.Rooms.{last_of, rows_of, rows_of_scopes}
-use Rattle.stream_split.specs.Sizes.{sizes_of}
+use Rattle.stream_split.specs.Agreement.{SpellsStream}
+use Rattle.stream_split.specs.Rooms.{last_of, rows_of}
 use Rattle.stream_split.specs.Streams.{StreamOf}
 use Rattle.stream_split.proofs.TypeSizes.{size, size_is, idents_size, open_size, type_size}
 
@@ -239,19 +232,3 @@ stream_rows tree s h =
     let k = ap length h.sentence.spells in
     let l = ap rows_of h.gives in
     omega (arith, i, j, k, l)
-
-pub scope_rows : (trees : List Stream) (streams : List StreamOf) → SpellsStreams trees streams → AllZip (λ rows room. rows ≤ room) (rows_of_scopes trees) (sizes_of streams)
-scope_rows trees streams h = (omega arith, on trees streams h)
-  where
-    on : (trees : List Stream) (streams : List StreamOf) → SpellsStreams trees streams → AllZip (λ rows room. rows ≤ room) (map rows_of trees) (map (λ (s : StreamOf). length s.tokens) streams)
-    on [] [] h = tt
-    on [] (s ∷ ss) h = absurd h
-    on (t ∷ ts) [] h = absurd h
-    on (t ∷ ts) (s ∷ ss) h = (stream_rows t s h.0, on ts ss h.1)
-
-pub finished_rows : (source : Source) (tables : List (List Row)) (b : BlockTree) → length (declare_block source tables b).rows ≡ rows_of b.tree
-finished_rows source tables b =
-    let i = AreShaped-length (block_shaped source tables b) in
-    let j = count_is (items_of b.tree) in
-    let k = rows_are b.tree in
-    omega (arith, i, j, k)

@@ -17,9 +17,9 @@ use Rattle.stream_split.specs.Views.{stream_view}
 use Rattle.m2_base.specs.Finished.{tokens_of}
 use Rattle.m2_base.specs.Trees.{Stream}
 use Rattle.stream_split.specs.Agreement.{SpellsStream}
-use Rattle.stream_split.specs.Rooms.{rows_of}
-use Rattle.stream_split.specs.Sizes.{sizes_of}
-use Rattle.stream_split.proofs.RowCounts.{stream_rows}
+use Rattle.stream_split.specs.Rooms.{most_rows}
+use Rattle.stream_split.specs.Sizes.{room_of, sizes_of}
+use Rattle.stream_split.proofs.BroughtRows.{stream_most}
 use Rattle.stream_split.proofs.BlocksAgree.{got_behind}
 use Rattle.stream_split.proofs.Counting.{order_few}
 use Rattle.stream_split.proofs.Definitions.{definitions_length}
@@ -176,17 +176,17 @@ module_at u s g =
 
 -- ** Rows
 
-size_at : (streams : List StreamOf) (k : ℕ) (s : StreamOf) → slice_get streams k ≡ Some s → slice_index (sizes_of streams) (k + 1) ≡ length s.tokens
+size_at : (streams : List StreamOf) (k : ℕ) (s : StreamOf) → slice_get streams k ≡ Some s → slice_index (sizes_of streams) (k + 1) ≡ room_of s
 size_at streams k s g = let next_is : k + 1 ≡ suc k = omega arith in ap (slice_index (sizes_of streams)) next_is ∙ on streams k g
   where
-    on : (streams : List StreamOf) (k : ℕ) → slice_get streams k ≡ Some s → slice_index (map (λ (x : StreamOf). length x.tokens) streams) k ≡ length s.tokens
+    on : (streams : List StreamOf) (k : ℕ) → slice_get streams k ≡ Some s → slice_index (map room_of streams) k ≡ room_of s
     on [] k g = cc
-    on (x ∷ streams) zero g = let same : x ≡ s = cc in ap (λ (y : StreamOf). length y.tokens) same
+    on (x ∷ streams) zero g = let same : x ≡ s = cc in ap room_of same
     on (x ∷ streams) (suc k) g = on streams k g
 
--- a stream's tree has rows for its room
-pub row_room : (u : UnitTexts) (k : ℕ) (s : StreamOf) (tree : Stream) → slice_get (streams_of u) k ≡ Some s → SpellsStream tree s → rows_of tree ≤ slice_index (sizes_of (streams_of u)) s.stream
+-- there is room for the rows of a stream's tree, and for those that its imports bring
+pub row_room : (u : UnitTexts) (k : ℕ) (s : StreamOf) (tree : Stream) → slice_get (streams_of u) k ≡ Some s → SpellsStream tree s → most_rows tree ≤ slice_index (sizes_of (streams_of u)) s.stream
 row_room u k s tree g h =
-    let rows = stream_rows tree s h in
+    let rows = stream_most tree s h in
     let size = ap (slice_index (sizes_of (streams_of u))) (number_is u k s g) ∙ size_at (streams_of u) k s g in
     omega (arith, rows, size)

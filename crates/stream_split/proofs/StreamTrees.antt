@@ -12,8 +12,9 @@ use Rattle.m2_base.specs.Statics.Shapes.{item_shapes}
 use Rattle.m2_base.specs.Trees.{Stream}
 use Rattle.m2_base.specs.Units.{IsUnit, UnitTexts}
 use Rattle.stream_split.specs.Agreement.{SpellsStream}
-use Rattle.stream_split.specs.Streams.{StreamOf, streams_of}
+use Rattle.stream_split.specs.Rooms.{most_rows}
 use Rattle.stream_split.specs.Sizes.{sizes_of}
+use Rattle.stream_split.specs.Streams.{StreamOf, streams_of}
 use Rattle.stream_split.proofs.Lengths.{IsShort, unit_short}
 use Rattle.stream_split.proofs.RowCounts.{rows_are_shapes, stream_rows}
 use Rattle.stream_split.proofs.StreamCounts.{row_room}
@@ -50,7 +51,6 @@ module _ (texts : UnitTexts) (k : ℕ) (s : StreamOf) (tree : Stream) (unit : Is
       let short = all_got IsShort (streams_of texts) k s (unit_short texts unit) there in
       omega (arith, rows, shapes, short)
 
--- there is room for its rows
-pub stream_room : (texts : UnitTexts) (k : ℕ) (s : StreamOf) (tree : Stream) → slice_get (streams_of texts) k ≡ Some s → SpellsStream tree s
-    → length (flat_map item_shapes (items_of tree)) ≤ slice_index (sizes_of (streams_of texts)) s.stream
-stream_room texts k s tree there spelled = let rows = row_room texts k s tree there spelled in let shapes = rows_are_shapes tree in omega (arith, rows, shapes)
+-- there is room for its rows, and for those that its imports bring
+pub stream_room : (texts : UnitTexts) (k : ℕ) (s : StreamOf) (tree : Stream) → slice_get (streams_of texts) k ≡ Some s → SpellsStream tree s → most_rows tree ≤ slice_index (sizes_of (streams_of texts)) s.stream
+stream_room = row_room

@@ -1,17 +1,20 @@
 //! What the streams of a main text say of it.
-ghost use Rattle.std.specs.Prelude.{◌≡◌, ◌+◌, ◌<◌, ◌≤◌, ◌^◌, ◌++◌, ◌∷◌, [], ℕ, List, None, Some, flat_map, length, map, slice_get, slice_index};
+ghost use Rattle.std.specs.Prelude.{◌≡◌, ◌+◌, ◌<◌, ◌≤◌, ◌^◌, ◌++◌, ◌∷◌, [], ℕ, List, None, Some, flat_map, length, map, slice_get, slice_index, take};
 ghost use Rattle.std.specs.List.{AllZip};
 ghost use Rattle.m2_base.specs.declared.outputs.StreamFault.{StreamFault};
 ghost use Rattle.m2_base.specs.declared.token.Token.{Token};
 ghost use Rattle.m2_base.specs.declared.rows.Row.{Row};
+ghost use Rattle.m2_base.specs.declared.sites.Named.{Named};
 ghost use Rattle.m2_base.specs.Finished.{AreRead, IsFinished, source_of, tokens_of};
 ghost use Rattle.m2_base.specs.Statics.BlockLimits.{Begun, deepest_level, limit_of, procedures_of};
 ghost use Rattle.m2_base.specs.Statics.BlockRows.{declare_block};
 ghost use Rattle.m2_base.specs.Statics.Blocks.{BlockTree, UnitTrees, blocks_of};
+ghost use Rattle.m2_base.specs.Statics.Bringing.{HaveBrought};
 ghost use Rattle.m2_base.specs.Statics.Contexts.{Source};
 ghost use Rattle.m2_base.specs.Lists.{Each};
 ghost use Rattle.m2_base.specs.Statics.FormedRows.{IsImportedBefore};
 ghost use Rattle.m2_base.specs.Statics.Items.{items_of};
+ghost use Rattle.m2_base.specs.Statics.Layouts.{laid_shapes};
 ghost use Rattle.m2_base.specs.Statics.ReadStatements.{AreReadStatements};
 ghost use Rattle.m2_base.specs.Statics.ReadTrees.{IsReadItem};
 ghost use Rattle.m2_base.specs.Statics.Shapes.{item_shapes};
@@ -23,8 +26,8 @@ ghost use Rattle.stream_split.specs.Agreement.{SpellsStream, SpellsStreams, IsFa
 ghost use Rattle.stream_split.specs.Chains.{block_of, own_scope};
 ghost use Rattle.stream_split.specs.Fronts.{AreFronts};
 ghost use Rattle.stream_split.specs.Procedures.{HasProcedure, HasStream};
-ghost use Rattle.stream_split.specs.Rooms.{rows_of, rows_of_scopes};
-ghost use Rattle.stream_split.specs.Sizes.{sizes_of};
+ghost use Rattle.stream_split.specs.Rooms.{most_rows, most_rows_of_scopes, rows_of};
+ghost use Rattle.stream_split.specs.Sizes.{room_of, sizes_of};
 ghost use Rattle.stream_split.specs.Streams.{StreamOf, definition_stream, main_number, main_streams, main_tokens, module_stream, streams_of};
 ghost use Rattle.stream_split.specs.Surroundings.{AreTreesOf, IsSurrounded, surroundings_of};
 
@@ -60,14 +63,18 @@ pub fn streams_have_their_places()
     ensures levels { (u : UnitTexts) (k : ℕ) (s : StreamOf) → IsUnit u → limit_of (main_tokens u) ≡ None → slice_get (streams_of u) k ≡ Some s → s.level ≤ deepest_level }
 {}
 
-/// No scope has more rows than `sizes` says: a block has at most a row for each token of its stream, by its layout, and no
-/// other rows are made for it. So a unit's finished rows are those of as many scopes, each of which has fewer than numbers of 32
-/// bits.
+/// No scope has more rows than `sizes` says: a block declares at most a row for each token of its stream, by its layout, and
+/// beside these it has only those that its imports bring. Only names of modules behind FROM bring rows, 16,384 of them at most,
+/// whatever is known of the other blocks. So a unit's finished rows are those of as many scopes, each of which has fewer than
+/// numbers of 32 bits.
 pub fn rows_have_room()
     ensures stream { (tree : Stream) (s : StreamOf) → SpellsStream tree s → rows_of tree ≤ length s.tokens }
+    ensures room { (tree : Stream) (s : StreamOf) → SpellsStream tree s → most_rows tree ≤ room_of s }
     ensures shapes { (tree : Stream) → rows_of tree ≡ length (flat_map item_shapes (items_of tree)) }
-    ensures scopes { (trees : List Stream) (streams : List StreamOf) → SpellsStreams trees streams → AllZip (λ rows room. rows ≤ room) (rows_of_scopes trees) (sizes_of streams) }
-    ensures made { (source : Source) (tables : List (List Row)) (b : BlockTree) → length (declare_block source tables b).rows ≡ rows_of b.tree }
+    ensures laid { (tree : Stream) (count : ℕ) (brought : List (List Named)) → HaveBrought (take count (items_of tree)) brought → length (laid_shapes (take count (items_of tree)) brought) ≤ most_rows tree }
+    ensures scopes { (trees : List Stream) (streams : List StreamOf) → SpellsStreams trees streams → AllZip (λ rows room. rows ≤ room) (most_rows_of_scopes trees) (sizes_of streams) }
+    ensures brought { (source : Source) (tables : List (List Row)) (b : BlockTree) → HaveBrought (items_of b.tree) (declare_block source tables b).value.brought }
+    ensures made { (source : Source) (tables : List (List Row)) (b : BlockTree) → length (declare_block source tables b).rows ≤ most_rows b.tree }
     ensures finished { (texts : UnitTexts) (tables : List (List Row)) → IsFinished texts tables → AllZip (λ rows room. length rows ≤ room) tables (sizes_of (streams_of texts)) }
     ensures count { (texts : UnitTexts) (tables : List (List Row)) → IsFinished texts tables → length tables ≡ length (streams_of texts) + 1 }
     ensures few { (texts : UnitTexts) (tables : List (List Row)) → IsUnit texts → IsFinished texts tables → (s : ℕ) → length (rows_at tables s) < 2 ^ 32 }
@@ -82,13 +89,13 @@ pub fn blocks_are_those_of_the_streams()
 {}
 
 /// What every tree has that a stream of a unit spells, whatever the other texts and streams are: its items and statements
-/// are as read, there is room for its rows, and each module that it imports, or from which it imports names, has a scope
+/// are as read, there is room for its rows and those that its imports bring, and each module that it imports, or from which it imports names, has a scope
 /// before the stream's. The last is so where nothing is left out of the unit by the fronts of its texts, and these are
 /// what the grammar tells.
 pub fn trees_of_streams_are_read()
     ensures items { (texts : UnitTexts) (k : ℕ) (s : StreamOf) (tree : Stream) → IsUnit texts → slice_get (streams_of texts) k ≡ Some s → SpellsStream tree s → Each (IsReadItem texts.names) (items_of tree) }
     ensures statements { (texts : UnitTexts) (k : ℕ) (s : StreamOf) (tree : Stream) → IsUnit texts → slice_get (streams_of texts) k ≡ Some s → SpellsStream tree s → AreReadStatements texts.names tree.body }
     ensures imports { (texts : UnitTexts) (front : TextOf → Front) (k : ℕ) (s : StreamOf) (tree : Stream) → IsUnit texts → AreFronts front texts → IsWholeBy front texts → slice_get (streams_of texts) k ≡ Some s → SpellsStream tree s → Each (IsImportedBefore (source_of texts) s.stream) (items_of tree) }
-    ensures room { (texts : UnitTexts) (k : ℕ) (s : StreamOf) (tree : Stream) → slice_get (streams_of texts) k ≡ Some s → SpellsStream tree s → length (flat_map item_shapes (items_of tree)) ≤ slice_index (sizes_of (streams_of texts)) s.stream }
+    ensures room { (texts : UnitTexts) (k : ℕ) (s : StreamOf) (tree : Stream) → slice_get (streams_of texts) k ≡ Some s → SpellsStream tree s → most_rows tree ≤ slice_index (sizes_of (streams_of texts)) s.stream }
     ensures few { (texts : UnitTexts) (k : ℕ) (s : StreamOf) (tree : Stream) → IsUnit texts → slice_get (streams_of texts) k ≡ Some s → SpellsStream tree s → length (flat_map item_shapes (items_of tree)) < 2 ^ 30 }
 {}

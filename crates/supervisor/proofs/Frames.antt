@@ -74,6 +74,9 @@ module _ (o : Option (List Table)) where
   declared_beside f a tree m h =
       record {
         within = h.within;
+        brought = h.brought;
+        of_each = h.of_each;
+        layout = h.layout;
         laid = h.laid;
         owned = h.owned;
         cells = h.cells;
@@ -90,9 +93,8 @@ module _ (o : Option (List Table)) where
   begun_beside f a w h =
       record {
         block = block_beside f.setting a _ h.block;
-        layout = h.layout;
         closed = h.closed;
-        unplaced = λ e. let u = h.unplaced e in record { entered = u.entered; open_yet = u.open_yet };
+        unplaced = λ e. let u = h.unplaced e in record { entered = u.entered; collected = u.collected; open_yet = u.open_yet };
         declared = λ e. declared_beside f a _ w.collected (h.declared e);
         all = h.all;
         stated = stated_beside f a w w.stating h.stated;

@@ -13,7 +13,8 @@ use Rattle.m2_base.proofs.FinishedLaws.{finished-standard}
 use Rattle.m2_base.proofs.Kept.{IsLater-refl, IsLater-trans}
 use Rattle.scope_core.specs.Fronts.{ShowsFront}
 use Rattle.scope_core.specs.PlainScopes.{IsBegun, Plain, moved}
-use Rattle.stream_split.specs.Streams.{StreamOf, streams_of}
+use Rattle.stream_split.specs.Sizes.{room_of}
+use Rattle.stream_split.specs.Streams.{streams_of}
 use Rattle.task_state.specs.Progress.{Ends, IsAsFar, is_over}
 use Rattle.task_state.specs.declared.task.Task.{Task}
 use Rattle.task_state.specs.declared.task.Turn.{Turn}
@@ -199,7 +200,7 @@ module _ (u : UnitTexts) (p : Plain) (tasks : List Task) (stand : IsStand u p ta
     where
       low_enough : (s : ℕ) → s < length p.areas → s < length tasks + 1
       low_enough s low =
-          let many = length-map (streams_of u) (λ (x : StreamOf). length x.tokens) in
+          let many = length-map (streams_of u) room_of in
           let sizes = ap length stand.areas in
           let count = stand.count in
           omega (arith, low, many, sizes, count)

@@ -6,7 +6,6 @@ use Rattle.std.proofs.lemmas.List.{append-nil}
 use Rattle.m2_base.specs.Lists.{Each, WhereKept}
 use Rattle.m2_base.specs.States.{IsAmong, State, texts_of}
 use Rattle.m2_base.specs.Statics.Items.{items_of}
-use Rattle.m2_base.specs.Statics.Layouts.{layout_of}
 use Rattle.m2_base.specs.Views.{stream_view}
 use Rattle.m2_base.specs.declared.notes.Answer.{Answer}
 use Rattle.m2_base.specs.declared.sites.Around.{Around}
@@ -33,13 +32,12 @@ placed_first st around w far closed = go w.placed refl
     go false e = absurd (let bad : true ≡ false = sym closed ∙ (far.begun.unplaced e).open_yet in cc)
 
 -- the block of a tree in hand
-module _ (bl : Block) (w : Begun) (tree : bl.tree.now ≡ w.tree) (layout : bl.layout.now ≡ w.layout) where
+module _ (bl : Block) (w : Begun) (tree : bl.tree.now ≡ w.tree) where
   module _ (st : State) (texts : bl.texts.now ≡ texts_of st) (far : IsAtWork st bl.around.now w) (placed : w.placed ≡ true) where
     in_hand : IsInHand st.frame.setting bl
     in_hand =
         record {
           texts = texts;
-          layout = layout ∙ far.begun.layout ∙ ap (λ (t : HeldStream). layout_of (stream_view t)) (sym tree);
           block = subst (λ (t : HeldStream). IsBlockOf st.frame.setting bl.around.now (stream_view t)) (sym tree) far.begun.block;
         }
 
@@ -69,16 +67,15 @@ unstated st around w far open_yet = not_stated (HasStated st.frame around w.tree
 
 -- a body that is begun anew
 pub forgotten : (st : State) (around : Around) (w : Begun) (x : Option Stating) → x ≡ None → IsAtWork st around w
-    → IsAtWork st around (record { tree = w.tree; layout = w.layout; collected = w.collected; placed = w.placed; closed = w.closed; stating = x })
+    → IsAtWork st around (record { tree = w.tree; collected = w.collected; placed = w.placed; closed = w.closed; stating = x })
 forgotten st around w x none far =
     let b = far.begun in
     record {
       begun =
           record {
             block = b.block;
-            layout = b.layout;
             closed = b.closed;
-            unplaced = λ no. (let u = b.unplaced no in record { entered = u.entered; open_yet = u.open_yet });
+            unplaced = λ no. (let u = b.unplaced no in record { entered = u.entered; collected = u.collected; open_yet = u.open_yet });
             declared = b.declared;
             all = b.all;
             stated = subst (λ (o : Option Stating). IfSome o (λ y. (w.closed ≡ true) × HasStated st.frame around w.tree y)) (sym none) tt;

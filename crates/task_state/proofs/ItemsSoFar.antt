@@ -5,20 +5,25 @@ use Rattle.std.proofs.lemmas.List.{append-nil, append_assoc}
 use Rattle.m2_base.specs.Lists.{IsPrefixOf}
 use Rattle.m2_base.specs.declared.rows.Place.{Place}
 use Rattle.m2_base.specs.declared.rows.Row.{Row}
-use Rattle.m2_base.specs.Statics.BlockRows.{at_item, declare_items}
-use Rattle.m2_base.specs.Statics.Contexts.{Context, Scene}
+use Rattle.m2_base.specs.Statics.BlockRows.{at_item, brought_in, declare_items}
+use Rattle.m2_base.specs.Statics.Contexts.{Context, Named, Scene}
 use Rattle.m2_base.specs.Statics.Declarations.{declare}
 use Rattle.m2_base.specs.Statics.Effects.{BlockEffects, Effect, heading_list}
 use Rattle.m2_base.specs.Statics.Items.{Item}
+use Rattle.m2_base.specs.Statics.Layouts.{extended, extended_by}
 use Rattle.m2_base.specs.Statics.Makes.{Makes, with_rows}
 use Rattle.m2_base.specs.declared.trees.declarations.StreamKind.{StreamKind}
 use Rattle.m2_base.proofs.SceneLaws.{with-none, with-twice}
 use Rattle.task_state.specs.Collecting.{result_from}
 use Rattle.task_state.proofs.Lists.{some_is}
 
+-- the context where these rows are made, and these names are brought by the items so far
+abbrev pub after_items : Context → List Row → List (List Named) → Context
+after_items c rows brought = record (with_rows c rows) { layout = extended_by c.layout brought }
+
 -- what an item makes, as number i, after what those before have made
 abbrev pub next_makes : Context → StreamKind → (i : ℕ) → Makes BlockEffects → Item → Makes Effect
-next_makes c kind i made x = declare (at_item (with_rows c made.rows) i) kind x made.value.cell
+next_makes c kind i made x = declare (at_item (after_items c made.rows made.value.brought) i) kind x made.value.cell
 
 -- what the item makes comes behind, and its next cell is the next
 pub record GoesOn (before : Makes BlockEffects) (one : Makes Effect) (after : Makes BlockEffects) : Type 0 where
@@ -28,6 +33,7 @@ pub record GoesOn (before : Makes BlockEffects) (one : Makes Effect) (after : Ma
   pub cell : after.value.cell ≡ one.value.cell
   pub copies : after.value.prologue ≡ before.value.prologue ++ one.value.prologue
   pub headings : after.value.headings ≡ before.value.headings ++ heading_list one.value.heading
+  pub brought : after.value.brought ≡ before.value.brought ++ one.value.brought ∷ []
 
 joined : {A : Type 0} (d m n a : List A) → a ≡ m ++ n → d ++ (a ++ []) ≡ (d ++ (m ++ [])) ++ n
 joined d m n a e =
@@ -36,20 +42,25 @@ joined d m n a e =
 behind : {A : Type 0} (d m n a : List A) → a ≡ m ++ n → d ++ a ≡ (d ++ m) ++ n
 behind d m n a e = ap (λ z. d ++ z) e ∙ sym (append_assoc d m n)
 
-pub no_rows : (c : Context) → with_rows c [] ≡ c
-no_rows c = ap (λ (s : Scene). record { source = c.source; scene = s; layout = c.layout; item = c.item }) (with-none c.scene)
+pub none_after : (c : Context) → after_items c [] [] ≡ c
+none_after c = ap (λ (s : Scene). record { source = c.source; scene = s; layout = c.layout; item = c.item }) (with-none c.scene)
 
-rows_twice : (c : Context) (xs ys : List Row) → with_rows (with_rows c xs) ys ≡ with_rows c (xs ++ (ys ++ []))
-rows_twice c xs ys =
-    ap (λ (s : Scene). record { source = c.source; scene = s; layout = c.layout; item = c.item }) (with-twice c.scene xs ys)
-    ∙ ap (λ zs. with_rows c (xs ++ zs)) (sym (append-nil ys))
+-- what an item leaves to the next
+abbrev next_context : Context → Makes Effect → Context
+next_context c one = brought_in (with_rows c one.rows) one.value.brought
+
+after_twice : (c : Context) (one : Makes Effect) (rows : List Row) (brought : List (List Named))
+    → after_items (next_context c one) rows brought ≡ after_items c (one.rows ++ (rows ++ [])) (one.value.brought ∷ brought)
+after_twice c one rows brought =
+    ap (λ (s : Scene). record { source = c.source; scene = s; layout = extended_by (extended c.layout one.value.brought) brought; item = c.item }) (with-twice c.scene one.rows rows)
+    ∙ ap (λ zs. after_items c (one.rows ++ zs) (one.value.brought ∷ brought)) (sym (append-nil rows))
 
 pub one_more : (before : List Item) (x : Item) (c : Context) (kind : StreamKind) (i cell : ℕ)
     → GoesOn (declare_items c kind i cell before) (next_makes c kind (i + length before) (declare_items c kind i cell before) x) (declare_items c kind i cell (before ++ x ∷ []))
 one_more [] x c kind i cell =
     let number : i ≡ i + 0 = omega arith in
-    let same : declare (at_item c i) kind x cell ≡ declare (at_item (with_rows c []) (i + 0)) kind x cell =
-    λ k. declare (at_item (sym (no_rows c) k) (number k)) kind x cell in
+    let same : declare (at_item c i) kind x cell ≡ declare (at_item (after_items c [] []) (i + 0)) kind x cell =
+    λ k. declare (at_item (sym (none_after c) k) (number k)) kind x cell in
     record {
       rows = append-nil (declare (at_item c i) kind x cell).rows ∙ ap (λ (m : Makes Effect). m.rows) same;
       diags = append-nil (declare (at_item c i) kind x cell).diags ∙ ap (λ (m : Makes Effect). m.diags) same;
@@ -57,16 +68,17 @@ one_more [] x c kind i cell =
       cell = ap (λ (m : Makes Effect). m.value.cell) same;
       copies = append-nil (declare (at_item c i) kind x cell).value.prologue ∙ ap (λ (m : Makes Effect). m.value.prologue) same;
       headings = append-nil (heading_list (declare (at_item c i) kind x cell).value.heading) ∙ ap (λ (m : Makes Effect). heading_list m.value.heading) same;
+      brought = ap (λ (m : Makes Effect). m.value.brought ∷ []) same;
     }
 one_more (y ∷ before) x c kind i cell =
     let first = declare (at_item c i) kind y cell in
-    let d = with_rows c first.rows in
+    let d = next_context c first in
     let some = declare_items d kind (i + 1) first.value.cell before in
     let next = next_makes d kind (i + 1 + length before) some x in
     let on : GoesOn some next (declare_items d kind (i + 1) first.value.cell (before ++ x ∷ [])) = one_more before x d kind (i + 1) first.value.cell in
     let number : i + 1 + length before ≡ i + suc (length before) = omega arith in
     let same : next ≡ next_makes c kind (i + suc (length before)) (declare_items c kind i cell (y ∷ before)) x =
-    λ k. declare (at_item (rows_twice c first.rows some.rows k) (number k)) kind x some.value.cell in
+    λ k. declare (at_item (after_twice c first some.rows some.value.brought k) (number k)) kind x some.value.cell in
     record {
       rows = joined first.rows some.rows next.rows _ on.rows ∙ ap (λ (m : Makes Effect). (first.rows ++ (some.rows ++ [])) ++ m.rows) same;
       diags = joined first.diags some.diags next.diags _ on.diags ∙ ap (λ (m : Makes Effect). (first.diags ++ (some.diags ++ [])) ++ m.diags) same;
@@ -74,6 +86,7 @@ one_more (y ∷ before) x c kind i cell =
       cell = on.cell ∙ ap (λ (m : Makes Effect). m.value.cell) same;
       copies = behind first.value.prologue some.value.prologue next.value.prologue _ on.copies ∙ ap (λ (m : Makes Effect). (first.value.prologue ++ some.value.prologue) ++ m.value.prologue) same;
       headings = behind (heading_list first.value.heading) some.value.headings (heading_list next.value.heading) _ on.headings ∙ ap (λ (m : Makes Effect). (heading_list first.value.heading ++ some.value.headings) ++ heading_list m.value.heading) same;
+      brought = ap (λ bs. first.value.brought ∷ bs) on.brought ∙ ap (λ (m : Makes Effect). first.value.brought ∷ (some.value.brought ++ m.value.brought ∷ [])) same;
     }
 
 -- the rows of the items before are the first of all
@@ -82,7 +95,7 @@ pub first_rows : (before rest : List Item) (c : Context) (kind : StreamKind) (i 
 first_rows [] rest c kind i cell = record { rest = (declare_items c kind i cell rest).rows; joined = refl }
 first_rows (y ∷ before) rest c kind i cell =
     let first = declare (at_item c i) kind y cell in
-    let d = with_rows c first.rows in
+    let d = next_context c first in
     let some = declare_items d kind (i + 1) first.value.cell before in
     let more = first_rows before rest d kind (i + 1) first.value.cell in
     record {
@@ -97,7 +110,7 @@ pub first_makes : (c : Context) (kind : StreamKind) (cell : ℕ) (items : List I
     → next_makes c kind (0 + length (take n items)) (declare_items c kind 0 cell (take n items)) x ≡ declare (at_item c 0) kind x cell
 first_makes c kind cell items x n none =
     (λ k. next_makes c kind (0 + length (take (none k) items)) (declare_items c kind 0 cell (take (none k) items)) x)
-    ∙ (λ k. declare (at_item (no_rows c k) 0) kind x cell)
+    ∙ (λ k. declare (at_item (none_after c k) 0) kind x cell)
 
 pub same_number : (m n : ℕ) → (m == n) ≡ true → m ≡ n
 same_number m n h = grind arith

@@ -2,6 +2,7 @@ pub mod AtWork
 pub mod Finished
 pub mod ItemsHere
 pub mod ItemsSoFar
+pub mod LayoutsOn
 pub mod Lists
 pub mod NextItems
 pub mod Placing

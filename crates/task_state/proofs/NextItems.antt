@@ -1,5 +1,6 @@
 -- An item is declared after those before: what it stands at, what it may enter, and what is declared then.
 use Rattle.std.specs.Prelude.{◌≡◌, ◌≢◌, ℕ, zero, suc, ◌+◌, ◌<◌, ◌≤◌, ◌==◌, Bool, true, false, if◌then◌else◌, List, [], ◌∷◌, ◌++◌, Option, Some, None, drop, filter, flat_map, length, slice_get, take}
+use Rattle.std.specs.List.{AllZip}
 use Rattle.std.specs.Option.{IfSome}
 use Rattle.std.proofs.Common.{refl, sym, ap, subst, ◌∙◌, arith}
 use Rattle.std.proofs.lemmas.List.{append-nil, length-append, length-take-le, take-append-drop, take-take, take_all}
@@ -17,9 +18,10 @@ use Rattle.m2_base.specs.Statics.Contexts.{Context, Source}
 use Rattle.m2_base.specs.Statics.Declarations.{declare}
 use Rattle.m2_base.specs.Statics.Effects.{BlockEffects, Effect, heading_list}
 use Rattle.m2_base.specs.Statics.Items.{Item, items_of}
-use Rattle.m2_base.specs.Statics.Layouts.{Layout, firsts_from, layout_of}
+use Rattle.m2_base.specs.Statics.Bringing.{BringsIts, HaveBrought}
+use Rattle.m2_base.specs.Statics.Layouts.{Layout, all_brought, extended, extended_by, firsts_from, laid_shapes, layout_of, with_brought}
 use Rattle.m2_base.specs.Statics.Lookup.{first_entry}
-use Rattle.m2_base.specs.Statics.Makes.{Makes, with_rows}
+use Rattle.m2_base.specs.Statics.Makes.{Makes}
 use Rattle.m2_base.specs.Statics.ProcedureRows.{is_proc}
 use Rattle.m2_base.specs.Statics.ReadTrees.{IsReadItem}
 use Rattle.m2_base.specs.Statics.Shapes.{Shape, item_shapes}
@@ -33,6 +35,7 @@ use Rattle.m2_base.specs.declared.rows.RowMeaning.TheVariants as meanings
 use Rattle.m2_base.specs.declared.sites.Around.{Around}
 use Rattle.m2_base.specs.declared.sites.Named.{Named}
 use Rattle.m2_base.specs.declared.sites.Site.{Site}
+use Rattle.m2_base.proofs.ImportLaws.{extended_length}
 use Rattle.m2_base.proofs.Kept.{Each-append, Each-map}
 use Rattle.type_rules.specs.Scenes.{Agrees, IsThere, Suits, WhereTold, block_of, hand}
 use Rattle.type_rules.specs.Sites.{SuitsSite, context_of}
@@ -40,15 +43,18 @@ use Rattle.decl_sem.specs.DeclaredItems.{GivesAll}
 use Rattle.decl_sem.specs.ImportedModules.{IsFromBefore}
 use Rattle.decl_sem.specs.Items.{IsAtItem, IsEffect}
 use Rattle.decl_sem.specs.LaidRows.{AreLaid, is_of, kept_name, more_laid, none_laid}
+use Rattle.decl_sem.specs.Layouts.{IsLayoutAt}
 use Rattle.decl_sem.specs.Pieces.{AreNewRows, IsOptionBehind, IsOwned, end_by, item_end}
 use Rattle.decl_sem.specs.declared.declaring.Declared.{Declared}
-use Rattle.decl_sem.proofs.FirstNames.{AreLaid-append}
-use Rattle.decl_sem.proofs.FirstOrdinals.{end_of}
+use Rattle.decl_sem.proofs.LayoutSteps.{laid_on}
 use Rattle.decl_sem.proofs.Pieces.{laid-length}
-use Rattle.task_state.specs.Blocks.{IsBlockOf, block_with, row_count}
-use Rattle.task_state.specs.Collecting.{Collected, IsMade, first_cell_of, first_made, first_result, with_item}
+use Rattle.stream_split.specs.Rooms.{most_rows}
+use Rattle.stream_split.proofs.BroughtRows.{laid_count, laid_few, with_count}
+use Rattle.task_state.specs.Blocks.{IsBlockOf, block_with}
+use Rattle.task_state.specs.Collecting.{CanAdd, Collected, IsMade, first_cell_of, first_made, first_result, with_item}
 use Rattle.task_state.specs.Progress.{HasDeclared}
-use Rattle.task_state.proofs.ItemsSoFar.{GoesOn, first_makes, first_rows, next_makes, one_more, result_next, same_number}
+use Rattle.task_state.proofs.ItemsSoFar.{GoesOn, after_items, first_makes, first_rows, next_makes, one_more, result_next, same_number}
+use Rattle.task_state.proofs.LayoutsOn.{end_within, extended_count, extended_firsts, extended_more}
 use Rattle.task_state.proofs.Lists.{Splits, each_at, some_is, splits}
 use Rattle.task_state.proofs.UnitRows.{context_with}
 
@@ -58,32 +64,32 @@ of_one : (a b : ℕ) (e : Option Named) → is_of a e ≡ true → is_of b e ≡
 of_one a b None h k = absurd (cc)
 of_one a b (Some e) h k = sym (same_number e.ordinal a h) ∙ same_number e.ordinal b k
 
-named_of : (names : List Named) (o name : ℕ) (standard of : Bool) → is_of o (first_entry names name) ≡ of → (if standard then 0 else if of then name else 0) ≢ 0 → is_of o (first_entry names (if standard then 0 else if of then name else 0)) ≡ true
-named_of names o name true of h some = absurd (some refl)
-named_of names o name false true h some = h
-named_of names o name false false h some = absurd (some refl)
+named_of : (l : Layout) (o name : ℕ) (standard of : Bool) → is_of o (first_entry l name) ≡ of → (if standard then 0 else if of then name else 0) ≢ 0 → is_of o (first_entry l (if standard then 0 else if of then name else 0)) ≡ true
+named_of l o name true of h some = absurd (some refl)
+named_of l o name false true h some = h
+named_of l o name false false h some = absurd (some refl)
 
-kept_here : (names : List Named) (o name : ℕ) → kept_name names o name ≢ 0 → is_of o (first_entry names (kept_name names o name)) ≡ true
-kept_here names o name some = named_of names o name (is_standard name) (is_of o (first_entry names name)) refl some
+kept_here : (l : Layout) (o name : ℕ) → kept_name l o name ≢ 0 → is_of o (first_entry l (kept_name l o name)) ≡ true
+kept_here l o name some = named_of l o name (is_standard name) (is_of o (first_entry l name)) refl some
 
-row_at_first : {names : List Named} {o : ℕ} {ss : List Shape} {rs : List Row} → AreLaid names o ss rs → (i : ℕ) (r : Row) → slice_get rs i ≡ Some r → r.name ≢ 0 → is_of (o + i) (first_entry names r.name) ≡ true
+row_at_first : {l : Layout} {o : ℕ} {ss : List Shape} {rs : List Row} → AreLaid l o ss rs → (i : ℕ) (r : Row) → slice_get rs i ≡ Some r → r.name ≢ 0 → is_of (o + i) (first_entry l r.name) ≡ true
 row_at_first none_laid i r e some = absurd (cc)
-row_at_first {names} {o} (more_laid {s = s} {r = x} l more) zero r e some =
+row_at_first {l} {o} (more_laid {s = s} {r = x} one more) zero r e some =
     let same : x ≡ r = some_is x r e in
-    let name : r.name ≡ kept_name names o s.name = ap (λ (z : Row). z.name) (sym same) ∙ l.name in
+    let name : r.name ≡ kept_name l o s.name = ap (λ (z : Row). z.name) (sym same) ∙ one.name in
     let at : o ≡ o + 0 = omega arith in
-    subst (λ (n : ℕ). is_of n (first_entry names r.name) ≡ true) at
-    (subst (λ (n : ℕ). is_of o (first_entry names n) ≡ true) (sym name) (kept_here names o s.name (λ none. some (name ∙ none))))
-row_at_first {names} {o} (more_laid l more) (suc i) r e some =
+    subst (λ (n : ℕ). is_of n (first_entry l r.name) ≡ true) at
+    (subst (λ (n : ℕ). is_of o (first_entry l n) ≡ true) (sym name) (kept_here l o s.name (λ none. some (name ∙ none))))
+row_at_first {l} {o} (more_laid one more) (suc i) r e some =
     let at : o + 1 + i ≡ o + suc i = omega arith in
-    subst (λ (n : ℕ). is_of n (first_entry names r.name) ≡ true) at (row_at_first more i r e some)
+    subst (λ (n : ℕ). is_of n (first_entry l r.name) ≡ true) at (row_at_first more i r e some)
 
-laid_once : {names : List Named} {ss : List Shape} {rs : List Row} → AreLaid names 0 ss rs → HasNoRepeats (λ r. r.name) rs
-laid_once {names} laid i j x y before a b some same =
-    let first : is_of (0 + i) (first_entry names x.name) ≡ true = row_at_first laid i x a some in
-    let second : is_of (0 + j) (first_entry names y.name) ≡ true = row_at_first laid j y b (λ none. some (same ∙ none)) in
-    let both : is_of (0 + j) (first_entry names x.name) ≡ true = subst (λ (n : ℕ). is_of (0 + j) (first_entry names n) ≡ true) (sym same) second in
-    let e = of_one (0 + i) (0 + j) (first_entry names x.name) first both in
+laid_once : {l : Layout} {ss : List Shape} {rs : List Row} → AreLaid l 0 ss rs → HasNoRepeats (λ r. r.name) rs
+laid_once {l} laid i j x y before a b some same =
+    let first : is_of (0 + i) (first_entry l x.name) ≡ true = row_at_first laid i x a some in
+    let second : is_of (0 + j) (first_entry l y.name) ≡ true = row_at_first laid j y b (λ none. some (same ∙ none)) in
+    let both : is_of (0 + j) (first_entry l x.name) ≡ true = subst (λ (n : ℕ). is_of (0 + j) (first_entry l n) ≡ true) (sym same) second in
+    let e = of_one (0 + i) (0 + j) (first_entry l x.name) first both in
     omega (arith, e, before)
 
 -- ** Rows that are made
@@ -166,14 +172,14 @@ module _ (f : Frame) (a : Around) (tree : Stream) (m : Collected) (block : IsBlo
 
 -- ** The site
 
--- a site in the block
-pub record IsSiteOf (s : Site) (g : Setting) (a : Around) (tree : Stream) (item : Option ℕ) : Type 0 where
+-- a site in the block, with this layout
+pub record IsSiteOf (s : Site) (g : Setting) (a : Around) (l : Layout) (item : Option ℕ) : Type 0 where
   pub texts : s.texts.now ≡ g.texts
   pub around : s.around.now ≡ a
-  pub layout : s.layout.now ≡ layout_of tree
+  pub layout : s.layout.now ≡ l
   pub item_is : s.item ≡ item
 
-module _ (f : Frame) (s : Site) (a : Around) (tree : Stream) (m : Collected) (item : Option ℕ) (block : IsBlockOf f.setting a tree) (is : IsSiteOf s f.setting a tree item) (so_far : HasDeclared f a tree m) where
+module _ (f : Frame) (s : Site) (a : Around) (tree : Stream) (m : Collected) (item : Option ℕ) (block : IsBlockOf f.setting a tree) (is : IsSiteOf s f.setting a m.layout item) (so_far : HasDeclared f a tree m) where
   pub suits : (item ≡ None → f.closed ≡ true) → (f.closed ≡ true → m.count ≡ length (items_of tree)) → SuitsSite f s
   suits done all =
       let unit = block.unit in
@@ -197,16 +203,23 @@ module _ (f : Frame) (s : Site) (a : Around) (tree : Stream) (m : Collected) (it
         done = λ none. done (sym is.item_is ∙ none);
       }
 
+-- What is known of an item that is declared at this site.
+pub record IsDeclaredAt (f : Frame) (s : Site) (tree : Stream) (x : Item) (cell : ℕ) (d : Declared) : Type 0 where
+  pub laid : AreLaid (extended s.layout.now d.effect.brought) (length f.entered) (with_brought (item_shapes x) d.effect.brought) d.rows.items
+  pub of_item : Each (λ b. s.item ≡ Some b.item) d.effect.brought
+  pub next : (brought : List (List Named)) → s.item ≡ Some (length brought) → IsLayoutAt s.layout.now tree brought → IsLayoutAt (extended s.layout.now d.effect.brought) tree (brought ++ d.effect.brought ∷ [])
+  pub new_rows : AreNewRows f (item_end s) (length f.entered) d.rows.items
+  pub told : WhereTold f (λ held. held.rows ≡ [] → GivesAll d (declare (context_of f held s) tree.kind x cell))
+
 -- ** Before an item
 
-module _ (f : Frame) (s : Site) (a : Around) (tree : Stream) (m : Collected) (x : Item) (block : IsBlockOf f.setting a tree) (is : IsSiteOf s f.setting a tree (Some m.count))
+module _ (f : Frame) (s : Site) (a : Around) (tree : Stream) (m : Collected) (x : Item) (block : IsBlockOf f.setting a tree) (is : IsSiteOf s f.setting a m.layout (Some m.count))
     (here : slice_get (items_of tree) m.count ≡ Some x) (open_yet : f.closed ≡ false) (so_far : HasDeclared f a tree m) where
   parts : Splits (items_of tree) m.count x
   parts = splits (items_of tree) m.count x here
 
   pub at_next : IsAtItem f s tree x m.cell m.procedures
   at_next =
-      let names = ap (λ (l : Layout). l.names) is.layout in
       let few = block.few in
       record {
         suits = suits f s a tree m (Some m.count) block is so_far (λ none. absurd (cc)) (λ closed. absurd (let bad : true ≡ false = sym closed ∙ open_yet in cc));
@@ -216,8 +229,10 @@ module _ (f : Frame) (s : Site) (a : Around) (tree : Stream) (m : Collected) (x 
         rest = drop (suc m.count) (items_of tree);
         items = parts.all;
         item = is.item_is ∙ ap Some (sym parts.count);
-        layout = is.layout;
-        entered = subst (λ (ns : List Named). AreLaid ns 0 (flat_map item_shapes (take m.count (items_of tree))) f.entered) (sym names) so_far.laid;
+        brought = so_far.brought;
+        of_each = so_far.of_each ∙ sym parts.count;
+        layout = subst (λ (l : Layout). IsLayoutAt l tree so_far.brought) (sym is.layout) so_far.layout;
+        entered = subst (λ (l : Layout). AreLaid l 0 (laid_shapes (take m.count (items_of tree)) so_far.brought) f.entered) (sym is.layout) so_far.laid;
         owned = so_far.owned;
         few = omega (arith, few);
         read = subst (λ (u : UnitTexts). IsReadItem u.names x) (sym is.texts) (each_at (IsReadItem f.setting.texts.names) (items_of tree) m.count x block.items here);
@@ -229,8 +244,7 @@ module _ (f : Frame) (s : Site) (a : Around) (tree : Stream) (m : Collected) (x 
 
   -- ** After it
 
-  module _ (d : Declared) (laid : AreLaid s.layout.now.names (length f.entered) (item_shapes x) d.rows.items) (new : AreNewRows f (item_end s) (length f.entered) d.rows.items)
-      (told : WhereTold f (λ held. held.rows ≡ [] → GivesAll d (declare (context_of f held s) tree.kind x m.cell))) where
+  module _ (d : Declared) (p : IsDeclaredAt f s tree x m.cell d) where
     rows : List Row
     rows = d.rows.items
 
@@ -255,40 +269,85 @@ module _ (f : Frame) (s : Site) (a : Around) (tree : Stream) (m : Collected) (x 
     next_items : take m.count (items_of tree) ++ x ∷ [] ≡ take (m.count + 1) (items_of tree)
     next_items = sym parts.next ∙ ap (λ n. take n (items_of tree)) number
 
-    shapes : flat_map item_shapes (take m.count (items_of tree)) ++ item_shapes x ≡ flat_map item_shapes (take (m.count + 1) (items_of tree))
-    shapes =
-        ap (λ ss. flat_map item_shapes (take m.count (items_of tree)) ++ ss) (sym (append-nil (item_shapes x)))
-        ∙ sym (flat_map-append item_shapes (take m.count (items_of tree)) (x ∷ []))
-        ∙ ap (flat_map item_shapes) next_items
+    -- the layout with what the item brings
+    abbrev layout_next : Layout
+    layout_next = extended m.layout d.effect.brought
 
-    laid_on : AreLaid (layout_of tree).names 0 (flat_map item_shapes (take (m.count + 1) (items_of tree))) (f.entered ++ d.rows.items)
-    laid_on =
-        let layout : s.layout.now.names ≡ (layout_of tree).names = ap (λ (l : Layout). l.names) is.layout in
-        subst (λ ss. AreLaid (layout_of tree).names 0 ss (f.entered ++ d.rows.items)) shapes
-        (AreLaid-append so_far.laid (subst (λ o. AreLaid (layout_of tree).names o (item_shapes x) d.rows.items) (let e : length f.entered ≡ 0 + length f.entered = omega arith in e)
-        (subst (λ ns. AreLaid ns (length f.entered) (item_shapes x) d.rows.items) layout laid)))
+    abbrev brought_next : List (List Named)
+    brought_next = so_far.brought ++ d.effect.brought ∷ []
 
-    fit : length (f.entered ++ d.rows.items) ≤ row_count tree
+    next_each : length (so_far.brought ++ d.effect.brought ∷ []) ≡ m.count + 1
+    next_each = let l = length-append so_far.brought (d.effect.brought ∷ []) in let e = so_far.of_each in omega (arith, l, e)
+
+    layout_on : IsLayoutAt (extended m.layout d.effect.brought) tree (so_far.brought ++ d.effect.brought ∷ [])
+    layout_on =
+        subst (λ (l : Layout). IsLayoutAt (extended l d.effect.brought) tree (so_far.brought ++ d.effect.brought ∷ [])) is.layout
+        (p.next so_far.brought (is.item_is ∙ ap Some (sym so_far.of_each)) (subst (λ (l : Layout). IsLayoutAt l tree so_far.brought) (sym is.layout) so_far.layout))
+
+    laid_next : AreLaid (extended m.layout d.effect.brought) 0 (laid_shapes (take (m.count + 1) (items_of tree)) (so_far.brought ++ d.effect.brought ∷ [])) (f.entered ++ d.rows.items)
+    laid_next =
+        subst (λ items. AreLaid (extended m.layout d.effect.brought) 0 (laid_shapes items (so_far.brought ++ d.effect.brought ∷ [])) (f.entered ++ d.rows.items)) next_items
+        (laid_on (take m.count (items_of tree)) (drop (suc m.count) (items_of tree)) x so_far.layout layout_on parts.all (so_far.of_each ∙ sym parts.count) so_far.laid
+        (subst (λ (l : Layout). AreLaid (extended l d.effect.brought) (length f.entered) (with_brought (item_shapes x) d.effect.brought) d.rows.items) is.layout p.laid))
+
+    -- how many names are brought
+    count_brought : length m.layout.brought ≡ length (all_brought so_far.brought)
+    count_brought = let e = ap (λ (l : Layout). length l.brought) so_far.layout.layout in let n = extended_count (layout_of tree) so_far.brought in omega (arith, e, n)
+
+    has_brought : HaveBrought (take (m.count + 1) (items_of tree)) (so_far.brought ++ d.effect.brought ∷ [])
+    has_brought =
+        let l = layout_on in
+        let e = ap (λ (l : Layout). length l.brought) l.layout in
+        let n = extended_count (layout_of tree) (so_far.brought ++ d.effect.brought ∷ []) in
+        let few = l.few in
+        record {
+          each = subst (λ (n : ℕ). AllZip BringsIts (take n (items_of tree)) (so_far.brought ++ d.effect.brought ∷ [])) next_each l.only;
+          few = omega (arith, e, n, few);
+        }
+
+    fit : length (f.entered ++ d.rows.items) ≤ most_rows tree
     fit =
-        let n = m.count + 1 in
-        let e = laid-length laid_on in
-        let all : items_of tree ≡ take n (items_of tree) ++ drop n (items_of tree) = sym (take-append-drop n (items_of tree)) in
-        let c = ap (λ xs. length (flat_map item_shapes xs)) all in
-        let g = ap length (flat_map-append item_shapes (take n (items_of tree)) (drop n (items_of tree))) in
-        let l = length-append (flat_map item_shapes (take n (items_of tree))) (flat_map item_shapes (drop n (items_of tree))) in
-        omega (arith, e, c, g, l)
+        let e = laid-length laid_next in
+        let most = laid_few tree (m.count + 1) (so_far.brought ++ d.effect.brought ∷ []) has_brought in
+        omega (arith, e, most)
 
-    end_is : item_end s ≡ length (f.entered ++ d.rows.items)
-    end_is =
+    -- so far
+    entered_count : length f.entered ≡ length (flat_map item_shapes (take m.count (items_of tree))) + length m.layout.brought
+    entered_count =
+        let e = laid-length so_far.laid in
+        let n = laid_count (take m.count (items_of tree)) so_far.brought (subst (λ (n : ℕ). AllZip BringsIts (take n (items_of tree)) so_far.brought) so_far.of_each so_far.layout.only) in
+        let c = count_brought in
+        omega (arith, e, n, c)
+
+    end_first : item_end s ≤ length (f.entered ++ d.rows.items)
+    end_first =
         let before = take m.count (items_of tree) in
         let at : s.item ≡ Some (length before) = is.item_is ∙ ap Some (sym parts.count) in
-        let here : item_end s ≡ end_by (firsts_from 0 (before ++ x ∷ drop (suc m.count) (items_of tree))) (Some (length before)) =
-        (λ k. end_by (is.layout k).firsts (at k)) ∙ ap (λ xs. end_by (firsts_from 0 xs) (Some (length before))) parts.all in
-        let e = here ∙ end_of before (drop (suc m.count) (items_of tree)) x 0 in
-        let p = laid-length so_far.laid in
-        let q = laid-length laid in
+        let here : item_end s ≡ end_by m.layout (Some (length before)) = λ k. end_by (is.layout k) (at k) in
+        let firsts : m.layout.firsts ≡ firsts_from 0 (items_of tree) = ap (λ (l : Layout). l.firsts) so_far.layout.layout ∙ extended_firsts (layout_of tree) so_far.brought in
+        let within = end_within m.layout (items_of tree) before (drop (suc m.count) (items_of tree)) x firsts parts.all in
+        let entered = entered_count in
+        let q = laid-length p.laid in
+        let w = with_count (item_shapes x) d.effect.brought in
         let l = length-append f.entered d.rows.items in
-        omega (arith, e, p, q, l)
+        omega (arith, here, within, entered, q, w, l)
+
+    -- the names can be added
+    order_by : (n : ℕ) (names : List Named) → n ≡ m.count → Each (λ b. b.item < n) names → Each (λ b. b.item ≤ m.count) names
+    order_by n [] e h = tt
+    order_by n (b ∷ names) e h = (let low : b.item < n = h.0 in omega (arith, low, e), order_by n names e h.1)
+
+    items_by : (names : List Named) → Each (λ b. s.item ≡ Some b.item) names → Each (λ b. b.item ≡ m.count) names
+    items_by [] h = tt
+    items_by (b ∷ names) h = (sym (some_is m.count b.item (sym is.item_is ∙ h.0)), items_by names h.1)
+
+    pub can_add : CanAdd m d
+    can_add =
+        record {
+          item = items_by d.effect.brought p.of_item;
+          order = order_by (length so_far.brought) m.layout.brought so_far.of_each so_far.layout.earlier;
+          few = (let few = layout_on.few in let n = extended_length m.layout d.effect.brought in omega (arith, few, n));
+        }
 
     -- where no text has a syntax error
     module _ (tables : List (List Row)) (finished : IsFinished f.setting.texts tables) where
@@ -296,7 +355,10 @@ module _ (f : Frame) (s : Site) (a : Around) (tree : Stream) (m : Collected) (x 
       source = source_of f.setting.texts
 
       same_context : context_of f (hand tables []) s
-          ≡ at_item (with_rows (block_context (source_of f.setting.texts) (take f.setting.fills tables) (block_with a tree)) (first_made (source_of f.setting.texts) (take f.setting.fills tables) (block_with a tree) m.count).rows) (0 + length (take m.count (items_of tree)))
+          ≡ at_item
+          (after_items (block_context (source_of f.setting.texts) (take f.setting.fills tables) (block_with a tree)) (first_made (source_of f.setting.texts) (take f.setting.fills tables) (block_with a tree) m.count).rows
+          (first_made (source_of f.setting.texts) (take f.setting.fills tables) (block_with a tree) m.count).value.brought)
+          (0 + length (take m.count (items_of tree)))
       same_context =
           let so = so_far.told tables finished in
           let b = block_with a tree in
@@ -309,22 +371,25 @@ module _ (f : Frame) (s : Site) (a : Around) (tree : Stream) (m : Collected) (x 
           let fills = block.fills in
           let long : length (take n tables) ≡ n = length-take-le n tables (omega (arith, scopes)) in
           let twice : take a.scope (take n tables) ≡ take n tables = take-take a.scope n tables (omega (arith, fills)) ∙ ap (λ (k : ℕ). take k tables) fills in
+          let brought = (first_made (source_of f.setting.texts) (take n tables) b m.count).value.brought in
+          let layout : s.layout.now ≡ extended_by (layout_of tree) brought = is.layout ∙ so.layout in
           let left : context_of f (hand tables []) s
-          ≡ record { source = source_of f.setting.texts; scene = record { block = block_of a; tables = take n tables ++ made ∷ [] }; layout = (layout_of tree).names; item = Some (0 + length (take m.count (items_of tree))) } =
+          ≡ record { source = source_of f.setting.texts; scene = record { block = block_of a; tables = take n tables ++ made ∷ [] }; layout = extended_by (layout_of tree) brought; item = Some (0 + length (take m.count (items_of tree))) } =
           λ k. record {
             source = source_of (is.texts k);
             scene = record { block = block_of (is.around k); tables = take n tables ++ entered k ∷ [] };
-            layout = (is.layout k).names;
+            layout = layout k;
             item = number k;
           } in
           let right = context_with (source_of f.setting.texts) (take n tables) b made (omega (arith, long, fills)) in
           let again : take a.scope (take n tables) ++ made ∷ [] ≡ take n tables ++ made ∷ [] = ap (λ ts. ts ++ made ∷ []) twice in
+          let in_item : Context → Context = λ c. at_item (record c { layout = extended_by (layout_of tree) brought }) (0 + length (take m.count (items_of tree))) in
           left
-          ∙ sym (ap (λ (ts : List (List Row)). at_item (record { source = source_of f.setting.texts; scene = record { block = block_of a; tables = ts }; layout = (layout_of tree).names; item = None }) (0 + length (take m.count (items_of tree)))) again)
-          ∙ sym (ap (λ (c : Context). at_item c (0 + length (take m.count (items_of tree)))) right)
+          ∙ sym (ap (λ (ts : List (List Row)). in_item (record { source = source_of f.setting.texts; scene = record { block = block_of a; tables = ts }; layout = layout_of tree; item = None })) again)
+          ∙ sym (ap in_item right)
 
       gives : GivesAll d (declare (context_of f (hand tables []) s) tree.kind x m.cell)
-      gives = told (hand tables []) (record { closed = λ _. refl; types = tt }) finished refl
+      gives = p.told (hand tables []) (record { closed = λ _. refl; types = tt }) finished refl
 
       same_makes : declare (context_of f (hand tables []) s) tree.kind x m.cell
           ≡ next_makes (block_context (source_of f.setting.texts) (take f.setting.fills tables) (block_with a tree)) tree.kind (0 + length (take m.count (items_of tree))) (first_made (source_of f.setting.texts) (take f.setting.fills tables) (block_with a tree) m.count) x
@@ -354,6 +419,10 @@ module _ (f : Frame) (s : Site) (a : Around) (tree : Stream) (m : Collected) (x 
           let so = so_far.told tables finished in
           let e = gives.effect in
           record {
+            layout =
+                (λ k. extended (so.layout k) (e k).brought)
+                ∙ sym (extended_more (layout_of tree) (first_made (source_of f.setting.texts) (take f.setting.fills tables) (block_with a tree) m.count).value.brought (declare (context_of f (hand tables []) s) tree.kind x m.cell).value.brought)
+                ∙ ap (extended_by (layout_of tree)) (sym on.brought);
             rows = (λ k. so.rows k ++ gives.rows k) ∙ sym on.rows;
             cell = ap (λ (v : Effect). v.cell) e ∙ sym on.cell;
             returns = (λ k. if m.count == 0 then (e k).result else m.returns) ∙ next_result;
@@ -376,8 +445,8 @@ module _ (f : Frame) (s : Site) (a : Around) (tree : Stream) (m : Collected) (x 
         record {
           open_yet = open_yet;
           room = (let l = length-append f.entered d.rows.items in let e = fit in let r = block.room in omega (arith, l, e, r));
-          formed = formed_at f (item_end s) (length f.entered) d.rows.items new;
-          once = laid_once laid_on;
+          formed = formed_at f (item_end s) (length f.entered) d.rows.items p.new_rows;
+          once = laid_once laid_next;
           next = λ tables finished. next_front tables finished;
         }
 
@@ -392,10 +461,14 @@ module _ (f : Frame) (s : Site) (a : Around) (tree : Stream) (m : Collected) (x 
         let within = parts.within in
         record {
           within = omega (arith, within);
-          laid = laid_on;
+          brought = so_far.brought ++ d.effect.brought ∷ [];
+          of_each = next_each;
+          layout = layout_on;
+          laid = laid_next;
           owned = Each-append (λ r. IsOwned (length (f.entered ++ d.rows.items)) (row_meaning r)) f.entered d.rows.items
               (Each-map (λ r. IsOwned (length f.entered) (row_meaning r)) (λ r. IsOwned (length (f.entered ++ d.rows.items)) (row_meaning r)) f.entered (λ r. owned_more (length f.entered) (length (f.entered ++ d.rows.items)) more (row_meaning r)) so_far.owned)
-              (subst (λ limit. Each (λ r. IsOwned limit (row_meaning r)) d.rows.items) end_is (owned_rows f (item_end s) (length f.entered) d.rows.items new));
+              (Each-map (λ r. IsOwned (item_end s) (row_meaning r)) (λ r. IsOwned (length (f.entered ++ d.rows.items)) (row_meaning r)) d.rows.items (λ r. owned_more (item_end s) (length (f.entered ++ d.rows.items)) end_first (row_meaning r))
+              (owned_rows f (item_end s) (length f.entered) d.rows.items p.new_rows));
           cells = effect.cell;
           procedures =
               (let l = ap length (filter-append is_proc f.entered d.rows.items) in

@@ -6,7 +6,7 @@ use Rattle.std.proofs.Common.{Global, refl, sym, ap, subst, ◌∙◌}
 use Rattle.m2_base.specs.Lists.{Each, WhereKept}
 use Rattle.m2_base.specs.Scopes.{CanComplete}
 use Rattle.m2_base.specs.States.{IsAmong, Look, State}
-use Rattle.m2_base.specs.Statics.Layouts.{layout_of}
+use Rattle.m2_base.specs.Statics.Layouts.{Layout, layout_of}
 use Rattle.m2_base.specs.Trees.{Stream}
 use Rattle.m2_base.specs.Views.{stream_view}
 use Rattle.m2_base.specs.declared.notes.Answer.{Answer}
@@ -88,19 +88,18 @@ module _ (st : State) (t : Task) (far : IsAsFar st t) (tokens : List Token) (unr
               begun =
                   record {
                     block = block;
-                    layout = fresh.layout ∙ ap (λ (x : HeldStream). layout_of (stream_view x)) (sym fresh.tree_is);
                     closed = unread.open_yet ∙ sym fresh.closed;
-                    unplaced = λ _. record { entered = unread.entered; open_yet = fresh.closed };
+                    unplaced = λ _. record { entered = unread.entered; collected = fresh.collected ∙ ap (λ (x : HeldStream). none_from (layout_of (stream_view x)) 0) (sym fresh.tree_is); open_yet = fresh.closed };
                     declared = λ placed. absurd (let bad : true ≡ false = sym placed ∙ fresh.placed in cc);
                     all = λ closed. absurd (let bad : true ≡ false = sym closed ∙ fresh.closed in cc);
                     stated = subst (λ (o : Option Stating). IfSome o (λ x. (w.closed ≡ true) × HasStated st.frame t.around w.tree x)) (sym fresh.stating) tt;
                   };
             };
-        shown = subst (λ (xs : List Answer). WhereKept st.looks (λ looks. Each (IsAmong looks) xs)) (no_answers w.collected w.stating fresh.collected fresh.stating) (shown_none st.looks);
+        shown = subst (λ (xs : List Answer). WhereKept st.looks (λ looks. Each (IsAmong looks) xs)) (no_answers (layout_of (stream_view tree)) w.collected w.stating fresh.collected fresh.stating) (shown_none st.looks);
       }
     where
-      no_answers : (m : Collected) (x : Option Stating) → m ≡ none_from 0 → x ≡ None → [] ≡ m.answers ++ stated_answers x
-      no_answers m x e n = λ k. (sym e k).answers ++ stated_answers (sym n k)
+      no_answers : (l : Layout) (m : Collected) (x : Option Stating) → m ≡ none_from l 0 → x ≡ None → [] ≡ m.answers ++ stated_answers x
+      no_answers l m x e n = λ k. (sym e k).answers ++ stated_answers (sym n k)
 
   -- it has a fault, and its unit has no finished rows
   pub fault_completes : (fault : StreamFault) → ((x : Stream) → parsed.SpellsStream t.kind x tokens → Ok x ≡ Err fault) → CanComplete st

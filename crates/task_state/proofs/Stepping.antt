@@ -9,7 +9,7 @@ use Rattle.m2_base.specs.Scopes.{CanComplete, CanEnter, Completed, Entered}
 use Rattle.m2_base.specs.States.{Frame, IsAmong, Keeps, Look, Setting, State}
 use Rattle.m2_base.specs.Statics.BlockRows.{at_item, context_of as block_context, declare_block}
 use Rattle.m2_base.specs.Statics.Closing.{Implemented, all_implemented, block_name, closing_diags, differing, differs_at, has_missing, implementation_diags, is_implemented, is_missing, name_diags, own_diags}
-use Rattle.m2_base.specs.Statics.Contexts.{Context, Source, diag}
+use Rattle.m2_base.specs.Statics.Contexts.{Context, Source, diag, no_layout}
 use Rattle.m2_base.specs.Statics.Declarations.{declare}
 use Rattle.m2_base.specs.Statics.Diagnostics.{heading_differs, not_implemented}
 use Rattle.m2_base.specs.Statics.Effects.{BlockEffects}
@@ -40,20 +40,23 @@ use Rattle.stmt_sem.specs.BlockCode.{bound_result, in_statements, result_by}
 use Rattle.stmt_sem.specs.Bodies.{Adding, Built, IsBuilt, left}
 use Rattle.stmt_sem.specs.Stating.{Returns}
 use Rattle.task_state.specs.Blocks.{block_with}
-use Rattle.task_state.specs.Collecting.{Collected, first_cell_of, first_made, result_from, returned, with_item}
+use Rattle.task_state.specs.Collecting.{CanAdd, Collected, first_cell_of, first_made, result_from, returned, with_item}
 use Rattle.task_state.specs.Progress.{HasDeclared, HasStated}
 use Rattle.task_state.specs.Steps.{IsComplete, IsDeclaring, IsInHand, IsStating}
 use Rattle.task_state.specs.declared.stages.Block.{Block}
 use Rattle.task_state.specs.declared.stages.Stating.{Stating}
-use Rattle.task_state.proofs.NextItems.{IsSiteOf, all_made, at_next, entered_all, frame_with, may_complete, may_enter, one_declared, suits}
+use Rattle.task_state.proofs.NextItems.{IsDeclaredAt, IsSiteOf, all_made, at_next, can_add, entered_all, frame_with, may_complete, may_enter, one_declared, suits}
 use Rattle.task_state.proofs.Lists.{shown_more, shown_still}
 
--- the site of a block in hand
-pub site_of : (g : Setting) (bl : Block) (item : Option ℕ) → IsInHand g bl → IsSiteOf (record { texts = bl.texts; around = bl.around; layout = bl.layout; item = item }) g bl.around.now (stream_view bl.tree.now) item
-site_of g bl item h = record { texts = h.texts; around = refl; layout = h.layout; item_is = refl }
+-- A site in the block in hand, with the layout that was collected.
+pub record IsSiteIn (s : Site) (bl : Block) (m : Collected) (item : Option ℕ) : Type 0 where
+  pub texts : s.texts.now ≡ bl.texts.now
+  pub around : s.around.now ≡ bl.around.now
+  pub layout : s.layout.now ≡ m.layout
+  pub item_is : s.item ≡ item
 
-abbrev site_at : Block → Option ℕ → Site
-site_at bl item = record { texts = bl.texts; around = bl.around; layout = bl.layout; item = item }
+pub site_of : (g : Setting) (s : Site) (bl : Block) (m : Collected) (item : Option ℕ) → IsInHand g bl → IsSiteIn s bl m item → IsSiteOf s g bl.around.now m.layout item
+site_of g s bl m item h is = record { texts = is.texts ∙ h.texts; around = is.around; layout = is.layout; item_is = is.item_is }
 
 -- ** Items
 
@@ -67,17 +70,26 @@ declaring_still {a} {b} {looks} bl m keeps far =
       shown = shown_still a.looks b.looks looks m.answers keeps.grows far.shown;
     }
 
-pub at_item_in_hand : (a : State) (bl : Block) (m : Collected) (x : Item) → IsDeclaring a bl m → slice_get (items_of (stream_view bl.tree.now)) m.count ≡ Some x
-    → IsAtItem a.frame (record { texts = bl.texts; around = bl.around; layout = bl.layout; item = Some m.count }) (stream_view bl.tree.now) x m.cell m.procedures
-at_item_in_hand a bl m x far here =
-    at_next a.frame (site_at bl (Some m.count)) bl.around.now (stream_view bl.tree.now) m x far.in_hand.block (site_of a.frame.setting bl (Some m.count) far.in_hand) here far.open_yet far.declared
+pub at_item_in_hand : (a : State) (s : Site) (bl : Block) (m : Collected) (x : Item) → IsSiteIn s bl m (Some m.count) → IsDeclaring a bl m → slice_get (items_of (stream_view bl.tree.now)) m.count ≡ Some x
+    → IsAtItem a.frame s (stream_view bl.tree.now) x m.cell m.procedures
+at_item_in_hand a s bl m x is far here =
+    at_next a.frame s bl.around.now (stream_view bl.tree.now) m x far.in_hand.block (site_of a.frame.setting s bl m (Some m.count) far.in_hand is) here far.open_yet far.declared
 
-module _ {a b : State} (bl : Block) (m : Collected) (x : Item) (d : Declared) (far : IsDeclaring a bl m) (here : slice_get (items_of (stream_view bl.tree.now)) m.count ≡ Some x)
-    (p : DeclaresItem a b (record { texts = bl.texts; around = bl.around; layout = bl.layout; item = Some m.count }) (Ok (Known d)) (item_shapes x) (λ c. declare c bl.tree.now.kind x m.cell)) where
+module _ {a b : State} (s : Site) (bl : Block) (m : Collected) (x : Item) (d : Declared) (is : IsSiteIn s bl m (Some m.count)) (far : IsDeclaring a bl m) (here : slice_get (items_of (stream_view bl.tree.now)) m.count ≡ Some x)
+    (p : DeclaresItem a b s (stream_view bl.tree.now) (Ok (Known d)) (item_shapes x) (λ c. declare c bl.tree.now.kind x m.cell)) where
+  -- what is known of it
+  declared_here : IsDeclaredAt a.frame s (stream_view bl.tree.now) x m.cell d
+  declared_here = record { laid = p.laid; of_item = p.of_item; next = p.next; new_rows = p.new_rows; told = p.told }
+
   pub item_enters : CanEnter b d.rows.items
   item_enters =
-      may_enter a.frame (site_at bl (Some m.count)) bl.around.now (stream_view bl.tree.now) m x far.in_hand.block (site_of a.frame.setting bl (Some m.count) far.in_hand) here far.open_yet far.declared
-      d p.laid p.new_rows p.told b p.keeps.frame
+      may_enter a.frame s bl.around.now (stream_view bl.tree.now) m x far.in_hand.block (site_of a.frame.setting s bl m (Some m.count) far.in_hand is) here far.open_yet far.declared
+      d declared_here b p.keeps.frame
+
+  pub item_added : CanAdd m d
+  item_added =
+      can_add a.frame s bl.around.now (stream_view bl.tree.now) m x far.in_hand.block (site_of a.frame.setting s bl m (Some m.count) far.in_hand is) here far.open_yet far.declared
+      d declared_here
 
   pub item_taken : (c : State) → Entered b c d.rows.items → IsDeclaring c bl (with_item m d)
   item_taken c entered =
@@ -87,31 +99,34 @@ module _ {a b : State} (bl : Block) (m : Collected) (x : Item) (d : Declared) (f
         in_hand = subst (λ (f : Frame). IsInHand f.setting bl) (sym frame) far.in_hand;
         open_yet = ap (λ (f : Frame). f.closed) frame ∙ far.open_yet;
         declared = subst (λ (f : Frame). HasDeclared f bl.around.now tree (with_item m d)) (sym frame)
-            (one_declared a.frame (site_at bl (Some m.count)) bl.around.now tree m x far.in_hand.block (site_of a.frame.setting bl (Some m.count) far.in_hand) here far.open_yet far.declared
-            d p.laid p.new_rows p.told p.effect);
+            (one_declared a.frame s bl.around.now tree m x far.in_hand.block (site_of a.frame.setting s bl m (Some m.count) far.in_hand is) here far.open_yet far.declared
+            d declared_here p.effect);
         shown = subst (λ (o : Option (List Look)). WhereKept o (λ looks. Each (IsAmong looks) (m.answers ++ d.notes.answers.items))) (sym entered.looks)
             (shown_more a.looks b.looks p.looks m.answers d.notes.answers.items p.keeps.grows far.shown p.shown);
       }
 
 -- ** An item, by what the code has collected
 
-module _ (a : State) (bl : Block) (m v : Collected) (x : Item) (same : v ≡ m) (far : IsDeclaring a bl m) (here : slice_get (items_of (stream_view bl.tree.now)) m.count ≡ Some x) where
+module _ (a : State) (s : Site) (bl : Block) (m v : Collected) (x : Item) (same : v ≡ m) (is : IsSiteIn s bl v (Some v.count)) (far : IsDeclaring a bl m) (here : slice_get (items_of (stream_view bl.tree.now)) m.count ≡ Some x) where
   far_by : IsDeclaring a bl v
   far_by = subst (λ (z : Collected). IsDeclaring a bl z) (sym same) far
 
   here_by : slice_get (items_of (stream_view bl.tree.now)) v.count ≡ Some x
   here_by = subst (λ (z : Collected). slice_get (items_of (stream_view bl.tree.now)) z.count ≡ Some x) (sym same) here
 
-  pub at_item_by : IsAtItem a.frame (record { texts = bl.texts; around = bl.around; layout = bl.layout; item = Some v.count }) (stream_view bl.tree.now) x v.cell v.procedures
-  at_item_by = at_item_in_hand a bl v x far_by here_by
+  pub at_item_by : IsAtItem a.frame s (stream_view bl.tree.now) x v.cell v.procedures
+  at_item_by = at_item_in_hand a s bl v x is far_by here_by
 
-  module _ (b : State) (d : Declared) (p : DeclaresItem a b (record { texts = bl.texts; around = bl.around; layout = bl.layout; item = Some v.count }) (Ok (Known d)) (item_shapes x) (λ c. declare c bl.tree.now.kind x v.cell)) where
+  module _ (b : State) (d : Declared) (p : DeclaresItem a b s (stream_view bl.tree.now) (Ok (Known d)) (item_shapes x) (λ c. declare c bl.tree.now.kind x v.cell)) where
     pub enters_by : CanEnter b d.rows.items
-    enters_by = item_enters bl v x d far_by here_by p
+    enters_by = item_enters s bl v x d is far_by here_by p
+
+    pub added_by : CanAdd m d
+    added_by = subst (λ (z : Collected). CanAdd z d) same (item_added s bl v x d is far_by here_by p)
 
     pub taken_by : (c : State) (n : Collected) → Entered b c d.rows.items → n ≡ with_item m d → IsDeclaring c bl n
     taken_by c n entered next =
-        subst (λ (z : Collected). IsDeclaring c bl z) (ap (λ (z : Collected). with_item z d) same ∙ sym next) (item_taken bl v x d far_by here_by p c entered)
+        subst (λ (z : Collected). IsDeclaring c bl z) (ap (λ (z : Collected). with_item z d) same ∙ sym next) (item_taken s bl v x d is far_by here_by p c entered)
 
 -- nothing was kept
 pub declaring_kept : (a b c : State) (bl : Block) (m n : Collected) (looks : List Look) → Keeps a b looks → c ≡ b → n ≡ m → IsDeclaring a bl m → IsDeclaring c bl n
@@ -135,7 +150,7 @@ completed {a} {b} bl m far all done =
       in_hand = subst (λ (f : Frame). IsInHand f.setting bl) (sym done.frame) far.in_hand;
       closed = ap (λ (f : Frame). f.closed) done.frame;
       declared = subst (λ (f : Frame). HasDeclared f bl.around.now (stream_view bl.tree.now) m) (sym done.frame)
-          (record { within = d.within; laid = d.laid; owned = d.owned; cells = d.cells; procedures = d.procedures; there = there_closed a.frame m.returns d.there; told = d.told });
+          (record { within = d.within; brought = d.brought; of_each = d.of_each; layout = d.layout; laid = d.laid; owned = d.owned; cells = d.cells; procedures = d.procedures; there = there_closed a.frame m.returns d.there; told = d.told });
       all = all;
       shown = subst (λ (o : Option (List Look)). WhereKept o (λ looks. Each (IsAmong looks) m.answers)) (sym done.looks) far.shown;
     }
@@ -184,15 +199,15 @@ closing_in : (c : Context) (s : Stream) → closing_diags (in_statements c) s �
 closing_in c s = λ k. name_in c s.close (block_name s) k ++ own_in c s c.scene.block.own k
 
 -- where the closing check and the statements of the block stand
-module _ (a : State) (bl : Block) (m : Collected) (h : IsInHand a.frame.setting bl) (declared : HasDeclared a.frame bl.around.now (stream_view bl.tree.now) m) (whole : m.count ≡ length (items_of (stream_view bl.tree.now))) where
+module _ (a : State) (s : Site) (bl : Block) (m : Collected) (at : IsSiteIn s bl m None) (h : IsInHand a.frame.setting bl) (declared : HasDeclared a.frame bl.around.now (stream_view bl.tree.now) m) (whole : m.count ≡ length (items_of (stream_view bl.tree.now))) where
   context_is : (tables : List (List Row)) → IsFinished a.frame.setting.texts tables
-      → in_statements (context_of a.frame (hand tables []) (record { texts = bl.texts; around = bl.around; layout = bl.layout; item = None })) ≡ complete_context (source_of a.frame.setting.texts) tables (block_of bl.around.now)
+      → in_statements (context_of a.frame (hand tables []) s) ≡ complete_context (source_of a.frame.setting.texts) tables (block_of bl.around.now)
   context_is tables finished =
       let fills = h.block.fills in
       λ k. record {
-        source = source_of (h.texts k);
-        scene = record { block = block_of bl.around.now; tables = take (sym fills k) tables ++ both k ∷ [] };
-        layout = [];
+        source = source_of ((at.texts ∙ h.texts) k);
+        scene = record { block = block_of (at.around k); tables = take (sym fills k) tables ++ both k ∷ [] };
+        layout = no_layout;
         item = None;
       }
     where
@@ -202,24 +217,24 @@ module _ (a : State) (bl : Block) (m : Collected) (h : IsInHand a.frame.setting 
           ∙ ap (rows_at tables) (sym h.block.fills)
 
   -- what was noted of the complete block
-  closing_is : (x : Stating) → WhereTold a.frame (λ made. x.closing.items ≡ closing_diags (context_of a.frame made (record { texts = bl.texts; around = bl.around; layout = bl.layout; item = None })) (stream_view bl.tree.now))
+  closing_is : (x : Stating) → WhereTold a.frame (λ made. x.closing.items ≡ closing_diags (context_of a.frame made s) (stream_view bl.tree.now))
       → (tables : List (List Row)) → IsFinished a.frame.setting.texts tables → x.closing.items ≡ closing_diags (complete_context (source_of a.frame.setting.texts) tables (block_of bl.around.now)) (stream_view bl.tree.now)
   closing_is x noted tables finished =
       noted (hand tables []) (record { closed = λ _. refl; types = tt }) finished
-      ∙ sym (closing_in (context_of a.frame (hand tables []) (site_at bl None)) (stream_view bl.tree.now))
+      ∙ sym (closing_in (context_of a.frame (hand tables []) s) (stream_view bl.tree.now))
       ∙ ap (λ (c : Context). closing_diags c (stream_view bl.tree.now)) (context_is tables finished)
 
 -- a body is begun
-pub stating_begun : (st : State) (bl : Block) (m : Collected) (x : Stating) → IsComplete st bl m → x.body.count ≡ 0
-    → WhereTold st.frame (λ made. x.closing.items ≡ closing_diags (context_of st.frame made (record { texts = bl.texts; around = bl.around; layout = bl.layout; item = None })) (stream_view bl.tree.now))
+pub stating_begun : (st : State) (s : Site) (bl : Block) (m : Collected) (x : Stating) → IsSiteIn s bl m None → IsComplete st bl m → x.body.count ≡ 0
+    → WhereTold st.frame (λ made. x.closing.items ≡ closing_diags (context_of st.frame made s) (stream_view bl.tree.now))
     → ((c : Context) (e : BlockEffects) → e.cell ≡ m.cell → e.prologue ≡ m.copies → IsBuilt c (stream_view bl.tree.now) e x.body)
     → IsStating st bl m x
-stating_begun st bl m x far none closing begun =
+stating_begun st s bl m x at far none closing begun =
     let tree = stream_view bl.tree.now in
     let a = bl.around.now in
     let u = st.frame.setting.texts in
     let b = block_with a tree in
-    let some : IsBuilt (complete_context (source_of u) [] b.block) tree (record { cell = m.cell; prologue = m.copies; headings = [] }) x.body = begun (complete_context (source_of u) [] b.block) (record { cell = m.cell; prologue = m.copies; headings = [] }) refl refl in
+    let some : IsBuilt (complete_context (source_of u) [] b.block) tree (record { cell = m.cell; prologue = m.copies; headings = []; brought = [] }) x.body = begun (complete_context (source_of u) [] b.block) (record { cell = m.cell; prologue = m.copies; headings = []; brought = [] }) refl refl in
     let no_answers : x.body.answers ≡ [] =
     none_before x.body.answers (left (complete_context (source_of u) [] b.block) tree 0).answers
     (ap (λ (n : ℕ). x.body.answers ++ (left (complete_context (source_of u) [] b.block) tree n).answers) (sym none) ∙ some.answers) in
@@ -238,7 +253,7 @@ stating_begun st bl m x far none closing begun =
                 let c = complete_context (source_of u) tables b.block in
                 let before : take st.frame.setting.fills tables ≡ take a.scope tables = ap (λ (n : ℕ). take n tables) (sym fills) in
                 record {
-                  closing = closing_is st bl m far.in_hand far.declared far.all x closing tables finished;
+                  closing = closing_is st s bl m at far.in_hand far.declared far.all x closing tables finished;
                   built = subst (λ (ts : List (List Row)). IsBuilt c tree (declare_block (source_of u) ts b).value x.body) before
                       (begun c (declare_block (source_of u) (take st.frame.setting.fills tables) b).value
                       (sym (so.cell ∙ ap (λ (v : BlockEffects). v.cell) e)) (sym (so.copies ∙ ap (λ (v : BlockEffects). v.prologue) e)));
@@ -249,13 +264,13 @@ stating_begun st bl m x far none closing begun =
 
 -- ** Statements
 
-pub suits_statements : (st : State) (bl : Block) (m : Collected) → IsInHand st.frame.setting bl → st.frame.closed ≡ true → HasDeclared st.frame bl.around.now (stream_view bl.tree.now) m → m.count ≡ length (items_of (stream_view bl.tree.now))
-    → SuitsSite st.frame (record { texts = bl.texts; around = bl.around; layout = bl.layout; item = None })
-suits_statements st bl m h closed declared all =
-    suits st.frame (site_at bl None) bl.around.now (stream_view bl.tree.now) m None h.block (site_of st.frame.setting bl None h) declared (λ none. closed) (λ c. all)
+pub suits_statements : (st : State) (s : Site) (bl : Block) (m : Collected) → IsSiteIn s bl m None → IsInHand st.frame.setting bl → st.frame.closed ≡ true → HasDeclared st.frame bl.around.now (stream_view bl.tree.now) m → m.count ≡ length (items_of (stream_view bl.tree.now))
+    → SuitsSite st.frame s
+suits_statements st s bl m at h closed declared all =
+    suits st.frame s bl.around.now (stream_view bl.tree.now) m None h.block (site_of st.frame.setting s bl m None h at) declared (λ none. closed) (λ c. all)
 
-pub statements_read : (g : Setting) (bl : Block) → IsInHand g bl → AreReadStatements bl.texts.now.names (stream_view bl.tree.now).body
-statements_read g bl h = subst (λ (u : UnitTexts). AreReadStatements u.names (stream_view bl.tree.now).body) (sym h.texts) h.block.statements
+pub statements_read : (g : Setting) (s : Site) (bl : Block) (m : Collected) → IsSiteIn s bl m None → IsInHand g bl → AreReadStatements s.texts.now.names (stream_view bl.tree.now).body
+statements_read g s bl m at h = subst (λ (u : UnitTexts). AreReadStatements u.names (stream_view bl.tree.now).body) (sym (at.texts ∙ h.texts)) h.block.statements
 
 -- the block's own heading is its first item
 heading_first : (c : Context) (kind : StreamKind) (cell : ℕ) (tree : Stream) (h : Heading) → tree.heading ≡ Some h → result_from c kind cell (items_of tree) ≡ (declare (at_item c 0) kind (heading_item h) cell).value.result
@@ -271,9 +286,9 @@ module _ (st : State) (bl : Block) (m : Collected) (h : IsInHand st.frame.settin
       by None = tt
       by (Some head) = declared.there
 
-  pub returns_is : st.frame.closed ≡ true → m.count ≡ length (items_of (stream_view bl.tree.now))
-      → Returns st.frame (record { texts = bl.texts; around = bl.around; layout = bl.layout; item = None }) (stream_view bl.tree.now) (returned (stream_view bl.tree.now).heading m.returns)
-  returns_is closed all made in_hand finished = by (stream_view bl.tree.now).heading refl ∙ sym here
+  pub returns_is : (s : Site) → IsSiteIn s bl m None → st.frame.closed ≡ true → m.count ≡ length (items_of (stream_view bl.tree.now))
+      → Returns st.frame s (stream_view bl.tree.now) (returned (stream_view bl.tree.now).heading m.returns)
+  returns_is s at closed all made in_hand finished = by (stream_view bl.tree.now).heading refl ∙ sym here
     where
       tables : List (List Row)
       tables = made.finished
@@ -288,15 +303,15 @@ module _ (st : State) (bl : Block) (m : Collected) (h : IsInHand st.frame.settin
       before = take st.frame.setting.fills made.finished
 
       -- where the statements stand
-      here : result_by (context_of st.frame made (record { texts = bl.texts; around = bl.around; layout = bl.layout; item = None })) (stream_view bl.tree.now)
+      here : result_by (context_of st.frame made s) (stream_view bl.tree.now)
           ≡ result_by (complete_context (source_of st.frame.setting.texts) made.finished (block_of bl.around.now)) (stream_view bl.tree.now)
       here =
-          ap (λ (rows : List Row). result_by (context_of st.frame (hand made.finished rows) (site_at bl None)) (stream_view bl.tree.now)) (in_hand.closed closed)
-          ∙ ap (λ (c : Context). result_by c (stream_view bl.tree.now)) (context_is st bl m h declared all made.finished finished)
+          ap (λ (rows : List Row). result_by (context_of st.frame (hand made.finished rows) s) (stream_view bl.tree.now)) (in_hand.closed closed)
+          ∙ ap (λ (c : Context). result_by c (stream_view bl.tree.now)) (context_is st s bl m at h declared all made.finished finished)
 
       by : (o : Option Heading) → (stream_view bl.tree.now).heading ≡ o
           → returned o m.returns ≡ result_by (complete_context (source_of st.frame.setting.texts) made.finished (block_of bl.around.now)) (stream_view bl.tree.now)
-      by None e = sym (ap (λ (o : Option Heading). bound_result (record (complete_context (source_of st.frame.setting.texts) made.finished (block_of bl.around.now)) { layout = (layout_of (stream_view bl.tree.now)).names; item = Some 0 }) o) e)
+      by None e = sym (ap (λ (o : Option Heading). bound_result (record (complete_context (source_of st.frame.setting.texts) made.finished (block_of bl.around.now)) { layout = layout_of (stream_view bl.tree.now); item = Some 0 }) o) e)
       by (Some head) e =
           let b = block_with bl.around.now (stream_view bl.tree.now) in
           let c = block_context (source_of st.frame.setting.texts) (take st.frame.setting.fills made.finished) b in
@@ -311,12 +326,12 @@ pub returned_there : (st : State) (bl : Block) (m : Collected) → IsInHand st.f
     → IfSome r (λ t. IsThere st.frame t)
 returned_there st bl m h declared r is = subst (λ (o : Option Place). IfSome o (λ t. IsThere st.frame t)) (sym is) (returns_there st bl m h declared)
 
-pub returned_is : (st : State) (bl : Block) (m : Collected) → IsInHand st.frame.setting bl → HasDeclared st.frame bl.around.now (stream_view bl.tree.now) m → st.frame.closed ≡ true → m.count ≡ length (items_of (stream_view bl.tree.now))
+pub returned_is : (st : State) (s : Site) (bl : Block) (m : Collected) → IsSiteIn s bl m None → IsInHand st.frame.setting bl → HasDeclared st.frame bl.around.now (stream_view bl.tree.now) m → st.frame.closed ≡ true → m.count ≡ length (items_of (stream_view bl.tree.now))
     → (r : Option Place) → r ≡ returned (stream_view bl.tree.now).heading m.returns
-    → Returns st.frame (record { texts = bl.texts; around = bl.around; layout = bl.layout; item = None }) (stream_view bl.tree.now) r
-returned_is st bl m h declared closed all r is =
-    subst (λ (o : Option Place). Returns st.frame (record { texts = bl.texts; around = bl.around; layout = bl.layout; item = None }) (stream_view bl.tree.now) o) (sym is)
-    (returns_is st bl m h declared closed all)
+    → Returns st.frame s (stream_view bl.tree.now) r
+returned_is st s bl m at h declared closed all r is =
+    subst (λ (o : Option Place). Returns st.frame s (stream_view bl.tree.now) o) (sym is)
+    (returns_is st bl m h declared s at closed all)
 
 module _ {a b : State} (bl : Block) (m : Collected) (x : Stating) (far : IsStating a bl m x) where
   -- nothing was added
@@ -342,21 +357,21 @@ module _ {a b : State} (bl : Block) (m : Collected) (x : Stating) (far : IsStati
       }
 
   -- a statement more
-  pub stating_next : (y : Stating) → x.body.count < length bl.tree.now.body.items → y.closing.items ≡ x.closing.items
-      → Adding a b x.body y.body (record { texts = bl.texts; around = bl.around; layout = bl.layout; item = None }) (stream_view bl.tree.now) (Ok (Known tt)) → IsStating b bl m y
-  stating_next y more closing p =
+  pub stating_next : (s : Site) → IsSiteIn s bl m None → (y : Stating) → x.body.count < length bl.tree.now.body.items → y.closing.items ≡ x.closing.items
+      → Adding a b x.body y.body s (stream_view bl.tree.now) (Ok (Known tt)) → IsStating b bl m y
+  stating_next s at y more closing p =
       let tree = stream_view bl.tree.now in
-      let s = far.stated in
+      let stated_far = far.stated in
       let count = p.count in
       let effects : (tables : List (List Row)) → BlockEffects = λ tables. (declare_block (source_of a.frame.setting.texts) (take bl.around.now.scope tables) (block_with bl.around.now tree)).value in
       let stated : HasStated a.frame bl.around.now bl.tree.now y =
       record {
         within = omega (arith, count, more);
         told = λ tables finished.
-            let t = s.told tables finished in
+            let t = stated_far.told tables finished in
             record {
               closing = closing ∙ t.closing;
-              built = subst (λ (c : Context). IsBuilt c tree (effects tables) x.body → IsBuilt c tree (effects tables) y.body) (context_is a bl m far.in_hand far.declared far.all tables finished)
+              built = subst (λ (c : Context). IsBuilt c tree (effects tables) x.body → IsBuilt c tree (effects tables) y.body) (context_is a s bl m at far.in_hand far.declared far.all tables finished)
                   (p.built (hand tables []) (record { closed = λ _. refl; types = tt }) finished (effects tables)) t.built;
             };
       } in

@@ -24,7 +24,7 @@ use Rattle.m2_base.proofs.Kept.{Each-map}
 use Rattle.decl_sem.specs.ImportedModules.{IsFromBefore}
 use Rattle.stream_split.specs.Agreement.{SpellsStream}
 use Rattle.stream_split.specs.Chains.{around_view, block_of, own_scope}
-use Rattle.stream_split.specs.Sizes.{sizes_of}
+use Rattle.stream_split.specs.Sizes.{room_of, sizes_of}
 use Rattle.stream_split.specs.Streams.{StreamOf, main_number, streams_of}
 use Rattle.stream_split.specs.Surroundings.{IsSurrounded}
 use Rattle.stream_split.proofs.BlocksAgree.{blocks_agree}
@@ -166,7 +166,7 @@ module _ (g : Setting) (s : StreamOf) (a : Around) (tree : Stream) (of : IsOfUni
       let few = streams_few u of.unit in
       let scope : a.scope ≡ g.fills = r.scope ∙ sym of.fills in
       let sizes = ap length of.areas in
-      let long = length-map (streams_of u) (λ (x : StreamOf). length x.tokens) in
+      let long = length-map (streams_of u) room_of in
       let low = level_low u of.unit of.limits of.index s of.there in
       let short = r.short in
       let level = r.level in

@@ -45,7 +45,7 @@ returns_at names trees sound forms n b there h cell e =
     let bound = each_block_at (BindsItsResult trees) trees.source (standard_rows ∷ []) (blocks_of trees) n b (unit_results names trees sound) there in
     let chained = each_at (IsChained (home_of trees)) (blocks_of trees) n b (blocks_chained trees forms) there in
     bound (headed_behind (home_of trees) b h chained.tree e) h cell
-    ∙ sym (ap (λ (o : Option Heading). bound_result (record (complete_context trees.source (unit_rows trees) b.block) { layout = (layout_of b.tree).names; item = Some 0 }) o) e)
+    ∙ sym (ap (λ (o : Option Heading). bound_result (record (complete_context trees.source (unit_rows trees) b.block) { layout = layout_of b.tree; item = Some 0 }) o) e)
 
 -- in a unit of which nothing is left out
 pub unit_returns : (texts : UnitTexts) → IsUnit texts → (front : TextOf → Front) → AreFronts front texts → IsWholeBy front texts → (trees : UnitTrees) → AreRead texts trees

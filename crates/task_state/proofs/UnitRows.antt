@@ -81,7 +81,7 @@ set_last (x ∷ xs) (suc n) rows h = ap (λ ys. x ∷ ys) (set_last xs n rows (o
 
 -- the context of a block in which these rows of its own are made
 pub context_with : (source : Source) (tables : List (List Row)) (b : BlockTree) (rows : List Row) → b.block.scope ≤ length tables
-    → with_rows (context_of source tables b) rows ≡ record { source = source; scene = record { block = b.block; tables = take b.block.scope tables ++ rows ∷ [] }; layout = (layout_of b.tree).names; item = None }
+    → with_rows (context_of source tables b) rows ≡ record { source = source; scene = record { block = b.block; tables = take b.block.scope tables ++ rows ∷ [] }; layout = layout_of b.tree; item = None }
 context_with source tables b rows h =
-    ap (λ (ts : List (List Row)). record { source = source; scene = record { block = b.block; tables = ts }; layout = (layout_of b.tree).names; item = None })
+    ap (λ (ts : List (List Row)). record { source = source; scene = record { block = b.block; tables = ts }; layout = layout_of b.tree; item = None })
     (set_last (take b.block.scope tables) b.block.scope rows (length-take-le b.block.scope tables h))

@@ -20,13 +20,14 @@ use Rattle.m2_base.specs.declared.rows.Row.{Row}
 use Rattle.m2_base.specs.declared.sites.Around.{Around}
 use Rattle.decl_sem.specs.ImportedModules.{IsFromBefore}
 use Rattle.stmt_sem.specs.BlockCode.{result_by}
+use Rattle.stream_split.specs.Rooms.{most_rows}
 use Rattle.type_rules.specs.Scenes.{block_of}
 
 -- a block and its tree
 abbrev pub block_with : Around → Stream → BlockTree
 block_with a tree = record { block = block_of a; tree = tree }
 
--- how many rows a tree makes
+-- how many rows a tree declares, without those that its imports bring
 abbrev pub row_count : Stream → ℕ
 row_count tree = length (flat_map item_shapes (items_of tree))
 
@@ -41,7 +42,8 @@ pub record IsBlockIn (source : Source) (tables : List (List Row)) (scope : ℕ) 
       → (declare (at_item (context_of source (take scope tables) b) 0) b.tree.kind (heading_item h) cell).value.result ≡ result_by (complete_context source tables b.block) b.tree
 
 -- The block is that of the scope that is filled. It can be searched from: what surrounds it comes before it. Its tree was read
--- from tokens, imports from scopes before, and has room for its rows; and the finished rows of its scope are those of the tree.
+-- from tokens, imports from scopes before, and has room for its rows, with those that its imports bring; and the finished rows of
+-- its scope are those of the tree.
 pub record IsBlockOf (g : Setting) (a : Around) (tree : Stream) : Type 0 where
   pub unit : IsUnit g.texts
   pub fills : a.scope ≡ g.fills
@@ -57,5 +59,5 @@ pub record IsBlockOf (g : Setting) (a : Around) (tree : Stream) : Type 0 where
   pub statements : AreReadStatements g.texts.names tree.body
   pub imports : Each (IsFromBefore (source_of g.texts) g.fills) (items_of tree)
   pub few : row_count tree < 2 ^ 30
-  pub room : row_count tree ≤ slice_index g.areas g.fills
+  pub room : most_rows tree ≤ slice_index g.areas g.fills
   pub told : WhereFinished g.texts (λ tables. IsBlockIn (source_of g.texts) tables g.fills (block_with a tree))

@@ -1,5 +1,5 @@
 -- How far a task is: what a turn needs and leaves.
-use Rattle.std.specs.Prelude.{◌≡◌, ℕ, ◌+◌, ◌≤◌, Bool, true, false, List, [], ◌++◌, Option, None, filter, flat_map, length, Some, take}
+use Rattle.std.specs.Prelude.{◌≡◌, ℕ, ◌+◌, ◌≤◌, Bool, true, false, List, [], ◌++◌, Option, None, filter, length, Some, take}
 use Rattle.std.specs.Option.{IfSome}
 use Rattle.m2_base.specs.Finished.{WhereFinished, source_of}
 use Rattle.m2_base.specs.Lists.{Each, WhereKept}
@@ -9,11 +9,10 @@ use Rattle.m2_base.specs.Statics.BlockRows.{declare_block}
 use Rattle.m2_base.specs.Statics.Blocks.{BlockTree}
 use Rattle.m2_base.specs.Statics.Cells.{most_cells}
 use Rattle.m2_base.specs.Statics.Closing.{closing_diags}
-use Rattle.m2_base.specs.Statics.Contexts.{Source}
+use Rattle.m2_base.specs.Statics.Contexts.{Named, Source}
 use Rattle.m2_base.specs.Statics.Items.{items_of}
-use Rattle.m2_base.specs.Statics.Layouts.{layout_of}
+use Rattle.m2_base.specs.Statics.Layouts.{laid_shapes, layout_of}
 use Rattle.m2_base.specs.Statics.ProcedureRows.{is_proc}
-use Rattle.m2_base.specs.Statics.Shapes.{item_shapes}
 use Rattle.m2_base.specs.Statics.UnitNotes.{complete_context}
 use Rattle.m2_base.specs.Trees.{Stream}
 use Rattle.m2_base.specs.Views.{stream_view}
@@ -24,6 +23,7 @@ use Rattle.m2_base.specs.declared.sites.Around.{Around}
 use Rattle.m2_base.specs.declared.token.Token.{Token}
 use Rattle.m2_base.specs.declared.trees.declarations.Stream.{Stream as HeldStream}
 use Rattle.decl_sem.specs.LaidRows.{AreLaid}
+use Rattle.decl_sem.specs.Layouts.{IsLayoutAt}
 use Rattle.decl_sem.specs.Pieces.{IsOwned}
 use Rattle.stmt_sem.specs.Bodies.{IsBuilt}
 use Rattle.type_rules.specs.Scenes.{IsThere}
@@ -31,7 +31,7 @@ use Rattle.stream_split.specs.Agreement.{SpellsStream}
 use Rattle.stream_split.specs.Chains.{around_view}
 use Rattle.stream_split.specs.Streams.{StreamOf}
 use Rattle.task_state.specs.Blocks.{IsBlockOf, block_with}
-use Rattle.task_state.specs.Collecting.{Collected, IsMade}
+use Rattle.task_state.specs.Collecting.{Collected, IsMade, none_from}
 use Rattle.task_state.specs.Outputs.{IsOutput}
 use Rattle.task_state.specs.Units.{IsOfUnit}
 use Rattle.task_state.specs.declared.stages.Begun.{Begun}
@@ -44,11 +44,14 @@ use Rattle.task_state.specs.declared.task.Turn.TheVariants.{Done, Memory, Parked
 
 -- ** The block
 
--- So many of its items are entered, as the layout gives them, each field before its record. Where no text has a syntax error,
--- their rows and what was collected of them are the definition's.
+-- So many of its items are entered, with what each has brought, as the layout gives them, each field before its record. Where no
+-- text has a syntax error, their rows and what was collected of them are the definition's.
 pub record HasDeclared (f : Frame) (a : Around) (tree : Stream) (m : Collected) : Type 0 where
   pub within : m.count ≤ length (items_of tree)
-  pub laid : AreLaid (layout_of tree).names 0 (flat_map item_shapes (take m.count (items_of tree))) f.entered
+  pub brought : List (List Named)
+  pub of_each : length brought ≡ m.count
+  pub layout : IsLayoutAt m.layout tree brought
+  pub laid : AreLaid m.layout 0 (laid_shapes (take m.count (items_of tree)) brought) f.entered
   pub owned : Each (λ r. IsOwned (length f.entered) (row_meaning r)) f.entered
   pub cells : m.cell ≤ most_cells + 1
   pub procedures : m.procedures ≡ length (filter is_proc f.entered)
@@ -65,15 +68,15 @@ pub record HasStated (f : Frame) (a : Around) (tree : HeldStream) (x : Stating) 
   pub within : x.body.count ≤ length tree.body.items
   pub told : WhereFinished f.setting.texts (λ tables. IsStated (source_of f.setting.texts) tables (block_with a (stream_view tree)) x)
 
--- Before the first cell of its variables is known nothing is entered.
+-- Before the first cell of its variables is known nothing is entered, and nothing collected.
 pub record IsUnplaced (f : Frame) (w : Begun) : Type 0 where
   pub entered : f.entered ≡ []
+  pub collected : w.collected ≡ none_from (layout_of (stream_view w.tree)) 0
   pub open_yet : w.closed ≡ false
 
 -- The block is that of the scope that is filled; its scope is complete only when all its items are entered.
 pub record IsBegun (f : Frame) (a : Around) (w : Begun) : Type 0 where
   pub block : IsBlockOf f.setting a (stream_view w.tree)
-  pub layout : w.layout ≡ layout_of (stream_view w.tree)
   pub closed : f.closed ≡ w.closed
   pub unplaced : w.placed ≡ false → IsUnplaced f w
   pub declared : w.placed ≡ true → HasDeclared f a (stream_view w.tree) w.collected

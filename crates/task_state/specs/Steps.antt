@@ -30,7 +30,6 @@ Stops old new (Err NoMemory) = Unit {0}
 -- a block in hand is that of the scope that is filled
 pub record IsInHand (g : Setting) (b : Block) : Type 0 where
   pub texts : b.texts.now ≡ g.texts
-  pub layout : b.layout.now ≡ layout_of (stream_view b.tree.now)
   pub block : IsBlockOf g b.around.now (stream_view b.tree.now)
 
 -- The first of its items are entered, and this was collected of them.
@@ -74,8 +73,7 @@ pub record Leaves (st : State) (a : Around) (tree : HeldStream) (o : Output) : T
 -- a tree of which nothing is done yet
 pub record IsFresh (tree : HeldStream) (w : Begun) : Type 0 where
   pub tree_is : w.tree ≡ tree
-  pub layout : w.layout ≡ layout_of (stream_view tree)
-  pub collected : w.collected ≡ none_from 0
+  pub collected : w.collected ≡ none_from (layout_of (stream_view tree)) 0
   pub placed : w.placed ≡ false
   pub closed : w.closed ≡ false
   pub stating : w.stating ≡ None

@@ -6,7 +6,7 @@ ghost use Rattle.m2_base.specs.States.{Turns};
 ghost use Rattle.m2_base.specs.Statics.Items.{items_of};
 ghost use Rattle.m2_base.specs.Views.{stream_view};
 ghost use Rattle.decl_sem.specs.Items.{item_view};
-ghost use Rattle.task_state.specs.Collecting.{with_item};
+ghost use Rattle.task_state.specs.Collecting.{CanAdd, with_item};
 ghost use Rattle.task_state.specs.Steps.{IsComplete, IsDeclaring, Stops};
 
 use crate::collecting::Collected;
@@ -23,7 +23,8 @@ fn take<S: Scopes>(
     declared: &Declared,
     collected: &mut Collected,
 ) -> Result<(), Memory>
-    requires { CanEnter (S.state scopes.old) declared.now.rows.items }
+    requires enters { CanEnter (S.state scopes.old) declared.now.rows.items }
+    requires adds { CanAdd collected.old declared.now }
     ensures entered { OnOk result (Entered (S.state scopes.old) (S.state scopes.new) declared.now.rows.items) }
     ensures added { OnOk result (collected.new ≡ with_item collected.old declared.now) }
     ensures same { OnErr result (S.state scopes.new ≡ S.state scopes.old) }
@@ -52,7 +53,7 @@ fn declare_next<S: Scopes>(
     let site = Site {
         texts: block.texts,
         around: block.around,
-        layout: block.layout,
+        layout: &collected.layout,
         item: Some(collected.count),
     };
     match declare(alloc, scopes, &site, block.tree, item, collected.before) {

@@ -1,6 +1,6 @@
 //! How far the work on a stream is.
 use crate::collecting::Collected;
-use m2_base::{Around, Diag, Layout, Output, Stream, Texts, Token};
+use m2_base::{Around, Diag, Output, Stream, Texts, Token};
 use stmt_sem::Body;
 
 /// What was noted of a complete block, and its body in the making.
@@ -14,7 +14,6 @@ pub(crate) struct Stating {
 #[derive(Drop)]
 pub(crate) struct Begun {
     pub tree: Stream,
-    pub layout: Layout,
     pub collected: Collected,
     /// Whether the first cell of its variables is known.
     pub placed: bool,
@@ -39,5 +38,4 @@ pub(crate) struct Block<'a> {
     pub texts: &'a Texts,
     pub around: &'a Around,
     pub tree: &'a Stream,
-    pub layout: &'a Layout,
 }

@@ -29,7 +29,7 @@ pub(crate) fn begin<S: Scopes>(
     let site = Site {
         texts: block.texts,
         around: block.around,
-        layout: block.layout,
+        layout: &collected.layout,
         item: None,
     };
     let closing = match close_check(alloc, scopes, &site, block.tree) {
@@ -68,7 +68,7 @@ fn state_next<S: Scopes>(
     let site = Site {
         texts: block.texts,
         around: block.around,
-        layout: block.layout,
+        layout: &collected.layout,
         item: None,
     };
     let returns = result_of(block.tree, collected.returns);

@@ -23,8 +23,7 @@ pub(crate) fn begun(alloc: Global, tree: Stream, layout: Layout) -> Begun
 {
     Begun {
         tree,
-        layout,
-        collected: Collected::new(alloc, 0),
+        collected: Collected::new(alloc, layout),
         placed: false,
         closed: false,
         stating: None,
@@ -32,12 +31,7 @@ pub(crate) fn begun(alloc: Global, tree: Stream, layout: Layout) -> Begun
 }
 
 /// Asks for the first cell of the block's variables, if that isn't done yet.
-fn place<S: Scopes>(
-    alloc: Global,
-    around: &Around,
-    scopes: &mut S,
-    begun: &mut Begun,
-) -> Result<(), Stop>
+fn place<S: Scopes>(around: &Around, scopes: &mut S, begun: &mut Begun) -> Result<(), Stop>
     requires far { IsAtWork (S.state scopes.old) around.now begun.old }
     ensures turns { Turns (S.state scopes.old) (S.state scopes.new) }
     ensures far { IsAtWork (S.state scopes.new) around.now begun.new }
@@ -50,7 +44,7 @@ fn place<S: Scopes>(
     }
     match first_cell(scopes, around, begun.tree.kind) {
         Ask::Known(cell) => {
-            begun.collected = Collected::new(alloc, cell);
+            begun.collected.place(cell);
             begun.placed = true;
             Ok(())
         }
@@ -82,7 +76,6 @@ fn declare_rest<S: Scopes>(
         texts,
         around,
         tree: &begun.tree,
-        layout: &begun.layout,
     };
     gone!(declare_block(alloc, scopes, &block, &mut begun.collected));
     begun.closed = true;
@@ -114,7 +107,6 @@ fn begin_rest<S: Scopes>(
         texts,
         around,
         tree: &begun.tree,
-        layout: &begun.layout,
     };
     let stating = gone!(begin(alloc, scopes, &block, &begun.collected));
     begun.stating = Some(stating);
@@ -143,7 +135,6 @@ fn state_rest<S: Scopes>(
         texts,
         around,
         tree: &begun.tree,
-        layout: &begun.layout,
     };
     match &mut begun.stating {
         Some(stating) => state_all(scopes, &block, &begun.collected, stating),
@@ -164,7 +155,6 @@ fn end(alloc: Global, texts: &Texts, around: &Around, begun: &mut Begun) -> Resu
         texts,
         around,
         tree: &begun.tree,
-        layout: &begun.layout,
     };
     match begun.stating.take() {
         Some(stating) => output_of(alloc, &block, &begun.collected, stating),
@@ -189,7 +179,7 @@ pub(crate) fn work<S: Scopes>(
     ensures closed { OnOk result ((S.state scopes.new).frame.closed ≡ true) }
     ensures left { IfOk result (λ output. Leaves (S.state scopes.new) around.now begun.old.tree output) }
 {
-    gone!(place(alloc, around, scopes, begun));
+    gone!(place(around, scopes, begun));
     gone!(declare_rest(alloc, texts, around, scopes, begun));
     gone!(begin_rest(alloc, texts, around, scopes, begun));
     gone!(state_rest(texts, around, scopes, begun));

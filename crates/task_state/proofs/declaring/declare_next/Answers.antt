@@ -3,19 +3,27 @@ use Rattle.decl_sem.specs.Items.{item_view}
 use Rattle.m2_base.specs.States.{State, Turns}
 use Rattle.m2_base.proofs.Kept.{Turns-entered, Turns-keeps, Turns-trans}
 use Rattle.task_state.specs.Collecting.{Collected}
-use Rattle.task_state.proofs.Stepping.{at_item_by, declaring_kept, declaring_still, enters_by, taken_by}
+use Rattle.task_state.proofs.Stepping.{added_by, at_item_by, declaring_kept, declaring_still, enters_by, taken_by}
 use Rattle.task_state.proofs.declaring.declare_next.Goals as goal
 
 pub declare-requires : goal.declare-requires
 declare-requires g c =
-    at_item_by (g.S.Scopes.state c.args.scopes.now) c.args.block.now c.args.collected.now _ (item_view c.args.item.now) c.collected.view_is c.requires.far c.requires.here
+    at_item_by (g.S.Scopes.state c.args.scopes.now) _ c.args.block.now c.args.collected.now _ (item_view c.args.item.now) c.collected.view_is
+    (record { texts = refl; around = refl; layout = refl; item_is = refl }) c.requires.far c.requires.here
 
 pub same-collected : goal.same-collected
 same-collected g c = refl
 
-pub take-requires : goal.take-requires
-take-requires g c =
-    enters_by (g.S.Scopes.state c.args.scopes.now) c.args.block.now c.args.collected.now _ (item_view c.args.item.now) c.collected.view_is c.requires.far c.requires.here
+pub take-requires-clause-enters : goal.take-requires-clause-enters
+take-requires-clause-enters g c =
+    enters_by (g.S.Scopes.state c.args.scopes.now) _ c.args.block.now c.args.collected.now _ (item_view c.args.item.now) c.collected.view_is
+    (record { texts = refl; around = refl; layout = refl; item_is = refl }) c.requires.far c.requires.here
+    (g.S.Scopes.state c.declare.new.scopes) c.in-Ok-Known.declared (rw c.in-Ok-Known.field-0-is at c.in-Ok-Known.ensures)
+
+pub take-requires-clause-adds : goal.take-requires-clause-adds
+take-requires-clause-adds g c =
+    added_by (g.S.Scopes.state c.args.scopes.now) _ c.args.block.now c.args.collected.now _ (item_view c.args.item.now) c.collected.view_is
+    (record { texts = refl; around = refl; layout = refl; item_is = refl }) c.requires.far c.requires.here
     (g.S.Scopes.state c.declare.new.scopes) c.in-Ok-Known.declared (rw c.in-Ok-Known.field-0-is at c.in-Ok-Known.ensures)
 
 pub returns-in-Ok-clause-turns : goal.returns-in-Ok-clause-turns
@@ -23,7 +31,8 @@ returns-in-Ok-clause-turns g c = Turns-trans (Turns-keeps c.declare.ensures.keep
 
 pub returns-in-Ok-clause-far : goal.returns-in-Ok-clause-far
 returns-in-Ok-clause-far g c =
-    taken_by (g.S.Scopes.state c.args.scopes.now) c.args.block.now c.args.collected.now _ (item_view c.args.item.now) c.collected.view_is c.requires.far c.requires.here
+    taken_by (g.S.Scopes.state c.args.scopes.now) _ c.args.block.now c.args.collected.now _ (item_view c.args.item.now) c.collected.view_is
+    (record { texts = refl; around = refl; layout = refl; item_is = refl }) c.requires.far c.requires.here
     (g.S.Scopes.state c.declare.new.scopes) c.in-Ok-Known.declared (rw c.in-Ok-Known.field-0-is at c.in-Ok-Known.ensures)
     (g.S.Scopes.state c.take.new.scopes) c.take.new.collected c.in-Ok.ensures.entered c.in-Ok.ensures.added
 

@@ -9,7 +9,7 @@ use Rattle.task_state.proofs.stating.begin.Goals as goal
 pub close_check-requires-clause-suits : goal.close_check-requires-clause-suits
 close_check-requires-clause-suits g c =
     let far = c.requires.complete in
-    suits_statements (g.S.Scopes.state c.args.scopes.now) c.args.block.now c.args.collected.now far.in_hand far.closed far.declared far.all
+    suits_statements (g.S.Scopes.state c.args.scopes.now) _ c.args.block.now c.args.collected.now (record { texts = refl; around = refl; layout = ap (λ (x : Collected). x.layout) c.collected.view_is; item_is = refl }) far.in_hand far.closed far.declared far.all
 
 pub returns-in-Ok-DontKnowYet-clause-turns : goal.returns-in-Ok-DontKnowYet-clause-turns
 returns-in-Ok-DontKnowYet-clause-turns g c = Turns-keeps c.close_check.ensures.reads.keeps
@@ -46,6 +46,6 @@ returns-clause-begun g c =
     let copies : map copy_view c.deref.result.now ≡ m.copies = ap (map copy_view) c.deref.ensures.value ∙ ap (λ (x : Collected). x.copies) same in
     let stating : Stating = record { closing = c.in-Ok-Known.notes.diags; body = c.in-Ok.value } in
     stating_still bl m stating
-    (stating_begun (g.S.Scopes.state c.args.scopes.now) bl m stating c.requires.complete c.in-Ok.ensures.none (rw c.in-Ok-Known.field-0-is at c.in-Ok-Known.ensures.told)
+    (stating_begun (g.S.Scopes.state c.args.scopes.now) _ bl m stating (record { texts = refl; around = refl; layout = ap (λ (x : Collected). x.layout) c.collected.view_is; item_is = refl }) c.requires.complete c.in-Ok.ensures.none (rw c.in-Ok-Known.field-0-is at c.in-Ok-Known.ensures.told)
     (λ k e cell prologue. c.in-Ok.ensures.begun k e (cell ∙ sym (ap (λ (x : Collected). x.cell) same)) (prologue ∙ sym copies)))
     stating c.close_check.ensures.reads.keeps refl refl

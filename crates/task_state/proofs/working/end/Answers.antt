@@ -10,5 +10,5 @@ returns-clause-left c =
     let w = c.args.begun.now in
     let some = sym c.take.ensures.value ∙ c.in-Some.is in
     if_ok_then c.output_of.result _ _
-    (λ output h st texts far. h st (to_stating _ w refl refl st texts far (placed_first st c.args.around.now w far c.requires.closed) c.in-Some.stating some))
+    (λ output h st texts far. h st (to_stating _ w refl st texts far (placed_first st c.args.around.now w far c.requires.closed) c.in-Some.stating some))
     c.output_of.ensures

@@ -12,9 +12,9 @@ returns-in-Known-clause-turns g c = Turns-keeps c.first_cell.ensures.reads.keeps
 pub returns-in-Known-clause-far : goal.returns-in-Known-clause-far
 returns-in-Known-clause-far g c =
     let w = c.args.begun.now in
-    placed_now c.args.around.now w (record { tree = w.tree; layout = w.layout; collected = c.new.result; placed = true; closed = w.closed; stating = w.stating }) c.in-Known.cell
+    placed_now c.args.around.now w (record { tree = w.tree; collected = c.place.new.self; placed = true; closed = w.closed; stating = w.stating }) c.in-Known.cell
     c.first_cell.ensures.reads.keeps c.requires.far c.if-begun.false
-    (record { tree = refl; layout = refl; collected = c.new.ensures; placed = refl; closed = refl; stating = refl })
+    (record { tree = refl; collected = c.place.ensures; placed = refl; closed = refl; stating = refl })
     c.in-Known.ensures.cell c.in-Known.ensures.told
 
 pub returns-in-DontKnowYet-clause-turns : goal.returns-in-DontKnowYet-clause-turns
