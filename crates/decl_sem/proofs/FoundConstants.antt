@@ -1,7 +1,7 @@
 -- The constants of an enumeration, one after another.
 use Rattle.std.specs.HashSet.{contains}
 use Rattle.std.specs.List.{list_any}
-use Rattle.std.specs.Prelude.{◌≡◌, ◌≢◌, ◌⊎◌, ℕ, zero, suc, ◌+◌, ◌-◌, ◌<◌, ◌≤◌, ◌==◌, ◌||◌, ◌&&◌, nat_eq, nat_lt, Bool, true, false, not, cond, is_some, if◌then◌else◌, List, [], ◌∷◌, ◌++◌, length, map, take, drop, slice_index_or, Option, None, Some, option_map, unwrap_or}
+use Rattle.std.specs.Prelude.{◌≡◌, ◌≢◌, ◌⊎◌, ℕ, zero, suc, ◌+◌, ◌-◌, ◌<◌, ◌≤◌, ◌==◌, ◌||◌, ◌&&◌, nat_eq, nat_lt, Bool, true, false, not, cond, is_some, if◌then◌else◌, List, [], ◌∷◌, ◌++◌, length, map, take, drop, slice_get, slice_index_or, Option, None, Some, option_map, unwrap_or}
 use Rattle.std.proofs.Common.{refl, sym, ap, ◌∙◌, subst, arith, inl, inr}
 use Rattle.std.proofs.lemmas.List.{append_assoc, append-nil, drop_all, drop_more, length-append, length-map}
 use Rattle.std.proofs.lemmas.List.Folds.{list_any-append}
@@ -30,7 +30,7 @@ use Rattle.m2_base.proofs.Kept.{Each-append}
 use Rattle.type_rules.specs.Scenes.{AreInHand, Hand, rows_of, scene_of}
 use Rattle.type_rules.specs.Sites.{context_of}
 use Rattle.decl_sem.specs.Brought.{brings_new}
-use Rattle.decl_sem.specs.FoundConstants.{AreFound, AreNewMembers, AreSeen, Differ, IsMember, IsNewMember, constant_by, constants_of, member_view}
+use Rattle.decl_sem.specs.FoundConstants.{AreFound, AreNewMembers, AreSeen, Differ, IsMember, IsNewMember, constant_by, constants_of, member_view, with_member}
 use Rattle.decl_sem.specs.Making.{next_ordinal}
 use Rattle.decl_sem.specs.NewNames.{earlier_row}
 use Rattle.decl_sem.specs.Pieces.{IsMaking, WhereMaking}
@@ -83,7 +83,7 @@ new_more f s made members m h is other =
 
 -- ** The begin
 
-pub found_none : (f : Frame) (s : Site) (made : Made) (all : Context → List plain.Member) (found : Found) → found.new.items ≡ [] → ((n : ℕ) → contains nat_eq found.names n ≡ false) → found.hidden ≡ false → AreFound f s made all all found
+pub found_none : (f : Frame) (s : Site) (made : Made) (all : Context → List plain.Member) (found : Found) → found.members.items ≡ [] → ((n : ℕ) → contains nat_eq found.names n ≡ false) → found.hidden ≡ false → AreFound f s made all all found
 found_none f s made all found none empty shown =
     record {
       new = subst (λ (ms : List Member). AreNewMembers f s made ms) (sym none) (record { each = tt; differ = tt });
@@ -110,7 +110,7 @@ module _ {f : Frame} {s : Site} {made : Made} (making : IsMaking f s made []) (m
   -- the block has the name
   pub found_hidden : (new : Found) (k : ℕ) (target : Place) (d : Bool) → earlier_row s.layout.now (next_ordinal made) m.name ≡ Some k
       → WhereMaking f made (λ hand. target ≡ led (scene_of f hand s.around.now) k) → d ≡ not (is_same_place target m.place)
-      → new.new ≡ old.new → new.names ≡ old.names → new.hidden ≡ (old.hidden || d) → AreFound f s made all rest new
+      → new.members ≡ old.members → new.names ≡ old.names → new.hidden ≡ (old.hidden || d) → AreFound f s made all rest new
   found_hidden new k target d earlier leads differs items index hidden =
       record {
         new = subst (λ (ms : Vec Member Global). AreNewMembers f s made ms.items) (sym items) found.new;
@@ -123,7 +123,7 @@ module _ {f : Frame} {s : Site} {made : Made} (making : IsMaking f s made []) (m
             let given : is_given c found.names m.name ≡ true =
             ap (λ (b : Bool). is_standard m.name || (b || list_any (λ (j : ℕ). j == m.name) found.names)) has ∙ either_true (is_standard m.name) (list_any (λ (j : ℕ). j == m.name) found.names) in
             found.told hand in_hand told same
-            ∙ ap (λ (b : Bool). map member_view old.new.items ++ (if b then new_members c found.names (rest c) else member_view m ∷ new_members c (m.name ∷ found.names) (rest c))) given
+            ∙ ap (λ (b : Bool). map member_view old.members.items ++ (if b then new_members c found.names (rest c) else member_view m ∷ new_members c (m.name ∷ found.names) (rest c))) given
             ∙ ap (λ (ms : Vec Member Global). map member_view ms.items ++ new_members c found.names (rest c)) (sym items);
         hides = λ hand in_hand told same.
             let c = context_of f hand s in
@@ -169,7 +169,7 @@ module _ {f : Frame} {s : Site} {made : Made} (making : IsMaking f s made []) (m
           told = λ hand in_hand told same.
               let c = context_of f hand s in
               found.told hand in_hand told same
-              ∙ ap (λ (b : Bool). map member_view old.new.items ++ (if b then new_members c found.names (rest c) else member_view m ∷ new_members c (m.name ∷ found.names) (rest c))) (given_here hand same told ∙ given);
+              ∙ ap (λ (b : Bool). map member_view old.members.items ++ (if b then new_members c found.names (rest c) else member_view m ∷ new_members c (m.name ∷ found.names) (rest c))) (given_here hand same told ∙ given);
           hides = hides_on old refl;
         })
 
@@ -186,28 +186,28 @@ module _ {f : Frame} {s : Site} {made : Made} (making : IsMaking f s made []) (m
     either_or false b = refl
 
     -- it is new
-    pub found_new : (new : Found) → (is_standard m.name || contains nat_eq old.names m.name) ≡ false → new.new.items ≡ old.new.items ++ m ∷ []
+    pub found_new : (new : Found) → (is_standard m.name || contains nat_eq old.names m.name) ≡ false → new.members.items ≡ old.members.items ++ m ∷ []
         → ((n : ℕ) → contains nat_eq new.names n ≡ cond (nat_eq m.name n) true (contains nat_eq old.names n)) → new.hidden ≡ old.hidden → AreFound f s made all rest new
-    found_new new plain items index hidden =
-        let lacks : contains nat_eq old.names m.name ≡ false = no_index (is_standard m.name) (contains nat_eq old.names m.name) plain in
+    found_new new unlike items index hidden =
+        let lacks : contains nat_eq old.names m.name ≡ false = no_index (is_standard m.name) (contains nat_eq old.names m.name) unlike in
         record {
           new = subst (λ (ms : List Member). AreNewMembers f s made ms) (sym items)
-              (new_more f s made old.new.items m found.new
-              (record { member = member; plain = no_standard (is_standard m.name) (contains nat_eq old.names m.name) plain; unknown = earlier })
+              (new_more f s made old.members.items m found.new
+              (record { member = member; plain = no_standard (is_standard m.name) (contains nat_eq old.names m.name) unlike; unknown = earlier })
               (sym (found.same m.name) ∙ sym (found.index m.name) ∙ lacks));
           names = m.name ∷ found.names;
           same = λ n.
               ap (λ (b : Bool). (m.name == n) || b) (found.same n)
-              ∙ or_swapped (m.name == n) (list_any (λ (j : Member). j.name == n) old.new.items)
-              ∙ ap (λ (b : Bool). list_any (λ (j : Member). j.name == n) old.new.items || b) (sym (or_false (m.name == n)))
-              ∙ sym (list_any-append (λ (j : Member). j.name == n) old.new.items (m ∷ []))
+              ∙ or_swapped (m.name == n) (list_any (λ (j : Member). j.name == n) old.members.items)
+              ∙ ap (λ (b : Bool). list_any (λ (j : Member). j.name == n) old.members.items || b) (sym (or_false (m.name == n)))
+              ∙ sym (list_any-append (λ (j : Member). j.name == n) old.members.items (m ∷ []))
               ∙ ap (λ (ms : List Member). list_any (λ (j : Member). j.name == n) ms) (sym items);
           index = λ n. index n ∙ either_or (nat_eq m.name n) (contains nat_eq old.names n) ∙ ap (λ (b : Bool). (m.name == n) || b) (found.index n);
           told = λ hand in_hand told same.
               let c = context_of f hand s in
               found.told hand in_hand told same
-              ∙ ap (λ (b : Bool). map member_view old.new.items ++ (if b then new_members c found.names (rest c) else member_view m ∷ new_members c (m.name ∷ found.names) (rest c))) (given_here hand same told ∙ plain)
-              ∙ one_more (new_members c (m.name ∷ found.names) (rest c)) old.new.items
+              ∙ ap (λ (b : Bool). map member_view old.members.items ++ (if b then new_members c found.names (rest c) else member_view m ∷ new_members c (m.name ∷ found.names) (rest c))) (given_here hand same told ∙ unlike)
+              ∙ one_more (new_members c (m.name ∷ found.names) (rest c)) old.members.items
               ∙ ap (λ (ms : List Member). map member_view ms ++ new_members c (m.name ∷ found.names) (rest c)) (sym items);
           hides = hides_on new hidden;
         }
@@ -215,6 +215,15 @@ module _ {f : Frame} {s : Site} {made : Made} (making : IsMaking f s made []) (m
         one_more : (more : List plain.Member) (ms : List Member) → map member_view ms ++ member_view m ∷ more ≡ map member_view (ms ++ m ∷ []) ++ more
         one_more more [] = refl
         one_more more (j ∷ ms) = ap (λ (xs : List plain.Member). member_view j ∷ xs) (one_more more ms)
+
+    -- whichever it is
+    pub found_added : (new : Found) → ((is_standard m.name || contains nat_eq old.names m.name) ≡ true → new ≡ old) → ((is_standard m.name || contains nat_eq old.names m.name) ≡ false → new.members.items ≡ old.members.items ++ m ∷ [])
+        → ((is_standard m.name || contains nat_eq old.names m.name) ≡ false → (n : ℕ) → contains nat_eq new.names n ≡ cond (nat_eq m.name n) true (contains nat_eq old.names n)) → new.hidden ≡ old.hidden → AreFound f s made all rest new
+    found_added new given items index hidden = go (is_standard m.name || contains nat_eq old.names m.name) refl
+      where
+        go : (b : Bool) → (is_standard m.name || contains nat_eq old.names m.name) ≡ b → AreFound f s made all rest new
+        go true e = found_given new e (given e)
+        go false e = found_new new e (items e) (index e) hidden
 
 -- in another frame that is the same
 pub found_framed : {f g : Frame} (s : Site) (made : Made) (all rest : Context → List plain.Member) (found : Found) → f ≡ g → AreFound f s made all rest found → AreFound g s made all rest found
@@ -226,10 +235,6 @@ found_framed s made all rest found e h = subst (λ (k : Frame). AreFound k s mad
 abbrev pub constants_left : (scope o end : ℕ) → Context → List plain.Member
 constants_left scope o end c = constants_from scope o (take (end - o) (drop o (rows_at c.scene.tables scope)))
 
-abbrev with_member : Option plain.Member → List plain.Member → List plain.Member
-with_member None rest = rest
-with_member (Some m) rest = m ∷ rest
-
 take_none : (n : ℕ) → take n (let xs : List Row = [] in xs) ≡ []
 take_none zero = refl
 take_none (suc n) = refl
@@ -239,11 +244,6 @@ past_row [] zero d h = refl
 past_row [] (suc o) d h = refl
 past_row (r ∷ rows) zero d h = absurd (omega (arith, h))
 past_row (r ∷ rows) (suc o) d h = past_row rows o d (omega (arith, h))
-
-drop_row : (rows : List Row) (o : ℕ) (d : Row) → o < length rows → drop o rows ≡ slice_index_or rows o d ∷ drop (o + 1) rows
-drop_row [] o d h = absurd (omega (arith, h))
-drop_row (r ∷ rows) zero d h = refl
-drop_row (r ∷ rows) (suc o) d h = drop_row rows o d (omega (arith, h))
 
 within_or_past : (i n : ℕ) → (i < n) ⊎ (n ≤ i)
 within_or_past i n = grind arith
@@ -272,7 +272,7 @@ left_step scope o end c below = go (within_or_past o (length (rows_at c.scene.ta
         → constants_from scope o (take (end - o) (drop o rows)) ≡ with_member (constant_by (at_place scope o) row) (constants_from scope (o + 1) (take (end - (o + 1)) (drop (o + 1) rows)))
     go (inl within) =
         ap (λ n. constants_from scope o (take n (drop o rows))) count
-        ∙ ap (λ (rs : List Row). constants_from scope o (take (suc (end - (o + 1))) rs)) (drop_row rows o (row_of 0 0 Broken) within)
+        ∙ ap (λ (rs : List Row). constants_from scope o (take (suc (end - (o + 1))) rs)) (drop_more rows o (row_of 0 0 Broken) within)
         ∙ by_test (at_place scope o) row (constants_from scope (o + 1) (take (end - (o + 1)) (drop (o + 1) rows)))
     go (inr past) =
         ap (λ (rs : List Row). constants_from scope o (take (end - o) rs)) (drop_all o rows past)
@@ -302,7 +302,7 @@ found_rest {f} {s} {made} {all} rest more {found} e h =
       same = h.same;
       index = h.index;
       told = λ hand in_hand told same. let c = context_of f hand s in
-          h.told hand in_hand told same ∙ ap (λ (ms : List plain.Member). map member_view found.new.items ++ new_members c h.names ms) (e hand in_hand told same);
+          h.told hand in_hand told same ∙ ap (λ (ms : List plain.Member). map member_view found.members.items ++ new_members c h.names ms) (e hand in_hand told same);
       hides = λ hand in_hand told same. let c = context_of f hand s in
           h.hides hand in_hand told same ∙ ap (λ (ms : List plain.Member). found.hidden || list_any (is_hidden c) ms) (e hand in_hand told same);
     }
@@ -322,6 +322,37 @@ found_all {f} {s} {made} all every {rest} {found} e h =
           ap (list_any (is_hidden c)) (sym (e hand in_hand told same)) ∙ h.hides hand in_hand told same;
     }
 
+-- one place more
+pub place_taken : {f g : Frame} {s : Site} {made : Made} (scope first end o : ℕ) (old new : Found) → g ≡ f → o < end → AreFound f s made (constants_left scope first end) (constants_left scope o end) old
+    → ((all rest : Context → List plain.Member) → AreFound g s made all (λ c. with_member (constant_by (at_place scope o) (row_at c.scene.tables (at_place scope o))) (rest c)) old → AreFound g s made all rest new)
+    → AreFound f s made (constants_left scope first end) (constants_left scope (o + 1) end) new
+place_taken {f} {g} {s} {made} scope first end o old new same below found step =
+    let all = constants_left scope first end in
+    let next : Context → List plain.Member = (λ c. with_member (constant_by (at_place scope o) (row_at c.scene.tables (at_place scope o))) (constants_left scope (o + 1) end c)) in
+    let here : AreFound f s made all next old = found_rest (constants_left scope o end) next (λ hand in_hand told so. left_step scope o end (context_of f hand s) below) found in
+    found_framed s made all (constants_left scope (o + 1) end) new same (step all (constants_left scope (o + 1) end) (found_framed s made all next old (sym same) here))
+
+-- nothing at a place
+pub place_passed : {f : Frame} {s : Site} {made : Made} {all rest : Context → List plain.Member} (p : Place) (o : Option plain.Member) (old : Found) → o ≡ None → WhereMaking f made (λ hand. o ≡ constant_by p (row_at (context_of f hand s).scene.tables p))
+    → AreFound f s made all (λ c. with_member (constant_by p (row_at c.scene.tables p)) (rest c)) old → AreFound f s made all rest old
+place_passed {f} {s} {made} {all} {rest} p o old none told found =
+    found_rest (λ c. with_member (constant_by p (row_at c.scene.tables p)) (rest c)) rest
+    (λ hand in_hand t same. ap (λ (k : Option plain.Member). with_member k (rest (context_of f hand s))) (sym (told hand in_hand t same) ∙ none)) found
+
+-- a constant at a place
+pub place_found : {f : Frame} {s : Site} {made : Made} {all rest : Context → List plain.Member} (p : Place) (o : Option plain.Member) (m : plain.Member) (old : Found) → o ≡ Some m → WhereMaking f made (λ hand. o ≡ constant_by p (row_at (context_of f hand s).scene.tables p))
+    → AreFound f s made all (λ c. with_member (constant_by p (row_at c.scene.tables p)) (rest c)) old → AreFound f s made all (λ c. m ∷ rest c) old
+place_found {f} {s} {made} {all} {rest} p o m old some told found =
+    found_rest (λ c. with_member (constant_by p (row_at c.scene.tables p)) (rest c)) (λ c. m ∷ rest c)
+    (λ hand in_hand t same. ap (λ (k : Option plain.Member). with_member k (rest (context_of f hand s))) (sym (told hand in_hand t same) ∙ some)) found
+
+-- a row that is missing
+pub missing_row : (rows : List Row) (o : ℕ) (d : Row) → slice_get rows o ≡ None → slice_index_or rows o d ≡ d
+missing_row [] zero d h = refl
+missing_row [] (suc o) d h = refl
+missing_row (r ∷ rows) zero d h = absurd (cc)
+missing_row (r ∷ rows) (suc o) d h = missing_row rows o d h
+
 -- ** The end
 
 too_many_more : (k m n : ℕ) → nat_lt k m ≡ true → m ≤ n → nat_lt k n ≡ true
@@ -334,11 +365,11 @@ seen_all {f} {s} {made} {all} {rest} {found} h none =
       new = h.new;
       told = λ at hand in_hand told same.
           let c = context_of f hand s in
-          let new : new_members c [] (all c) ≡ map member_view found.new.items =
-          h.told hand in_hand told same ∙ ap (λ (ms : List plain.Member). map member_view found.new.items ++ new_members c h.names ms) (none hand in_hand told same) ∙ append-nil (map member_view found.new.items) in
+          let new : new_members c [] (all c) ≡ map member_view found.members.items =
+          h.told hand in_hand told same ∙ ap (λ (ms : List plain.Member). map member_view found.members.items ++ new_members c h.names ms) (none hand in_hand told same) ∙ append-nil (map member_view found.members.items) in
           let hidden : list_any (is_hidden c) (all c) ≡ found.hidden =
           h.hides hand in_hand told same ∙ ap (λ (ms : List plain.Member). found.hidden || list_any (is_hidden c) ms) (none hand in_hand told same) ∙ or_false found.hidden in
-          ap (λ (ms : List plain.Member). brings c at (all c) ms) new ∙ by_hidden c at (list_any (is_hidden c) (all c)) found.hidden (map member_view found.new.items) hidden;
+          ap (λ (ms : List plain.Member). brings c at (all c) ms) new ∙ by_hidden c at (list_any (is_hidden c) (all c)) found.hidden (map member_view found.members.items) hidden;
     }
   where
     by_hidden : (c : Context) (at : ℕ) (a b : Bool) (new : List plain.Member) → a ≡ b
@@ -348,25 +379,36 @@ seen_all {f} {s} {made} {all} {rest} {found} h none =
     by_hidden c at a b new e = ap (λ (t : Bool). brings_new c at new t) e
 
 -- so many are seen that they are too many
-pub seen_enough : {f : Frame} {s : Site} {made : Made} {all rest : Context → List plain.Member} {found : Found} → AreFound f s made all rest found → nat_lt MOST_BROUGHT (length s.layout.now.brought + length found.new.items) ≡ true → AreSeen f s made all found
+pub seen_enough : {f : Frame} {s : Site} {made : Made} {all rest : Context → List plain.Member} {found : Found} → AreFound f s made all rest found → nat_lt MOST_BROUGHT (length s.layout.now.brought + length found.members.items) ≡ true → AreSeen f s made all found
 seen_enough {f} {s} {made} {all} {rest} {found} h many =
     record {
       new = h.new;
       told = λ at hand in_hand told same.
           let c = context_of f hand s in
           let more = new_members c h.names (rest c) in
-          let count = length-map found.new.items member_view in
-          let joined = length-append (map member_view found.new.items) more in
-          let new : new_members c [] (all c) ≡ map member_view found.new.items ++ more = h.told hand in_hand told same in
-          let over : are_too_many c (map member_view found.new.items) ≡ true =
-          too_many_more MOST_BROUGHT (length s.layout.now.brought + length found.new.items) (length s.layout.now.brought + length (map member_view found.new.items)) many (omega (arith, count)) in
-          let all_over : are_too_many c (map member_view found.new.items ++ more) ≡ true =
-          too_many_more MOST_BROUGHT (length s.layout.now.brought + length found.new.items) (length s.layout.now.brought + length (map member_view found.new.items ++ more)) many (omega (arith, count, joined)) in
+          let count = length-map found.members.items member_view in
+          let joined = length-append (map member_view found.members.items) more in
+          let new : new_members c [] (all c) ≡ map member_view found.members.items ++ more = h.told hand in_hand told same in
+          let over : are_too_many c (map member_view found.members.items) ≡ true =
+          too_many_more MOST_BROUGHT (length s.layout.now.brought + length found.members.items) (length s.layout.now.brought + length (map member_view found.members.items)) many (omega (arith, count)) in
+          let all_over : are_too_many c (map member_view found.members.items ++ more) ≡ true =
+          too_many_more MOST_BROUGHT (length s.layout.now.brought + length found.members.items) (length s.layout.now.brought + length (map member_view found.members.items ++ more)) many (omega (arith, count, joined)) in
           ap (λ (ms : List plain.Member). brings c at (all c) ms) new
-          ∙ too_many c at (are_too_many c (map member_view found.new.items ++ more)) _ all_over
-          ∙ sym (too_many c at (are_too_many c (map member_view found.new.items)) _ over);
+          ∙ too_many c at (are_too_many c (map member_view found.members.items ++ more)) _ all_over
+          ∙ sym (too_many c at (are_too_many c (map member_view found.members.items)) _ over);
     }
   where
     too_many : (c : Context) (at : ℕ) (b : Bool) (other : Makes (List Named)) → b ≡ true
         → (if b then record { value = []; rows = []; diags = diag c at too_many_constants ∷ []; answers = [] } else other) ≡ record { value = []; rows = []; diags = diag c at too_many_constants ∷ []; answers = [] }
     too_many c at b other e = ap (λ (t : Bool). if t then record { value = []; rows = []; diags = diag c at too_many_constants ∷ []; answers = [] } else other) e
+
+-- those that are seen, told otherwise
+pub seen_as : {f : Frame} {s : Site} {made : Made} (all every : Context → List plain.Member) (found : Found) → WhereMaking f made (λ hand. all (context_of f hand s) ≡ every (context_of f hand s)) → AreSeen f s made all found → AreSeen f s made every found
+seen_as {f} {s} {made} all every found e h =
+    record {
+      new = h.new;
+      told = λ at hand in_hand told same. let c = context_of f hand s in ap (λ (ms : List plain.Member). brought_by c at ms) (sym (e hand in_hand told same)) ∙ h.told at hand in_hand told same;
+    }
+
+pub seen_framed : {f g : Frame} (s : Site) (made : Made) (all : Context → List plain.Member) (found : Found) → f ≡ g → AreSeen f s made all found → AreSeen g s made all found
+seen_framed s made all found e h = subst (λ (k : Frame). AreSeen k s made all found) e h

@@ -95,9 +95,9 @@ pub earlier_none : (l : Layout) (next name : ℕ) → earlier_row l next name �
 earlier_none l next name h plain = ap (λ (b : Bool). if b then None else ordinal_before next (first_entry l name)) (sym plain) ∙ h
 
 led_other_by : (scene : Scene) (e : Entry) (m : RowMeaning) → ((p : Place) → m ≡ Alias p → ⊥) → (followed_by scene e m).0 ≡ e.0
-led_other_by scene e (Alias p) no = absurd (no p refl)
-led_other_by scene e other no = refl
+led_other_by scene e (Alias p) unlike = absurd (unlike p refl)
+led_other_by scene e other unlike = refl
 
 -- any other row leads to itself
 pub led_itself : (scene : Scene) (k : ℕ) (m : RowMeaning) → m ≡ row_meaning (row_at scene.tables (at_place scene.block.scope k)) → ((p : Place) → m ≡ Alias p → ⊥) → at_place scene.block.scope k ≡ led scene k
-led_itself scene k m e no = sym (ap (λ (n : RowMeaning). (followed_by scene (own_entry scene k) n).0) (sym e) ∙ led_other_by scene (own_entry scene k) m no)
+led_itself scene k m e unlike = sym (ap (λ (n : RowMeaning). (followed_by scene (own_entry scene k) n).0) (sym e) ∙ led_other_by scene (own_entry scene k) m unlike)

@@ -4,18 +4,19 @@ ghost use Rattle.std.specs.List.{list_any};
 ghost use Rattle.std.specs.Option.{IfSome};
 ghost use Rattle.std.specs.Prelude.{◌≡◌, ◌<◌, ◌+◌, ◌++◌, ◌∷◌, ◌||◌, ◌^◌, ℕ, List, [], length, map, nat_eq, nat_lt, option_map, true, false, cond, not, ◌≢◌, Some, IfOk};
 ghost use Rattle.m2_base.specs.Asks.{IfKnown, IfWaits};
-ghost use Rattle.m2_base.specs.Rows.{HasSmallNumbers, at_place, is_same_place, row_meaning};
+ghost use Rattle.m2_base.specs.Rows.{Fits, HasSmallNumbers, at_place, is_same_place, row_meaning};
 ghost use Rattle.m2_base.specs.Standard.{is_standard as spec_is_standard};
-ghost use Rattle.m2_base.specs.States.{Waits};
-ghost use Rattle.m2_base.specs.Statics.Contexts.{Context, row_at};
-ghost use Rattle.m2_base.specs.Statics.ImportedConstants.{Member as PlainMember, leads_elsewhere, members_of};
+ghost use Rattle.m2_base.specs.States.{Frame, Waits};
+ghost use Rattle.m2_base.specs.declared.sites.Around.{Around as Surroundings};
+ghost use Rattle.m2_base.specs.Statics.Contexts.{Context, Scene, row_at};
+ghost use Rattle.m2_base.specs.Statics.ImportedConstants.{Member as PlainMember, leads_elsewhere, members_of, members_of_row};
 ghost use Rattle.m2_base.specs.Statics.Lookup.{entry_at, entry_in};
 ghost use Rattle.m2_base.specs.Statics.Uses.{followed};
 ghost use Rattle.m2_base.specs.declared.limits.TheConstants as limits;
 ghost use Rattle.type_rules.specs.Asks.{Reads, WhereKnown, WhereWaiting};
-ghost use Rattle.type_rules.specs.Scenes.{IsRowOf, IsThere, WhereTold, rows_of, scene_of};
+ghost use Rattle.type_rules.specs.Scenes.{IsRowOf, IsThere, Suits, WhereTold, rows_of, scene_of};
 ghost use Rattle.type_rules.specs.Sites.{SuitsSite};
-ghost use Rattle.decl_sem.specs.FoundConstants.{AreFound, AreSeen, IsMember, constant_by, constants_of, member_view};
+ghost use Rattle.decl_sem.specs.FoundConstants.{AreFound, AreSeen, IsMember, constant_by, constants_of, member_view, members_of_named, with_member};
 ghost use Rattle.decl_sem.specs.Making.{next_ordinal};
 ghost use Rattle.decl_sem.specs.NewNames.{earlier_row};
 ghost use Rattle.decl_sem.specs.Pieces.{IsMaking, WhereMaking};
@@ -42,7 +43,7 @@ pub(crate) struct Member {
 /// and whether one of the others is hidden behind another row of the block.
 #[derive(Drop)]
 pub(crate) struct Found {
-    pub(crate) new: Vec<Member>,
+    pub(crate) members: Vec<Member>,
     pub(crate) names: HashSet<u32>,
     pub(crate) hidden: bool,
 }
@@ -50,12 +51,12 @@ pub(crate) struct Found {
 impl Found {
     /// Nothing yet.
     fn new(alloc: Global) -> Found
-        ensures new { result.new.items ≡ [] }
+        ensures members { result.members.items ≡ [] }
         ensures names { (n : ℕ) → contains nat_eq result.names n ≡ false }
         ensures hidden { result.hidden ≡ false }
     {
         Found {
-            new: Vec::new(alloc),
+            members: Vec::new(alloc),
             names: HashSet::new(alloc),
             hidden: false,
         }
@@ -64,7 +65,7 @@ impl Found {
     /// One more constant, unless its name is a standard one or that of a new one.
     fn add(&mut self, member: Member) -> Result<(), Memory>
         ensures given { IfOk result (λ _. (spec_is_standard member.name || contains nat_eq self.old.names member.name) ≡ true → self.new ≡ self.old) }
-        ensures items { IfOk result (λ _. (spec_is_standard member.name || contains nat_eq self.old.names member.name) ≡ false → self.new.new.items ≡ self.old.new.items ++ member ∷ []) }
+        ensures items { IfOk result (λ _. (spec_is_standard member.name || contains nat_eq self.old.names member.name) ≡ false → self.new.members.items ≡ self.old.members.items ++ member ∷ []) }
         ensures names { IfOk result (λ _. (spec_is_standard member.name || contains nat_eq self.old.names member.name) ≡ false → (n : ℕ) → contains nat_eq self.new.names n ≡ cond (nat_eq member.name n) true (contains nat_eq self.old.names n)) }
         ensures hidden { IfOk result (λ _. self.new.hidden ≡ self.old.hidden) }
     {
@@ -72,8 +73,17 @@ impl Found {
             return Ok(());
         }
         self.names.insert(member.name)?;
-        self.new.push(member)?;
+        self.members.push(member)?;
         Ok(())
+    }
+
+    /// One more constant that the block has: it may be hidden.
+    fn hide(&mut self, hidden: bool)
+        ensures members { self.new.members ≡ self.old.members }
+        ensures names { self.new.names ≡ self.old.names }
+        ensures hidden { self.new.hidden ≡ (self.old.hidden || hidden) }
+    {
+        self.hidden = self.hidden || hidden;
     }
 }
 
@@ -158,7 +168,7 @@ fn take_member<S: Scopes>(
         return Ok(Ask::Known(()));
     };
     let target = asked!(leads_to(scopes, site, made, ordinal));
-    found.hidden = found.hidden || differ(target, member.place);
+    found.hide(differ(target, member.place));
     Ok(Ask::Known(()))
 }
 
@@ -192,11 +202,31 @@ fn constant_at<S: Scopes>(scopes: &mut S, site: &Site, place: Place) -> Ask<Opti
     }
 }
 
+/// The constant at a place of a scope before, if there is one.
+fn take_place<S: Scopes>(
+    scopes: &mut S,
+    site: &Site,
+    made: &Made,
+    place: Place,
+    found: &mut Found,
+) -> Result<Ask<()>, Memory>
+    requires making { IsMaking (S.state scopes.old).frame site.now made.now [] }
+    requires before { place.scope < (S.state scopes.old).frame.setting.fills }
+    ensures reads { Reads (S.state scopes.old) (S.state scopes.new) }
+    ensures waits { IfWaits result (λ head. Waits (S.state scopes.old) (S.state scopes.new) head) }
+    ensures found { IfKnown result (λ _. (all rest : Context → List PlainMember) → AreFound (S.state scopes.old).frame site.now made.now all (λ c. with_member (constant_by place (row_at c.scene.tables place)) (rest c)) found.old → AreFound (S.state scopes.old).frame site.now made.now all rest found.new) }
+{
+    let Some(member) = asked!(constant_at(scopes, site, place)) else {
+        return Ok(Ask::Known(()));
+    };
+    take_member(scopes, site, made, member, found)
+}
+
 /// Whether the block's imports would bring too many with these.
 pub(crate) fn is_full(site: &Site, found: &Found) -> bool
-    ensures { result ≡ nat_lt limits.MOST_BROUGHT (length site.now.layout.now.brought + length found.now.new.items) }
+    ensures { result ≡ nat_lt limits.MOST_BROUGHT (length site.now.layout.now.brought + length found.now.members.items) }
 {
-    MOST_BROUGHT < site.layout.count_brought() + found.new.len()
+    MOST_BROUGHT < site.layout.count_brought().saturating_add(found.members.len())
 }
 
 /// The constants of an enumeration at this place that has so many, or so many of them that they are too many. An enumeration
@@ -220,9 +250,8 @@ fn constants_in<S: Scopes>(
     };
     for ordinal in first..end {
         let scope = of.scope;
-        if let Some(member) = asked!(constant_at(scopes, site, Place { scope, ordinal })) {
-            analysed!(take_member(scopes, site, made, member, &mut found));
-        }
+        let place = Place { scope, ordinal };
+        analysed!(take_place(scopes, site, made, place, &mut found));
         if is_full(site, &found) {
             return Ok(Ask::Known(found));
         }
@@ -244,6 +273,19 @@ fn ordinals_of(site: &Site, of: Place, count: u32) -> Option<(u32, u32)>
     Some((first, end))
 }
 
+/// The type to which the name of a type leads, unless it is one of the standard scope.
+fn named_type(row: &Row, place: Place) -> Option<Place>
+    requires small { HasSmallNumbers (row_meaning row.now) }
+    ensures told { (scene : Scene) → members_of_row scene (row_meaning row.now) ≡ members_of_named scene result }
+    ensures there { (f : Frame) (a : Surroundings) (n : ℕ) → Suits f a → IsThere f place → Fits n place (row_meaning row.now) → IfSome result (λ t. IsThere f t) }
+{
+    let _place = small_place(place);
+    match read_row(row) {
+        RowMeaning::TypeName(of) if of.scope != 0 => Some(of),
+        _ => None,
+    }
+}
+
 /// The enumeration to whose name an entry leads: its place, and the number of its constants. The standard scope's brings nothing.
 fn enumeration_of<S: Scopes>(
     scopes: &mut S,
@@ -257,15 +299,12 @@ fn enumeration_of<S: Scopes>(
     ensures told { WhereTold (S.state scopes.old).frame (λ made.
         WhereKnown result (λ of. let scene = scene_of (S.state scopes.old).frame made site.now.around.now in members_of scene entry ≡ constants_of scene of)) }
 {
-    let Some((_, row)) = entry else {
+    let Some((place, row)) = entry else {
         return Ask::Known(None);
     };
-    let RowMeaning::TypeName(of) = read_row(&row) else {
+    let Some(of) = named_type(&row, place) else {
         return Ask::Known(None);
     };
-    if of.scope == 0 {
-        return Ask::Known(None);
-    }
     match known!(meaning_at(scopes, site.around, of)) {
         RowMeaning::Enum(count) => Ask::Known(Some((of, count))),
         _ => Ask::Known(None),

@@ -229,8 +229,8 @@ fn put_found(
     made: &mut Made,
 ) -> Result<Vec<Named>, Memory>
     requires room { next_ordinal made.old < 2 ^ 32 - 16384 }
-    requires places { Each (λ m. m.place.scope < 2 ^ 31) found.now.new.items }
-    ensures { (a : State) → IsMaking a.frame site.now made.old [] → AreNewMembers a.frame site.now made.old found.now.new.items → DeclaresWith a a made.old made.new site.now (known_of (listed_of result)) [] all_names IsAny (λ c. brings_new c at (map member_view found.now.new.items) found.now.hidden) }
+    requires places { Each (λ m. m.place.scope < 2 ^ 31) found.now.members.items }
+    ensures { (a : State) → IsMaking a.frame site.now made.old [] → AreNewMembers a.frame site.now made.old found.now.members.items → DeclaresWith a a made.old made.new site.now (known_of (listed_of result)) [] all_names IsAny (λ c. brings_new c at (map member_view found.now.members.items) found.now.hidden) }
 {
     let text = site.around.text;
     if is_full(site, found) {
@@ -240,7 +240,7 @@ fn put_found(
     if found.hidden {
         made.notes.refuse(text, at, Diagnostic::DeclaredTwice)?;
     }
-    put_members(alloc, site, at, &found.new, made)
+    put_members(alloc, site, at, &found.members, made)
 }
 
 /// The names that an entry brings.
