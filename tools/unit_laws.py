@@ -6,9 +6,10 @@ usage: unit_laws.py CASES.jsonl FOLDER NAME..
 A line of CASES.jsonl is a unit: its files, and for each block its finished rows as [name, kind, at, a, b, c, e], with
 names, strings and fields' names written out; all diagnostics as [file, token, code] and all answers as [file, token,
 scope, ordinal]. What stands in a body is left out here, as are the diagnostics of a block's size. FOLDER is the folder
-of m2_base's proofs; each unit NAME gets a file in FOLDER/units.
+of m2_base's proofs; each unit NAME gets a file in FOLDER/units, and FOLDER/units.antt lists all that are there.
 """
 import json
+import pathlib
 import re
 import sys
 
@@ -551,14 +552,19 @@ def used(text):
     return "\n".join(out)
 
 
+def module(name):
+    """The name of a unit's file: own_name_too has OwnNameToo."""
+    return "".join(word.capitalize() for word in name.split("_"))
+
+
 def main():
+    folder = pathlib.Path(sys.argv[2])
     cases = {c["name"]: c for c in map(json.loads, open(sys.argv[1], encoding="latin-1"))}
     for name in sys.argv[3:]:
-        with open("%s/units/%s.antt" % (sys.argv[2], name.capitalize()), "w", encoding="utf-8") as out:
-            out.write(used(law(cases[name])))
-    with open("%s/units.antt" % sys.argv[2], "w", encoding="utf-8") as out:
-        out.write("-- Units whose rows, diagnostics and answers were calculated apart, and are computed here.\n")
-        out.write("".join("pub mod %s\n" % name.capitalize() for name in sorted(sys.argv[3:])))
+        (folder / "units" / (module(name) + ".antt")).write_text(used(law(cases[name])), "utf-8")
+    lines = ["pub mod %s\n" % path.stem for path in sorted((folder / "units").glob("*.antt"))]
+    head = "-- Units whose rows, diagnostics and answers were calculated apart, and are computed here.\n"
+    (folder / "units.antt").write_text(head + "".join(lines), "utf-8")
 
 
 if __name__ == "__main__":

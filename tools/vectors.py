@@ -1,10 +1,12 @@
 #!/usr/bin/env python3
 """Writes the files of cases that tests/README.md tells of from the outside vectors.
 
-usage: vectors.py FOLDER [STAGE]
+usage: vectors.py FOLDER
 
-FOLDER has the vectors, a set in each file NAME.jsonl and a case in each line, and the files go to crates/m2_cases/data. STAGE is
-`final` if left out: imported enumeration types bring their constants, and objects have version 2; `first` has neither.
+FOLDER has the vectors, a set in each file NAME.jsonl and a case in each line, and the files go to crates/m2_cases/data. Of
+answers with stages the `final` one is taken, that of the finished language. Units have no stages: those of brought.jsonl are of the
+finished language, those of rows.jsonl of an earlier one, in which imported enumeration types bring nothing. So of the latter
+the units that import one are left out, and how many is printed.
 """
 import functools
 import json
@@ -15,11 +17,14 @@ import sys
 ROOT = pathlib.Path(__file__).resolve().parent.parent
 KIND = re.compile(r"^    ([A-Z][A-Za-z]+) = ([0-9]+),$", re.M)
 STRING, CUT = 4, 6
+# the kinds of the rows of types' names, of aliases and of enumerations
+TYPE_NAME, ALIAS, ENUM = 2, 6, 11
+# a place in one number: the scope, and the ordinal in so many bits
+ORDINAL_BITS = 32
 TRAP = re.compile(rb"trap ([0-9]) [a-z]+ in ([A-Za-z0-9_]+) procedure ([0-9]+) at ([0-9]+)\n\Z")
 SPENT = b"steps spent\n"
 # the codes of what the text alone is refused for
 FAULTS = ("10", "11", "12", "13", "20")
-KEY = 32
 
 
 def escaped(text):
@@ -54,6 +59,10 @@ def kinds():
     return {int(number): name for name, number in KIND.findall(source)}
 
 
+def read(folder, name):
+    return [json.loads(line) for line in open(folder / (name + ".jsonl"))]
+
+
 def files_of(case):
     for name, text in case["files"].items():
         yield "file " + name
@@ -66,7 +75,7 @@ def token(names, found):
     return "> %d:%d %s %s" % (line, column, names[kind], spelled)
 
 
-def lex(case, stage):
+def lex(case):
     names = kinds()
     return text_lines(case["text"]) + [token(names, found) for found in case["tokens"]]
 
@@ -77,7 +86,7 @@ def stream(names, tokens):
         yield "> %d %s%s" % (at, names[kind], " %d" % value if kind == CUT else "")
 
 
-def streams(case, stage):
+def streams(case):
     names, lines = kinds(), text_lines(case["text"])
     for found in case["streams"]:
         lines += stream(names, found if isinstance(found, list) else found["tokens"])
@@ -90,7 +99,7 @@ def row(found):
     return "> row %s %d %d %d %s %d %s" % ("-" if name is None else name, kind, at, a, b, c, "-" if e is None else e)
 
 
-def rows(case, stage):
+def rows(case):
     lines = ["main " + case["main"], *files_of(case)]
     for block in case["blocks"]:
         chain = " ".join(map(str, block["chain"]))
@@ -101,6 +110,35 @@ def rows(case, stage):
     return lines
 
 
+def row_at(blocks, place):
+    """The row at a place; none in the standard scope, whose block no case has."""
+    return blocks[place >> ORDINAL_BITS][place % 2**ORDINAL_BITS] if place >> ORDINAL_BITS else None
+
+
+def leads_to(blocks, found):
+    """Where a row leads, aliases followed."""
+    while found and found[1] == ALIAS:
+        found = row_at(blocks, found[3])
+    return found
+
+
+def imports_enumeration(case):
+    """An import of one of the unit's blocks leads to the name of a type that is an enumeration."""
+    blocks = {block["scope"]: block["rows"] for block in case["blocks"]}
+    aliases = [found for rows_of in blocks.values() for found in rows_of if found[1] == ALIAS]
+    names = [found for found in (leads_to(blocks, alias) for alias in aliases) if found and found[1] == TYPE_NAME]
+    types = [row_at(blocks, name[3]) for name in names]
+    return any(found and found[1] == ENUM for found in types)
+
+
+def units(folder):
+    """The units of the finished language: those of rows.jsonl on which both languages agree, and all of brought.jsonl."""
+    earlier = read(folder, "rows")
+    agreed = [case for case in earlier if not imports_enumeration(case)]
+    print("rows: %d units of an earlier language left out" % (len(earlier) - len(agreed)))
+    return agreed + read(folder, "brought")
+
+
 def fault(case, answer):
     """The line and the column of the text's fault, with its code, where the text alone is refused."""
     found = re.match(r"(\w+)\.mod:(\d+:\d+: \d+) ", answer["printed"])
@@ -109,8 +147,8 @@ def fault(case, answer):
     return []
 
 
-def module(case, stage):
-    answer = case[stage]
+def module(case):
+    answer = case["final"]
     lines = ["main " + case["main"], *files_of(case), "status %d" % answer["status"]]
     lines += ["object " + answer["object"]] if answer["object"] else []
     for code in case.get("procedures", []):
@@ -118,42 +156,14 @@ def module(case, stage):
     return lines + ["> " + escaped(line) for line in answer["printed"].splitlines()]
 
 
-def syntax(case, stage):
-    return module(case, stage) + fault(case, case[stage])
+def syntax(case):
+    return module(case) + fault(case, case["final"])
 
 
-def objects(case, stage):
-    answer = case[stage]
+def objects(case):
+    answer = case["final"]
     told = "object" if answer["valid"] else "bad object at %(offset)d code %(code)d" % answer
     return [("object " + case["hex"]).rstrip(), "> " + told]
-
-
-def word(data, at):
-    return int.from_bytes(data[at:at + 4], "little")
-
-
-def keys(data):
-    """Where the keys of an object of version 2 stand."""
-    at = 12 + word(data, 8) + 8
-    yield at
-    at += KEY
-    at += 4 + 12 * word(data, at)
-    imports = word(data, at)
-    at += 4
-    for _ in range(imports):
-        at += 4 + word(data, at)
-        yield at
-        at += KEY + 4
-        at += 4 + 8 * word(data, at)
-
-
-def without_keys(data):
-    """An object of version 2 as one of version 1."""
-    kept, first = [data[:4], b"\1\0\0\0"], 8
-    for at in keys(data):
-        kept.append(data[first:at])
-        first = at + KEY
-    return b"".join(kept) + data[first:]
 
 
 def end(case):
@@ -170,20 +180,11 @@ def end(case):
     return printed.decode().rstrip("\n"), b""
 
 
-def run_object(case, stage, text):
-    """An object of a run. The keys of version 2 are no part of a run, and are left out for a stage that has none."""
-    data = bytes.fromhex(text)
-    ends_by_key = b"key differs" in bytes.fromhex(case["printed"])
-    if stage == "first" and case["versions"] == [2] and not ends_by_key and data[4:5] == b"\2":
-        return without_keys(data).hex()
-    return text
-
-
-def runs(case, stage):
+def runs(case):
     command, name, _, steps, _, cells = case["words"]
     told, printed = end(case)
     lines = ["main " + name, "steps " + steps, "cells " + cells, "input " + quoted_bytes(case["input"])]
-    lines += ["object %s %s" % (file, run_object(case, stage, text)) for file, text in case["files"].items()]
+    lines += ["object %s %s" % found for found in case["files"].items()]
     lines.append("> " + told)
     if case["status"] in (0, 9, 10):
         lines += ["> printed " + quoted(printed.decode("latin-1")), "> left " + quoted_bytes(case["left"])]
@@ -199,12 +200,12 @@ def name_of(case):
 
 
 def main():
-    if len(sys.argv) not in (2, 3):
+    if len(sys.argv) != 2:
         sys.exit(__doc__)
-    stage = sys.argv[2] if len(sys.argv) > 2 else "final"
+    folder = pathlib.Path(sys.argv[1])
     for name, lines_of in SETS.items():
-        cases = [json.loads(line) for line in open("%s/%s.jsonl" % (sys.argv[1], name))]
-        lines = [["case " + name_of(case), *lines_of(case, stage), ""] for case in cases]
+        cases = units(folder) if name == "rows" else read(folder, name)
+        lines = [["case " + name_of(case), *lines_of(case), ""] for case in cases]
         text = "\n".join(line for case in lines for line in case)
         (ROOT / "crates/m2_cases/data" / (name + ".txt")).write_text(text, "ascii")
 
