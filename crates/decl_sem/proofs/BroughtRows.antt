@@ -240,18 +240,30 @@ rows_new {f} {s} {x} at o limit (m ∷ ms) making h each =
     (new_row f s o m.name at (Alias m.place) each.0.member.known (record { small = small; scopes = small_scope making behind; fits = before_next behind; filled = tt; owned = tt }),
     rows_new at (o + 1) limit ms making (omega (arith, h)) each.1)
 
+not_full : (k m n : ℕ) → nat_lt k (m + n) ≡ false → n ≤ k - m
+not_full k m n h = grind (arith, h)
+
+few_test : (s : Site) (ms : List Member) (b : Bool) → nat_lt MOST_BROUGHT (length s.layout.now.brought + length ms) ≡ b → (c : Context) → c.layout ≡ s.layout.now → are_too_many c (map member_view ms) ≡ b
+few_test s ms b h c same =
+    ap (λ (l : Layout). nat_lt MOST_BROUGHT (length l.brought + length (map member_view ms))) same
+    ∙ ap (λ (n : ℕ). nat_lt MOST_BROUGHT (length s.layout.now.brought + n)) (length-map ms member_view) ∙ h
+
+-- all that is brought of new constants that are not too many
+abbrev all_new : Context → (at : ℕ) → List plain.Member → (hidden : Bool) → Makes (List Named)
+all_new c at new hidden =
+    record { value = brought_names (unwrap_or c.item 0) (length (own_rows c)) at new; rows = map (brought_row at) new; diags = if hidden then diag c at declared_twice ∷ [] else []; answers = [] }
+
+-- and where they are too many
+abbrev none_new : Context → (at : ℕ) → Makes (List Named)
+none_new c at = record { value = []; rows = []; diags = diag c at too_many_constants ∷ []; answers = [] }
+
+by_few : (c : Context) (at : ℕ) (new : List plain.Member) (hidden : Bool) → are_too_many c new ≡ false → brings_new c at new hidden ≡ all_new c at new hidden
+by_few c at new hidden e = ap (λ (b : Bool). if b then none_new c at else all_new c at new hidden) e
+
+by_many : (c : Context) (at : ℕ) (new : List plain.Member) (hidden : Bool) → are_too_many c new ≡ true → brings_new c at new hidden ≡ none_new c at
+by_many c at new hidden e = ap (λ (b : Bool). if b then none_new c at else all_new c at new hidden) e
+
 module _ {s : Site} {x y : Made} (at : ℕ) (found : Found) (a : State) (making : IsMaking a.frame s x []) (new : AreNewMembers a.frame s x found.members.items) where
-  new_names : List Named
-  new_names = brought_names (unwrap_or s.item 0) (next_ordinal x) at (map member_view found.members.items)
-
-  not_full : (k m n : ℕ) → nat_lt k (m + n) ≡ false → n ≤ k - m
-  not_full k m n h = grind (arith, h)
-
-  few_test : (b : Bool) → nat_lt MOST_BROUGHT (length s.layout.now.brought + length found.members.items) ≡ b → (c : Context) → c.layout ≡ s.layout.now → are_too_many c (map member_view found.members.items) ≡ b
-  few_test b h c same =
-      ap (λ (l : Layout). nat_lt MOST_BROUGHT (length l.brought + length (map member_view found.members.items))) same
-      ∙ ap (λ (n : ℕ). nat_lt MOST_BROUGHT (length s.layout.now.brought + n)) (length-map found.members.items member_view) ∙ h
-
   -- all are put
   pub all_put : (brought : List Named) → brought ≡ brought_names (unwrap_or s.item 0) (next_ordinal x) at (map member_view found.members.items)
       → y.rows.items ≡ x.rows.items ++ map (brought_row at) (map member_view found.members.items)
@@ -280,22 +292,16 @@ module _ {s : Site} {x y : Made} (at : ℕ) (found : Found) (a : State) (making 
         told = λ hand in_hand told same.
             let c = context_of a.frame hand s in
             let count : length (own_rows c) ≡ next_ordinal x = (hand_is making hand same told).count in
-            let right : MakesAll x y (record { value = brought_names (unwrap_or c.item 0) (length (own_rows c)) at (map member_view found.members.items); rows = map (brought_row at) (map member_view found.members.items); diags = if found.hidden then diag c at declared_twice ∷ [] else []; answers = [] }) brought =
+            let right : MakesAll x y (all_new c at (map member_view found.members.items) found.hidden) brought =
             record {
               value_is = is ∙ ap (λ (n : ℕ). brought_names (unwrap_or s.item 0) n at (map member_view found.members.items)) (sym count);
               rows = rows;
               diags = diags;
               answers = answers ∙ sym (append-nil x.notes.answers.items);
             } in
-            subst (λ (m : Makes (List Named)). MakesAll x y m brought) (sym (by_few c (are_too_many c (map member_view found.members.items)) (few_test false few c refl))) right;
+            subst (λ (m : Makes (List Named)). MakesAll x y m brought) (sym (by_few c at (map member_view found.members.items) found.hidden (few_test s found.members.items false few c refl))) right;
         there = tt;
       }
-    where
-      by_few : (c : Context) (b : Bool) → b ≡ false
-          → (if b then record { value = []; rows = []; diags = diag c at too_many_constants ∷ []; answers = [] } else record { value = brought_names (unwrap_or c.item 0) (length (own_rows c)) at (map member_view found.members.items); rows = map (brought_row at) (map member_view found.members.items); diags = if found.hidden then diag c at declared_twice ∷ [] else []; answers = [] })
-          ≡ record { value = brought_names (unwrap_or c.item 0) (length (own_rows c)) at (map member_view found.members.items); rows = map (brought_row at) (map member_view found.members.items); diags = if found.hidden then diag c at declared_twice ∷ [] else []; answers = [] }
-      by_few c true e = absurd (cc)
-      by_few c false e = refl
 
   -- they are too many
   pub none_put : y.rows.items ≡ x.rows.items → y.notes.answers.items ≡ x.notes.answers.items → IsRefused x.notes y.notes s.around.now.text at too_many_constants → y.first ≡ x.first
@@ -318,15 +324,10 @@ module _ {s : Site} {x y : Made} (at : ℕ) (found : Found) (a : State) (making 
         };
         told = λ hand in_hand told same.
             let c = context_of a.frame hand s in
-            subst (λ (m : Makes (List Named)). MakesAll x y m brought) (sym (by_many c (are_too_many c (map member_view found.members.items)) _ (few_test true many c refl)))
+            subst (λ (m : Makes (List Named)). MakesAll x y m brought) (sym (by_many c at (map member_view found.members.items) found.hidden (few_test s found.members.items true many c refl)))
             (record { value_is = none; rows = rows ∙ sym (append-nil x.rows.items); diags = noted; answers = answers ∙ sym (append-nil x.notes.answers.items) });
         there = tt;
       }
-    where
-      by_many : (c : Context) (b : Bool) (other : Makes (List Named)) → b ≡ true
-          → (if b then record { value = []; rows = []; diags = diag c at too_many_constants ∷ []; answers = [] } else other) ≡ record { value = []; rows = []; diags = diag c at too_many_constants ∷ []; answers = [] }
-      by_many c true other e = refl
-      by_many c false other e = absurd (cc)
 
 -- there is room for them
 pub room_for_brought : {f : Frame} {s : Site} {x : Made} {ss : List Shape} → IsMaking f s x ss → next_ordinal x < 2 ^ 32 - 16384

@@ -2,12 +2,12 @@
 use Rattle.std.specs.Prelude.{◌≡◌, ℕ, ◌<◌, ◌^◌, List, [], ◌∷◌, Option, None, Some, Result, Ok, Err}
 use Rattle.std.proofs.Common.{refl, sym, ap, subst, arith}
 use Rattle.std.specs.Option.{IfSome}
-use Rattle.m2_base.specs.Rows.{alias_kind}
+use Rattle.m2_base.specs.Rows.{alias_kind, module_kind}
 use Rattle.m2_base.specs.Standard.{broken}
 use Rattle.m2_base.specs.States.{Frame, State, Waits, Works}
 use Rattle.m2_base.specs.Statics.Contexts.{Context}
 use Rattle.m2_base.specs.Statics.ImportRows.{place_or_broken}
-use Rattle.m2_base.specs.Statics.Makes.{Makes, makes_named, only_gives}
+use Rattle.m2_base.specs.Statics.Makes.{Makes, make_then, makes, makes_named, only_gives}
 use Rattle.m2_base.specs.Statics.Lookup.{Entry}
 use Rattle.m2_base.specs.Statics.Shapes.{Shape, named}
 use Rattle.m2_base.specs.Statics.Uses.{use_of}
@@ -37,7 +37,8 @@ use Rattle.decl_sem.specs.Pieces.{Declares, IsAny, IsBehind, IsMaking, IsNewMean
 use Rattle.decl_sem.specs.declared.making.Made.{Made}
 use Rattle.decl_sem.proofs.ConstantRows.{behind_standard, behind_there}
 use Rattle.decl_sem.proofs.OneRows.{before_next, small_scope}
-use Rattle.decl_sem.proofs.BroughtRows.{bringing_after, bringing_as}
+use Rattle.decl_sem.proofs.BroughtRows.{bringing_after, bringing_as, bringing_none}
+use Rattle.decl_sem.proofs.ItemEffects.{valued}
 use Rattle.decl_sem.proofs.Pieces.{analysed}
 
 -- the entry is that of a row that can be asked for
@@ -71,12 +72,22 @@ known_any P (Ok (DontKnowYet head)) h = tt
 known_any P (Err m) h = tt
 
 -- a name of a module, whose scope is that of the module
-pub member_as : {a b : State} {x y : Made} {s : Site} (module name : Ident) (scope : ℕ) (result : Result (Ask (Vec Named Global)) Memory) → scope ≡ scope_of_module (source_of s.texts.now) module.name
+pub member_as : {a b : State} {x y : Made} {s : Site} (outer name : Ident) (scope : ℕ) (result : Result (Ask (Vec Named Global)) Memory) → scope ≡ scope_of_module (source_of s.texts.now) outer.name
     → DeclaresWith a b x y s (listed result) (named alias_kind name ∷ []) all_names IsAny (λ c. alias_rows c scope name)
-    → DeclaresWith a b x y s (listed result) (named alias_kind name ∷ []) all_names (BringAny (import_item (Some module) name)) (λ c. import_rows c (Some module) name)
-member_as {a} {b} {x} {y} {s} module name scope result is p =
+    → DeclaresWith a b x y s (listed result) (named alias_kind name ∷ []) all_names (BringAny (import_item (Some outer) name)) (λ c. import_rows c (Some outer) name)
+member_as {a} {b} {x} {y} {s} outer name scope result is p =
     bringing_as all_names (listed result) refl (λ hand in_hand told same. ap (λ (n : ℕ). alias_rows (context_of a.frame hand s) n name) is)
-    (known_any (λ bs. BringsIts (import_item (Some module) name) bs) (listed result) (λ bs may. absurd (cc))) p
+    (known_any (λ bs. BringsIts (import_item (Some outer) name) bs) (listed result) (λ bs may. absurd (cc))) p
+
+-- a module brings nothing
+pub module_as : {a : State} {x y : Made} {s : Site} (name : Ident) (p : Place) (brought : List Named) → brought ≡ []
+    → Declares a a x y s (Ok (Known p)) (named module_kind name ∷ []) IsBehind (λ c. makes_named c name.name name.at (Module (scope_of_module (source_of s.texts.now) name.name)))
+    → DeclaresWith a a x y s (Ok (Known brought)) (named module_kind name ∷ []) all_names (BringAny (import_item None name)) (λ c. import_rows c None name)
+module_as {a} {x} {y} {s} name p brought none piece =
+    let row : Context → Makes Place = (λ c. makes_named c name.name name.at (Module (scope_of_module (source_of s.texts.now) name.name))) in
+    let alone : Declares a a x y s (Ok (Known brought)) (named module_kind name ∷ []) IsAny (λ c. make_then c (row c) (λ d q. makes [])) = valued {g = row} IsAny (λ q. []) brought none tt piece in
+    let with : DeclaresWith a a x y s (Ok (Known brought)) (named module_kind name ∷ []) all_names IsAny (λ c. make_then c (row c) (λ d q. makes [])) = bringing_none all_names none tt alone in
+    bringing_as all_names (Ok (Known brought)) refl (λ hand in_hand told same. refl) (λ plain. none) with
 
 -- a search that waits
 pub search_waits : {T : Type 0} {a b : State} {x y : Made} (s : Site) (ss : List Shape) (P : Frame → ℕ → T → Type 0) (g : Context → Makes T) (head : Head) → y.first ≡ x.first → Works a b x.notes y.notes → Waits a b head → Declares a b x y s (Ok (DontKnowYet head)) ss P g

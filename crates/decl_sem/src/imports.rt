@@ -356,17 +356,17 @@ fn member_rows<S: Scopes>(
     alloc: Global,
     scopes: &mut S,
     site: &Site,
-    module: Ident,
+    outer: Ident,
     name: Ident,
     made: &mut Made,
 ) -> Result<Ask<Vec<Named>>, Memory>
     requires making { IsMaking (S.state scopes.old).frame site.now made.old (named alias_kind name ∷ []) }
-    requires read { IsReadName site.now.texts.now.names module }
+    requires read { IsReadName site.now.texts.now.names outer }
     requires named { IsReadName site.now.texts.now.names name }
-    requires before { scope_of_module (source_of site.now.texts.now) module.name < (S.state scopes.old).frame.setting.fills }
-    ensures { DeclaresWith (S.state scopes.old) (S.state scopes.new) made.old made.new site.now (listed result) (named alias_kind name ∷ []) all_names (BringAny (import_item (Some module) name)) (λ c. spec_rows c (Some module) name) }
+    requires before { scope_of_module (source_of site.now.texts.now) outer.name < (S.state scopes.old).frame.setting.fills }
+    ensures { DeclaresWith (S.state scopes.old) (S.state scopes.new) made.old made.new site.now (listed result) (named alias_kind name ∷ []) all_names (BringAny (import_item (Some outer) name)) (λ c. spec_rows c (Some outer) name) }
 {
-    match module_scope(site.texts, module.name) {
+    match module_scope(site.texts, outer.name) {
         Ok(scope) => from_rows(alloc, scopes, site, scope, name, made),
         Err(memory) => Err(memory),
     }

@@ -11,9 +11,9 @@ use Rattle.decl_sem.proofs.BroughtRows.{bringing_unmade}
 use Rattle.decl_sem.proofs.imports.member_rows.Goals as goal
 
 pub returns-in-Ok : goal.returns-in-Ok
-returns-in-Ok g c = member_as c.args.module c.args.name c.in-Ok.scope c.from_rows.result c.in-Ok.ensures c.from_rows.ensures
+returns-in-Ok g c = member_as c.args.outer c.args.name c.in-Ok.scope c.from_rows.result c.in-Ok.ensures c.from_rows.ensures
 
 pub returns-in-Err : goal.returns-in-Err
 returns-in-Err g c =
-    bringing_unmade c.args.site.now (named alias_kind c.args.name ∷ []) all_names (BringAny (import_item (Some c.args.module) c.args.name)) (λ k. import_rows k (Some c.args.module) c.args.name) c.in-Err.memory
+    bringing_unmade c.args.site.now (named alias_kind c.args.name ∷ []) all_names (BringAny (import_item (Some c.args.outer) c.args.name)) (λ k. import_rows k (Some c.args.outer) c.args.name) c.in-Err.memory
     (Works-refl (g.S.Scopes.state c.args.scopes.now) c.args.made.now.notes) refl

@@ -19,7 +19,7 @@ again_row-requires-clause-target g c =
     let f = (g.S.Scopes.state c.args.scopes.now).frame in
     let same : c.small_place-target.result ≡ place_or_broken c.args.entry = c.small_place-target.ensures.same ∙ c.place_or_broken.ensures in
     subst (λ (p : Place). IsBehind f (next_ordinal c.args.made.now) p) (sym same)
-    (target_behind c.args.entry c.requires.making (rw same at (rw c.small_place-target.ensures.same at c.small_place-target.ensures.small)) c.requires.row)
+    (target_behind c.args.entry c.requires.making (rw c.place_or_broken.ensures at c.small_place-target.ensures.small) c.requires.row)
 
 pub returns-in-Some : goal.returns-in-Some
 returns-in-Some g c =
