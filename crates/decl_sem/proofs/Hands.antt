@@ -8,6 +8,7 @@ use Rattle.m2_base.specs.Lists.{Each}
 use Rattle.m2_base.specs.Rows.{row_meaning}
 use Rattle.m2_base.specs.Standard.{is_standard}
 use Rattle.m2_base.specs.States.{Frame}
+use Rattle.m2_base.specs.Statics.Contexts.{Layout}
 use Rattle.m2_base.specs.Statics.Lookup.{first_entry}
 use Rattle.m2_base.specs.Statics.Makes.{own_rows, with_rows}
 use Rattle.m2_base.specs.Statics.Shapes.{Shape}
@@ -90,51 +91,51 @@ module _ {f : Frame} {s : Site} {made : Made} {shapes : List Shape} (making : Is
       }
 
   -- the shapes are ahead there
-  pub hand_ahead : (hand : Hand) → hand.rows ≡ made.rows.items → IsFinished f.setting.texts hand.finished → IsAhead s.layout.now.names (own_rows (context_of f hand s)) shapes
+  pub hand_ahead : (hand : Hand) → hand.rows ≡ made.rows.items → IsFinished f.setting.texts hand.finished → IsAhead s.layout.now (own_rows (context_of f hand s)) shapes
   hand_ahead hand same told =
-      subst (λ (own : List Row). IsAhead s.layout.now.names own shapes) (ap (λ (rows : List Row). f.entered ++ rows) (sym same) ∙ sym (own_are {f = f} {s = s} hand making.suits told)) making.ahead
+      subst (λ (own : List Row). IsAhead s.layout.now own shapes) (ap (λ (rows : List Row). f.entered ++ rows) (sym same) ∙ sym (own_are {f = f} {s = s} hand making.suits told)) making.ahead
 
 -- a name that is next
 pub hand_next : {f : Frame} {s : Site} {made : Made} {shape : Shape} {shapes : List Shape} → IsMaking f s made (shape ∷ shapes) → shape.name ≢ 0 → (hand : Hand) → hand.rows ≡ made.rows.items → IsFinished f.setting.texts hand.finished
     → IsNext (context_of f hand s) shape.name
 hand_next {f} {s} {made} {shape} {shapes} making some hand same told plain =
-    known_before s.layout.now.names (own_rows (context_of f hand s)) shape shapes some plain (hand_ahead making hand same told)
+    known_before s.layout.now (own_rows (context_of f hand s)) shape shapes some plain (hand_ahead making hand same told)
 
 -- ** Names of rows in hand
 
-laid_behind : {names : List Named} (xs ys : List Row) (o : ℕ) {ss : List Shape} → AreLaid names o ss (xs ++ ys) → (ts : List Shape) × AreLaid names (o + length xs) ts ys
-laid_behind {names} [] ys o {ss} h = (ss, subst (λ n. AreLaid names n ss ys) (let e : o ≡ o + 0 = omega arith in e) h)
-laid_behind {names} (x ∷ xs) ys o (more_laid l more) =
+laid_behind : {layout : Layout} (xs ys : List Row) (o : ℕ) {ss : List Shape} → AreLaid layout o ss (xs ++ ys) → (ts : List Shape) × AreLaid layout (o + length xs) ts ys
+laid_behind {layout} [] ys o {ss} h = (ss, subst (λ n. AreLaid layout n ss ys) (let e : o ≡ o + 0 = omega arith in e) h)
+laid_behind {layout} (x ∷ xs) ys o (more_laid l more) =
     let (ts, rest) = laid_behind xs ys (o + 1) more in
-    (ts, subst (λ n. AreLaid names n ts ys) (let e : o + 1 + length xs ≡ o + suc (length xs) = omega arith in e) rest)
+    (ts, subst (λ n. AreLaid layout n ts ys) (let e : o + 1 + length xs ≡ o + suc (length xs) = omega arith in e) rest)
 
-other_name : (names : List Named) (o name other : ℕ) (e : Named) → name ≢ 0 → first_entry names name ≡ Some e → e.ordinal < o → (kept_name names o other == name) ≡ false
-other_name names o name other e some entry h = go (is_standard other) (is_of o (first_entry names other)) (other == name) refl refl
+other_name : (layout : Layout) (o name other : ℕ) (e : Named) → name ≢ 0 → first_entry layout name ≡ Some e → e.ordinal < o → (kept_name layout o other == name) ≡ false
+other_name layout o name other e some entry h = go (is_standard other) (is_of o (first_entry layout other)) (other == name) refl refl
   where
-    go : (a b d : Bool) → is_of o (first_entry names other) ≡ b → (other == name) ≡ d → ((if a then 0 else if b then other else 0) == name) ≡ false
+    go : (a b d : Bool) → is_of o (first_entry layout other) ≡ b → (other == name) ≡ d → ((if a then 0 else if b then other else 0) == name) ≡ false
     go true b d p q = grind arith
     go false false d p q = grind arith
     go false true false p q = q
     go false true true p q =
         let same : other ≡ name = grind (arith, q) in
-        let is : is_of o (first_entry names name) ≡ true = ap (λ (n : ℕ). is_of o (first_entry names n)) (sym same) ∙ p in
+        let is : is_of o (first_entry layout name) ≡ true = ap (λ (n : ℕ). is_of o (first_entry layout n)) (sym same) ∙ p in
         let here : (e.ordinal == o) ≡ true = ap (is_of o) (sym entry) ∙ is in
         let at : e.ordinal ≡ o = grind (arith, here) in
         absurd (omega (arith, at, h))
 
-lacking : {names : List Named} (name : ℕ) (e : Named) → name ≢ 0 → first_entry names name ≡ Some e → (o k : ℕ) {ss : List Shape} {rows : List Row} → AreLaid names o ss rows → e.ordinal < o → first_named name rows k ≡ None
+lacking : {layout : Layout} (name : ℕ) (e : Named) → name ≢ 0 → first_entry layout name ≡ Some e → (o k : ℕ) {ss : List Shape} {rows : List Row} → AreLaid layout o ss rows → e.ordinal < o → first_named name rows k ≡ None
 lacking name e some entry o k none_laid h = refl
-lacking {names} name e some entry o k (more_laid {s = s} {r = r} {rs = rs} l more) h =
-    let other : (r.name == name) ≡ false = ap (λ m. m == name) l.name ∙ other_name names o name s.name e some entry h in
+lacking {layout} name e some entry o k (more_laid {s = s} {r = r} {rs = rs} l more) h =
+    let other : (r.name == name) ≡ false = ap (λ m. m == name) l.name ∙ other_name layout o name s.name e some entry h in
     ap (λ (b : Bool). if b then Some (k, r) else first_named name rs (k + 1)) other ∙ lacking name e some entry (o + 1) (k + 1) more (omega (arith, h))
 
 -- none has a name that the layout first gives to an earlier item
 pub of_this_site : {f : Frame} {s : Site} {made : Made} {shapes : List Shape} → IsMaking f s made shapes → (hand : Hand) → hand.rows ≡ made.rows.items → AreOfSite s hand
 of_this_site {f} {s} {made} {shapes} making hand same =
-    subst (λ (o : Option ℕ). IfSome o (λ item. AreOfItem s.layout.now.names item hand.rows)) (sym making.of_item)
-    (subst (λ (rows : List Row). AreOfItem s.layout.now.names making.item rows) (sym same) of)
+    subst (λ (o : Option ℕ). IfSome o (λ item. AreOfItem s.layout.now item hand.rows)) (sym making.of_item)
+    (subst (λ (rows : List Row). AreOfItem s.layout.now making.item rows) (sym same) of)
   where
-    of : AreOfItem s.layout.now.names making.item made.rows.items
+    of : AreOfItem s.layout.now making.item made.rows.items
     of = record {
       lack = λ name e some entry before.
           let (ts, laid) = laid_behind f.entered made.rows.items 0 making.ahead.laid in

@@ -88,7 +88,7 @@ module _ {f : Frame} {s : Site} {made : Made} (making : IsMaking f s made []) {p
   stands_itself Opaque scene h = h
   stands_itself other scene h = refl
 
-  meaning_is : is_held s.around.now.scope made.first p ≡ true → (hand : Hand) → hand.rows ≡ made.rows.items → IsFinished f.setting.texts hand.finished → meaning_at (scene_of f hand s.around.now) p ≡ held_meaning made p
+  pub meaning_is : is_held s.around.now.scope made.first p ≡ true → (hand : Hand) → hand.rows ≡ made.rows.items → IsFinished f.setting.texts hand.finished → meaning_at (scene_of f hand s.around.now) p ≡ held_meaning made p
   meaning_is h hand same told =
       let e = held_true s.around.now.scope made.first p h in
       let own : rows_at (rows_of f hand) p.scope ≡ f.entered ++ hand.rows = ap (rows_at (rows_of f hand)) e.0 ∙ own_are {f = f} {s = s} hand making.suits told in

@@ -1,7 +1,9 @@
+pub mod AgainNames
 pub mod ArrayCells
 pub mod ArrayLists
 pub mod Asking
 pub mod BoundRanges
+pub mod BroughtRows
 pub mod Checks
 pub mod ConstantRows
 pub mod Constants
@@ -10,9 +12,11 @@ pub mod FieldNames
 pub mod FieldLists
 pub mod FirstNames
 pub mod FirstOrdinals
+pub mod FoundConstants
 pub mod Hands
 pub mod HeadingRows
 pub mod HeadingSums
+pub mod HiddenNames
 pub mod Held
 pub mod ImportedNames
 pub mod ImportedScopes
@@ -21,6 +25,7 @@ pub mod ItemEffects
 pub mod ItemPlaces
 pub mod ItemShapes
 pub mod LaidOnce
+pub mod LayoutSteps
 pub mod MadeFields
 pub mod MakingOn
 pub mod ManyItems
@@ -35,6 +40,7 @@ pub mod OwnParameters
 pub mod ParameterLists
 pub mod Parameters
 pub mod Pieces
+pub mod PutMembers
 pub mod SectionLists
 pub mod PointerRows
 pub mod SizesInHand

@@ -1,5 +1,5 @@
 -- The layout of items, one item after another.
-use Rattle.std.proofs.Common.{◌≡◌, ℕ, suc, map, drop, get_or, Result, Ok, Err, ◌+◌, ◌<◌, List, [], ◌∷◌, ◌++◌, length, refl, sym, ap, subst, ◌∙◌, arith, append_assoc}
+use Rattle.std.proofs.Common.{◌≡◌, ℕ, suc, map, drop, get_or, Result, Ok, Err, ◌+◌, ◌<◌, ◌≤◌, List, [], ◌∷◌, ◌++◌, length, refl, sym, ap, subst, ◌∙◌, arith, append_assoc}
 use Rattle.std.proofs.lemmas.List.{append-nil}
 use Rattle.std.specs.Prelude.{flat_map, IfOk}
 use Rattle.std.proofs.Math.Seq.{drop-cons}
@@ -7,9 +7,12 @@ use Rattle.m2_base.specs.Statics.Items.{Item, import_items}
 use Rattle.m2_base.specs.Views.{import_view}
 use Rattle.m2_base.specs.declared.memory.Memory.{Memory}
 use Rattle.m2_base.specs.declared.trees.declarations.Import.{Import}
+use Rattle.m2_base.specs.Lists.{Each}
+use Rattle.m2_base.proofs.Kept.{Each-append, Each-map}
 use Rattle.m2_base.specs.Statics.Layouts.{Layout, names_of_item, names_from, firsts_from}
-use Rattle.m2_base.specs.Statics.Shapes.{item_shapes}
+use Rattle.m2_base.specs.Statics.Shapes.{Shape, item_shapes}
 use Rattle.decl_sem.specs.Progress.{Progress, at_start, with_item, with_items}
+use Rattle.decl_sem.proofs.FirstOrdinals.{of_item}
 
 -- ** Items after items
 
@@ -61,17 +64,44 @@ pub all_three : (heading imports declarations : List Item) (p q r : Progress)
 all_three heading imports declarations p q r e f g =
     g ∙ ap (λ x. with_items x declarations) (f ∙ ap (λ x. with_items x imports) e ∙ sym (with_items-append heading imports at_start)) ∙ sym (with_items-append (heading ++ imports) declarations at_start)
 
-pub whole_layout : (items : List Item) (r : Progress) (l : Layout) → r ≡ with_items at_start items → l.names ≡ r.names → l.firsts ≡ r.firsts ++ r.rows ∷ []
-    → l ≡ record { names = names_from 0 0 items; firsts = firsts_from 0 items }
-whole_layout items r l e n f =
+pub whole_layout : (items : List Item) (r : Progress) (l : Layout) → r ≡ with_items at_start items → l.names ≡ r.names → l.firsts ≡ r.firsts ++ r.rows ∷ [] → l.brought ≡ []
+    → l ≡ record { names = names_from 0 0 items; firsts = firsts_from 0 items; brought = [] }
+whole_layout items r l e n f none =
     let names : l.names ≡ names_from 0 0 items = n ∙ ap (λ (x : Progress). x.names) e ∙ all_names items at_start in
     let firsts : l.firsts ≡ firsts_from 0 items = f ∙ ap (λ (x : Progress). x.firsts ++ x.rows ∷ []) e ∙ all_firsts items at_start in
-    ap (λ x. record { names = x; firsts = l.firsts }) names ∙ ap (λ x. record { names = names_from 0 0 items; firsts = x }) firsts
+    ap (λ x. record { names = x; firsts = l.firsts; brought = l.brought }) names ∙ ap (λ x. record { names = names_from 0 0 items; firsts = x; brought = l.brought }) firsts
+    ∙ ap (λ x. record { names = names_from 0 0 items; firsts = firsts_from 0 items; brought = x }) none
 
 pub finished_layout : (made : Result Layout Memory) (items : List Item) (r : Progress) → r ≡ with_items at_start items
-    → IfOk made (λ l. l.names ≡ r.names) → IfOk made (λ l. l.firsts ≡ r.firsts ++ r.rows ∷ []) → IfOk made (λ l. l ≡ record { names = names_from 0 0 items; firsts = firsts_from 0 items })
-finished_layout (Ok l) items r e n f = whole_layout items r l e n f
-finished_layout (Err m) items r e n f = tt
+    → IfOk made (λ l. l.names ≡ r.names) → IfOk made (λ l. l.firsts ≡ r.firsts ++ r.rows ∷ []) → IfOk made (λ l. l.brought ≡ [])
+    → IfOk made (λ l. l ≡ record { names = names_from 0 0 items; firsts = firsts_from 0 items; brought = [] })
+finished_layout (Ok l) items r e n f none = whole_layout items r l e n f none
+finished_layout (Err m) items r e n f none = tt
+
+-- ** Ordinals stand before the number of rows
+
+-- each ordinal stands before the number of rows, and each first ordinal isn't above it
+pub record IsCounted (p : Progress) : Type 0 where
+  pub names : Each (λ n. n.ordinal < p.rows) p.names
+  pub firsts : Each (λ o. o ≤ p.rows) p.firsts
+
+one_counted : (p : Progress) (shapes : List Shape) → IsCounted p → IsCounted (with_item p shapes)
+one_counted p shapes h =
+    record {
+      names = Each-append (λ n. n.ordinal < p.rows + length shapes) p.names (names_of_item (length p.firsts) p.rows shapes)
+          (Each-map (λ n. n.ordinal < p.rows) (λ n. n.ordinal < p.rows + length shapes) p.names (λ n k. omega (arith, k)) h.names)
+          (of_item (λ n. n.ordinal < p.rows + length shapes) (length p.firsts) p.rows shapes (λ name n kind at m k. k));
+      firsts = Each-append (λ o. o ≤ p.rows + length shapes) p.firsts (p.rows ∷ [])
+          (Each-map (λ o. o ≤ p.rows) (λ o. o ≤ p.rows + length shapes) p.firsts (λ o k. omega (arith, k)) h.firsts)
+          (omega arith, tt);
+    }
+
+counted : (items : List Item) (p : Progress) → IsCounted p → IsCounted (with_items p items)
+counted [] p h = h
+counted (x ∷ items) p h = counted items (with_item p (item_shapes x)) (one_counted p (item_shapes x) h)
+
+pub all_counted : (items : List Item) (r : Progress) → r ≡ with_items at_start items → IsCounted r
+all_counted items r e = subst (λ (p : Progress). IsCounted p) (sym e) (counted items at_start (record { names = tt; firsts = tt }))
 
 -- ** After one more import
 

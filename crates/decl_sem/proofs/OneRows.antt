@@ -11,6 +11,7 @@ use Rattle.m2_base.specs.Rows.{Fits, HasSmallOrdinals, IsBefore, IsSmallScope, a
 use Rattle.m2_base.specs.States.{Frame, State}
 use Rattle.m2_base.specs.Statics.Contexts.{Context}
 use Rattle.m2_base.specs.Statics.FormedRows.{IsFilled}
+use Rattle.m2_base.specs.Statics.Contexts.{Layout}
 use Rattle.m2_base.specs.Statics.Lookup.{first_entry}
 use Rattle.m2_base.specs.Statics.Makes.{Makes, makes_named, makes_row}
 use Rattle.m2_base.specs.Statics.Shapes.{Shape, named, nameless}
@@ -59,7 +60,7 @@ behind_more h b = record { small = b.small; scope = b.scope; before = λ e. let 
 
 -- ** The row
 
-new_row : (f : Frame) (s : Site) (o name at : ℕ) (m : RowMeaning) → name < length f.setting.texts.names → IsNewMeaning f s o m → IsNewRow f (item_end s) o (row_of name at m)
+pub new_row : (f : Frame) (s : Site) (o name at : ℕ) (m : RowMeaning) → name < length f.setting.texts.names → IsNewMeaning f s o m → IsNewRow f (item_end s) o (row_of name at m)
 new_row f s o name at m named h =
     let e = row_meaning-row_of name at m h.small in
     record {
@@ -75,7 +76,7 @@ standard_count : length standard_names ≡ 28
 unfolding standard_names
 standard_count = refl
 
-some_names : {f : Frame} {s : Site} {x : Made} {ss : List Shape} → IsMaking f s x ss → 0 < length f.setting.texts.names
+pub some_names : {f : Frame} {s : Site} {x : Made} {ss : List Shape} → IsMaking f s x ss → 0 < length f.setting.texts.names
 some_names {f} making =
     let p = making.suits.around.standard in
     let e = ap length p.joined in
@@ -87,16 +88,16 @@ same_zero : (b : Bool) (n : ℕ) → n ≡ (if b then n else n)
 same_zero true n = refl
 same_zero false n = refl
 
-nameless_kept : (names : List Named) (o : ℕ) → kept_name names o 0 ≡ 0
-nameless_kept names o = sym (same_zero (is_of o (first_entry names 0)) 0)
+nameless_kept : (layout : Layout) (o : ℕ) → kept_name layout o 0 ≡ 0
+nameless_kept layout o = sym (same_zero (is_of o (first_entry layout 0)) 0)
 
 -- a piece of one row, of any outcome
-one_piece : {s : Site} {x y : Made} (shape : Shape) (row : Row) (g : Context → Makes Place) (result : Result Place Memory) (a : State)
+pub one_piece : {s : Site} {x y : Made} (shape : Shape) (row : Row) (g : Context → Makes Place) (result : Result Place Memory) (a : State)
     → IfOk result (λ place. WhereMaking a.frame x (λ hand. MakesAll x y (g (context_of a.frame hand s)) place))
     → IfOk result (λ place. y.rows.items ≡ x.rows.items ++ row ∷ [])
     → IfOk result (λ place. place ≡ at_place s.around.now.scope (next_ordinal x))
     → y.notes.answers.items ≡ x.notes.answers.items → IsPrefixOf x.notes.diags.items y.notes.diags.items → y.first ≡ x.first
-    → IsMaking a.frame s x (shape ∷ []) → IsLaid s.layout.now.names (next_ordinal x) shape row → IsNewRow a.frame (item_end s) (next_ordinal x) row
+    → IsMaking a.frame s x (shape ∷ []) → IsLaid s.layout.now (next_ordinal x) shape row → IsNewRow a.frame (item_end s) (next_ordinal x) row
     → Declares a a x y s (known_of result) (shape ∷ []) IsBehind g
 one_piece {s} {x} {y} shape row g (Ok place) a made rows is answers diags first making laid new =
     record {
@@ -115,7 +116,7 @@ one_piece {s} {x} {y} shape row g (Ok place) a made rows is answers diags first 
 one_piece {s} {x} {y} shape row g (Err m) a made rows is answers diags first making laid new =
     record { works = Works-notes a x.notes y.notes answers diags; waits = tt; first = first; grown = tt; told = λ hand in_hand told same. tt; there = tt }
 
-at_context : (s : Site) (x y : Made) (g : Context → Makes Place) (result : Result Place Memory) (f : Frame) → ((hand : Hand) → hand.rows ≡ x.rows.items → IsFinished f.setting.texts hand.finished → IfOk result (λ place. MakesAll x y (g (context_of f hand s)) place))
+pub at_context : (s : Site) (x y : Made) (g : Context → Makes Place) (result : Result Place Memory) (f : Frame) → ((hand : Hand) → hand.rows ≡ x.rows.items → IsFinished f.setting.texts hand.finished → IfOk result (λ place. MakesAll x y (g (context_of f hand s)) place))
     → IfOk result (λ place. WhereMaking f x (λ hand. MakesAll x y (g (context_of f hand s)) place))
 at_context s x y g (Ok place) f h = λ hand in_hand told same. h hand same told
 at_context s x y g (Err m) f h = tt
@@ -132,7 +133,7 @@ row_piece {s} {x} {y} at m result made rows is notes first a making h =
     one_piece (nameless (kind_number m) at) (row_of 0 at m) (λ c. makes_row c at m) result a
     (at_context s x y (λ c. makes_row c at m) result a.frame (λ hand same told. at_hand result made hand same told)) rows is
     (ap (λ (n : Notes). n.answers.items) notes) (subst (λ (n : Notes). IsPrefixOf x.notes.diags.items n.diags.items) (sym notes) (IsPrefixOf-refl x.notes.diags.items)) first making
-    (record { kind = refl; at = refl; name = sym (nameless_kept s.layout.now.names (next_ordinal x)) })
+    (record { kind = refl; at = refl; name = sym (nameless_kept s.layout.now (next_ordinal x)) })
     (new_row a.frame s (next_ordinal x) 0 at m (some_names making) h)
   where
     at_hand : (r : Result Place Memory) → IfOk r (λ place. (c : Context) → IsInHand c s x → MakesAll x y (makes_row c at m) place) → (hand : Hand) → hand.rows ≡ x.rows.items → IsFinished a.frame.setting.texts hand.finished
@@ -140,8 +141,8 @@ row_piece {s} {x} {y} at m result made rows is notes first a making h =
     at_hand (Ok place) f hand same told = f (context_of a.frame hand s) (hand_is making hand same told)
     at_hand (Err e) f hand same told = tt
 
-kept_small : (names : List Named) (o name count : ℕ) → name < count → kept_name names o name < count
-kept_small names o name count h = go (is_standard name) (is_of o (first_entry names name))
+kept_small : (layout : Layout) (o name count : ℕ) → name < count → kept_name layout o name < count
+kept_small layout o name count h = go (is_standard name) (is_of o (first_entry layout name))
   where
     go : (a b : Bool) → (if a then 0 else if b then name else 0) < count
     go true b = omega (arith, h)
@@ -151,16 +152,16 @@ kept_small names o name count h = go (is_standard name) (is_of o (first_entry na
 -- a row with a name
 pub named_piece : {s : Site} {x y : Made} (i : Ident) (m : RowMeaning) (result : Result Place Memory)
     → IfOk result (λ place. (c : Context) → IsInHand c s x → IsNext c i.name → MakesAll x y (makes_named c i.name i.at m) place)
-    → IfOk result (λ place. y.rows.items ≡ x.rows.items ++ row_of (kept_name s.layout.now.names (next_ordinal x) i.name) i.at m ∷ [])
+    → IfOk result (λ place. y.rows.items ≡ x.rows.items ++ row_of (kept_name s.layout.now (next_ordinal x) i.name) i.at m ∷ [])
     → IfOk result (λ place. place ≡ at_place s.around.now.scope (next_ordinal x))
     → y.notes.answers.items ≡ x.notes.answers.items → IsPrefixOf x.notes.diags.items y.notes.diags.items → y.first ≡ x.first
     → (a : State) → IsMaking a.frame s x (named (kind_number m) i ∷ []) → i.name ≢ 0 → i.name < length a.frame.setting.texts.names → IsNewMeaning a.frame s (next_ordinal x) m
     → Declares a a x y s (known_of result) (named (kind_number m) i ∷ []) IsBehind (λ c. makes_named c i.name i.at m)
 named_piece {s} {x} {y} i m result made rows is answers diags first a making some known h =
-    one_piece (named (kind_number m) i) (row_of (kept_name s.layout.now.names (next_ordinal x) i.name) i.at m) (λ c. makes_named c i.name i.at m) result a
+    one_piece (named (kind_number m) i) (row_of (kept_name s.layout.now (next_ordinal x) i.name) i.at m) (λ c. makes_named c i.name i.at m) result a
     (at_context s x y (λ c. makes_named c i.name i.at m) result a.frame (λ hand same told. at_hand result made hand same told)) rows is answers diags first making
     (record { kind = refl; at = refl; name = refl })
-    (new_row a.frame s (next_ordinal x) (kept_name s.layout.now.names (next_ordinal x) i.name) i.at m (kept_small s.layout.now.names (next_ordinal x) i.name (length a.frame.setting.texts.names) known) h)
+    (new_row a.frame s (next_ordinal x) (kept_name s.layout.now (next_ordinal x) i.name) i.at m (kept_small s.layout.now (next_ordinal x) i.name (length a.frame.setting.texts.names) known) h)
   where
     at_hand : (r : Result Place Memory) → IfOk r (λ place. (c : Context) → IsInHand c s x → IsNext c i.name → MakesAll x y (makes_named c i.name i.at m) place) → (hand : Hand) → hand.rows ≡ x.rows.items → IsFinished a.frame.setting.texts hand.finished
         → IfOk r (λ place. MakesAll x y (makes_named (context_of a.frame hand s) i.name i.at m) place)

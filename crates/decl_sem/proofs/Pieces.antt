@@ -1,5 +1,5 @@
 -- Pieces of an item, one after another.
-use Rattle.std.specs.Prelude.{◌≡◌, ◌≢◌, ℕ, suc, ◌+◌, ◌==◌, Bool, true, false, if◌then◌else◌, List, [], ◌∷◌, ◌++◌, length, Result, Ok, Err}
+use Rattle.std.specs.Prelude.{◌≡◌, ◌≢◌, ℕ, suc, ◌+◌, ◌<◌, ◌==◌, Bool, true, false, if◌then◌else◌, List, [], ◌∷◌, ◌++◌, length, Result, Ok, Err}
 use Rattle.std.proofs.Common.{refl, sym, ap, ◌∙◌, subst, arith}
 use Rattle.std.proofs.lemmas.List.{append_assoc, append-nil, length-append}
 use Rattle.m2_base.specs.Asks.{IfKnown, IfWaits}
@@ -7,7 +7,7 @@ use Rattle.m2_base.specs.Gives.{Gives}
 use Rattle.m2_base.specs.Lists.{Each}
 use Rattle.m2_base.specs.Rows.{basic_of, natural, row_meaning, type_name_kind}
 use Rattle.m2_base.specs.States.{Frame, State, Waits, Works}
-use Rattle.m2_base.specs.Statics.Contexts.{Context}
+use Rattle.m2_base.specs.Statics.Contexts.{Context, Layout}
 use Rattle.m2_base.specs.Statics.Makes.{Makes, make_then, makes, only_gives}
 use Rattle.m2_base.specs.Statics.Shapes.{Shape}
 use Rattle.m2_base.specs.declared.memory.Memory.{Memory}
@@ -35,12 +35,12 @@ use Rattle.decl_sem.proofs.MakingOn.{makes_none, makes_then}
 
 -- ** Rows that are added
 
-new-append : (f : Frame) (limit o : ℕ) (xs ys : List Row) → AreNewRows f limit o xs → AreNewRows f limit (o + length xs) ys → AreNewRows f limit o (xs ++ ys)
+pub new-append : (f : Frame) (limit o : ℕ) (xs ys : List Row) → AreNewRows f limit o xs → AreNewRows f limit (o + length xs) ys → AreNewRows f limit o (xs ++ ys)
 new-append f limit o [] ys h k = subst (λ n. AreNewRows f limit n ys) (let e : o + 0 ≡ o = omega arith in e) k
 new-append f limit o (x ∷ xs) ys h k =
     (h.0, new-append f limit (o + 1) xs ys h.1 (subst (λ n. AreNewRows f limit n ys) (let e : o + suc (length xs) ≡ o + 1 + length xs = omega arith in e) k))
 
-pub laid-length : {names : List Named} {o : ℕ} {ss : List Shape} {rs : List Row} → AreLaid names o ss rs → length rs ≡ length ss
+pub laid-length : {layout : Layout} {o : ℕ} {ss : List Shape} {rs : List Row} → AreLaid layout o ss rs → length rs ≡ length ss
 laid-length none_laid = refl
 laid-length (more_laid l more) = ap suc (laid-length more)
 
@@ -61,7 +61,7 @@ grown_then {f} {s} {x} {y} {z} {ss} {ts} first p q =
     record {
       rows = p.rows ++ q.rows;
       more = q.more ∙ ap (λ t. t ++ q.rows) p.more ∙ append_assoc x.rows.items p.rows q.rows;
-      laid = AreLaid-append p.laid (subst (λ o. AreLaid s.layout.now.names o ts q.rows) n q.laid);
+      laid = AreLaid-append p.laid (subst (λ o. AreLaid s.layout.now o ts q.rows) n q.laid);
       new = new-append f (item_end s) (next_ordinal x) p.rows q.rows p.new (subst (λ o. AreNewRows f (item_end s) o q.rows) n q.new);
     }
 
@@ -110,7 +110,7 @@ module _ {T : Type 0} {a b : State} {x y : Made} {s : Site} {ss : List Shape} {P
 
 -- ** One after another
 
-waits_on : {U : Type 0} {a b : State} (d : State) {x y : Notes} (answer : Result (Ask U) Memory) → Works a b x y → IfWaits answer (λ head. Waits b d head) → IfWaits answer (λ head. Waits a d head)
+pub waits_on : {U : Type 0} {a b : State} (d : State) {x y : Notes} (answer : Result (Ask U) Memory) → Works a b x y → IfWaits answer (λ head. Waits b d head) → IfWaits answer (λ head. Waits a d head)
 waits_on d (Ok (Known v)) w h = tt
 waits_on d (Ok (DontKnowYet head)) w h = Waits_after w.keeps h
 waits_on d (Err m) w h = tt
@@ -120,7 +120,7 @@ if_any (Ok (Known v)) h = h
 if_any (Ok (DontKnowYet head)) h = tt
 if_any (Err m) h = tt
 
-if_known : {U : Type 0} (P Q : U → Type 0) (answer : Result (Ask U) Memory) → ((v : U) → P v → Q v) → IfKnown answer P → IfKnown answer Q
+pub if_known : {U : Type 0} (P Q : U → Type 0) (answer : Result (Ask U) Memory) → ((v : U) → P v → Q v) → IfKnown answer P → IfKnown answer Q
 if_known P Q (Ok (Known v)) f h = f v h
 if_known P Q (Ok (DontKnowYet head)) f h = tt
 if_known P Q (Err m) f h = tt
@@ -159,7 +159,7 @@ no_type r h =
     (unless (k == 9) _ _ tt (unless (k == 10) _ _ (basic (natural r.a)) (unless (k == 11) _ _ tt (unless (k == 12) _ _ tt (unless (k == 13) _ _ tt
     (unless (k == 14) _ _ tt (unless (k == 15) _ _ tt (unless (k == 16) _ _ tt (unless (k == 17) _ _ tt (unless (k == 18) _ _ tt (unless (k == 19) _ _ tt tt))))))))))))))))))
 
-no_types : {names : List Named} {o : ℕ} {ss : List Shape} {rs : List Row} → AreLaid names o ss rs → AreNoTypes ss → Each (λ r. NamesNoType (row_meaning r)) rs
+no_types : {layout : Layout} {o : ℕ} {ss : List Shape} {rs : List Row} → AreLaid layout o ss rs → AreNoTypes ss → Each (λ r. NamesNoType (row_meaning r)) rs
 no_types none_laid h = tt
 no_types (more_laid {r = r} l more) h = (no_type r (λ e. h.0 (sym l.kind ∙ e)), no_types more h.1)
 
@@ -188,7 +188,8 @@ making_on {a = a} {b = b} {x = x} {y = y} {s = s} {ss = ss} {ts = ts} none makin
       begun = making.begun;
       item = making.item;
       of_item = making.of_item;
-      begins = subst (λ n. BeginsAt s.layout.now.names making.item n) (sym p.first) making.begins;
+      begins = subst (λ n. BeginsAt s.layout.now making.item n) (sym p.first) making.begins;
+      old = subst (λ n. Each (λ b. b.ordinal < n) s.layout.now.brought) (sym p.first) making.old;
       count = making.count ∙ sym p.first;
       entered = subst (λ n. Each (λ r. IsOwned n (row_meaning r)) a.frame.entered) (sym p.first) making.entered;
       types = subst (λ (rows : List Row). Each (λ r. NamesNoType (row_meaning r)) rows) (sym p.grown.more)
@@ -196,9 +197,9 @@ making_on {a = a} {b = b} {x = x} {y = y} {s = s} {ss = ss} {ts = ts} none makin
       rows = subst (λ (rows : List Row). AreNewRows a.frame (item_end s) y.first rows) (sym p.grown.more)
           (subst (λ n. AreNewRows a.frame (item_end s) n (x.rows.items ++ p.grown.rows)) (sym p.first)
           (new-append a.frame (item_end s) x.first x.rows.items p.grown.rows making.rows p.grown.new));
-      ahead = subst (λ (rows : List Row). IsAhead s.layout.now.names (a.frame.entered ++ rows) ts) (sym p.grown.more)
-          (subst (λ (rows : List Row). IsAhead s.layout.now.names rows ts) (append_assoc a.frame.entered x.rows.items p.grown.rows)
-          (gone_on ss ts making.ahead (subst (λ n. AreLaid s.layout.now.names n ss p.grown.rows) (sym at) p.grown.laid)));
+      ahead = subst (λ (rows : List Row). IsAhead s.layout.now (a.frame.entered ++ rows) ts) (sym p.grown.more)
+          (subst (λ (rows : List Row). IsAhead s.layout.now rows ts) (append_assoc a.frame.entered x.rows.items p.grown.rows)
+          (gone_on ss ts making.ahead (subst (λ n. AreLaid s.layout.now n ss p.grown.rows) (sym at) p.grown.laid)));
       room = let l = length-append ss ts in let r = making.room in let n = next in omega arith;
       few = making.few;
     }
@@ -244,6 +245,7 @@ making_front {f} {s} {x} ss ts h =
       item = h.item;
       of_item = h.of_item;
       begins = h.begins;
+      old = h.old;
       count = h.count;
       entered = h.entered;
       types = h.types;
@@ -252,7 +254,7 @@ making_front {f} {s} {x} ss ts h =
         before = h.ahead.before;
         rest = ts ++ h.ahead.rest;
         laid = h.ahead.laid;
-        firsts = subst (λ shapes. HasFirsts s.layout.now.names shapes) (ap (λ zs. h.ahead.before ++ zs) (append_assoc ss ts h.ahead.rest)) h.ahead.firsts;
+        firsts = subst (λ shapes. HasFirsts s.layout.now shapes) (ap (λ zs. h.ahead.before ++ zs) (append_assoc ss ts h.ahead.rest)) h.ahead.firsts;
       };
       room = let l = length-append ss ts in let r = h.room in omega arith;
       few = h.few;

@@ -48,7 +48,7 @@ optionally g p =
 
 -- the target that the layout gives
 pub by_layout : {a b : State} (t : TypeExpr) (x : Made) (y : Notes) (s : Site) (at : ℕ) (named : Named) (v : Place) {result : Result (Ask Place) Memory} {asked : Ask Place} → IsMaking a.frame s x []
-    → ((c : Context) → c.layout ≡ s.layout.now.names → target_by_name c (target_name c t) ≡ Some (layout_target c at named)) → result ≡ Ok asked → asked ≡ Known v
+    → ((c : Context) → c.layout ≡ s.layout.now → target_by_name c (target_name c t) ≡ Some (layout_target c at named)) → result ≡ Ok asked → asked ≡ Known v
     → Analysed a b x.notes y s result IsTarget (λ c. layout_target c at named)
     → Declares a b x (record x { notes = y }) s (Ok (Known (Some v))) [] IsOptionTarget (λ c. only_gives (optional (target_by_name c (target_name c t))))
 by_layout {a} {b} t x y s at named v making laid e f p =

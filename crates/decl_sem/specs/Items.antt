@@ -3,6 +3,7 @@ use Rattle.std.specs.Prelude.{◌≡◌, ℕ, ◌+◌, ◌<◌, ◌≤◌, ◌^�
 use Rattle.m2_base.specs.Lists.{Each}
 use Rattle.m2_base.specs.Rows.{row_meaning}
 use Rattle.m2_base.specs.States.{Frame}
+use Rattle.m2_base.specs.Statics.Bringing.{BringsIts}
 use Rattle.m2_base.specs.Statics.Cells.{most_cells}
 use Rattle.m2_base.specs.Statics.Effects.{Effect}
 use Rattle.m2_base.specs.Statics.Items as items
@@ -46,6 +47,11 @@ pub record IsEffect (f : Frame) (next : ℕ) (e : Effect) : Type 0 where
 pub record IsLoneEffect (f : Frame) (next : ℕ) (e : Effect) : Type 0 where
   pub effect : IsEffect f next e
   pub alone : e.brought ≡ []
+
+-- what an item gives: only a name of a module brings names
+pub record IsEffectOf (x : items.Item) (f : Frame) (next : ℕ) (e : Effect) : Type 0 where
+  pub effect : IsEffect f next e
+  pub only : BringsIts x e.brought
 
 -- The site is in an item of the block: the rows of the items before, with those of the names that each has brought, are entered,
 -- as the layout gives them, each field before its record; the item was read from tokens, and its modules stand before.

@@ -5,6 +5,7 @@ pub mod Closing
 pub mod DeclaredItems
 pub mod Effects
 pub mod FieldNotes
+pub mod FoundConstants
 pub mod Hands
 pub mod ImportedModules
 pub mod Implementing
@@ -13,6 +14,7 @@ pub mod LaidRows
 pub mod Layouts
 pub mod MadeRows
 pub mod Making
+pub mod NewNames
 pub mod OwnParameters
 pub mod Pieces
 pub mod Progress

@@ -67,4 +67,4 @@ section_given s elem p c =
 abbrev pub heading_effect : Option Qual → Placing → Context → Makes Effect
 heading_effect q p c =
     make_then c (only_gives (result_type c q)) (λ d r.
-    makes (record { cell = p.own; prologue = p.copies; result = r; heading = None }))
+    makes (record { cell = p.own; prologue = p.copies; result = r; heading = None; brought = [] }))

@@ -100,6 +100,7 @@ pub record IsMaking (f : Frame) (s : Site) (made : Made) (shapes : List Shape) :
   pub item : ℕ
   pub of_item : s.item ≡ Some item
   pub begins : BeginsAt s.layout.now item made.first
+  pub old : Each (λ b. b.ordinal < made.first) s.layout.now.brought
   pub count : length f.entered ≡ made.first
   pub entered : Each (λ r. IsOwned made.first (row_meaning r)) f.entered
   pub types : Each (λ r. NamesNoType (row_meaning r)) made.rows.items

@@ -1,7 +1,8 @@
 //! What an item declares.
-ghost use Rattle.std.specs.Prelude.{◌≡◌, slice_get, Some};
+ghost use Rattle.std.specs.Prelude.{◌≡◌, Some};
 ghost use Rattle.std.specs.Option.{IfSome};
 ghost use Rattle.m2_base.specs.Statics.Declarations.{declare as spec_declare};
+ghost use Rattle.m2_base.specs.Statics.Layouts.{first_row};
 ghost use Rattle.m2_base.specs.Statics.Shapes.{item_shapes};
 ghost use Rattle.m2_base.specs.Views.{stream_view};
 ghost use Rattle.decl_sem.specs.DeclaredItems.{DeclaresItem};
@@ -24,10 +25,10 @@ pub struct Declared {
 
 /// The ordinal of the first row of the site's item.
 fn first_ordinal(site: &Site) -> Option<u32>
-    ensures { IfSome result (λ first. IfSome site.now.item (λ item. slice_get site.now.layout.now.firsts item ≡ Some first)) }
+    ensures { IfSome result (λ first. IfSome site.now.item (λ item. first_row site.now.layout.now item ≡ Some first)) }
 {
     let item = site.item?;
-    site.layout.firsts().get(item as usize).copied()
+    site.layout.first_row(item)
 }
 
 /// What an item of a block declares. The answer is the definition's, or that it isn't known yet.
@@ -40,7 +41,7 @@ pub fn declare<S: Scopes>(
     before: Before,
 ) -> Result<Ask<Declared>, Memory>
     requires { IsAtItem (S.state scopes.old).frame site.now (stream_view stream.now) (item_view item.now) before.cell before.procedures }
-    ensures { DeclaresItem (S.state scopes.old) (S.state scopes.new) site.now result (item_shapes (item_view item.now)) (λ c. spec_declare c stream.now.kind (item_view item.now) before.cell) }
+    ensures { DeclaresItem (S.state scopes.old) (S.state scopes.new) site.now (stream_view stream.now) result (item_shapes (item_view item.now)) (λ c. spec_declare c stream.now.kind (item_view item.now) before.cell) }
 {
     let Some(first) = first_ordinal(site) else {
         return Err(Memory);

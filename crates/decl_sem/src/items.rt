@@ -7,12 +7,13 @@ ghost use Rattle.m2_base.specs.Statics.Shapes.{item_shapes};
 ghost use Rattle.m2_base.specs.Views.{decl_view, expr_view, heading_view, type_view};
 ghost use Rattle.type_rules.specs.Sites.{source_of};
 ghost use Rattle.decl_sem.specs.ImportedModules.{IsFromBefore};
-ghost use Rattle.decl_sem.specs.Items.{IsEffect, item_view};
+ghost use Rattle.decl_sem.specs.Brought.{DeclaresWith};
+ghost use Rattle.decl_sem.specs.Items.{IsEffectOf, IsLoneEffect, item_view};
 ghost use Rattle.decl_sem.specs.Pieces.{Declares, IsMaking};
 ghost use Rattle.m2_base.specs.Statics.ReadTrees.{IsReadItem};
 
 use crate::const_items::const_rows;
-use crate::effects::{Effect, noted, only_cell};
+use crate::effects::{Effect, bringing, noted, only_cell};
 use crate::imports::import_rows;
 use crate::making::Made;
 use crate::own_headings::heading_rows;
@@ -54,11 +55,11 @@ fn import_item<S: Scopes>(
     requires read { IsReadItem site.now.texts.now.names (spec_import from.now name) }
     requires before { IsFromBefore (source_of site.now.texts.now) (S.state scopes.old).frame.setting.fills (spec_import from.now name) }
     requires cell { cell ≤ 16777216 }
-    ensures { Declares (S.state scopes.old) (S.state scopes.new) made.old made.new site.now result (item_shapes (spec_import from.now name)) IsEffect (λ c. spec_declare c kind (spec_import from.now name) cell) }
+    ensures { DeclaresWith (S.state scopes.old) (S.state scopes.new) made.old made.new site.now result (item_shapes (spec_import from.now name)) (λ e. e.brought) (IsEffectOf (spec_import from.now name)) (λ c. spec_declare c kind (spec_import from.now name) cell) }
 {
     let _kind = kind;
-    match import_rows(scopes, site, from, name, made) {
-        Ok(Ask::Known(_place)) => Ok(Ask::Known(only_cell(alloc, cell))),
+    match import_rows(alloc, scopes, site, from, name, made) {
+        Ok(Ask::Known(brought)) => Ok(Ask::Known(bringing(alloc, cell, brought))),
         Ok(Ask::DontKnowYet(head)) => Ok(Ask::DontKnowYet(head)),
         Err(memory) => Err(memory),
     }
@@ -78,7 +79,7 @@ fn const_item<S: Scopes>(
     requires making { IsMaking (S.state scopes.old).frame site.now made.old (item_shapes (spec_const name (expr_view value.now))) }
     requires read { IsReadItem site.now.texts.now.names (spec_const name (expr_view value.now)) }
     requires cell { cell ≤ 16777216 }
-    ensures { Declares (S.state scopes.old) (S.state scopes.new) made.old made.new site.now result (item_shapes (spec_const name (expr_view value.now))) IsEffect (λ c. spec_declare c kind (spec_const name (expr_view value.now)) cell) }
+    ensures { Declares (S.state scopes.old) (S.state scopes.new) made.old made.new site.now result (item_shapes (spec_const name (expr_view value.now))) IsLoneEffect (λ c. spec_declare c kind (spec_const name (expr_view value.now)) cell) }
 {
     let _kind = kind;
     match const_rows(scopes, site, name, value, made) {
@@ -102,7 +103,7 @@ fn type_item<S: Scopes>(
     requires making { IsMaking (S.state scopes.old).frame site.now made.old (item_shapes (spec_type name (option_map type_view typ.now))) }
     requires read { IsReadItem site.now.texts.now.names (spec_type name (option_map type_view typ.now)) }
     requires cell { cell ≤ 16777216 }
-    ensures { Declares (S.state scopes.old) (S.state scopes.new) made.old made.new site.now result (item_shapes (spec_type name (option_map type_view typ.now))) IsEffect (λ c. spec_declare c kind (spec_type name (option_map type_view typ.now)) cell) }
+    ensures { Declares (S.state scopes.old) (S.state scopes.new) made.old made.new site.now result (item_shapes (spec_type name (option_map type_view typ.now))) IsLoneEffect (λ c. spec_declare c kind (spec_type name (option_map type_view typ.now)) cell) }
 {
     let _kind = kind;
     match type_name_rows(alloc, scopes, site, name, typ, made) {
@@ -126,7 +127,7 @@ fn vars_item<S: Scopes>(
     requires making { IsMaking (S.state scopes.old).frame site.now made.old (item_shapes (spec_vars names.now (type_view typ.now))) }
     requires read { IsReadItem site.now.texts.now.names (spec_vars names.now (type_view typ.now)) }
     requires cell { cell ≤ 16777216 }
-    ensures { Declares (S.state scopes.old) (S.state scopes.new) made.old made.new site.now result (item_shapes (spec_vars names.now (type_view typ.now))) IsEffect (λ c. spec_declare c kind (spec_vars names.now (type_view typ.now)) cell) }
+    ensures { Declares (S.state scopes.old) (S.state scopes.new) made.old made.new site.now result (item_shapes (spec_vars names.now (type_view typ.now))) IsLoneEffect (λ c. spec_declare c kind (spec_vars names.now (type_view typ.now)) cell) }
 {
     let _kind = kind;
     match vars_rows(alloc, scopes, site, names, typ, cell, made) {
@@ -152,7 +153,7 @@ fn proc_item<S: Scopes>(
     requires read { IsReadItem site.now.texts.now.names (spec_proc (heading_view heading.now) stream) }
     requires cell { before.cell ≤ 16777216 }
     requires number { before.procedures ≡ length (filter is_proc (S.state scopes.old).frame.entered) }
-    ensures { Declares (S.state scopes.old) (S.state scopes.new) made.old made.new site.now result (item_shapes (spec_proc (heading_view heading.now) stream)) IsEffect (λ c. spec_declare c kind (spec_proc (heading_view heading.now) stream) before.cell) }
+    ensures { Declares (S.state scopes.old) (S.state scopes.new) made.old made.new site.now result (item_shapes (spec_proc (heading_view heading.now) stream)) IsLoneEffect (λ c. spec_declare c kind (spec_proc (heading_view heading.now) stream) before.cell) }
 {
     let cell = before.cell;
     match proc_rows(scopes, site, kind, heading, stream, before.procedures, made) {
@@ -177,7 +178,7 @@ fn declaration<S: Scopes>(
     requires read { IsReadItem site.now.texts.now.names (decl_item (decl_view declaration.now)) }
     requires cell { before.cell ≤ 16777216 }
     requires number { before.procedures ≡ length (filter is_proc (S.state scopes.old).frame.entered) }
-    ensures { Declares (S.state scopes.old) (S.state scopes.new) made.old made.new site.now result (item_shapes (decl_item (decl_view declaration.now))) IsEffect (λ c. spec_declare c kind (decl_item (decl_view declaration.now)) before.cell) }
+    ensures { Declares (S.state scopes.old) (S.state scopes.new) made.old made.new site.now result (item_shapes (decl_item (decl_view declaration.now))) IsLoneEffect (λ c. spec_declare c kind (decl_item (decl_view declaration.now)) before.cell) }
 {
     let cell = before.cell;
     match declaration {
@@ -208,7 +209,7 @@ pub(crate) fn item_rows<S: Scopes>(
     requires before { IsFromBefore (source_of site.now.texts.now) (S.state scopes.old).frame.setting.fills (item_view item.now) }
     requires cell { before.cell ≤ 16777216 }
     requires number { before.procedures ≡ length (filter is_proc (S.state scopes.old).frame.entered) }
-    ensures { Declares (S.state scopes.old) (S.state scopes.new) made.old made.new site.now result (item_shapes (item_view item.now)) IsEffect (λ c. spec_declare c kind (item_view item.now) before.cell) }
+    ensures { DeclaresWith (S.state scopes.old) (S.state scopes.new) made.old made.new site.now result (item_shapes (item_view item.now)) (λ e. e.brought) (IsEffectOf (item_view item.now)) (λ c. spec_declare c kind (item_view item.now) before.cell) }
 {
     match item {
         Item::Heading(heading) => heading_rows(alloc, scopes, site, heading, made),

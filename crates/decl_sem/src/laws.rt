@@ -3,10 +3,10 @@ ghost use Rattle.std.specs.Prelude.{List};
 ghost use Rattle.m2_base.specs.Lists.{HasNoRepeats};
 ghost use Rattle.m2_base.specs.Statics.Shapes.{Shape};
 ghost use Rattle.m2_base.specs.declared.rows.Row.{Row};
-ghost use Rattle.m2_base.specs.declared.sites.Named.{Named};
+ghost use Rattle.m2_base.specs.Statics.Contexts.{Layout};
 ghost use Rattle.decl_sem.specs.LaidRows.{AreLaid};
 
 /// Rows that are as a layout gives them have no name twice, in every unit.
 pub fn laid_rows_differ()
-    ensures { (names : List Named) (shapes : List Shape) (rows : List Row) → AreLaid names 0 shapes rows → HasNoRepeats (λ r. r.name) rows }
+    ensures { (layout : Layout) (shapes : List Shape) (rows : List Row) → AreLaid layout 0 shapes rows → HasNoRepeats (λ r. r.name) rows }
 {}

@@ -1,6 +1,7 @@
 //! The layout of a block: each name that it declares, with the ordinal, kind, token and item of its row. It follows from
 //! the syntax alone.
-ghost use Rattle.std.specs.Prelude.{◌≡◌, ◌∷◌, ◌++◌, [], ◌+◌, flat_map, map, option_map, IfOk, IfSome, OnOk};
+ghost use Rattle.std.specs.Prelude.{◌≡◌, ◌∷◌, ◌++◌, [], ◌+◌, ◌<◌, ◌≤◌, flat_map, map, option_map, IfOk, IfSome, OnOk};
+ghost use Rattle.m2_base.specs.Lists.{Each};
 ghost use Rattle.m2_base.specs.Statics.Items.{heading_items, import_item, import_items, decl_item};
 ghost use Rattle.m2_base.specs.Statics.Layouts.{layout_of};
 ghost use Rattle.m2_base.specs.Views.{decl_view, heading_view, import_view, stream_view};
@@ -10,6 +11,9 @@ use crate::shapes::{Shapes, put_declaration, put_heading, put_import};
 use m2_base::{Decl, Heading, Ident, Import, Layout, Memory, Named, Stream};
 use std::alloc::Global;
 use std::marker::Model;
+
+/// A layout has at most so many rows.
+const MOST_ROWS: u32 = 2_147_483_648;
 
 /// The layout of the items so far.
 #[derive(Drop)]
@@ -114,16 +118,22 @@ impl Progress {
         Ok(())
     }
 
-    /// The layout, where these are all items.
+    /// The layout, where these are all items. One of more than 2^31 rows finds no memory.
     fn finish(self, alloc: Global) -> Result<Layout, Memory>
+        requires names { Each (λ n. n.ordinal < self.rows) self.names }
+        requires firsts { Each (λ o. o ≤ self.rows) self.firsts }
         ensures names { IfOk result (λ layout. layout.names ≡ self.names) }
         ensures firsts { IfOk result (λ layout. layout.firsts ≡ self.firsts ++ self.rows ∷ []) }
+        ensures brought { IfOk result (λ layout. layout.brought ≡ []) }
     {
         let Progress {
             names,
             mut firsts,
             rows,
         } = self;
+        if rows > MOST_ROWS {
+            return Err(Memory);
+        }
         firsts.push(rows)?;
         Layout::new(alloc, names, firsts)
     }

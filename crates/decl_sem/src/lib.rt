@@ -53,6 +53,7 @@ macro_rules! analysed {
 
 mod arrays;
 mod bounds;
+mod brought;
 mod cells;
 mod closing;
 mod const_items;

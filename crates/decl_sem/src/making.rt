@@ -1,11 +1,12 @@
 //! The rows of the item in hand, one after another.
-ghost use Rattle.std.specs.Prelude.{◌≡◌, ◌≢◌, ℕ, ◌∷◌, ◌++◌, [], ◌+◌, ◌<◌, ◌^◌, length, IfOk, OnErr};
+ghost use Rattle.std.specs.Prelude.{◌≡◌, ◌≢◌, ℕ, ◌∷◌, ◌++◌, [], ◌+◌, ◌<◌, ◌^◌, length, if◌then◌else◌, IfOk, OnErr};
 ghost use Rattle.m2_base.specs.Lists.{IsPrefixOf};
 ghost use Rattle.m2_base.specs.Rows.{at_place, row_of, HasSmallScopes};
 ghost use Rattle.m2_base.specs.Standard.{is_standard as spec_is_standard};
-ghost use Rattle.m2_base.specs.Statics.Contexts.{Context};
+ghost use Rattle.m2_base.specs.Statics.Contexts.{Context, diag};
+ghost use Rattle.m2_base.specs.Statics.Diagnostics.{declared_twice};
 ghost use Rattle.m2_base.specs.Statics.Lookup.{first_entry};
-ghost use Rattle.m2_base.specs.Statics.Makes.{makes_named as spec_named, makes_row as spec_row};
+ghost use Rattle.m2_base.specs.Statics.Makes.{makes_named as spec_named, makes_row as spec_row, one_row};
 ghost use Rattle.m2_base.specs.Statics.Shapes.{nameless, named};
 ghost use Rattle.m2_base.specs.Statics.TypeParts.{is_field};
 ghost use Rattle.m2_base.specs.States.{State};
@@ -43,7 +44,7 @@ pub(crate) fn is_standard(name: u32) -> bool
 
 /// Whether the layout has the first row of a name at this ordinal.
 fn is_first(layout: &Layout, ordinal: u32, name: u32) -> bool
-    ensures { result ≡ is_of ordinal (first_entry layout.now.names name) }
+    ensures { result ≡ is_of ordinal (first_entry layout.now name) }
 {
     match layout.first(name) {
         Some(named) => named.ordinal == ordinal,
@@ -60,8 +61,8 @@ fn kept_name(
     at: u32,
     notes: &mut Notes,
 ) -> Result<u32, Memory>
-    ensures kept { IfOk result (λ kept. kept ≡ spec_kept_name site.now.layout.now.names ordinal name) }
-    ensures diags { IfOk result (λ kept. notes.new.diags.items ≡ notes.old.diags.items ++ name_refusals site.now.around.now.text site.now.layout.now.names ordinal name at) }
+    ensures kept { IfOk result (λ kept. kept ≡ spec_kept_name site.now.layout.now ordinal name) }
+    ensures diags { IfOk result (λ kept. notes.new.diags.items ≡ notes.old.diags.items ++ name_refusals site.now.around.now.text site.now.layout.now ordinal name at) }
     ensures unchanged { OnErr result (notes.new.diags.items ≡ notes.old.diags.items) }
     ensures answers { notes.new.answers.items ≡ notes.old.answers.items }
 {
@@ -124,7 +125,7 @@ pub(crate) fn make_named(
     requires scopes { HasSmallScopes meaning }
     ensures made { IfOk result (λ place. (c : Context) → IsInHand c site.now made.old → IsNext c name → MakesAll made.old made.new (spec_named c name at meaning) place) }
     ensures place { IfOk result (λ place. place ≡ at_place site.now.around.now.scope (next_ordinal made.old)) }
-    ensures rows { IfOk result (λ place. made.new.rows.items ≡ made.old.rows.items ++ row_of (spec_kept_name site.now.layout.now.names (next_ordinal made.old) name) at meaning ∷ []) }
+    ensures rows { IfOk result (λ place. made.new.rows.items ≡ made.old.rows.items ++ row_of (spec_kept_name site.now.layout.now (next_ordinal made.old) name) at meaning ∷ []) }
     ensures diags { IsPrefixOf made.old.notes.diags.items made.new.notes.diags.items }
     ensures answers { made.new.notes.answers.items ≡ made.old.notes.answers.items }
     ensures first { made.new.first ≡ made.old.first }
@@ -133,6 +134,50 @@ pub(crate) fn make_named(
     let kept = kept_name(site, ordinal, name, at, &mut made.notes)?;
     let field = field_key(meaning);
     put_row(site, made, write_row(kept, at, meaning), field)
+}
+
+/// A row whose name an import has brought before: it has none. It is refused where it leads elsewhere.
+pub(crate) fn make_again(
+    site: &Site,
+    made: &mut Made,
+    at: u32,
+    meaning: RowMeaning,
+    elsewhere: bool,
+) -> Result<Place, Memory>
+    requires room { next_ordinal made.old < 2 ^ 32 }
+    requires scopes { HasSmallScopes meaning }
+    ensures made { IfOk result (λ place. (c : Context) → IsInHand c site.now made.old → MakesAll made.old made.new (one_row c (row_of 0 at meaning) (if elsewhere then diag c at declared_twice ∷ [] else [])) place) }
+    ensures place { IfOk result (λ place. place ≡ at_place site.now.around.now.scope (next_ordinal made.old)) }
+    ensures rows { IfOk result (λ place. made.new.rows.items ≡ made.old.rows.items ++ row_of 0 at meaning ∷ []) }
+    ensures diags { IsPrefixOf made.old.notes.diags.items made.new.notes.diags.items }
+    ensures answers { made.new.notes.answers.items ≡ made.old.notes.answers.items }
+    ensures first { made.new.first ≡ made.old.first }
+{
+    if elsewhere {
+        let text = site.around.text;
+        made.notes.refuse(text, at, Diagnostic::DeclaredTwice)?;
+    }
+    let field = field_key(meaning);
+    put_row(site, made, write_row(0, at, meaning), field)
+}
+
+/// A row whose name is new in the block.
+pub(crate) fn make_new(
+    site: &Site,
+    made: &mut Made,
+    name: u32,
+    at: u32,
+    meaning: RowMeaning,
+) -> Result<Place, Memory>
+    requires room { next_ordinal made.old < 2 ^ 32 }
+    requires scopes { HasSmallScopes meaning }
+    ensures place { IfOk result (λ place. place ≡ at_place site.now.around.now.scope (next_ordinal made.old)) }
+    ensures rows { IfOk result (λ place. made.new.rows.items ≡ made.old.rows.items ++ row_of name at meaning ∷ []) }
+    ensures notes { made.new.notes ≡ made.old.notes }
+    ensures first { made.new.first ≡ made.old.first }
+{
+    let field = field_key(meaning);
+    put_row(site, made, write_row(name, at, meaning), field)
 }
 
 /// A row without a name, as a piece of the item.

@@ -4,7 +4,7 @@ ghost use Rattle.m2_base.specs.Lists.{Each};
 ghost use Rattle.m2_base.specs.Statics.HeadingRows.{heading_rows as spec_rows, own_section_rows as spec_section, own_sections_rows as spec_sections};
 ghost use Rattle.m2_base.specs.Statics.Shapes.{own_section_shapes};
 ghost use Rattle.m2_base.specs.Views.{heading_view, section_view};
-ghost use Rattle.decl_sem.specs.Items.{IsEffect};
+ghost use Rattle.decl_sem.specs.Items.{IsLoneEffect};
 ghost use Rattle.decl_sem.specs.Making.{next_ordinal};
 ghost use Rattle.decl_sem.specs.OwnParameters.{AreCells, IsPlaced, heading_effect, section_given};
 ghost use Rattle.decl_sem.specs.Pieces.{Declares, IsBehind, IsMaking};
@@ -85,6 +85,7 @@ fn sections_in<S: Scopes>(
 
 /// The result of a heading, and what the heading gives behind its parameters.
 fn effect_in<S: Scopes>(
+    alloc: Global,
     scopes: &mut S,
     site: &Site,
     made: &mut Made,
@@ -94,10 +95,10 @@ fn effect_in<S: Scopes>(
     requires making { IsMaking (S.state scopes.old).frame site.now made.old [] }
     requires read { IsReadQualOption site.now.texts.now.names qual }
     requires cells { AreCells from }
-    ensures { Declares (S.state scopes.old) (S.state scopes.new) made.old made.new site.now result [] IsEffect (heading_effect qual from) }
+    ensures { Declares (S.state scopes.old) (S.state scopes.new) made.old made.new site.now result [] IsLoneEffect (heading_effect qual from) }
 {
     match result_in(scopes, site, qual, made) {
-        Ok(Ask::Known(of)) => Ok(Ask::Known(from.into_effect(of))),
+        Ok(Ask::Known(of)) => Ok(Ask::Known(from.into_effect(alloc, of))),
         Ok(Ask::DontKnowYet(head)) => Ok(Ask::DontKnowYet(head)),
         Err(memory) => Err(memory),
     }
@@ -113,10 +114,10 @@ pub(crate) fn heading_rows<S: Scopes>(
 ) -> Result<Ask<Effect>, Memory>
     requires making { IsMaking (S.state scopes.old).frame site.now made.old (flat_map own_section_shapes (heading_view heading.now).sections) }
     requires read { IsReadHeading site.now.texts.now.names (heading_view heading.now) }
-    ensures { Declares (S.state scopes.old) (S.state scopes.new) made.old made.new site.now result (flat_map own_section_shapes (heading_view heading.now).sections) IsEffect (λ c. spec_rows c (heading_view heading.now)) }
+    ensures { Declares (S.state scopes.old) (S.state scopes.new) made.old made.new site.now result (flat_map own_section_shapes (heading_view heading.now).sections) IsLoneEffect (λ c. spec_rows c (heading_view heading.now)) }
 {
     let sizes = put!(heading_sizes(&heading.sections));
     let first = Placing::new(alloc, capped(sizes.cells as u64));
     let behind = analysed!(sections_in(scopes, site, made, &heading.sections, first));
-    effect_in(scopes, site, made, heading.result, behind)
+    effect_in(alloc, scopes, site, made, heading.result, behind)
 }

@@ -90,14 +90,15 @@ impl Placing {
     }
 
     /// What the heading gives, behind all parameters, with this result.
-    pub(crate) fn into_effect(self, of: Option<Place>) -> Effect
-        ensures { result ≡ record { cell = self.own; prologue = self.copies; result = of; heading = None } }
+    pub(crate) fn into_effect(self, alloc: Global, of: Option<Place>) -> Effect
+        ensures { result ≡ record { cell = self.own; prologue = self.copies; result = of; heading = None; brought = [] } }
     {
         Effect {
             cell: self.own,
             prologue: self.copies,
             result: of,
             heading: None,
+            brought: Vec::new(alloc),
         }
     }
 }

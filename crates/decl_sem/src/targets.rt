@@ -68,7 +68,7 @@ fn target_name(typ: &TypeExpr) -> Option<Ident>
 
 /// What the layout has under the name alone after POINTER TO, with the name's token.
 fn laid_target(site: &Site, typ: &TypeExpr) -> Option<(u32, Named)>
-    ensures told { (c : Context) → c.layout ≡ site.now.layout.now.names → target_by_name c (spec_name c (type_view typ.now)) ≡ option_map (λ laid. spec_layout c laid.0 laid.1) result }
+    ensures told { (c : Context) → c.layout ≡ site.now.layout.now → target_by_name c (spec_name c (type_view typ.now)) ≡ option_map (λ laid. spec_layout c laid.0 laid.1) result }
     ensures plain { IfSome result (λ _. type_shapes (type_view typ.now) ≡ []) }
 {
     let Some(name) = target_name(typ) else {
