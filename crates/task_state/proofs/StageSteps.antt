@@ -53,7 +53,7 @@ one_tree x y r e h = sym (ap (λ (z : Result Stream StreamFault). got z x) e) �
 
 -- the task with this stage
 abbrev pub task_with : Task → Stage → Task
-task_with t stage = record { stream = t.stream; text = t.text; kind = t.kind; around = t.around; stage = stage }
+task_with t stage = record { stream = t.stream; text = t.text; kind = t.kind; around = t.around; stage = stage; steps = t.steps }
 
 module _ (st : State) (t : Task) (far : IsAsFar st t) (tokens : List Token) (unread : IsUnread st.frame far.stream tokens) where
   -- the tokens are the stream's

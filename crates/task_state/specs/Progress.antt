@@ -146,6 +146,10 @@ number_of t = t.stream
 abbrev pub around_of : Task → Around
 around_of t = t.around
 
+-- how many items and statements it has finished
+abbrev pub steps_of : Task → ℕ
+steps_of t = t.steps
+
 -- whether it is done
 abbrev pub is_over : Task → Bool
 is_over t = is_ended t.stage

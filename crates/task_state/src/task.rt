@@ -1,18 +1,18 @@
 //! The task of a stream.
-ghost use Rattle.std.specs.Prelude.{◌≡◌, [], IfErr, IfOk, Ok, OnOk, true, false};
+ghost use Rattle.std.specs.Prelude.{◌≡◌, ◌≤◌, [], IfErr, IfOk, Ok, OnOk, true, false};
 ghost use Rattle.ll_grammar.specs.Readers.{Gives};
 ghost use Rattle.m2_base.specs.States.{State, Turns, texts_of};
 ghost use Rattle.m2_base.specs.Trees.{Stream as StreamTree};
 ghost use Rattle.m2_base.specs.Views.{stream_view as tree_view};
 ghost use Rattle.m2_parse.specs.Streams.{IsFirstFault, SpellsStream, cause_of};
 ghost use Rattle.stream_split.specs.Views.{stream_view};
-ghost use Rattle.task_state.specs.Progress.{Ends, IsAsFar, IsLeft, IsSameTask, is_over};
+ghost use Rattle.task_state.specs.Progress.{Ends, IsAsFar, IsLeft, IsSameTask, is_over, steps_of};
 ghost use Rattle.task_state.specs.Steps.{IsRead, Stops};
 ghost use Rattle.task_state.specs.Units.{IsOfUnit};
 ghost use Rattle.task_state.specs.declared.stages.Stage.TheVariants.{Ended};
 
 use crate::outputs::refused;
-use crate::stages::Stage;
+use crate::stages::{Begun, Stage};
 use crate::stops::Stop;
 use crate::working::{begun, work};
 use decl_sem::layout;
@@ -55,6 +55,21 @@ pub struct Task {
     kind: StreamKind,
     around: Around,
     stage: Stage,
+    /// How many items and statements are finished.
+    steps: u64,
+}
+
+/// How many items of a block and so many of its statements are finished.
+fn made(begun: &Begun, statements: usize) -> u64 {
+    (begun.collected.count as u64).saturating_add(statements as u64)
+}
+
+/// How many statements of a block are finished.
+fn stated(begun: &Begun) -> usize {
+    match &begun.stating {
+        Some(stating) => stating.body.count(),
+        None => 0,
+    }
 }
 
 impl Task {
@@ -75,7 +90,15 @@ impl Task {
             kind,
             around,
             stage: Stage::Unread(tokens),
+            steps: 0,
         }
+    }
+
+    /// How many items and statements of its stream are finished. It never falls.
+    pub fn steps(&self) -> u64
+        ensures { result ≡ steps_of self.now }
+    {
+        self.steps
     }
 
     /// Whether its stream is worked through.
@@ -93,6 +116,7 @@ impl Task {
         ensures stops { Stops (S.state scopes.old) (S.state scopes.new) result }
         ensures read { OnOk result (IsRead self.new.stage) }
         ensures same { IsSameTask self.old self.new }
+        ensures steps { steps_of self.old ≤ steps_of self.new }
     {
         let Stage::Unread(tokens) = &self.stage else {
             return Ok(());
@@ -121,13 +145,22 @@ impl Task {
         ensures stops { Stops (S.state scopes.old) (S.state scopes.new) result }
         ensures done { OnOk result (is_over self.new ≡ true) }
         ensures same { IsSameTask self.old self.new }
+        ensures steps { steps_of self.old ≤ steps_of self.new }
     {
         match &mut self.stage {
             Stage::Unread(_) => unreachable!(),
             Stage::Working(begun) => {
-                let output = gone!(work(alloc, texts, &self.around, scopes, begun));
-                self.stage = Stage::Ended(output);
-                Ok(())
+                match work(alloc, texts, &self.around, scopes, begun) {
+                    Ok(output) => {
+                        self.steps = self.steps.max(made(begun, begun.tree.body.len()));
+                        self.stage = Stage::Ended(output);
+                        Ok(())
+                    }
+                    Err(stop) => {
+                        self.steps = self.steps.max(made(begun, stated(begun)));
+                        Err(stop)
+                    }
+                }
             }
             Stage::Ended(_) => Ok(()),
         }
@@ -147,6 +180,7 @@ impl Task {
         ensures stops { Stops (S.state scopes.old) (S.state scopes.new) result }
         ensures done { OnOk result (is_over self.new ≡ true) }
         ensures same { IsSameTask self.old self.new }
+        ensures steps { steps_of self.old ≤ steps_of self.new }
     {
         gone!(self.read(alloc, scopes));
         self.go_on(alloc, texts, scopes)
@@ -162,6 +196,7 @@ impl Task {
         ensures far { IsAsFar (S.state scopes.new) self.new }
         ensures ends { Ends (S.state scopes.old) (S.state scopes.new) self.new result }
         ensures same { IsSameTask self.old self.new }
+        ensures steps { steps_of self.old ≤ steps_of self.new }
     {
         match self.advance(alloc, texts, scopes) {
             Ok(()) => Turn::Done,
