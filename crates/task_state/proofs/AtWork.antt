@@ -12,7 +12,7 @@ use Rattle.m2_base.specs.declared.sites.Around.{Around}
 use Rattle.m2_base.specs.declared.trees.declarations.Stream.{Stream as HeldStream}
 use Rattle.task_state.specs.Blocks.{IsBlockOf}
 use Rattle.task_state.specs.Progress.{HasDeclared, HasStated, stated_answers}
-use Rattle.task_state.specs.Steps.{IsAtWork, IsInHand, IsStating}
+use Rattle.task_state.specs.Steps.{IsAtWork, IsComplete, IsInHand, IsStating}
 use Rattle.task_state.specs.declared.stages.Begun.{Begun}
 use Rattle.task_state.specs.declared.stages.Block.{Block}
 use Rattle.task_state.specs.declared.stages.Stating.{Stating}
@@ -49,6 +49,9 @@ module _ (bl : Block) (w : Begun) (tree : bl.tree.now ≡ w.tree) where
 
     all_there : w.closed ≡ true → w.collected.count ≡ length (items_of (stream_view bl.tree.now))
     all_there closed = far.begun.all closed ∙ ap (λ (t : HeldStream). length (items_of (stream_view t))) (sym tree)
+
+    pub to_complete : w.closed ≡ true → IsComplete st bl w.collected
+    to_complete closed = record { in_hand = in_hand; closed = far.begun.closed ∙ closed; declared = declared; all = all_there closed; shown = shown }
 
     pub to_stating : (x : Stating) → w.stating ≡ Some x → IsStating st bl w.collected x
     to_stating x some =

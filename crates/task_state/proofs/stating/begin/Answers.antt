@@ -1,4 +1,4 @@
-use Rattle.std.proofs.Common.{◌≡◌, refl, sym, ap, ◌∙◌, map}
+use Rattle.std.proofs.Common.{◌≡◌, None, refl, sym, ap, ◌∙◌, map}
 use Rattle.decl_sem.specs.Effects.{copy_view}
 use Rattle.m2_base.proofs.Kept.{Turns-keeps}
 use Rattle.task_state.specs.Collecting.{Collected}
@@ -46,6 +46,6 @@ returns-clause-begun g c =
     let copies : map copy_view c.deref.result.now ≡ m.copies = ap (map copy_view) c.deref.ensures.value ∙ ap (λ (x : Collected). x.copies) same in
     let stating : Stating = record { closing = c.in-Ok-Known.notes.diags; body = c.in-Ok.value } in
     stating_still bl m stating
-    (stating_begun (g.S.Scopes.state c.args.scopes.now) _ bl m stating (record { texts = refl; around = refl; layout = ap (λ (x : Collected). x.layout) c.collected.view_is; item_is = refl }) c.requires.complete c.in-Ok.ensures.none (rw c.in-Ok-Known.field-0-is at c.in-Ok-Known.ensures.told)
+    (stating_begun (g.S.Scopes.state c.args.scopes.now) (record { texts = c.args.block.now.texts; around = c.args.block.now.around; layout = record { ref_ptr = c.args.collected.ref_ptr; now = c.collected.inside.layout }; item = None }) bl m stating (record { texts = refl; around = refl; layout = ap (λ (x : Collected). x.layout) c.collected.view_is; item_is = refl }) c.requires.complete c.in-Ok.ensures.none (rw c.in-Ok-Known.field-0-is at c.in-Ok-Known.ensures.told)
     (λ k e cell prologue. c.in-Ok.ensures.begun k e (cell ∙ sym (ap (λ (x : Collected). x.cell) same)) (prologue ∙ sym copies)))
     stating c.close_check.ensures.reads.keeps refl refl

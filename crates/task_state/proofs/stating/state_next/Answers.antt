@@ -1,4 +1,4 @@
-use Rattle.std.proofs.Common.{refl, ap, ◌∙◌}
+use Rattle.std.proofs.Common.{None, refl, ap, ◌∙◌}
 use Rattle.m2_base.specs.Views.{stream_view}
 use Rattle.m2_base.proofs.Kept.{Turns-keeps}
 use Rattle.task_state.specs.Collecting.{Collected, returned}
@@ -11,12 +11,12 @@ add-requires-clause-suits g c =
     suits_statements (g.S.Scopes.state c.args.scopes.now) _ c.args.block.now c.args.collected.now (record { texts = refl; around = refl; layout = ap (λ (m : Collected). m.layout) c.collected.view_is; item_is = refl }) far.in_hand far.closed far.declared far.all
 
 pub add-requires-clause-read : goal.add-requires-clause-read
-add-requires-clause-read g c = statements_read (g.S.Scopes.state c.args.scopes.now).frame.setting _ c.args.block.now c.args.collected.now (record { texts = refl; around = refl; layout = ap (λ (m : Collected). m.layout) c.collected.view_is; item_is = refl }) c.requires.far.in_hand
+add-requires-clause-read g c = statements_read (g.S.Scopes.state c.args.scopes.now).frame.setting (record { texts = c.args.block.now.texts; around = c.args.block.now.around; layout = record { ref_ptr = c.args.collected.ref_ptr; now = c.collected.inside.layout }; item = None }) c.args.block.now c.args.collected.now (record { texts = refl; around = refl; layout = ap (λ (m : Collected). m.layout) c.collected.view_is; item_is = refl }) c.requires.far.in_hand
 
 pub add-requires-clause-returns : goal.add-requires-clause-returns
 add-requires-clause-returns g c =
     let far = c.requires.far in
-    returned_is (g.S.Scopes.state c.args.scopes.now) _ c.args.block.now c.args.collected.now (record { texts = refl; around = refl; layout = ap (λ (m : Collected). m.layout) c.collected.view_is; item_is = refl }) far.in_hand far.declared far.closed far.all c.result_of-returns.result
+    returned_is (g.S.Scopes.state c.args.scopes.now) (record { texts = c.args.block.now.texts; around = c.args.block.now.around; layout = record { ref_ptr = c.args.collected.ref_ptr; now = c.collected.inside.layout }; item = None }) c.args.block.now c.args.collected.now (record { texts = refl; around = refl; layout = ap (λ (m : Collected). m.layout) c.collected.view_is; item_is = refl }) far.in_hand far.declared far.closed far.all c.result_of-returns.result
     (c.result_of-returns.ensures ∙ ap (λ (m : Collected). returned (stream_view c.args.block.now.tree.now).heading m.returns) c.collected.view_is)
 
 pub add-requires-clause-there : goal.add-requires-clause-there
