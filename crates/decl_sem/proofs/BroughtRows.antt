@@ -89,6 +89,11 @@ module _ {T U : Type 0} {a b : State} {x y : Made} {s : Site} {ss ts : List Shap
   pub bringing_failed : {m : Memory} → Declares a b x y s (Err m) ss P g → (n : Memory) → DeclaresWith a b x y s (Err n) ts names Q h
   bringing_failed p n = record { works = p.works; waits = tt; first = p.first; grown = tt; told = λ hand in_hand told same. tt; there = tt }
 
+module _ {T U : Type 0} {a b : State} {x y : Made} {s : Site} {ss ts : List Shape} {P : Frame → ℕ → T → Type 0} {Q : Frame → ℕ → U → Type 0} {g : Context → Makes T} {h : Context → Makes U} (names : T → List Named) (more : U → List Named) where
+  -- what isn't known yet of a part isn't known yet of the whole
+  pub bringing_waiting : {head : Head} → DeclaresWith a b x y s (Ok (DontKnowYet head)) ss names P g → DeclaresWith a b x y s (Ok (DontKnowYet head)) ts more Q h
+  bringing_waiting p = record { works = p.works; waits = p.waits; first = p.first; grown = tt; told = λ hand in_hand told same. tt; there = tt }
+
 -- want of memory, after notes
 pub bringing_unmade : {U : Type 0} {a b : State} {x y : Made} (s : Site) (ss : List Shape) (names : U → List Named) (Q : Frame → ℕ → U → Type 0) (h : Context → Makes U) (m : Memory) → Works a b x.notes y.notes → y.first ≡ x.first → DeclaresWith a b x y s (Err m) ss names Q h
 bringing_unmade s ss names Q h m works first = record { works = works; waits = tt; first = first; grown = tt; told = λ hand in_hand told same. tt; there = tt }

@@ -8,7 +8,7 @@ use Rattle.code_form.specs.declared.instr.Instr.TheVariants.{Load, Local, Move, 
 use Rattle.code_form.proofs.Spellings.{length-spelling}
 use Rattle.m2_base.specs.declared.rows.Place.{Place}
 use Rattle.m2_base.specs.declared.rows.Row.{Row}
-use Rattle.m2_base.specs.Statics.BlockRows.{at_item, context_of, declare_block, declare_items, first_cell, scene_of}
+use Rattle.m2_base.specs.Statics.BlockRows.{at_item, brought_in, context_of, declare_block, declare_items, first_cell, scene_of}
 use Rattle.m2_base.specs.declared.rows.Mode.TheVariants.{ByAddress, Open, Plain}
 use Rattle.m2_base.specs.declared.rows.RowMeaning.TheVariants.{Var}
 use Rattle.m2_base.specs.declared.trees.Ident.{Ident}
@@ -138,7 +138,7 @@ items-copies : (c : Context) (kind : StreamKind) (i cell : ℕ) (xs : List Item)
 items-copies c kind i cell [] = omega arith
 items-copies c kind i cell (x ∷ xs) =
     let m : Makes Effect = declare (at_item c i) kind x cell in
-    let d : Context = with_rows c m.rows in
+    let d : Context = brought_in (with_rows c m.rows) m.value.brought in
     let rest : List ParamCopy = (declare_items d kind (i + 1) m.value.cell xs).value.prologue in
     added (length m.value.prologue) (length rest) (length (m.value.prologue ++ rest)) (params_in x) (all_params xs)
     (length-append m.value.prologue rest) (item-copies (at_item c i) kind x cell) (items-copies d kind (i + 1) m.value.cell xs)
