@@ -7,7 +7,7 @@ use Rattle.m2_base.specs.Rows.{row_of, row_meaning, basic_of, natural, const_kin
 use Rattle.m2_base.specs.Standard.{is_standard}
 use Rattle.m2_base.specs.Statics.BlockRows.{at_item, brought_in, context_of, declare_block, declare_items, first_cell, scene_of}
 use Rattle.m2_base.specs.Statics.Blocks.{BlockTree}
-use Rattle.m2_base.specs.Statics.Contexts.{Context, Named, Source, diag, scope_of_module}
+use Rattle.m2_base.specs.Statics.Contexts.{Context, Source, diag, scope_of_module}
 use Rattle.m2_base.specs.Statics.Declarations.{declare}
 use Rattle.m2_base.specs.Statics.Diagnostics.{declared_twice, standard_declared}
 use Rattle.m2_base.specs.Statics.Effects.{heading_list}
@@ -23,13 +23,15 @@ use Rattle.m2_base.specs.Statics.ImportRows.{alias_row, place_or_broken}
 use Rattle.m2_base.specs.Statics.ImportedConstants.{Member, are_too_many, brought_names, members_of, new_members}
 use Rattle.m2_base.specs.Statics.Layouts.{brought_shape, with_brought}
 use Rattle.m2_base.specs.Statics.Uses.{use_of}
-use Rattle.m2_base.specs.Trees.{Heading, Ident}
+use Rattle.m2_base.specs.Trees.{Heading}
 use Rattle.m2_base.specs.declared.notes.Diag.{Diag}
 use Rattle.m2_base.specs.declared.outputs.HeadingNote.{HeadingNote}
 use Rattle.m2_base.specs.declared.rows.Place.{Place}
 use Rattle.m2_base.specs.declared.rows.Row.{Row}
 use Rattle.m2_base.specs.declared.rows.RowMeaning.TheVariants.{Proc, ProcType}
 use Rattle.m2_base.specs.declared.rows.RowMeaning.{RowMeaning}
+use Rattle.m2_base.specs.declared.sites.Named.{Named}
+use Rattle.m2_base.specs.declared.trees.Ident.{Ident}
 use Rattle.m2_base.specs.declared.trees.declarations.StreamKind.{StreamKind}
 use Rattle.m2_base.specs.declared.trees.declarations.StreamKind.TheVariants.{Definition, Main, Procedure}
 use Rattle.m2_base.proofs.ItemLaws.{item_of, sections_of}
