@@ -567,7 +567,7 @@ module _ (texts : UnitTexts) (unit : IsUnit texts) (front : TextOf → Front) (w
           let few = headings.few in
           let rows = (in_each (IsSoundBlock (length names) u.source) (blocks_of u) b is.sound.blocks i).few in
           let long = length-map (made names u is b).value.headings callee_of in
-          (omega (arith, cell), omega (arith, few, rows, long), headings.callees rows)
+          (omega (arith, cell), omega (arith, few, rows, long), headings.callees (omega (arith, rows)))
 
   abbrev IsNameOf : KeyedImport → ℕ × List ℕ → Type 0
   IsNameOf i k = i.definition.name ≡ spelled names k.0
