@@ -7,6 +7,7 @@
 //! is and what of it each turn leaves as it was (`Job`), and what a turn is (`Turns`); `work_off` is a worker.
 #![tactic(auto)]
 
+mod at_once;
 mod closing;
 mod hand;
 mod job;
@@ -16,6 +17,7 @@ mod rule;
 mod steps;
 mod working;
 
+pub use at_once::work_at_once;
 pub use hand::{Hand, Relay};
 pub use job::{Job, Turned, Turns};
 pub use working::work_off;
