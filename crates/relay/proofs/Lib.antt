@@ -6,3 +6,4 @@ pub mod Dealt
 pub mod Closed
 pub mod Worked
 pub mod Crossing
+pub mod Ended

@@ -9,6 +9,7 @@
 
 mod at_once;
 mod closing;
+mod finishing;
 mod hand;
 mod job;
 mod moves;
@@ -17,7 +18,8 @@ mod rule;
 mod steps;
 mod working;
 
-pub use at_once::work_at_once;
+pub use at_once::{do_all, work_at_once};
+pub use finishing::finish;
 pub use hand::{Hand, Relay};
 pub use job::{Job, Turned, Turns};
 pub use working::work_off;
