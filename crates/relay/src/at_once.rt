@@ -52,6 +52,7 @@ pub fn work_at_once<J: Job + Send, T: Turns<J> + Sync, R: Threads + Wait + Sync>
     requires workers { (0 < workers) × (workers ≤ 64) }
     ensures numbers { IfOk result (λ left. map J.number left.items ≡ numbers_to (length jobs.items)) }
     ensures jobs { IfOk result (λ left. AreLater J.stays jobs.items left.items) }
+    ensures fits { IfOk result (λ left. All (T.fits turns.now) left.items) }
 {
     let (relay, mut hands) = Relay::open(rt, alloc, jobs, workers)?;
     work_all(rt, &relay, turns, hands.as_mut_slice());
