@@ -1,5 +1,5 @@
 //! The turns that workers left, by the caller alone.
-ghost use Rattle.std.specs.Prelude.{◌≡◌, ◌+◌, ◌<◌, true, length, map, All, OnOk, ℕ, slice_index_or};
+ghost use Rattle.std.specs.Prelude.{◌≡◌, ◌+◌, ◌<◌, true, length, map, All, OnOk, slice_index_or};
 ghost use Rattle.relay.specs.Places.{numbers_to};
 ghost use Rattle.relay.specs.Hands.{AreLater};
 ghost use Rattle.relay.specs.Ends.{AreOver};
