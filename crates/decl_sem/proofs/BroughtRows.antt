@@ -214,15 +214,17 @@ bringing_as {a = a} {x = x} {y = y} {s = s} names answer shapes same stands p =
 
 names_laid : (l : Layout) (i limit o at : ℕ) (f : Frame) (s : Site) (ms : List Member) → s.layout.now ≡ l → Each (IsNewMember f s limit) ms → Differ ms → AreNewNames l i limit o (brought_names i o at (map member_view ms))
 names_laid l i limit o at f s [] e each differ = tt
-names_laid l i limit o at f s (m ∷ ms) e each differ =
-    (record {
-      named = each.0.member.named;
-      plain = each.0.plain;
-      kind = refl;
-      of_item = refl;
-      at = refl;
-      unknown = subst (λ (k : Layout). ordinal_before limit (first_entry k m.name) ≡ None) e (earlier_none s.layout.now limit m.name each.0.unknown each.0.plain);
-    }, (others (o + 1) ms differ.0, names_laid l i limit (o + 1) at f s ms e each.1 differ.1))
+names_laid l i limit o at f s (m ∷ ms) e each differ = (
+  record {
+    named = each.0.member.named;
+    plain = each.0.plain;
+    kind = refl;
+    of_item = refl;
+    at = refl;
+    unknown = subst (λ (k : Layout). ordinal_before limit (first_entry k m.name) ≡ None) e (earlier_none s.layout.now limit m.name each.0.unknown each.0.plain);
+  },
+  (others (o + 1) ms differ.0, names_laid l i limit (o + 1) at f s ms e each.1 differ.1),
+)
   where
     others : (n : ℕ) (ks : List Member) → Each (λ (k : Member). k.name ≢ m.name) ks → Each (λ (d : Named). d.name ≢ m.name) (brought_names i n at (map member_view ks))
     others n [] h = tt
@@ -241,9 +243,10 @@ rows_new at o limit [] making h each = tt
 rows_new {f} {s} {x} at o limit (m ∷ ms) making h each =
     let small = each.0.member.small in
     let before = each.0.member.before in
-    let behind : IsBehind f o m.place = record { small = small; scope = omega (arith, before); before = λ own. absurd (omega (arith, own, before)) } in
-    (new_row f s o m.name at (Alias m.place) each.0.member.known (record { small = small; scopes = small_scope making behind; fits = before_next behind; filled = tt; owned = tt }),
-    rows_new at (o + 1) limit ms making (omega (arith, h)) each.1)
+    let behind : IsBehind f o m.place = record { small = small; scope = omega (arith, before); before = λ own. absurd (omega (arith, own, before)) } in (
+      new_row f s o m.name at (Alias m.place) each.0.member.known (record { small = small; scopes = small_scope making behind; fits = before_next behind; filled = tt; owned = tt }),
+      rows_new at (o + 1) limit ms making (omega (arith, h)) each.1,
+    )
 
 not_full : (k m n : ℕ) → nat_lt k (m + n) ≡ false → n ≤ k - m
 not_full k m n h = grind (arith, h)
@@ -390,8 +393,12 @@ pub again_piece : {s : Site} {x y : Made} (i : Ident) (target : Place) (again : 
 again_piece {s} {x} {y} i target again result made rows is answers diags first a making some behind =
     one_piece (named alias_kind i) (row_of 0 i.at (Alias target)) (λ c. one_row c (row_of 0 i.at (Alias target)) (if again then diag c i.at declared_twice ∷ [] else [])) result a
     (at_context s x y (λ c. one_row c (row_of 0 i.at (Alias target)) (if again then diag c i.at declared_twice ∷ [] else [])) result a.frame (λ hand same told. at_hand result made hand same told)) rows is answers diags first making
-    (record { kind = refl; at = refl; name = again_kept s.layout.now (next_ordinal x) i.name some
-        (Each-map (λ b. b.ordinal < x.first) (λ b. b.ordinal < next_ordinal x) s.layout.now.brought (λ b h. omega (arith, h)) making.old) })
+    (record {
+      kind = refl;
+      at = refl;
+      name = again_kept s.layout.now (next_ordinal x) i.name some
+          (Each-map (λ b. b.ordinal < x.first) (λ b. b.ordinal < next_ordinal x) s.layout.now.brought (λ b h. omega (arith, h)) making.old);
+    })
     (new_row a.frame s (next_ordinal x) 0 i.at (Alias target) (some_names making) (record { small = behind.small; scopes = small_scope making behind; fits = before_next behind; filled = tt; owned = tt }))
   where
     at_hand : (r : Result Place Memory) → IfOk r (λ place. (c : Context) → IsInHand c s x → MakesAll x y (one_row c (row_of 0 i.at (Alias target)) (if again then diag c i.at declared_twice ∷ [] else [])) place) → (hand : Hand) → hand.rows ≡ x.rows.items → IsFinished a.frame.setting.texts hand.finished

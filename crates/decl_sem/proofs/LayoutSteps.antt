@@ -130,7 +130,6 @@ module _ (l : Layout) (xs ys : List Shape) (item : ℕ) (b : List Named) (firsts
     (old : Each (λ d. d.ordinal < length xs) l.brought)
     (early : (name : ℕ) (n : Named) → entry_named l.names name ≡ Some n → n.item ≤ item → n.ordinal + brought_before l.brought n.item < length xs)
     (late : (name : ℕ) (n : Named) → entry_named l.names name ≡ Some n → item < n.item → length xs ≤ n.ordinal + brought_before l.brought n.item) where
-
   -- the entry by what is brought before, what is brought now, and what the syntax declares
   abbrev by_three : Option Named → Option Named → Option Named → Option Named
   by_three e f s = entry_or (entry_or e f) (option_map (moved (l.brought ++ b)) s)

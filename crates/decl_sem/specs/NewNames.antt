@@ -37,4 +37,3 @@ abbrev pub AreRowsOf : List Named → List Row → Type 0
 AreRowsOf [] [] = Unit {0}
 AreRowsOf (b ∷ brought) (r ∷ rows) = (r.kind ≡ b.kind) × (r.at ≡ b.at) × (r.name ≡ b.name) × AreRowsOf brought rows
 AreRowsOf brought rows = ⊥
-

@@ -226,7 +226,11 @@ fn take_place<S: Scopes>(
 pub(crate) fn is_full(site: &Site, found: &Found) -> bool
     ensures { result ≡ nat_lt limits.MOST_BROUGHT (length site.now.layout.now.brought + length found.now.members.items) }
 {
-    MOST_BROUGHT < site.layout.count_brought().saturating_add(found.members.len())
+    MOST_BROUGHT
+        < site
+            .layout
+            .count_brought()
+            .saturating_add(found.members.len())
 }
 
 /// The constants of an enumeration at this place that has so many, or so many of them that they are too many. An enumeration

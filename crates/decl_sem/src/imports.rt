@@ -31,7 +31,9 @@ use crate::kinds::ALIAS;
 use crate::making::{Made, make_again, make_new};
 use crate::names::{refuse, small_place};
 use crate::putting::name_row;
-use m2_base::{Ask, Diagnostic, Ident, Memory, Named, Notes, Place, Row, RowMeaning, Scopes, Site, Texts};
+use m2_base::{
+    Ask, Diagnostic, Ident, Memory, Named, Notes, Place, Row, RowMeaning, Scopes, Site, Texts,
+};
 use std::alloc::Global;
 use type_rules::{BROKEN, use_name};
 

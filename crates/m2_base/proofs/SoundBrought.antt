@@ -116,10 +116,11 @@ module _ (names : ℕ) where
           → AreOk names c.scene (map (brought_row at) new) × LayoutOk (extended c.layout (brought_names (unwrap_or c.item 0) (length (own_rows c)) at new))
       made room few =
           let enough = room.enough in
-          let many = length-map new (brought_row at) in
-          (rows_ok at new c sound (new_ok c [] ms h) room,
-           extended_ok c.layout (brought_names (unwrap_or c.item 0) (length (own_rows c)) at new) sound.layout
-           (names_small (unwrap_or c.item 0) (length (own_rows c)) at new (omega (arith, enough, many))) few)
+          let many = length-map new (brought_row at) in (
+            rows_ok at new c sound (new_ok c [] ms h) room,
+            extended_ok c.layout (brought_names (unwrap_or c.item 0) (length (own_rows c)) at new) sound.layout
+                (names_small (unwrap_or c.item 0) (length (own_rows c)) at new (omega (arith, enough, many))) few,
+          )
 
       by_test : (b : Bool) (x y : Makes (List Named)) → (Room c.scene x.rows → length c.layout.brought + length x.value ≤ MOST_BROUGHT → BroughtOk c x)
           → (Room c.scene y.rows → length c.layout.brought + length y.value ≤ MOST_BROUGHT → BroughtOk c y)
