@@ -5,3 +5,5 @@ pub mod Carrying
 pub mod Dealt
 pub mod Closed
 pub mod Worked
+pub mod Crossing
+pub mod Ended

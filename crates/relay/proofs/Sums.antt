@@ -1,7 +1,8 @@
 -- What is added up over the views of all passes.
-use Rattle.std.proofs.Common.{◌≡◌, ◌≢◌, ℕ, zero, suc, ◌+◌, ◌≤◌, List, [], ◌∷◌, set, sum_by, sym, refl, ap, ⊎_elim, subst, arith, map}
+use Rattle.std.proofs.Common.{◌≡◌, ◌≢◌, ℕ, zero, suc, ◌+◌, ◌<◌, ◌≤◌, List, [], ◌∷◌, length, set, sum_by, sym, refl, ap, ⊎_elim, subst, arith, map}
 use Rattle.std.proofs.lemmas.List.Sums.{sum_by-cons}
 use Rattle.std.specs.List.{Contains}
+use Rattle.std.specs.Prelude.{slice_index_or}
 use mathlib.Core.Option.{some, some-injective, some-ne-none}
 use lib.ListN.{get_elem?}
 use Rattle.crossbeam_queue.proofs.Lists.{at_set}
@@ -64,3 +65,14 @@ module _ {B : Type 0} where
   contains-at f [] i v e = absurd (some-ne-none v (sym e))
   contains-at f (x ∷ xs) zero v e = (0, omega arith, ap f (some-injective x v e))
   contains-at f (x ∷ xs) (suc i) v e = let r = contains-at f xs i v e in (suc r.0, (let l = r.1 in omega arith), r.2)
+
+  -- the sum stays, where each gives what the one at its place gave
+  pub sum-each : (f : B → ℕ) (before after : List B) → length after ≡ length before
+      → ((k : ℕ) (d : B) → k < length before → f (slice_index_or after k d) ≡ f (slice_index_or before k d)) → sum_by f after ≡ sum_by f before
+  sum-each f [] [] long same = refl
+  sum-each f [] (y ∷ ys) long same = absurd (omega arith)
+  sum-each f (x ∷ xs) [] long same = absurd (omega arith)
+  sum-each f (x ∷ xs) (y ∷ ys) long same =
+      let first = same 0 x (omega arith) in
+      let rest = sum-each f xs ys (omega arith) (λ k d l. same (suc k) d (omega arith)) in
+      let a = sum_by-cons f x xs in let b = sum_by-cons f y ys in omega arith

@@ -1,2 +1,3 @@
 pub mod Places
 pub mod Hands
+pub mod Ends

@@ -7,7 +7,9 @@
 //! is and what of it each turn leaves as it was (`Job`), and what a turn is (`Turns`); `work_off` is a worker.
 #![tactic(auto)]
 
+mod at_once;
 mod closing;
+mod finishing;
 mod hand;
 mod job;
 mod moves;
@@ -16,6 +18,8 @@ mod rule;
 mod steps;
 mod working;
 
+pub use at_once::{do_all, work_at_once};
+pub use finishing::finish;
 pub use hand::{Hand, Relay};
 pub use job::{Job, Turned, Turns};
 pub use working::work_off;
