@@ -2,7 +2,7 @@
 use Rattle.std.specs.Prelude.{◌≡◌, ℕ, ◌+◌, ◌≤◌, List, [], ◌∷◌, ◌++◌, flat_map, map, Option, Some, None}
 use Rattle.std.proofs.Common.{ap, subst, arith}
 use Rattle.m2_base.specs.Lists.{Each}
-use Rattle.m2_base.specs.Statics.BlockRows.{at_item, cell_after, cells_after, context_of, declare_block, declare_items, first_cell, scene_of}
+use Rattle.m2_base.specs.Statics.BlockRows.{at_item, brought_in, cell_after, cells_after, context_of, declare_block, declare_items, first_cell, scene_of}
 use Rattle.m2_base.specs.Statics.Blocks.{BlockTree}
 use Rattle.m2_base.specs.Statics.Cells.{capped}
 use Rattle.m2_base.specs.Statics.Contexts.{Context, Scene, Source}
@@ -64,7 +64,7 @@ items_grow [] c kind i cell inner low = (omega arith, low)
 items_grow (x ∷ items) c kind i cell inner low =
     let m = declare (at_item c i) kind x cell in
     let first = item_grows x (at_item c i) kind cell inner.0 low in
-    grows_more cell m.value.cell _ first (items_grow items (with_rows c m.rows) kind (i + 1) m.value.cell inner.1 first.1)
+    grows_more cell m.value.cell _ first (items_grow items (brought_in (with_rows c m.rows) m.value.brought) kind (i + 1) m.value.cell inner.1 first.1)
 
 -- ** Parameters
 

@@ -1,25 +1,29 @@
 -- A block without diagnostics notes the headings of its procedures' rows, in their order: each by its name and its number.
-use Rattle.std.specs.Prelude.{◌≡◌, refl, ℕ, suc, ◌+◌, ◌≤◌, ◌==◌, Bool, true, false, filter, if◌then◌else◌, List, [], ◌∷◌, ◌++◌, flat_map, length, map, slice_get, Option, Some, None}
+use Rattle.std.specs.Prelude.{◌≡◌, refl, ℕ, suc, ◌+◌, ◌≤◌, ◌==◌, Bool, true, false, filter, if◌then◌else◌, List, [], ◌∷◌, ◌++◌, flat_map, length, map, slice_get, unwrap_or, Option, Some, None}
 use Rattle.std.proofs.Common.{ap, subst, sym, ◌∙◌, arith, append_assoc, inl, inr}
 use Rattle.std.proofs.lemmas.List.{append-nil, length-append}
 use Rattle.m2_base.specs.Lists.{Each, IsIn}
 use Rattle.m2_base.specs.Rows.{row_of, row_meaning, basic_of, natural, const_kind, type_name_kind, var_kind, proc_kind, module_kind, alias_kind, field_kind, param_kind, standard_kind, basic_kind, enum_kind, subrange_kind, array_kind, open_array_kind, record_kind, set_kind, pointer_kind, proc_type_kind, opaque_kind}
 use Rattle.m2_base.specs.Standard.{is_standard}
-use Rattle.m2_base.specs.Statics.BlockRows.{at_item, context_of, declare_block, declare_items, first_cell, scene_of}
+use Rattle.m2_base.specs.Statics.BlockRows.{at_item, brought_in, context_of, declare_block, declare_items, first_cell, scene_of}
 use Rattle.m2_base.specs.Statics.Blocks.{BlockTree}
-use Rattle.m2_base.specs.Statics.Contexts.{Context, Source, diag}
+use Rattle.m2_base.specs.Statics.Contexts.{Context, Named, Source, diag, scope_of_module}
 use Rattle.m2_base.specs.Statics.Declarations.{declare}
 use Rattle.m2_base.specs.Statics.Diagnostics.{declared_twice, standard_declared}
 use Rattle.m2_base.specs.Statics.Effects.{heading_list}
 use Rattle.m2_base.specs.Statics.Items.{Item, const_item, heading_item, import_item, items_of, proc_item, type_item, vars_item}
 use Rattle.m2_base.specs.Statics.Lookup.{has_name}
-use Rattle.m2_base.specs.Statics.Makes.{makes_named, makes_row, next_place, one_row, own_rows, with_rows}
+use Rattle.m2_base.specs.Statics.Makes.{Makes, makes_named, makes_row, next_place, one_row, own_rows, with_rows}
 use Rattle.m2_base.specs.Statics.ProcedureRows.{heading_note, is_proc, is_proc_meaning, parameter_count, proc_number, proc_scope, section_rows, sections_length}
 use Rattle.m2_base.specs.Statics.ProcedureTypes.{result_type}
 use Rattle.m2_base.specs.Statics.ShapedRows.{AreShaped, none_of, more_of}
-use Rattle.m2_base.specs.Statics.Shapes.{Shape, named, section_shapes, type_item_shapes, type_shapes}
+use Rattle.m2_base.specs.Statics.Shapes.{Shape, item_shapes, named, section_shapes, type_item_shapes, type_shapes}
 use Rattle.m2_base.specs.Tables.{first_named}
-use Rattle.m2_base.specs.Trees.{Heading}
+use Rattle.m2_base.specs.Statics.ImportRows.{alias_row, place_or_broken}
+use Rattle.m2_base.specs.Statics.ImportedConstants.{Member, are_too_many, brought_names, members_of, new_members}
+use Rattle.m2_base.specs.Statics.Layouts.{brought_shape, with_brought}
+use Rattle.m2_base.specs.Statics.Uses.{use_of}
+use Rattle.m2_base.specs.Trees.{Heading, Ident}
 use Rattle.m2_base.specs.declared.notes.Diag.{Diag}
 use Rattle.m2_base.specs.declared.outputs.HeadingNote.{HeadingNote}
 use Rattle.m2_base.specs.declared.rows.Place.{Place}
@@ -158,11 +162,38 @@ note_tagged Procedure h number is = absurd is
 note_tagged Main h number is = refl
 note_tagged Definition h number is = refl
 
+-- what an import brings is no procedure
+names_other : (item o at : ℕ) (ms : List Member) → Each (λ (b : Named). (b.kind == proc_kind) ≡ false) (brought_names item o at ms)
+names_other item o at [] = tt
+names_other item o at (m ∷ ms) = (refl, names_other item (o + 1) at ms)
+
+brought_other : (shapes : List Shape) (brought : List Named) → AreOther shapes → Each (λ (b : Named). (b.kind == proc_kind) ≡ false) brought → AreOther (with_brought shapes brought)
+brought_other shapes [] h k = h
+brought_other shapes (b ∷ brought) h k = others shapes h
+  where
+    shaped : (brought : List Named) → Each (λ (b : Named). (b.kind == proc_kind) ≡ false) brought → AreOther (map brought_shape brought)
+    shaped [] k = tt
+    shaped (b ∷ brought) k = (k.0, shaped brought k.1)
+
+    others : (shapes : List Shape) → AreOther shapes → AreOther (shapes ++ brought_shape b ∷ map brought_shape brought)
+    others [] h = (k.0, shaped brought k.1)
+    others (s ∷ shapes) h = (h.0, others shapes h.1)
+
+import_other : (m i : Ident) (c : Context) (kind : StreamKind) (cell : ℕ) → AreOther (with_brought (item_shapes (import_item (Some m) i)) (declare c kind (import_item (Some m) i) cell).value.brought)
+import_other m i c kind cell =
+    let e = (use_of c (Some (scope_of_module c.source m.name)) i.name i.at).value in
+    let d = with_rows c [] in
+    let f = with_rows d (alias_row d i (place_or_broken e)).rows in
+    let new = new_members f [] (members_of f.scene e) in
+    brought_other _ _ (refl, tt)
+    (either (λ (x : Makes (List Named)). Each (λ (b : Named). (b.kind == proc_kind) ≡ false) x.value) (are_too_many f new) _ _ tt
+    (names_other (unwrap_or f.item 0) (length (own_rows f)) i.at new))
+
 item_tagged : (x : Item) (c : Context) (kind : StreamKind) (cell : ℕ) → NotesHeadings kind → (declare c kind x cell).diags ≡ []
     → tags (declare c kind x cell).rows ≡ noted (heading_list (declare c kind x cell).value.heading)
 item_tagged (heading_item h) c kind cell is none = shaped_untagged _ _ (item_of (heading_item h) c kind cell) (plain_other _ (own_plain h.sections))
 item_tagged (import_item None i) c kind cell is none = shaped_untagged _ _ (item_of (import_item None i) c kind cell) (refl, tt)
-item_tagged (import_item (Some m) i) c kind cell is none = shaped_untagged _ _ (item_of (import_item (Some m) i) c kind cell) (refl, tt)
+item_tagged (import_item (Some m) i) c kind cell is none = shaped_untagged _ _ (item_of (import_item (Some m) i) c kind cell) (import_other m i c kind cell)
 item_tagged (const_item i e) c kind cell is none = shaped_untagged _ _ (item_of (const_item i e) c kind cell) (refl, tt)
 item_tagged (type_item i t) c kind cell is none =
     shaped_untagged _ _ (item_of (type_item i t) c kind cell) (plain_other _ (plains (type_item_shapes i t) _ (type_item_plain i t) ((refl, refl, refl), tt)))
@@ -177,7 +208,7 @@ items_tagged [] c kind i cell is none = refl
 items_tagged (x ∷ items) c kind i cell is none =
     let a = at_item c i in
     let m = declare a kind x cell in
-    let d = with_rows c m.rows in
+    let d = brought_in (with_rows c m.rows) m.value.brought in
     let more = declare_items d kind (i + 1) m.value.cell items in
     let parts = none_left m.diags (more.diags ++ []) none in
     tags_append m.rows (more.rows ++ [])
@@ -212,7 +243,7 @@ items_numbered [] c i cell room none = tt
 items_numbered (x ∷ items) c i cell room none =
     let a = at_item c i in
     let m = declare a Definition x cell in
-    let d = with_rows c m.rows in
+    let d = brought_in (with_rows c m.rows) m.value.brought in
     let more = declare_items d Definition (i + 1) m.value.cell items in
     let parts = none_left m.diags (more.diags ++ []) none in
     let own : tags (own_rows d) ≡ tags (own_rows c) ++ noted (heading_list m.value.heading) =

@@ -8,7 +8,7 @@ use Rattle.std.proofs.lemmas.Slice.Eq.{bytes_eq-Decides}
 use Rattle.code_form.specs.Heights.{Callee}
 use Rattle.m2_base.specs.Lists.{Each, IsIn}
 use Rattle.m2_base.specs.Names.{number_in}
-use Rattle.m2_base.specs.Statics.BlockRows.{at_item, context_of, declare_block, declare_items, first_cell, scene_of}
+use Rattle.m2_base.specs.Statics.BlockRows.{at_item, brought_in, context_of, declare_block, declare_items, first_cell, scene_of}
 use Rattle.m2_base.specs.Statics.Blocks.{BlockTree}
 use Rattle.m2_base.specs.Statics.Contexts.{Context, Source}
 use Rattle.m2_base.specs.Statics.Declarations.{declare}
@@ -172,8 +172,9 @@ items_bounded (x ∷ items) c kind i cell =
     let a = at_item c i in
     let m = declare a kind x cell in
     let first = item_bounded x a kind cell in
-    let rest = items_bounded items (with_rows c m.rows) kind (i + 1) m.value.cell in
-    let more = (declare_items (with_rows c m.rows) kind (i + 1) m.value.cell items).value.headings in
+    let d = brought_in (with_rows c m.rows) m.value.brought in
+    let rest = items_bounded items d kind (i + 1) m.value.cell in
+    let more = (declare_items d kind (i + 1) m.value.cell items).value.headings in
     let rows = length-append (item_shapes x) (flat_map item_shapes items) in
     let notes = length-append (heading_list m.value.heading) more in
     let p = first.few in

@@ -1,8 +1,7 @@
 -- The rows of the constants that an import brings are clear: each leads to a constant that has a name.
 use Rattle.std.specs.Prelude.{◌≡◌, ◌≢◌, ℕ, zero, suc, ◌+◌, ◌^◌, ◌<◌, ◌==◌, Bool, true, false, not, ◌&&◌, if◌then◌else◌, map, take, drop, length, List, [], ◌∷◌, slice_get, Option, Some, None}
-use Rattle.std.specs.List.{list_any}
 use Rattle.std.proofs.Common.{ap, subst, sym, ◌∙◌, refl, arith}
-use Rattle.std.proofs.lemmas.Bool.{and_parts, both_ways, eq-eqb}
+use Rattle.std.proofs.lemmas.Bool.{and_parts, eq-eqb}
 use Rattle.std.proofs.lemmas.Option.{get_or_from_slice_get, slice_get_within}
 use Rattle.m2_base.specs.Lists.{Each}
 use Rattle.m2_base.specs.Rows.{at_place, row_meaning, row_of}
@@ -50,7 +49,7 @@ constant_target (Const t v l) e = tt
 constant_target m e = absurd (cc)
 
 some_name : (n : ℕ) → not (n == 0) ≡ true → n ≢ 0
-some_name n e h = both_ways (n == 0) (eq-eqb n 0 h) (sym (ap not (eq-eqb n 0 h)) ∙ e)
+some_name n e h = let never : false ≡ true = sym (ap not (eq-eqb n 0 h)) ∙ e in absurd (cc)
 
 module _ (tables : List (List Row)) (few : (s : ℕ) → length (rows_at tables s) < 2 ^ 32) (s : ℕ) where
   -- these rows are those of the scope from this ordinal on

@@ -110,7 +110,7 @@ decls_declared (d ∷ ds) i o =
 -- ** What was brought by earlier items
 
 before_append : (xs ys : List Named) (i : ℕ) → brought_before (xs ++ ys) i ≡ brought_before xs i + brought_before ys i
-before_append [] ys i = refl
+before_append [] ys i = omega arith
 before_append (x ∷ xs) ys i = by_test (nat_lt x.item i) (before_append xs ys i)
   where
     by_test : (b : Bool) → brought_before (xs ++ ys) i ≡ brought_before xs i + brought_before ys i
@@ -127,7 +127,7 @@ none_before : (xs : List Named) (i k : ℕ) → k ≤ i → Each (λ n. n.item �
 none_before [] i k h e = refl
 none_before (x ∷ xs) i k h e =
     let low = e.0 in
-    ap (λ (b : Bool). length (if b then x ∷ filter (λ n. nat_lt n.item k) xs else filter (λ n. nat_lt n.item k) xs)) (le-ltb k x.item (omega (arith, h, low))) ∙ none_before xs i k h e.1
+    ap (λ (b : Bool). length (if b then x ∷ filter (λ n. nat_lt n.item k) xs else filter (λ n. nat_lt n.item k) xs)) (le-ltb x.item k (omega (arith, h, low))) ∙ none_before xs i k h e.1
 
 extended_is : (l : Layout) (bs : List Named) → extended l bs ≡ record l { brought = l.brought ++ bs }
 extended_is l [] = ap (λ (b : List Named). record l { brought = b }) (sym (append-nil l.brought))
@@ -227,7 +227,7 @@ waits_with c x items i o m room is h =
         let less = k.0 in (
           omega (arith, less),
           made_with c.scene m.rows room (moved (old ++ new) n)
-          (subst (λ (t : ℕ). IsMade c.scene (record n { ordinal = n.ordinal + t })) (sym (same_before n.item (omega (arith, less)))) k.1),
+              (subst (λ (t : ℕ). IsMade c.scene (record n { ordinal = n.ordinal + t })) (sym (same_before n.item (omega (arith, less)))) k.1),
         )
 
     made_here : (n : Named) → (n.kind == alias_kind) ≡ true → HasRow i o is.own n → IsMadeBefore d (i + 1) n

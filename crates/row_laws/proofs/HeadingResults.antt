@@ -1,7 +1,7 @@
 -- The result that a heading binds in its own block depends on the scopes outside alone: a name of the block itself stands for
 -- nothing there.
 use Rattle.std.specs.Prelude.{◌≡◌, ℕ, ◌+◌, ◌^◌, ◌<◌, ◌==◌, Bool, true, false, if◌then◌else◌, nat_le, nat_lt, drop, List, [], ◌∷◌, slice_index_or, Option, Some, None}
-use Rattle.std.proofs.Common.{refl, sym, ap, ◌∙◌, arith}
+use Rattle.std.proofs.Common.{refl, ap, ◌∙◌, arith}
 use Rattle.std.proofs.lemmas.Bool.{and_parts, leb-true, ltb-true}
 use Rattle.m2_base.specs.Gives.{and_then, gives, gives_answer}
 use Rattle.m2_base.specs.Lists.{Each, WhereKept}

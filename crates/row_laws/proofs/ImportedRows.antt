@@ -18,7 +18,7 @@ use Rattle.m2_base.specs.Statics.Effects.{Effect}
 use Rattle.m2_base.specs.Statics.ImportRows.{alias_by, alias_row, place_or_broken}
 use Rattle.m2_base.specs.Statics.ImportedConstants.{Member, are_too_many, brought_by, brought_names, brought_row, members_of, new_members}
 use Rattle.m2_base.specs.Statics.Items.{Item, const_item, heading_item, import_item, proc_item, type_item, vars_item}
-use Rattle.m2_base.specs.Statics.Lookup.{Entry, entry_named, has_name}
+use Rattle.m2_base.specs.Statics.Lookup.{entry_named, has_name}
 use Rattle.m2_base.specs.Statics.Makes.{Makes, makes_named, own_rows, scene_with, with_rows}
 use Rattle.m2_base.specs.Statics.ShapedRows.{AreShaped, more_of, none_of}
 use Rattle.m2_base.specs.Statics.Shapes.{Shape, item_shapes, named}
@@ -138,7 +138,7 @@ laid_there i o front (n ∷ ns) (r ∷ rows) e h =
     let longer = length-append front (r ∷ []) in (
       (r, ap (slice_get (front ++ r ∷ rows)) (h.1 ∙ sym e) ∙ next_at front r rows, h.2),
       subst (λ (all : List Row). Each (λ (n : Named). (r : Row) × (slice_get all n.ordinal ≡ Some r) × (r.kind ≡ alias_kind)) ns) (append_assoc front (r ∷ []) rows)
-      (laid_there i (o + 1) (front ++ r ∷ []) ns rows (omega (arith, longer, e)) h.3),
+          (laid_there i (o + 1) (front ++ r ∷ []) ns rows (omega (arith, longer, e)) h.3),
     )
 
 mapped_laid : (i o at : ℕ) (new : List Member) → AreLaidOut i o (brought_names i o at new) (map (brought_row at) new)

@@ -1,31 +1,18 @@
 -- The scene in which a block's declarations begin, and the rows that the block makes in it.
-use Rattle.std.specs.Prelude.{◌≡◌, ℕ, ◌+◌, ◌==◌, ◌^◌, ◌<◌, ◌≤◌, Bool, true, false, if◌then◌else◌, take, List, [], ◌∷◌, ◌++◌, length, flat_map, slice_get, Option, Some}
-use Rattle.std.proofs.Common.{ap, subst, ◌∙◌, arith}
-use Rattle.std.proofs.lemmas.List.{get_or-take, get_or_append_left, get_or_past, length-append, length-take-le}
-use Rattle.m2_base.specs.Lists.{Each, WhereKept}
-use Rattle.m2_base.specs.Rows.{at_place, row_meaning}
+use Rattle.std.specs.Prelude.{ℕ, ◌<◌, List, length}
+use Rattle.std.proofs.Common.{ap, arith}
+use Rattle.m2_base.specs.Lists.{WhereKept}
 use Rattle.m2_base.specs.declared.rows.Row.{Row}
-use Rattle.m2_base.specs.declared.rows.RowMeaning.{RowMeaning}
-use Rattle.m2_base.specs.declared.rows.RowMeaning.TheVariants.{Var}
-use Rattle.m2_base.specs.declared.trees.declarations.StreamKind.{StreamKind}
-use Rattle.m2_base.specs.declared.trees.declarations.StreamKind.TheVariants.{Main}
-use Rattle.m2_base.specs.declared.sites.Named.{Named}
-use Rattle.m2_base.specs.Tables.{rows_at}
-use Rattle.m2_base.specs.Statics.BlockRows.{declare_block, declare_items, context_of, scene_of, first_cell, cells_after, cell_after}
+use Rattle.m2_base.specs.Statics.BlockRows.{declare_block, context_of, scene_of, first_cell}
 use Rattle.m2_base.specs.Statics.Blocks.{BlockTree}
-use Rattle.m2_base.specs.Statics.Contexts.{Block, Scene, Source}
+use Rattle.m2_base.specs.Statics.Contexts.{Source}
 use Rattle.m2_base.specs.Statics.FormedRows.{IsReady}
-use Rattle.m2_base.specs.Statics.Items.{Item, items_of}
-use Rattle.m2_base.specs.Statics.Layouts.{names_of_item, names_from, layout_of}
-use Rattle.m2_base.specs.Statics.Shapes.{Shape, item_shapes}
-use Rattle.m2_base.specs.Statics.Types.{meaning_at, size_by}
-use Rattle.m2_base.proofs.ChainLaws.{each_found, each_append}
+use Rattle.m2_base.specs.Statics.Items.{items_of}
 use Rattle.m2_base.proofs.LayoutLaws.{block_counted, block_few}
-use Rattle.m2_base.proofs.NoRepeats.{scene_open, scene_empty}
+use Rattle.m2_base.proofs.NoRepeats.{scene_empty}
 use Rattle.m2_base.proofs.SoundBlocks.{context_sound, first_cell_most}
 use Rattle.m2_base.proofs.SoundItems.{items_ok}
 use Rattle.m2_base.proofs.SoundOperations.{SoundContext}
-use Rattle.m2_base.proofs.SoundParts.{most, capped-most}
 use Rattle.row_laws.proofs.Numbers.{AllAgree}
 use Rattle.row_laws.proofs.Agreeing.{Ready}
 use Rattle.row_laws.proofs.Closed.{IsClosed}
