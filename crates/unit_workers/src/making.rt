@@ -11,6 +11,7 @@ use std::alloc::Global;
 use task_state::Turn;
 
 /// What the turns of all jobs share: the texts of the unit, and what each turn passes.
+#[derive(Drop)]
 pub(crate) struct Making<'t, 'g, G> {
     pub alloc: Global,
     pub texts: &'t Texts,

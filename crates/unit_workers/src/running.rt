@@ -26,7 +26,7 @@ use stream_split::StreamTokens;
 use supervisor::tasks_of;
 
 /// A unit, over the table that `J` names.
-fn run_as<'t, 'g, J: OfTable, G: Gate, R: Threads + Wait + Sync>(
+fn run_as<'t, 'g, J: OfTable + Send, G: Gate, R: Threads + Wait + Sync>(
     rt: &R,
     making: &Making<'t, 'g, G>,
     table: &'t ScopeTable,

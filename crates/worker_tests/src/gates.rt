@@ -7,6 +7,7 @@ const LOOKS: u32 = 300_000_000;
 
 /// Holds the first call for stream 2 in which it is further than at the start until stream 3 has had such a call, and the other way
 /// round.
+#[derive(Drop)]
 pub(crate) struct Meeting {
     /// The number of the worker that came for stream 2, and 1 more, or 0.
     second: AtomicU64,
@@ -66,6 +67,7 @@ impl Gate for Meeting {
 }
 
 /// Counts the calls, and notes whether each worker's number was at most this.
+#[derive(Drop)]
 pub(crate) struct Counting {
     pub most: u32,
     pub calls: AtomicU64,

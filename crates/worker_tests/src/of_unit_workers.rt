@@ -4,8 +4,11 @@ use crate::gates::{Counting, Meeting};
 use crate::shelves::shelf_of;
 use m2_base::{Output, ProcCode};
 use m2_io::NoGate;
+use std::alloc::Global;
+use std::sync::Wait;
 use std::sync::atomic::{AtomicU64, Ordering};
 use std::test::Fail;
+use std::thread::Threads;
 use turn_tests::whole_texts;
 
 /// Two procedures that name one another's module, before what they name.
@@ -59,8 +62,12 @@ fn are_same(these: &[Output], those: &[Output]) -> bool {
 }
 
 /// Whether so many workers leave what one thread does, each time.
-fn agrees(rt: &HostRuntime, files: &[(&str, &str)], rounds: u32) -> Result<bool, Fail> {
-    let alloc = rt.alloc();
+fn agrees<R: Threads + Wait + Sync>(
+    rt: &R,
+    alloc: Global,
+    files: &[(&str, &str)],
+    rounds: u32,
+) -> Result<bool, Fail> {
     let mut shelf = shelf_of(alloc, files)?;
     let texts = whole_texts(alloc, &mut shelf, "A").ok_or("no unit")?;
     let wanted = turn_tests::outputs(alloc, &texts, [].as_slice()).ok_or("no outputs")?;
@@ -77,20 +84,20 @@ fn agrees(rt: &HostRuntime, files: &[(&str, &str)], rounds: u32) -> Result<bool,
 
 #[test]
 fn leaves_what_one_thread_does(rt: HostRuntime) -> Result<(), Fail> {
-    assert!(rt; agrees(&rt, &[("A.mod", TWO)], ROUNDS)?);
+    assert!(rt; agrees(&rt, rt.alloc(), &[("A.mod", TWO)], ROUNDS)?);
     Ok(())
 }
 
 #[test]
 fn leaves_the_same_of_nested_procedures(rt: HostRuntime) -> Result<(), Fail> {
     let files = [("A.mod", NESTED), ("B.def", IMPORTED), ("C.def", FIRST)];
-    assert!(rt; agrees(&rt, &files, ROUNDS)?);
+    assert!(rt; agrees(&rt, rt.alloc(), &files, ROUNDS)?);
     Ok(())
 }
 
 #[test]
 fn leaves_the_same_faults(rt: HostRuntime) -> Result<(), Fail> {
-    assert!(rt; agrees(&rt, &[("A.mod", FAULTY)], ROUNDS)?);
+    assert!(rt; agrees(&rt, rt.alloc(), &[("A.mod", FAULTY)], ROUNDS)?);
     Ok(())
 }
 
