@@ -9,4 +9,5 @@ use Rattle.unit_workers.proofs.finishing.all_finished.Given as goal
 -- what the jobs so far leave; the others are done too
 abbrev pub invariant-loop-job : goal.invariant-loop-job
 invariant-loop-job g l =
-    AllZip (λ job end. IsEnd g.J.OfTable.table (state_of job.scopes.scopes) job.task end) l.yielded l.all.items × All (λ job. is_over job.task ≡ true) (into_iter_items l.job-iterator)
+    (goal.iterator-loop-job g).can_next l.job-iterator × (goal.iterator-loop-job g).is_finite l.job-iterator
+    × AllZip (λ job end. IsEnd g.J.OfTable.table (state_of job.scopes.scopes) job.task end) l.yielded l.all.items × All (λ job. is_over job.task ≡ true) (into_iter_items l.job-iterator)
