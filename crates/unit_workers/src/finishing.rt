@@ -21,7 +21,7 @@ pub struct Finished<S> {
 }
 
 /// What a job leaves that is done.
-fn finished<'t, J: OfTable>(job: StreamJob<'t, J>) -> Finished<SeatScopes<'t>>
+fn end_of<'t, J: OfTable>(job: StreamJob<'t, J>) -> Finished<SeatScopes<'t>>
     requires { is_over job.task ≡ true }
     ensures { IsEnd J.table (state_of job.scopes.scopes) job.task result }
 {
@@ -43,7 +43,7 @@ pub(crate) fn all_finished<'t, J: OfTable>(
 {
     let mut all = Vec::with_capacity(alloc, jobs.len())?;
     for job in jobs {
-        all.push(finished(job))?;
+        all.push(end_of(job))?;
     }
     Ok(all)
 }

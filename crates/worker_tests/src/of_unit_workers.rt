@@ -35,7 +35,7 @@ const FAULTY: &str =
     "MODULE A; PROCEDURE P; BEGIN a := END P; PROCEDURE Q; BEGIN b := 1 END Q; BEGIN c := 1 END A.";
 
 /// So many times each.
-const ROUNDS: u32 = 50;
+const ROUNDS: u32 = 4;
 
 fn is_same_code(a: &ProcCode, b: &ProcCode) -> bool {
     a.outer == b.outer
