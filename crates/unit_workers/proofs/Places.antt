@@ -28,3 +28,10 @@ map_zip R f [] [] h = tt
 map_zip R f [] (y ∷ ys) h = absurd h
 map_zip R f (x ∷ xs) [] h = absurd h
 map_zip R f (x ∷ xs) (y ∷ ys) h = (h.0, map_zip R f xs ys h.1)
+
+-- what holds of all holds of the first, and of the others
+pub first_of : {A : Type 0} (P : A → Type 0) (xs : List A) (x : A) (rest : List A) → xs ≡ x ∷ rest → All P xs → P x
+first_of P xs x rest e all = subst (λ ys. All P ys) e all 0 x (omega arith)
+
+pub others_of : {A : Type 0} (P : A → Type 0) (xs : List A) (x : A) (rest : List A) → xs ≡ x ∷ rest → All P xs → All P rest
+others_of P xs x rest e all k d low = subst (λ ys. All P ys) e all (suc k) d (omega (arith, low))
