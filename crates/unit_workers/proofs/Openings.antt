@@ -1,5 +1,5 @@
 -- The jobs of a unit before their first turns.
-use Rattle.std.specs.Prelude.{◌≡◌, ◌≢◌, refl, ℕ, zero, suc, ◌+◌, ◌*◌, ◌<◌, Bool, true, false, List, [], ◌∷◌, length, map, slice_get, slice_index, slice_index_or, Option, Some, None, All}
+use Rattle.std.specs.Prelude.{◌≡◌, ◌≢◌, refl, ℕ, zero, suc, ◌+◌, ◌*◌, ◌<◌, Bool, true, false, List, [], ◌∷◌, ◌++◌, drop, length, map, slice_get, slice_index, slice_index_or, take, Some, All}
 use Rattle.std.specs.List.{AllZip, range_with_len, zip}
 use Rattle.std.proofs.Common.{ap, subst, sym, ◌∙◌, arith}
 use Rattle.std.proofs.lemmas.Bool.{false≢true}
@@ -43,6 +43,11 @@ all_areas a sizes many rooms =
     ap (areas_from a 0) many ∙ areas_are a 0 sizes (λ k low. subst (λ (i : ℕ). mid a i ≡ base a i + 8 * slice_index sizes k) (omega arith) (rooms k low))
 
 -- ** Seats
+
+-- the seats behind the first
+pub all_others : (t : ScopeTable) (u : UnitTexts) (seats rest : List TableSeat) → rest ≡ take 0 seats ++ drop 1 seats → IsOpened t seats u (sizes_of (streams_of u)) → AreOthers t u rest
+all_others t u [] rest e opened = let all = opened.seats_are.all in absurd (omega (arith, all))
+all_others t u (s ∷ seats) rest e opened = record { zero = s; opened = subst (λ (ss : List TableSeat). IsOpened t (s ∷ ss) u (sizes_of (streams_of u))) (sym e) opened }
 
 module _ (t : ScopeTable) (u : UnitTexts) (seats : List TableSeat) (others : AreOthers t u seats) where
   pub texts_same : texts_in (key_of t) ≡ u

@@ -23,7 +23,7 @@ pub struct Finished<S> {
 /// What a job leaves that is done.
 fn end_of<'t, J: OfTable>(job: StreamJob<'t, J>) -> Finished<SeatScopes<'t>>
     requires { is_over job.task ≡ true }
-    ensures { IsEnd J.table (state_of job.scopes.scopes) job.task result }
+    ensures { IsEnd J.table (state_of job.entry.scopes.scopes) job.entry.task result }
 {
     let _filled = job.scopes.filled();
     let StreamJob { task, scopes } = job;
@@ -39,7 +39,7 @@ pub(crate) fn all_finished<'t, J: OfTable>(
     jobs: Vec<StreamJob<'t, J>>,
 ) -> Result<Vec<Finished<SeatScopes<'t>>>, Memory>
     requires { All (λ job. is_over job.task ≡ true) jobs.items }
-    ensures { IfOk result (λ all. AllZip (λ job end. IsEnd J.table (state_of job.scopes.scopes) job.task end) jobs.items all.items) }
+    ensures { IfOk result (λ all. AllZip (λ job end. IsEnd J.table (state_of job.scopes.scopes) job.task end) jobs.entry.items all.items) }
 {
     let mut all = Vec::with_capacity(alloc, jobs.len())?;
     for job in jobs {

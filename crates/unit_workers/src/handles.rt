@@ -75,7 +75,7 @@ impl<'t, J: OfTable> TableScopes<'t, J> {
     /// The handle alone.
     pub(crate) fn into_scopes(self) -> SeatScopes<'t>
         ensures table { J.table ≡ Some (table_in result) }
-        ensures state { state_of result ≡ state_of self.scopes }
+        ensures state { state_of result ≡ state_of self.entry.scopes }
     {
         let TableScopes { scopes, of: _ } = self;
         scopes

@@ -31,7 +31,7 @@ fn others(_table: &ScopeTable, _texts: &Texts, mut seats: Vec<TableSeat>) -> Vec
 
 /// The outputs alone.
 fn outputs_alone(alloc: Global, all: Vec<Finished<SeatScopes>>) -> Result<Vec<Output>, Memory>
-    ensures { IfOk result (λ outputs. outputs.items ≡ outputs_in all.items) }
+    ensures { IfOk result (λ outputs. outputs.items ≡ outputs_in all.entry.items) }
 {
     let mut outputs = Vec::with_capacity(alloc, all.len())?;
     for finished in all {

@@ -40,7 +40,7 @@ fn pair<'t, J: OfTable>(
     tasks: Vec<Task>,
     handles: Vec<TableScopes<'t, J>>,
 ) -> Result<Vec<StreamJob<'t, J>>, Memory>
-    ensures { IfOk result (λ jobs. AllZip (λ p job. (job.task ≡ p.0) × (state_of job.scopes.scopes ≡ state_of p.1.scopes)) (zip tasks.items handles.items) jobs.items) }
+    ensures { IfOk result (λ jobs. AllZip (λ p job. (job.task ≡ p.0) × (state_of job.scopes.scopes ≡ state_of p.1.scopes)) (zip tasks.items handles.entry.items) jobs.items) }
 {
     let mut jobs = Vec::with_capacity(alloc, tasks.len())?;
     for (task, scopes) in tasks.into_iter().zip(handles) {

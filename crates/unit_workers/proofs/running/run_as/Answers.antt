@@ -7,7 +7,7 @@ use Rattle.unit_workers.proofs.running.run_as.Goals as goal
 
 pub do_all-requires-clause-some : goal.do_all-requires-clause-some
 do_all-requires-clause-some g c =
-    some_jobs c.args.making.now.texts.now (λ j. state_of j.scopes.scopes) (λ j. j.task) c.in_ok-jobs.jobs.items c.in_ok-jobs.ensures c.main-_main.ensures.unit
+    some_jobs c.args.making.now.texts.now (λ j. state_of j.scopes.scopes) (λ j. j.task) c.in_ok-jobs.jobs.items c.in_ok-jobs.ensures c.main-main.ensures.unit
 
 pub do_all-requires-clause-order : goal.do_all-requires-clause-order
 do_all-requires-clause-order g c = numbered c.args.making.now.texts.now (λ j. state_of j.scopes.scopes) (λ j. j.task) c.in_ok-jobs.jobs.items c.in_ok-jobs.ensures

@@ -13,4 +13,4 @@ returns-clause-job g c = (told_stays _ _ _ c.args.job.now.task c.tell.ensures.to
 
 pub returns-clause-ready : goal.returns-clause-ready
 returns-clause-ready g c =
-    told_sees _ _ _ c.args.before.now.task c.tell.ensures.told c.requires.next c.requires.fits.0.far c.requires.done c.filled.ensures.sound.own_seen c.requires.ready
+    told_sees _ _ _ c.args.before.now.task c.tell.ensures.told c.requires.next c.requires.fits.0.far c.requires.done c.filled-filled.ensures.sound.own_seen c.requires.ready

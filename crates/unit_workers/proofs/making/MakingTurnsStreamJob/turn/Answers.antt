@@ -4,7 +4,7 @@ use Rattle.unit_workers.proofs.Turning.{ends_it, turn_stays}
 use Rattle.unit_workers.proofs.making.MakingTurnsStreamJob.turn.Goals as goal
 
 pub returns-clause-later : goal.returns-clause-later
-returns-clause-later g c = turn_stays _ _ _ _ c.turn.ensures.turns c.turn.ensures.far
+returns-clause-later g c = turn_stays _ _ _ _ c.turn-turn.ensures.turns c.turn-turn.ensures.far
 
 pub returns-clause-ends : goal.returns-clause-ends
-returns-clause-ends g c = λ sees. subst (EndsIt _) (sym c.turned.ensures) (ends_it _ _ _ _ _ c.turn.ensures.ends sees)
+returns-clause-ends g c = λ sees. subst (EndsIt _) (sym c.turned.ensures) (ends_it _ _ _ _ _ c.turn-turn.ensures.ends sees)
