@@ -175,5 +175,5 @@ module _ {A : Type 0} (u : UnitTexts) (state : A → State) (task : A → Task) 
       counted number n [] each = refl
       counted number n (x ∷ xs) each =
           let first : number x ≡ n = each 0 x refl ∙ omega arith in
-          let rest = counted number (suc n) xs (λ k y there. each (suc k) y there ∙ omega arith) in
+          let rest = counted number (n + 1) xs (λ k y there. each (suc k) y there ∙ omega arith) in
           λ i. first i ∷ rest i
