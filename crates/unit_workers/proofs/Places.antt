@@ -1,5 +1,5 @@
 -- Items of lists by their places.
-use Rattle.std.specs.Prelude.{◌≡◌, refl, ℕ, zero, suc, ◌<◌, List, [], ◌∷◌, length, map, slice_get, slice_index_or, Option, Some, None, All}
+use Rattle.std.specs.Prelude.{◌≡◌, refl, ℕ, zero, suc, ◌<◌, List, [], ◌∷◌, ◌++◌, length, map, slice_get, slice_index_or, Some, All}
 use Rattle.std.specs.List.{AllZip}
 use Rattle.std.proofs.Common.{ap, subst, sym, ◌∙◌, arith}
 
@@ -35,3 +35,11 @@ first_of P xs x rest e all = subst (λ ys. All P ys) e all 0 x (omega arith)
 
 pub others_of : {A : Type 0} (P : A → Type 0) (xs : List A) (x : A) (rest : List A) → xs ≡ x ∷ rest → All P xs → All P rest
 others_of P xs x rest e all k d low = subst (λ ys. All P ys) e all (suc k) d (omega (arith, low))
+
+-- what is made of each, and of one more
+pub mapped_more : {A B : Type 0} (f : A → B) (xs : List A) (x : A) (ys : List B) → ys ≡ map f xs → ys ++ f x ∷ [] ≡ map f (xs ++ x ∷ [])
+mapped_more {A} f xs x ys e = ap (λ zs. zs ++ f x ∷ []) e ∙ behind xs
+  where
+    behind : (zs : List A) → map f zs ++ f x ∷ [] ≡ map f (zs ++ x ∷ [])
+    behind [] = refl
+    behind (z ∷ zs) = ap (λ l. f z ∷ l) (behind zs)
