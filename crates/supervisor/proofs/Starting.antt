@@ -9,6 +9,7 @@ use Rattle.std.proofs.lemmas.List.{length-map}
 use Rattle.std.proofs.Math.Seq.{take-append_seam}
 use Rattle.std.proofs.lemmas.Option.{slice_get-map}
 use Rattle.m2_base.specs.Lists.{IsPrefixOf}
+use Rattle.m2_base.specs.States.{Setting}
 use Rattle.m2_base.specs.Statics.Contexts.{Block}
 use Rattle.m2_base.specs.Tables.{Table, no_rows, rows_at, table_at}
 use Rattle.m2_base.specs.Units.{IsUnit, UnitTexts}
@@ -25,15 +26,16 @@ use Rattle.stream_split.specs.declared.streams.StreamTokens.{StreamTokens}
 use Rattle.stream_split.proofs.StreamCounts.{number_is, streams_few}
 use Rattle.task_state.specs.Outputs.{IsOutput}
 use Rattle.task_state.specs.Progress.{IsAsFar}
+use Rattle.task_state.specs.Units.{IsOfUnit}
 use Rattle.task_state.specs.declared.task.Task.{Task}
 use Rattle.supervisor.specs.Outputs.{AreOfStreams, IsOutputIn, Leaves}
 use Rattle.supervisor.specs.Stands.{IsStand, state_at}
-use Rattle.supervisor.specs.Starts.{AreNew, IsNew, first_scopes}
+use Rattle.supervisor.specs.Starts.{AreNew, IsNew, StartsIn, first_scopes}
 use Rattle.supervisor.specs.Units.{CanBeRun, block_in}
 
 -- ** Lists
 
-zip_from : {A B : Type 0} (R : A → B → Type 0) (xs : List A) (ys : List B) → length ys ≡ length xs → ((k : ℕ) (x : A) (y : B) → slice_get xs k ≡ Some x → slice_get ys k ≡ Some y → R x y) → AllZip R xs ys
+pub zip_from : {A B : Type 0} (R : A → B → Type 0) (xs : List A) (ys : List B) → length ys ≡ length xs → ((k : ℕ) (x : A) (y : B) → slice_get xs k ≡ Some x → slice_get ys k ≡ Some y → R x y) → AllZip R xs ys
 zip_from R [] [] e f = tt
 zip_from R [] (y ∷ ys) e f = absurd (omega (arith, e))
 zip_from R (x ∷ xs) [] e f = absurd (omega (arith, e))
@@ -45,14 +47,14 @@ pub record IsZipped {A B : Type 0} (R : A → B → Type 0) (xs : List A) (k : �
   pub there : slice_get xs k ≡ Some item
   pub holds : R item y
 
-zipped_at : {A B : Type 0} (R : A → B → Type 0) (xs : List A) (ys : List B) → AllZip R xs ys → (k : ℕ) (y : B) → slice_get ys k ≡ Some y → IsZipped R xs k y
+pub zipped_at : {A B : Type 0} (R : A → B → Type 0) (xs : List A) (ys : List B) → AllZip R xs ys → (k : ℕ) (y : B) → slice_get ys k ≡ Some y → IsZipped R xs k y
 zipped_at R [] [] h k y e = absurd cc
 zipped_at R [] (z ∷ ys) h k y e = absurd h
 zipped_at R (x ∷ xs) [] h k y e = absurd h
 zipped_at R (x ∷ xs) (z ∷ ys) h zero y e = let same : z ≡ y = cc in record { item = x; there = refl; holds = subst (R x) same h.0 }
 zipped_at R (x ∷ xs) (z ∷ ys) h (suc k) y e = let r = zipped_at R xs ys h.1 k y e in record { item = r.item; there = r.there; holds = r.holds }
 
-zip_long : {A B : Type 0} (R : A → B → Type 0) (xs : List A) (ys : List B) → AllZip R xs ys → length ys ≡ length xs
+pub zip_long : {A B : Type 0} (R : A → B → Type 0) (xs : List A) (ys : List B) → AllZip R xs ys → length ys ≡ length xs
 zip_long R [] [] h = refl
 zip_long R [] (y ∷ ys) h = absurd h
 zip_long R (x ∷ xs) [] h = absurd h
@@ -63,13 +65,13 @@ pub record IsPair {A B : Type 0} (xs : List A) (ys : List B) (k : ℕ) (p : A ×
   pub first : slice_get xs k ≡ Some p.0
   pub second : slice_get ys k ≡ Some p.1
 
-pair_at : {A B : Type 0} (xs : List A) (ys : List B) (k : ℕ) (p : A × B) → slice_get (zip xs ys) k ≡ Some p → IsPair xs ys k p
+pub pair_at : {A B : Type 0} (xs : List A) (ys : List B) (k : ℕ) (p : A × B) → slice_get (zip xs ys) k ≡ Some p → IsPair xs ys k p
 pair_at [] ys k p e = absurd cc
 pair_at (x ∷ xs) [] k p e = absurd cc
 pair_at {A = A} {B = B} (x ∷ xs) (y ∷ ys) zero p e = let same : (x, y) ≡ p = cc in record { first = ap (λ (q : A × B). Some q.0) same; second = ap (λ (q : A × B). Some q.1) same }
 pair_at (x ∷ xs) (y ∷ ys) (suc k) p e = let r = pair_at xs ys k p e in record { first = r.first; second = r.second }
 
-zip_count : {A B : Type 0} (xs : List A) (ys : List B) → length ys ≡ length xs → length (zip xs ys) ≡ length xs
+pub zip_count : {A B : Type 0} (xs : List A) (ys : List B) → length ys ≡ length xs → length (zip xs ys) ≡ length xs
 zip_count [] ys e = refl
 zip_count (x ∷ xs) [] e = absurd (omega (arith, e))
 zip_count (x ∷ xs) (y ∷ ys) e = ap suc (zip_count xs ys (omega (arith, e)))
@@ -141,6 +143,23 @@ module _ (u : UnitTexts) (unit : IsUnit u) (can : CanBeRun u) where
       })
       (ap (λ (x : Table). x.rows) empty) (ap (λ (x : Table). x.complete) empty)
 
+  of_unit : (g : Setting) (k : ℕ) (s : StreamOf) (a : Around) → g.texts ≡ u → g.fills ≡ s.stream → g.areas ≡ sizes_of (streams_of u) → slice_get (streams_of u) k ≡ Some s → around_view a ≡ block_in u s → IsOfUnit g s a
+  of_unit g k s a texts fills areas there around =
+      let same : record { texts = u; fills = g.fills; areas = g.areas; others = g.others } ≡ g = λ i. record { texts = sym texts i; fills = g.fills; areas = g.areas; others = g.others } in
+      subst (λ (h : Setting). IsOfUnit h s a) same
+      (record {
+        unit = unit;
+        limits = can.limits;
+        front = can.front;
+        fronts = can.fronts;
+        whole = can.whole;
+        index = k;
+        there = there;
+        around = around;
+        fills = fills;
+        areas = areas;
+      })
+
   module _ (streams : List StreamTokens) (arounds : List Around) (tasks : List Task) (cut : map stream_view streams ≡ streams_of u) (blocks : map around_view arounds ≡ surroundings_of u) (new : AreNew streams arounds tasks) where
     same_count : length arounds ≡ length streams
     same_count =
@@ -187,6 +206,23 @@ module _ (u : UnitTexts) (unit : IsUnit u) (can : CanBeRun u) where
           few = omega (arith, zipped, long, many, all, few);
           far = each_far;
         }
+
+    -- in whatever scopes that are new, each task stands at the stream at its place
+    each_starts : (k : ℕ) (s : StreamOf) (t : Task) → slice_get (streams_of u) k ≡ Some s → slice_get tasks k ≡ Some t → StartsIn u s t
+    each_starts k s t there given st empty =
+        let z = zipped_at _ (zip streams arounds) tasks new k t given in
+        let pair = pair_at streams arounds k z.item z.there in
+        let at = stream_there u streams cut k z.item.0 pair.first in
+        let view : slice_get (map around_view arounds) k ≡ Some (around_view z.item.1) = slice_get-map around_view arounds k ∙ ap (option_map around_view) pair.second in
+        let block : slice_get (map (block_in u) (streams_of u)) k ≡ Some (block_in u (stream_view z.item.0)) = slice_get-map (block_in u) (streams_of u) k ∙ ap (option_map (block_in u)) at in
+        let both : Some (around_view z.item.1) ≡ Some (block_in u (stream_view z.item.0)) = sym view ∙ ap (λ (bs : List Block). slice_get bs k) blocks ∙ block in
+        let same : around_view z.item.1 ≡ block_in u (stream_view z.item.0) = cc in
+        let here : Some s ≡ Some (stream_view z.item.0) = sym there ∙ at in
+        let stream : s ≡ stream_view z.item.0 = cc in
+        z.holds st (of_unit st.frame.setting k (stream_view z.item.0) z.item.1 empty.texts (empty.fills ∙ ap (λ (x : StreamOf). x.stream) stream) empty.areas at same) empty.entered empty.closed
+
+    pub starts : AllZip (StartsIn u) (streams_of u) tasks
+    starts = zip_from (StartsIn u) (streams_of u) tasks first_stand.count each_starts
 
 -- ** Behind the last turn
 

@@ -24,3 +24,15 @@ IsNew s a t = (st : State) → IsOfUnit st.frame.setting s a → st.frame.entere
 -- each task is that of the stream at its place, whose block is surrounded so
 abbrev pub AreNew : List StreamTokens → List Around → List Task → Type 0
 AreNew streams arounds tasks = AllZip (λ p t. IsNew (stream_view p.0) p.1 t) (zip streams arounds) tasks
+
+-- A scope is that of this stream of a unit, has the room that the unit's streams ask, and nothing is entered there.
+pub record IsEmptyFor (u : UnitTexts) (s : StreamOf) (st : State) : Type 0 where
+  pub texts : st.frame.setting.texts ≡ u
+  pub fills : st.frame.setting.fills ≡ s.stream
+  pub areas : st.frame.setting.areas ≡ sizes_of (streams_of u)
+  pub entered : st.frame.entered ≡ []
+  pub closed : st.frame.closed ≡ false
+
+-- the task stands at this stream of a unit, and has done nothing, whatever holds the scopes
+abbrev pub StartsIn : UnitTexts → StreamOf → Task → Type 0
+StartsIn u s t = (st : State) → IsEmptyFor u s st → IsAsFar st t

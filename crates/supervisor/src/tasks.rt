@@ -7,7 +7,7 @@ ghost use Rattle.stream_split.specs.Surroundings.{surroundings_of};
 ghost use Rattle.stream_split.specs.Views.{stream_view};
 ghost use Rattle.supervisor.specs.Outputs.{Leaves};
 ghost use Rattle.supervisor.specs.Stands.{AreOver, IsStand};
-ghost use Rattle.supervisor.specs.Starts.{AreNew, first_scopes};
+ghost use Rattle.supervisor.specs.Starts.{AreNew, StartsIn, first_scopes};
 ghost use Rattle.supervisor.specs.Units.{CanBeRun};
 
 use m2_base::{Around, Memory, Output, Texts};
@@ -54,7 +54,8 @@ pub fn tasks_of(
 ) -> Result<Vec<Task>, Memory>
     requires unit { CanBeRun texts.now }
     requires streams { map stream_view streams.items ≡ streams_of texts.now }
-    ensures { IfOk result (λ tasks. IsStand texts.now (first_scopes texts.now) tasks.items) }
+    ensures stand { IfOk result (λ tasks. IsStand texts.now (first_scopes texts.now) tasks.items) }
+    ensures start { IfOk result (λ tasks. AllZip (StartsIn texts.now) (streams_of texts.now) tasks.items) }
 {
     let _main = texts.main();
     let arounds = surroundings(alloc, texts, &streams)?;

@@ -10,7 +10,7 @@ use Rattle.supervisor.proofs.turns.run_turns.Goals as goal
 
 pub returns-clause-streams : goal.returns-clause-streams
 returns-clause-streams c =
-    let first = c.in_ok-tasks.ensures.count in
+    let first = c.in_ok-tasks.ensures.stand.count in
     let last = c.last_turns.ensures.stand.count in
     let long = c.in_ok-tasks.tasks.ok.0 in
     let same : length c.last_turns.new.tasks ≡ c.in_ok-tasks.tasks.len = omega (arith, first, last, long) in
