@@ -5,8 +5,9 @@ use Rattle.std.proofs.lemmas.List.{append-nil, append_assoc}
 use Rattle.m2_base.specs.Lists.{IsPrefixOf}
 use Rattle.m2_base.specs.declared.rows.Place.{Place}
 use Rattle.m2_base.specs.declared.rows.Row.{Row}
+use Rattle.m2_base.specs.declared.sites.Named.{Named}
 use Rattle.m2_base.specs.Statics.BlockRows.{at_item, brought_in, declare_items}
-use Rattle.m2_base.specs.Statics.Contexts.{Context, Named, Scene}
+use Rattle.m2_base.specs.Statics.Contexts.{Context, Scene}
 use Rattle.m2_base.specs.Statics.Declarations.{declare}
 use Rattle.m2_base.specs.Statics.Effects.{BlockEffects, Effect, heading_list}
 use Rattle.m2_base.specs.Statics.Items.{Item}

@@ -2,11 +2,12 @@
 use Rattle.std.specs.Prelude.{◌≡◌, ℕ, suc, ◌+◌, ◌≤◌, nat_lt, Bool, true, false, List, [], ◌∷◌, ◌++◌, Option, Some, filter, flat_map, length, option_map, slice_get, unwrap_or}
 use Rattle.std.proofs.Common.{refl, sym, ap, ◌∙◌, arith, cond}
 use Rattle.std.proofs.lemmas.List.{length-append}
-use Rattle.m2_base.specs.Statics.Contexts.{Layout, Named}
+use Rattle.m2_base.specs.Statics.Contexts.{Layout}
 use Rattle.m2_base.specs.Statics.Items.{Item}
 use Rattle.m2_base.specs.Statics.Layouts.{all_brought, extended, extended_by, firsts_from}
 use Rattle.m2_base.specs.Statics.Lookup.{brought_before}
 use Rattle.m2_base.specs.Statics.Shapes.{item_shapes}
+use Rattle.m2_base.specs.declared.sites.Named.{Named}
 use Rattle.m2_base.proofs.ImportLaws.{extended_length}
 use Rattle.decl_sem.specs.Pieces.{end_by}
 

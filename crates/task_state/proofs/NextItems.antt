@@ -287,7 +287,7 @@ module _ (f : Frame) (s : Site) (a : Around) (tree : Stream) (m : Collected) (x 
     laid_next : AreLaid (extended m.layout d.effect.brought) 0 (laid_shapes (take (m.count + 1) (items_of tree)) (so_far.brought ++ d.effect.brought ∷ [])) (f.entered ++ d.rows.items)
     laid_next =
         subst (λ items. AreLaid (extended m.layout d.effect.brought) 0 (laid_shapes items (so_far.brought ++ d.effect.brought ∷ [])) (f.entered ++ d.rows.items)) next_items
-        (laid_on (take m.count (items_of tree)) (drop (suc m.count) (items_of tree)) x so_far.layout layout_on parts.all (so_far.of_each ∙ sym parts.count) so_far.laid
+        (laid_on (take m.count (items_of tree)) (drop (suc m.count) (items_of tree)) x d.effect.brought so_far.layout layout_on parts.all (so_far.of_each ∙ sym parts.count) (laid-length so_far.laid) so_far.laid
         (subst (λ (l : Layout). AreLaid (extended l d.effect.brought) (length f.entered) (with_brought (item_shapes x) d.effect.brought) d.rows.items) is.layout p.laid))
 
     -- how many names are brought
