@@ -1,11 +1,15 @@
 -- The constants of an enumeration, one after another.
 use Rattle.std.specs.HashSet.{contains}
 use Rattle.std.specs.List.{list_any}
-use Rattle.std.specs.Prelude.{◌≡◌, ◌≢◌, ◌⊎◌, ℕ, zero, suc, ◌+◌, ◌-◌, ◌<◌, ◌≤◌, ◌==◌, ◌||◌, ◌&&◌, nat_eq, nat_lt, Bool, true, false, not, cond, is_some, if◌then◌else◌, List, [], ◌∷◌, ◌++◌, length, map, take, drop, slice_get, slice_index_or, Option, None, Some, option_map, unwrap_or}
+use Rattle.std.specs.Prelude.{◌≡◌, ◌≢◌, ◌⊎◌, ℕ, zero, suc, ◌+◌, ◌-◌, ◌<◌, ◌≤◌, ◌==◌, ◌||◌, ◌&&◌, nat_eq, nat_lt, Bool, true, false, not, cond, is_some, if◌then◌else◌, List, [], ◌∷◌, ◌++◌, length, map, take, drop, slice_get, slice_index_or, Option, None, Some, option_map, unwrap_or, Result, Ok, Err}
 use Rattle.std.proofs.Common.{refl, sym, ap, ◌∙◌, subst, arith, inl, inr}
 use Rattle.std.proofs.lemmas.List.{append_assoc, append-nil, drop_all, drop_more, length-append, length-map}
 use Rattle.std.proofs.lemmas.List.Folds.{list_any-append}
+use Rattle.m2_base.specs.Asks.{IfKnown}
 use Rattle.m2_base.specs.Finished.{IsFinished}
+use Rattle.m2_base.specs.declared.memory.Memory.{Memory}
+use Rattle.m2_base.specs.declared.replies.Ask.{Ask}
+use Rattle.m2_base.specs.declared.replies.Ask.TheVariants.{DontKnowYet, Known}
 use Rattle.m2_base.specs.Lists.{Each}
 use Rattle.m2_base.specs.Rows.{at_place, is_same_place, row_meaning, row_of}
 use Rattle.m2_base.specs.Standard.{is_standard}
@@ -18,7 +22,7 @@ use Rattle.m2_base.specs.Statics.Diagnostics.{declared_twice, too_many_constants
 use Rattle.m2_base.specs.Statics.Makes.{Makes, own_rows}
 use Rattle.m2_base.specs.declared.sites.Named.{Named}
 use Rattle.m2_base.specs.Statics.ImportedConstants as plain
-use Rattle.m2_base.specs.Statics.ImportedConstants.{are_too_many, brings, brought_names, brought_row, constants_from, is_constant, is_given, is_hidden, leads_elsewhere, new_members}
+use Rattle.m2_base.specs.Statics.ImportedConstants.{are_too_many, brings, brought_by, brought_names, brought_row, constants_from, is_constant, is_given, is_hidden, leads_elsewhere, new_members}
 use Rattle.m2_base.specs.Statics.Lookup.{entry_in}
 use Rattle.m2_base.specs.Tables.{rows_at}
 use Rattle.m2_base.specs.declared.limits.TheConstants.{MOST_BROUGHT}
@@ -346,6 +350,16 @@ place_found {f} {s} {made} {all} {rest} p o m old some told found =
     found_rest (λ c. with_member (constant_by p (row_at c.scene.tables p)) (rest c)) (λ c. m ∷ rest c)
     (λ hand in_hand t same. ap (λ (k : Option plain.Member). with_member k (rest (context_of f hand s))) (sym (told hand in_hand t same) ∙ some)) found
 
+-- what is known after the constant at a place is taken
+pub taken_at : {f h : Frame} (s : Site) (made : Made) (answer : Result (Ask (Unit {0})) Memory) (p : Place) (o : Option plain.Member) (m : plain.Member) (old new : Found) → h ≡ f → o ≡ Some m
+    → WhereMaking f made (λ hand. o ≡ constant_by p (row_at (context_of f hand s).scene.tables p))
+    → IfKnown answer (λ v. (all rest : Context → List plain.Member) → AreFound h s made all (λ c. m ∷ rest c) old → AreFound h s made all rest new)
+    → IfKnown answer (λ v. (all rest : Context → List plain.Member) → AreFound f s made all (λ c. with_member (constant_by p (row_at c.scene.tables p)) (rest c)) old → AreFound f s made all rest new)
+taken_at s made (Ok (Known v)) p o m old new same some told step =
+    λ all rest found. found_framed s made all rest new same (step all rest (found_framed s made all (λ c. m ∷ rest c) old (sym same) (place_found p o m old some told found)))
+taken_at s made (Ok (DontKnowYet head)) p o m old new same some told step = tt
+taken_at s made (Err e) p o m old new same some told step = tt
+
 -- a row that is missing
 pub missing_row : (rows : List Row) (o : ℕ) (d : Row) → slice_get rows o ≡ None → slice_index_or rows o d ≡ d
 missing_row [] zero d h = refl
@@ -412,3 +426,10 @@ seen_as {f} {s} {made} all every found e h =
 
 pub seen_framed : {f g : Frame} (s : Site) (made : Made) (all : Context → List plain.Member) (found : Found) → f ≡ g → AreSeen f s made all found → AreSeen g s made all found
 seen_framed s made all found e h = subst (λ (k : Frame). AreSeen k s made all found) e h
+
+-- where they are known, in another frame that is the same
+pub seen_known : {f h : Frame} (s : Site) (made : Made) (answer : Result (Ask Found) Memory) (all every : Context → List plain.Member) → h ≡ f → WhereMaking f made (λ hand. all (context_of f hand s) ≡ every (context_of f hand s))
+    → IfKnown answer (λ found. AreSeen h s made all found) → IfKnown answer (λ found. AreSeen f s made every found)
+seen_known s made (Ok (Known found)) all every same e seen = seen_as all every found e (seen_framed s made all found same seen)
+seen_known s made (Ok (DontKnowYet head)) all every same e seen = tt
+seen_known s made (Err m) all every same e seen = tt

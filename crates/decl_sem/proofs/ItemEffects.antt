@@ -1,5 +1,5 @@
 -- What an item gives beside its rows.
-use Rattle.std.specs.Prelude.{◌≡◌, ℕ, List, ◌++◌, Ok}
+use Rattle.std.specs.Prelude.{◌≡◌, ℕ, List, ◌++◌, Result, Ok, Err}
 use Rattle.std.proofs.Common.{sym, ap, ◌∙◌}
 use Rattle.std.proofs.lemmas.List.{append-nil}
 use Rattle.m2_base.specs.States.{Frame, State}
@@ -8,13 +8,20 @@ use Rattle.m2_base.specs.Statics.Makes.{Makes, make_then, makes}
 use Rattle.m2_base.specs.Statics.Shapes.{Shape}
 use Rattle.m2_base.specs.declared.notes.Answer.{Answer}
 use Rattle.m2_base.specs.declared.notes.Diag.{Diag}
-use Rattle.m2_base.specs.declared.replies.Ask.TheVariants.{Known}
+use Rattle.m2_base.specs.Statics.Effects.{Effect}
+use Rattle.m2_base.specs.Statics.Items as items
+use Rattle.m2_base.specs.declared.memory.Memory.{Memory}
+use Rattle.m2_base.specs.declared.replies.Ask.{Ask}
+use Rattle.m2_base.specs.declared.replies.Ask.TheVariants.{DontKnowYet, Known}
 use Rattle.m2_base.specs.declared.rows.Row.{Row}
 use Rattle.m2_base.specs.declared.sites.Site.{Site}
 use Rattle.type_rules.specs.Sites.{context_of}
+use Rattle.decl_sem.specs.Brought.{DeclaresWith}
+use Rattle.decl_sem.specs.Items.{IsEffectOf, IsLoneEffect}
 use Rattle.decl_sem.specs.Making.{next_ordinal}
 use Rattle.decl_sem.specs.Pieces.{Declares}
 use Rattle.decl_sem.specs.declared.making.Made.{Made}
+use Rattle.decl_sem.proofs.BroughtRows.{bringing_failed, bringing_none, bringing_waits}
 
 -- the value of a piece, seen otherwise
 pub valued : {T U : Type 0} {a b : State} {x y : Made} {s : Site} {ss : List Shape} {P : Frame → ℕ → T → Type 0} {g : Context → Makes T} {v : T} (Q : Frame → ℕ → U → Type 0) (F : T → U) (w : U) → w ≡ F v
@@ -36,3 +43,9 @@ valued {a = a} {x = x} {s = s} {g = g} Q F w e h p =
           };
       there = h;
     }
+
+-- an item that brings nothing
+pub alone_as : {a b : State} {x y : Made} {s : Site} {ss : List Shape} {g : Context → Makes Effect} (item : items.Item) (answer : Result (Ask Effect) Memory) → Declares a b x y s answer ss IsLoneEffect g → DeclaresWith a b x y s answer ss (λ e. e.brought) (IsEffectOf item) g
+alone_as item (Ok (Known e)) p = bringing_none (λ e. e.brought) p.there.alone (record { effect = p.there.effect; only = λ plain. p.there.alone }) p
+alone_as item (Ok (DontKnowYet head)) p = bringing_waits (λ e. e.brought) p
+alone_as item (Err m) p = bringing_failed (λ e. e.brought) p m

@@ -1,3 +1,4 @@
+pub mod AgainNames
 pub mod ArrayCells
 pub mod ArrayLists
 pub mod Asking
@@ -39,6 +40,7 @@ pub mod OwnParameters
 pub mod ParameterLists
 pub mod Parameters
 pub mod Pieces
+pub mod PutMembers
 pub mod SectionLists
 pub mod PointerRows
 pub mod SizesInHand

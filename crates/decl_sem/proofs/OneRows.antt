@@ -60,7 +60,7 @@ behind_more h b = record { small = b.small; scope = b.scope; before = λ e. let 
 
 -- ** The row
 
-new_row : (f : Frame) (s : Site) (o name at : ℕ) (m : RowMeaning) → name < length f.setting.texts.names → IsNewMeaning f s o m → IsNewRow f (item_end s) o (row_of name at m)
+pub new_row : (f : Frame) (s : Site) (o name at : ℕ) (m : RowMeaning) → name < length f.setting.texts.names → IsNewMeaning f s o m → IsNewRow f (item_end s) o (row_of name at m)
 new_row f s o name at m named h =
     let e = row_meaning-row_of name at m h.small in
     record {
@@ -76,7 +76,7 @@ standard_count : length standard_names ≡ 28
 unfolding standard_names
 standard_count = refl
 
-some_names : {f : Frame} {s : Site} {x : Made} {ss : List Shape} → IsMaking f s x ss → 0 < length f.setting.texts.names
+pub some_names : {f : Frame} {s : Site} {x : Made} {ss : List Shape} → IsMaking f s x ss → 0 < length f.setting.texts.names
 some_names {f} making =
     let p = making.suits.around.standard in
     let e = ap length p.joined in
@@ -92,7 +92,7 @@ nameless_kept : (layout : Layout) (o : ℕ) → kept_name layout o 0 ≡ 0
 nameless_kept layout o = sym (same_zero (is_of o (first_entry layout 0)) 0)
 
 -- a piece of one row, of any outcome
-one_piece : {s : Site} {x y : Made} (shape : Shape) (row : Row) (g : Context → Makes Place) (result : Result Place Memory) (a : State)
+pub one_piece : {s : Site} {x y : Made} (shape : Shape) (row : Row) (g : Context → Makes Place) (result : Result Place Memory) (a : State)
     → IfOk result (λ place. WhereMaking a.frame x (λ hand. MakesAll x y (g (context_of a.frame hand s)) place))
     → IfOk result (λ place. y.rows.items ≡ x.rows.items ++ row ∷ [])
     → IfOk result (λ place. place ≡ at_place s.around.now.scope (next_ordinal x))
@@ -116,7 +116,7 @@ one_piece {s} {x} {y} shape row g (Ok place) a made rows is answers diags first 
 one_piece {s} {x} {y} shape row g (Err m) a made rows is answers diags first making laid new =
     record { works = Works-notes a x.notes y.notes answers diags; waits = tt; first = first; grown = tt; told = λ hand in_hand told same. tt; there = tt }
 
-at_context : (s : Site) (x y : Made) (g : Context → Makes Place) (result : Result Place Memory) (f : Frame) → ((hand : Hand) → hand.rows ≡ x.rows.items → IsFinished f.setting.texts hand.finished → IfOk result (λ place. MakesAll x y (g (context_of f hand s)) place))
+pub at_context : (s : Site) (x y : Made) (g : Context → Makes Place) (result : Result Place Memory) (f : Frame) → ((hand : Hand) → hand.rows ≡ x.rows.items → IsFinished f.setting.texts hand.finished → IfOk result (λ place. MakesAll x y (g (context_of f hand s)) place))
     → IfOk result (λ place. WhereMaking f x (λ hand. MakesAll x y (g (context_of f hand s)) place))
 at_context s x y g (Ok place) f h = λ hand in_hand told same. h hand same told
 at_context s x y g (Err m) f h = tt

@@ -1,6 +1,6 @@
 -- The sections of a heading in the procedure's own scope, one after another.
 use Rattle.std.specs.Prelude.{◌≡◌, ℕ, ◌+◌, ◌<◌, ◌≤◌, List, [], ◌∷◌, ◌++◌, flat_map, length, map, drop, Option, None, Result, Ok, Err}
-use Rattle.std.proofs.Common.{sym, ap, ◌∙◌, subst, arith, get_or}
+use Rattle.std.proofs.Common.{refl, sym, ap, ◌∙◌, subst, arith, get_or}
 use Rattle.std.proofs.lemmas.List.{append-nil}
 use Rattle.m2_base.specs.Lists.{Each}
 use Rattle.m2_base.specs.States.{Frame, State}
@@ -25,7 +25,7 @@ use Rattle.m2_base.specs.declared.trees.Qual.{Qual}
 use Rattle.m2_base.specs.declared.trees.declarations.Heading.{Heading}
 use Rattle.m2_base.specs.declared.trees.declarations.Section.{Section}
 use Rattle.type_rules.specs.Sites.{context_of}
-use Rattle.decl_sem.specs.Items.{IsEffect}
+use Rattle.decl_sem.specs.Items.{IsEffect, IsLoneEffect}
 use Rattle.decl_sem.specs.Making.{next_ordinal}
 use Rattle.decl_sem.specs.OwnParameters.{AreCells, IsPlaced, heading_effect, section_given}
 use Rattle.decl_sem.specs.Pieces.{Declares, IsBehind, IsMaking, IsOptionBehind}
@@ -134,11 +134,11 @@ pub sections_read : (texts : List (List ℕ)) (h : Heading) (sections : List Sec
 sections_read texts h sections same all = subst (λ (xs : List Section). Each (IsReadSection texts) (map section_view xs)) (sym same) all
 
 -- what the heading gives, after its result
-pub effect_given : {a b : State} {x y : Made} {s : Site} {r : Option Place} (q : Option Qual) (p : Placing) (e : Effect) → e ≡ record { cell = p.own; prologue = p.copies; result = r; heading = None } → AreCells p
-    → Declares a b x y s (Ok (Known r)) [] IsOptionBehind (λ c. only_gives (result_type c q)) → Declares a b x y s (Ok (Known e)) [] IsEffect (heading_effect q p)
+pub effect_given : {a b : State} {x y : Made} {s : Site} {r : Option Place} (q : Option Qual) (p : Placing) (e : Effect) → e ≡ record { cell = p.own; prologue = p.copies; result = r; heading = None; brought = [] } → AreCells p
+    → Declares a b x y s (Ok (Known r)) [] IsOptionBehind (λ c. only_gives (result_type c q)) → Declares a b x y s (Ok (Known e)) [] IsLoneEffect (heading_effect q p)
 effect_given {a = a} {y = y} q p e same cells piece =
-    valued IsEffect (λ r. record { cell = p.own; prologue = p.copies; result = r; heading = None }) e same
-    (subst (λ (v : Effect). IsEffect a.frame (next_ordinal y) v) (sym same) (record { cell = cells.own; result = piece.there })) piece
+    valued IsLoneEffect (λ r. record { cell = p.own; prologue = p.copies; result = r; heading = None; brought = [] }) e same
+    (subst (λ (v : Effect). IsLoneEffect a.frame (next_ordinal y) v) (sym same) (record { effect = record { cell = cells.own; result = piece.there }; alone = refl })) piece
 
 -- what the sections need
 pub all_making : {f : Frame} {s : Site} {x : Made} (h : Heading) (sections : List Section) → sections ≡ h.sections.items → IsMaking f s x (flat_map own_section_shapes (heading_view h).sections) → IsMaking f s x (shapes sections)
@@ -160,8 +160,8 @@ module _ {a b : State} {x y : Made} {s : Site} {from v : Placing} (h : Heading) 
   result_making = making_on {ss = shapes h.sections.items} {ts = []} (sections_none h.sections.items) (making_nil (shapes h.sections.items) making) as_heading
 
   -- the result after the sections
-  pub heading_whole : {d : State} {z : Made} (answer : Result (Ask Effect) Memory) → Declares b d y z s answer [] IsEffect (heading_effect h.result v)
-      → Declares a d x z s answer (flat_map own_section_shapes (heading_view h).sections) IsEffect (λ c. heading_rows c (heading_view h))
+  pub heading_whole : {d : State} {z : Made} (answer : Result (Ask Effect) Memory) → Declares b d y z s answer [] IsLoneEffect (heading_effect h.result v)
+      → Declares a d x z s answer (flat_map own_section_shapes (heading_view h).sections) IsLoneEffect (λ c. heading_rows c (heading_view h))
   heading_whole answer q =
       reshaped answer (shapes h.sections.items) (append-nil (shapes h.sections.items))
       (then_after {ss = shapes h.sections.items} {ts = []} (λ c. own_sections_rows c (first_of h) (heading_view h).sections) (λ f c. heading_effect h.result f c) answer (sections_none h.sections.items) (making_nil (shapes h.sections.items) making) as_heading q)

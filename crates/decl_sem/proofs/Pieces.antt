@@ -35,7 +35,7 @@ use Rattle.decl_sem.proofs.MakingOn.{makes_none, makes_then}
 
 -- ** Rows that are added
 
-new-append : (f : Frame) (limit o : ℕ) (xs ys : List Row) → AreNewRows f limit o xs → AreNewRows f limit (o + length xs) ys → AreNewRows f limit o (xs ++ ys)
+pub new-append : (f : Frame) (limit o : ℕ) (xs ys : List Row) → AreNewRows f limit o xs → AreNewRows f limit (o + length xs) ys → AreNewRows f limit o (xs ++ ys)
 new-append f limit o [] ys h k = subst (λ n. AreNewRows f limit n ys) (let e : o + 0 ≡ o = omega arith in e) k
 new-append f limit o (x ∷ xs) ys h k =
     (h.0, new-append f limit (o + 1) xs ys h.1 (subst (λ n. AreNewRows f limit n ys) (let e : o + suc (length xs) ≡ o + 1 + length xs = omega arith in e) k))
@@ -110,7 +110,7 @@ module _ {T : Type 0} {a b : State} {x y : Made} {s : Site} {ss : List Shape} {P
 
 -- ** One after another
 
-waits_on : {U : Type 0} {a b : State} (d : State) {x y : Notes} (answer : Result (Ask U) Memory) → Works a b x y → IfWaits answer (λ head. Waits b d head) → IfWaits answer (λ head. Waits a d head)
+pub waits_on : {U : Type 0} {a b : State} (d : State) {x y : Notes} (answer : Result (Ask U) Memory) → Works a b x y → IfWaits answer (λ head. Waits b d head) → IfWaits answer (λ head. Waits a d head)
 waits_on d (Ok (Known v)) w h = tt
 waits_on d (Ok (DontKnowYet head)) w h = Waits_after w.keeps h
 waits_on d (Err m) w h = tt
@@ -120,7 +120,7 @@ if_any (Ok (Known v)) h = h
 if_any (Ok (DontKnowYet head)) h = tt
 if_any (Err m) h = tt
 
-if_known : {U : Type 0} (P Q : U → Type 0) (answer : Result (Ask U) Memory) → ((v : U) → P v → Q v) → IfKnown answer P → IfKnown answer Q
+pub if_known : {U : Type 0} (P Q : U → Type 0) (answer : Result (Ask U) Memory) → ((v : U) → P v → Q v) → IfKnown answer P → IfKnown answer Q
 if_known P Q (Ok (Known v)) f h = f v h
 if_known P Q (Ok (DontKnowYet head)) f h = tt
 if_known P Q (Err m) f h = tt

@@ -1,5 +1,5 @@
 //! The rows of an import.
-ghost use Rattle.std.specs.Prelude.{◌≡◌, ◌≢◌, ◌∷◌, ◌++◌, ◌-◌, [], ◌<◌, ◌+◌, ◌^◌, ◌≤◌, map, is_some, true, length, if◌then◌else◌, unwrap_or, IfOk};
+ghost use Rattle.std.specs.Prelude.{◌≡◌, ◌≢◌, ◌∷◌, ◌++◌, ◌-◌, [], ◌<◌, ◌+◌, ◌^◌, ◌≤◌, map, is_some, true, length, if◌then◌else◌, unwrap_or, None, Some, IfOk};
 ghost use Rattle.std.specs.Option.{IfSome};
 ghost use Rattle.m2_base.specs.Rows.{alias_kind, module_kind};
 ghost use Rattle.m2_base.specs.Statics.Contexts.{scope_of_module};
@@ -11,7 +11,7 @@ ghost use Rattle.m2_base.specs.Statics.Contexts.{diag};
 ghost use Rattle.m2_base.specs.Statics.Diagnostics.{declared_twice};
 ghost use Rattle.m2_base.specs.Statics.ImportRows.{again_diags, alias_row, import_rows as spec_rows, place_or_broken as spec_target};
 ghost use Rattle.m2_base.specs.Statics.ImportedConstants.{brought_by, brought_names, brought_row, members_of};
-ghost use Rattle.m2_base.specs.Lists.{Each};
+ghost use Rattle.m2_base.specs.Lists.{Each, IsPrefixOf};
 ghost use Rattle.m2_base.specs.Statics.Makes.{make_then, one_row};
 ghost use Rattle.m2_base.specs.Statics.Items.{import_item};
 ghost use Rattle.m2_base.specs.Statics.Makes.{makes_named as spec_named};
@@ -22,16 +22,16 @@ ghost use Rattle.type_rules.specs.Sites.{context_of, source_of};
 ghost use Rattle.decl_sem.specs.Brought.{BringAny, DeclaresWith, all_names, brings_new, listed, listed_of};
 ghost use Rattle.decl_sem.specs.FoundConstants.{AreNewMembers, AreSeen, member_view};
 ghost use Rattle.decl_sem.specs.ImportedModules.{IsFromBefore, alias_rows, first_from, is_text_named};
-ghost use Rattle.decl_sem.specs.Making.{next_ordinal};
+ghost use Rattle.decl_sem.specs.Making.{diag_in, next_ordinal};
 ghost use Rattle.decl_sem.specs.Pieces.{Declares, IsAny, IsBehind, IsMaking, WhereMaking, known_of};
 ghost use Rattle.m2_base.specs.Statics.ReadTrees.{IsReadName, IsReadOption};
 
 use crate::brought::{Found, Member, differ, is_full, is_hidden, members_in};
 use crate::kinds::ALIAS;
 use crate::making::{Made, make_again, make_new};
-use crate::names::small_place;
+use crate::names::{refuse, small_place};
 use crate::putting::name_row;
-use m2_base::{Ask, Diagnostic, Ident, Memory, Named, Place, Row, RowMeaning, Scopes, Site, Texts};
+use m2_base::{Ask, Diagnostic, Ident, Memory, Named, Notes, Place, Row, RowMeaning, Scopes, Site, Texts};
 use std::alloc::Global;
 use type_rules::{BROKEN, use_name};
 
@@ -160,6 +160,27 @@ fn put_again<S: Scopes>(
     make_again(site, made, name.at, RowMeaning::Alias(target), again)
 }
 
+/// An alias whose name an import has brought before.
+fn again_row<S: Scopes>(
+    scopes: &mut S,
+    site: &Site,
+    name: Ident,
+    target: Place,
+    made: &mut Made,
+) -> Result<Ask<Place>, Memory>
+    requires making { IsMaking (S.state scopes.old).frame site.now made.old (named alias_kind name ∷ []) }
+    requires named { name.name ≢ 0 }
+    requires brought { is_some (entry_named site.now.layout.now.brought name.name) ≡ true }
+    requires target { IsBehind (S.state scopes.old).frame (next_ordinal made.old) target }
+    ensures { Declares (S.state scopes.old) (S.state scopes.new) made.old made.new site.now result (named alias_kind name ∷ []) IsBehind (λ c. one_row c (row_of 0 name.at (Alias target)) (again_diags c name target)) }
+{
+    let again = asked!(is_again(scopes, site, name, target, made));
+    match put_again(scopes, site, name, target, again, made) {
+        Ok(place) => Ok(Ask::Known(place)),
+        Err(memory) => Err(memory),
+    }
+}
+
 /// The row of an alias. It has no name where an earlier import brought that.
 fn own_row<S: Scopes>(
     scopes: &mut S,
@@ -173,17 +194,15 @@ fn own_row<S: Scopes>(
     requires row { IfSome entry (λ e. IsRowOf (S.state scopes.old).frame e.0 e.1) }
     ensures { Declares (S.state scopes.old) (S.state scopes.new) made.old made.new site.now result (named alias_kind name ∷ []) IsBehind (λ c. alias_row c name (spec_target entry)) }
 {
-    let target = small_place(place_or_broken(entry));
-    let placed = match site.layout.brought(name.name) {
-        None => put_alias(scopes, site, name, entry, made),
+    match site.layout.brought(name.name) {
         Some(_) => {
-            let again = asked!(is_again(scopes, site, name, target, made));
-            put_again(scopes, site, name, target, again, made)
+            let target = small_place(place_or_broken(entry));
+            again_row(scopes, site, name, target, made)
         }
-    };
-    match placed {
-        Ok(place) => Ok(Ask::Known(place)),
-        Err(memory) => Err(memory),
+        None => match put_alias(scopes, site, name, entry, made) {
+            Ok(place) => Ok(Ask::Known(place)),
+            Err(memory) => Err(memory),
+        },
     }
 }
 
@@ -220,6 +239,18 @@ fn put_members(
     Ok(brought)
 }
 
+/// Notes that one of the constants is hidden.
+fn note_hidden(site: &Site, at: u32, hidden: bool, notes: &mut Notes) -> Result<(), Memory>
+    ensures noted { IfOk result (λ _. notes.new.diags.items ≡ notes.old.diags.items ++ (if hidden then diag_in site.now.around.now.text at declared_twice ∷ [] else [])) }
+    ensures diags { IsPrefixOf notes.old.diags.items notes.new.diags.items }
+    ensures answers { notes.new.answers.items ≡ notes.old.answers.items }
+{
+    if !hidden {
+        return Ok(());
+    }
+    refuse(site, at, Diagnostic::DeclaredTwice, notes)
+}
+
 /// The names that are brought, where these constants are found.
 fn put_found(
     alloc: Global,
@@ -232,14 +263,11 @@ fn put_found(
     requires places { Each (λ m. m.place.scope < 2 ^ 31) found.now.members.items }
     ensures { (a : State) → IsMaking a.frame site.now made.old [] → AreNewMembers a.frame site.now made.old found.now.members.items → DeclaresWith a a made.old made.new site.now (known_of (listed_of result)) [] all_names IsAny (λ c. brings_new c at (map member_view found.now.members.items) found.now.hidden) }
 {
-    let text = site.around.text;
     if is_full(site, found) {
-        made.notes.refuse(text, at, Diagnostic::TooManyConstants)?;
+        put!(refuse(site, at, Diagnostic::TooManyConstants, &mut made.notes));
         return Ok(Vec::new(alloc));
     }
-    if found.hidden {
-        made.notes.refuse(text, at, Diagnostic::DeclaredTwice)?;
-    }
+    put!(note_hidden(site, at, found.hidden, &mut made.notes));
     put_members(alloc, site, at, &found.members, made)
 }
 
@@ -304,6 +332,46 @@ fn from_rows<S: Scopes>(
     entry_rows(alloc, scopes, site, name, entry, made)
 }
 
+/// A module.
+fn module_rows<S: Scopes>(
+    alloc: Global,
+    scopes: &mut S,
+    site: &Site,
+    name: Ident,
+    made: &mut Made,
+) -> Result<Ask<Vec<Named>>, Memory>
+    requires making { IsMaking (S.state scopes.old).frame site.now made.old (named module_kind name ∷ []) }
+    requires named { IsReadName site.now.texts.now.names name }
+    requires before { scope_of_module (source_of site.now.texts.now) name.name < (S.state scopes.old).frame.setting.fills }
+    ensures { DeclaresWith (S.state scopes.old) (S.state scopes.new) made.old made.new site.now (listed result) (named module_kind name ∷ []) all_names (BringAny (import_item None name)) (λ c. spec_rows c None name) }
+{
+    match put_module(scopes, site, name, made) {
+        Ok(_place) => Ok(Ask::Known(Vec::new(alloc))),
+        Err(memory) => Err(memory),
+    }
+}
+
+/// A name of a module of this name, and the names that it brings.
+fn member_rows<S: Scopes>(
+    alloc: Global,
+    scopes: &mut S,
+    site: &Site,
+    outer: Ident,
+    name: Ident,
+    made: &mut Made,
+) -> Result<Ask<Vec<Named>>, Memory>
+    requires making { IsMaking (S.state scopes.old).frame site.now made.old (named alias_kind name ∷ []) }
+    requires read { IsReadName site.now.texts.now.names outer }
+    requires named { IsReadName site.now.texts.now.names name }
+    requires before { scope_of_module (source_of site.now.texts.now) outer.name < (S.state scopes.old).frame.setting.fills }
+    ensures { DeclaresWith (S.state scopes.old) (S.state scopes.new) made.old made.new site.now (listed result) (named alias_kind name ∷ []) all_names (BringAny (import_item (Some outer) name)) (λ c. spec_rows c (Some outer) name) }
+{
+    match module_scope(site.texts, outer.name) {
+        Ok(scope) => from_rows(alloc, scopes, site, scope, name, made),
+        Err(memory) => Err(memory),
+    }
+}
+
 /// A module; or a name of a module, an alias of what it stands for there, and the names that it brings.
 pub(crate) fn import_rows<S: Scopes>(
     alloc: Global,
@@ -319,10 +387,8 @@ pub(crate) fn import_rows<S: Scopes>(
     requires before { IsFromBefore (source_of site.now.texts.now) (S.state scopes.old).frame.setting.fills (import_item from.now name) }
     ensures { DeclaresWith (S.state scopes.old) (S.state scopes.new) made.old made.new site.now (listed result) (named (import_kind from.now) name ∷ []) all_names (BringAny (import_item from.now name)) (λ c. spec_rows c from.now name) }
 {
-    let Some(module) = from else {
-        put!(put_module(scopes, site, name, made));
-        return Ok(Ask::Known(Vec::new(alloc)));
-    };
-    let scope = put!(module_scope(site.texts, module.name));
-    from_rows(alloc, scopes, site, scope, name, made)
+    match from {
+        Some(module) => member_rows(alloc, scopes, site, *module, name, made),
+        None => module_rows(alloc, scopes, site, name, made),
+    }
 }
