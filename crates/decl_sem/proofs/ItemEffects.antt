@@ -1,15 +1,17 @@
 -- What an item gives beside its rows.
 use Rattle.std.specs.Prelude.{◌≡◌, ℕ, List, ◌++◌, Result, Ok, Err}
-use Rattle.std.proofs.Common.{sym, ap, ◌∙◌}
+use Rattle.std.proofs.Common.{subst, sym, ap, ◌∙◌}
 use Rattle.std.proofs.lemmas.List.{append-nil}
 use Rattle.m2_base.specs.States.{Frame, State}
 use Rattle.m2_base.specs.Statics.Contexts.{Context}
+use Rattle.m2_base.specs.Statics.Declarations.{declare}
 use Rattle.m2_base.specs.Statics.Makes.{Makes, make_then, makes}
-use Rattle.m2_base.specs.Statics.Shapes.{Shape}
+use Rattle.m2_base.specs.Statics.Shapes.{Shape, item_shapes}
 use Rattle.m2_base.specs.declared.notes.Answer.{Answer}
 use Rattle.m2_base.specs.declared.notes.Diag.{Diag}
 use Rattle.m2_base.specs.Statics.Effects.{Effect}
 use Rattle.m2_base.specs.Statics.Items as items
+use Rattle.m2_base.specs.declared.trees.declarations.StreamKind.{StreamKind}
 use Rattle.m2_base.specs.declared.memory.Memory.{Memory}
 use Rattle.m2_base.specs.declared.replies.Ask.{Ask}
 use Rattle.m2_base.specs.declared.replies.Ask.TheVariants.{DontKnowYet, Known}
@@ -49,3 +51,10 @@ pub alone_as : {a b : State} {x y : Made} {s : Site} {ss : List Shape} {g : Cont
 alone_as item (Ok (Known e)) p = bringing_none (λ e. e.brought) p.there.alone (record { effect = p.there.effect; only = λ plain. p.there.alone }) p
 alone_as item (Ok (DontKnowYet head)) p = bringing_waits (λ e. e.brought) p
 alone_as item (Err m) p = bringing_failed (λ e. e.brought) p m
+
+-- the same item, as another has it
+pub alone_of : {a b : State} {m n : Made} {s : Site} (kind : StreamKind) (cell : ℕ) (x y : items.Item) → x ≡ y → (answer : Result (Ask Effect) Memory)
+    → Declares a b m n s answer (item_shapes x) IsLoneEffect (λ c. declare c kind x cell)
+    → DeclaresWith a b m n s answer (item_shapes y) (λ e. e.brought) (IsEffectOf y) (λ c. declare c kind y cell)
+alone_of {a} {b} {m} {n} {s} kind cell x y same answer p =
+    subst (λ (z : items.Item). DeclaresWith a b m n s answer (item_shapes z) (λ e. e.brought) (IsEffectOf z) (λ c. declare c kind z cell)) same (alone_as x answer p)
