@@ -107,11 +107,13 @@ fn brings_so_many_in_each_module(rt: HostRuntime) -> Result<(), Fail> {
 
 const COLORS: &[u8] = b"DEFINITION MODULE C; TYPE Color = (red, green, blue); END C.";
 
+const OWN: &[u8] = b"DEFINITION MODULE M; FROM C IMPORT Color; VAR m: Color; END M.";
+
 const WARM: &[u8] = b"DEFINITION MODULE D; FROM C IMPORT Color;\n\
     TYPE Warm = [red..green]; Heat = ARRAY [red..blue] OF CHAR; CONST k = green; VAR c: Color; h: Heat; END D.";
 
 /// A module, and what is wrong with it.
-const USES: [(&str, &str); 5] = [
+const USES: [(&str, &str); 6] = [
     // A definition module uses what it has brought, and hands it on.
     (
         "MODULE M; IMPORT D; FROM D IMPORT k; BEGIN D.c := k; D.h[D.blue] := \"x\" END M.",
@@ -125,11 +127,16 @@ const USES: [(&str, &str); 5] = [
         "MODULE M; FROM D IMPORT Warm, c; BEGIN c := red END M.",
         "M.mod:1:45: 40 unknown name\n",
     ),
-    // An implementation module has the names of its own definition, whatever that has brought.
+    // An implementation module knows what its own definition has brought, and may have names of its own for it.
     (
-        "MODULE M; FROM D IMPORT Color, red; FROM C IMPORT blue; CONST red = 1; BEGIN END M.",
-        "M.mod:1:63: 42 declared twice\n",
+        "IMPLEMENTATION MODULE M; VAR red: CHAR; BEGIN m := green; red := \"x\" END M.",
+        "",
     ),
+    (
+        "IMPLEMENTATION MODULE M; FROM C IMPORT Color; VAR red: CHAR; BEGIN m := green END M.",
+        "M.mod:1:51: 42 declared twice\n",
+    ),
+    // A procedure has the name of a constant that was brought.
     (
         "MODULE M; FROM C IMPORT Color; PROCEDURE red; VAR c: Color; BEGIN c := green END red; END M.",
         "M.mod:1:42: 42 declared twice\n",
@@ -140,7 +147,12 @@ const USES: [(&str, &str); 5] = [
 fn uses_what_is_brought(rt: HostRuntime) -> Result<(), Fail> {
     let alloc = rt.alloc();
     for (text, listing) in USES {
-        let files: [(&str, &[u8]); 3] = [("M.mod", text.as_bytes()), ("C.def", COLORS), ("D.def", WARM)];
+        let files: [(&str, &[u8]); 4] = [
+            ("M.mod", text.as_bytes()),
+            ("M.def", OWN),
+            ("C.def", COLORS),
+            ("D.def", WARM),
+        ];
         expect(&rt, alloc, &files, listing)?;
     }
     Ok(())

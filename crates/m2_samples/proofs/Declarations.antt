@@ -1,6 +1,6 @@
 -- The declarations of a sample are analysed one after another: where each stands, that its rows may be entered, and what holds then.
 use Rattle.std.specs.List.{AllZip}
-use Rattle.std.specs.Prelude.{◌≡◌, ℕ, zero, suc, ◌+◌, ◌-◌, ◌<◌, ◌≤◌, ◌^◌, List, [], ◌∷◌, ◌++◌, Option, Some, None, Result, Ok, Err, drop, filter, flat_map, length, map, option_map, slice_get, slice_index, slice_index_or, take, unwrap_or, IfOk, OnOk}
+use Rattle.std.specs.Prelude.{◌≡◌, ℕ, zero, suc, ◌+◌, ◌-◌, ◌<◌, ◌≤◌, ◌^◌, false, List, [], ◌∷◌, ◌++◌, Option, Some, None, Result, Ok, Err, drop, filter, flat_map, length, map, option_map, slice_get, slice_index, slice_index_or, take, unwrap_or, IfOk, OnOk}
 use Rattle.std.proofs.Common.{refl, sym, ap, subst, ◌∙◌, arith}
 use Rattle.std.proofs.lemmas.List.{append-nil, length-append, take-append-drop}
 use Rattle.std.proofs.lemmas.List.Concat.{flat_map-append}
@@ -11,7 +11,7 @@ use Rattle.m2_base.specs.Lists.{Each}
 use Rattle.m2_base.specs.Rows.{IsWellFormed, at_place, row_meaning}
 use Rattle.m2_base.specs.Scopes.{CanComplete, CanEnter, Completed, Entered}
 use Rattle.m2_base.specs.States.{Frame, State}
-use Rattle.m2_base.specs.Statics.Bringing.{BringsIts}
+use Rattle.m2_base.specs.Statics.Bringing.{BringsIts, may_bring}
 use Rattle.m2_base.specs.Statics.Cells.{most_cells}
 use Rattle.m2_base.specs.Statics.Contexts.{Source}
 use Rattle.m2_base.specs.Statics.Items.{Item, decl_item, items_of}
@@ -150,6 +150,12 @@ layout_after tree n below =
       few = omega arith;
     }
 
+no_bringing : (d : Decl) → may_bring (decl_item d) ≡ false
+no_bringing (const_decl name value) = refl
+no_bringing (type_decl name typ) = refl
+no_bringing (vars_decl names typ) = refl
+no_bringing (proc_decl heading stream) = refl
+
 -- the next item brings only what it may
 next_only : (items : List Item) (n : ℕ) (x : Item) (b : List Named) → slice_get items n ≡ Some x → AllZip BringsIts (take (length (nothing n ++ b ∷ [])) items) (nothing n ++ b ∷ []) → BringsIts x b
 next_only [] n x b e h = absurd (cc)
@@ -247,7 +253,7 @@ module _ (f : Frame) (s : Site) (u : UnitTexts) (tree : HeldStream) (n : ℕ) (d
     alone : b ≡ []
     alone =
         let at_next = next (nothing n) (is.item ∙ ap Some (sym (nothing_count n))) layout_here in
-        next_only items n item b found (subst (λ (xs : List Item). AllZip BringsIts (take (length (nothing n ++ b ∷ [])) xs) (nothing n ++ b ∷ [])) sample.items at_next.only) refl
+        next_only items n item b found (subst (λ (xs : List Item). AllZip BringsIts (take (length (nothing n ++ b ∷ [])) xs) (nothing n ++ b ∷ [])) sample.items at_next.only) (no_bringing (decl_view d))
 
     laid : AreLaid (layout_of (stream_view tree)) (length f.entered) (item_shapes (decl_item (decl_view d))) rows
     laid =
