@@ -17,7 +17,12 @@ fn constants(alloc: Global, count: u32) -> Result<Vec<u8>, AllocError> {
 }
 
 /// Compiles M on a shelf with these files: what is printed is this, and where that is nothing there is an object.
-fn expect(rt: &impl Abort, alloc: Global, files: &[(&str, &[u8])], listing: &str) -> Result<(), Fail> {
+fn expect(
+    rt: &impl Abort,
+    alloc: Global,
+    files: &[(&str, &[u8])],
+    listing: &str,
+) -> Result<(), Fail> {
     let left = compiled(alloc, files, &NO_FAULTS)?;
     let sound = listing.is_empty();
     let answer = if sound {
@@ -99,7 +104,11 @@ fn brings_so_many_in_each_module(rt: HostRuntime) -> Result<(), Fail> {
         ),
     ] {
         let definition = constants(alloc, count)?;
-        let files: [(&str, &[u8]); 3] = [("M.mod", text), ("D.def", between), ("C.def", &definition)];
+        let files: [(&str, &[u8]); 3] = [
+            ("M.mod", text),
+            ("D.def", between),
+            ("C.def", &definition),
+        ];
         expect(&rt, alloc, &files, listing)?;
     }
     Ok(())

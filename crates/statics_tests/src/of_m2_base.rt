@@ -2,8 +2,8 @@
 ghost use Rattle.std.specs.Prelude.{◌≡◌, [], IfOk};
 
 use m2_base::{
-    Builtin, Chain, Layout, Memory, Named, Names, Notes, Place, RowMeaning, read_row, standard_procedure,
-    standard_rows, write_row,
+    Builtin, Chain, Layout, Memory, Named, Names, Notes, Place, RowMeaning, read_row,
+    standard_procedure, standard_rows, write_row,
 };
 use std::alloc::Global;
 use std::test::Fail;
@@ -107,14 +107,23 @@ fn entry(name: u32, ordinal: u32, item: u32) -> Named
 fn two_items(alloc: Global) -> Result<Layout, Memory>
     ensures { IfOk result (λ layout. layout.brought ≡ []) }
 {
-    let names = vec![in alloc; entry(28, 0, 0), entry(30, 1, 0), entry(31, 2, 1), entry(28, 3, 1)]?;
+    let names = vec![in alloc;
+        entry(28, 0, 0),
+        entry(30, 1, 0),
+        entry(31, 2, 1),
+        entry(28, 3, 1),
+    ]?;
     let firsts = vec![in alloc; 0, 2, 4]?;
     Layout::new(alloc, names, firsts)
 }
 
 /// The ordinal of the first row of each of these names.
-const FIRST_ENTRIES: [(u32, Option<u32>); 4] =
-    [(28, Some(0)), (29, None), (30, Some(1)), (31, Some(2))];
+const FIRST_ENTRIES: [(u32, Option<u32>); 4] = [
+    (28, Some(0)),
+    (29, None),
+    (30, Some(1)),
+    (31, Some(2)),
+];
 
 #[test]
 fn finds_first_entries(rt: HostRuntime) -> Result<(), Fail> {

@@ -140,7 +140,11 @@ fn leaves_the_same_in_every_order(rt: HostRuntime) -> Result<(), Fail> {
 
 #[test]
 fn brings_the_same_in_every_order(rt: HostRuntime) -> Result<(), Fail> {
-    let files = [("A.mod", BRINGING), ("B.def", HANDING_ON), ("C.def", COLORS)];
+    let files = [
+        ("A.mod", BRINGING),
+        ("B.def", HANDING_ON),
+        ("C.def", COLORS),
+    ];
     let (first, same) = in_every_order(rt.alloc(), &files)?;
     assert!(rt; same);
     assert_eq!(rt; first.len(), 5);
