@@ -1,5 +1,6 @@
 -- The declarations of a sample are analysed one after another: where each stands, that its rows may be entered, and what holds then.
-use Rattle.std.specs.Prelude.{◌≡◌, ℕ, zero, suc, ◌+◌, ◌-◌, ◌<◌, ◌≤◌, ◌^◌, List, [], ◌∷◌, ◌++◌, Some, None, Result, Ok, Err, drop, filter, flat_map, length, map, option_map, slice_get, slice_index, slice_index_or, take, unwrap_or, IfOk, OnOk}
+use Rattle.std.specs.List.{AllZip}
+use Rattle.std.specs.Prelude.{◌≡◌, ℕ, zero, suc, ◌+◌, ◌-◌, ◌<◌, ◌≤◌, ◌^◌, false, List, [], ◌∷◌, ◌++◌, Option, Some, None, Result, Ok, Err, drop, filter, flat_map, length, map, option_map, slice_get, slice_index, slice_index_or, take, unwrap_or, IfOk, OnOk}
 use Rattle.std.proofs.Common.{refl, sym, ap, subst, ◌∙◌, arith}
 use Rattle.std.proofs.lemmas.List.{append-nil, length-append, take-append-drop}
 use Rattle.std.proofs.lemmas.List.Concat.{flat_map-append}
@@ -10,16 +11,19 @@ use Rattle.m2_base.specs.Lists.{Each}
 use Rattle.m2_base.specs.Rows.{IsWellFormed, at_place, row_meaning}
 use Rattle.m2_base.specs.Scopes.{CanComplete, CanEnter, Completed, Entered}
 use Rattle.m2_base.specs.States.{Frame, State}
+use Rattle.m2_base.specs.Statics.Bringing.{BringsIts, may_bring}
 use Rattle.m2_base.specs.Statics.Cells.{most_cells}
 use Rattle.m2_base.specs.Statics.Contexts.{Source}
 use Rattle.m2_base.specs.Statics.Items.{Item, decl_item, items_of}
-use Rattle.m2_base.specs.Statics.Layouts.{Layout, firsts_from, layout_of}
+use Rattle.m2_base.specs.Statics.Layouts.{Layout, extended, extended_by, firsts_from, laid_shapes, layout_of, with_brought}
+use Rattle.m2_base.specs.Statics.Lookup.{brought_before}
 use Rattle.m2_base.specs.Statics.ProcedureRows.{is_proc}
 use Rattle.m2_base.specs.Statics.ReadTrees.{IsReadItem}
-use Rattle.m2_base.specs.Statics.Shapes.{item_shapes}
+use Rattle.m2_base.specs.Statics.Shapes.{Shape, item_shapes}
 use Rattle.m2_base.specs.Trees.{Decl, Stream, const_decl, proc_decl, type_decl, vars_decl}
 use Rattle.m2_base.specs.Units.{UnitTexts}
 use Rattle.m2_base.specs.Views.{decl_view, stream_view}
+use Rattle.m2_base.specs.declared.limits.TheConstants.{MOST_BROUGHT}
 use Rattle.m2_base.specs.declared.memory.Memory.{Memory}
 use Rattle.m2_base.specs.declared.rows.Row.{Row}
 use Rattle.m2_base.specs.declared.rows.RowMeaning.{RowMeaning}
@@ -32,11 +36,13 @@ use Rattle.m2_base.proofs.Kept.{Each-append, Each-map}
 use Rattle.scope_core.specs.PlainScopes.{Plain, started, state_of}
 use Rattle.decl_sem.specs.ImportedModules.{IsFromBefore}
 use Rattle.decl_sem.specs.Items.{IsAtItem}
-use Rattle.decl_sem.specs.LaidRows.{AreLaid, none_laid}
+use Rattle.decl_sem.specs.LaidRows.{AreLaid, HasFirsts, none_laid}
+use Rattle.decl_sem.specs.Layouts.{IsLayoutAt}
 use Rattle.decl_sem.specs.Pieces.{AreNewRows, IsOwned, end_by, item_end}
 use Rattle.decl_sem.proofs.FirstNames.{AreLaid-append}
 use Rattle.decl_sem.proofs.FirstOrdinals.{end_of}
 use Rattle.decl_sem.proofs.LaidOnce.{laid_once}
+use Rattle.decl_sem.proofs.LayoutSteps.{layout_at_start}
 use Rattle.decl_sem.proofs.Pieces.{laid-length}
 use Rattle.m2_samples.specs.Filled.{HasDeclared, IsFull, row_count}
 use Rattle.m2_samples.specs.Samples.{IsSample}
@@ -106,6 +112,56 @@ no_imports source scope (type_decl name typ) = tt
 no_imports source scope (vars_decl names typ) = tt
 no_imports source scope (proc_decl heading stream) = tt
 
+-- ** Declarations bring nothing
+
+-- of each of so many items no name
+abbrev pub nothing : ℕ → List (List Named)
+nothing zero = []
+nothing (suc n) = [] ∷ nothing n
+
+nothing_count : (n : ℕ) → length (nothing n) ≡ n
+nothing_count zero = refl
+nothing_count (suc n) = ap suc (nothing_count n)
+
+nothing_laid : (items : List Item) (n : ℕ) → laid_shapes items (nothing n) ≡ flat_map item_shapes items
+nothing_laid [] n = refl
+nothing_laid (x ∷ items) zero = ap (λ (ss : List Shape). item_shapes x ++ ss) (nothing_laid items zero)
+nothing_laid (x ∷ items) (suc n) = ap (λ (ss : List Shape). item_shapes x ++ ss) (nothing_laid items n)
+
+nothing_extends : (l : Layout) (n : ℕ) → extended_by l (nothing n) ≡ l
+nothing_extends l zero = refl
+nothing_extends l (suc n) = nothing_extends l n
+
+nothing_only : (items : List Item) (n : ℕ) → n ≤ length items → AllZip BringsIts (take n items) (nothing n)
+nothing_only items zero below = tt
+nothing_only [] (suc n) below = absurd (omega (arith, below))
+nothing_only (x ∷ items) (suc n) below = ((λ none. refl), nothing_only items n (omega (arith, below)))
+
+-- the layout after items that have brought nothing
+layout_after : (tree : Stream) (n : ℕ) → n ≤ length (items_of tree) → IsLayoutAt (layout_of tree) tree (nothing n)
+layout_after tree n below =
+    let items = items_of tree in
+    record {
+      layout = sym (nothing_extends (layout_of tree) n);
+      only = subst (λ (m : ℕ). AllZip BringsIts (take m items) (nothing n)) (sym (nothing_count n)) (nothing_only items n below);
+      firsts = subst (λ (ss : List Shape). HasFirsts (layout_of tree) ss) (nothing_laid items 0 ∙ sym (nothing_laid items n)) (layout_at_start tree).firsts;
+      earlier = tt;
+      behind = tt;
+      few = omega arith;
+    }
+
+no_bringing : (d : Decl) → may_bring (decl_item d) ≡ false
+no_bringing (const_decl name value) = refl
+no_bringing (type_decl name typ) = refl
+no_bringing (vars_decl names typ) = refl
+no_bringing (proc_decl heading stream) = refl
+
+-- the next item brings only what it may
+next_only : (items : List Item) (n : ℕ) (x : Item) (b : List Named) → slice_get items n ≡ Some x → AllZip BringsIts (take (length (nothing n ++ b ∷ [])) items) (nothing n ++ b ∷ []) → BringsIts x b
+next_only [] n x b e h = absurd (cc)
+next_only (y ∷ items) zero x b e h = subst (λ (z : Item). BringsIts z b) (some_is y x e) h.0
+next_only (y ∷ items) (suc n) x b e h = next_only items n x b e h.1
+
 -- ** Rows that are made
 
 owned_more : (a b : ℕ) → a ≤ b → (r : RowMeaning) → IsOwned a r → IsOwned b r
@@ -143,7 +199,7 @@ pub record IsSiteOf (s : Site) (u : UnitTexts) (tree : Stream) (n : ℕ) : Type 
   pub layout : s.layout.now ≡ layout_of tree
   pub item : s.item ≡ Some n
 
-module _ (f : Frame) (s : Site) (u : UnitTexts) (tree : HeldStream) (n : ℕ) (d : HeldDecl) (cell : ℕ) (sample : IsSample u (stream_view tree)) (few : row_count (stream_view tree) ≤ 2 ^ 31)
+module _ (f : Frame) (s : Site) (u : UnitTexts) (tree : HeldStream) (n : ℕ) (d : HeldDecl) (cell : ℕ) (sample : IsSample u (stream_view tree)) (few : row_count (stream_view tree) + MOST_BROUGHT ≤ 2 ^ 31)
     (is : IsSiteOf s u (stream_view tree) n) (here : slice_get tree.decls.items n ≡ Some d) (so_far : HasDeclared f u (stream_view tree) n cell) where
   abbrev item : Item
   item = decl_item (decl_view d)
@@ -157,10 +213,17 @@ module _ (f : Frame) (s : Site) (u : UnitTexts) (tree : HeldStream) (n : ℕ) (d
   parts : Splits (map decl_item (stream_view tree).decls) n (decl_item (decl_view d))
   parts = splits items n item found
 
+  layout_here : IsLayoutAt s.layout.now (stream_view tree) (nothing n)
+  layout_here =
+      let all = ap length (sample.items ∙ parts.all) in
+      let l = length-append (take n items) (item ∷ drop (suc n) items) in
+      let c = parts.count in
+      let below : n ≤ length (items_of (stream_view tree)) = omega (arith, all, l, c) in
+      subst (λ (l : Layout). IsLayoutAt l (stream_view tree) (nothing n)) (sym is.layout) (layout_after (stream_view tree) n below)
+
   -- it stands after the declarations before
   pub at_declaration : IsAtItem f s (stream_view tree) (decl_item (decl_view d)) cell 0
   at_declaration =
-      let names = ap (λ (l : Layout). l.names) is.layout in
       record {
         suits = site_at f s 0 sample is.at so_far.texts so_far.fills so_far.inside (λ none. absurd (let bad : Some n ≡ None = sym is.item ∙ none in cc));
         small = let e = so_far.fills in omega (arith, e);
@@ -169,8 +232,11 @@ module _ (f : Frame) (s : Site) (u : UnitTexts) (tree : HeldStream) (n : ℕ) (d
         rest = drop (suc n) items;
         items = sample.items ∙ parts.all;
         item = is.item ∙ ap Some (sym parts.count);
-        layout = is.layout;
-        entered = subst (λ (ns : List Named). AreLaid ns 0 (flat_map item_shapes (take n items)) f.entered) (sym names) so_far.laid;
+        brought = nothing n;
+        of_each = nothing_count n ∙ sym parts.count;
+        layout = layout_here;
+        entered = subst (λ (l : Layout). AreLaid l 0 (laid_shapes (take n items) (nothing n)) f.entered) (sym is.layout)
+            (subst (λ (ss : List Shape). AreLaid (layout_of (stream_view tree)) 0 ss f.entered) (sym (nothing_laid (take n items) n)) so_far.laid);
         owned = so_far.owned;
         few = few;
         read = subst (λ (v : UnitTexts). IsReadItem v.names item) (sym is.at.texts)
@@ -180,7 +246,20 @@ module _ (f : Frame) (s : Site) (u : UnitTexts) (tree : HeldStream) (n : ℕ) (d
         headings = so_far.procedures;
       }
 
-  module _ (rows : List Row) (laid : AreLaid s.layout.now.names (length f.entered) (item_shapes (decl_item (decl_view d))) rows) (new : AreNewRows f (item_end s) (length f.entered) rows) where
+  module _ (rows : List Row) (b : List Named)
+      (next : (brought : List (List Named)) → s.item ≡ Some (length brought) → IsLayoutAt s.layout.now (stream_view tree) brought → IsLayoutAt (extended s.layout.now b) (stream_view tree) (brought ++ b ∷ []))
+      (laid_with : AreLaid (extended s.layout.now b) (length f.entered) (with_brought (item_shapes (decl_item (decl_view d))) b) rows) (new : AreNewRows f (item_end s) (length f.entered) rows) where
+    -- it brings nothing
+    alone : b ≡ []
+    alone =
+        let at_next = next (nothing n) (is.item ∙ ap Some (sym (nothing_count n))) layout_here in
+        next_only items n item b found (subst (λ (xs : List Item). AllZip BringsIts (take (length (nothing n ++ b ∷ [])) xs) (nothing n ++ b ∷ [])) sample.items at_next.only) (no_bringing (decl_view d))
+
+    laid : AreLaid (layout_of (stream_view tree)) (length f.entered) (item_shapes (decl_item (decl_view d))) rows
+    laid =
+        subst (λ (l : Layout). AreLaid l (length f.entered) (item_shapes item) rows) is.layout
+        (subst (λ (bs : List Named). AreLaid (extended s.layout.now bs) (length f.entered) (with_brought (item_shapes item) bs) rows) alone laid_with)
+
     shapes : flat_map item_shapes (take n items) ++ item_shapes (decl_item (decl_view d)) ≡ flat_map item_shapes (take (n + 1) items)
     shapes =
         let number : suc n ≡ n + 1 = omega arith in
@@ -188,12 +267,10 @@ module _ (f : Frame) (s : Site) (u : UnitTexts) (tree : HeldStream) (n : ℕ) (d
         ∙ sym (flat_map-append item_shapes (take n items) (decl_item (decl_view d) ∷ []))
         ∙ ap (flat_map item_shapes) (sym parts.next ∙ ap (λ m. take m items) number)
 
-    laid_on : AreLaid (layout_of (stream_view tree)).names 0 (flat_map item_shapes (take (n + 1) items)) (f.entered ++ rows)
+    laid_on : AreLaid (layout_of (stream_view tree)) 0 (flat_map item_shapes (take (n + 1) items)) (f.entered ++ rows)
     laid_on =
-        let layout : s.layout.now.names ≡ (layout_of (stream_view tree)).names = ap (λ (l : Layout). l.names) is.layout in
-        subst (λ ss. AreLaid (layout_of (stream_view tree)).names 0 ss (f.entered ++ rows)) shapes
-        (AreLaid-append so_far.laid (subst (λ o. AreLaid (layout_of (stream_view tree)).names o (item_shapes (decl_item (decl_view d))) rows) (let e : length f.entered ≡ 0 + length f.entered = omega arith in e)
-        (subst (λ ns. AreLaid ns (length f.entered) (item_shapes (decl_item (decl_view d))) rows) layout laid)))
+        subst (λ ss. AreLaid (layout_of (stream_view tree)) 0 ss (f.entered ++ rows)) shapes
+        (AreLaid-append so_far.laid (subst (λ o. AreLaid (layout_of (stream_view tree)) o (item_shapes (decl_item (decl_view d))) rows) (let e : length f.entered ≡ 0 + length f.entered = omega arith in e) laid))
 
     fit : length (f.entered ++ rows) ≤ row_count (stream_view tree)
     fit =
@@ -227,9 +304,10 @@ module _ (f : Frame) (s : Site) (u : UnitTexts) (tree : HeldStream) (n : ℕ) (d
     end_is =
         let all : items_of (stream_view tree) ≡ take n items ++ decl_item (decl_view d) ∷ drop (suc n) items = sample.items ∙ parts.all in
         let number : s.item ≡ Some (length (take n items)) = is.item ∙ ap Some (sym parts.count) in
-        let at : item_end s ≡ end_by (firsts_from 0 (take n items ++ decl_item (decl_view d) ∷ drop (suc n) items)) (Some (length (take n items))) =
-        (λ k. end_by (is.layout k).firsts (number k)) ∙ ap (λ xs. end_by (firsts_from 0 xs) (Some (length (take n items)))) all in
-        let e = at ∙ end_of (take n items) (drop (suc n) items) (decl_item (decl_view d)) 0 in
+        let before : ℕ → ℕ = (λ o. o + brought_before [] (length (take n items) + 1)) in
+        let at : item_end s ≡ unwrap_or (option_map before (slice_get (firsts_from 0 (take n items ++ decl_item (decl_view d) ∷ drop (suc n) items)) (length (take n items) + 1))) 0 =
+        (λ k. end_by (is.layout k) (number k)) ∙ ap (λ xs. unwrap_or (option_map before (slice_get (firsts_from 0 xs) (length (take n items) + 1))) 0) all in
+        let e : item_end s ≡ 0 + length (flat_map item_shapes (take n items)) + length (item_shapes (decl_item (decl_view d))) + 0 = at ∙ ap (λ (o : Option ℕ). unwrap_or (option_map before o) 0) (end_of (take n items) (drop (suc n) items) (decl_item (decl_view d)) 0) in
         let a = laid-length so_far.laid in
         let b = laid-length laid in
         let l = length-append f.entered rows in

@@ -60,7 +60,7 @@ pub record HasDeclared (f : Frame) (u : UnitTexts) (tree : Stream) (count cell :
   pub inside : 1 < length f.setting.areas
   pub room : row_count tree ≤ slice_index f.setting.areas 1
   pub open_yet : f.closed ≡ false
-  pub laid : AreLaid (layout_of tree).names 0 (flat_map item_shapes (take count (map decl_item tree.decls))) f.entered
+  pub laid : AreLaid (layout_of tree) 0 (flat_map item_shapes (take count (map decl_item tree.decls))) f.entered
   pub owned : Each (λ r. IsOwned (length f.entered) (row_meaning r)) f.entered
   pub procedures : 0 ≡ length (filter is_proc f.entered)
   pub cells : cell ≤ most_cells + 1

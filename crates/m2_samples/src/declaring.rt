@@ -5,6 +5,7 @@ ghost use Rattle.m2_base.specs.Statics.Layouts.{layout_of as spec_layout};
 ghost use Rattle.m2_base.specs.Statics.ProcedureRows.{is_proc};
 ghost use Rattle.m2_base.specs.Trees.{Stream};
 ghost use Rattle.m2_base.specs.Views.{stream_view};
+ghost use Rattle.m2_base.specs.declared.limits.TheConstants.{MOST_BROUGHT};
 ghost use Rattle.scope_core.specs.PlainScopes.{state_of};
 ghost use Rattle.m2_samples.specs.Filled.{HasDeclared, IsBlock, IsFull, row_count as spec_count};
 ghost use Rattle.m2_samples.specs.Samples.{IsSample};
@@ -19,8 +20,8 @@ use std::alloc::Global;
 /// The number of standard rows.
 const STANDARD_ROWS: u32 = m2_base::STANDARD_ROWS as u32;
 
-/// A block has at most so many rows.
-const MOST_ROWS: u32 = 2_147_483_648;
+/// A block has at most so many rows, so that there is room for those of the names that imports bring.
+const MOST_ROWS: u32 = 2_147_483_648 - m2_base::MOST_BROUGHT as u32;
 
 /// The next free cell of too many is this.
 const TOO_MANY_CELLS: u32 = m2_base::MOST_CELLS + 1;
@@ -62,7 +63,7 @@ pub fn layout_of(alloc: Global, sample: &Sample) -> Result<Layout, Memory>
 
 /// The number of rows of a block.
 pub fn row_count(layout: &Layout) -> Result<u32, Memory>
-    ensures few { IfOk result (λ count. count ≤ 2 ^ 31) }
+    ensures few { IfOk result (λ count. count + MOST_BROUGHT ≤ 2 ^ 31) }
     ensures count { IfOk result (λ count. (tree : Stream) → layout.now ≡ spec_layout tree → count ≡ spec_count tree) }
 {
     match layout.firsts().last() {
@@ -121,7 +122,7 @@ fn declare_item<S: Scopes>(
     made: &mut Made,
 ) -> Result<u32, Memory>
     requires block { IsBlock block.now.sample.now.texts (stream_view block.now.sample.now.tree) block.now.around.now block.now.layout.now }
-    requires few { spec_count (stream_view block.now.sample.now.tree) ≤ 2 ^ 31 }
+    requires few { spec_count (stream_view block.now.sample.now.tree) + MOST_BROUGHT ≤ 2 ^ 31 }
     requires here { slice_get block.now.sample.now.tree.decls.items number ≡ Some declaration.now }
     requires declared { HasDeclared (S.state scopes.old).frame block.now.sample.now.texts (stream_view block.now.sample.now.tree) number cell }
     ensures { IfOk result (λ next. HasDeclared (S.state scopes.new).frame block.now.sample.now.texts (stream_view block.now.sample.now.tree) (number + 1) next) }
@@ -142,7 +143,7 @@ fn declare_item<S: Scopes>(
 /// Analyses all declarations, one after another, and gives the next free cell.
 fn declare_items<S: Scopes>(scopes: &mut S, block: &Block, made: &mut Made) -> Result<u32, Memory>
     requires block { IsBlock block.now.sample.now.texts (stream_view block.now.sample.now.tree) block.now.around.now block.now.layout.now }
-    requires few { spec_count (stream_view block.now.sample.now.tree) ≤ 2 ^ 31 }
+    requires few { spec_count (stream_view block.now.sample.now.tree) + MOST_BROUGHT ≤ 2 ^ 31 }
     requires begun { HasDeclared (S.state scopes.old).frame block.now.sample.now.texts (stream_view block.now.sample.now.tree) 0 0 }
     ensures { IfOk result (λ cell. HasDeclared (S.state scopes.new).frame block.now.sample.now.texts (stream_view block.now.sample.now.tree) (length block.now.sample.now.tree.decls.items) cell) }
 {
@@ -164,7 +165,7 @@ pub fn declare_block<S: Scopes>(
     made: &mut Made,
 ) -> Result<(), Memory>
     requires block { IsBlock block.now.sample.now.texts (stream_view block.now.sample.now.tree) block.now.around.now block.now.layout.now }
-    requires few { spec_count (stream_view block.now.sample.now.tree) ≤ 2 ^ 31 }
+    requires few { spec_count (stream_view block.now.sample.now.tree) + MOST_BROUGHT ≤ 2 ^ 31 }
     requires begun { HasDeclared (S.state scopes.old).frame block.now.sample.now.texts (stream_view block.now.sample.now.tree) 0 0 }
     ensures { OnOk result (IsFull (S.state scopes.new).frame block.now.sample.now.texts 1) }
 {

@@ -1,8 +1,11 @@
 //! Names, rows and what else all stages speak of, by hand.
+ghost use Rattle.std.specs.Prelude.{◌≡◌, [], IfOk};
+
 use m2_base::{
-    Builtin, Chain, Layout, Named, Names, Notes, Place, RowMeaning, read_row, standard_procedure,
-    standard_rows, write_row,
+    Builtin, Chain, Layout, Memory, Named, Names, Notes, Place, RowMeaning, read_row,
+    standard_procedure, standard_rows, write_row,
 };
+use std::alloc::Global;
 use std::test::Fail;
 
 #[test]
@@ -86,28 +89,83 @@ fn reads_what_it_writes(rt: HostRuntime) -> Result<(), Fail> {
     Ok(())
 }
 
+/// An entry of an item.
+fn entry(name: u32, ordinal: u32, item: u32) -> Named
+    ensures ordinal { result.ordinal ≡ ordinal }
+    ensures item { result.item ≡ item }
+{
+    Named {
+        name,
+        ordinal,
+        kind: 2,
+        at: 7,
+        item,
+    }
+}
+
+/// The layout of two items: the first has rows of names 28 and 30, and the second one of 31 and another of 28.
+fn two_items(alloc: Global) -> Result<Layout, Memory>
+    ensures { IfOk result (λ layout. layout.brought ≡ []) }
+{
+    let names = vec![in alloc;
+        entry(28, 0, 0),
+        entry(30, 1, 0),
+        entry(31, 2, 1),
+        entry(28, 3, 1),
+    ]?;
+    let firsts = vec![in alloc; 0, 2, 4]?;
+    Layout::new(alloc, names, firsts)
+}
+
+/// The ordinal of the first row of each of these names.
+const FIRST_ENTRIES: [(u32, Option<u32>); 4] = [
+    (28, Some(0)),
+    (29, None),
+    (30, Some(1)),
+    (31, Some(2)),
+];
+
 #[test]
 fn finds_first_entries(rt: HostRuntime) -> Result<(), Fail> {
-    let alloc = rt.alloc();
-    let mut names = Vec::new(alloc);
-    for (ordinal, name) in [28, 30, 28].into_iter().enumerate() {
-        names.push(Named {
-            name,
-            ordinal: ordinal as u32,
-            kind: 2,
-            at: 7,
-            item: 0,
-        })?;
-    }
-    let mut firsts = Vec::new(alloc);
-    firsts.push(0)?;
-    firsts.push(3)?;
-    let layout = Layout::new(alloc, names, firsts)?;
-    for (name, ordinal) in [(28, Some(0)), (29, None), (30, Some(1))] {
+    let layout = two_items(rt.alloc())?;
+    for (name, ordinal) in FIRST_ENTRIES {
         assert!(rt; layout.first(name).map(|named| named.ordinal) == ordinal);
     }
-    assert_eq!(rt; layout.names().len(), 3);
-    assert_eq!(rt; layout.firsts().len(), 2);
+    for (item, first) in [(0, Some(0)), (1, Some(2)), (2, Some(4)), (3, None)] {
+        assert!(rt; layout.first_row(item) == first);
+    }
+    assert_eq!(rt; layout.names().len(), 4);
+    assert_eq!(rt; layout.firsts().len(), 3);
+    assert_eq!(rt; layout.count_brought(), 0);
+    Ok(())
+}
+
+/// The same when the first item has brought 40 and 41.
+const ENTRIES_BEHIND: [(u32, Option<u32>); 6] = [
+    (28, Some(0)),
+    (29, None),
+    (30, Some(1)),
+    (31, Some(4)),
+    (40, Some(2)),
+    (41, Some(3)),
+];
+
+#[test]
+fn finds_entries_behind_what_is_brought(rt: HostRuntime) -> Result<(), Fail> {
+    let alloc = rt.alloc();
+    let mut layout = two_items(alloc)?;
+    let brought = vec![in alloc; entry(40, 2, 0), entry(41, 3, 0)]?;
+    layout.extend(0, &brought)?;
+    for (name, ordinal) in ENTRIES_BEHIND {
+        assert!(rt; layout.first(name).map(|named| named.ordinal) == ordinal);
+        let is_brought = name >= 40;
+        assert!(rt; layout.brought(name).is_some() == is_brought);
+    }
+    for (item, first) in [(0, Some(0)), (1, Some(4)), (2, Some(6)), (3, None)] {
+        assert!(rt; layout.first_row(item) == first);
+    }
+    assert_eq!(rt; layout.names().len(), 4);
+    assert_eq!(rt; layout.count_brought(), 2);
     Ok(())
 }
 

@@ -24,6 +24,20 @@ const IMPORTED: &str =
 
 const FIRST: &str = "DEFINITION MODULE C; CONST m = 9; END C.";
 
+/// Constants of types that are imported: a procedure has a name of its own for one, and two are declared again.
+const BRINGING: &str = "MODULE A; FROM B IMPORT Color, Warm; FROM C IMPORT two, Few; \
+    PROCEDURE P(c: Color): Color; VAR red: Color; BEGIN red := green; RETURN red END P; \
+    PROCEDURE Q; CONST k = ORD(two); VAR a: ARRAY Color OF CHAR; w: Warm; \
+    BEGIN a[red] := CHR(k); w := P(blue); x := blue END Q; \
+    VAR one: CHAR; x: Color; BEGIN Q; x := one END A.";
+
+/// What it imports, and what both import.
+const HANDING_ON: &str =
+    "DEFINITION MODULE B; FROM C IMPORT Color; TYPE Warm = [red..green]; Mine = (blue, grey); END B.";
+
+const COLORS: &str =
+    "DEFINITION MODULE C; TYPE Color = (red, green, blue); Few = (one, two); END C.";
+
 /// A name is unknown in each block.
 const UNKNOWN: &str =
     "MODULE A; PROCEDURE P; BEGIN a := 1 END P; PROCEDURE Q; BEGIN b := 1 END Q; BEGIN c := 1 END A.";
@@ -98,22 +112,47 @@ fn makes_the_turns_that_it_is_told(rt: HostRuntime) -> Result<(), Fail> {
     Ok(())
 }
 
-#[test]
-fn leaves_the_same_in_every_order(rt: HostRuntime) -> Result<(), Fail> {
-    let alloc = rt.alloc();
-    let files = [("A.mod", NESTED), ("B.def", IMPORTED), ("C.def", FIRST)];
-    let mut shelf = shelf_of(alloc, &files)?;
+/// Whether a unit's streams leave the same in every order. Answers what they leave.
+fn in_every_order(alloc: Global, files: &[(&str, &str)]) -> Result<(Vec<Output>, bool), Fail> {
+    let mut shelf = shelf_of(alloc, files)?;
     let texts = whole_texts(alloc, &mut shelf, "A").ok_or("no unit")?;
     let first = outputs(alloc, &texts, [].as_slice()).ok_or("no outputs")?;
+    let mut same = true;
+    for rule in 0..ORDERS {
+        let order = order_by(alloc, rule)?;
+        let outputs = outputs(alloc, &texts, &order).ok_or("no outputs")?;
+        same = same && are_same(&first, &outputs);
+    }
+    Ok((first, same))
+}
+
+#[test]
+fn leaves_the_same_in_every_order(rt: HostRuntime) -> Result<(), Fail> {
+    let files = [("A.mod", NESTED), ("B.def", IMPORTED), ("C.def", FIRST)];
+    let (first, same) = in_every_order(rt.alloc(), &files)?;
+    assert!(rt; same);
     assert_eq!(rt; first.len(), 8);
     for output in &first {
         assert!(rt; output.diags.is_empty(), "{}", output.stream);
     }
-    for rule in 0..ORDERS {
-        let order = order_by(alloc, rule)?;
-        let outputs = outputs(alloc, &texts, &order).ok_or("no outputs")?;
-        assert!(rt; are_same(&first, &outputs), "rule {rule}");
+    Ok(())
+}
+
+#[test]
+fn brings_the_same_in_every_order(rt: HostRuntime) -> Result<(), Fail> {
+    let files = [
+        ("A.mod", BRINGING),
+        ("B.def", HANDING_ON),
+        ("C.def", COLORS),
+    ];
+    let (first, same) = in_every_order(rt.alloc(), &files)?;
+    assert!(rt; same);
+    assert_eq!(rt; first.len(), 5);
+    let mut diags = 0;
+    for output in &first {
+        diags += output.diags.len();
     }
+    assert_eq!(rt; diags, 3);
     Ok(())
 }
 
