@@ -1,4 +1,0 @@
-pub mod Places
-pub mod Openings
-pub mod Turning
-pub mod Endings
