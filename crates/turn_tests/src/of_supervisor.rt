@@ -148,9 +148,9 @@ fn brings_the_same_in_every_order(rt: HostRuntime) -> Result<(), Fail> {
     let (first, same) = in_every_order(rt.alloc(), &files)?;
     assert!(rt; same);
     assert_eq!(rt; first.len(), 5);
-    let mut diags = 0;
+    let mut diags: usize = 0;
     for output in &first {
-        diags += output.diags.len();
+        diags = diags.saturating_add(output.diags.len());
     }
     assert_eq!(rt; diags, 3);
     Ok(())
