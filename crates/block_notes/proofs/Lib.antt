@@ -3,3 +3,17 @@ pub mod StandingProcedures
 pub mod StandingCalls
 pub mod StandingValues
 pub mod StandingFlows
+pub mod StandingRows
+pub mod StandingClosings
+pub mod StandingBlocks
+pub mod TextNotes
+pub mod TextOperations
+pub mod TextConstants
+pub mod TextTypes
+pub mod TextItems
+pub mod TextOperands
+pub mod TextProcedures
+pub mod TextCalls
+pub mod TextValues
+pub mod TextFlows
+pub mod TextBlocks

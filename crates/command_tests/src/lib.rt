@@ -2,6 +2,8 @@
 #![tactic(auto)]
 
 #[cfg(test)]
+mod gates;
+#[cfg(test)]
 mod of_decisions;
 #[cfg(test)]
 mod of_m2_io;
@@ -9,3 +11,7 @@ mod of_m2_io;
 mod of_m2c_top;
 #[cfg(test)]
 mod of_objects;
+#[cfg(test)]
+mod of_pieces;
+#[cfg(test)]
+mod of_workers;

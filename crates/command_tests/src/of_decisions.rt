@@ -3,10 +3,16 @@ use m2_io::{MemShelf, MemSink, MemSource, NoGate};
 use m2c_top::m2c;
 use std::alloc::{AllocError, Global};
 use std::collections::BTreeMap;
+use std::sync::Wait;
 use std::test::Fail;
+use std::thread::Threads;
 
 /// Compiles this text as A.mod, and answers the status and what is printed.
-fn compiled(alloc: Global, text: &[u8]) -> Result<(u8, Vec<u8>), Fail> {
+fn compiled<R: AllocGlobal + Threads + Wait + Sync>(
+    rt: &R,
+    text: &[u8],
+) -> Result<(u8, Vec<u8>), Fail> {
+    let alloc = rt.alloc();
     let mut files = BTreeMap::new(alloc);
     files.insert(String::from_str(alloc, "A.mod")?, text.to_vec(alloc)?)?;
     let mut shelf = MemShelf::new(files, Vec::new(alloc), 0);
@@ -16,15 +22,7 @@ fn compiled(alloc: Global, text: &[u8]) -> Result<(u8, Vec<u8>), Fail> {
     words.push(String::from_str(alloc, "compile")?)?;
     words.push(String::from_str(alloc, "A")?)?;
     let words = words.as_slice();
-    let status = m2c(
-        &(),
-        alloc,
-        words,
-        &mut shelf,
-        &mut print,
-        &mut keys,
-        &NoGate,
-    );
+    let status = m2c(rt, alloc, words, &mut shelf, &mut print, &mut keys, &NoGate);
     Ok((status, print.bytes().to_vec(alloc)?))
 }
 
@@ -32,7 +30,6 @@ const OTHER_NAME: &str = "A.mod:1:8: 31 module has another name\n";
 
 #[test]
 fn decides_in_order(rt: HostRuntime) -> Result<(), Fail> {
-    let alloc = rt.alloc();
     let table = [
         // What is wrong with the imports comes before all that is wrong with the statements.
         (
@@ -105,7 +102,7 @@ fn decides_in_order(rt: HostRuntime) -> Result<(), Fail> {
         ),
     ];
     for (text, status, printed) in table {
-        let found = compiled(alloc, text.as_bytes())?;
+        let found = compiled(&rt, text.as_bytes())?;
         assert_eq!(rt; found.0, status, "{text}");
         assert!(rt; found.1.as_slice() == printed.as_bytes(), "{text}");
     }
@@ -129,20 +126,20 @@ fn nested(alloc: Global, pairs: usize) -> Result<Vec<u8>, AllocError> {
 #[test]
 fn tells_limits(rt: HostRuntime) -> Result<(), Fail> {
     let alloc = rt.alloc();
-    let deepest = compiled(alloc, nested(alloc, 98)?.as_slice())?;
+    let deepest = compiled(&rt, nested(alloc, 98)?.as_slice())?;
     assert_eq!(rt; deepest.0, 0);
-    let deeper = compiled(alloc, nested(alloc, 99)?.as_slice())?;
+    let deeper = compiled(&rt, nested(alloc, 99)?.as_slice())?;
     assert_eq!(rt; deeper.0, 7);
     assert!(rt; deeper.1.as_slice() == b"limit nesting 100\n".as_slice());
     let mut semicolons = Vec::new(alloc);
     for _ in 0..1_048_576u32 {
         semicolons.push(b';')?;
     }
-    let tokens = compiled(alloc, semicolons.as_slice())?;
+    let tokens = compiled(&rt, semicolons.as_slice())?;
     assert_eq!(rt; tokens.0, 7);
     assert!(rt; tokens.1.as_slice() == b"limit tokens 1048576\n".as_slice());
     semicolons.push(b';')?;
-    let bytes = compiled(alloc, semicolons.as_slice())?;
+    let bytes = compiled(&rt, semicolons.as_slice())?;
     assert_eq!(rt; bytes.0, 7);
     assert!(rt; bytes.1.as_slice() == b"limit text bytes 1048576\n".as_slice());
     Ok(())

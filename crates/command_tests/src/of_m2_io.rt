@@ -167,7 +167,7 @@ impl Write for Broken {
     }
 
     fn flush(&mut self) -> io::Result<()> {
-        Ok(())
+        Err(io::Error::from(io::ErrorKind::Other))
     }
 }
 
@@ -182,8 +182,10 @@ fn a_writer_is_a_sink(rt: HostRuntime) -> Result<(), Fail> {
         "only one more byte fits"
     );
     assert_eq!(rt; sink.write(b""), Ok(0));
+    assert_eq!(rt; sink.flush(), Ok(()));
     assert!(rt; bytes == *b"abc--");
     assert_eq!(rt; StdSink::new(Broken).write(b"a"), Err(SinkError));
+    assert_eq!(rt; StdSink::new(Broken).flush(), Err(SinkError));
     Ok(())
 }
 

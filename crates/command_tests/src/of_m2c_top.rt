@@ -3,12 +3,14 @@ use m2_io::{MemShelf, MemSink, MemSource, NoGate};
 use m2c_top::m2c;
 use std::alloc::{AllocError, Global};
 use std::collections::BTreeMap;
+use std::sync::Wait;
 use std::test::Fail;
+use std::thread::Threads;
 
 const EMPTY_MODULE: &str = "MODULE A; END A.";
 
 const USAGE: &str =
-    "usage: m2c compile NAME [--workers N] | run NAME [--steps N] [--cells N] | dump NAME\n";
+    "usage: m2c compile NAME [--workers N] | run NAME [--steps N] [--cells N] | dump NAME | big N [--workers N]\n";
 
 /// A shelf with this text as A.mod.
 fn shelf_of(
@@ -32,16 +34,17 @@ fn words_of(alloc: Global, words: &[&str]) -> Result<Vec<String>, AllocError> {
 }
 
 /// What a command left: its status, and what it printed.
-fn run(
-    alloc: Global,
+fn run<R: AllocGlobal + Threads + Wait + Sync>(
+    rt: &R,
     words: &[&str],
     shelf: &mut MemShelf,
     print: &mut MemSink,
 ) -> Result<u8, AllocError> {
+    let alloc = rt.alloc();
     let words = words_of(alloc, words)?;
     let mut keys = MemSource::new(Vec::new(alloc), Vec::new(alloc));
     Ok(m2c(
-        &(),
+        rt,
         alloc,
         words.as_slice(),
         shelf,
@@ -72,7 +75,7 @@ fn says_what_it_cannot_do(rt: HostRuntime) -> Result<(), Fail> {
         let mut shelf = shelf_of(alloc, b"", &[], 0)?;
         let mut print = MemSink::new(alloc, Vec::new(alloc), 7, 1000)?;
         assert_eq!(rt;
-            run(alloc, words, &mut shelf, &mut print)?,
+            run(&rt, words, &mut shelf, &mut print)?,
             status,
             "{words:?}"
         );
@@ -97,7 +100,7 @@ fn answers_faults(rt: HostRuntime) -> Result<(), Fail> {
         let mut shelf = shelf_of(alloc, text.as_bytes(), shelf_fails, 10)?;
         let mut print = MemSink::new(alloc, print_fails.to_vec(alloc)?, 7, 1000)?;
         assert_eq!(rt;
-            run(alloc, words, &mut shelf, &mut print)?,
+            run(&rt, words, &mut shelf, &mut print)?,
             status,
             "{words:?} {text}"
         );
@@ -113,7 +116,7 @@ fn prints_a_front_before_a_fault(rt: HostRuntime) -> Result<(), Fail> {
     let alloc = rt.alloc();
     let mut shelf = shelf_of(alloc, b"IMPORT", &[], 0)?;
     let mut print = MemSink::new(alloc, [2u32].to_vec(alloc)?, 7, 1000)?;
-    assert_eq!(rt; run(alloc, &["compile", "A"], &mut shelf, &mut print)?, 5);
+    assert_eq!(rt; run(&rt, &["compile", "A"], &mut shelf, &mut print)?, 5);
     assert!(rt; print.bytes() == b"A.mod:1".as_slice());
     Ok(())
 }
@@ -129,7 +132,7 @@ fn takes_a_text_up_to_the_limit(rt: HostRuntime) -> Result<(), Fail> {
         let mut shelf = shelf_of(alloc, text.as_slice(), &[], 0)?;
         let mut print = MemSink::new(alloc, Vec::new(alloc), 100, 100)?;
         assert_eq!(rt;
-            run(alloc, &["compile", "A"], &mut shelf, &mut print)?,
+            run(&rt, &["compile", "A"], &mut shelf, &mut print)?,
             status
         );
     }

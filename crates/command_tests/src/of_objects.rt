@@ -3,7 +3,9 @@ use m2_io::{MemShelf, MemSink, MemSource, NoGate, Source};
 use m2c_top::m2c;
 use std::alloc::{AllocError, Global};
 use std::collections::BTreeMap;
+use std::sync::Wait;
 use std::test::Fail;
+use std::thread::Threads;
 
 /// The object of `MODULE A; END A.`, in version 1.
 const EMPTY: &[u8] = b"M2OB\x01\x00\x00\x00\x01\x00\x00\x00A\x00\x00\x00\x00\x00\x00\x00\x00\
@@ -43,13 +45,18 @@ impl Scene {
     }
 
     /// The status of a command.
-    fn status(&mut self, alloc: Global, words: &[&str]) -> Result<u8, AllocError> {
+    fn status<R: AllocGlobal + Threads + Wait + Sync>(
+        &mut self,
+        rt: &R,
+        words: &[&str],
+    ) -> Result<u8, AllocError> {
+        let alloc = rt.alloc();
         let mut all = Vec::new(alloc);
         for word in words {
             all.push(String::from_str(alloc, word)?)?;
         }
         Ok(m2c(
-            &(),
+            rt,
             alloc,
             all.as_slice(),
             &mut self.shelf,
@@ -70,7 +77,7 @@ fn one(alloc: Global, name: &str, bytes: &[u8]) -> Result<BTreeMap<String, Vec<u
 #[test]
 fn takes_the_words(rt: HostRuntime) -> Result<(), Fail> {
     let alloc = rt.alloc();
-    let table: [(&[&str], u8); 32] = [
+    let table: [(&[&str], u8); 42] = [
         (&["compile", "--workers=64", "A"], 3),
         (&["compile", "A", "--workers", "0000000064"], 3),
         (&["compile", "--", "A"], 3),
@@ -102,11 +109,21 @@ fn takes_the_words(rt: HostRuntime) -> Result<(), Fail> {
         (&["Run", "A"], 2),
         (&["dump", "A", "--cells", "5"], 2),
         (&["dump", ""], 2),
-        (&["big", "400"], 2),
+        (&["big", "0"], 2),
+        (&["big", "16385"], 2),
+        (&["big", "x"], 2),
+        (&["big", "A"], 2),
+        (&["big"], 2),
+        (&["big", "5", "5"], 2),
+        (&["big", "--", "00000000005"], 2),
+        (&["big", "5", "--workers", "0"], 2),
+        (&["big", "5", "--steps", "5"], 2),
+        (&["compile", "400"], 2),
+        (&["big", "--workers=2", "--", "0000000005"], 0),
     ];
     for (words, status) in table {
         let mut scene = Scene::new(alloc, BTreeMap::new(alloc))?;
-        assert_eq!(rt; scene.status(alloc, words)?, status, "{words:?}");
+        assert_eq!(rt; scene.status(&rt, words)?, status, "{words:?}");
     }
     Ok(())
 }
@@ -115,7 +132,7 @@ fn takes_the_words(rt: HostRuntime) -> Result<(), Fail> {
 fn dumps_an_object(rt: HostRuntime) -> Result<(), Fail> {
     let alloc = rt.alloc();
     let mut scene = Scene::new(alloc, one(alloc, "A.m2o", EMPTY)?)?;
-    assert_eq!(rt; scene.status(alloc, &["dump", "A"])?, 0);
+    assert_eq!(rt; scene.status(&rt, &["dump", "A"])?, 0);
     assert!(rt;
         scene.print.bytes()
             == b"module A version 1 cells 0\n\
@@ -132,20 +149,20 @@ fn tells_broken_objects(rt: HostRuntime) -> Result<(), Fail> {
         for (place, _) in EMPTY.iter().enumerate() {
             let mut scene = Scene::new(alloc, one(alloc, "A.m2o", &EMPTY[..place])?)?;
             let line = format!(in alloc; "bad object A.m2o at {place} code 1\n")?;
-            assert_eq!(rt; scene.status(alloc, &[verb, "A"])?, 8, "{verb} {place}");
+            assert_eq!(rt; scene.status(&rt, &[verb, "A"])?, 8, "{verb} {place}");
             assert!(rt; scene.print.bytes() == line.as_bytes(), "{verb} {place}");
         }
         let mut longer = EMPTY.to_vec(alloc)?;
         longer.push(0)?;
         let mut scene = Scene::new(alloc, one(alloc, "A.m2o", longer.as_slice())?)?;
-        assert_eq!(rt; scene.status(alloc, &[verb, "A"])?, 8, "{verb}");
+        assert_eq!(rt; scene.status(&rt, &[verb, "A"])?, 8, "{verb}");
         assert!(rt;
             scene.print.bytes() == b"bad object A.m2o at 62 code 2\n".as_slice(),
             "{verb}"
         );
 
         let mut scene = Scene::new(alloc, one(alloc, "A.m2o", EMPTY)?)?;
-        assert_eq!(rt; scene.status(alloc, &[verb, "Z"])?, 3, "{verb}");
+        assert_eq!(rt; scene.status(&rt, &[verb, "Z"])?, 3, "{verb}");
         assert!(rt;
             scene.print.bytes() == b"no object Z.m2o\n".as_slice(),
             "{verb}"
@@ -197,8 +214,8 @@ fn runs_what_it_compiled(rt: HostRuntime) -> Result<(), Fail> {
     ];
     for (text, words, status, printed) in table {
         let mut scene = Scene::new(alloc, one(alloc, "A.mod", text.as_bytes())?)?;
-        assert_eq!(rt; scene.status(alloc, &["compile", "A"])?, 0, "{text}");
-        assert_eq!(rt; scene.status(alloc, words)?, status, "{text}");
+        assert_eq!(rt; scene.status(&rt, &["compile", "A"])?, 0, "{text}");
+        assert_eq!(rt; scene.status(&rt, words)?, status, "{text}");
         assert!(rt; scene.print.bytes() == printed.as_bytes(), "{text}");
     }
     Ok(())
@@ -210,11 +227,11 @@ fn dumps_what_a_failing_shelf_kept(rt: HostRuntime) -> Result<(), Fail> {
     let mut scene = Scene::new(alloc, BTreeMap::new(alloc))?;
     let files = one(alloc, "A.mod", b"MODULE A; END A.")?;
     scene.shelf = MemShelf::new(files, [2, 5].to_vec(alloc)?, 10);
-    assert_eq!(rt; scene.status(alloc, &["compile", "A"])?, 5);
-    assert_eq!(rt; scene.status(alloc, &["dump", "A"])?, 8);
+    assert_eq!(rt; scene.status(&rt, &["compile", "A"])?, 5);
+    assert_eq!(rt; scene.status(&rt, &["dump", "A"])?, 8);
     assert!(rt; scene.print.bytes() == b"bad object A.m2o at 10 code 1\n".as_slice());
-    assert_eq!(rt; scene.status(alloc, &["run", "B"])?, 3);
-    assert_eq!(rt; scene.status(alloc, &["run", "A"])?, 4);
+    assert_eq!(rt; scene.status(&rt, &["run", "B"])?, 3);
+    assert_eq!(rt; scene.status(&rt, &["run", "A"])?, 4);
     Ok(())
 }
 
@@ -224,13 +241,13 @@ fn reads_as_far_as_it_is_asked(rt: HostRuntime) -> Result<(), Fail> {
     for (fail, status) in [(1, 4), (2, 4), (3, 4), (4, 4), (5, 4), (6, 4), (7, 0)] {
         let mut scene = Scene::new(alloc, one(alloc, "S.m2o", SUM)?)?;
         scene.keys = MemSource::new(b"4 -9 xyz".to_vec(alloc)?, [fail].to_vec(alloc)?);
-        assert_eq!(rt; scene.status(alloc, &["run", "S"])?, status, "{fail}");
+        assert_eq!(rt; scene.status(&rt, &["run", "S"])?, status, "{fail}");
         let printed: &[u8] = if status == 0 { b"-5" } else { b"" };
         assert!(rt; scene.print.bytes() == printed, "{fail}");
     }
     let mut scene = Scene::new(alloc, one(alloc, "S.m2o", SUM)?)?;
     scene.keys = MemSource::new(b"4 -9 xyz".to_vec(alloc)?, Vec::new(alloc));
-    assert_eq!(rt; scene.status(alloc, &["run", "S"])?, 0);
+    assert_eq!(rt; scene.status(&rt, &["run", "S"])?, 0);
     let mut left = *b"----";
     assert_eq!(rt; scene.keys.read(&mut left), Ok(2));
     assert!(rt; left == *b"yz--");
@@ -245,7 +262,7 @@ fn prints_a_front_before_each_fault(rt: HostRuntime) -> Result<(), Fail> {
         let mut scene = Scene::new(alloc, BTreeMap::new(alloc))?;
         let fail = u32::try_from(count).map_or(0, |fail| fail.saturating_add(1));
         scene.print = MemSink::new(alloc, [fail].to_vec(alloc)?, 1, 1000)?;
-        assert_eq!(rt; scene.status(alloc, &["run", "Z"])?, 5, "{count}");
+        assert_eq!(rt; scene.status(&rt, &["run", "Z"])?, 5, "{count}");
         assert!(rt; scene.print.bytes() == &line[..count], "{count}");
     }
     Ok(())
@@ -324,9 +341,13 @@ fn program(
 }
 
 /// What running A answers and prints.
-fn run_of(alloc: Global, files: BTreeMap<String, Vec<u8>>) -> Result<(u8, Vec<u8>), Fail> {
+fn run_of<R: AllocGlobal + Threads + Wait + Sync>(
+    rt: &R,
+    files: BTreeMap<String, Vec<u8>>,
+) -> Result<(u8, Vec<u8>), Fail> {
+    let alloc = rt.alloc();
     let mut scene = Scene::new(alloc, files)?;
-    let status = scene.status(alloc, &["run", "A"])?;
+    let status = scene.status(rt, &["run", "A"])?;
     Ok((status, scene.print.bytes().to_vec(alloc)?))
 }
 
@@ -335,7 +356,7 @@ fn links_up_to_the_limit(rt: HostRuntime) -> Result<(), Fail> {
     let alloc = rt.alloc();
     for (count, wanted, line) in [(255, 0, ""), (256, 7, "limit objects 256\n")] {
         let imports = Imports { count, ..NONE };
-        let (status, printed) = run_of(alloc, program(alloc, imports, count)?)?;
+        let (status, printed) = run_of(&rt, program(alloc, imports, count)?)?;
         assert_eq!(rt; status, wanted, "{count}");
         assert!(rt; printed.as_slice() == line.as_bytes(), "{count}");
     }
@@ -347,18 +368,18 @@ fn links_what_fits(rt: HostRuntime) -> Result<(), Fail> {
     let alloc = rt.alloc();
     let one_import = Imports { count: 1, ..NONE };
     // A module of which nothing is needed may lack.
-    let (status, _) = run_of(alloc, program(alloc, one_import, 0)?)?;
+    let (status, _) = run_of(&rt, program(alloc, one_import, 0)?)?;
     assert_eq!(rt; status, 0);
     // One that is needed isn't there.
     let needed = Imports {
         cells: 1,
         ..one_import
     };
-    let (status, printed) = run_of(alloc, program(alloc, needed, 0)?)?;
+    let (status, printed) = run_of(&rt, program(alloc, needed, 0)?)?;
     assert_eq!(rt; status, 8);
     assert!(rt; printed.as_slice() == b"link missing I0\n".as_slice());
     // It is there, and has no cell.
-    let (status, printed) = run_of(alloc, program(alloc, needed, 1)?)?;
+    let (status, printed) = run_of(&rt, program(alloc, needed, 1)?)?;
     assert_eq!(rt; status, 8);
     assert!(rt; printed.as_slice() == b"link key differs I0\n".as_slice());
     // Two modules import each other.
@@ -373,12 +394,12 @@ fn links_what_fits(rt: HostRuntime) -> Result<(), Fail> {
         },
     )?;
     add(alloc, &mut files, "I1", one_import)?;
-    let (status, _) = run_of(alloc, files)?;
+    let (status, _) = run_of(&rt, files)?;
     assert_eq!(rt; status, 0);
     // The main module's object lies under another name once more.
     let mut files = program(alloc, one_import, 0)?;
     files.insert(String::from_str(alloc, "I0.m2o")?, EMPTY.to_vec(alloc)?)?;
-    let (status, printed) = run_of(alloc, files)?;
+    let (status, printed) = run_of(&rt, files)?;
     assert_eq!(rt; status, 8);
     assert!(rt; printed.as_slice() == b"link twice A\n".as_slice());
     Ok(())

@@ -1,12 +1,17 @@
--- A word is one of these at most: `--`, an option, an option with its value, a name.
-use Rattle.std.proofs.Common.{◌≡◌, ℕ, true, List, [], ◌∷◌, ◌++◌, refl, sym, ◌∙◌, ap, subst, arith, drop, get_or}
-use Rattle.std.proofs.lemmas.Bool.{false≢true}
-use Rattle.std.specs.Prelude.{codes}
+-- A word is one of these at most: `--`, an option, an option with its value, an operand.
+use Rattle.std.proofs.Common.{◌≡◌, ℕ, true, ◌||◌, List, Option, Some, None, length, [], ◌∷◌, ◌++◌, refl, sym, ◌∙◌, ap, subst, arith, drop, get_or}
+use Rattle.std.proofs.lemmas.Bool.{and_parts, false≢true}
+use Rattle.std.specs.Prelude.{◌&&◌, codes, is_some, nat_le}
+use Rattle.std.specs.List.{list_all}
+use Rattle.m2_base.specs.Letters.{is_digit}
 use Rattle.command_words.specs.Names.{is_name}
-use Rattle.command_words.specs.Parts.{IsName}
+use Rattle.command_words.specs.Numerals.{is_numeral}
+use Rattle.command_words.specs.Operands.{is_operand, procedures_in}
+use Rattle.command_words.specs.Parts.{IsOperand}
 use Rattle.command_words.specs.Settings.{spelling}
 use Rattle.command_words.specs.declared.setting.Setting.{Setting}
 use Rattle.command_words.specs.declared.setting.Setting.TheVariants.{Workers, Steps, Cells}
+use Rattle.command_words.proofs.Values.{valued}
 
 -- options differ at the first letter, which is the third byte
 letter : Setting → ℕ
@@ -83,17 +88,27 @@ one_joined s t v u e =
     let same : s ≡ t = one_letter s t (sym (joined_third s v) ∙ ap third e ∙ joined_third t u) in
     (same, same_joined s v u (subst (λ x. spelling s ++ 61 ∷ v ≡ spelling x ++ 61 ∷ u) (sym same) e))
 
-not_named : (word : List ℕ) → is_name (45 ∷ word) ≡ true → ⊥
-not_named word h = false≢true h
+not_numeral : (word : List ℕ) → is_numeral (45 ∷ word) ≡ true → ⊥
+not_numeral word h = false≢true (and_parts (nat_le 1 (length (45 ∷ word)) && nat_le (length (45 ∷ word)) 10) (list_all is_digit (45 ∷ word)) h).1
+
+not_operand : (word : List ℕ) → is_operand (45 ∷ word) ≡ true → ⊥
+not_operand word h = go (procedures_in (45 ∷ word)) refl
+  where
+    go : (o : Option ℕ) → procedures_in (45 ∷ word) ≡ o → ⊥
+    go None is = false≢true (sym (ap (λ o. is_name (45 ∷ word) || is_some o) is) ∙ h)
+    go (Some n) is = not_numeral word (valued 16384 (45 ∷ word) n is).numeral
 
 hyphen : List ℕ → ℕ
 hyphen word = get_or word 0 0
 
--- no name begins with a hyphen
-no_hyphen : (word : List ℕ) → IsName word → hyphen word ≡ 45 → ⊥
+-- no operand begins with a hyphen
+pub no_hyphen : (b : ℕ) (bs : List ℕ) → IsOperand (b ∷ bs) → b ≡ 45 → ⊥
+no_hyphen b bs h e = not_operand bs (subst (λ x. is_operand (x ∷ bs) ≡ true) e h)
+
+starts_other : (word : List ℕ) → IsOperand word → hyphen word ≡ 45 → ⊥
 unfolding hyphen
-no_hyphen [] h e = absurd (omega (arith, e))
-no_hyphen (b ∷ bs) h e = not_named bs (subst (λ x. is_name (x ∷ bs) ≡ true) e h)
+starts_other [] h e = absurd (omega (arith, e))
+starts_other (b ∷ bs) h e = not_operand bs (subst (λ x. is_operand (x ∷ bs) ≡ true) e h)
 
 spaced_hyphen : (s : Setting) → hyphen (spelling s) ≡ 45
 unfolding hyphen
@@ -111,11 +126,11 @@ mark_hyphen : hyphen (codes "--") ≡ 45
 unfolding hyphen
 mark_hyphen = refl
 
-pub named_mark : (word : List ℕ) → IsName word → word ≡ codes "--" → ⊥
-named_mark word h e = no_hyphen word h (ap hyphen e ∙ mark_hyphen)
+pub named_mark : (word : List ℕ) → IsOperand word → word ≡ codes "--" → ⊥
+named_mark word h e = starts_other word h (ap hyphen e ∙ mark_hyphen)
 
-pub named_spaced : (word : List ℕ) (s : Setting) → IsName word → word ≡ spelling s → ⊥
-named_spaced word s h e = no_hyphen word h (ap hyphen e ∙ spaced_hyphen s)
+pub named_spaced : (word : List ℕ) (s : Setting) → IsOperand word → word ≡ spelling s → ⊥
+named_spaced word s h e = starts_other word h (ap hyphen e ∙ spaced_hyphen s)
 
-pub named_joined : (word : List ℕ) (s : Setting) (v : List ℕ) → IsName word → word ≡ spelling s ++ 61 ∷ v → ⊥
-named_joined word s v h e = no_hyphen word h (ap hyphen e ∙ joined_hyphen s v)
+pub named_joined : (word : List ℕ) (s : Setting) (v : List ℕ) → IsOperand word → word ≡ spelling s ++ 61 ∷ v → ⊥
+named_joined word s v h e = starts_other word h (ap hyphen e ∙ joined_hyphen s v)

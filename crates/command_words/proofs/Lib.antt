@@ -1,9 +1,15 @@
+pub mod Answering
 pub mod Apart
 pub mod Asked
-pub mod Continuing
+pub mod Finding
+pub mod Found
+pub mod Lookups
 pub mod Making
 pub mod OneCommand
 pub mod Reading
-pub mod Slices
+pub mod Rows
 pub mod Taking
+pub mod Turns
 pub mod Values
+pub mod Verbs
+pub mod Walks

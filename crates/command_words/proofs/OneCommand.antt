@@ -1,12 +1,14 @@
 -- Words ask for one command.
 use Rattle.std.proofs.Common.{◌≡◌, ℕ, List, [], ◌∷◌, ◌++◌, map, Some, refl, sym, ◌∙◌, ap, subst}
 use Rattle.std.specs.Prelude.{codes, unwrap_or}
-use Rattle.command_words.specs.Command.{Asks, Command, Makes, behind_verb, compile, dump, run, to_compile, to_dump, to_run}
-use Rattle.command_words.specs.Parts.{Adds, Given, Part, Spells, a_name, a_value, over, named, spaced, joined, marked, nothing, with_parts}
+use Rattle.command_words.specs.Command.{Asks, Command, Makes, behind_verb, big, compile, dump, run, to_big, to_compile, to_dump, to_run}
+use Rattle.command_words.specs.Operands.{procedures_in}
+use Rattle.command_words.specs.Parts.{Adds, Given, Part, Spells, an_operand, a_value, over, named, spaced, joined, marked, nothing, with_parts}
 use Rattle.command_words.specs.Settings.{spelling, standard, value_in}
 use Rattle.command_words.specs.declared.setting.Setting.TheVariants.{Workers, Steps, Cells}
 use Rattle.command_words.proofs.Apart.{mark_joined, mark_spaced, named_joined, named_mark, named_spaced, one_joined, one_spaced, spaced_joined}
-use Rattle.command_words.proofs.Taking.{Begins, begins_here, by_joined, by_mark, by_name, by_spaced, nothing_spelled}
+use Rattle.command_words.proofs.Verbs.{no_compile_big, no_compile_dump, no_compile_run, no_dump_big, no_run_big, no_run_dump}
+use Rattle.command_words.proofs.Taking.{Begins, begins_here, by_joined, by_mark, by_operand, by_spaced, nothing_spelled}
 
 some_value : (n m : ℕ) → Some n ≡ Some m → n ≡ m
 some_value n m e = cc
@@ -16,15 +18,15 @@ pub one_spelling : (words : List (List ℕ)) (these those : List Part) → Spell
 one_spelling words these those over h = sym (nothing_spelled [] those refl h)
 one_spelling words these those (named word words' parts is spelled) h = go (λ rest other. one_spelling words' parts rest spelled other) those (begins_here those word words' h)
   where
-    go : ((rest : List Part) → Spells words' rest → parts ≡ rest) → (those : List Part) → Begins word words' those → a_name word ∷ parts ≡ those
-    go same_rest those (by_name rest k other e) = ap (λ x. a_name word ∷ x) (same_rest rest other) ∙ sym e
+    go : ((rest : List Part) → Spells words' rest → parts ≡ rest) → (those : List Part) → Begins word words' those → an_operand word ∷ parts ≡ those
+    go same_rest those (by_operand rest k other e) = ap (λ x. an_operand word ∷ x) (same_rest rest other) ∙ sym e
     go same_rest those (by_spaced t u m behind rest f g k l e) = absurd (named_spaced word t is f)
     go same_rest those (by_joined t u m rest f g k e) = absurd (named_joined word t u is f)
     go same_rest those (by_mark f g e) = absurd (named_mark word is f)
 one_spelling words these those (spaced s v n words' parts is spelled) h = go (λ rest other. one_spelling words' parts rest spelled other) those (begins_here those (spelling s) (v ∷ words') h)
   where
     go : ((rest : List Part) → Spells words' rest → parts ≡ rest) → (those : List Part) → Begins (spelling s) (v ∷ words') those → a_value s n ∷ parts ≡ those
-    go same_rest those (by_name rest k other e) = absurd (named_spaced (spelling s) s k refl)
+    go same_rest those (by_operand rest k other e) = absurd (named_spaced (spelling s) s k refl)
     go same_rest those (by_spaced t u m behind rest f g k l e) =
         let same : s ≡ t = one_spaced s t f in
         let text : v ≡ u = cc in
@@ -36,7 +38,7 @@ one_spelling words these those (spaced s v n words' parts is spelled) h = go (λ
 one_spelling words these those (joined s v n words' parts is spelled) h = go (λ rest other. one_spelling words' parts rest spelled other) those (begins_here those (spelling s ++ 61 ∷ v) words' h)
   where
     go : ((rest : List Part) → Spells words' rest → parts ≡ rest) → (those : List Part) → Begins (spelling s ++ 61 ∷ v) words' those → a_value s n ∷ parts ≡ those
-    go same_rest those (by_name rest k other e) = absurd (named_joined (spelling s ++ 61 ∷ v) s v k refl)
+    go same_rest those (by_operand rest k other e) = absurd (named_joined (spelling s ++ 61 ∷ v) s v k refl)
     go same_rest those (by_spaced t u m behind rest f g k l e) = absurd (spaced_joined t s v (sym f))
     go same_rest those (by_joined t u m rest f g k e) =
         let same = one_joined s t v u f in
@@ -45,8 +47,8 @@ one_spelling words these those (joined s v n words' parts is spelled) h = go (λ
     go same_rest those (by_mark f g e) = absurd (mark_joined s v (sym f))
 one_spelling words these those (marked words' each) h = go those (begins_here those (codes "--") words' h)
   where
-    go : (those : List Part) → Begins (codes "--") words' those → map a_name words' ≡ those
-    go those (by_name rest k other e) = absurd (named_mark (codes "--") k refl)
+    go : (those : List Part) → Begins (codes "--") words' those → map an_operand words' ≡ those
+    go those (by_operand rest k other e) = absurd (named_mark (codes "--") k refl)
     go those (by_spaced t u m behind rest f g k l e) = absurd (mark_spaced t f)
     go those (by_joined t u m rest f g k e) = absurd (mark_joined t u f)
     go those (by_mark f g e) = sym e
@@ -67,32 +69,41 @@ steps_of g = unwrap_or g.steps (standard Steps)
 abbrev cells_of : Given → ℕ
 cells_of g = unwrap_or g.cells (standard Cells)
 
-abbrev name_of : Given → List ℕ
-name_of g = unwrap_or g.name []
+abbrev operand_of : Given → List ℕ
+operand_of g = unwrap_or g.operand []
+
+abbrev procedures_of : Given → ℕ
+procedures_of g = unwrap_or (procedures_in (operand_of g)) 0
 
 data As (verb : List ℕ) (g : Given) (c : Command) : Type 0 where
-  as_compile : verb ≡ codes "compile" → c ≡ compile (name_of g) (workers_of g) → As verb g c
-  as_run : verb ≡ codes "run" → c ≡ run (name_of g) (steps_of g) (cells_of g) → As verb g c
-  as_dump : verb ≡ codes "dump" → c ≡ dump (name_of g) → As verb g c
+  as_compile : verb ≡ codes "compile" → c ≡ compile (operand_of g) (workers_of g) → As verb g c
+  as_run : verb ≡ codes "run" → c ≡ run (operand_of g) (steps_of g) (cells_of g) → As verb g c
+  as_dump : verb ≡ codes "dump" → c ≡ dump (operand_of g) → As verb g c
+  as_big : verb ≡ codes "big" → c ≡ big (procedures_of g) (workers_of g) → As verb g c
 
 as_made : (verb : List ℕ) (g : Given) (c : Command) → Makes verb g c → As verb g c
-as_made verb g c (to_compile name workers) = as_compile refl refl
-as_made verb g c (to_run name steps cells) = as_run refl refl
-as_made verb g c (to_dump name) = as_dump refl refl
-
-other_verbs : (codes "compile" ≡ codes "run" → ⊥) × (codes "compile" ≡ codes "dump" → ⊥) × (codes "run" ≡ codes "dump" → ⊥)
-other_verbs = (λ e. cc, λ e. cc, λ e. cc)
+as_made verb g c (to_compile name workers is) = as_compile refl refl
+as_made verb g c (to_run name steps cells is) = as_run refl refl
+as_made verb g c (to_dump name is) = as_dump refl refl
+as_made verb g c (to_big word procedures workers is) = as_big refl (ap (λ o. big (unwrap_or o 0) (unwrap_or workers (standard Workers))) (sym is))
 
 one_made : (verb : List ℕ) (g : Given) (this other : Command) → As verb g this → As verb g other → this ≡ other
 one_made verb g this other (as_compile v c) (as_compile w d) = c ∙ sym d
-one_made verb g this other (as_compile v c) (as_run w d) = absurd (other_verbs.0 (sym v ∙ w))
-one_made verb g this other (as_compile v c) (as_dump w d) = absurd (other_verbs.1 (sym v ∙ w))
-one_made verb g this other (as_run v c) (as_compile w d) = absurd (other_verbs.0 (sym w ∙ v))
+one_made verb g this other (as_compile v c) (as_run w d) = absurd (no_compile_run verb v w)
+one_made verb g this other (as_compile v c) (as_dump w d) = absurd (no_compile_dump verb v w)
+one_made verb g this other (as_compile v c) (as_big w d) = absurd (no_compile_big verb v w)
+one_made verb g this other (as_run v c) (as_compile w d) = absurd (no_compile_run verb w v)
 one_made verb g this other (as_run v c) (as_run w d) = c ∙ sym d
-one_made verb g this other (as_run v c) (as_dump w d) = absurd (other_verbs.2 (sym v ∙ w))
-one_made verb g this other (as_dump v c) (as_compile w d) = absurd (other_verbs.1 (sym w ∙ v))
-one_made verb g this other (as_dump v c) (as_run w d) = absurd (other_verbs.2 (sym w ∙ v))
+one_made verb g this other (as_run v c) (as_dump w d) = absurd (no_run_dump verb v w)
+one_made verb g this other (as_run v c) (as_big w d) = absurd (no_run_big verb v w)
+one_made verb g this other (as_dump v c) (as_compile w d) = absurd (no_compile_dump verb w v)
+one_made verb g this other (as_dump v c) (as_run w d) = absurd (no_run_dump verb w v)
 one_made verb g this other (as_dump v c) (as_dump w d) = c ∙ sym d
+one_made verb g this other (as_dump v c) (as_big w d) = absurd (no_dump_big verb v w)
+one_made verb g this other (as_big v c) (as_compile w d) = absurd (no_compile_big verb w v)
+one_made verb g this other (as_big v c) (as_run w d) = absurd (no_run_big verb w v)
+one_made verb g this other (as_big v c) (as_dump w d) = absurd (no_dump_big verb w v)
+one_made verb g this other (as_big v c) (as_big w d) = c ∙ sym d
 
 pub one_command_lem : (words : List (List ℕ)) (this other : Command) → Asks words this → Asks words other → this ≡ other
 one_command_lem words this other (behind_verb verb behind given command gives makes) h = go (verb ∷ behind) other refl h

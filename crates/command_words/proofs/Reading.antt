@@ -1,33 +1,58 @@
--- What reading some words comes to, from one step to the next.
-use Rattle.std.proofs.Common.{◌≡◌, ℕ, List, [], ◌∷◌, Option, Some, None, MatchOption, refl, sym, subst}
-use Rattle.std.specs.Prelude.{option_map}
+-- What clap's answer says of the words.
+use Rattle.std.proofs.Common.{◌≡◌, ℕ, true, List, [], ◌∷◌, Option, Some, None, MatchOption, inl, inr, refl, sym, subst, ◌∙◌, ap}
+use Rattle.clap.specs.Faults.{fault_of, is_simple_and_free}
+use Rattle.clap.specs.Kinds.{HasKind, IsAmong, Kinds}
+use Rattle.clap.specs.Simple.{App, is_simple, matches_of}
+use Rattle.clap.specs.Values.{kind_of}
+use Rattle.clap.specs.Walk.{Row}
+use Rattle.clap.specs.declared.error.Error.{Error}
+use Rattle.clap.specs.declared.error.kind.ErrorKind.TheVariants.{OutOfMemory}
+use Rattle.command_words.specs.Asking.{Finds, FindsNone, app_for}
 use Rattle.command_words.specs.Command.{Asks, IsNoCommand, Makes, MakesNone, command_of}
-use Rattle.command_words.specs.Parts.{Adds, Given, nothing, over}
-use Rattle.command_words.specs.Words.{AddsNone, Carries, Continues, given_of}
+use Rattle.command_words.specs.Parts.{Adds, Given, nothing}
+use Rattle.command_words.specs.Verbs.{settings_of}
+use Rattle.command_words.specs.Words.{GivesNone, HasSettings, given_of}
 use Rattle.command_words.specs.declared.command.Command.{Command as HeldCommand}
 use Rattle.command_words.specs.declared.given.Given.{Given as HeldGiven}
+use Rattle.command_words.specs.declared.verb.Verb.{Verb}
+use Rattle.command_words.specs.declared.verb.Verb.TheVariants as verbs
+use Rattle.command_words.proofs.Answering.{given_is_taken, taken_is_given}
+use Rattle.command_words.proofs.Lookups.{among_in}
 use Rattle.command_words.proofs.Making.{asked, asks_made}
 use Rattle.command_words.proofs.OneCommand.{one_given}
 
-pub carries_all : (before : Given) (words : List (List ℕ)) → Carries before words before words
-carries_all before words = record { to = λ given adds. adds; from = λ given adds. adds }
+-- clap's contract is exact for the command of each verb
+pub is_exact : (v : Verb) → (is_simple_and_free (app_for (settings_of v)) ≡ true) × (is_simple (app_for (settings_of v)) ≡ true)
+is_exact verbs.Compile = (refl, refl)
+is_exact verbs.Run = (refl, refl)
+is_exact verbs.Dump = (refl, refl)
+is_exact verbs.Big = (refl, refl)
 
-module _ (before : Given) (all : List (List ℕ)) (given : Given) (rest : List (List ℕ)) (carries : Carries before all given rest) where
-  pub carries_on : (r : Option HeldGiven) (more : HeldGiven) (left : List (List ℕ)) → Continues given rest (option_map given_of r) left → r ≡ Some more → Carries before all (given_of more) left
-  carries_on r more left continues e =
-      let next : Carries given rest (given_of more) left = subst (λ o. Continues given rest (option_map given_of o) left) e continues in
-      record {
-        to = λ g adds. carries.to g (next.to g adds);
-        from = λ g adds. next.from g (carries.from g adds);
-      }
+module _ (v : Verb) (words : List (List ℕ)) (a : App) (is : a ≡ app_for (settings_of v)) where
+  simple_and_free : is_simple_and_free a ≡ true
+  simple_and_free = ap is_simple_and_free is ∙ (is_exact v).0
 
-  pub carries_none : (r : Option HeldGiven) (left : List (List ℕ)) → Continues given rest (option_map given_of r) left → r ≡ None → AddsNone before all
-  carries_none r left continues e g adds =
-      let none : AddsNone given rest = subst (λ o. Continues given rest (option_map given_of o) left) e continues in
-      none g (carries.from g adds)
+  simple : is_simple a ≡ true
+  simple = ap is_simple is ∙ (is_exact v).1
 
-  pub carried : rest ≡ [] → Adds before all given
-  carried e = carries.to given (subst (λ ws. Adds given ws given) (sym e) (record { parts = []; spelled = over; once = refl }))
+  taken : (given : Given) → HasSettings (settings_of v) given → Adds nothing words given → (fault_of a words ≡ []) × Finds (matches_of a words) given
+  taken given has adds =
+      subst (λ x. (fault_of x words ≡ []) × Finds (matches_of x words) given) (sym is) (given_is_taken (settings_of v) words given adds (λ s n e. among_in (settings_of v) s (has s n e)))
+
+  -- where clap takes them
+  pub taken_reads : (rows : List Row) (r : Option HeldGiven) → (is_simple_and_free a ≡ true → fault_of a words ≡ []) → (is_simple a ≡ true → rows ≡ matches_of a words) → MatchOption r (FindsNone rows) (λ given. Finds rows (given_of given))
+      → MatchOption r (GivesNone v words) (λ given. Adds nothing words (given_of given))
+  taken_reads rows None none same h = λ given has adds. h given (subst (λ r. Finds r given) (sym (same simple)) (taken given has adds).1)
+  taken_reads rows (Some given) none same h =
+      taken_is_given (settings_of v) words (given_of given) (ap (λ x. fault_of x words) (sym is) ∙ none simple_and_free) (subst (λ r. Finds r (given_of given)) (same simple ∙ ap (λ x. matches_of x words) is) h)
+
+  none_among : (k : Kinds) (e : Error) → k ≡ [] → (kind_of e ≡ OutOfMemory → ⊥) → HasKind k e → ⊥
+  none_among k e none other (inl memory) = other memory
+  none_among k e none other (inr among) = subst (IsAmong (kind_of e)) none among
+
+  -- where it refuses them
+  pub refused_reads : (e : Error) → (is_simple_and_free a ≡ true → HasKind (fault_of a words) e) → (kind_of e ≡ OutOfMemory → ⊥) → GivesNone v words
+  refused_reads e kinds other given has adds = none_among (fault_of a words) e (taken given has adds).0 other (kinds simple_and_free)
 
 -- a verb's command is the words' command
 pub made_asks : (all : List (List ℕ)) (verb : List ℕ) (words : List (List ℕ)) (given : Given) (r : Option HeldCommand) → all ≡ verb ∷ words → Adds nothing words given

@@ -1,5 +1,9 @@
+pub mod Asking
 pub mod Command
 pub mod Names
+pub mod Numerals
+pub mod Operands
 pub mod Parts
 pub mod Settings
+pub mod Verbs
 pub mod Words

@@ -1,42 +1,42 @@
--- What stands behind a verb: a module's name, and options with their values.
+-- What stands behind a verb: what it is about, and options with their values.
 use Rattle.std.specs.Prelude.{◌≡◌, ℕ, List, [], ◌∷◌, ◌++◌, map, Option, Some, None, codes, IsTrue, if◌then◌else◌, is_some, option_and_then}
 use Rattle.m2_base.specs.Lists.{Each}
-use Rattle.command_words.specs.Names.{is_name}
+use Rattle.command_words.specs.Operands.{is_operand}
 use Rattle.command_words.specs.Settings.{spelling, value_in}
 use Rattle.command_words.specs.declared.setting.Setting.{Setting}
 use Rattle.command_words.specs.declared.setting.Setting.TheVariants.{Workers, Steps, Cells}
 
 pub data Part : Type 0 where
-  a_name : List ℕ → Part
+  an_operand : List ℕ → Part
   a_value : Setting → ℕ → Part
 
-abbrev pub IsName : List ℕ → Type 0
-IsName word = IsTrue (is_name word)
+abbrev pub IsOperand : List ℕ → Type 0
+IsOperand word = IsTrue (is_operand word)
 
 -- The words spell these parts.
 pub data Spells : List (List ℕ) → List Part → Type 0 where
   over : Spells [] []
-  named : (word : List ℕ) (words : List (List ℕ)) (parts : List Part) → IsName word → Spells words parts → Spells (word ∷ words) (a_name word ∷ parts)
+  named : (word : List ℕ) (words : List (List ℕ)) (parts : List Part) → IsOperand word → Spells words parts → Spells (word ∷ words) (an_operand word ∷ parts)
   -- an option's value is the next word
   spaced : (s : Setting) (word : List ℕ) (n : ℕ) (words : List (List ℕ)) (parts : List Part) → value_in s word ≡ Some n → Spells words parts → Spells (spelling s ∷ word ∷ words) (a_value s n ∷ parts)
   -- or it follows `=`
   joined : (s : Setting) (word : List ℕ) (n : ℕ) (words : List (List ℕ)) (parts : List Part) → value_in s word ≡ Some n → Spells words parts → Spells ((spelling s ++ 61 ∷ word) ∷ words) (a_value s n ∷ parts)
-  -- after `--` every word is a name
-  marked : (words : List (List ℕ)) → Each IsName words → Spells (codes "--" ∷ words) (map a_name words)
+  -- after `--` every word is an operand
+  marked : (words : List (List ℕ)) → Each IsOperand words → Spells (codes "--" ∷ words) (map an_operand words)
 
 -- what is given by some parts
 pub record Given : Type 0 where
-  pub name : Option (List ℕ)
+  pub operand : Option (List ℕ)
   pub workers : Option ℕ
   pub steps : Option ℕ
   pub cells : Option ℕ
 
 abbrev pub nothing : Given
-nothing = record { name = None; workers = None; steps = None; cells = None }
+nothing = record { operand = None; workers = None; steps = None; cells = None }
 
 -- one part more; each is given at most once
 abbrev pub with_part : Given → Part → Option Given
-with_part g (a_name word) = if is_some g.name then None else Some (record g { name = Some word })
+with_part g (an_operand word) = if is_some g.operand then None else Some (record g { operand = Some word })
 with_part g (a_value Workers n) = if is_some g.workers then None else Some (record g { workers = Some n })
 with_part g (a_value Steps n) = if is_some g.steps then None else Some (record g { steps = Some n })
 with_part g (a_value Cells n) = if is_some g.cells then None else Some (record g { cells = Some n })

@@ -1,8 +1,6 @@
 -- The options of the verbs, with how each is spelled and what its value may be.
-use Rattle.std.specs.Prelude.{ℕ, Bool, ◌&&◌, List, Option, Some, None, if◌then◌else◌, nat_le, length, codes}
-use Rattle.std.specs.List.{list_all}
-use Rattle.std.specs.Str.Parse.{digits_value}
-use Rattle.m2_base.specs.Letters.{is_digit}
+use Rattle.std.specs.Prelude.{ℕ, List, Option, codes}
+use Rattle.command_words.specs.Numerals.{value_to}
 use Rattle.command_words.specs.declared.setting.Setting.{Setting}
 use Rattle.command_words.specs.declared.setting.Setting.TheVariants.{Workers, Steps, Cells}
 
@@ -23,10 +21,6 @@ standard Workers = 4
 standard Steps = 10000000
 standard Cells = 1000000
 
--- 1 to 10 decimal digits
-abbrev pub is_numeral : List ℕ → Bool
-is_numeral word = nat_le 1 (length word) && nat_le (length word) 10 && list_all is_digit word
-
 -- the value that a word gives an option: a numeral within its range
 abbrev pub value_in : Setting → List ℕ → Option ℕ
-value_in s word = if is_numeral word && nat_le 1 (digits_value 10 word) && nat_le (digits_value 10 word) (most s) then Some (digits_value 10 word) else None
+value_in s word = value_to (most s) word

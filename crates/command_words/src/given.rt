@@ -1,108 +1,77 @@
 //! What is given behind a verb.
-ghost use Rattle.std.specs.Prelude.{◌≡◌, ◌∷◌, ◌<◌, [], codes, length, map, MatchOption, option_map, string_bytes};
+ghost use Rattle.std.specs.Prelude.{◌≡◌, IfOk, map, MatchOption, option_map, string_bytes};
+ghost use Rattle.clap.specs.Matches.{found_of};
+ghost use Rattle.clap.specs.Walk.{rows_of};
+ghost use Rattle.command_words.specs.Asking.{FindsNone, Finds, operand_found as spec_operand, value_found as spec_value};
 ghost use Rattle.command_words.specs.Parts.{Adds, nothing};
-ghost use Rattle.command_words.specs.Words.{AddsNone, Continues, given_of, with_name as spec_with_name, with_value as spec_with_value};
+ghost use Rattle.command_words.specs.Words.{GivesNone, given_of};
 
-use crate::name::is_name;
+use crate::asking::command_for;
+use crate::operand::is_operand;
 use crate::setting::{Setting, value_in};
-use crate::word::{Word, word_of};
+use crate::verb::Verb;
+use clap::ArgMatches;
+use clap::error::ErrorKind;
+use m2_base::Memory;
+use std::alloc::Global;
 
-/// A module's name, and values of options.
+/// What the verb is about, and values of options.
 #[derive(Clone, Copy, Debug, Drop)]
 pub struct Given<'a> {
-    pub name: Option<&'a str>,
+    pub operand: Option<&'a str>,
     pub workers: Option<u32>,
     pub steps: Option<u32>,
     pub cells: Option<u32>,
 }
 
-impl<'a> Given<'a> {
-    fn nothing() -> Self
-        ensures { given_of result ≡ nothing }
-    {
-        Given {
-            name: None,
-            workers: None,
-            steps: None,
-            cells: None,
-        }
-    }
-
-    /// With a word as the name too; `None` where it is none, or one was given before.
-    fn with_name(self, word: &'a str) -> Option<Self>
-        ensures { option_map given_of result ≡ spec_with_name (given_of self.entry) word.now }
-    {
-        if self.name.is_some() || !is_name(word.as_bytes()) {
-            return None;
-        }
-        Some(Given {
-            name: Some(word),
-            ..self
-        })
-    }
-
-    /// With a word as an option's value too; `None` where it is none, or one was given before.
-    fn with_value(self, setting: Setting, word: &str) -> Option<Self>
-        ensures { option_map given_of result ≡ spec_with_value (given_of self.entry) setting word.now }
-    {
-        let value = Some(value_in(setting, word)?);
-        match setting {
-            Setting::Workers if self.workers.is_none() => Some(Given {
-                workers: value,
-                ..self
-            }),
-            Setting::Steps if self.steps.is_none() => Some(Given {
-                steps: value,
-                ..self
-            }),
-            Setting::Cells if self.cells.is_none() => Some(Given {
-                cells: value,
-                ..self
-            }),
-            _ => None,
-        }
-    }
-
-    /// With the words behind `--` too, each of which is a name.
-    fn with_names(self, words: &'a [String]) -> Option<Self>
-        ensures { Continues (given_of self.entry) (codes "--" ∷ map string_bytes words.now) (option_map given_of result) [] }
-    {
-        match words {
-            [] => Some(self),
-            [word] => self.with_name(word.as_str()),
-            _ => None,
-        }
+/// The operand, by the word that was found; `None` where that is none.
+fn operand_found<'a>(found: Option<&'a str>) -> Option<Option<&'a str>>
+    ensures { option_map (option_map (λ word. word.now)) result ≡ spec_operand (option_map (λ word. word.now) found.entry) }
+{
+    match found {
+        Some(word) if is_operand(word) => Some(Some(word)),
+        Some(_) => None,
+        None => Some(None),
     }
 }
 
-/// What is given with the word in front and maybe more of them, and the words that are left; `None` where they can't stand there.
-fn step<'a>(given: Given<'a>, words: &'a [String]) -> (Option<Given<'a>>, &'a [String])
-    requires { 0 < length words.now }
-    ensures continues { Continues (given_of given.entry) (map string_bytes words.now) (option_map given_of result.0) (map string_bytes result.1.now) }
-    ensures shorter { length result.1.now < length words.now }
+/// An option's value, by the word that was found; `None` where that is none.
+fn value_found(setting: Setting, found: Option<&str>) -> Option<Option<u32>>
+    ensures { result ≡ spec_value setting (option_map (λ word. word.now) found.entry) }
 {
-    let (word, others) = (words[0].as_str(), &words[1..]);
-    match word_of(word) {
-        Word::Mark => (given.with_names(others), &[]),
-        Word::Joined(setting, value) => (given.with_value(setting, value), others),
-        Word::Spaced(setting) => match others {
-            [value, rest @ ..] => (given.with_value(setting, value.as_str()), rest),
-            [] => (None, others),
+    match found {
+        Some(word) => Some(Some(value_in(setting, word)?)),
+        None => Some(None),
+    }
+}
+
+/// What the words that were found give; `None` where one of them isn't what it has to be.
+fn given_in<'a>(matches: &ArgMatches<'a>) -> Option<Given<'a>>
+    ensures { MatchOption result (FindsNone (rows_of (found_of matches.now))) (λ given. Finds (rows_of (found_of matches.now)) (given_of given)) }
+{
+    let operand = operand_found(matches.get_str("NAME"))?;
+    let workers = value_found(Setting::Workers, matches.get_str("workers"))?;
+    let steps = value_found(Setting::Steps, matches.get_str("steps"))?;
+    let cells = value_found(Setting::Cells, matches.get_str("cells"))?;
+    Some(Given {
+        operand,
+        workers,
+        steps,
+        cells,
+    })
+}
+
+/// What the words behind a verb give; `None` where they give something twice, or aren't operands and options of the verb
+/// with their values.
+pub fn read<'a>(alloc: Global, verb: Verb, words: &'a [String]) -> Result<Option<Given<'a>>, Memory>
+    ensures { IfOk result (λ found. MatchOption found (GivesNone verb (map string_bytes words.now)) (λ given. Adds nothing (map string_bytes words.now) (given_of given))) }
+{
+    let command = command_for(alloc, verb)?;
+    match command.try_get_matches_from(words) {
+        Ok(matches) => Ok(given_in(&matches)),
+        Err(error) => match error.kind() {
+            ErrorKind::OutOfMemory => Err(Memory),
+            _ => Ok(None),
         },
-        Word::Other(name) => (given.with_name(name), others),
     }
-}
-
-/// What the words behind a verb give; `None` where they give something twice, or aren't names and options with their values.
-pub fn read(words: &[String]) -> Option<Given<'_>>
-    ensures { MatchOption result (AddsNone nothing (map string_bytes words.now)) (λ given. Adds nothing (map string_bytes words.now) (given_of given)) }
-{
-    let mut given = Given::nothing();
-    let mut rest = words;
-    while !rest.is_empty() {
-        let (more, left) = step(given, rest);
-        given = more?;
-        rest = left;
-    }
-    Some(given)
 }

@@ -1,10 +1,8 @@
 //! The options.
 ghost use Rattle.std.specs.Prelude.{◌≡◌};
-ghost use Rattle.std.specs.List.{list_all};
-ghost use Rattle.m2_base.specs.Letters.{is_digit as spec_digit};
-ghost use Rattle.command_words.specs.Settings.{is_numeral as spec_numeral, most as spec_most, value_in as spec_value};
+ghost use Rattle.command_words.specs.Settings.{most as spec_most, value_in as spec_value};
 
-use m2_base::is_digit;
+use crate::numeral::value_to;
 
 /// An option.
 #[derive(Clone, Copy, Debug, PartialEq, Eq)]
@@ -30,30 +28,9 @@ impl Setting {
     }
 }
 
-fn all_digits(word: &[u8]) -> bool
-    ensures { result ≡ list_all spec_digit word.now }
-{
-    word.iter().all(|byte| is_digit(*byte))
-}
-
-/// 1 to 10 decimal digits.
-fn is_numeral(word: &[u8]) -> bool
-    ensures { result ≡ spec_numeral word.now }
-{
-    !word.is_empty() && word.len() <= 10 && all_digits(word)
-}
-
 /// The value that a word gives an option.
 pub fn value_in(setting: Setting, word: &str) -> Option<u32>
     ensures { result ≡ spec_value setting word.now }
 {
-    if !is_numeral(word.as_bytes()) {
-        return None;
-    }
-    match word.parse::<u32>() {
-        Ok(value) if 1 <= value && value <= setting.most() => Some(value),
-        Ok(_) => None,
-        // It is greater than any.
-        Err(_) => None,
-    }
+    value_to(setting.most(), word)
 }

@@ -1,32 +1,30 @@
 -- Each diagnostic that stands in a listing has a line there.
-use Rattle.std.proofs.Common.{◌≡◌, ℕ, ◌+◌, ◌<◌, Bool, true, false, List, [], ◌∷◌, ◌++◌, Option, Some, None, length, length-append, map, refl, sym, ◌∙◌, ap, subst, arith, slice_get, append_assoc, if◌then◌else◌}
+use Rattle.std.proofs.Common.{◌≡◌, ℕ, ◌+◌, ◌<◌, Bool, true, false, List, [], ◌∷◌, ◌++◌, Option, Some, None, length, length-append, map, refl, sym, ◌∙◌, ap, subst, slice_get, append_assoc, if◌then◌else◌}
 use Rattle.std.proofs.lemmas.List.{length-map, map-append}
-use Rattle.ll_grammar.specs.Sentences.{Fault, Syntax, TooDeep}
 use Rattle.m2_io.specs.Files.{Files}
 use Rattle.std.specs.Prelude.{nat_eq, not}
-use Rattle.m2_base.specs.FaultsOf.{code_of, fault_in}
-use Rattle.m2_base.specs.Finished.{main_number}
 use Rattle.m2_base.specs.Lists.{Each}
-use Rattle.m2_base.specs.StatementsOf.{place}
 use Rattle.m2_base.specs.Statics.StandingTrees.{AreStandingNames, IsStandingOption}
-use Rattle.m2_base.specs.Units.{AreNumbered, IsText, IsUnit, TextOf, UnitTexts}
+use Rattle.m2_base.specs.Units.{IsUnit, TextOf, UnitTexts}
 use Rattle.m2_base.specs.declared.diagnostic.Diagnostic.TheVariants.{CircularImports, NoDefinitionText, OtherModuleName}
 use Rattle.m2_base.specs.declared.diagnostic.Diagnostic.{Diagnostic}
 use Rattle.m2_base.specs.declared.notes.Diag.{Diag}
-use Rattle.m2_base.specs.declared.outputs.StreamFault.{StreamFault}
-use Rattle.m2_base.specs.declared.outputs.StreamFault.TheVariants as faults
-use Rattle.m2_base.specs.declared.token.Token.{Token}
 use Rattle.m2_base.specs.declared.trees.Ident.{Ident}
 use Rattle.m2_base.proofs.Kept.{Each-append}
 use Rattle.m2_lex.proofs.TextUnit.{text_listed}
+use Rattle.def_import.specs.Answers.{IsWhole}
 use Rattle.def_import.specs.Closure.{Found, Progress, own_name}
 use Rattle.def_import.specs.Dependencies.{dependency_order}
 use Rattle.def_import.specs.Outcomes.{IsGatheredFrom, IsRead, Reaches, begun, is_there, main_read, not_there, then_asks}
 use Rattle.def_import.specs.Wrongs.{is_circular, is_missing, missing_imports, no_own, wrong_at, wrong_name, wrongs_from, wrongs_in}
-use Rattle.unit_merge.specs.Outcome.{refusals}
-use Rattle.unit_merge.specs.TextFaults.{AreFaults, AreFaultsFrom, IsFaultOfText, IsFirstIn}
+use Rattle.unit_merge.specs.Outcome.{diagnostics}
+use Rattle.unit_outcome.specs.Outcomes.{ComesTo}
+use Rattle.unit_outcome.specs.Tokens.{IsAtToken}
+use Rattle.compile_command.specs.Decisions.{Decides, DecidesUnit, has_diagnostics, has_no_text, has_wrong_imports, is_compiled, is_nested_too_deep, of_unit, passes_procedures, passes_texts}
 use Rattle.compile_command.specs.Lines.{HasLine}
-use Rattle.compile_command.proofs.StandingFronts.{IsStandingFront, each_behind, front_stands, tokens_below}
+use Rattle.compile_command.specs.Verdicts.{Decision, listed}
+use Rattle.compile_command.proofs.GatheredUnits.{is_whole}
+use Rattle.compile_command.proofs.StandingFronts.{IsStandingFront, front_stands, tokens_below}
 
 -- the text at a place of a list
 at_place : {A : Type 0} (before : List A) (x : A) (behind : List A) → slice_get (before ++ x ∷ behind) (length before) ≡ Some x
@@ -110,49 +108,33 @@ wrong_imports_lined holds name unit wrongs g =
     let texts : unit.list ≡ map (λ (f : Found). f.text) p.found = ap (λ (u : UnitTexts). u.list) g.gathered.texts in
     subst (λ (ds : List Diag). Each (HasLine unit) ds) (sym g.gathered.wrong) (all_lines unit p texts [] p.found refl (reached_listed holds name g.main p g.gathered.reached))
 
--- ** First faults
+-- ** What is listed
 
-fault_place : (k : ℕ) (diag : Diag) (fault : Fault) (rest : List Token) → faults.Syntax diag ≡ fault_in k fault rest → (diag.text ≡ k) × (diag.at ≡ place rest)
-fault_place k diag Syntax rest e =
-    let same : diag ≡ record { text = k; at = place rest; code = code_of rest } = cc in (ap (λ (d : Diag). d.text) same, ap (λ (d : Diag). d.at) same)
-fault_place k diag TooDeep rest e = absurd cc
+wrong_is : (holds : Option Files) (name : List ℕ) (unit texts : UnitTexts) (wrongs diags : List Diag) → IsGatheredFrom holds name unit wrongs → listed unit wrongs ≡ listed texts diags → Each (HasLine texts) diags
+wrong_is holds name unit texts wrongs diags g e =
+    let same : unit ≡ texts = cc in
+    let all : wrongs ≡ diags = cc in
+    subst (λ (u : UnitTexts). Each (HasLine u) diags) same (subst (λ (ds : List Diag). Each (HasLine unit) ds) all (wrong_imports_lined holds name unit wrongs g))
 
-place_below : (n : ℕ) (rest : List Token) → 0 < n → Each (λ (t : Token). t.at < n) rest → place rest < n
-place_below n [] some h = some
-place_below n (t ∷ rest) some h = h.0
+-- the law on the diagnostics of units
+abbrev pub StandInTexts : Type 0
+StandInTexts = (texts : UnitTexts) (diags : List Diag) → IsUnit texts → IsWhole texts → ComesTo texts (diagnostics diags) → Each (IsAtToken texts) diags
 
-some_tokens : (ts : List Token) → AreNumbered 0 ts → 0 < length ts
-some_tokens [] h = absurd h
-some_tokens (t ∷ ts) h = omega arith
+unit_is : (unit texts : UnitTexts) (diags : List Diag) (d : Decision) → StandInTexts → IsUnit unit → IsWhole unit → DecidesUnit unit d → d ≡ listed texts diags → Each (HasLine texts) diags
+unit_is unit texts diags _ law is whole (passes_procedures limit at) e = absurd cc
+unit_is unit texts diags _ law is whole (is_nested_too_deep text at c) e = absurd cc
+unit_is unit texts diags _ law is whole (has_diagnostics noted c) e =
+    let same : unit ≡ texts = cc in
+    let all : noted ≡ diags = cc in
+    subst (λ (u : UnitTexts). Each (HasLine u) diags) same (subst (λ (ds : List Diag). Each (HasLine unit) ds) all (law unit noted is whole c.comes))
+unit_is unit texts diags _ law is whole (is_compiled contents c) e = absurd cc
 
-module _ (u : UnitTexts) where
-  first_line : (k : ℕ) (definition : Bool) (t : TextOf) (diag : Diag) → slice_get u.list k ≡ Some t → AreNumbered 0 t.tokens → IsFirstIn k definition t (faults.Syntax diag) → HasLine u diag
-  first_line k true t diag there numbered h =
-      let n = length t.tokens in
-      let at = fault_place k diag h.fault h.rest h.told in
-      let behind = each_behind (λ (x : Token). x.at < n) h.faulty.before h.rest (subst (λ (l : List Token). Each (λ (x : Token). x.at < n) l) h.faulty.is (tokens_below t.tokens numbered)) in
-      (t, ap (slice_get u.list) at.0 ∙ there, subst (λ (x : ℕ). x < n) (sym at.1) (place_below n h.rest (some_tokens t.tokens numbered) behind))
-  first_line k false t diag there numbered h =
-      let n = length t.tokens in
-      let at = fault_place k diag h.fault h.rest h.told in
-      let behind = each_behind (λ (x : Token). x.at < n) h.faulty.before h.rest (subst (λ (l : List Token). Each (λ (x : Token). x.at < n) l) h.faulty.is (tokens_below t.tokens numbered)) in
-      (t, ap (slice_get u.list) at.0 ∙ there, subst (λ (x : ℕ). x < n) (sym at.1) (place_below n h.rest (some_tokens t.tokens numbered) behind))
+listed_is : (holds : Option Files) (name : List ℕ) (texts : UnitTexts) (diags : List Diag) (d : Decision) → StandInTexts → Decides holds name d → d ≡ listed texts diags → Each (HasLine texts) diags
+listed_is holds name texts diags _ law (has_no_text has) e = absurd cc
+listed_is holds name texts diags _ law (passes_texts limit s) e = absurd cc
+listed_is holds name texts diags _ law (has_wrong_imports unit wrongs g some) e = wrong_is holds name unit texts wrongs diags g e
+listed_is holds name texts diags d law (of_unit {unit = unit} h decides) e =
+    unit_is unit texts diags d law h.is (is_whole holds name h.gathered.main unit h.gathered.gathered h.is) decides e
 
-  refusal_lines : (m : ℕ) (before behind : List TextOf) (fs : List (Option StreamFault)) → u.list ≡ before ++ behind → Each (IsText u.names) behind → AreFaultsFrom m (length before) behind fs → Each (HasLine u) (refusals fs)
-  refusal_lines m before [] [] e texts h = tt
-  refusal_lines m before [] (f ∷ fs) e texts h = absurd h
-  refusal_lines m before (t ∷ behind) [] e texts h = absurd h
-  refusal_lines m before (t ∷ behind) (f ∷ fs) e texts h = by f h.0
-      (refusal_lines m (before ++ t ∷ []) behind fs (e ∙ sym (append_assoc before (t ∷ []) behind)) texts.1
-      (subst (λ (k : ℕ). AreFaultsFrom m k behind fs) (sym (length-append before (t ∷ []))) h.1))
-    where
-      there : slice_get u.list (length before) ≡ Some t
-      there = ap (λ (l : List TextOf). slice_get l (length before)) e ∙ at_place before t behind
-
-      by : (o : Option StreamFault) → IsFaultOfText m (length before) t o → Each (HasLine u) (refusals fs) → Each (HasLine u) (refusals (o ∷ fs))
-      by None is rest = rest
-      by (Some (faults.TooDeep text at)) is rest = rest
-      by (Some (faults.Syntax diag)) is rest = (first_line (length before) t.definition t diag there texts.0.numbered is, rest)
-
-pub refusals_lined : (unit : UnitTexts) (fs : List (Option StreamFault)) → IsUnit unit → AreFaults unit fs → Each (HasLine unit) (refusals fs)
-refusals_lined unit fs is are = refusal_lines unit (main_number unit) [] unit.list fs refl is.texts are
+pub all_lined : StandInTexts → (holds : Option Files) (name : List ℕ) (texts : UnitTexts) (diags : List Diag) → Decides holds name (listed texts diags) → Each (HasLine texts) diags
+all_lined law holds name texts diags h = listed_is holds name texts diags (listed texts diags) law h refl

@@ -7,3 +7,7 @@ pub mod Leaving
 pub mod StandingFronts
 pub mod HaveLines
 pub mod Answering
+pub mod OneSummary
+pub mod Tellings
+pub mod Summing
+pub mod Sizes

@@ -47,6 +47,19 @@ some_limit a b e = cc
 no_limit : (o : Option BlockLimit) (a : BlockLimit) → o ≡ Some a → o ≡ None → ⊥
 no_limit o a e f = let h : Some a ≡ None = sym e ∙ f in cc
 
+module _
+    (units_have_one : (unit : UnitTexts) (these those : units.Outcome) → IsUnit unit → IsWhole unit → ComesTo unit these → ComesTo unit those → these ≡ those)
+    (unit : UnitTexts) (is : IsUnit unit) (whole : IsWhole unit) where
+  one_way : (d e : Decision) → IsWay unit d → IsWay unit e → d ≡ e
+  one_way d e (by_limit l at x) (by_limit m also y) = x ∙ ap (λ k. limited (of_procedures k)) (some_limit l m (sym at ∙ also)) ∙ sym y
+  one_way d e (by_limit l at x) (by_outcome o c y) = absurd (no_limit (limit_of (main_tokens unit)) l at c.limits)
+  one_way d e (by_outcome o c x) (by_limit m also y) = absurd (no_limit (limit_of (main_tokens unit)) m also c.limits)
+  one_way d e (by_outcome o a x) (by_outcome p b y) = x ∙ ap (decision_by unit) (units_have_one unit o p is whole a.comes b.comes) ∙ sym y
+
+  -- of a unit one thing is decided
+  pub one_of_unit : (d e : Decision) → DecidesUnit unit d → DecidesUnit unit e → d ≡ e
+  one_of_unit d e a b = one_way d e (way_of unit d a) (way_of unit e b)
+
 -- ** A module
 
 -- what is decided where gathering comes to this
@@ -73,21 +86,14 @@ module _
     (files_have_one : (files : Files) (file : List ℕ) (a b : gathering.Outcome) → ComesFrom (Some files) file a → ComesFrom (Some files) file b → a ≡ b)
     (units_have_one : (unit : UnitTexts) (these those : units.Outcome) → IsUnit unit → IsWhole unit → ComesTo unit these → ComesTo unit those → these ≡ those)
     (files : Files) (name : List ℕ) where
-  one_way : (unit : UnitTexts) → HasUnit (Some files) name unit → (d e : Decision) → IsWay unit d → IsWay unit e → d ≡ e
-  one_way unit h d e (by_limit l at x) (by_limit m also y) = x ∙ ap (λ k. limited (of_procedures k)) (some_limit l m (sym at ∙ also)) ∙ sym y
-  one_way unit h d e (by_limit l at x) (by_outcome o c y) = absurd (no_limit (limit_of (main_tokens unit)) l at c.limits)
-  one_way unit h d e (by_outcome o c x) (by_limit m also y) = absurd (no_limit (limit_of (main_tokens unit)) m also c.limits)
-  one_way unit h d e (by_outcome o a x) (by_outcome p b y) =
-      let whole = is_whole (Some files) name h.gathered.main unit h.gathered.gathered h.is in
-      x ∙ ap (decision_by unit) (units_have_one unit o p h.is whole a.comes b.comes) ∙ sym y
-
   one_of : (o : gathering.Outcome) (d e : Decision) → IsOf (Some files) name o d → IsOf (Some files) name o e → d ≡ e
   one_of _ d e (without x) (without y) = x ∙ sym y
   one_of _ d e (stopped x) (stopped y) = x ∙ sym y
   one_of _ d e (wrong some x) (wrong more y) = x ∙ sym y
   one_of _ d e (wrong some x) (whole none h way) = absurd (some none)
   one_of _ d e (whole none h way) (wrong some y) = absurd (some none)
-  one_of _ d e (whole {unit = unit} none h way) (whole also k other) = one_way unit h d e way other
+  one_of _ d e (whole {unit = unit} none h way) (whole also k other) =
+      one_way units_have_one unit h.is (is_whole (Some files) name h.gathered.main unit h.gathered.gathered h.is) d e way other
 
   one_decision : (d e : Decision) → Decides (Some files) name d → Decides (Some files) name e → d ≡ e
   one_decision d e a b =

@@ -6,3 +6,5 @@ pub mod Faults
 pub mod Outcome
 pub mod Delivery
 pub mod Answers
+pub mod Counts
+pub mod Big

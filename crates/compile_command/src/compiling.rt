@@ -1,5 +1,5 @@
 //! Compiling.
-ghost use Rattle.std.specs.Prelude.{◌≡◌, ◌↔◌, ◌⊎◌, ◌≤◌, Some, IfOk, IfSome, IsErrOf, OnErr, length};
+ghost use Rattle.std.specs.Prelude.{◌≡◌, ◌↔◌, ◌⊎◌, ◌≤◌, ◌<◌, Some, IfOk, IfSome, IsErrOf, OnErr, length};
 ghost use Rattle.m2_base.specs.Units.{IsIdentifier};
 ghost use Rattle.m2_io.specs.Causes.{Rose};
 ghost use Rattle.compile_command.specs.Answers.{Comes};
@@ -10,12 +10,16 @@ use crate::answer::{Answer, Stop};
 use crate::delivering::deliver;
 use crate::judging::judge;
 use crate::laws::one_outcome;
-use m2_io::{Shelf, Sink};
+use m2_io::{Gate, Shelf, Sink};
 use std::alloc::Global;
+use std::sync::Wait;
+use std::thread::Threads;
+use unit_workers::Crew;
 
 /// Compiles the module of that name: reads its text and the definition modules that it rests on, and puts its object on the shelf; or prints the
-/// listing of its diagnostics, which limit it passes, or that it has no text.
-pub fn compile<H: Shelf, P: Sink>(
+/// listing of its diagnostics, which limit it passes, or that it has no text. The crew works on the streams of its unit.
+pub fn compile<R: Threads + Wait + Sync, G: Gate, H: Shelf, P: Sink>(
+    crew: &Crew<R, G>,
     alloc: Global,
     name: &str,
     shelf: &mut H,
@@ -23,6 +27,7 @@ pub fn compile<H: Shelf, P: Sink>(
 ) -> Result<Answer, Stop>
     requires named { IsIdentifier name.now }
     requires short { length name.now ≤ 1048576 }
+    requires workers { (0 < crew.now.workers) × (crew.now.workers ≤ 64) }
     // The answer, what the shelf has then and what is printed are those of the definition; and each answer comes exactly where that says so.
     ensures leaves { IfOk result (λ answer. Leaves (Compiles (H.holds shelf.old) name.now) answer (H.holds shelf.new) (P.written print.old) (P.written print.new)) }
     ensures answers { IfOk result (λ answer. IfSome (H.holds shelf.old) (λ files. (a : AnswerOf) → (answer ≡ a) ↔ Comes files name.now a)) }
@@ -38,8 +43,9 @@ pub fn compile<H: Shelf, P: Sink>(
     ensures prints { OnErr result (IfSome (H.holds shelf.old) (λ files. PrintsPart (Compiles (Some files) name.now) (P.written print.old) (P.written print.new))) }
     ensures read { IsErrOf result Stop.Read → Rose (H.faults shelf.old) (H.faults shelf.new) }
     ensures write { IsErrOf result Stop.Write → Rose (H.put_faults shelf.old) (H.put_faults shelf.new) ⊎ Rose (P.faults print.old) (P.faults print.new) }
+    ensures later { P.faults print.old ≤ P.faults print.new }
 {
     one_outcome();
-    let verdict = judge(alloc, shelf, name)?;
+    let verdict = judge(crew, alloc, shelf, name)?;
     deliver(alloc, name, &verdict, shelf, print)
 }

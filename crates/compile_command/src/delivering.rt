@@ -1,5 +1,5 @@
 //! What goes with a verdict.
-ghost use Rattle.std.specs.Prelude.{◌≡◌, ◌⊎◌, ◌++◌, codes, IfOk, IsErrOf, OnErr, OnOk};
+ghost use Rattle.std.specs.Prelude.{◌≡◌, ◌≤◌, ◌⊎◌, ◌++◌, codes, IfOk, IsErrOf, OnErr, OnOk};
 ghost use Rattle.m2_io.specs.Causes.{Rose};
 ghost use Rattle.m2_io.specs.Files.{HasPart, with_file};
 ghost use Rattle.m2_io.specs.Written.{WritesPart, with_bytes};
@@ -56,6 +56,7 @@ fn print_listing<P: Sink>(
     ensures part { OnErr result (WritesPart (P.written print.old) (spec_listing texts.now diags.now) (P.written print.new)) }
     ensures no_read { IsErrOf result Stop.Read → ⊥ }
     ensures write { IsErrOf result Stop.Write → Rose (P.faults print.old) (P.faults print.new) }
+    ensures later { P.faults print.old ≤ P.faults print.new }
 {
     let lines = unit_listing(alloc, texts, diags)?;
     write_all(print, lines.as_slice())?;
@@ -63,12 +64,13 @@ fn print_listing<P: Sink>(
 }
 
 /// Prints which limit is passed.
-fn print_limit<P: Sink>(limit: Limit, print: &mut P) -> Result<Answer, Stop>
+pub(crate) fn print_limit<P: Sink>(limit: Limit, print: &mut P) -> Result<Answer, Stop>
     ensures answer { IfOk result (λ answer. answer ≡ Answer.OverLimit) }
     ensures ok { OnOk result (P.written print.new ≡ with_bytes (P.written print.old) (line (limit_text limit))) }
     ensures part { OnErr result (WritesPart (P.written print.old) (line (limit_text limit)) (P.written print.new)) }
     ensures no_read { IsErrOf result Stop.Read → ⊥ }
     ensures write { IsErrOf result Stop.Write → Rose (P.faults print.old) (P.faults print.new) }
+    ensures later { P.faults print.old ≤ P.faults print.new }
 {
     write_all(print, limit_line(limit))?;
     Ok(Answer::OverLimit)
@@ -81,6 +83,7 @@ fn print_no_text<P: Sink>(alloc: Global, name: &str, print: &mut P) -> Result<An
     ensures part { OnErr result (WritesPart (P.written print.old) (line (codes "no text " ++ name.now ++ codes ".mod")) (P.written print.new)) }
     ensures no_read { IsErrOf result Stop.Read → ⊥ }
     ensures write { IsErrOf result Stop.Write → Rose (P.faults print.old) (P.faults print.new) }
+    ensures later { P.faults print.old ≤ P.faults print.new }
 {
     let text = format!(in alloc; "no text {name}.mod\n")?;
     write_all(print, text.as_bytes())?;
@@ -103,6 +106,7 @@ pub(crate) fn deliver<H: Shelf, P: Sink>(
     ensures memory { IsErrOf result Stop.Memory → H.holds shelf.new ≡ H.holds shelf.old }
     ensures no_read { IsErrOf result Stop.Read → ⊥ }
     ensures write { IsErrOf result Stop.Write → Rose (H.put_faults shelf.old) (H.put_faults shelf.new) ⊎ Rose (P.faults print.old) (P.faults print.new) }
+    ensures later { P.faults print.old ≤ P.faults print.new }
 {
     match verdict {
         Verdict::NoText => print_no_text(alloc, name, print),

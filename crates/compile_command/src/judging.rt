@@ -19,26 +19,35 @@ use crate::verdict::Verdict;
 use crate::work::work;
 use def_import::{GatherFault, Gathered, gather};
 use m2_base::{Memory, Texts};
-use m2_io::Shelf;
+use m2_io::{Gate, Shelf};
 use merge_laws::{merging_gives_the_outcome, outputs_can_be_merged};
 use std::alloc::Global;
+use std::sync::Wait;
+use std::thread::Threads;
 use stream_split::{SplitFault, StreamTokens, cut};
 use unit_merge::{Merged, merge};
 use unit_outcome::gathered_units_are_whole;
+use unit_workers::Crew;
 
 /// What is decided of a whole unit that is cut into these streams.
-fn judge_streams(alloc: Global, texts: Texts, streams: Vec<StreamTokens>) -> Result<Verdict, Memory>
+fn judge_streams<R: Threads + Wait + Sync, G: Gate>(
+    crew: &Crew<R, G>,
+    alloc: Global,
+    texts: Texts,
+    streams: Vec<StreamTokens>,
+) -> Result<Verdict, Memory>
     requires whole { IsWhole texts }
     requires limits { limit_of (main_tokens texts) ≡ None }
     requires streams { map stream_view streams.items ≡ streams_of texts }
     requires short { All (λ s. length s.tokens.items < 2 ^ 30) streams.items }
     requires few { length streams.items < 2 ^ 31 }
+    requires workers { (0 < crew.now.workers) × (crew.now.workers ≤ 64) }
     ensures decides { IfOk result (λ verdict. DecidesUnit texts (decision_of verdict)) }
     ensures named { IfOk result (λ verdict. IsNamed (spelled texts.names (name_in (slice_get texts.list 0))) (decision_of verdict)) }
 {
     let _unit = texts.main();
     gathered_units_are_whole();
-    let outputs = work(alloc, &texts, streams)?;
+    let outputs = work(crew, alloc, &texts, streams)?;
     outputs_can_be_merged();
     merging_gives_the_outcome();
     match merge(alloc, &texts, outputs)? {
@@ -49,15 +58,20 @@ fn judge_streams(alloc: Global, texts: Texts, streams: Vec<StreamTokens>) -> Res
 }
 
 /// What is decided of a whole unit.
-fn judge_unit(alloc: Global, texts: Texts) -> Result<Verdict, Memory>
-    requires { IsWhole texts }
+fn judge_unit<R: Threads + Wait + Sync, G: Gate>(
+    crew: &Crew<R, G>,
+    alloc: Global,
+    texts: Texts,
+) -> Result<Verdict, Memory>
+    requires whole { IsWhole texts }
+    requires workers { (0 < crew.now.workers) × (crew.now.workers ≤ 64) }
     ensures unit { IfOk result (λ verdict. IsUnit texts) }
     ensures decides { IfOk result (λ verdict. DecidesUnit texts (decision_of verdict)) }
     ensures named { IfOk result (λ verdict. IsNamed (spelled texts.names (name_in (slice_get texts.list 0))) (decision_of verdict)) }
 {
     let _main = texts.main();
     match cut(alloc, &texts) {
-        Ok(streams) => judge_streams(alloc, texts, streams),
+        Ok(streams) => judge_streams(crew, alloc, texts, streams),
         Err(SplitFault::TooManyStreams) => Ok(Verdict::Limited(Limit::Procedures)),
         Err(SplitFault::TooNested) => Ok(Verdict::Limited(Limit::StaticLevel)),
         Err(SplitFault::Memory) => Err(Memory),
@@ -82,9 +96,15 @@ fn judge_fault(fault: GatherFault) -> Result<Verdict, Stop>
 }
 
 /// What is decided of the module of that name.
-pub(crate) fn judge<H: Shelf>(alloc: Global, shelf: &mut H, name: &str) -> Result<Verdict, Stop>
+pub(crate) fn judge<R: Threads + Wait + Sync, G: Gate, H: Shelf>(
+    crew: &Crew<R, G>,
+    alloc: Global,
+    shelf: &mut H,
+    name: &str,
+) -> Result<Verdict, Stop>
     requires named { IsIdentifier name.now }
     requires short { length name.now ≤ 1048576 }
+    requires workers { (0 < crew.now.workers) × (crew.now.workers ≤ 64) }
     ensures decides { IfOk result (λ verdict. Decides (H.holds shelf.old) name.now (decision_of verdict)) }
     ensures named { IfOk result (λ verdict. IsNamed name.now (decision_of verdict)) }
     ensures read { IsErrOf result Stop.Read → Rose (H.faults shelf.old) (H.faults shelf.new) }
@@ -93,7 +113,7 @@ pub(crate) fn judge<H: Shelf>(alloc: Global, shelf: &mut H, name: &str) -> Resul
     ensures put_faults { H.put_faults shelf.new ≡ H.put_faults shelf.old }
 {
     match gather(alloc, shelf, name) {
-        Ok(Gathered::Whole(texts)) => Ok(judge_unit(alloc, texts)?),
+        Ok(Gathered::Whole(texts)) => Ok(judge_unit(crew, alloc, texts)?),
         Ok(Gathered::Wrong(texts, wrongs)) => Ok(Verdict::Listed(texts, wrongs)),
         Err(fault) => judge_fault(fault),
     }

@@ -8,15 +8,27 @@ ghost use Rattle.m2_base.specs.declared.outputs.StreamFault.{StreamFault};
 ghost use Rattle.m2_io.specs.Files.{Files};
 ghost use Rattle.unit_merge.specs.Outcome.{refusals};
 ghost use Rattle.unit_merge.specs.TextFaults.{AreFaults};
+ghost use Rattle.compile_command.specs.Decisions.{Decides};
 ghost use Rattle.compile_command.specs.Lines.{HasLine};
+ghost use Rattle.compile_command.specs.Big.{Summarizes};
 ghost use Rattle.compile_command.specs.Outcome.{Compiles, Outcome};
+ghost use Rattle.compile_command.specs.Verdicts.{listed};
+ghost use Rattle.compile_command.specs.declared.answer.Answer.{Answer};
 
 use def_import::given_files_have_one_outcome;
-use unit_outcome::whole_units_have_one_outcome;
+use unit_outcome::{diagnostics_stand_in_their_texts, whole_units_have_one_outcome};
 
 /// Compiling a module over given files has one outcome.
 pub fn one_outcome()
     ensures { (files : Files) (name : List ℕ) (these those : Outcome) → Compiles (Some files) name these → Compiles (Some files) name those → these ≡ those }
+{
+    given_files_have_one_outcome();
+    whole_units_have_one_outcome();
+}
+
+/// Compiling the module Big of so many procedures over given files has one answer, and prints one text.
+pub fn one_summary()
+    ensures { (files : Files) (n : ℕ) (this other : Answer) (these those : List ℕ) → Summarizes (Some files) n this these → Summarizes (Some files) n other those → (this ≡ other) × (these ≡ those) }
 {
     given_files_have_one_outcome();
     whole_units_have_one_outcome();
@@ -31,3 +43,11 @@ pub fn wrong_imports_have_lines()
 pub fn refusals_have_lines()
     ensures { (unit : UnitTexts) (faults : List (Option StreamFault)) → IsUnit unit → AreFaults unit faults → Each (HasLine unit) (refusals faults) }
 {}
+
+/// All diagnostics that are listed stand at tokens of the unit's texts, and so have lines in the listing: what is wrong with imports, the
+/// first faults of the texts, and the diagnostics of all blocks, of declarations as of statements.
+pub fn diagnostics_have_lines()
+    ensures { (holds : Option Files) (name : List ℕ) (unit : UnitTexts) (diags : List Diag) → Decides holds name (listed unit diags) → Each (HasLine unit) diags }
+{
+    diagnostics_stand_in_their_texts();
+}

@@ -1,5 +1,5 @@
 //! The work on a unit's streams.
-ghost use Rattle.std.specs.Prelude.{◌≡◌, ◌<◌, ◌^◌, None, IfOk, length, map};
+ghost use Rattle.std.specs.Prelude.{◌≡◌, ◌<◌, ◌≤◌, ◌^◌, None, IfOk, length, map};
 ghost use Rattle.std.specs.List.{All};
 ghost use Rattle.m2_base.specs.Statics.BlockLimits.{limit_of};
 ghost use Rattle.m2_base.specs.Units.{Front, TextOf};
@@ -9,13 +9,16 @@ ghost use Rattle.stream_split.specs.Streams.{main_tokens, streams_of};
 ghost use Rattle.stream_split.specs.Views.{stream_view};
 
 use m2_base::{Memory, Output, Texts};
-use scope_core::PlainScopes;
+use m2_io::Gate;
 use std::alloc::Global;
-use stream_split::{StreamTokens, sizes, streams_have_their_places};
-use supervisor::run_turns;
+use std::sync::Wait;
+use std::thread::Threads;
+use stream_split::StreamTokens;
+use unit_workers::{Crew, outputs_by};
 
-/// What the work on the streams of a whole unit leaves: the output of each, in their order.
-pub(crate) fn work(
+/// What the work of a crew on the streams of a whole unit leaves: the output of each, in their order.
+pub(crate) fn work<R: Threads + Wait + Sync, G: Gate>(
+    crew: &Crew<R, G>,
     alloc: Global,
     texts: &Texts,
     streams: Vec<StreamTokens>,
@@ -25,11 +28,8 @@ pub(crate) fn work(
     requires streams { map stream_view streams.items ≡ streams_of texts.now }
     requires short { All (λ s. length s.tokens.items < 2 ^ 30) streams.items }
     requires few { length streams.items < 2 ^ 31 }
+    requires workers { (0 < crew.now.workers) × (crew.now.workers ≤ 64) }
     ensures { IfOk result (λ outputs. AreOutputs texts.now outputs.items) }
 {
-    let _main = texts.main();
-    streams_have_their_places();
-    let sizes = sizes(alloc, &streams)?;
-    let mut scopes = PlainScopes::new(alloc, texts, &sizes)?;
-    run_turns(alloc, texts, streams, &mut scopes, &[])
+    outputs_by(crew, alloc, texts, streams)
 }

@@ -2,6 +2,8 @@
 #![tactic(auto)]
 
 #[cfg(test)]
+mod of_brought;
+#[cfg(test)]
 mod of_compile_command;
 #[cfg(test)]
 mod of_modules;

@@ -1,9 +1,12 @@
 //! The call of `compile_command`, over shelves and sinks in memory, some of whose calls fail.
 use compile_command::{Answer, Stop, compile};
-use m2_io::{MemShelf, MemSink};
+use m2_io::{MemShelf, MemSink, NoGate};
 use std::alloc::{AllocError, Global};
 use std::collections::BTreeMap;
+use std::sync::Wait;
 use std::test::Fail;
+use std::thread::Threads;
+use unit_workers::Crew;
 
 /// Which calls of the shelf and of the sink fail.
 #[derive(Drop)]
@@ -25,15 +28,25 @@ pub struct Left {
     pub has_object: bool,
 }
 
-/// Compiles M on a shelf with these files.
-pub fn compiled(alloc: Global, files: &[(&str, &[u8])], faults: &Faults) -> Result<Left, Fail> {
+/// Compiles M on a shelf with these files, by two workers.
+pub fn compiled<R: AllocGlobal + Threads + Wait + Sync>(
+    rt: &R,
+    files: &[(&str, &[u8])],
+    faults: &Faults,
+) -> Result<Left, Fail> {
+    let alloc = rt.alloc();
     let mut map = BTreeMap::new(alloc);
     for (name, text) in files {
         map.insert(String::from_str(alloc, name)?, text.to_vec(alloc)?)?;
     }
     let mut shelf = MemShelf::new(map, faults.shelf.to_vec(alloc)?, 10);
     let mut print = MemSink::new(alloc, faults.print.to_vec(alloc)?, 7, 1000)?;
-    let answer = compile(alloc, "M", &mut shelf, &mut print);
+    let crew = Crew {
+        rt,
+        workers: 2,
+        gate: &NoGate,
+    };
+    let answer = compile(&crew, alloc, "M", &mut shelf, &mut print);
     Ok(Left {
         answer,
         printed: print.bytes().to_vec(alloc)?,
@@ -52,9 +65,8 @@ pub fn repeated(alloc: Global, text: &[u8], count: usize) -> Result<Vec<u8>, All
 
 #[test]
 fn says_that_there_is_no_text(rt: HostRuntime) -> Result<(), Fail> {
-    let alloc = rt.alloc();
     let files: [(&str, &[u8]); 2] = [("M.def", b"DEFINITION MODULE M; END M."), ("N.mod", b"")];
-    let left = compiled(alloc, &files, &NO_FAULTS)?;
+    let left = compiled(&rt, &files, &NO_FAULTS)?;
     assert_eq!(rt; left.answer, Ok(Answer::NoText));
     assert!(rt; left.printed.as_slice() == b"no text M.mod\n".as_slice());
     assert!(rt; !left.has_object);
@@ -63,7 +75,6 @@ fn says_that_there_is_no_text(rt: HostRuntime) -> Result<(), Fail> {
 
 #[test]
 fn lists_what_is_wrong_with_imports(rt: HostRuntime) -> Result<(), Fail> {
-    let alloc = rt.alloc();
     let table: [(&[u8], &str); 4] = [
         (
             b"MODULE M; IMPORT X; BEGIN y := 1 END M.",
@@ -91,7 +102,7 @@ fn lists_what_is_wrong_with_imports(rt: HostRuntime) -> Result<(), Fail> {
             ("B.def", b"DEFINITION MODULE B; IMPORT A; END B."),
             ("C.def", b"DEFINITION MODULE C; IMPORT A; END C."),
         ];
-        let left = compiled(alloc, &files, &NO_FAULTS)?;
+        let left = compiled(&rt, &files, &NO_FAULTS)?;
         assert_eq!(rt; left.answer, Ok(Answer::Diagnosed), "{listing}");
         assert!(rt; left.printed.as_slice() == listing.as_bytes(), "{listing}");
         assert!(rt; !left.has_object, "{listing}");
@@ -141,7 +152,7 @@ fn tells_limits(rt: HostRuntime) -> Result<(), Fail> {
         (nested(alloc, b"MODULE M; ", 17)?, "limit static level 16\n"),
     ];
     for (text, line) in &table {
-        let left = compiled(alloc, &[("M.mod", text.as_slice())], &NO_FAULTS)?;
+        let left = compiled(&rt, &[("M.mod", text.as_slice())], &NO_FAULTS)?;
         assert_eq!(rt; left.answer, Ok(Answer::OverLimit), "{line}");
         assert!(rt; left.printed.as_slice() == line.as_bytes(), "{line}");
         assert!(rt; !left.has_object, "{line}");
@@ -160,7 +171,7 @@ fn tells_the_limit_of_a_unit(rt: HostRuntime) -> Result<(), Fail> {
         ("C.def", &long),
         ("D.def", &long),
     ];
-    let left = compiled(alloc, &files, &NO_FAULTS)?;
+    let left = compiled(&rt, &files, &NO_FAULTS)?;
     assert_eq!(rt; left.answer, Ok(Answer::OverLimit));
     assert!(rt; left.printed.as_slice() == b"limit unit tokens 4194304\n".as_slice());
     Ok(())
@@ -171,10 +182,10 @@ fn decides_in_order(rt: HostRuntime) -> Result<(), Fail> {
     let alloc = rt.alloc();
     // What is wrong with imports comes before the limits on procedures, and a limit of a definition text before both.
     let text = nested(alloc, b"MODULE M; IMPORT X, Y; ", 17)?;
-    let wrong = compiled(alloc, &[("M.mod", &text)], &NO_FAULTS)?;
+    let wrong = compiled(&rt, &[("M.mod", &text)], &NO_FAULTS)?;
     assert_eq!(rt; wrong.answer, Ok(Answer::Diagnosed));
     let long = repeated(alloc, b" ", 1_048_577)?;
-    let limited = compiled(alloc, &[("M.mod", &text), ("Y.def", &long)], &NO_FAULTS)?;
+    let limited = compiled(&rt, &[("M.mod", &text), ("Y.def", &long)], &NO_FAULTS)?;
     assert_eq!(rt; limited.answer, Ok(Answer::OverLimit));
     assert!(rt; limited.printed.as_slice() == b"limit text bytes 1048576\n".as_slice());
     Ok(())
@@ -182,7 +193,6 @@ fn decides_in_order(rt: HostRuntime) -> Result<(), Fail> {
 
 #[test]
 fn answers_faults(rt: HostRuntime) -> Result<(), Fail> {
-    let alloc = rt.alloc();
     let table: [(&'static [u32], &'static [u32], Stop, &str); 4] = [
         (&[1], &[], Stop::Read, ""),
         (&[2], &[], Stop::Read, ""),
@@ -191,7 +201,7 @@ fn answers_faults(rt: HostRuntime) -> Result<(), Fail> {
     ];
     for (shelf, print, stop, front) in table {
         let files: [(&str, &[u8]); 1] = [("M.mod", b"MODULE M; IMPORT X; END M.")];
-        let left = compiled(alloc, &files, &Faults { shelf, print })?;
+        let left = compiled(&rt, &files, &Faults { shelf, print })?;
         assert_eq!(rt; left.answer, Err(stop), "{front}");
         assert!(rt; left.printed.as_slice() == front.as_bytes(), "{front}");
         assert!(rt; !left.has_object, "{front}");

@@ -17,13 +17,12 @@ const SOUND: [&str; 8] = [
 
 #[test]
 fn compiles_what_is_sound(rt: HostRuntime) -> Result<(), Fail> {
-    let alloc = rt.alloc();
     for text in SOUND {
         let files: [(&str, &[u8]); 2] = [
             ("M.mod", text.as_bytes()),
             ("B.def", b"DEFINITION MODULE B; VAR v: INTEGER; END B."),
         ];
-        let left = compiled(alloc, &files, &NO_FAULTS)?;
+        let left = compiled(&rt, &files, &NO_FAULTS)?;
         assert_eq!(rt; left.answer, Ok(Answer::Done), "{text}");
         assert_eq!(rt; left.printed.len(), 0, "{text}");
         assert!(rt; left.has_object, "{text}");
@@ -75,13 +74,12 @@ END M.";
 
 #[test]
 fn compiles_longer_modules(rt: HostRuntime) -> Result<(), Fail> {
-    let alloc = rt.alloc();
     for text in [REALISTIC, IMPLEMENTATION] {
         let files: [(&str, &[u8]); 2] = [
             ("M.mod", text.as_bytes()),
             ("M.def", DEFINITION.as_bytes()),
         ];
-        let left = compiled(alloc, &files, &NO_FAULTS)?;
+        let left = compiled(&rt, &files, &NO_FAULTS)?;
         assert_eq!(rt; left.answer, Ok(Answer::Done));
         assert!(rt; left.has_object);
     }
@@ -122,13 +120,12 @@ const BROKEN: [(&str, &str); 8] = [
 
 #[test]
 fn lists_what_is_wrong(rt: HostRuntime) -> Result<(), Fail> {
-    let alloc = rt.alloc();
     for (text, listing) in BROKEN {
         let files: [(&str, &[u8]); 2] = [
             ("M.mod", text.as_bytes()),
             ("A.def", b"DEFINITION MODULE A; VAR v: T; END A."),
         ];
-        let left = compiled(alloc, &files, &NO_FAULTS)?;
+        let left = compiled(&rt, &files, &NO_FAULTS)?;
         assert_eq!(rt; left.answer, Ok(Answer::Diagnosed), "{text}");
         assert!(rt; left.printed.as_slice() == listing.as_bytes(), "{text}");
         assert!(rt; !left.has_object, "{text}");
@@ -150,14 +147,14 @@ fn in_brackets(alloc: Global, pairs: usize) -> Result<Vec<u8>, AllocError> {
 fn takes_what_is_within_the_limits(rt: HostRuntime) -> Result<(), Fail> {
     let alloc = rt.alloc();
     let sixteen = compiled(
-        alloc,
+        &rt,
         &[("M.mod", &nested(alloc, b"MODULE M; ", 16)?)],
         &NO_FAULTS,
     )?;
     assert_eq!(rt; sixteen.answer, Ok(Answer::Done));
-    let deepest = compiled(alloc, &[("M.mod", &in_brackets(alloc, 98)?)], &NO_FAULTS)?;
+    let deepest = compiled(&rt, &[("M.mod", &in_brackets(alloc, 98)?)], &NO_FAULTS)?;
     assert_eq!(rt; deepest.answer, Ok(Answer::Done));
-    let deeper = compiled(alloc, &[("M.mod", &in_brackets(alloc, 99)?)], &NO_FAULTS)?;
+    let deeper = compiled(&rt, &[("M.mod", &in_brackets(alloc, 99)?)], &NO_FAULTS)?;
     assert_eq!(rt; deeper.answer, Ok(Answer::OverLimit));
     assert!(rt; deeper.printed.as_slice() == b"limit nesting 100\n".as_slice());
     Ok(())
@@ -165,12 +162,11 @@ fn takes_what_is_within_the_limits(rt: HostRuntime) -> Result<(), Fail> {
 
 #[test]
 fn leaves_a_front_of_the_object(rt: HostRuntime) -> Result<(), Fail> {
-    let alloc = rt.alloc();
     let faults = Faults {
         shelf: &[2],
         print: &[],
     };
-    let left = compiled(alloc, &[("M.mod", b"MODULE M; END M.")], &faults)?;
+    let left = compiled(&rt, &[("M.mod", b"MODULE M; END M.")], &faults)?;
     assert_eq!(rt; left.answer, Err(Stop::Write));
     assert!(rt; left.has_object);
     Ok(())

@@ -4,15 +4,16 @@ use crate::loop_shape::LoopShape;
 use crate::module_shape::ModuleShape;
 use crate::object_shape::ObjectShape;
 use crate::shape::Shape;
+use crate::working::Makers;
 
 pub const USAGE: &str =
-    "usage: m2_bench [lex KIND BYTES | gather MODULES | cut PROCEDURES | merge PROCEDURES | parse SHAPE TOKENS | compile MODULE SIZE | read OBJECT BYTES | run LOOP TIMES], \
+    "usage: m2_bench [lex KIND BYTES | gather MODULES | cut PROCEDURES | merge PROCEDURES | turns PROCEDURES | work PROCEDURES WORKERS | parse SHAPE TOKENS | compile MODULE SIZE | read OBJECT BYTES | run LOOP TIMES], \
     where KIND is ordinary, names, digits, blanks or symbols, \
     SHAPE is statements, semicolons, operators, names, brackets or loops, \
     MODULE is assignments, with SIZE in bytes, or declarations, statements or nested, with SIZE at most 80000, 100000 or 16000 of them, \
     OBJECT is flat, deep, long or short, \
     LOOP is add, index or call, \
-    BYTES and TOKENS are at most 1048576, and of an object 67108864, MODULES at most 256, PROCEDURES at most 16384, and TIMES at most 100000000";
+    BYTES and TOKENS are at most 1048576, and of an object 67108864, MODULES at most 256, PROCEDURES at most 16384, WORKERS at most 64, and TIMES at most 100000000";
 
 /// The most bytes of a text, and the most tokens of a stream.
 pub const MOST: u32 = 1_048_576;
@@ -22,6 +23,9 @@ pub const MOST_MODULES: u32 = 256;
 
 /// The most procedures of a text.
 pub const MOST_PROCEDURES: u32 = 16_384;
+
+/// The most workers.
+pub const MOST_WORKERS: u32 = 64;
 
 /// The most bytes of an object.
 pub const MOST_OBJECT_BYTES: u32 = 67_108_864;
@@ -40,6 +44,8 @@ pub enum Command {
     Cut(u32),
     /// How many procedures the object has behind its body.
     Merge(u32),
+    /// Who makes the turns, and how many procedures the text has.
+    Work(Makers, u32),
     Parse(Shape, u32),
     /// How large the module is, as its shape measures it.
     Compile(ModuleShape, u32),
@@ -64,6 +70,14 @@ impl Command {
             [part, procedures] if part.as_str() == "merge" => {
                 Some(Command::Merge(number_in(procedures, MOST_PROCEDURES)?))
             }
+            [part, procedures] if part.as_str() == "turns" => Some(Command::Work(
+                Makers::OneThread,
+                number_in(procedures, MOST_PROCEDURES)?,
+            )),
+            [part, procedures, workers] if part.as_str() == "work" => Some(Command::Work(
+                Makers::Workers(number_in(workers, MOST_WORKERS)?),
+                number_in(procedures, MOST_PROCEDURES)?,
+            )),
             [part, shape, tokens] if part.as_str() == "parse" => {
                 Some(Command::Parse(shape.parse().ok()?, number_in(tokens, MOST)?))
             }

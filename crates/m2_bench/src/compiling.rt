@@ -7,6 +7,8 @@ use m2c_top::m2c;
 use std::alloc::{AllocError, Global};
 use std::collections::BTreeMap;
 use std::fmt;
+use std::sync::Wait;
+use std::thread::Threads;
 use std::time::CpuClock;
 
 /// How many bytes can be printed.
@@ -63,10 +65,10 @@ impl Desk {
     }
 
     /// Compiles the module, and answers the status.
-    fn compile(&mut self, alloc: Global) -> u8 {
+    fn compile<R: AllocGlobal + Threads + Wait + Sync>(&mut self, rt: &R) -> u8 {
         m2c(
-            &(),
-            alloc,
+            rt,
+            rt.alloc(),
             self.words.as_slice(),
             &mut self.shelf,
             &mut self.print,
@@ -86,23 +88,27 @@ impl Desk {
 }
 
 /// Prints what a module is compiled to.
-pub fn print_counts<R: AllocGlobal + Print>(rt: &R, shape: ModuleShape, size: u32) -> Result<()> {
+pub fn print_counts<R: AllocGlobal + Print + Threads + Wait + Sync>(
+    rt: &R,
+    shape: ModuleShape,
+    size: u32,
+) -> Result<()> {
     let mut desk = Desk::new(rt.alloc(), shape, size)?;
-    let status = desk.compile(rt.alloc());
+    let status = desk.compile(rt);
     let counts = desk.counts(status);
     println!(rt; "{counts}")?;
     Ok(())
 }
 
 /// Prints what a module is compiled to, and in what time.
-pub fn print_time<R: AllocGlobal + Print + CpuClock>(
+pub fn print_time<R: AllocGlobal + Print + CpuClock + Threads + Wait + Sync>(
     rt: &R,
     shape: ModuleShape,
     size: u32,
 ) -> Result<()> {
     let mut desk = Desk::new(rt.alloc(), shape, size)?;
     let stopwatch = Stopwatch::start(rt)?;
-    let status = desk.compile(rt.alloc());
+    let status = desk.compile(rt);
     let milliseconds = stopwatch.seconds(rt)? * 1e3;
     let counts = desk.counts(status);
     println!(rt; "{counts}, {milliseconds:.3} ms")?;

@@ -2,7 +2,9 @@
 //!
 //! `m2_bench lex KIND BYTES` times `lex` over a text of one kind, `m2_bench gather MODULES` times `gather` over so
 //! many definition modules that each import all before them, `m2_bench cut PROCEDURES` times `cut` over a text of
-//! so many procedures, `m2_bench merge PROCEDURES` times `merge` over the outputs of so many, `m2_bench parse SHAPE
+//! so many procedures, `m2_bench turns PROCEDURES` and `m2_bench work PROCEDURES WORKERS` time the work on the streams
+//! of a module of so many, by one thread and by so many workers, by the clock, `m2_bench merge PROCEDURES` times
+//! `merge` over the outputs of so many, `m2_bench parse SHAPE
 //! TOKENS` times `parse_stream` over a module of one shape, `m2_bench compile MODULE SIZE` times `m2c compile A` over
 //! a module of one shape, `m2_bench read OBJECT BYTES` times `read_object` over an object of one shape, and
 //! `m2_bench run LOOP TIMES` times a machine that makes a loop so many times, all in memory. The inputs are made from
@@ -27,6 +29,7 @@ mod reading;
 mod running;
 mod shape;
 mod stopwatch;
+mod working;
 
 use anyhow::Result;
 use command::{Command, USAGE};
@@ -37,6 +40,10 @@ use object_shape::ObjectShape;
 use shape::Shape;
 use std::env;
 use std::process::ExitCode;
+use std::sync::Wait;
+use std::thread::Threads;
+use std::time::{Clock, CpuClock};
+use working::Makers;
 
 /// The status where the words are no command.
 const NO_COMMAND: u8 = 2;
@@ -52,6 +59,9 @@ const FEW_MODULES: u32 = 10;
 
 /// How many procedures the text of the small run has.
 const FEW_PROCEDURES: u32 = 10;
+
+/// How many workers work through its streams.
+const FEW_WORKERS: u32 = 2;
 
 /// How many tokens each stream of the small run has at most.
 const FEW_TOKENS: u32 = 1000;
@@ -79,13 +89,17 @@ fn words_of(rt: &HostRuntime) -> Result<Vec<String>> {
     Ok(words)
 }
 
-fn obey(rt: &HostRuntime, command: Command) -> Result<ExitCode> {
+fn obey<R: AllocGlobal + Print + Clock + CpuClock + Threads + Wait + Sync>(
+    rt: &R,
+    command: Command,
+) -> Result<ExitCode> {
     match command {
         Command::Counts => print_counts(rt)?,
         Command::Lex(kind, bytes) => lexing::print_time(rt, kind, bytes)?,
         Command::Gather(modules) => gathering::print_time(rt, modules)?,
         Command::Cut(procedures) => cutting::print_time(rt, procedures)?,
         Command::Merge(procedures) => merging::print_time(rt, procedures)?,
+        Command::Work(makers, procedures) => working::print_time(rt, makers, procedures)?,
         Command::Parse(shape, tokens) => parsing::print_time(rt, shape, tokens)?,
         Command::Compile(shape, size) => compiling::print_time(rt, shape, size)?,
         Command::Read(shape, bytes) => reading::print_time(rt, shape, bytes)?,
@@ -95,13 +109,16 @@ fn obey(rt: &HostRuntime, command: Command) -> Result<ExitCode> {
 }
 
 /// A small run of each part.
-fn print_counts(rt: &HostRuntime) -> Result<()> {
+fn print_counts<R: AllocGlobal + Print + Clock + Threads + Wait + Sync>(rt: &R) -> Result<()> {
     for kind in Kind::ALL {
         lexing::print_counts(rt, kind, FEW_BYTES)?;
     }
     gathering::print_counts(rt, FEW_MODULES)?;
     cutting::print_counts(rt, FEW_PROCEDURES)?;
     merging::print_counts(rt, FEW_PROCEDURES)?;
+    for makers in [Makers::OneThread, Makers::Workers(FEW_WORKERS)] {
+        working::print_counts(rt, makers, FEW_PROCEDURES)?;
+    }
     for shape in Shape::ALL {
         parsing::print_counts(rt, shape, FEW_TOKENS)?;
     }

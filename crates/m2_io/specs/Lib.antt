@@ -6,5 +6,6 @@ pub mod Left
 pub mod MemShelf
 pub mod MemSink
 pub mod MemSource
+pub mod Pieces
 pub mod PlainName
 pub mod Written

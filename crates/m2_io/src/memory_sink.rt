@@ -1,5 +1,5 @@
 //! A sink in memory.
-ghost use Rattle.std.specs.Prelude.{◌≡◌, ◌≤◌, ◌++◌, ◌⊎◌, ◌↔◌, ◌≢◌, ◌-◌, [], Some, IfOk, IsErr, OnErr, vec_capacity, length, take, min};
+ghost use Rattle.std.specs.Prelude.{◌≡◌, ◌≤◌, ◌++◌, ◌⊎◌, ◌↔◌, ◌≢◌, ◌-◌, [], Some, IfOk, IsErr, IsOk, OnErr, vec_capacity, length, take, min};
 ghost use Rattle.m2_io.specs.Calls.{calls_that_fail_at, NextFails, after_call};
 ghost use Rattle.m2_io.specs.Causes.{RoseWhere};
 
@@ -56,6 +56,8 @@ impl Sink for MemSink {
 
     ghost written = { λ s. Some (bytes_of s) };
 
+    ghost kept = { λ _. 0 };
+
     ghost faults = { faults_of };
 
     fn write(&mut self, bytes: &[u8]) -> Result<usize, SinkError>
@@ -85,5 +87,15 @@ impl Sink for MemSink {
         let count = bytes.len().min(self.most).min(free);
         self.bytes.extend_from_slice(&bytes[..count]).unwrap();
         Ok(count)
+    }
+
+    /// Does nothing, since nothing is kept back. It is no call that is numbered.
+    fn flush(&mut self) -> Result<(), SinkError>
+        ensures ok { IsOk result }
+        ensures same { self.new ≡ self.old }
+        ensures written { bytes_of self.new ≡ bytes_of self.old }
+        ensures later { faults_of self.old ≤ faults_of self.new }
+    {
+        Ok(())
     }
 }

@@ -7,10 +7,13 @@ ghost use Rattle.m2_io.specs.Written.{with_bytes, WritesPart};
 #[derive(Clone, Copy, Debug, PartialEq, Eq)]
 pub struct SinkError;
 
-/// Something that takes bytes.
+/// Something that takes bytes, and may keep the last of them back until it is flushed.
 pub trait Sink {
-    /// The bytes that were written, where the sink tells them.
+    /// The bytes that were written, those kept back included, where the sink tells them.
     ghost written: { Self → Option (List ℕ) };
+
+    /// How many of them it keeps back.
+    ghost kept: { Self → ℕ };
 
     /// How often a write has failed.
     ghost faults: { Self → ℕ };
@@ -24,6 +27,13 @@ pub trait Sink {
         ensures err { OnErr result (written self.new ≡ written self.old) }
 
         // It fails only where it counts a fault.
+        ensures failed { OnErr result (Rose (faults self.old) (faults self.new)) }
+        ensures later { faults self.old ≤ faults self.new };
+
+    /// Hands on all that is kept back.
+    fn flush(&mut self) -> Result<(), SinkError>
+        ensures written { written self.new ≡ written self.old }
+        ensures kept { OnOk result (kept self.new ≡ 0) }
         ensures failed { OnErr result (Rose (faults self.old) (faults self.new)) }
         ensures later { faults self.old ≤ faults self.new };
 }

@@ -23,12 +23,24 @@ impl<W: Write + Drop> StdSink<W> {
 impl<W: Write + Drop> Sink for StdSink<W> {
     ghost written = { λ _. None };
 
+    ghost kept = { λ _. 0 };
+
     ghost faults = { λ s. s.faults };
 
     fn write(&mut self, bytes: &[u8]) -> Result<usize, SinkError> {
         match self.writer.write(bytes) {
             Ok(count) if count > 0 || bytes.is_empty() => Ok(count),
             _ => {
+                self.faults = self.faults.saturating_add(1);
+                Err(SinkError)
+            }
+        }
+    }
+
+    fn flush(&mut self) -> Result<(), SinkError> {
+        match self.writer.flush() {
+            Ok(()) => Ok(()),
+            Err(_) => {
                 self.faults = self.faults.saturating_add(1);
                 Err(SinkError)
             }

@@ -1,6 +1,6 @@
 -- What words ask for.
 use Rattle.std.proofs.Common.{◌⊎◌, inl, inr, ℕ, List, Option, Result, Ok, Err, IfOk, IfSome, subst}
-use Rattle.command_words.specs.Command.{Asks, Command, IsNoCommand, compile, dump, run}
+use Rattle.command_words.specs.Command.{Asks, Command, IsNoCommand, big, compile, dump, run}
 use Rattle.command_words.proofs.OneCommand.{one_command_lem}
 use Rattle.m2_io.specs.Files.{Files}
 use Rattle.m2c_top.specs.Effects.{AsksToCompile, IsToCompile, OfCompiled, ToCompile}
@@ -19,6 +19,7 @@ pub asks_to_compile : (words : List (List ℕ)) (command : Command) → Asks wor
 asks_to_compile words (compile name workers) asks P is = (name, workers, asks, is)
 asks_to_compile words (run name steps cells) asks P is = absurd is
 asks_to_compile words (dump name) asks P is = absurd is
+asks_to_compile words (big procedures workers) asks P is = absurd is
 
 pub or_asks : (words : List (List ℕ)) (command : Command) → Asks words command → (Q : Type 0) (P : List ℕ → Type 0) → Q ⊎ IsToCompile command P → Q ⊎ AsksToCompile words P
 or_asks words command asks Q P (inl q) = inl q

@@ -3,8 +3,9 @@ use Rattle.std.proofs.Common.{◌≡◌, ◌↔◌, ℕ, List, Option, Result, O
 use Rattle.std.specs.Prelude.{IsErrOf}
 use Rattle.m2_io.specs.Files.{Files}
 use Rattle.m2_io.specs.Written.{WritesPart}
-use Rattle.command_words.specs.Command.{Command, compile, dump, run}
+use Rattle.command_words.specs.Command.{Command, big, compile, dump, run}
 use Rattle.compile_command.specs.Answers.{Comes}
+use Rattle.compile_command.specs.Big.{LeavesSummary, PrintsSummaryPart, Summarizes}
 use Rattle.compile_command.specs.Outcome.{Compiles, Leaves as CompileLeaves, PrintsPart as CompilePart}
 use Rattle.compile_command.specs.declared.answer.Answer.{Answer as CompileAnswer}
 use Rattle.compile_command.specs.declared.answer.Stop.TheVariants as compile_stop
@@ -15,14 +16,14 @@ use Rattle.object_commands.specs.Runs.{Runs}
 use Rattle.object_commands.specs.declared.answer.Answer.{Answer}
 use Rattle.object_commands.specs.declared.answer.Stop.TheVariants as object_stop
 use Rattle.object_commands.specs.declared.answer.Stop.{Stop as ObjectStop}
-use Rattle.m2c_top.specs.Effects.{Does, Effect, IsTold, Leaves, OfCompiled, PrintsPart, compiles, dumps, runs}
+use Rattle.m2c_top.specs.Effects.{Does, Effect, IsTold, Leaves, OfCompiled, PrintsPart, compiles, counts_big, dumps, runs}
 use Rattle.m2c_top.specs.Ending.{ended_compiling, ended_over}
 use Rattle.m2c_top.specs.Statuses.{IsCompiledAs, status_after, status_compiled, status_number}
 use Rattle.m2c_top.specs.declared.ending.Stop.{Stop}
 use Rattle.m2c_top.specs.declared.ending.Stop.TheVariants as stop
 use Rattle.m2c_top.specs.declared.status.Status.{Status}
 use Rattle.m2c_top.proofs.Compiled.{files_told}
-use Rattle.m2c_top.proofs.OtherCommands.{compile_dump, compile_run, run_dump}
+use Rattle.m2c_top.proofs.OtherCommands.{compile_big, compile_dump, compile_run, dump_big, run_big, run_dump}
 use Rattle.m2c_top.proofs.Told.{map_told, some_same, tells, told, told_all}
 
 -- what the work for a command leaves, and what it prints where it is given up
@@ -42,13 +43,6 @@ compiling_ended : (s : CompileStop) (P : Type 0) → P → OnErr (ended_compilin
 compiling_ended compile_stop.Read P p = p
 compiling_ended compile_stop.Write P p = p
 compiling_ended compile_stop.Memory P p = p
-
--- where writing failed, it failed while compiling
-pub writing_ended : (r : Result CompileAnswer CompileStop) → IsErrOf (ended_compiling r) stop.Write → IsErrOf r compile_stop.Write
-writing_ended (Ok answer) e = cc
-writing_ended (Err compile_stop.Read) e = cc
-writing_ended (Err compile_stop.Write) e = refl
-writing_ended (Err compile_stop.Memory) e = cc
 
 -- the status of what is compiled, where it is
 module _ (holds : Option Files) where
@@ -75,6 +69,10 @@ module _ (holds : Option Files) where
   pub dumped_comes : (ended : Result Status Stop) (name : List ℕ) → ComesDone ended (dump name)
   dumped_comes (Ok status) name = told_all holds (λ files. Unit {0}) (λ files. tt)
   dumped_comes (Err s) name = tt
+
+  pub counted_comes : (ended : Result Status Stop) (procedures workers : ℕ) → ComesDone ended (big procedures workers)
+  counted_comes (Ok status) procedures workers = told_all holds (λ files. Unit {0}) (λ files. tt)
+  counted_comes (Err s) procedures workers = tt
 
 module _ (holds : Option Files) (old new left : Option (List ℕ)) where
   -- ** Compiling
@@ -109,6 +107,7 @@ module _ (holds : Option Files) (old new left : Option (List ℕ)) where
         part o (subst (λ x. Compiles (Some files) x o) same h)
     compiled_part files command effect e part (runs n steps cells input o t h) = absurd (compile_run name workers n steps cells e)
     compiled_part files command effect e part (dumps n printed answer h) = absurd (compile_dump name workers n e)
+    compiled_part files command effect e part (counts_big n w answer printed h) = absurd (compile_big name workers n w e)
 
     pub compiled_prints : (r : Result CompileAnswer CompileStop) (ended : Result Status Stop) → ended ≡ ended_compiling r → OnErr r (IfSome holds (λ files. CompilePart (Compiles (Some files) name) old new))
         → OnErr ended (IfSome holds (λ files. IsTold left (compile name workers) → PrintsPart (Does files left (compile name workers)) old new))
@@ -157,6 +156,7 @@ module _ (holds : Option Files) (old new left : Option (List ℕ)) where
         let read : i ≡ input = some_same i input (sym u ∙ t) in
         part o (subst (λ x. Runs (Some files) name steps cells x o) read (subst (λ x. Runs (Some files) name steps x i o) room (subst (λ x. Runs (Some files) name x c i o) most (subst (λ x. Runs (Some files) x s c i o) is h))))
     ran_part files command effect input e t part (dumps n printed answer h) = absurd (run_dump name steps cells n e)
+    ran_part files command effect input e t part (counts_big n w answer printed h) = absurd (run_big name steps cells n w e)
 
     pub ran_prints : (r : Result Answer ObjectStop) (ended : Result Status Stop) → ended ≡ ended_over r → OnErr r (IfSome holds (λ files. IfSome left (λ input. LeavesPart (Runs (Some files) name steps cells input) old new)))
         → OnErr ended (IfSome holds (λ files. IsTold left (run name steps cells) → PrintsPart (Does files left (run name steps cells)) old new))
@@ -196,6 +196,7 @@ module _ (holds : Option Files) (old new left : Option (List ℕ)) where
     dumped_part files command effect e part (dumps n printed answer h) =
         let same : n ≡ name = cc in
         part printed answer (subst (λ x. Dumps (Some files) x printed answer) same h)
+    dumped_part files command effect e part (counts_big n w answer printed h) = absurd (dump_big name n w e)
 
     pub dumped_prints : (r : Result Answer ObjectStop) (ended : Result Status Stop) → ended ≡ ended_over r → OnErr r (IfSome holds (λ files. DumpPart (Dumps (Some files) name) old new))
         → OnErr ended (IfSome holds (λ files. IsTold left (dump name) → PrintsPart (Does files left (dump name)) old new))
@@ -206,3 +207,44 @@ module _ (holds : Option Files) (old new left : Option (List ℕ)) where
         go (Ok answer) part = tt
         go (Err s) part = err_ended s _ (map_told holds _ (λ files. IsTold left (dump name) → PrintsPart (Does files left (dump name)) old new)
             (λ files p t effect does. dumped_part files (dump name) effect refl p does) part)
+
+  -- ** Counting
+
+  module _ (procedures workers : ℕ) where
+    counted_so : (after : Option Files) (r : Result CompileAnswer CompileStop) → after ≡ holds → IfOk r (λ answer. LeavesSummary holds procedures answer old new)
+        → IfOk (ended_compiling r) (λ status. IfSome holds (λ files. IsTold left (big procedures workers) → Leaves (Does files left (big procedures workers)) (status_number status) after old new left))
+    counted_so after (Ok answer) same l = told holds (λ files has t. record {
+      effect = record { status = status_compiled answer; printed = l.printed; files = files; left = left };
+      is_given = counts_big procedures workers answer l.printed (subst (λ h. Summarizes h procedures answer l.printed) has l.is);
+      status_is = refl;
+      files_are = same ∙ has;
+      printed_is = l.printed_is;
+      left_is = refl;
+    })
+    counted_so after (Err compile_stop.Read) same leaves = tt
+    counted_so after (Err compile_stop.Write) same leaves = tt
+    counted_so after (Err compile_stop.Memory) same leaves = tt
+
+    pub counted_leaves : (after : Option Files) (r : Result CompileAnswer CompileStop) (ended : Result Status Stop) → after ≡ holds → ended ≡ ended_compiling r → IfOk r (λ answer. LeavesSummary holds procedures answer old new)
+        → IfOk ended (λ status. IfSome holds (λ files. IsTold left (big procedures workers) → Leaves (Does files left (big procedures workers)) (status_number status) after old new left))
+    counted_leaves after r ended same e leaves =
+        subst (λ x. IfOk x (λ status. IfSome holds (λ files. IsTold left (big procedures workers) → Leaves (Does files left (big procedures workers)) (status_number status) after old new left))) (sym e)
+        (counted_so after r same leaves)
+
+    counted_part : (files : Files) (command : Command) (effect : Effect) → big procedures workers ≡ command → PrintsSummaryPart (Some files) procedures old new → Does files left command effect → WritesPart old effect.printed new
+    counted_part files command effect e part (compiles n w o after h there) = absurd (compile_big n w procedures workers (sym e))
+    counted_part files command effect e part (runs n s c i o u h) = absurd (run_big n s c procedures workers (sym e))
+    counted_part files command effect e part (dumps n printed answer h) = absurd (dump_big n procedures workers (sym e))
+    counted_part files command effect e part (counts_big n w answer printed h) =
+        let same : n ≡ procedures = cc in
+        part answer printed (subst (λ x. Summarizes (Some files) x answer printed) same h)
+
+    pub counted_prints : (r : Result CompileAnswer CompileStop) (ended : Result Status Stop) → ended ≡ ended_compiling r → OnErr r (IfSome holds (λ files. PrintsSummaryPart (Some files) procedures old new))
+        → OnErr ended (IfSome holds (λ files. IsTold left (big procedures workers) → PrintsPart (Does files left (big procedures workers)) old new))
+    counted_prints r ended e part = subst (λ x. OnErr x (IfSome holds (λ files. IsTold left (big procedures workers) → PrintsPart (Does files left (big procedures workers)) old new))) (sym e) (go r part)
+      where
+        go : (r : Result CompileAnswer CompileStop) → OnErr r (IfSome holds (λ files. PrintsSummaryPart (Some files) procedures old new))
+            → OnErr (ended_compiling r) (IfSome holds (λ files. IsTold left (big procedures workers) → PrintsPart (Does files left (big procedures workers)) old new))
+        go (Ok answer) part = tt
+        go (Err s) part = compiling_ended s _ (map_told holds _ (λ files. IsTold left (big procedures workers) → PrintsPart (Does files left (big procedures workers)) old new)
+            (λ files p t effect does. counted_part files (big procedures workers) effect refl p does) part)

@@ -2,7 +2,7 @@
 use Rattle.std.proofs.Common.{◌≡◌, ◌⊎◌, ◌∙◌, ◌==◌, inl, inr, ℕ, List, Option, Result, Ok, Err, if◌then◌else◌, refl, sym, ap, subst, arith, IfSome, IfOk, OnErr}
 use Rattle.std.specs.Prelude.{IsErrOf}
 use Rattle.m2_io.specs.Files.{Files}
-use Rattle.command_words.specs.Command.{Command, IsNoCommand, compile, dump, run}
+use Rattle.command_words.specs.Command.{Command, IsNoCommand, big, compile, dump, run}
 use Rattle.compile_command.specs.Answers.{Comes}
 use Rattle.compile_command.specs.declared.answer.Answer.{Answer as CompileAnswer}
 use Rattle.compile_command.specs.declared.answer.Answer.TheVariants as compiling
@@ -63,6 +63,7 @@ answers_number : (command : Command) (status : Status) → Answers command statu
 answers_number (compile name workers) status a = subst (λ s. IsAnswered (status_number s)) (sym a.1) (compiled_number a.0)
 answers_number (run name steps cells) status a = subst (λ s. IsAnswered (status_number s)) (sym a.1) (object_number a.0)
 answers_number (dump name) status a = subst (λ s. IsAnswered (status_number s)) (sym a.1) (object_number a.0)
+answers_number (big procedures workers) status a = subst (λ s. IsAnswered (status_number s)) (sym a.1) (compiled_number a.0)
 
 well_number : (words : List (List ℕ)) (status : Status) → IsWellEnded words status → IsAnswered (status_number status) ⊎ (status_number status ≡ 2)
 well_number words status (inl p) = inl (answers_number p.0 status p.2)
@@ -184,3 +185,7 @@ ends_keeping P (Ok status) kept unread memory not_done not_written = kept (λ e.
 ends_keeping P (Err stop.Read) kept unread memory not_done not_written = unread refl
 ends_keeping P (Err stop.Write) kept unread memory not_done not_written = absurd (not_written refl)
 ends_keeping P (Err stop.Memory) kept unread memory not_done not_written = memory refl
+
+pub ends_handed : (P : Type 0) (r : Result Status Stop) (n : ℕ) → n ≡ number_of r → IsErrOf r stop.Write ⊎ P → (n ≡ 5) ⊎ P
+ends_handed P r n is (inl e) = inl (is ∙ ap number_of e)
+ends_handed P r n is (inr p) = inr p

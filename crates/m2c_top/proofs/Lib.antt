@@ -2,6 +2,8 @@ mod Asking
 mod Carrying
 mod Compiled
 mod Ends
+mod HandedOn
+mod Keeping
 mod Named
 mod Obeying
 mod OneOutcome

@@ -1,5 +1,6 @@
 -- What doing the words' command leaves.
-use Rattle.std.proofs.Common.{◌≡◌, ℕ, List, Option, Result, Ok, Err, refl, sym, ◌∙◌, subst, IfSome, IfOk, OnErr, OnOk}
+use Rattle.std.proofs.Common.{◌≡◌, ℕ, List, [], ◌∷◌, ◌++◌, Option, Some, None, Result, Ok, Err, refl, sym, ◌∙◌, ap, subst, IfSome, IfOk, OnErr, OnOk}
+use Rattle.object_commands.specs.Outcomes.{ReadsPart}
 use Rattle.m2_io.specs.Files.{Files}
 use Rattle.m2_io.specs.Written.{WritesPart, with_bytes}
 use Rattle.command_words.specs.Command.{Asks, Command, IsNoCommand, compile}
@@ -60,3 +61,20 @@ module _ (words : List (List ℕ)) (holds after : Option Files) (old new before 
       go : (effect : Effect) → {files : Files} → Gives words files before effect → WritesPart old effect.printed new
       go effect (no_command other) = part
       go effect (commanded c e asks does) = absurd (none c asks)
+
+-- ** Where the words find no memory, nothing is printed and nothing is read
+
+append-nil : (xs : List ℕ) → xs ++ [] ≡ xs
+append-nil [] = refl
+append-nil (x ∷ xs) = ap (λ ys. x ∷ ys) (append-nil xs)
+
+printed_none : (old : Option (List ℕ)) (bytes : List ℕ) → WritesPart old bytes old
+printed_none None bytes = (0, refl)
+printed_none (Some old) bytes = (0, ap (λ x. Some x) (sym (append-nil old)))
+
+pub nothing_printed : (words : List (List ℕ)) (holds : Option Files) (old before : Option (List ℕ)) → IfSome holds (λ files. HasInput words before → PrintsPart (Gives words files before) old old)
+nothing_printed words holds old before = told holds (λ files has input effect given. printed_none old effect.printed)
+
+pub nothing_read : (left : Option (List ℕ)) → IfSome left (λ input. ReadsPart input left)
+nothing_read None = tt
+nothing_read (Some input) = (0, refl)

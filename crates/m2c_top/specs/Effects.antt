@@ -1,8 +1,10 @@
 -- What the words of a command line leave: the status, what is printed, the files of the shelf, and what is left of the input.
 use Rattle.std.specs.Prelude.{◌≡◌, ℕ, List, Option, Some, codes}
-use Rattle.command_words.specs.Command.{Asks, Command, IsNoCommand, compile, dump, run}
+use Rattle.command_words.specs.Command.{Asks, Command, IsNoCommand, big, compile, dump, run}
+use Rattle.compile_command.specs.Big.{Summarizes}
 use Rattle.compile_command.specs.Lines.{line}
 use Rattle.compile_command.specs.Outcome.{Compiles, Outcome as CompileOutcome}
+use Rattle.compile_command.specs.declared.answer.Answer.{Answer as CompileAnswer}
 use Rattle.m2_io.specs.Files.{Files}
 use Rattle.m2_io.specs.Written.{WritesPart, with_bytes}
 use Rattle.object_commands.specs.Dumps.{Dumps}
@@ -20,7 +22,7 @@ pub record Effect : Type 0 where
   pub left : Option (List ℕ)
 
 abbrev pub usage : List ℕ
-usage = line (codes "usage: m2c compile NAME [--workers N] | run NAME [--steps N] [--cells N] | dump NAME")
+usage = line (codes "usage: m2c compile NAME [--workers N] | run NAME [--steps N] [--cells N] | dump NAME | big N [--workers N]")
 
 -- What a command leaves over these files, where this is left of the input.
 pub data Does (files : Files) (left : Option (List ℕ)) : Command → Effect → Type 0 where
@@ -30,6 +32,8 @@ pub data Does (files : Files) (left : Option (List ℕ)) : Command → Effect �
       → Does files left (run name steps cells) (record { status = status_after outcome.answer; printed = outcome.printed; files = files; left = Some outcome.left })
   dumps : (name printed : List ℕ) (answer : Answer) → Dumps (Some files) name printed answer
       → Does files left (dump name) (record { status = status_after answer; printed = printed; files = files; left = left })
+  counts_big : (procedures workers : ℕ) (answer : CompileAnswer) (printed : List ℕ) → Summarizes (Some files) procedures answer printed
+      → Does files left (big procedures workers) (record { status = status_compiled answer; printed = printed; files = files; left = left })
 
 -- What the words leave.
 pub data Gives (words : List (List ℕ)) (files : Files) (left : Option (List ℕ)) : Effect → Type 0 where

@@ -1,6 +1,6 @@
 -- The statuses, and when one is answered.
 use Rattle.std.specs.Prelude.{◌≡◌, ◌↔◌, ◌⊎◌, ℕ, List}
-use Rattle.command_words.specs.Command.{Command, compile}
+use Rattle.command_words.specs.Command.{Command, big, compile}
 use Rattle.compile_command.specs.Answers.{Comes}
 use Rattle.compile_command.specs.declared.answer.Answer.{Answer as CompileAnswer}
 use Rattle.compile_command.specs.declared.answer.Answer.TheVariants as compiling
@@ -51,6 +51,7 @@ status_after objects.StepsSpent = StepsSpent
 -- what a command can answer without a fault
 abbrev pub Answers : Command → Status → Type 0
 Answers (compile name workers) status = (answer : CompileAnswer) × (status ≡ status_compiled answer)
+Answers (big procedures workers) status = (answer : CompileAnswer) × (status ≡ status_compiled answer)
 Answers _ status = (answer : ObjectAnswer) × (status ≡ status_after answer)
 
 -- the status of compiling this module is that of the answer which comes by the files

@@ -5,3 +5,4 @@ mod Finishing
 mod OneCode
 pub mod OneOutcome
 mod Saying
+pub mod Rears

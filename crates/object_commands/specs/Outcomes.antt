@@ -1,5 +1,5 @@
 -- What a command over objects leaves.
-use Rattle.std.specs.Prelude.{◌≡◌, ℕ, List, Option, Some}
+use Rattle.std.specs.Prelude.{◌≡◌, ℕ, List, Option, Some, drop}
 use Rattle.m2_io.specs.Written.{with_bytes, WritesPart}
 use Rattle.object_text.specs.declared.fault.PrintFault.TheVariants as prints
 use Rattle.object_text.specs.declared.fault.PrintFault.{PrintFault}
@@ -33,6 +33,10 @@ PrintsPart given old new = (printed : List ℕ) (answer : Answer) → given prin
 
 abbrev pub LeavesPart : (Outcome → Type 0) → Option (List ℕ) → Option (List ℕ) → Type 0
 LeavesPart given old new = (outcome : Outcome) → given outcome → WritesPart old outcome.printed new
+
+-- some first bytes of the input were read, and the rest of it is left
+abbrev pub ReadsPart : (input : List ℕ) → (left : Option (List ℕ)) → Type 0
+ReadsPart input left = (taken : ℕ) × (left ≡ Some (drop taken input))
 
 -- why an object isn't printed
 abbrev pub stop_of_print : PrintFault → Stop

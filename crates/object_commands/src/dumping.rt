@@ -24,6 +24,7 @@ pub fn dump<H: Shelf, P: Sink>(
     ensures part { OnErr result (IfSome (H.holds shelf.old) (λ files. PrintsPart (Dumps (Some files) name.now) (P.written print.old) (P.written print.new))) }
     ensures read { IsErrOf result Stop.Read → Rose (H.faults shelf.old) (H.faults shelf.new) }
     ensures write { IsErrOf result Stop.Write → Rose (P.faults print.old) (P.faults print.new) }
+    ensures later { P.faults print.old ≤ P.faults print.new }
     // The shelf stays as it is.
     ensures holds { H.holds shelf.new ≡ H.holds shelf.old }
     ensures put_faults { H.put_faults shelf.new ≡ H.put_faults shelf.old }

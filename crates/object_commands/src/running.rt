@@ -2,7 +2,7 @@
 ghost use Rattle.std.specs.Prelude.{◌≡◌, ◌⊎◌, ◌<◌, ◌≤◌, IfOk, IfSome, IsErrOf, OnErr, Some, length};
 ghost use Rattle.m2_io.specs.Causes.{Rose};
 ghost use Rattle.stack_machine.specs.Machines.{TrapsWithin};
-ghost use Rattle.object_commands.specs.Outcomes.{Leaves, LeavesPart};
+ghost use Rattle.object_commands.specs.Outcomes.{Leaves, LeavesPart, ReadsPart};
 ghost use Rattle.object_commands.specs.Runs.{Finishes, FinishesPart, HasCode, Runs, RunsProgram};
 
 use crate::answer::{Answer, Stop};
@@ -63,6 +63,7 @@ fn finish<P: Sink>(
 }
 
 /// Runs a program.
+#[tactic(auto, using(crate::proofs::Rears::nothing_read))]
 fn run_program<P: Sink, K: Source>(
     alloc: Global,
     settings: &Settings,
@@ -75,8 +76,10 @@ fn run_program<P: Sink, K: Source>(
         Leaves (RunsProgram program settings.now.steps settings.now.cells input) answer (P.written print.old) (P.written print.new) (K.left keys.new))) }
     ensures part { OnErr result (IfSome (K.left keys.old) (λ input.
         LeavesPart (RunsProgram program settings.now.steps settings.now.cells input) (P.written print.old) (P.written print.new))) }
+    ensures left { IfSome (K.left keys.old) (λ input. ReadsPart input (K.left keys.new)) }
     ensures read { IsErrOf result Stop.Read → Rose (K.faults keys.old) (K.faults keys.new) }
     ensures write { IsErrOf result Stop.Write → Rose (P.faults print.old) (P.faults print.new) }
+    ensures later { P.faults print.old ≤ P.faults print.new }
 {
     match Machine::new(alloc, program, settings.cells) {
         Ok(mut machine) => {
@@ -93,6 +96,7 @@ fn run_program<P: Sink, K: Source>(
 }
 
 /// Runs the program of a module: what it prints goes to the sink as it comes, and it reads from the source no further than it asks.
+#[tactic(auto, using(crate::proofs::Rears::nothing_read))]
 pub fn run<H: Shelf, P: Sink, K: Source>(
     alloc: Global,
     settings: &Settings,
@@ -106,8 +110,11 @@ pub fn run<H: Shelf, P: Sink, K: Source>(
     // After a fault a front of it was printed.
     ensures part { OnErr result (IfSome (H.holds shelf.old) (λ files. IfSome (K.left keys.old) (λ input.
         LeavesPart (Runs (Some files) settings.now.name.now settings.now.steps settings.now.cells input) (P.written print.old) (P.written print.new)))) }
+    // However it ends, a front of the input was read.
+    ensures left { IfSome (K.left keys.old) (λ input. ReadsPart input (K.left keys.new)) }
     ensures read { IsErrOf result Stop.Read → Rose (H.faults shelf.old) (H.faults shelf.new) ⊎ Rose (K.faults keys.old) (K.faults keys.new) }
     ensures write { IsErrOf result Stop.Write → Rose (P.faults print.old) (P.faults print.new) }
+    ensures later { P.faults print.old ≤ P.faults print.new }
     // The shelf stays as it is.
     ensures holds { H.holds shelf.new ≡ H.holds shelf.old }
     ensures put_faults { H.put_faults shelf.new ≡ H.put_faults shelf.old }

@@ -197,6 +197,12 @@ read_failed failures.Write end p1 p2 k0 k1 k2 e le h is = absurd (differ (sym e 
   differ x = cc
 read_failed failures.Read end p1 p2 k0 k1 k2 e le h is = rose_from k0 k1 k2 le h
 
+pub read_handed : (failure : Failure) (end : End) (kept : ℕ) → end ≡ failed_end failure → (failure ≡ failures.Read → kept ≡ 0) → end ≡ ends.ReadFailed → kept ≡ 0
+read_handed failures.Read end kept e h is = h refl
+read_handed failures.Write end kept e h is = absurd (differ (sym e ∙ is)) where
+  differ : ends.WriteFailed ≡ ends.ReadFailed → ⊥
+  differ x = cc
+
 trap_no_failure : (end : End) (p : Program) (c : Trap) (at : ℕ) → IsTrapped end p c at → (end ≡ ends.WriteFailed → ⊥) × (end ≡ ends.ReadFailed → ⊥)
 trap_no_failure ends.StepsSpent p c at is = absurd is
 trap_no_failure ends.Halted p c at is = absurd is

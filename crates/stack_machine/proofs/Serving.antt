@@ -12,7 +12,7 @@ use Rattle.stack_machine.specs.declared.op.Service.TheVariants as service
 use Rattle.stack_machine.specs.declared.next.Next.{Next as CodeNext}
 use Rattle.stack_machine.specs.declared.reading.Reading.{Reading}
 use Rattle.stack_machine.specs.State.{State, Program}
-use Rattle.stack_machine.specs.InOut.{Got, params_of, printed, got_by}
+use Rattle.stack_machine.specs.InOut.{Got, Reads, params_of, printed, got_by}
 use Rattle.stack_machine.specs.Step.{Next, does, served, step}
 use Rattle.stack_machine.specs.Able.{Comes}
 use Rattle.stack_machine.specs.Runs.{asked_by, asked, prints_by, gets_by, service_in}
@@ -105,6 +105,11 @@ broken_read bytes left left' w0 w e h = told_map left (λ l. (n : ℕ) × (left'
 pub failed_read : (r : Result CodeNext Failure) (p0 p1 k0 k1 : ℕ) → IfErr r (λ e. e ≡ failures.Read) → OnErr r (Rose k0 k1) → IfErr r (λ e. FailedWith e p0 p1 k0 k1)
 failed_read (Ok next) p0 p1 k0 k1 is h = tt
 failed_read (Err e) p0 p1 k0 k1 is h = subst (λ (x : Failure). FailedWith x p0 p1 k0 k1) (sym is) h
+
+-- what was handed on before a read that failed
+pub handed_before : (r : Result CodeNext Failure) (v : Service) (kept : ℕ) → OnErr r (Reads v) → (Reads v → kept ≡ 0) → IfErr r (λ e. e ≡ failures.Read → kept ≡ 0)
+handed_before (Ok next) v kept reads h = tt
+handed_before (Err e) v kept reads h = λ is. h reads
 
 some_asked : (p : Program) (op : Op) (s : State) (v : Service) → slice_get p.ops s.at ≡ Some op → Some v ≡ asked_by p (Some op) s → asked p s ≡ Some v
 unfolding asked

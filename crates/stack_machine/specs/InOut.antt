@@ -22,6 +22,17 @@ params_of WriteLn = 0
 params_of WriteInt = 2
 params_of WriteCard = 2
 
+-- it reads
+abbrev pub Reads : Service → Type 0
+Reads Read = Unit {0}
+Reads ReadInt = Unit {0}
+Reads ReadCard = Unit {0}
+Reads Write = ⊥
+Reads WriteString = ⊥
+Reads WriteLn = ⊥
+Reads WriteInt = ⊥
+Reads WriteCard = ⊥
+
 -- InOut's procedures in the order of their headings; none has a result
 abbrev pub services : List Service
 services = Read ∷ ReadInt ∷ ReadCard ∷ Write ∷ WriteString ∷ WriteLn ∷ WriteInt ∷ WriteCard ∷ []

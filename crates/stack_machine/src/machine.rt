@@ -75,6 +75,7 @@ fn go_on<P: Sink, K: Source>(
     ensures placed { IsPlaced result (program_of code.now) }
     ensures write_failed { result ≡ End.WriteFailed → Rose (P.faults print.old) (P.faults print.new) }
     ensures read_failed { result ≡ End.ReadFailed → Rose (K.faults keys.old) (K.faults keys.new) }
+    ensures handed { result ≡ End.ReadFailed → P.kept print.new ≡ 0 }
     ensures prints_later { P.faults print.old ≤ P.faults print.new }
     ensures reads_later { K.faults keys.old ≤ K.faults keys.new }
 {
@@ -116,6 +117,8 @@ impl Machine {
         // It fails only where a count of faults rose.
         ensures write_failed { result ≡ End.WriteFailed → Rose (P.faults print.old) (P.faults print.new) }
         ensures read_failed { result ≡ End.ReadFailed → Rose (K.faults keys.old) (K.faults keys.new) }
+        // What was written is handed on before each read, also before one that fails.
+        ensures handed { result ≡ End.ReadFailed → P.kept print.new ≡ 0 }
         ensures prints_later { P.faults print.old ≤ P.faults print.new }
         ensures reads_later { K.faults keys.old ≤ K.faults keys.new }
         ensures objects { self.new.objects ≡ self.old.objects }

@@ -1,9 +1,9 @@
 //! What InOut prints.
-ghost use Rattle.std.specs.Prelude.{◌≡◌, ◌≤◌, ◌<◌, ◌^◌, ◌∷◌, [], OnOk, OnErr, IfOk, ℤ, pos, length, replicate, decimal};
+ghost use Rattle.std.specs.Prelude.{◌≡◌, ◌≤◌, ◌<◌, ◌^◌, ◌∷◌, [], OnOk, OnErr, IfOk, true, ℤ, pos, length, replicate, decimal};
 ghost use Rattle.m2_io.specs.Causes.{Rose};
 ghost use Rattle.m2_io.specs.Written.{with_bytes, WritesPart};
 ghost use Rattle.stack_machine.specs.Able.{HasRoom};
-ghost use Rattle.stack_machine.specs.InOut.{char_at as character, IsThere, number_digits, text_at, text_from, padded, number_text, string_of, printed, params_of, is_width, can_go_on};
+ghost use Rattle.stack_machine.specs.InOut.{char_at as character, IsThere, number_digits, text_at, text_from, padded, number_text, string_of, printed, params_of, is_width, can_go_on, Reads};
 ghost use Rattle.stack_machine.specs.Numbers.{low_bits, count_of};
 ghost use Rattle.stack_machine.specs.Operands.{top_of};
 ghost use Rattle.stack_machine.specs.State.{state_of};
@@ -213,7 +213,19 @@ fn write_string<P: Sink>(print: &mut P, core: &Core) -> Result<bool, SinkError>
     write_from(print, &core.cells, n, operand(core, 1))
 }
 
-/// Writes what a procedure prints, and says whether it can go on.
+/// Hands on what the sink keeps back, before a procedure reads.
+fn hand_on<P: Sink>(print: &mut P) -> Result<bool, SinkError>
+    ensures goes { IfOk result (λ ok. ok ≡ true) }
+    ensures kept { OnOk result (P.kept print.new ≡ 0) }
+    ensures written { P.written print.new ≡ with_bytes (P.written print.old) [] }
+    ensures failed { OnErr result (Rose (P.faults print.old) (P.faults print.new)) }
+    ensures later { P.faults print.old ≤ P.faults print.new }
+{
+    print.flush()?;
+    Ok(true)
+}
+
+/// Writes what a procedure prints, or hands on what the sink keeps back where the procedure reads; and says whether it can go on.
 pub(crate) fn print<P: Sink>(
     service: Service,
     print: &mut P,
@@ -224,6 +236,7 @@ pub(crate) fn print<P: Sink>(
     ensures goes { IfOk result (λ ok. ok ≡ can_go_on service core.now.cells.items (state_of core.now).operands) }
     ensures ok { OnOk result (P.written print.new ≡ with_bytes (P.written print.old) (printed service core.now.cells.items (state_of core.now).operands)) }
     ensures err { OnErr result (WritesPart (P.written print.old) (printed service core.now.cells.items (state_of core.now).operands) (P.written print.new)) }
+    ensures handed { OnOk result (Reads service → P.kept print.new ≡ 0) }
     ensures failed { OnErr result (Rose (P.faults print.old) (P.faults print.new)) }
     ensures later { P.faults print.old ≤ P.faults print.new }
 {
@@ -239,6 +252,6 @@ pub(crate) fn print<P: Sink>(
         Service::WriteString => write_string(print, core),
         Service::WriteInt => write_number(print, core),
         Service::WriteCard => write_number(print, core),
-        Service::Read | Service::ReadInt | Service::ReadCard => Ok(true),
+        Service::Read | Service::ReadInt | Service::ReadCard => hand_on(print),
     }
 }

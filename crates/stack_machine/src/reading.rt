@@ -2,12 +2,12 @@
 ghost use Rattle.std.specs.Prelude.{◌≡◌, ◌≢◌, IsTrue, ◌≤◌, ◌<◌, ◌+◌, ◌-◌, ◌*◌, ◌^◌, ◌++◌, ℕ, List, IfOk, OnOk, OnErr, IfSome, Some, None, Option, min, drop, slice_get, option_map, pos};
 ghost use Rattle.std.specs.Option.{option_to_list};
 ghost use Rattle.m2_io.specs.Causes.{Rose};
-ghost use Rattle.stack_machine.specs.InOut.{is_blank as blank, is_digit as digit, is_sign as sign, byte_of, got_by, number_of};
+ghost use Rattle.stack_machine.specs.InOut.{is_blank as blank, is_digit as digit, is_sign as sign, byte_of, got_by, number_of, Reads};
 ghost use Rattle.stack_machine.specs.Readings.{Taken, Moves, IsOver, budget, next_is, most, value_by, number_after, sign_at, digit_at, ahead_by, reading_by, IsReading, Passed, Signed, Digits};
 
 use crate::arithmetic::fits;
 use crate::op::{Kind, Service};
-use m2_io::{Source, SourceError};
+use m2_io::{Sink, Source, SourceError};
 
 /// How many bytes one number takes at most.
 const MOST_BYTES: u32 = 65536;
@@ -248,14 +248,17 @@ fn read_number<K: Source>(
     Ok(number_reading(kind, negative, number, ahead))
 }
 
-/// Reads what a procedure reads.
-pub(crate) fn read<K: Source>(
+/// Reads what a procedure reads, once the sink keeps nothing back.
+pub(crate) fn read<P: Sink, K: Source>(
     service: Service,
     kept: Option<u8>,
+    print: &P,
     keys: &mut K,
 ) -> Result<Reading, SourceError>
+    requires handed { Reads service → P.kept print.now ≡ 0 }
     ensures ok { IfOk result (λ r. IfSome (K.left keys.old) (λ l. IsReading r (got_by service kept l) (K.left keys.new))) }
     ensures err { OnErr result (Taken (K.left keys.old) (K.left keys.new)) }
+    ensures reads { OnErr result (Reads service) }
     ensures failed { OnErr result (Rose (K.faults keys.old) (K.faults keys.new)) }
     ensures later { K.faults keys.old ≤ K.faults keys.new }
 {

@@ -2,7 +2,7 @@
 ghost use Rattle.std.specs.Prelude.{◌≡◌, ◌≤◌, ◌<◌, None, Some, ℕ, List, [], length, slice_get, IfOk, IfErr, OnErr, IfSome, option_map};
 ghost use Rattle.m2_io.specs.Causes.{Rose};
 ghost use Rattle.stack_machine.specs.Able.{HasRoom, CanDo, Comes};
-ghost use Rattle.stack_machine.specs.InOut.{Got, params_of, printed, can_go_on};
+ghost use Rattle.stack_machine.specs.InOut.{Got, params_of, printed, can_go_on, Reads};
 ghost use Rattle.stack_machine.specs.Machines.{IsPlaced};
 ghost use Rattle.stack_machine.specs.Operands.{top_of};
 ghost use Rattle.stack_machine.specs.Readings.{Taken};
@@ -95,14 +95,16 @@ fn asked_for(code: &Code, core: &Core, op: &Op) -> Option<Asked>
     }
 }
 
-/// Reads what a procedure of InOut reads, and leaves what it leaves.
-fn read_and_serve<K: Source>(
+/// Reads what a procedure of InOut reads, once the sink keeps nothing back, and leaves what it leaves.
+fn read_and_serve<P: Sink, K: Source>(
     core: &mut Core,
     service: Service,
     n: usize,
     goes_on: bool,
+    print: &P,
     keys: &mut K,
 ) -> Result<Next, Failure>
+    requires handed { Reads service → P.kept print.now ≡ 0 }
     requires able { CanDo core.old n }
     requires some { params_of service ≤ n }
     requires done { 1 < length core.old.cells.items }
@@ -112,11 +114,12 @@ fn read_and_serve<K: Source>(
     ensures same { OnErr result (state_of core.new ≡ state_of core.old) }
     ensures taken { OnErr result (Taken (K.left keys.old) (K.left keys.new)) }
     ensures which { IfErr result (λ e. e ≡ Failure.Read) }
+    ensures reads { OnErr result (Reads service) }
     ensures failed { OnErr result (Rose (K.faults keys.old) (K.faults keys.new)) }
     ensures later { K.faults keys.old ≤ K.faults keys.new }
     ensures room { HasRoom core.new }
 {
-    match reading::read(service, core.kept, keys) {
+    match reading::read(service, core.kept, print, keys) {
         Err(_) => Err(Failure::Read),
         Ok(reading) => Ok(serve(core, service, n, goes_on, reading)),
     }
@@ -138,13 +141,14 @@ fn call_service<P: Sink, K: Source>(
     ensures same { OnErr result (state_of core.new ≡ state_of core.old) }
     ensures broken { OnErr result (IfSome (K.left keys.old) (λ l. Broken (printed service core.old.cells.items (state_of core.old).operands) l (P.written print.old) (P.written print.new) (K.left keys.new))) }
     ensures failed { IfErr result (λ e. FailedWith e (P.faults print.old) (P.faults print.new) (K.faults keys.old) (K.faults keys.new)) }
+    ensures handed { IfErr result (λ e. e ≡ Failure.Read → P.kept print.new ≡ 0) }
     ensures prints_later { P.faults print.old ≤ P.faults print.new }
     ensures reads_later { K.faults keys.old ≤ K.faults keys.new }
     ensures room { HasRoom core.new }
 {
     match printing::print(service, print, core) {
         Err(_) => Err(Failure::Write),
-        Ok(goes_on) => read_and_serve(core, service, n, goes_on, keys),
+        Ok(goes_on) => read_and_serve(core, service, n, goes_on, print, keys),
     }
 }
 
@@ -164,6 +168,7 @@ fn one_step<P: Sink, K: Source>(
     ensures same { OnErr result (state_of core.new ≡ state_of core.old) }
     ensures broken { OnErr result (IfSome (K.left keys.old) (λ l. Broken (prints_by (asked (program_of code.now) (state_of core.old)) (state_of core.old)) l (P.written print.old) (P.written print.new) (K.left keys.new))) }
     ensures failed { IfErr result (λ e. FailedWith e (P.faults print.old) (P.faults print.new) (K.faults keys.old) (K.faults keys.new)) }
+    ensures handed { IfErr result (λ e. e ≡ Failure.Read → P.kept print.new ≡ 0) }
     ensures prints_later { P.faults print.old ≤ P.faults print.new }
     ensures reads_later { K.faults keys.old ≤ K.faults keys.new }
 {
@@ -238,6 +243,8 @@ pub(crate) fn steps<P: Sink, K: Source>(
     // It fails only where a count of faults rose.
     ensures write_failed { result ≡ End.WriteFailed → Rose (P.faults print.old) (P.faults print.new) }
     ensures read_failed { result ≡ End.ReadFailed → Rose (K.faults keys.old) (K.faults keys.new) }
+    // What was written is handed on before each read, also before one that fails.
+    ensures handed { result ≡ End.ReadFailed → P.kept print.new ≡ 0 }
     ensures prints_later { P.faults print.old ≤ P.faults print.new }
     ensures reads_later { K.faults keys.old ≤ K.faults keys.new }
 {

@@ -1,11 +1,14 @@
 //! Laws on units that are gathered whole, each the contract of a function that does nothing but cite others.
-ghost use Rattle.std.specs.Prelude.{◌≡◌};
+ghost use Rattle.std.specs.Prelude.{◌≡◌, List};
 ghost use Rattle.def_import.specs.Answers.{IsWhole};
+ghost use Rattle.m2_base.specs.Lists.{Each};
 ghost use Rattle.m2_base.specs.Units.{Front, IsUnit, TextOf, UnitTexts};
+ghost use Rattle.m2_base.specs.declared.notes.Diag.{Diag};
 ghost use Rattle.merge_laws.specs.Texts.{IsWhole as IsWholeBy};
 ghost use Rattle.stream_split.specs.Fronts.{AreFronts};
-ghost use Rattle.unit_merge.specs.Outcome.{Outcome};
+ghost use Rattle.unit_merge.specs.Outcome.{Outcome, diagnostics};
 ghost use Rattle.unit_outcome.specs.Outcomes.{ComesTo};
+ghost use Rattle.unit_outcome.specs.Tokens.{IsAtToken};
 
 use merge_laws::unit_has_one_outcome;
 
@@ -21,3 +24,9 @@ pub fn whole_units_have_one_outcome()
 {
     unit_has_one_outcome();
 }
+
+/// Each diagnostic that a unit comes to stands at a token of one of its texts: the first faults of the texts do, and the diagnostics of
+/// all blocks, of their declarations as of their statements.
+pub fn diagnostics_stand_in_their_texts()
+    ensures { (texts : UnitTexts) (diags : List Diag) → IsUnit texts → IsWhole texts → ComesTo texts (diagnostics diags) → Each (IsAtToken texts) diags }
+{}

@@ -1,27 +1,14 @@
-use Rattle.std.proofs.Common.{◌<◌, MatchOption, length, map, rules, string_bytes, subst, sym}
-use Rattle.command_words.specs.Parts.{Adds, nothing}
-use Rattle.command_words.specs.Words.{AddsNone, Carries, given_of}
-use Rattle.command_words.proofs.Reading.{carried, carries_all, carries_none, carries_on}
-use Rattle.command_words.proofs.Slices.{no_words}
+use Rattle.std.proofs.Common.{◌∙◌, map, string_bytes}
+use Rattle.clap.specs.Matches.{found_of}
+use Rattle.clap.specs.Simple.{app_of}
+use Rattle.clap.specs.Walk.{rows_of}
+use Rattle.command_words.proofs.Reading.{refused_reads, taken_reads}
 use Rattle.command_words.proofs.given.read.Goals as goal
 
-pub loop-given-init : goal.loop-given-init
-loop-given-init c =
-    let words = map string_bytes c.args.words.now in
-    subst (λ g. Carries nothing words g words) (sym c.nothing-given.ensures) (carries_all nothing words)
-
-pub returns-in_err-given : goal.returns-in_err-given
-returns-in_err-given c =
-    let words = map string_bytes c.args.words.now in
-    subst (λ o. MatchOption o (AddsNone nothing words) (λ given. Adds nothing words (given_of given))) (sym c.from_residual.ensures)
-    (carries_none nothing words _ (map string_bytes c.loop-given.rest.now) c.loop-given.invariant c.step.result.0 (map string_bytes c.step.result.1.now) c.step.ensures.continues c.in_err-given.was)
-
-pub loop-given-preserved : goal.loop-given-preserved
-loop-given-preserved c =
-    carries_on nothing (map string_bytes c.args.words.now) _ (map string_bytes c.loop-given.rest.now) c.loop-given.invariant c.step.result.0 c.in_ok-given.given (map string_bytes c.step.result.1.now) c.step.ensures.continues
-    c.in_ok-given.was
+pub returns-in-Ok : goal.returns-in-Ok
+returns-in-Ok c =
+    taken_reads c.args.verb (map string_bytes c.args.words.now) (app_of c.in_ok-command.command) c.in_ok-command.ensures (rows_of (found_of c.in-Ok.matches)) c.given_in.result c.in-Ok.ensures.kinds (λ h. (c.in-Ok.ensures.matches h).0) c.given_in.ensures
 
 pub returns : goal.returns
 returns c =
-    let few : length c.loop-given.rest.now < 1 = search rules in
-    carried nothing (map string_bytes c.args.words.now) _ (map string_bytes c.loop-given.rest.now) c.loop-given.invariant (no_words string_bytes c.loop-given.rest.now few)
+    refused_reads c.args.verb (map string_bytes c.args.words.now) (app_of c.in_ok-command.command) c.in_ok-command.ensures c.in-Err.error c.in-Err.ensures.kinds (λ e. c.in_default.not-OutOfMemory (c.kind.ensures ∙ e))

@@ -1,23 +1,26 @@
+use Rattle.m2_base.specs.Units.{Front, TextOf}
+use Rattle.merge_laws.specs.Texts.{IsWhole}
 use Rattle.unit_merge.specs.declared.merging.Merged.TheVariants.{Code, Diags, TooDeep}
 use Rattle.compile_command.proofs.Merging.{merged_decides, merged_named}
 use Rattle.compile_command.proofs.judging.judge_streams.Goals as goal
 
 pub work-requires-clause-whole : goal.work-requires-clause-whole
-work-requires-clause-whole c =
+work-requires-clause-whole g c κs within =
     let unit = c.args.texts in
     let h = c.requires.whole in
     let laws = c.gathered_units_are_whole.ensures in
-    (h.front, laws.whole unit h.front h (laws.fronts unit h))
+    let whole : (front : TextOf → Front) × IsWhole front unit = (h.front, laws.whole unit h.front h (laws.fronts unit h)) in
+    whole
 
 pub merge-requires : goal.merge-requires
-merge-requires c =
+merge-requires g c =
     let unit = c.args.texts in
     let h = c.requires.whole in
     let laws = c.gathered_units_are_whole.ensures in
     c.outputs_can_be_merged.ensures unit h.front c.in_ok-outputs.outputs.items c.main-unit.ensures.unit (laws.whole unit h.front h (laws.fronts unit h)) c.in_ok-outputs.ensures
 
 pub returns-in-Code-clause-decides : goal.returns-in-Code-clause-decides
-returns-in-Code-clause-decides c =
+returns-in-Code-clause-decides g c =
     let unit = c.args.texts in
     let outputs = c.in_ok-outputs.outputs.items in
     let whole = c.gathered_units_are_whole.ensures.whole unit in
@@ -26,13 +29,13 @@ returns-in-Code-clause-decides c =
     (Code c.in-Code.object) c.in-Code.is
 
 pub returns-in-Code-clause-named : goal.returns-in-Code-clause-named
-returns-in-Code-clause-named c =
+returns-in-Code-clause-named g c =
     let unit = c.args.texts in
     let h = c.requires.whole in
     merged_named unit c.in_ok-outputs.outputs.items c.in_ok-object.field-0 c.in_ok-object.ensures h.front (c.gathered_units_are_whole.ensures.fronts unit h) c.in-Code.object c.in-Code.is
 
 pub returns-in-Diags-clause-decides : goal.returns-in-Diags-clause-decides
-returns-in-Diags-clause-decides c =
+returns-in-Diags-clause-decides g c =
     let unit = c.args.texts in
     let outputs = c.in_ok-outputs.outputs.items in
     let whole = c.gathered_units_are_whole.ensures.whole unit in
@@ -41,7 +44,7 @@ returns-in-Diags-clause-decides c =
     (Diags c.in-Diags.diags) c.in-Diags.is
 
 pub returns-in-TooDeep-clause-decides : goal.returns-in-TooDeep-clause-decides
-returns-in-TooDeep-clause-decides c =
+returns-in-TooDeep-clause-decides g c =
     let unit = c.args.texts in
     let outputs = c.in_ok-outputs.outputs.items in
     let whole = c.gathered_units_are_whole.ensures.whole unit in

@@ -1,5 +1,5 @@
-use Rattle.compile_command.proofs.HaveLines.{refusals_lined}
+use Rattle.unit_outcome.proofs.FaultsStand.{refusals_stand}
 use Rattle.compile_command.proofs.laws.refusals_have_lines.Goals as goal
 
 pub returns : goal.returns
-returns c = refusals_lined
+returns c = refusals_stand

@@ -1,9 +1,12 @@
+use Rattle.supervisor.specs.Units.{CanBeRun}
 use Rattle.compile_command.proofs.work.work.Goals as goal
 
-pub run_turns-requires-clause-unit : goal.run_turns-requires-clause-unit
-run_turns-requires-clause-unit c = record {
-  limits = c.requires.limits;
-  front = c.requires.whole.0;
-  fronts = c.requires.whole.1.fronts;
-  whole = c.requires.whole.1.whole;
-}
+pub outputs_by-requires-clause-unit : goal.outputs_by-requires-clause-unit
+outputs_by-requires-clause-unit g c κs within =
+    let can : CanBeRun c.args.texts.now = record {
+      limits = c.requires.limits;
+      front = c.requires.whole.0;
+      fronts = c.requires.whole.1.fronts;
+      whole = c.requires.whole.1.whole;
+    } in
+    can

@@ -1,22 +1,40 @@
-use Rattle.std.proofs.Common.{ap, inr, subst, sym}
+use Rattle.std.proofs.Common.{◌<◌, ◌≤◌, ap, inr, subst, sym}
 use Rattle.std.specs.Prelude.{IsErrOf}
-use Rattle.command_words.specs.Command.{IsSound, command_of}
+use Rattle.command_words.specs.Command.{IsSound, big, command_of, compile}
 use Rattle.compile_command.specs.Outcome.{KeepsButObject}
 use Rattle.m2c_top.specs.Effects.{IsToCompile}
 use Rattle.m2c_top.specs.declared.ending.Stop.TheVariants as stop
-use Rattle.m2c_top.proofs.Carrying.{ComesDone, LeavesDone, PrintsDone, compiled_comes, compiled_leaves, compiled_prints, dumped_comes, dumped_leaves, dumped_prints, ran_comes, ran_leaves, ran_prints, writing_ended}
+use Rattle.m2c_top.proofs.Carrying.{ComesDone, LeavesDone, PrintsDone, compiled_comes, compiled_leaves, compiled_prints, counted_comes, counted_leaves, counted_prints, dumped_comes, dumped_leaves, dumped_prints, ran_comes, ran_leaves, ran_prints}
+use Rattle.m2c_top.proofs.Keeping.{compiling_keeps}
 use Rattle.m2c_top.proofs.Named.{name_identifier}
 use Rattle.m2c_top.proofs.top.carry_out.Goals as goal
 
 pub compile-requires-clause-named : goal.compile-requires-clause-named
-compile-requires-clause-named g c = name_identifier c.in-Compile.name.now (subst (λ k. IsSound (command_of k)) c.in-Compile.is c.requires)
+compile-requires-clause-named g c κs within =
+    let sound : IsSound (compile c.in-Compile.name.now c.in-Compile.workers) = subst (λ k. IsSound (command_of k)) c.in-Compile.is c.requires.sound in
+    name_identifier c.in-Compile.name.now sound.0
+
+pub compile-requires-clause-workers : goal.compile-requires-clause-workers
+compile-requires-clause-workers g c κs within =
+    let sound : IsSound (compile c.in-Compile.name.now c.in-Compile.workers) = subst (λ k. IsSound (command_of k)) c.in-Compile.is c.requires.sound in
+    subst (λ n. (0 < n) × (n ≤ 64)) (sym c.crew-crew.ensures) (sound.1, sound.2)
+
+pub compile_big-requires-clause-most : goal.compile_big-requires-clause-most
+compile_big-requires-clause-most g c κs within =
+    let sound : IsSound (big c.in-Big.procedures c.in-Big.workers) = subst (λ k. IsSound (command_of k)) c.in-Big.is c.requires.sound in
+    sound.1
+
+pub compile_big-requires-clause-workers : goal.compile_big-requires-clause-workers
+compile_big-requires-clause-workers g c κs within =
+    let sound : IsSound (big c.in-Big.procedures c.in-Big.workers) = subst (λ k. IsSound (command_of k)) c.in-Big.is c.requires.sound in
+    subst (λ n. (0 < n) × (n ≤ 64)) (sym c.crew-crew-in-Big.ensures) (sound.2, sound.3)
 
 pub returns-in-Compile-clause-part : goal.returns-in-Compile-clause-part
-returns-in-Compile-clause-part g c failed =
+returns-in-Compile-clause-part g c =
     let holds = g.H.Shelf.holds c.args.shelf.now in
     let after = g.H.Shelf.holds c.compile.new.shelf in
     inr (subst (λ k. IsToCompile (command_of k) (λ name. KeepsButObject name holds after)) (sym c.in-Compile.is)
-    (c.compile.ensures.part (writing_ended c.compile.result (subst (λ r. IsErrOf r stop.Write) c.ended_compiling.ensures failed))))
+    (compiling_keeps c.in-Compile.name.now holds after (g.P.Sink.written c.args.print.now) (g.P.Sink.written c.compile.new.print) c.compile.result c.compile.ensures.leaves c.compile.ensures.unread c.compile.ensures.memory c.compile.ensures.part))
 
 pub returns-in-Compile-clause-leaves : goal.returns-in-Compile-clause-leaves
 returns-in-Compile-clause-leaves g c =
@@ -93,3 +111,28 @@ returns-in-Dump-clause-prints g c =
     let left = g.K.Source.left c.args.keys.now in
     subst (PrintsDone holds after old new left left c.ended-in-Dump.result) (ap command_of (sym c.in-Dump.is))
     (dumped_prints holds old new left c.in-Dump.name.now c.dump.result c.ended-in-Dump.result c.ended-in-Dump.ensures c.dump.ensures.part)
+
+pub returns-in-Big-clause-comes : goal.returns-in-Big-clause-comes
+returns-in-Big-clause-comes g c =
+    let holds = g.H.Shelf.holds c.args.shelf.now in
+    subst (ComesDone holds c.ended_compiling-in-Big.result) (ap command_of (sym c.in-Big.is)) (counted_comes holds c.ended_compiling-in-Big.result c.in-Big.procedures c.in-Big.workers)
+
+pub returns-in-Big-clause-leaves : goal.returns-in-Big-clause-leaves
+returns-in-Big-clause-leaves g c =
+    let holds = g.H.Shelf.holds c.args.shelf.now in
+    let after = g.H.Shelf.holds c.compile_big.new.shelf in
+    let old = g.P.Sink.written c.args.print.now in
+    let new = g.P.Sink.written c.compile_big.new.print in
+    let left = g.K.Source.left c.args.keys.now in
+    subst (LeavesDone holds after old new left left c.ended_compiling-in-Big.result) (ap command_of (sym c.in-Big.is))
+    (counted_leaves holds old new left c.in-Big.procedures c.in-Big.workers after c.compile_big.result c.ended_compiling-in-Big.result c.compile_big.ensures.holds c.ended_compiling-in-Big.ensures c.compile_big.ensures.leaves)
+
+pub returns-in-Big-clause-prints : goal.returns-in-Big-clause-prints
+returns-in-Big-clause-prints g c =
+    let holds = g.H.Shelf.holds c.args.shelf.now in
+    let after = g.H.Shelf.holds c.compile_big.new.shelf in
+    let old = g.P.Sink.written c.args.print.now in
+    let new = g.P.Sink.written c.compile_big.new.print in
+    let left = g.K.Source.left c.args.keys.now in
+    subst (PrintsDone holds after old new left left c.ended_compiling-in-Big.result) (ap command_of (sym c.in-Big.is))
+    (counted_prints holds old new left c.in-Big.procedures c.in-Big.workers c.compile_big.result c.ended_compiling-in-Big.result c.ended_compiling-in-Big.ensures c.compile_big.ensures.prints)

@@ -8,6 +8,7 @@ use Rattle.stack_machine.specs.declared.machine.StartFault.TheVariants.{NoRoom}
 use Rattle.object_commands.specs.Runs.{Finishes, FinishesPart, HasCode}
 use Rattle.object_commands.proofs.Doing.{enough_cells, room_leaves, room_part, too_few_cells}
 use Rattle.object_commands.proofs.Ending.{run_leaves, run_part}
+use Rattle.object_commands.proofs.Rears.{run_left}
 use Rattle.object_commands.proofs.running.run_program.Goals as goal
 
 pub returns-in-Ok-clause-leaves : goal.returns-in-Ok-clause-leaves
@@ -48,3 +49,8 @@ returns-in_ok-write_all-in-Err-NoRoom-clause-leaves g c =
     let less = too_few_cells c.args.settings.now.cells (frames_of c.args.program) c.new.result (c.in-Err-NoRoom.is ∙ ap Err c.in-Err-NoRoom.field-0-is) c.new.ensures.memory in
     room_leaves c.args.program c.args.settings.now.steps c.args.settings.now.cells (g.K.Source.left c.args.keys.now) old new less
     (c.in_ok-write_all-in-Err-NoRoom.ensures.ok ∙ ap (with_bytes old) (c.deref.ensures.value ∙ c.in_ok-line-in-Err-NoRoom.ensures))
+
+pub returns-in-Ok-clause-left : goal.returns-in-Ok-clause-left
+returns-in-Ok-clause-left g c =
+    run_left c.in-Ok.machine.code c.args.settings.now.steps (g.K.Source.left c.args.keys.now) (g.P.Sink.written c.args.print.now) (g.P.Sink.written c.run-end.new.print) (g.K.Source.left c.run-end.new.keys)
+    c.run-end.result c.in-Ok.machine.now c.run-end.new.self.now c.run-end.ensures.ends

@@ -24,3 +24,6 @@ returns-in-Some-clause-write_failed g c = λ e. absurd ((trap_fails_not c.trappe
 
 pub returns-in-Some-clause-read_failed : goal.returns-in-Some-clause-read_failed
 returns-in-Some-clause-read_failed g c = λ e. absurd ((trap_fails_not c.trapped.result (program_of c.args.code.now) traps.Memory c.in-Some.at c.trapped.ensures).1 e)
+
+pub returns-in-Some-clause-handed : goal.returns-in-Some-clause-handed
+returns-in-Some-clause-handed g c = λ e. absurd ((trap_fails_not c.trapped.result (program_of c.args.code.now) traps.Memory c.in-Some.at c.trapped.ensures).1 e)

@@ -1,10 +1,16 @@
 use Rattle.std.proofs.Common.{◌≡◌, sym, subst}
-use Rattle.std.specs.Prelude.{IfSome, IfOk}
+use Rattle.std.specs.Prelude.{IfSome, IfOk, OnErr, Result, Ok, Err}
 use Rattle.stack_machine.specs.declared.op.Service.{Service}
-use Rattle.stack_machine.specs.InOut.{got_by}
+use Rattle.stack_machine.specs.declared.op.Service.TheVariants as service
+use Rattle.stack_machine.specs.InOut.{Reads, got_by}
 use Rattle.stack_machine.specs.Readings.{IsReading}
 use Rattle.stack_machine.proofs.Numbering.{none_reading}
 use Rattle.stack_machine.proofs.reading.read.Goals as goal
+
+-- it reads, whatever came of it
+reads_so : {T E : Type 0} (r : Result T E) (v w : Service) → v ≡ w → Reads w → OnErr r (Reads v)
+reads_so (Ok x) v w is h = tt
+reads_so (Err e) v w is h = subst Reads (sym is) h
 
 pub returns-in-Read-clause-ok : goal.returns-in-Read-clause-ok
 returns-in-Read-clause-ok g c =
@@ -42,3 +48,12 @@ pub returns-in-WriteCard-clause-ok : goal.returns-in-WriteCard-clause-ok
 returns-in-WriteCard-clause-ok g c =
     subst (λ (v : Service). IfSome (g.K.Source.left c.args.keys.now) (λ l. IsReading c.none_read-in-WriteCard.result (got_by v c.args.kept l) (g.K.Source.left c.args.keys.now))) (sym c.in-WriteCard.is)
     (none_reading c.none_read-in-WriteCard.result c.args.kept (g.K.Source.left c.args.keys.now) c.none_read-in-WriteCard.ensures.value c.none_read-in-WriteCard.ensures.kept)
+
+pub returns-in-Read-clause-reads : goal.returns-in-Read-clause-reads
+returns-in-Read-clause-reads g c = reads_so c.read_byte.result c.args.service service.Read c.in-Read.is tt
+
+pub returns-in-ReadInt-clause-reads : goal.returns-in-ReadInt-clause-reads
+returns-in-ReadInt-clause-reads g c = reads_so c.read_number.result c.args.service service.ReadInt c.in-ReadInt.is tt
+
+pub returns-in-ReadCard-clause-reads : goal.returns-in-ReadCard-clause-reads
+returns-in-ReadCard-clause-reads g c = reads_so c.read_number-in-ReadCard.result c.args.service service.ReadCard c.in-ReadCard.is tt

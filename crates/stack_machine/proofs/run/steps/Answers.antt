@@ -5,7 +5,7 @@ use Rattle.stack_machine.specs.declared.next.Next.TheVariants as code_next
 use Rattle.stack_machine.specs.State.{state_of, program_of}
 use Rattle.stack_machine.specs.Stepping.{Stepped, is_going}
 use Rattle.stack_machine.proofs.Readiness.{origin_within}
-use Rattle.stack_machine.proofs.Running.{run_starts, run_goes, run_spent, run_stops, ended_ends, failed_ends, write_failed, read_failed, no_failure, goes_is}
+use Rattle.stack_machine.proofs.Running.{run_starts, run_goes, run_spent, run_stops, ended_ends, failed_ends, write_failed, read_failed, read_handed, no_failure, goes_is}
 use Rattle.stack_machine.proofs.Starting.{failed_placed, ended_placed}
 use Rattle.stack_machine.proofs.run.steps.Goals as goal
 
@@ -48,6 +48,9 @@ pub returns-in-Err-clause-read_failed : goal.returns-in-Err-clause-read_failed
 returns-in-Err-clause-read_failed g c =
     read_failed c.in-Err.failure c.failed.result (g.P.Sink.faults c.loop.print) (g.P.Sink.faults c.one_step.new.print) (g.K.Source.faults c.args.keys.now) (g.K.Source.faults c.loop.keys) (g.K.Source.faults c.one_step.new.keys) c.failed.ensures c.loop.invariant.reads c.in-Err.ensures.failed
 
+pub returns-in-Err-clause-handed : goal.returns-in-Err-clause-handed
+returns-in-Err-clause-handed g c = read_handed c.in-Err.failure c.failed.result (g.P.Sink.kept c.one_step.new.print) c.failed.ensures c.in-Err.ensures.handed
+
 pub ended-requires-clause-at : goal.ended-requires-clause-at
 ended-requires-clause-at g c = origin_within c.args.code.now c.one_step.new.core c.one_step.ensures.ready
 
@@ -64,6 +67,11 @@ returns-then-not-goes_on-clause-write_failed g c =
 
 pub returns-then-not-goes_on-clause-read_failed : goal.returns-then-not-goes_on-clause-read_failed
 returns-then-not-goes_on-clause-read_failed g c =
+    let not_going : is_going c.in-Ok.next ≡ false = search rules in
+    λ e. absurd ((no_failure c.ended.result (program_of c.args.code.now) c.one_step.new.core.at c.in-Ok.next not_going c.ended.ensures).1 e)
+
+pub returns-then-not-goes_on-clause-handed : goal.returns-then-not-goes_on-clause-handed
+returns-then-not-goes_on-clause-handed g c =
     let not_going : is_going c.in-Ok.next ≡ false = search rules in
     λ e. absurd ((no_failure c.ended.result (program_of c.args.code.now) c.one_step.new.core.at c.in-Ok.next not_going c.ended.ensures).1 e)
 

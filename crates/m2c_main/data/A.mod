@@ -1,1 +1,0 @@
-MODULE A; VAR x: INTEGER; BEGIN x := x + 1 END A.
