@@ -34,7 +34,7 @@ use Rattle.unit_workers.proofs.Places.{at_or, got, low_of, map_zip}
 -- ** The end of one job
 
 module _ (t : ScopeTable) (u : UnitTexts) (k : ℕ) (s : StreamOf) (there : slice_get (streams_of u) k ≡ Some s) (st : State) (task : Task) (fits : Fits u st task) (fills : fills_of st ≡ s.stream)
-  (f : Finished SeatScopes) (end : IsEnd (Some t) st task f) where
+    (f : Finished SeatScopes) (end : IsEnd (Some t) st task f) where
   left : IsLeft st task f.output
   left = end.left st fits.far
 
@@ -90,8 +90,8 @@ module _ (t : ScopeTable) (u : UnitTexts) (k : ℕ) (s : StreamOf) (there : slic
 -- ** All of them
 
 module _ {A : Type 0} (t : ScopeTable) (u : UnitTexts) (state : A → State) (task : A → Task) (first last : List A) (all : List (Finished SeatScopes))
-  (begun : AllZip (λ s j. IsBegun u s (state j) (task j)) (streams_of u) first) (later : AreLater (λ a b. Stays (state a) (task a) (state b) (task b)) first last)
-  (ends : AllZip (λ j f. IsEnd (Some t) (state j) (task j) f) last all) where
+    (begun : AllZip (λ s j. IsBegun u s (state j) (task j)) (streams_of u) first) (later : AreLater (λ a b. Stays (state a) (task a) (state b) (task b)) first last)
+    (ends : AllZip (λ j f. IsEnd (Some t) (state j) (task j) f) last all) where
   finished_at : (k : ℕ) (s : StreamOf) (f : Finished SeatScopes) → slice_get (streams_of u) k ≡ Some s → slice_get all k ≡ Some f → IsFinished t u s f
   finished_at k s f there given =
       let z = zipped_at (λ j x. IsEnd (Some t) (state j) (task j) x) last all ends k f given in

@@ -112,8 +112,8 @@ module _ (t : ScopeTable) (u : UnitTexts) (seats : List TableSeat) (others : Are
   -- ** Jobs
 
   module _ {H A : Type 0} (held : H → State) (state : A → State) (task : A → Task) (tasks : List Task) (handles : List H) (jobs : List A)
-    (start : AllZip (StartsIn u) (streams_of u) tasks) (made : AllZip (λ s h. held h ≡ first_state t s) seats handles)
-    (paired : AllZip (λ p j. (task j ≡ p.0) × (state j ≡ held p.1)) (zip tasks handles) jobs) where
+      (start : AllZip (StartsIn u) (streams_of u) tasks) (made : AllZip (λ s h. held h ≡ first_state t s) seats handles)
+      (paired : AllZip (λ p j. (task j ≡ p.0) × (state j ≡ held p.1)) (zip tasks handles) jobs) where
     many_tasks : length tasks ≡ length (streams_of u)
     many_tasks = zip_long (StartsIn u) (streams_of u) tasks start
 

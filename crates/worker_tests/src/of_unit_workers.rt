@@ -12,7 +12,8 @@ use std::thread::Threads;
 use turn_tests::whole_texts;
 
 /// Two procedures that name one another's module, before what they name.
-const TWO: &str = "MODULE A; PROCEDURE P; BEGIN v := 1; Q END P; PROCEDURE Q; BEGIN v := 2 END Q; VAR v: INTEGER; BEGIN P; Q END A.";
+const TWO: &str =
+    "MODULE A; PROCEDURE P; BEGIN v := 1; Q END P; PROCEDURE Q; BEGIN v := 2 END Q; VAR v: INTEGER; BEGIN P; Q END A.";
 
 /// Two procedures that wait for nothing.
 const ALONE: &str = "MODULE A; PROCEDURE P; END P; PROCEDURE Q; END Q; END A.";

@@ -15,8 +15,10 @@ end_of-requires g c =
 
 pub loop-job-preserved : goal.loop-job-preserved
 loop-job-preserved g c =
-    let e : into_iter_items c.loop-job.job-iterator ≡ c.in-Some.job ∷ into_iter_items c.next.new.self = search rules in
-    (search rules, search rules,
-    subst (λ fs. AllZip (λ job end. IsEnd g.J.OfTable.table (state_of job.scopes.scopes) job.task end) (c.loop-job.yielded ++ c.in-Some.job ∷ []) fs) (sym c.in_ok-push.ensures.items)
-    (all_zipped_more (λ job end. IsEnd g.J.OfTable.table (state_of job.scopes.scopes) job.task end) c.loop-job.yielded c.loop-job.all.items c.in-Some.job c.end_of.result c.loop-job.invariant.2 c.end_of.ensures),
-    others_of (λ job. is_over job.task ≡ true) _ _ _ e c.loop-job.invariant.3)
+    let e : into_iter_items c.loop-job.job-iterator ≡ c.in-Some.job ∷ into_iter_items c.next.new.self = search rules in (
+      search rules,
+      search rules,
+      subst (λ fs. AllZip (λ job end. IsEnd g.J.OfTable.table (state_of job.scopes.scopes) job.task end) (c.loop-job.yielded ++ c.in-Some.job ∷ []) fs) (sym c.in_ok-push.ensures.items)
+          (all_zipped_more (λ job end. IsEnd g.J.OfTable.table (state_of job.scopes.scopes) job.task end) c.loop-job.yielded c.loop-job.all.items c.in-Some.job c.end_of.result c.loop-job.invariant.2 c.end_of.ensures),
+      others_of (λ job. is_over job.task ≡ true) _ _ _ e c.loop-job.invariant.3,
+    )

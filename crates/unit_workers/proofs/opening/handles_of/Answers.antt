@@ -25,8 +25,10 @@ new-requires-clause-none g c =
 
 pub loop-seat-preserved : goal.loop-seat-preserved
 loop-seat-preserved g c =
-    let e : into_iter_items c.loop-seat.seat-iterator ≡ c.in-Some.seat ∷ into_iter_items c.next.new.self = search rules in
-    (search rules, search rules,
-    subst (λ hs. AllZip (λ seat handle. state_of handle.scopes ≡ first_state c.args.table.now seat) (c.loop-seat.yielded ++ c.in-Some.seat ∷ []) hs) (sym c.in_ok-push.ensures.items)
-    (all_zipped_more (λ seat handle. state_of handle.scopes ≡ first_state c.args.table.now seat) c.loop-seat.yielded c.loop-seat.handles.items c.in-Some.seat c.new.result c.loop-seat.invariant.2 c.new.ensures.state),
-    others_of (IsUnused c.args.table.now) _ _ _ e c.loop-seat.invariant.3)
+    let e : into_iter_items c.loop-seat.seat-iterator ≡ c.in-Some.seat ∷ into_iter_items c.next.new.self = search rules in (
+      search rules,
+      search rules,
+      subst (λ hs. AllZip (λ seat handle. state_of handle.scopes ≡ first_state c.args.table.now seat) (c.loop-seat.yielded ++ c.in-Some.seat ∷ []) hs) (sym c.in_ok-push.ensures.items)
+          (all_zipped_more (λ seat handle. state_of handle.scopes ≡ first_state c.args.table.now seat) c.loop-seat.yielded c.loop-seat.handles.items c.in-Some.seat c.new.result c.loop-seat.invariant.2 c.new.ensures.state),
+      others_of (IsUnused c.args.table.now) _ _ _ e c.loop-seat.invariant.3,
+    )
