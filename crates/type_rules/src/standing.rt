@@ -84,23 +84,6 @@ fn opaque_as<S: Scopes>(scopes: &mut S, around: &Around, of: Place) -> Ask<Place
     declared_as(scopes, around, of, row.name)
 }
 
-/// What a type stands for.
-#[tactic(auto, using(crate::proofs::Reading::reading))]
-pub(crate) fn stands_for<S: Scopes>(scopes: &mut S, around: &Around, of: Place) -> Ask<Place>
-    requires suits { Suits (S.state scopes.old).frame around.now }
-    requires there { IsThere (S.state scopes.old).frame of }
-    ensures reads { Reads (S.state scopes.old) (S.state scopes.new) }
-    ensures waits { WhereWaiting result (λ head. Waits (S.state scopes.old) (S.state scopes.new) head) }
-    ensures told { WhereTold (S.state scopes.old).frame (λ made.
-        WhereKnown result (λ stood. stood ≡ spec_stands (scene_of (S.state scopes.old).frame made around.now) of)) }
-    ensures there { WhereKnown result (λ stood. IsThere (S.state scopes.old).frame stood) }
-{
-    match known!(meaning_at(scopes, around, of)) {
-        RowMeaning::Opaque => opaque_as(scopes, around, of),
-        _ => Ask::Known(of),
-    }
-}
-
 /// What a type stands for, and what its row says.
 #[tactic(auto, using(crate::proofs::Reading::reading))]
 pub fn stand<S: Scopes>(scopes: &mut S, around: &Around, of: Place) -> Ask<(Place, RowMeaning)>
@@ -115,7 +98,27 @@ pub fn stand<S: Scopes>(scopes: &mut S, around: &Around, of: Place) -> Ask<(Plac
     ensures there { WhereKnown result (λ stood. IsThere (S.state scopes.old).frame stood.0) }
     ensures said { WhereKnown result (λ stood. IsSaid (S.state scopes.old).frame stood.0 stood.1) }
 {
-    let stood = known!(stands_for(scopes, around, of));
-    let meaning = known!(meaning_at(scopes, around, stood));
-    Ask::Known((stood, meaning))
+    match known!(meaning_at(scopes, around, of)) {
+        RowMeaning::Opaque => {
+            let stood = known!(opaque_as(scopes, around, of));
+            let meaning = known!(meaning_at(scopes, around, stood));
+            Ask::Known((stood, meaning))
+        }
+        meaning => Ask::Known((of, meaning)),
+    }
+}
+
+/// What a type stands for.
+#[tactic(auto, using(crate::proofs::Reading::reading))]
+pub(crate) fn stands_for<S: Scopes>(scopes: &mut S, around: &Around, of: Place) -> Ask<Place>
+    requires suits { Suits (S.state scopes.old).frame around.now }
+    requires there { IsThere (S.state scopes.old).frame of }
+    ensures reads { Reads (S.state scopes.old) (S.state scopes.new) }
+    ensures waits { WhereWaiting result (λ head. Waits (S.state scopes.old) (S.state scopes.new) head) }
+    ensures told { WhereTold (S.state scopes.old).frame (λ made.
+        WhereKnown result (λ stood. stood ≡ spec_stands (scene_of (S.state scopes.old).frame made around.now) of)) }
+    ensures there { WhereKnown result (λ stood. IsThere (S.state scopes.old).frame stood) }
+{
+    let (stood, _) = known!(stand(scopes, around, of));
+    Ask::Known(stood)
 }
