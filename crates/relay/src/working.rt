@@ -6,6 +6,18 @@ ghost use Rattle.relay.specs.Hands.{jobs_of, held, kept, part, IsHandOf, Rests, 
 use crate::hand::{Hand, Relay};
 use crate::job::{Job, Turned, Turns};
 use std::sync::Wait;
+use std::{hint, thread};
+
+/// The longest rest, in spins: some microseconds.
+const MOST_SPINS: usize = 256;
+
+/// After a turn that brought nothing on, others get the processor, for the longer, the more such turns came in a row.
+fn let_others_run(waited: usize) {
+    for _ in 0..waited.min(MOST_SPINS) {
+        hint::spin_loop();
+    }
+    thread::yield_now();
+}
 
 /// Turns by the worker with this number, until no job waits in the queue, or as many turns in a row as there are jobs brought none
 /// on, or memory ran out.
@@ -35,7 +47,10 @@ pub fn work_off<J: Job, T: Turns<J>, R: Wait>(
         relay.give_back(rt, hand, job);
         match turned {
             Turned::Further => waited = 0,
-            Turned::Waiting => waited += 1,
+            Turned::Waiting => {
+                waited += 1;
+                let_others_run(waited);
+            }
             Turned::NoMemory => return,
         }
     }
