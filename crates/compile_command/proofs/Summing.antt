@@ -1,5 +1,5 @@
 -- What is told of the module Big is what compiling it leaves.
-use Rattle.std.proofs.Common.{◌≡◌, ℕ, List, Option, Some, Result, Ok, Err, refl, sym, ap, subst}
+use Rattle.std.proofs.Common.{◌≡◌, ℕ, List, Option, Some, Result, Ok, Err, sym, subst}
 use Rattle.std.specs.Prelude.{IfOk, IfSome, OnErr, OnOk}
 use Rattle.m2_io.specs.Files.{Files}
 use Rattle.m2_io.specs.Written.{WritesPart, with_bytes}

@@ -1,5 +1,5 @@
 -- What is counted of the module Big of so many procedures, when it is compiled over the files of a shelf.
-use Rattle.std.specs.Prelude.{◌≡◌, ◌≢◌, ℕ, List, [], Option, Some, codes}
+use Rattle.std.specs.Prelude.{◌≡◌, ◌≢◌, ℕ, List, [], Option, codes}
 use Rattle.m2_base.specs.Units.{IsUnit, UnitTexts}
 use Rattle.m2_base.specs.declared.notes.Diag.{Diag}
 use Rattle.m2_io.specs.Files.{Files}

@@ -1,6 +1,5 @@
 -- What carrying out a command leaves.
 use Rattle.std.proofs.Common.{◌≡◌, ◌↔◌, ℕ, List, Option, Result, Ok, Err, Some, refl, sym, ◌∙◌, ap, subst, IfSome, IfOk, OnErr}
-use Rattle.std.specs.Prelude.{IsErrOf}
 use Rattle.m2_io.specs.Files.{Files}
 use Rattle.m2_io.specs.Written.{WritesPart}
 use Rattle.command_words.specs.Command.{Command, big, compile, dump, run}
@@ -20,7 +19,6 @@ use Rattle.m2c_top.specs.Effects.{Does, Effect, IsTold, Leaves, OfCompiled, Prin
 use Rattle.m2c_top.specs.Ending.{ended_compiling, ended_over}
 use Rattle.m2c_top.specs.Statuses.{IsCompiledAs, status_after, status_compiled, status_number}
 use Rattle.m2c_top.specs.declared.ending.Stop.{Stop}
-use Rattle.m2c_top.specs.declared.ending.Stop.TheVariants as stop
 use Rattle.m2c_top.specs.declared.status.Status.{Status}
 use Rattle.m2c_top.proofs.Compiled.{files_told}
 use Rattle.m2c_top.proofs.OtherCommands.{compile_big, compile_dump, compile_run, dump_big, run_big, run_dump}

@@ -1,5 +1,5 @@
 -- What holds of the end once the sink has handed on what it kept back: it is as before, or writing failed.
-use Rattle.std.proofs.Common.{◌≡◌, ◌⊎◌, ◌≤◌, ◌∙◌, inl, inr, ℕ, List, Option, Result, Ok, Err, ap, arith, length, sym, subst, take, IfSome, IfOk, OnErr}
+use Rattle.std.proofs.Common.{◌≡◌, ◌⊎◌, ◌≤◌, ◌∙◌, inl, inr, ℕ, List, Option, Result, Ok, Err, ap, arith, length, sym, subst, IfSome, IfOk, OnErr}
 use Rattle.std.specs.Prelude.{IsErrOf}
 use Rattle.std.proofs.lemmas.List.{take_all}
 use Rattle.m2_io.specs.Causes.{Rose}

@@ -1,5 +1,5 @@
 -- What compiling leaves of the files, however it ends.
-use Rattle.std.proofs.Common.{◌≡◌, ◌∙◌, inr, ℕ, List, Option, Result, Ok, Err, ap, arith, length, refl, sym, take, IfOk}
+use Rattle.std.proofs.Common.{◌≡◌, ◌∙◌, inr, ℕ, List, Option, Result, Ok, Err, ap, arith, length, refl, sym, IfOk}
 use Rattle.std.specs.Prelude.{IsErrOf}
 use Rattle.std.proofs.lemmas.List.{take_all}
 use Rattle.m2_io.specs.Files.{Files, with_file}

@@ -1,6 +1,6 @@
 -- A layout that grows, item after item, by what these bring.
-use Rattle.std.specs.Prelude.{◌≡◌, ℕ, suc, ◌+◌, ◌≤◌, nat_lt, Bool, true, false, List, [], ◌∷◌, ◌++◌, Option, Some, filter, flat_map, length, option_map, slice_get, unwrap_or}
-use Rattle.std.proofs.Common.{refl, sym, ap, ◌∙◌, arith, cond}
+use Rattle.std.specs.Prelude.{◌≡◌, ℕ, suc, ◌+◌, ◌≤◌, nat_lt, Bool, true, false, List, [], ◌∷◌, ◌++◌, Some, filter, flat_map, length, option_map, slice_get, unwrap_or}
+use Rattle.std.proofs.Common.{refl, ap, ◌∙◌, arith, cond}
 use Rattle.std.proofs.lemmas.List.{length-append}
 use Rattle.m2_base.specs.Statics.Contexts.{Layout}
 use Rattle.m2_base.specs.Statics.Items.{Item}

@@ -4,7 +4,6 @@ use Rattle.std.specs.List.{AllZip}
 use Rattle.std.specs.Option.{IfSome}
 use Rattle.std.proofs.Common.{refl, sym, ap, subst, ◌∙◌, arith}
 use Rattle.std.proofs.lemmas.List.{append-nil, length-append, length-take-le, take-append-drop, take-take, take_all}
-use Rattle.std.proofs.lemmas.List.Concat.{flat_map-append}
 use Rattle.std.proofs.lemmas.List.Elements.{filter-append}
 use Rattle.m2_base.specs.Finished.{IsFinished, WhereFinished, source_of}
 use Rattle.m2_base.specs.Lists.{Each, HasNoRepeats, IsPrefixOf}

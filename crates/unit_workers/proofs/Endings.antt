@@ -2,15 +2,13 @@
 use Rattle.std.specs.Prelude.{◌≡◌, ℕ, true, List, [], ◌∷◌, slice_get, slice_index_or, Some, None}
 use Rattle.std.specs.List.{AllZip}
 use Rattle.std.proofs.Common.{ap, subst, sym, ◌∙◌, arith}
-use Rattle.std.proofs.lemmas.List.{length-map}
-use Rattle.m2_base.specs.Finished.{IsFinished as HasRows, WhereFinished}
+use Rattle.m2_base.specs.Finished.{IsFinished as HasRows}
 use Rattle.m2_base.specs.Lists.{Each, WhereKept}
-use Rattle.m2_base.specs.States.{Frame, IsAmong, Setting, State, fills_of, texts_of}
+use Rattle.m2_base.specs.States.{IsAmong, State, fills_of, texts_of}
 use Rattle.m2_base.specs.Statics.BlockLimits.{limit_of}
 use Rattle.m2_base.specs.Statics.Contexts.{Block}
 use Rattle.m2_base.specs.Tables.{rows_at}
 use Rattle.m2_base.specs.Units.{UnitTexts}
-use Rattle.m2_base.specs.declared.outputs.Output.{Output}
 use Rattle.m2_base.specs.declared.rows.Row.{Row}
 use Rattle.merge_laws.specs.Outputs.{AreOutputs}
 use Rattle.relay.specs.Hands.{AreLater}
@@ -20,9 +18,9 @@ use Rattle.dky_search.specs.declared.seat_scopes.SeatScopes.{SeatScopes}
 use Rattle.stream_split.specs.Streams.{StreamOf, main_tokens, streams_of}
 use Rattle.stream_split.proofs.StreamCounts.{number_is}
 use Rattle.task_state.specs.Outputs.{IsOutput}
-use Rattle.task_state.specs.Progress.{IsAsFar, IsLeft}
+use Rattle.task_state.specs.Progress.{IsLeft}
 use Rattle.task_state.specs.declared.task.Task.{Task}
-use Rattle.supervisor.specs.Outputs.{AreOfStreams, IsOutputIn}
+use Rattle.supervisor.specs.Outputs.{IsOutputIn}
 use Rattle.supervisor.proofs.Starting.{zip_from, zip_long, zipped_at}
 use Rattle.supervisor.proofs.UnitOutputs.{outputs_are}
 use Rattle.unit_workers.specs.Ends.{IsEnd, IsFinished, outputs_in}

@@ -1,19 +1,19 @@
 -- The jobs of a unit before their first turns.
-use Rattle.std.specs.Prelude.{◌≡◌, ◌≢◌, refl, ℕ, zero, suc, ◌+◌, ◌*◌, ◌<◌, Bool, true, false, List, [], ◌∷◌, ◌++◌, drop, length, map, slice_get, slice_index, slice_index_or, take, Some, All}
+use Rattle.std.specs.Prelude.{◌≡◌, ◌≢◌, refl, ℕ, zero, suc, ◌+◌, ◌*◌, ◌<◌, Bool, true, false, List, [], ◌∷◌, ◌++◌, drop, length, map, slice_get, slice_index, take, Some, All}
 use Rattle.std.specs.List.{AllZip, range_with_len, zip}
 use Rattle.std.proofs.Common.{ap, subst, sym, ◌∙◌, arith}
 use Rattle.std.proofs.lemmas.Bool.{false≢true}
 use Rattle.std.proofs.lemmas.List.{length-map}
-use Rattle.m2_base.specs.States.{Frame, State, fills_of, texts_of}
+use Rattle.m2_base.specs.States.{State, fills_of}
 use Rattle.m2_base.specs.Units.{IsUnit, UnitTexts}
 use Rattle.relay.specs.Places.{numbers_to}
 use Rattle.scope_table.specs.Rule.{base, empty_at, mid, scopes, shown_at, texts_in}
-use Rattle.scope_table.specs.Seats.{IsFirst, IsOf, IsOpened, key_of, scope_of, view}
+use Rattle.scope_table.specs.Seats.{IsFirst, IsOpened, key_of, scope_of, view}
 use Rattle.scope_table.specs.declared.table.ScopeTable.{ScopeTable}
 use Rattle.scope_table.specs.declared.table.TableSeat.{TableSeat}
 use Rattle.scope_table.specs.declared.view.About.{About}
 use Rattle.scope_table.specs.declared.view.Shown.{Shown}
-use Rattle.dky_search.specs.Seen.{area, areas_from, areas_in, state_in}
+use Rattle.dky_search.specs.Seen.{area, areas_from, areas_in}
 use Rattle.stream_split.specs.Sizes.{room_of, sizes_of}
 use Rattle.stream_split.specs.Streams.{StreamOf, streams_of}
 use Rattle.stream_split.proofs.StreamCounts.{number_is, streams_counted}
@@ -24,7 +24,7 @@ use Rattle.supervisor.specs.Starts.{IsEmptyFor, StartsIn}
 use Rattle.supervisor.proofs.Starting.{pair_at, zip_count, zip_from, zip_long, zipped_at}
 use Rattle.unit_workers.specs.Jobs.{Fits, SeesAll}
 use Rattle.unit_workers.specs.Starts.{AreOthers, IsBegun, IsUnused, first_state}
-use Rattle.unit_workers.proofs.Places.{all_from, at_or, got, low_of}
+use Rattle.unit_workers.proofs.Places.{all_from, at_or, low_of}
 
 -- ** Rooms
 

@@ -1,8 +1,8 @@
 -- A turn of a job, and what a job is told.
-use Rattle.std.specs.Prelude.{◌≡◌, ◌≢◌, ◌⊎◌, refl, ℕ, ◌+◌, ◌<◌, Bool, true, false, if◌then◌else◌, ltb}
+use Rattle.std.specs.Prelude.{◌≡◌, ◌≢◌, ◌⊎◌, refl, ℕ, ◌+◌, Bool, true, false, if◌then◌else◌, ltb}
 use Rattle.std.proofs.Common.{ap, subst, sym, ◌∙◌, inl, inr, arith}
 use Rattle.std.proofs.lemmas.Bool.{cases_eq, false≢true}
-use Rattle.m2_base.specs.States.{Frame, IsLater, Look, Mark, Setting, State, Turns, Waits, fills_of, mark_of}
+use Rattle.m2_base.specs.States.{Frame, IsLater, Mark, State, Turns, Waits, fills_of, mark_of}
 use Rattle.m2_base.specs.declared.replies.Head.{Head}
 use Rattle.dky_search.specs.SeatScopes.{IsTold, later_mark}
 use Rattle.relay.specs.Ends.{EndsIt}

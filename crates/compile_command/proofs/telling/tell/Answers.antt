@@ -1,4 +1,4 @@
-use Rattle.std.proofs.Common.{Err, ap, refl, sym, ◌∙◌}
+use Rattle.std.proofs.Common.{Err, ap, refl, ◌∙◌}
 use Rattle.compile_command.proofs.Tellings.{fault_tells, whole_tells, wrong_tells}
 use Rattle.compile_command.proofs.telling.tell.Goals as goal
 

@@ -1,8 +1,7 @@
-use Rattle.std.proofs.Common.{rules, subst, sym, arith, ◌≡◌, ◌++◌, ◌∷◌, [], suc, List, All}
+use Rattle.std.proofs.Common.{rules, subst, sym, ◌≡◌, ◌++◌, ◌∷◌, []}
 use Rattle.std.specs.List.{AllZip}
 use Rattle.std.specs.Vec.Iter.{into_iter_items}
 use Rattle.std.proofs.lemmas.Slice.Zip.{all_zipped_more}
-use Rattle.scope_table.specs.declared.table.TableSeat.{TableSeat}
 use Rattle.dky_search.specs.SeatScopes.{state_of}
 use Rattle.unit_workers.specs.Starts.{IsUnused, first_state}
 use Rattle.unit_workers.proofs.Places.{first_of, others_of}
