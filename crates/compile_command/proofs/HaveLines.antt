@@ -24,7 +24,8 @@ use Rattle.compile_command.specs.Decisions.{Decides, DecidesUnit, has_diagnostic
 use Rattle.compile_command.specs.Lines.{HasLine}
 use Rattle.compile_command.specs.Verdicts.{Decision, listed}
 use Rattle.compile_command.proofs.GatheredUnits.{is_whole}
-use Rattle.compile_command.proofs.StandingFronts.{IsStandingFront, front_stands, tokens_below}
+use Rattle.unit_outcome.proofs.StreamTokens.{tokens_below}
+use Rattle.compile_command.proofs.StandingFronts.{IsStandingFront, front_stands}
 
 -- the text at a place of a list
 at_place : {A : Type 0} (before : List A) (x : A) (behind : List A) → slice_get (before ++ x ∷ behind) (length before) ≡ Some x

@@ -1,5 +1,5 @@
 -- The names of a text's front stand at tokens of the text.
-use Rattle.std.proofs.Common.{◌≡◌, ℕ, ◌+◌, ◌<◌, Bool, true, false, List, [], ◌∷◌, ◌++◌, Option, Some, None, length, subst, arith}
+use Rattle.std.proofs.Common.{ℕ, ◌+◌, ◌<◌, Bool, true, false, List, [], ◌∷◌, ◌++◌, Option, Some, None, subst}
 use Rattle.ll_grammar.specs.Derivations.{Derives, Tree, both, inner, last, leaf, left, more, nothing, of_empty, of_left, of_right, of_then, part, right, tokens}
 use Rattle.m2_base.specs.Fronts.{Front, Imported, ImportedBehind, IsFront, an_import, head, head_of, modules_of, modules_with, named, nameless, no_import, no_semicolon, semicolon}
 use Rattle.m2_base.specs.Grammar as rules
@@ -7,34 +7,18 @@ use Rattle.m2_base.specs.Grammar.{grammar}
 use Rattle.m2_base.specs.Lists.{Each}
 use Rattle.m2_base.specs.Statics.StandingTrees.{AreStandingNames, IsStandingName, IsStandingOption}
 use Rattle.m2_base.specs.StreamsOf as streams
-use Rattle.m2_base.specs.Units.{AreNumbered}
 use Rattle.m2_base.specs.declared.token.Token.{Token}
 use Rattle.m2_base.specs.declared.trees.Ident.{Ident}
-use Rattle.m2_base.proofs.Kept.{Each-append, Each-map}
+use Rattle.m2_base.proofs.Kept.{Each-append}
 use Rattle.m2_base.proofs.StandingExpressions.{HasStanding, name_stand, names_stand}
+use Rattle.unit_outcome.proofs.FaultsStand.{each_behind}
 
 -- ** Tokens
-
-below_from : (at : ℕ) (ts : List Token) → AreNumbered at ts → Each (λ (t : Token). t.at < at + length ts) ts
-below_from at [] h = absurd h
-below_from at (t ∷ []) h = ((let e : t.at ≡ at = h.1 in omega (arith, e)), tt)
-below_from at (t ∷ u ∷ ts) h = (
-  (let e : t.at ≡ at = h.1 in omega (arith, e)),
-  Each-map (λ (x : Token). x.at < (at + 1) + length (u ∷ ts)) (λ (x : Token). x.at < at + length (t ∷ u ∷ ts)) (u ∷ ts) (λ x b. omega (arith, b)) (below_from (at + 1) (u ∷ ts) h.2),
-)
-
--- the tokens of a text have the numbers below their count
-pub tokens_below : (ts : List Token) → AreNumbered 0 ts → Each (λ (t : Token). t.at < length ts) ts
-tokens_below ts h = Each-map (λ (t : Token). t.at < 0 + length ts) (λ (t : Token). t.at < length ts) ts (λ t b. omega (arith, b)) (below_from 0 ts h)
 
 module _ (P : Token → Type 0) where
   each_front : (xs ys : List Token) → Each P (xs ++ ys) → Each P xs
   each_front [] ys h = tt
   each_front (x ∷ xs) ys h = (h.0, each_front xs ys h.1)
-
-  pub each_behind : (xs ys : List Token) → Each P (xs ++ ys) → Each P ys
-  each_behind [] ys h = h
-  each_behind (x ∷ xs) ys h = each_behind xs ys h.1
 
 -- ** Fronts
 

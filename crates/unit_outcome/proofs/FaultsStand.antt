@@ -20,7 +20,7 @@ at_place : {A : Type 0} (before : List A) (x : A) (behind : List A) → slice_ge
 at_place [] x behind = refl
 at_place (b ∷ before) x behind = at_place before x behind
 
-each_behind : (P : Token → Type 0) (xs ys : List Token) → Each P (xs ++ ys) → Each P ys
+pub each_behind : (P : Token → Type 0) (xs ys : List Token) → Each P (xs ++ ys) → Each P ys
 each_behind P [] ys h = h
 each_behind P (x ∷ xs) ys h = each_behind P xs ys h.1
 
