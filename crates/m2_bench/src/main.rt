@@ -1,16 +1,21 @@
 //! How long does a call of one crate take, by the size of its input?
 //!
-//! `m2_bench lex KIND BYTES` times `lex` over a text of one kind, `m2_bench gather MODULES` times `gather` over so
-//! many definition modules that each import all before them, `m2_bench cut PROCEDURES` times `cut` over a text of
-//! so many procedures, `m2_bench turns PROCEDURES` and `m2_bench work PROCEDURES WORKERS` time the work on the streams
-//! of a module of so many, by one thread and by so many workers, by the clock, `m2_bench merge PROCEDURES` times
-//! `merge` over the outputs of so many, `m2_bench parse SHAPE
-//! TOKENS` times `parse_stream` over a module of one shape, `m2_bench compile MODULE SIZE` times `m2c compile A` over
-//! a module of one shape, `m2_bench read OBJECT BYTES` times `read_object` over an object of one shape, and
-//! `m2_bench run LOOP TIMES` times a machine that makes a loop so many times, all in memory. The inputs are made from
-//! the words, and the times are those of the processor. With no words a small run of each part prints its counts
-//! alone, which are the same at every run. Each part stands in a module of its own; a part to come adds a variant to
-//! `Command`.
+//! The first word says what is timed; the inputs are made from the others.
+//!
+//! - `lex KIND BYTES`: `lex` over a text of one kind.
+//! - `gather MODULES`: `gather` over so many definition modules that each import all before them.
+//! - `cut PROCEDURES`: `cut` over a text of so many procedures.
+//! - `turns PROCEDURES` and `work PROCEDURES WORKERS`: the work on the streams of such a text, by one thread and by so
+//!   many workers. These two say how many turns were made and how many rows loaded, too.
+//! - `merge PROCEDURES`: `merge` over the outputs of so many.
+//! - `parse SHAPE TOKENS`: `parse_stream` over a module of one shape.
+//! - `compile MODULE SIZE`: `m2c compile A` over a module of one shape, in memory.
+//! - `read OBJECT BYTES`: `read_object` over an object of one shape.
+//! - `run LOOP TIMES`: a machine that makes a loop so many times.
+//!
+//! The times are those of the processor; those of `turns` and `work` are by the clock. With no words a small run of
+//! each part prints its counts alone, which are the same at every run. Each part stands in a module of its own; a part
+//! to come adds a variant to `Command`.
 #![tactic(auto)]
 
 mod command;

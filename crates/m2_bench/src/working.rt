@@ -11,7 +11,7 @@ ghost use Rattle.unit_workers.specs.Starts.{AreOthers};
 
 use anyhow::{Context, Result};
 use m2_base::{Memory, Output, Texts};
-use m2_io::{MemShelf, NoGate};
+use m2_io::{Gate, MemShelf};
 use merge_samples::unit;
 use module_gen::big;
 use scope_core::PlainScopes;
@@ -20,6 +20,7 @@ use std::alloc::Global;
 use std::collections::BTreeMap;
 use std::fmt;
 use std::sync::Wait;
+use std::sync::atomic::{AtomicU64, Ordering};
 use std::thread::Threads;
 use std::time::{Clock, Duration, Instant};
 use stream_split::{StreamTokens, cut, sizes, streams_have_their_places};
@@ -92,11 +93,45 @@ impl Counts {
     }
 }
 
-/// What streams left, the rows that were loaded from shared tables for it, and the time that it took by the clock.
+/// What it took to make the turns.
+#[derive(Clone, Copy)]
+struct Effort {
+    /// Those that ended with a parked stream are among them.
+    turns: u64,
+    /// How many rows were loaded from shared tables.
+    rows: u64,
+}
+
+/// Counts turns.
+#[derive(Drop)]
+struct TurnCounter {
+    /// Two a turn.
+    passes: AtomicU64,
+}
+
+impl TurnCounter {
+    fn new() -> TurnCounter {
+        TurnCounter {
+            passes: AtomicU64::new(0),
+        }
+    }
+
+    fn turns(&self) -> u64 {
+        self.passes.load(Ordering::SeqCst) / 2
+    }
+}
+
+impl Gate for TurnCounter {
+    fn pass(&self, _worker: u32, _stream: u32, _steps: u64) {
+        self.passes.fetch_add(1, Ordering::SeqCst);
+    }
+}
+
+/// What streams left, what it took, and the time by the clock.
 #[derive(Clone, Copy)]
 struct Measured {
     counts: Counts,
-    rows: u64,
+    effort: Effort,
     time: Duration,
 }
 
@@ -111,15 +146,19 @@ pub fn print_counts<R: AllocGlobal + Print + Clock + Threads + Wait + Sync>(
     Ok(())
 }
 
-/// Prints what they leave, the rows that were loaded for it, and in what time by the clock.
+/// Prints what they leave, by how many turns, the rows that were loaded for it, and in what time by the clock.
 pub fn print_time<R: AllocGlobal + Print + Clock + Threads + Wait + Sync>(
     rt: &R,
     makers: Makers,
     procedures: u32,
 ) -> Result<()> {
-    let Measured { counts, rows, time } = measure(rt, makers, procedures)?;
+    let Measured {
+        counts,
+        effort: Effort { turns, rows },
+        time,
+    } = measure(rt, makers, procedures)?;
     let milliseconds = time.as_secs_f64() * 1e3;
-    println!(rt; "{makers}: {counts}, {rows} rows loaded, {milliseconds:.3} ms")?;
+    println!(rt; "{makers}: {counts}, {turns} turns, {rows} rows loaded, {milliseconds:.3} ms")?;
     Ok(())
 }
 
@@ -140,9 +179,13 @@ fn measure<R: AllocGlobal + Clock + Threads + Wait + Sync>(
             by_workers(rt, number.clamp(1, MOST_WORKERS), &texts, streams)
         }
     };
-    let (counts, rows) = done.ok().context("out of memory")?;
+    let (counts, effort) = done.ok().context("out of memory")?;
     let time = start.elapsed(rt)?;
-    Ok(Measured { counts, rows, time })
+    Ok(Measured {
+        counts,
+        effort,
+        time,
+    })
 }
 
 /// The unit of the module Big of so many procedures.
@@ -157,23 +200,24 @@ fn texts_of(alloc: Global, procedures: u32) -> Result<Texts>
     Ok(unit(alloc, &mut shelf, "Big")?)
 }
 
-/// What the streams leave by turns of one thread, which loads no row from shared tables.
+/// What the streams leave by turns of one thread, one a stream, which loads no row from shared tables.
 fn by_turns(
     alloc: Global,
     texts: &Texts,
     streams: Vec<StreamTokens>,
-) -> Result<(Counts, u64), Memory>
+) -> Result<(Counts, Effort), Memory>
     requires unit { CanBeRun texts.now }
     requires streams { map stream_view streams.items ≡ streams_of texts.now }
     requires few { length streams.items < 2 ^ 31 }
 {
     let sizes = sizes(alloc, &streams)?;
     let mut scopes = PlainScopes::new(alloc, texts, &sizes)?;
+    let turns = streams.len() as u64;
     let mut counts = Counts::none();
     for output in run_turns(alloc, texts, streams, &mut scopes, &[])? {
         counts = counts.with(&output);
     }
-    Ok((counts, 0))
+    Ok((counts, Effort { turns, rows: 0 }))
 }
 
 /// All seats of the table but that of scope 0.
@@ -185,13 +229,13 @@ fn other_seats(_table: &ScopeTable, _texts: &Texts, mut seats: Vec<TableSeat>) -
     seats
 }
 
-/// What the streams leave by so many workers, and how many rows they loaded.
+/// What the streams leave by so many workers, and what it took.
 fn by_workers<R: AllocGlobal + Threads + Wait + Sync>(
     rt: &R,
     workers: u32,
     texts: &Texts,
     streams: Vec<StreamTokens>,
-) -> Result<(Counts, u64), Memory>
+) -> Result<(Counts, Effort), Memory>
     requires unit { CanBeRun texts.now }
     requires streams { map stream_view streams.items ≡ streams_of texts.now }
     requires short { All (λ s. length s.tokens.items < 2 ^ 30) streams.items }
@@ -202,10 +246,12 @@ fn by_workers<R: AllocGlobal + Threads + Wait + Sync>(
     let sizes = sizes(alloc, &streams)?;
     let (table, seats) = ScopeTable::open(alloc, texts, &sizes)?;
     let seats = other_seats(&table, texts, seats);
+    let gate = TurnCounter::new();
     let (mut counts, mut rows) = (Counts::none(), 0_u64);
-    for finished in run_unit(rt, alloc, texts, streams, &table, seats, workers, &NoGate)? {
+    for finished in run_unit(rt, alloc, texts, streams, &table, seats, workers, &gate)? {
         counts = counts.with(&finished.output);
         rows = rows.saturating_add(finished.scopes.rows_loaded());
     }
-    Ok((counts, rows))
+    let turns = gate.turns();
+    Ok((counts, Effort { turns, rows }))
 }
