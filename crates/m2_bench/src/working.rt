@@ -208,6 +208,7 @@ fn by_turns(
 ) -> Result<(Counts, Effort), Memory>
     requires unit { CanBeRun texts.now }
     requires streams { map stream_view streams.items ≡ streams_of texts.now }
+    requires short { All (λ s. length s.tokens.items < 2 ^ 30) streams.items }
     requires few { length streams.items < 2 ^ 31 }
 {
     let sizes = sizes(alloc, &streams)?;
