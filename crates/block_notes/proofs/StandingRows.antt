@@ -23,7 +23,7 @@ use Rattle.m2_base.specs.declared.trees.types.Formal.{Formal}
 use Rattle.m2_base.specs.declared.trees.Ident.{Ident}
 use Rattle.m2_base.specs.declared.trees.Qual.{Qual}
 use Rattle.m2_base.specs.declared.trees.declarations.StreamKind.{StreamKind}
-use Rattle.m2_base.proofs.ChainLaws.{each_append}
+use Rattle.m2_base.proofs.EachLaws.{each_append}
 use Rattle.m2_base.proofs.LayoutLaws.{block_shaped}
 
 module _ (n : ℕ) where

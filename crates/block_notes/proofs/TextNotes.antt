@@ -18,7 +18,7 @@ use Rattle.m2_base.specs.Statics.Makes.{Makes, makes_named}
 use Rattle.m2_base.specs.Statics.TypeNames.{entry_of_qual, member_of, qualified, type_by, type_of_entry, type_of_qual}
 use Rattle.m2_base.specs.Statics.Uses.{bound, bound_or, bound_outside, stands_later, use_by_item, use_in_item, use_of}
 use Rattle.m2_base.specs.declared.notes.Diag.{Diag}
-use Rattle.m2_base.proofs.ChainLaws.{each_append}
+use Rattle.m2_base.proofs.EachLaws.{each_append}
 
 -- diagnostics of this text
 pub record OfText (k : ℕ) (ds : List Diag) : Type 0 where

@@ -10,7 +10,7 @@ use Rattle.m2_base.specs.StreamsOf as streams
 use Rattle.m2_base.specs.Units.{AreNumbered}
 use Rattle.m2_base.specs.declared.token.Token.{Token}
 use Rattle.m2_base.specs.declared.trees.Ident.{Ident}
-use Rattle.m2_base.proofs.Kept.{Each-append, Each-map}
+use Rattle.m2_base.proofs.EachLaws.{each_append, each_then}
 use Rattle.m2_base.proofs.StandingExpressions.{HasStanding, name_stand, names_stand}
 
 -- ** Tokens
@@ -20,12 +20,12 @@ below_from at [] h = absurd h
 below_from at (t ∷ []) h = ((let e : t.at ≡ at = h.1 in omega (arith, e)), tt)
 below_from at (t ∷ u ∷ ts) h = (
   (let e : t.at ≡ at = h.1 in omega (arith, e)),
-  Each-map (λ (x : Token). x.at < (at + 1) + length (u ∷ ts)) (λ (x : Token). x.at < at + length (t ∷ u ∷ ts)) (u ∷ ts) (λ x b. omega (arith, b)) (below_from (at + 1) (u ∷ ts) h.2),
+  each_then (λ (x : Token). x.at < (at + 1) + length (u ∷ ts)) (λ (x : Token). x.at < at + length (t ∷ u ∷ ts)) (u ∷ ts) (λ x b. omega (arith, b)) (below_from (at + 1) (u ∷ ts) h.2),
 )
 
 -- the tokens of a text have the numbers below their count
 pub tokens_below : (ts : List Token) → AreNumbered 0 ts → Each (λ (t : Token). t.at < length ts) ts
-tokens_below ts h = Each-map (λ (t : Token). t.at < 0 + length ts) (λ (t : Token). t.at < length ts) ts (λ t b. omega (arith, b)) (below_from 0 ts h)
+tokens_below ts h = each_then (λ (t : Token). t.at < 0 + length ts) (λ (t : Token). t.at < length ts) ts (λ t b. omega (arith, b)) (below_from 0 ts h)
 
 module _ (P : Token → Type 0) where
   each_front : (xs ys : List Token) → Each P (xs ++ ys) → Each P xs
@@ -73,7 +73,7 @@ module _ (n : ℕ) where
   imported_stand (no_import b) h = tt
   imported_stand (an_import {d = d} {rest = rest} {modules = modules} opens behind) h =
       let all = subst (λ (l : List Token). Each IsBelow l) opens.spells h in
-      Each-append (λ i. IsStandingName n i) (modules_of (streams.import_of d)) modules (import_stands opens.derives (leaves_stand d (each_front IsBelow (tokens d) rest all)))
+      each_append (λ i. IsStandingName n i) (modules_of (streams.import_of d)) modules (import_stands opens.derives (leaves_stand d (each_front IsBelow (tokens d) rest all)))
       (imported_stand behind (each_behind IsBelow (tokens d) rest all))
 
   behind_stand : {ts : List Token} {modules : List Ident} → ImportedBehind ts modules → Each IsBelow ts → AreStandingNames n modules

@@ -16,7 +16,7 @@ use Rattle.m2_base.specs.declared.kind.TokenKind.TheVariants.{Comma, Identifier}
 use Rattle.m2_base.specs.declared.kind.TokenKind.{TokenKind}
 use Rattle.m2_base.specs.declared.token.Token.{Token}
 use Rattle.m2_base.specs.declared.trees.Ident.{Ident}
-use Rattle.m2_base.proofs.ReadExpressions.{kind_is}
+use Rattle.m2_base.proofs.LeafExpressions.{kind_is}
 use Rattle.def_import.specs.Closure.{listed, modules_of, names_of, with_module, with_modules}
 
 -- names stay names where more come behind them

@@ -38,7 +38,7 @@ use Rattle.m2_base.proofs.Sound.{Sound, EntryOk, AreOk, no_ok, ok-append, ok-end
 use Rattle.m2_base.proofs.SoundConstants.{constant_ok}
 use Rattle.m2_base.proofs.SoundMade.{Made, context-with, context-then, there-then, plain_made, named_made}
 use Rattle.m2_base.proofs.SoundOperands.{OperandOk, natural-value}
-use Rattle.m2_base.proofs.SoundOperations.{LayoutOk, SoundContext}
+use Rattle.m2_base.proofs.SoundOperations.{LayoutOk, SoundContext, filter_count}
 use Rattle.m2_base.proofs.SoundBrought.{brought_ok, members_ok}
 use Rattle.m2_base.proofs.SoundParts.{most, capped-most, parameter_made, open_made, result_ok}
 use Rattle.m2_base.proofs.SoundRows.{type_made, result_small, result_before}
@@ -54,14 +54,6 @@ sections_count (s ∷ sections) =
     let f = length-append (open_shapes s.is_open s.of) params in
     let g = length-map s.names (λ (i : Ident). nameless param_kind i.at) in
     (omega (arith, rest.0, e), omega (arith, rest.1, f, g))
-
-filter_count : {A : Type 0} (p : A → Bool) (xs : List A) → length (filter p xs) ≤ length xs
-filter_count p [] = omega arith
-filter_count {A} p (x ∷ xs) = by_test (p x) (filter_count p xs)
-  where
-    by_test : (b : Bool) → length (filter p xs) ≤ length xs → length (if b then x ∷ filter p xs else filter p xs) ≤ length (x ∷ xs)
-    by_test true h = omega (arith, h)
-    by_test false h = omega (arith, h)
 
 module _ (names : ℕ) where
   -- ** Imports, constants and types

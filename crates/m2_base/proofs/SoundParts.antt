@@ -27,7 +27,7 @@ use Rattle.m2_base.specs.Statics.Types.{is_broken, range_of, base_of, size_of, s
 use Rattle.m2_base.specs.Statics.Uses.{followed, followed_by}
 use Rattle.m2_base.specs.declared.operands.Operand.{Operand}
 use Rattle.m2_base.specs.declared.operands.Operand.TheVariants.{Constant}
-use Rattle.m2_base.proofs.ChainLaws.{each_then}
+use Rattle.m2_base.proofs.EachLaws.{each_then}
 use Rattle.m2_base.proofs.Sound.{Sound, AreOk, no_ok, ok-append, IsThere, there-with, Room, room-left, room-right, room-then, row_ok}
 use Rattle.m2_base.proofs.SoundConstants.{constant_ok}
 use Rattle.m2_base.proofs.SoundMade.{Made, made-append, made-then, made-before, context-with, context-then, there-then, row_made, plain_made, named_made}

@@ -20,7 +20,7 @@ use Rattle.m2_base.specs.Statics.SoundTrees.{IsSoundType, IsSoundTypeForm, AreSo
 use Rattle.m2_base.specs.Statics.Subranges.{subrange_of}
 use Rattle.m2_base.specs.Statics.Targets.{target_name, target_by_name, target_or}
 use Rattle.m2_base.specs.Statics.TypeRows.{type_rows, form_rows, index_rows, fields_rows, field_list_rows, arms_rows}
-use Rattle.m2_base.proofs.ChainLaws.{each_then}
+use Rattle.m2_base.proofs.EachLaws.{each_then}
 use Rattle.m2_base.proofs.LayoutLaws.{AreShaped-length}
 use Rattle.m2_base.proofs.SceneLaws.{IsOpen, own_of, own-with, with-none, with-twice}
 use Rattle.m2_base.proofs.ShapeLaws.{constants_of, formals_of, fields_of}

@@ -35,7 +35,7 @@ use Rattle.m2_base.specs.Statics.Targets.{target_name, target_by_name, target_or
 use Rattle.m2_base.specs.Statics.TypeNames.{type_of_qual}
 use Rattle.m2_base.specs.Statics.TypeRows.{type_rows, form_rows, index_rows, fields_rows, field_list_rows, arms_rows}
 use Rattle.m2_base.specs.Statics.Types.{base_of, is_broken, range_of, size_of}
-use Rattle.m2_base.proofs.ChainLaws.{each_then}
+use Rattle.m2_base.proofs.EachLaws.{each_then}
 use Rattle.m2_base.proofs.RowLaws.{place_of-number_of}
 use Rattle.m2_base.proofs.SceneLaws.{with-none, with-twice}
 use Rattle.m2_base.proofs.Sound.{Sound}

@@ -27,7 +27,7 @@ use Rattle.m2_base.specs.Statics.ShapedRows.{AreShaped, none_of, more_of}
 use Rattle.m2_base.specs.Statics.Shapes.{Shape, type_shapes, form_shapes, types_shapes, fields_shapes, field_shapes, arms_shapes, array_shapes, formal_shapes, open_shapes, tag_shapes}
 use Rattle.m2_base.specs.Statics.TypeNames.{type_of_qual}
 use Rattle.m2_base.specs.Statics.Types.{kind_of, size_by, size_of, stands_for}
-use Rattle.m2_base.proofs.ChainLaws.{each_append, each_then}
+use Rattle.m2_base.proofs.EachLaws.{each_append, each_then}
 use Rattle.m2_base.proofs.ShapeLaws.{open_of}
 use Rattle.m2_base.proofs.Sound.{Sound, row_ok}
 use Rattle.m2_base.proofs.SoundParts.{most, capped-most}

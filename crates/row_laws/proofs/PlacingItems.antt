@@ -21,7 +21,7 @@ use Rattle.m2_base.specs.Statics.NameRows.{var_rows}
 use Rattle.m2_base.specs.Statics.ProcedureRows.{parameter_cells}
 use Rattle.m2_base.specs.Statics.Shapes.{nameless, type_item_shapes, section_shapes, open_shapes}
 use Rattle.m2_base.specs.Statics.TypeRows.{type_rows}
-use Rattle.m2_base.proofs.ChainLaws.{each_append}
+use Rattle.m2_base.proofs.EachLaws.{each_append}
 use Rattle.m2_base.proofs.ItemLaws.{item_of}
 use Rattle.m2_base.proofs.ShapeLaws.{type_of}
 use Rattle.m2_base.proofs.SoundParts.{most}

@@ -6,7 +6,7 @@ use Rattle.std.proofs.lemmas.List.{length-map}
 use Rattle.std.proofs.lemmas.List.Quantifiers.{position-Some}
 use Rattle.std.proofs.lemmas.Option.{slice_get_cases}
 use Rattle.std.proofs.lemmas.List.Recursion.{is_position_or_len}
-use Rattle.m2_base.proofs.ChainLaws.{each_append}
+use Rattle.m2_base.proofs.EachLaws.{each_append}
 use Rattle.m2_base.specs.Finished.{definitions_of, no_text, source_of, tokens_in, tokens_of}
 use Rattle.m2_base.specs.Fronts as grammar_fronts
 use Rattle.m2_base.specs.Fronts.{IsFront, modules_of, modules_with}

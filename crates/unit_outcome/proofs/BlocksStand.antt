@@ -12,7 +12,7 @@ use Rattle.m2_base.specs.Statics.UnitRows.{unit_rows}
 use Rattle.m2_base.specs.Units.{IsUnit, TextOf, UnitTexts}
 use Rattle.m2_base.specs.declared.notes.Diag.{Diag}
 use Rattle.m2_base.specs.declared.rows.Row.{Row}
-use Rattle.m2_base.proofs.Kept.{Each-append}
+use Rattle.m2_base.proofs.EachLaws.{each_append}
 use Rattle.row_laws.specs.RowRanges.{EachBlock}
 use Rattle.stmt_sem.specs.BlockCode.{block_diags}
 use Rattle.block_laws.specs.Worlds.{over_blocks}
@@ -40,7 +40,7 @@ noted_stand : (Q : Diag → Type 0) (f : List (List Row) → BlockTree → List 
 noted_stand Q f source before [] h = tt
 noted_stand Q f source before (b ∷ blocks) h =
     let later = before ++ (declare_block source before b).rows ∷ [] in
-    Each-append Q (f before b) (flat_map (λ (diags : List Diag). diags) (over_blocks f source later blocks)) h.0 (noted_stand Q f source later blocks h.1)
+    each_append Q (f before b) (flat_map (λ (diags : List Diag). diags) (over_blocks f source later blocks)) h.0 (noted_stand Q f source later blocks h.1)
 
 module _ (Q : Diag → Type 0) where
   each_either : (b : Bool) (ds es : List Diag) → Each Q ds → Each Q es → Each Q (if b then ds else es)
