@@ -4,7 +4,6 @@ use Rattle.std.proofs.lemmas.List.{length-map, map-append}
 use Rattle.m2_io.specs.Files.{Files}
 use Rattle.std.specs.Prelude.{nat_eq, not}
 use Rattle.m2_base.specs.Lists.{Each}
-use Rattle.m2_base.specs.Statics.StandingTrees.{AreStandingNames, IsStandingOption}
 use Rattle.m2_base.specs.Units.{IsUnit, TextOf, UnitTexts}
 use Rattle.m2_base.specs.declared.diagnostic.Diagnostic.TheVariants.{CircularImports, NoDefinitionText, OtherModuleName}
 use Rattle.m2_base.specs.declared.diagnostic.Diagnostic.{Diagnostic}
@@ -24,7 +23,7 @@ use Rattle.compile_command.specs.Decisions.{Decides, DecidesUnit, has_diagnostic
 use Rattle.compile_command.specs.Lines.{HasLine}
 use Rattle.compile_command.specs.Verdicts.{Decision, listed}
 use Rattle.compile_command.proofs.GatheredUnits.{is_whole}
-use Rattle.compile_command.proofs.StandingFronts.{IsStandingFront, front_stands, tokens_below}
+use Rattle.compile_command.proofs.StandingFronts.{AreStandingNames, IsStandingFront, IsStandingOption, front_stands, tokens_below}
 
 -- the text at a place of a list
 at_place : {A : Type 0} (before : List A) (x : A) (behind : List A) → slice_get (before ++ x ∷ behind) (length before) ≡ Some x

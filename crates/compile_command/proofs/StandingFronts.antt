@@ -1,17 +1,20 @@
 -- The names of a text's front stand at tokens of the text.
 use Rattle.std.proofs.Common.{◌≡◌, ℕ, ◌+◌, ◌<◌, Bool, true, false, List, [], ◌∷◌, ◌++◌, Option, Some, None, length, subst, arith}
-use Rattle.ll_grammar.specs.Derivations.{Derives, Tree, both, inner, last, leaf, left, more, nothing, of_empty, of_left, of_right, of_then, part, right, tokens}
+use Rattle.ll_grammar.specs.Derivations.{Derives, Tree, of_then, tokens}
 use Rattle.m2_base.specs.Fronts.{Front, Imported, ImportedBehind, IsFront, an_import, head, head_of, modules_of, modules_with, named, nameless, no_import, no_semicolon, semicolon}
 use Rattle.m2_base.specs.Grammar as rules
 use Rattle.m2_base.specs.Grammar.{grammar}
 use Rattle.m2_base.specs.Lists.{Each}
-use Rattle.m2_base.specs.Statics.StandingTrees.{AreStandingNames, IsStandingName, IsStandingOption}
+use Rattle.m2_base.specs.Statics.Leaves.{Leaf, NameHas, NameOptionHas, NamesHave}
+use Rattle.m2_base.specs.Statics.StandingTrees.{IsBelow, Stands}
 use Rattle.m2_base.specs.StreamsOf as streams
 use Rattle.m2_base.specs.Units.{AreNumbered}
 use Rattle.m2_base.specs.declared.token.Token.{Token}
 use Rattle.m2_base.specs.declared.trees.Ident.{Ident}
-use Rattle.m2_base.proofs.EachLaws.{each_append, each_then}
-use Rattle.m2_base.proofs.StandingExpressions.{HasStanding, name_stand, names_stand}
+use Rattle.m2_base.proofs.EachLaws.{each_append, each_back, each_front, each_then}
+use Rattle.m2_base.proofs.LeafExpressions.{LeavesHave, TokenHas, leaves_have, name_leaves, names_leaves}
+use Rattle.m2_base.proofs.LeafStreams.{from_leaves}
+use Rattle.m2_base.proofs.StandingStreams.{token_stands}
 
 -- ** Tokens
 
@@ -27,70 +30,54 @@ below_from at (t ∷ u ∷ ts) h = (
 pub tokens_below : (ts : List Token) → AreNumbered 0 ts → Each (λ (t : Token). t.at < length ts) ts
 tokens_below ts h = each_then (λ (t : Token). t.at < 0 + length ts) (λ (t : Token). t.at < length ts) ts (λ t b. omega (arith, b)) (below_from 0 ts h)
 
-module _ (P : Token → Type 0) where
-  each_front : (xs ys : List Token) → Each P (xs ++ ys) → Each P xs
-  each_front [] ys h = tt
-  each_front (x ∷ xs) ys h = (h.0, each_front xs ys h.1)
-
-  pub each_behind : (xs ys : List Token) → Each P (xs ++ ys) → Each P ys
-  each_behind [] ys h = h
-  each_behind (x ∷ xs) ys h = each_behind xs ys h.1
-
 -- ** Fronts
 
 module _ (n : ℕ) where
-  abbrev IsBelow : Token → Type 0
-  IsBelow t = t.at < n
+  -- the leaves that come from the first n tokens
+  abbrev IsLow : Leaf → Type 0
+  IsLow leaf = Stands (IsBelow n) leaf
 
-  leaves_stand : (d : Tree Token) → Each IsBelow (tokens d) → HasStanding n d
-  leaves_stand nothing h = tt
-  leaves_stand (leaf t) h = h.0
-  leaves_stand (both d e) h = (leaves_stand d (each_front IsBelow (tokens d) (tokens e) h), leaves_stand e (each_behind IsBelow (tokens d) (tokens e) h))
-  leaves_stand (left d) h = leaves_stand d h
-  leaves_stand (right d) h = leaves_stand d h
-  leaves_stand last h = tt
-  leaves_stand (more d ds) h = (leaves_stand d (each_front IsBelow (tokens d) (tokens ds) h), leaves_stand ds (each_behind IsBelow (tokens d) (tokens ds) h))
-  leaves_stand (inner d) h = leaves_stand d h
-  leaves_stand (part d) h = leaves_stand d h
+  -- names that stand among these, and a name that does, if there is one
+  abbrev pub AreStandingNames : List Ident → Type 0
+  AreStandingNames names = NamesHave IsLow names
 
-  head_stands : (definition : Bool) {d : Tree Token} → Derives grammar (head definition) d → HasStanding n d → IsStandingName n (head_of definition d).1
-  head_stands true (of_then p (of_then q i)) r = name_stand n i r.1.1
-  head_stands false (of_then p (of_then q i)) r = name_stand n i r.1.1
+  abbrev pub IsStandingOption : Option Ident → Type 0
+  IsStandingOption o = NameOptionHas IsLow o
 
-  from_stands : {d : Tree Token} → Derives grammar rules.from d → HasStanding n d → IsStandingOption n (streams.from_of d)
-  from_stands (of_left (of_then from i)) r = name_stand n i r.1
-  from_stands (of_right of_empty) r = tt
+  head_stands : (definition : Bool) {d : Tree Token} → Derives grammar (head definition) d → LeavesHave IsLow d → NameHas IsLow (head_of definition d).1
+  head_stands true (of_then p (of_then q i)) r = name_leaves IsLow i r.1.1
+  head_stands false (of_then p (of_then q i)) r = name_leaves IsLow i r.1.1
 
-  modules_stand : (from : Option Ident) (names : List Ident) → IsStandingOption n from → AreStandingNames n names → AreStandingNames n (modules_with from names)
+  modules_stand : (from : Option Ident) (names : List Ident) → IsStandingOption from → AreStandingNames names → AreStandingNames (modules_with from names)
   modules_stand None names p q = q
   modules_stand (Some i) names p q = (p, tt)
 
-  import_stands : {d : Tree Token} → Derives grammar rules.imported d → HasStanding n d → AreStandingNames n (modules_of (streams.import_of d))
+  import_stands : {d : Tree Token} → Derives grammar rules.imported d → LeavesHave IsLow d → AreStandingNames (modules_of (streams.import_of d))
   import_stands {d} (of_then p (of_then import (of_then q s))) r =
-      modules_stand (streams.import_of d).from (streams.import_of d).names (from_stands p r.0) (names_stand n q r.1.1.0)
+      modules_stand (streams.import_of d).from (streams.import_of d).names (from_leaves IsLow tt p r.0) (names_leaves IsLow q r.1.1.0)
 
-  imported_stand : {ts : List Token} {modules : List Ident} → Imported ts modules → Each IsBelow ts → AreStandingNames n modules
+  imported_stand : {ts : List Token} {modules : List Ident} → Imported ts modules → Each (TokenHas IsLow) ts → AreStandingNames modules
   imported_stand (no_import b) h = tt
   imported_stand (an_import {d = d} {rest = rest} {modules = modules} opens behind) h =
-      let all = subst (λ (l : List Token). Each IsBelow l) opens.spells h in
-      each_append (λ i. IsStandingName n i) (modules_of (streams.import_of d)) modules (import_stands opens.derives (leaves_stand d (each_front IsBelow (tokens d) rest all)))
-      (imported_stand behind (each_behind IsBelow (tokens d) rest all))
+      let all = subst (λ (l : List Token). Each (TokenHas IsLow) l) opens.spells h in
+      each_append (NameHas IsLow) (modules_of (streams.import_of d)) modules (import_stands opens.derives (leaves_have IsLow d (each_front (TokenHas IsLow) (tokens d) rest all)))
+      (imported_stand behind (each_back (TokenHas IsLow) (tokens d) rest all))
 
-  behind_stand : {ts : List Token} {modules : List Ident} → ImportedBehind ts modules → Each IsBelow ts → AreStandingNames n modules
+  behind_stand : {ts : List Token} {modules : List Ident} → ImportedBehind ts modules → Each (TokenHas IsLow) ts → AreStandingNames modules
   behind_stand (no_semicolon b) h = tt
   behind_stand (semicolon {d = d} {rest = rest} opens behind) h =
-      imported_stand behind (each_behind IsBelow (tokens d) rest (subst (λ (l : List Token). Each IsBelow l) opens.spells h))
+      imported_stand behind (each_back (TokenHas IsLow) (tokens d) rest (subst (λ (l : List Token). Each (TokenHas IsLow) l) opens.spells h))
 
   -- the name and the imports of a front stand at tokens with numbers below n
   pub record IsStandingFront (f : Front) : Type 0 where
-    pub name : IsStandingOption n f.name
-    pub imports : AreStandingNames n f.imports
+    pub name : IsStandingOption f.name
+    pub imports : AreStandingNames f.imports
 
-  pub front_stands : (definition : Bool) (ts : List Token) (f : Front) → IsFront definition ts f → Each IsBelow ts → IsStandingFront f
+  pub front_stands : (definition : Bool) (ts : List Token) (f : Front) → IsFront definition ts f → Each (λ (t : Token). t.at < n) ts → IsStandingFront f
   front_stands definition ts _ (nameless b) h = record { name = tt; imports = tt }
   front_stands definition ts _ (named {d = d} {rest = rest} opens behind) h =
-      let all = subst (λ (l : List Token). Each IsBelow l) opens.spells h in
+      let all = subst (λ (l : List Token). Each (TokenHas IsLow) l) opens.spells (each_then (λ (t : Token). t.at < n) (TokenHas IsLow) ts (token_stands (IsBelow n)) h) in
       record {
-        name = head_stands definition opens.derives (leaves_stand d (each_front IsBelow (tokens d) rest all));
-        imports = behind_stand behind (each_behind IsBelow (tokens d) rest all);
+        name = head_stands definition opens.derives (leaves_have IsLow d (each_front (TokenHas IsLow) (tokens d) rest all));
+        imports = behind_stand behind (each_back (TokenHas IsLow) (tokens d) rest all);
       }

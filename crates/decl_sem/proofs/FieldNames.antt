@@ -16,6 +16,7 @@ use Rattle.m2_base.specs.Statics.ReadTrees.{IsReadName}
 use Rattle.m2_base.specs.Statics.Shapes.{Shape, nameless}
 use Rattle.m2_base.specs.Statics.TypeParts.{is_field, is_field_meaning}
 use Rattle.m2_base.specs.Units.{UnitTexts}
+use Rattle.m2_base.specs.declared.limits.TheConstants.{TOO_MANY_CELLS}
 use Rattle.m2_base.specs.declared.memory.Memory.{Memory}
 use Rattle.m2_base.specs.declared.notes.Notes.{Notes}
 use Rattle.m2_base.specs.declared.replies.Ask.{Ask}
@@ -98,7 +99,7 @@ field_after c own i t offset none =
     go false = refl
 
 -- the meaning of a field's row
-pub field_meaning : {f : Frame} {s : Site} {x : Made} {ss : List Shape} {i : Ident} {t : Place} {offset own : ℕ} → IsMaking f s x ss → IsBehind f (next_ordinal x) t → IsReadName s.texts.now.names i → offset ≤ 16777216 → own < item_end s
+pub field_meaning : {f : Frame} {s : Site} {x : Made} {ss : List Shape} {i : Ident} {t : Place} {offset own : ℕ} → IsMaking f s x ss → IsBehind f (next_ordinal x) t → IsReadName s.texts.now.names i → offset ≤ TOO_MANY_CELLS → own < item_end s
     → IsNewMeaning f s (next_ordinal x) (Field t offset own i.name)
 field_meaning {f} {s} {x} {i = i} making behind read small within =
     record {

@@ -8,6 +8,7 @@ ghost use Rattle.m2_base.specs.Statics.ReadTrees.{AreReadLabels, IsReadOption, I
 ghost use Rattle.m2_base.specs.Statics.Shapes.{nameless, tag_shapes};
 ghost use Rattle.m2_base.specs.Trees.{labels as plain_labels};
 ghost use Rattle.m2_base.specs.Views.{label_view};
+ghost use Rattle.m2_base.specs.declared.limits.TheConstants.{TOO_MANY_CELLS};
 ghost use Rattle.decl_sem.specs.Making.{next_ordinal};
 ghost use Rattle.decl_sem.specs.Pieces.{Declares, IsAny, IsBehind, IsMaking, known_of};
 ghost use Rattle.decl_sem.specs.Records.{AreVariantsOf, IsOwner, covered_of, record_row, tag_made};
@@ -41,7 +42,7 @@ pub(crate) fn begin_variants<S: Scopes>(
 ) -> Result<Ask<Variants>, Memory>
     requires making { IsMaking (S.state scopes.old).frame site.now made.old (tag_shapes tag) }
     requires owner { IsOwner site.now made.old (tag_shapes tag) own }
-    requires offset { offset ≤ 16777216 }
+    requires offset { offset ≤ TOO_MANY_CELLS }
     requires tag { IsReadOption site.now.texts.now.names tag }
     requires read { IsReadQual site.now.texts.now.names of }
     ensures { Declares (S.state scopes.old) (S.state scopes.new) made.old made.new site.now result (tag_shapes tag) (AreVariantsOf own) (λ c. tag_made c own offset tag of) }

@@ -17,6 +17,7 @@ use Rattle.m2_base.specs.declared.kind.TokenKind.{TokenKind}
 use Rattle.m2_base.specs.declared.token.Token.{Token}
 use Rattle.m2_base.specs.declared.trees.Ident.{Ident}
 use Rattle.m2_base.proofs.LeafExpressions.{kind_is}
+use Rattle.m2_base.proofs.EachLaws.{each_front, each_back}
 use Rattle.def_import.specs.Closure.{listed, modules_of, names_of, with_module, with_modules}
 
 -- names stay names where more come behind them
@@ -52,22 +53,14 @@ module _ (names : List (List ℕ)) where
   AreValued (inner d) = AreValued d
   AreValued (part d) = AreValued d
 
-  each_front : (xs ys : List Token) → Each HasItsValue (xs ++ ys) → Each HasItsValue xs
-  each_front [] ys h = tt
-  each_front (x ∷ xs) ys h = (h.0, each_front xs ys h.1)
-
-  each_back : (xs ys : List Token) → Each HasItsValue (xs ++ ys) → Each HasItsValue ys
-  each_back [] ys h = h
-  each_back (x ∷ xs) ys h = each_back xs ys h.1
-
   leaves_valued : (d : Tree Token) → Each HasItsValue (tokens d) → AreValued d
   leaves_valued nothing h = tt
   leaves_valued (leaf t) h = h.0
-  leaves_valued (both d e) h = (leaves_valued d (each_front (tokens d) (tokens e) h), leaves_valued e (each_back (tokens d) (tokens e) h))
+  leaves_valued (both d e) h = (leaves_valued d (each_front HasItsValue (tokens d) (tokens e) h), leaves_valued e (each_back HasItsValue (tokens d) (tokens e) h))
   leaves_valued (left d) h = leaves_valued d h
   leaves_valued (right d) h = leaves_valued d h
   leaves_valued last h = tt
-  leaves_valued (more d ds) h = (leaves_valued d (each_front (tokens d) (tokens ds) h), leaves_valued ds (each_back (tokens d) (tokens ds) h))
+  leaves_valued (more d ds) h = (leaves_valued d (each_front HasItsValue (tokens d) (tokens ds) h), leaves_valued ds (each_back HasItsValue (tokens d) (tokens ds) h))
   leaves_valued (inner d) h = leaves_valued d h
   leaves_valued (part d) h = leaves_valued d h
 
@@ -99,7 +92,7 @@ module _ (names : List (List ℕ)) where
   opened : {r : Rule} {d : Tree Token} {rest ts : List Token} → Opens r d rest ts → Each HasItsValue ts → AreValued d × Each HasItsValue rest
   opened {d = d} {rest = rest} o h =
       let all : Each HasItsValue (tokens d ++ rest) = subst (λ (w : List Token). Each HasItsValue w) o.spells h in
-      (leaves_valued d (each_front (tokens d) rest all), each_back (tokens d) rest all)
+      (leaves_valued d (each_front HasItsValue (tokens d) rest all), each_back HasItsValue (tokens d) rest all)
 
   imports_named : {ts : List Token} {is : List Ident} → Imported ts is → Each HasItsValue ts → Each IsNamedIdent is
   imports_named (no_import b) h = tt

@@ -101,7 +101,7 @@ module _ (P : Leaf → Type 0) (none : P (stream_leaf 0)) where
   abbrev ImportHas : Import → Type 0
   ImportHas i = NameOptionHas P i.from × NamesHave P i.names
 
-  from_leaves : {d : Tree Token} → Derives grammar rules.from d → LeavesHave P d → NameOptionHas P (streams.from_of d)
+  pub from_leaves : {d : Tree Token} → Derives grammar rules.from d → LeavesHave P d → NameOptionHas P (streams.from_of d)
   from_leaves (of_left (of_then from i)) r = name_leaves P i r.1
   from_leaves (of_right of_empty) r = tt
 

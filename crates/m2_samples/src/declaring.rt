@@ -5,7 +5,7 @@ ghost use Rattle.m2_base.specs.Statics.Layouts.{layout_of as spec_layout};
 ghost use Rattle.m2_base.specs.Statics.ProcedureRows.{is_proc};
 ghost use Rattle.m2_base.specs.Trees.{Stream};
 ghost use Rattle.m2_base.specs.Views.{stream_view};
-ghost use Rattle.m2_base.specs.declared.limits.TheConstants.{MOST_BROUGHT};
+ghost use Rattle.m2_base.specs.declared.limits.TheConstants.{MOST_BROUGHT, TOO_MANY_CELLS};
 ghost use Rattle.scope_core.specs.PlainScopes.{state_of};
 ghost use Rattle.m2_samples.specs.Filled.{HasDeclared, IsBlock, IsFull, row_count as spec_count};
 ghost use Rattle.m2_samples.specs.Samples.{IsSample};
@@ -21,10 +21,7 @@ use std::alloc::Global;
 const STANDARD_ROWS: u32 = m2_base::STANDARD_ROWS as u32;
 
 /// A block has at most so many rows, so that there is room for those of the names that imports bring.
-const MOST_ROWS: u32 = 2_147_483_648 - m2_base::MOST_BROUGHT as u32;
-
-/// The next free cell of too many is this.
-const TOO_MANY_CELLS: u32 = m2_base::MOST_CELLS + 1;
+const MOST_ROWS: u32 = m2_base::MOST_ROWS - m2_base::MOST_BROUGHT as u32;
 
 /// The kind of the rows of procedures.
 const PROCEDURE: u8 = 4;
@@ -101,12 +98,12 @@ fn enter<S: Scopes>(scopes: &mut S, declared: &Declared, made: &mut Made) -> Res
     requires { CanEnter (S.state scopes.old) declared.now.rows.items }
     ensures entered { OnOk result (Entered (S.state scopes.old) (S.state scopes.new) declared.now.rows.items) }
     ensures none { OnOk result (length (filter is_proc declared.now.rows.items) ≡ 0) }
-    ensures few { IfOk result (λ cell. cell ≤ 16777216) }
+    ensures few { IfOk result (λ cell. cell ≤ TOO_MANY_CELLS) }
 {
     scopes.enter(&declared.rows);
     keep(made, declared)?;
     let cell = declared.effect.cell;
-    if cell > TOO_MANY_CELLS || count_procedures(&declared.rows) > 0 {
+    if cell > m2_base::TOO_MANY_CELLS || count_procedures(&declared.rows) > 0 {
         return Err(Memory);
     }
     Ok(cell)

@@ -4,7 +4,7 @@ use Rattle.std.proofs.Common.{refl, sym, ap, subst, arith}
 use Rattle.m2_base.specs.Lists.{Each, Grows, WhereKept}
 use Rattle.m2_base.specs.States.{IsAmong, Look}
 use Rattle.m2_base.specs.declared.notes.Answer.{Answer}
-use Rattle.m2_base.proofs.EachLaws.{each_append, each_then}
+use Rattle.m2_base.proofs.EachLaws.{each_append, each_front, each_then}
 use Rattle.m2_base.proofs.Kept.{IsAmong_left, IsAmong_right}
 
 -- an item of a list, with those before and behind it
@@ -31,10 +31,6 @@ pub each_at : {A : Type 0} (P : A → Type 0) (xs : List A) (n : ℕ) (x : A) �
 each_at P [] n x h e = absurd (cc)
 each_at P (y ∷ xs) zero x h e = subst P (some_is y x e) h.0
 each_at P (y ∷ xs) (suc n) x h e = each_at P xs n x h.1 e
-
-pub each_front : {A : Type 0} (P : A → Type 0) (xs ys : List A) → Each P (xs ++ ys) → Each P xs
-each_front P [] ys h = tt
-each_front P (x ∷ xs) ys h = (h.0, each_front P xs ys h.1)
 
 -- there is no item behind the last
 pub none_left : {A : Type 0} (xs : List A) (n : ℕ) → slice_get xs n ≡ None → n ≤ length xs → n ≡ length xs
