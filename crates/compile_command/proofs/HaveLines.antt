@@ -4,12 +4,16 @@ use Rattle.std.proofs.lemmas.List.{length-map, map-append}
 use Rattle.m2_io.specs.Files.{Files}
 use Rattle.std.specs.Prelude.{nat_eq, not}
 use Rattle.m2_base.specs.Lists.{Each}
+use Rattle.m2_base.specs.Statics.Leaves.{NameOptionHas, NamesHave}
+use Rattle.m2_base.specs.Statics.StandingTrees.{IsBelow, Stands}
 use Rattle.m2_base.specs.Units.{IsUnit, TextOf, UnitTexts}
 use Rattle.m2_base.specs.declared.diagnostic.Diagnostic.TheVariants.{CircularImports, NoDefinitionText, OtherModuleName}
 use Rattle.m2_base.specs.declared.diagnostic.Diagnostic.{Diagnostic}
 use Rattle.m2_base.specs.declared.notes.Diag.{Diag}
 use Rattle.m2_base.specs.declared.trees.Ident.{Ident}
 use Rattle.m2_base.proofs.EachLaws.{each_append}
+use Rattle.m2_base.proofs.LeafFronts.{FrontHas}
+use Rattle.m2_base.proofs.StandingStreams.{front_stands, tokens_below}
 use Rattle.m2_lex.proofs.TextUnit.{text_listed}
 use Rattle.def_import.specs.Answers.{IsWhole}
 use Rattle.def_import.specs.Closure.{Found, Progress, own_name}
@@ -23,7 +27,6 @@ use Rattle.compile_command.specs.Decisions.{Decides, DecidesUnit, has_diagnostic
 use Rattle.compile_command.specs.Lines.{HasLine}
 use Rattle.compile_command.specs.Verdicts.{Decision, listed}
 use Rattle.compile_command.proofs.GatheredUnits.{is_whole}
-use Rattle.compile_command.proofs.StandingFronts.{AreStandingNames, IsStandingFront, IsStandingOption, front_stands, tokens_below}
 
 -- the text at a place of a list
 at_place : {A : Type 0} (before : List A) (x : A) (behind : List A) → slice_get (before ++ x ∷ behind) (length before) ≡ Some x
@@ -34,7 +37,7 @@ at_place (b ∷ before) x behind = at_place before x behind
 
 -- the names of the text's front stand at its tokens
 abbrev IsListed : Found → Type 0
-IsListed f = IsStandingFront (length f.text.tokens) f.front
+IsListed f = FrontHas (Stands (IsBelow (length f.text.tokens))) f.front
 
 each_pushed : {A : Type 0} (P : A → Type 0) (xs : List A) (x : A) → Each P xs → P x → Each P (xs ++ x ∷ [])
 each_pushed P xs x h p = each_append P xs (x ∷ []) h (p, tt)
@@ -56,25 +59,25 @@ module _ (u : UnitTexts) (text : ℕ) (f : Found) (there : slice_get u.list text
   one_line i kind false low = tt
   one_line i kind true low = ((f.text, there, low), tt)
 
-  own_line : (p : Progress) (o : Option Ident) → IsStandingOption (length f.text.tokens) o → Each (HasLine u) (no_own p text o)
+  own_line : (p : Progress) (o : Option Ident) → NameOptionHas (Stands (IsBelow (length f.text.tokens))) o → Each (HasLine u) (no_own p text o)
   own_line p None h = tt
   own_line p (Some i) h = one_line i NoDefinitionText (is_missing p i) h
 
-  name_line : (order : List ℕ) (o : Option Ident) → IsStandingOption (length f.text.tokens) o → Each (HasLine u) (wrong_name order text f o)
+  name_line : (order : List ℕ) (o : Option Ident) → NameOptionHas (Stands (IsBelow (length f.text.tokens))) o → Each (HasLine u) (wrong_name order text f o)
   name_line order None h = tt
   name_line order (Some i) h =
       each_append (HasLine u) (wrong_at text i OtherModuleName (not (nat_eq i.name f.text.name))) (wrong_at text i CircularImports (is_circular order text))
       (one_line i OtherModuleName (not (nat_eq i.name f.text.name)) h) (one_line i CircularImports (is_circular order text) h)
 
-  import_lines : (p : Progress) (imports : List Ident) → AreStandingNames (length f.text.tokens) imports → Each (HasLine u) (missing_imports p text imports)
+  import_lines : (p : Progress) (imports : List Ident) → NamesHave (Stands (IsBelow (length f.text.tokens))) imports → Each (HasLine u) (missing_imports p text imports)
   import_lines p [] h = tt
   import_lines p (i ∷ imports) h =
       each_append (HasLine u) (wrong_at text i NoDefinitionText (is_missing p i)) (missing_imports p text imports) (one_line i NoDefinitionText (is_missing p i) h.0) (import_lines p imports h.1)
 
-  own_stands : IsListed f → IsStandingOption (length f.text.tokens) (own_name f.front)
+  own_stands : IsListed f → NameOptionHas (Stands (IsBelow (length f.text.tokens))) (own_name f.front)
   own_stands h = go f.front.implementation
     where
-      go : (b : Bool) → IsStandingOption (length f.text.tokens) (if b then f.front.name else None)
+      go : (b : Bool) → NameOptionHas (Stands (IsBelow (length f.text.tokens))) (if b then f.front.name else None)
       go true = h.name
       go false = tt
 

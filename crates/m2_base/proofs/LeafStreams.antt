@@ -18,6 +18,7 @@ use Rattle.m2_base.specs.declared.token.Token.{Token}
 use Rattle.m2_base.specs.declared.trees.declarations.StreamKind.TheVariants.{Definition, Main, Procedure}
 use Rattle.m2_base.proofs.EachLaws.{each_append}
 use Rattle.m2_base.proofs.LeafExpressions.{LeavesHave, TokenHas, expr_leaves, kind_is, leaves_have, name_leaves, names_leaves, qual_leaves}
+use Rattle.m2_base.proofs.LeafFronts.{ImportHas, imports_leaves}
 use Rattle.m2_base.proofs.LeafStatements.{statements_leaves}
 use Rattle.m2_base.proofs.LeafTypes.{result_leaves, type_leaves}
 
@@ -97,30 +98,15 @@ module _ (P : Leaf → Type 0) (none : P (stream_leaf 0)) where
   definition_declarations_leaves (of_more {d = d} {ds = ds} p q) r =
       each_append DeclHas (streams.definition_declaration_of d) (streams.definition_declarations_of ds) (definition_declaration_leaves p r.0) (definition_declarations_leaves q r.1)
 
-  -- the names of an import
-  abbrev ImportHas : Import → Type 0
-  ImportHas i = NameOptionHas P i.from × NamesHave P i.names
-
-  pub from_leaves : {d : Tree Token} → Derives grammar rules.from d → LeavesHave P d → NameOptionHas P (streams.from_of d)
-  from_leaves (of_left (of_then from i)) r = name_leaves P i r.1
-  from_leaves (of_right of_empty) r = tt
-
-  import_leaves : {d : Tree Token} → Derives grammar rules.imported d → LeavesHave P d → ImportHas (streams.import_of d)
-  import_leaves (of_then p (of_then import (of_then q semicolon))) r = (from_leaves p r.0, names_leaves P q r.1.1.0)
-
-  imports_leaves : {d : Tree Token} → Derives grammar (many rules.imported) d → LeavesHave P d → Each ImportHas (streams.imports_of d)
-  imports_leaves of_last r = tt
-  imports_leaves (of_more p q) r = (import_leaves p r.0, imports_leaves q r.1)
-
   -- ** Items
 
   import_items_leaves : (from : Option Ident) (idents : List Ident) → NameOptionHas P from → NamesHave P idents → Each (ItemHas P) (map (λ i. import_item from i) idents)
   import_items_leaves from [] p q = tt
   import_items_leaves from (i ∷ idents) p q = ((p, q.0), import_items_leaves from idents p q.1)
 
-  all_imports_leaves : (is : List Import) → Each ImportHas is → Each (ItemHas P) (flat_map import_items is)
+  all_imports_leaves : (is : List Import) → Each (ImportHas P) is → Each (ItemHas P) (flat_map import_items is)
   all_imports_leaves [] h = tt
-  all_imports_leaves (i ∷ is) h = each_append (ItemHas P) (import_items i) (flat_map import_items is) (import_items_leaves i.from i.names h.0.0 h.0.1) (all_imports_leaves is h.1)
+  all_imports_leaves (i ∷ is) h = each_append (ItemHas P) (import_items i) (flat_map import_items is) (import_items_leaves i.from i.names h.0.0 h.0.1) (all_imports_leaves P is h.1)
 
   decls_leaves : (ds : List Decl) → Each DeclHas ds → Each (ItemHas P) (map decl_item ds)
   decls_leaves [] h = tt
@@ -135,7 +121,7 @@ module _ (P : Leaf → Type 0) (none : P (stream_leaf 0)) where
   own_leaves None p = tt
   own_leaves (Some h) p = (p, tt)
 
-  items_leaves : (s : Stream) → OwnHas s.heading → Each ImportHas s.imports → Each DeclHas s.decls → Each (ItemHas P) (items_of s)
+  items_leaves : (s : Stream) → OwnHas s.heading → Each (ImportHas P) s.imports → Each DeclHas s.decls → Each (ItemHas P) (items_of s)
   items_leaves s p q r =
       each_append (ItemHas P) (heading_items s.heading ++ flat_map import_items s.imports) (map decl_item s.decls)
       (each_append (ItemHas P) (heading_items s.heading) (flat_map import_items s.imports) (own_leaves s.heading p) (all_imports_leaves s.imports q))
@@ -155,14 +141,14 @@ module _ (P : Leaf → Type 0) (none : P (stream_leaf 0)) where
   stream_leaves : (kind : StreamKind) {d : Tree Token} (w : List Token) → Derives grammar (rules.stream kind) d → LeavesHave P d → StreamHas P (streams.stream_of kind d w)
   stream_leaves Main w (of_then {d = d0} implementation (of_then {d = d1} module_word (of_then {d = d2} i (of_then {d = d3} semicolon (of_then {d = d4} is (of_then {d = d5} b (of_then {d = d6} {e = d7} p q))))))) r =
       record {
-        items = items_leaves (streams.main_of (both d0 (both d1 (both d2 (both d3 (both d4 (both d5 (both d6 d7))))))) w) tt (imports_leaves is r.1.1.1.1.0) (block_leaves (tokens (both d6 d7) ++ w) b r.1.1.1.1.1.0);
+        items = items_leaves (streams.main_of (both d0 (both d1 (both d2 (both d3 (both d4 (both d5 (both d6 d7))))))) w) tt (imports_leaves P is r.1.1.1.1.0) (block_leaves (tokens (both d6 d7) ++ w) b r.1.1.1.1.1.0);
         name = name_leaves P i r.1.1.0;
         body = body_leaves (tokens (both d6 d7) ++ w) b r.1.1.1.1.1.0;
         close = close_leaves (tokens (both d6 d7) ++ w) b r.1.1.1.1.1.0;
       }
   stream_leaves Definition w (of_then {d = d0} word (of_then {d = d1} module_word (of_then {d = d2} i (of_then {d = d3} semicolon (of_then {d = d4} is (of_then {d = d5} export (of_then {d = d6} ds (of_then {d = d7} end (of_then {d = d8} close (of_then {d = d9} {e = d10} period stop)))))))))) r =
       record {
-        items = items_leaves (streams.definition_of (both d0 (both d1 (both d2 (both d3 (both d4 (both d5 (both d6 (both d7 (both d8 (both d9 d10)))))))))) w) tt (imports_leaves is r.1.1.1.1.0) (definition_declarations_leaves ds r.1.1.1.1.1.1.0);
+        items = items_leaves (streams.definition_of (both d0 (both d1 (both d2 (both d3 (both d4 (both d5 (both d6 (both d7 (both d8 (both d9 d10)))))))))) w) tt (imports_leaves P is r.1.1.1.1.0) (definition_declarations_leaves ds r.1.1.1.1.1.1.0);
         name = name_leaves P i r.1.1.0;
         body = tt;
         close = name_leaves P close r.1.1.1.1.1.1.1.1.0;

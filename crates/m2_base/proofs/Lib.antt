@@ -24,6 +24,7 @@ pub mod Seen
 pub mod ItemLaws
 pub mod LayoutIndex
 pub mod LeafExpressions
+pub mod LeafFronts
 pub mod LeafStatements
 pub mod LeafStreams
 pub mod LeafTypes

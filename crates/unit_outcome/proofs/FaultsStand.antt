@@ -12,9 +12,9 @@ use Rattle.m2_base.specs.declared.token.Token.{Token}
 use Rattle.unit_merge.specs.Outcome.{refusals}
 use Rattle.unit_merge.specs.TextFaults.{AreFaults, AreFaultsFrom, IsFaultOfText, IsFirstIn}
 use Rattle.unit_outcome.specs.Tokens.{IsAtToken}
-use Rattle.unit_outcome.proofs.StreamTokens.{tokens_below}
 use Rattle.m2_base.specs.declared.outputs.StreamFault.TheVariants as faults
 use Rattle.m2_base.proofs.EachLaws.{each_back}
+use Rattle.m2_base.proofs.StandingStreams.{tokens_below}
 
 -- the text at a place of a list
 at_place : {A : Type 0} (before : List A) (x : A) (behind : List A) → slice_get (before ++ x ∷ behind) (length before) ≡ Some x

@@ -4,27 +4,14 @@ use Rattle.m2_base.specs.Finished.{main_number, main_tokens, tokens_in}
 use Rattle.m2_base.specs.Lists.{Each}
 use Rattle.m2_base.specs.Units.{AreNumbered, HasOneMain, IsDefinition, IsText, IsUnit, TextOf, UnitTexts}
 use Rattle.m2_base.specs.declared.token.Token.{Token}
-use Rattle.m2_base.proofs.EachLaws.{each_append, each_then}
+use Rattle.m2_base.proofs.EachLaws.{each_append}
+use Rattle.m2_base.proofs.StandingStreams.{tokens_below}
 use Rattle.stream_split.specs.declared.cutter.Mode.{Mode}
 use Rattle.stream_split.specs.declared.cutter.Mode.TheVariants.{Free, Body}
 use Rattle.stream_split.specs.declared.sorts.Sort.{Sort}
 use Rattle.stream_split.specs.declared.sorts.Sort.TheVariants.{Stop, Word, Procedure, Closer, Left, Right, Semicolon}
 use Rattle.stream_split.specs.Cut.{Enclosed, Event, Phase, all_end, amid, amid_next, end_at, ended, events, goes, goes_by, heading, heading_goes, heading_next, next, next_by, one_left, opened, out_of, pick, seen, seen_next, sort, start, State, state, to, two_left, unless_stop}
 use Rattle.stream_split.specs.Streams.{StreamOf, definition_streams, main_streams, procedure_streams, streams_of}
-
--- ** The tokens of a text
-
-below_from : (at : ℕ) (ts : List Token) → AreNumbered at ts → Each (λ (t : Token). t.at < at + length ts) ts
-below_from at [] h = absurd h
-below_from at (t ∷ []) h = ((let e : t.at ≡ at = h.1 in omega (arith, e)), tt)
-below_from at (t ∷ u ∷ ts) h = (
-  (let e : t.at ≡ at = h.1 in omega (arith, e)),
-  each_then (λ (x : Token). x.at < (at + 1) + length (u ∷ ts)) (λ (x : Token). x.at < at + length (t ∷ u ∷ ts)) (u ∷ ts) (λ x b. omega (arith, b)) (below_from (at + 1) (u ∷ ts) h.2),
-)
-
--- they have the numbers below their count
-pub tokens_below : (ts : List Token) → AreNumbered 0 ts → Each (λ (t : Token). t.at < length ts) ts
-tokens_below ts h = each_then (λ (t : Token). t.at < 0 + length ts) (λ (t : Token). t.at < length ts) ts (λ t b. omega (arith, b)) (below_from 0 ts h)
 
 -- ** Where they go
 
