@@ -25,6 +25,7 @@ use Rattle.m2_base.specs.declared.rows.Place.{Place}
 use Rattle.m2_base.specs.declared.rows.RowMeaning.{RowMeaning}
 use Rattle.m2_base.specs.Standard.{broken, cardinal, character, integer}
 use Rattle.m2_base.specs.Statics.Assignable.{is_assignable, taken_into}
+use Rattle.m2_base.specs.Statics.Cells.{most_cells}
 use Rattle.m2_base.specs.Statics.Compatible.{is_compatible}
 use Rattle.m2_base.specs.Statics.Contexts.{Context, Scene, level_of, refuse}
 use Rattle.m2_base.specs.Statics.Diagnostics.{not_a_procedure_value, out_of_range, wrong_argument}
@@ -39,7 +40,6 @@ use Rattle.m2_base.specs.Statics.Types.{base_of, is_broken, kind_of, range_of, s
 use Rattle.m2_base.specs.declared.trees.operators.Operator.{Operator}
 use Rattle.m2_base.specs.declared.builtins.Builtin.{Builtin}
 use Rattle.m2_base.specs.declared.builtins.Builtin.TheVariants.{Abs, Cap, Chr, Dec, Dispose, Excl, Halt, High, Inc, Incl, Max, Min, New, Odd, Ord, Size, Val}
-use Rattle.m2_base.specs.declared.limits.TheConstants.{MOST_CELLS}
 use Rattle.m2_base.specs.declared.operands.Operand.{Operand}
 use Rattle.m2_base.specs.declared.operands.Operand.TheVariants.{Computed, Constant, InError, ModuleName, NamedType, Procedure, StandardProcedure, StringConstant, Variable}
 use Rattle.m2_base.specs.declared.trees.operators.Operator.TheVariants.{Plus, Minus, Times, Slash, Div, Mod, And, Or, Not, Equal, Unequal, Less, Greater, LessEqual, GreaterEqual}
@@ -333,7 +333,7 @@ module _ (q : Step → Type 0) (seen : ℕ → Type 0) (cells bytes : ℕ) (c : 
   behind-right : (is : List Instr) (v : Coded) → W v → Each q (map plain_step is) → R (value_code c v ⨟ plain is)
   behind-right is v g e = thn (value_code c v) (plain is) (value-right v g) (all is e)
 
-  count-value : (z : ℤ) → 1 ≤ count_to z → count_to z ≤ MOST_CELLS → IsValue z
+  count-value : (z : ℤ) → 1 ≤ count_to z → count_to z ≤ most_cells → IsValue z
   count-value (pos k) h e = natural-value k (omega (arith, e))
   count-value (negsuc k) h e = absurd (omega (arith, h))
 

@@ -3,13 +3,13 @@ use Rattle.std.specs.Prelude.{◌≡◌, ℕ, ◌+◌, ◌^◌, ◌<◌, ◌≤�
 use Rattle.std.proofs.Common.{ap, subst, sym, ◌∙◌, refl, arith}
 use Rattle.std.proofs.Math.Nat.{le-max_left, max-le}
 use Rattle.std.proofs.lemmas.List.{append-nil, length-append, length-map, reverse-append}
-use Rattle.m2_base.specs.declared.limits.TheConstants.{TOO_MANY_CELLS}
 use Rattle.m2_base.specs.Gives.{Gives}
 use Rattle.m2_base.specs.Lists.{Each, WhereKept}
 use Rattle.m2_base.specs.Rows.{Row, Place, Enum, Record, Set, Pointer, ProcType, HasSmallOrdinals, ResultIsBefore, const_kind, param_kind}
 use Rattle.m2_base.specs.Trees.{Formal, TypeExpr, type_expr, TypeForm, named_type, enum_type, sub_type, array_type, record_type, set_type, pointer_type, proc_type, TypeExprs, no_types, more_types, FieldList, plain_fields, case_fields, FieldLists, no_fields, more_fields, variant_arm, VariantArms, no_variant_arms, more_variant_arms, type_at}
 use Rattle.m2_base.specs.Statics.Arrays.{checked_index, checked_base}
 use Rattle.m2_base.specs.Statics.CaseLabels.{labels_of}
+use Rattle.m2_base.specs.Statics.Cells.{most_cells}
 use Rattle.m2_base.specs.Statics.Contexts.{Context, Scene}
 use Rattle.m2_base.specs.Statics.Enumerations.{constant_rows}
 use Rattle.m2_base.specs.Statics.Fields.{tag_type, tag_rows}
@@ -133,7 +133,7 @@ module _ (names : ℕ) where
         let after = context-with sound first.0 left in
         let size = max 1 fields.value in
         let row = makes_row d at (Record start size) in
-        let small : size ≤ TOO_MANY_CELLS = max-le (omega arith) first.1 in
+        let small : size ≤ most_cells + 1 = max-le (omega arith) first.1 in
         let behind = ap length (own-with c.scene fields.rows sound.scene.room) in
         let sum = length-append (own_of c.scene) fields.rows in
         let second = plain_made d after at (Record start size) tt (omega (arith, behind, sum), omega (arith, small)) (le-max_left 1 fields.value) in
@@ -192,7 +192,7 @@ module _ (names : ℕ) where
         (all-cons second.scene.room (there-then d.scene i (index_there names d after.scene (type_at t) m.value first.there))
         (all-end (index_made ts e second h.1 (room-left (index_rows e ts).rows [] rest)))))
 
-    fields_made : (fs : FieldLists) (c : Context) (own offset : ℕ) → SoundContext names c → AreSoundFields names fs → own < 2 ^ 32 → offset ≤ TOO_MANY_CELLS → Room c.scene (fields_rows c own offset fs).rows
+    fields_made : (fs : FieldLists) (c : Context) (own offset : ℕ) → SoundContext names c → AreSoundFields names fs → own < 2 ^ 32 → offset ≤ most_cells + 1 → Room c.scene (fields_rows c own offset fs).rows
         → FieldsOk names c (fields_rows c own offset fs)
     fields_made no_fields c own offset sound h k l room = (no_ok, l)
     fields_made (more_fields f fs) c own offset sound h k l room =
@@ -202,7 +202,7 @@ module _ (names : ℕ) where
         let rest = fields_made fs (with_rows c m.rows) own m.value (context-with sound first.0 left) h.1 k first.1 (room-right c.scene m.rows _ sound.scene.room room) in
         (ok-append first.0 rest.0, rest.1)
 
-    field_list_made : (f : FieldList) (c : Context) (own offset : ℕ) → SoundContext names c → IsSoundField names f → own < 2 ^ 32 → offset ≤ TOO_MANY_CELLS → Room c.scene (field_list_rows c own offset f).rows
+    field_list_made : (f : FieldList) (c : Context) (own offset : ℕ) → SoundContext names c → IsSoundField names f → own < 2 ^ 32 → offset ≤ most_cells + 1 → Room c.scene (field_list_rows c own offset f).rows
         → FieldsOk names c (field_list_rows c own offset f)
     field_list_made (plain_fields idents t) c own offset sound h k l room =
         let m = type_rows c t in
@@ -232,7 +232,7 @@ module _ (names : ℕ) where
         let others = fields_made other f own first.value sf h.2 k tags.1 (room-left last.rows [] rf) in
         (ok-then (ok-append tags.0 (ok-append variants.0 (ok-end others.0))), max-le variants.1 others.1)
 
-    arms_made : (arms : VariantArms) (c : Context) (own offset : ℕ) (t : Place) (covered : List Range) (end : ℕ) → SoundContext names c → AreSoundArms names arms → own < 2 ^ 32 → offset ≤ TOO_MANY_CELLS → end ≤ TOO_MANY_CELLS
+    arms_made : (arms : VariantArms) (c : Context) (own offset : ℕ) (t : Place) (covered : List Range) (end : ℕ) → SoundContext names c → AreSoundArms names arms → own < 2 ^ 32 → offset ≤ most_cells + 1 → end ≤ most_cells + 1
         → Room c.scene (arms_rows c own offset t covered end arms).rows → FieldsOk names c (arms_rows c own offset t covered end arms)
     arms_made no_variant_arms c own offset t covered end sound h k l m room = (no_ok, m)
     arms_made (more_variant_arms (variant_arm ls fs) arms) c own offset t covered end sound h k l m room =

@@ -1,11 +1,12 @@
 //! The rows that the declarations of a sample make, entered into its scope.
 ghost use Rattle.std.specs.Prelude.{◌≡◌, ◌+◌, ◌≤◌, ◌^◌, Some, IfOk, OnOk, filter, length, slice_get};
 ghost use Rattle.m2_base.specs.Scopes.{CanEnter, Entered};
+ghost use Rattle.m2_base.specs.Statics.Cells.{most_cells};
 ghost use Rattle.m2_base.specs.Statics.Layouts.{layout_of as spec_layout};
 ghost use Rattle.m2_base.specs.Statics.ProcedureRows.{is_proc};
 ghost use Rattle.m2_base.specs.Trees.{Stream};
 ghost use Rattle.m2_base.specs.Views.{stream_view};
-ghost use Rattle.m2_base.specs.declared.limits.TheConstants.{MOST_BROUGHT, TOO_MANY_CELLS};
+ghost use Rattle.m2_base.specs.declared.limits.TheConstants.{MOST_BROUGHT};
 ghost use Rattle.scope_core.specs.PlainScopes.{state_of};
 ghost use Rattle.m2_samples.specs.Filled.{HasDeclared, IsBlock, IsFull, row_count as spec_count};
 ghost use Rattle.m2_samples.specs.Samples.{IsSample};
@@ -98,7 +99,7 @@ fn enter<S: Scopes>(scopes: &mut S, declared: &Declared, made: &mut Made) -> Res
     requires { CanEnter (S.state scopes.old) declared.now.rows.items }
     ensures entered { OnOk result (Entered (S.state scopes.old) (S.state scopes.new) declared.now.rows.items) }
     ensures none { OnOk result (length (filter is_proc declared.now.rows.items) ≡ 0) }
-    ensures few { IfOk result (λ cell. cell ≤ TOO_MANY_CELLS) }
+    ensures few { IfOk result (λ cell. cell ≤ most_cells + 1) }
 {
     scopes.enter(&declared.rows);
     keep(made, declared)?;

@@ -1,7 +1,6 @@
 -- Variables are placed below the next free cell.
 use Rattle.std.specs.Prelude.{◌≡◌, ℕ, suc, ◌+◌, ◌*◌, ◌^◌, ◌<◌, ◌≤◌, ◌==◌, Bool, true, false, if◌then◌else◌, List, [], ◌∷◌, ◌++◌, length, map, flat_map, Option, Some, None}
 use Rattle.std.proofs.Common.{ap, subst, ◌∙◌, refl, arith}
-use Rattle.m2_base.specs.declared.limits.TheConstants.{TOO_MANY_CELLS}
 use Rattle.m2_base.specs.Lists.{Each}
 use Rattle.m2_base.specs.Rows.{row_of, row_meaning, basic_of, natural, Fits, const_kind, type_name_kind, var_kind, proc_kind, module_kind, alias_kind, field_kind, param_kind, standard_kind, basic_kind, enum_kind, subrange_kind, array_kind, open_array_kind, record_kind, set_kind, pointer_kind, proc_type_kind, opaque_kind}
 use Rattle.m2_base.specs.declared.rows.Mode.TheVariants.{Plain, ByAddress, Open}
@@ -58,7 +57,7 @@ size_few {names} {scene} sound t = small_size names (stands_for scene t) (kind_o
 
 -- a variable's offset isn't too great, and its cells are below this one, unless that is one too many
 abbrev pub IsPlaced : (cells : ℕ) → RowMeaning → Type 0
-IsPlaced cells (Var t mode offset) = (offset ≤ TOO_MANY_CELLS) × (cells ≤ most_cells → IsBelow cells (Var t mode offset))
+IsPlaced cells (Var t mode offset) = (offset ≤ most_cells + 1) × (cells ≤ most_cells → IsBelow cells (Var t mode offset))
 IsPlaced cells other = Unit {0}
 
 abbrev pub ArePlaced : (cells : ℕ) → List Row → Type 0
@@ -198,11 +197,11 @@ named_placed cells c name at m h =
 -- cells after this one, and rows that are placed below them
 pub record Cells (cell next : ℕ) (rows : List Row) : Type 0 where
   pub more : cell ≤ next
-  pub few : next ≤ TOO_MANY_CELLS
+  pub few : next ≤ most_cells + 1
   pub placed : ArePlaced next rows
 
 -- the cells after a variable of some cells
-after_cells : (cell size : ℕ) → cell ≤ TOO_MANY_CELLS → cell ≤ capped (cell + size)
+after_cells : (cell size : ℕ) → cell ≤ most_cells + 1 → cell ≤ capped (cell + size)
 after_cells cell size h = omega (arith, h)
 
 -- a cell before the cells after it, unless they are too many
@@ -210,7 +209,7 @@ before_cells : (cell size end : ℕ) → 1 ≤ size → capped (cell + size) ≤
 before_cells cell size end some h few = omega (arith, some, h, few)
 
 module _ (names : ℕ) where
-  pub vars_placed : (idents : List Ident) (c : Context) (t : Place) (cell : ℕ) → Ready names c (var_rows c t cell idents).rows → cell ≤ TOO_MANY_CELLS
+  pub vars_placed : (idents : List Ident) (c : Context) (t : Place) (cell : ℕ) → Ready names c (var_rows c t cell idents).rows → cell ≤ most_cells + 1
       → Cells cell (var_rows c t cell idents).value (var_rows c t cell idents).rows
   vars_placed [] c t cell ready h = record { more = omega arith; few = h; placed = tt }
   vars_placed (i ∷ idents) c t cell ready h =
@@ -237,8 +236,8 @@ module _ (names : ℕ) where
 
   -- where parameters are placed, of which so many cells are left
   record Left (f : Placing) (left : ℕ) : Type 0 where
-    cell : f.cell ≤ TOO_MANY_CELLS
-    own : f.own ≤ TOO_MANY_CELLS
+    cell : f.cell ≤ most_cells + 1
+    own : f.own ≤ most_cells + 1
     room : capped (f.cell + left) ≤ f.own
     copies : Each (IsCopyPlaced f.own) f.copies
 
@@ -265,7 +264,7 @@ module _ (names : ℕ) where
   two_below : (cell left own : ℕ) → capped (cell + (2 + left)) ≤ own → own ≤ most_cells → cell + 1 < own
   two_below cell left own h few = omega (arith, h, few)
 
-  open_copies_placed : (by_ref : Bool) (cell size own : ℕ) → cell ≤ TOO_MANY_CELLS → size < 2 ^ 32 → (own ≤ most_cells → cell + 1 < own) → Each (IsCopyPlaced own) (open_copies by_ref cell size)
+  open_copies_placed : (by_ref : Bool) (cell size own : ℕ) → cell ≤ most_cells + 1 → size < 2 ^ 32 → (own ≤ most_cells → cell + 1 < own) → Each (IsCopyPlaced own) (open_copies by_ref cell size)
   open_copies_placed true cell size own h k l = tt
   open_copies_placed false cell size own h k l = (((omega (arith, h), k), l), tt)
 
@@ -400,7 +399,7 @@ module _ (names : ℕ) where
 
   -- what the parameters of a heading make in its own scope
   pub record Heads (own : ℕ) (copies : List ParamCopy) (rows : List Row) : Type 0 where
-    pub few : own ≤ TOO_MANY_CELLS
+    pub few : own ≤ most_cells + 1
     pub placed : ArePlaced own rows
     pub copied : Each (IsCopyPlaced own) copies
 

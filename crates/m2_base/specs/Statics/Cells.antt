@@ -1,7 +1,7 @@
 -- How many cells a type or a block may have.
 use Rattle.std.specs.Prelude.{min, nat_lt, ℕ, ◌+◌, if◌then◌else◌}
 use Rattle.m2_base.specs.Gives.{Gives, gives}
-use Rattle.m2_base.specs.declared.limits.TheConstants.{MOST_CELLS, TOO_MANY_CELLS}
+use Rattle.m2_base.specs.declared.limits.TheConstants.{MOST_CELLS}
 use Rattle.m2_base.specs.Rows.{Place}
 use Rattle.m2_base.specs.Standard.{broken}
 use Rattle.m2_base.specs.Statics.Contexts.{Context, refuse}
@@ -13,7 +13,7 @@ most_cells = MOST_CELLS
 
 -- what would be more is one more than that
 abbrev pub capped : ℕ → ℕ
-capped n = min n TOO_MANY_CELLS
+capped n = min n (most_cells + 1)
 
 -- a type of too many cells is refused at its first token, and in error
 abbrev pub fitting : Context → (at size : ℕ) → Place → Gives Place
