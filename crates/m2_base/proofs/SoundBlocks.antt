@@ -17,7 +17,7 @@ use Rattle.m2_base.specs.Statics.Makes.{scene_with}
 use Rattle.m2_base.specs.Statics.Shapes.{Shape, item_shapes}
 use Rattle.m2_base.specs.Statics.Types.{meaning_at, size_by}
 use Rattle.m2_base.specs.declared.limits.TheConstants.{MOST_BROUGHT}
-use Rattle.m2_base.proofs.EachLaws.{each_append, each_found}
+use Rattle.m2_base.proofs.EachLaws.{each_append}
 use Rattle.m2_base.proofs.LayoutLaws.{block_counted, block_few}
 use Rattle.m2_base.proofs.NoRepeats.{scene_open, scene_empty, some_is}
 use Rattle.m2_base.proofs.SceneLaws.{IsOpen, own_of, own-with, open-with}

@@ -21,7 +21,7 @@ use Rattle.m2_base.specs.Statics.SoundTrees.{IsSoundType, IsSoundTypeForm, AreSo
 use Rattle.m2_base.specs.Statics.Subranges.{subrange_of}
 use Rattle.m2_base.specs.Statics.Targets.{target_name, target_by_name, target_or}
 use Rattle.m2_base.specs.Statics.TypeRows.{type_rows, form_rows, index_rows, fields_rows, field_list_rows, arms_rows}
-use Rattle.m2_base.proofs.EachLaws.{each_then}
+use Rattle.m2_base.proofs.EachLaws.{each_append, each_then}
 use Rattle.m2_base.proofs.LayoutLaws.{AreShaped-length}
 use Rattle.m2_base.proofs.SceneLaws.{IsOpen, own_of, own-with, with-none, with-twice}
 use Rattle.m2_base.proofs.ShapeLaws.{constants_of, formals_of, fields_of}
@@ -31,14 +31,10 @@ use Rattle.m2_base.proofs.SoundOperations.{SoundContext}
 use Rattle.m2_base.proofs.SoundParts.{constants_made, BoundsOk, subrange_ok, subrange_row_made, index_there, set_base_there, fitting_there, arrays_made, IsTarget, there_target, by_name_ok, formals_ok, result_ok, FieldsOk, plain_fields_made, tag_there, tag_made}
 use Rattle.m2_base.proofs.SoundTypes.{qual_there}
 
-each_append' : {A : Type 0} (P : A → Type 0) (xs ys : List A) → Each P xs → Each P ys → Each P (xs ++ ys)
-each_append' P [] ys h k = k
-each_append' P (x ∷ xs) ys h k = (h.0, each_append' P xs ys h.1 k)
-
 each_reverse : {A : Type 0} (P : A → Type 0) (xs : List A) → Each P xs → Each P (reverse xs)
 each_reverse P [] h = tt
 each_reverse P (x ∷ xs) h =
-    subst (Each P) (sym (reverse-append (x ∷ []) xs)) (each_append' P (reverse xs) (x ∷ []) (each_reverse P xs h.1) (h.0, tt))
+    subst (Each P) (sym (reverse-append (x ∷ []) xs)) (each_append P (reverse xs) (x ∷ []) (each_reverse P xs h.1) (h.0, tt))
 
 -- each parameter of a procedure type has a row
 formals_count : (formals : List Formal) → (formals_length formals ≡ length (flat_map formal_shapes formals)) × (length formals ≤ formals_length formals)
