@@ -1,13 +1,9 @@
 -- What every leaf has every tree has.
-use Rattle.std.specs.Prelude.{List, [], ◌∷◌, Option, Some, None}
-use Rattle.m2_base.specs.Lists.{Each}
+use Rattle.std.specs.Prelude.{List, Option, Some, None}
 use Rattle.m2_base.specs.Statics.Items.{Item, const_item, heading_item, import_item, items_of, proc_item, type_item, vars_item}
 use Rattle.m2_base.specs.Statics.Leaves.{Leaf, token_leaf, name_leaf, number_leaf, character_leaf, string_leaf, stream_leaf, ArmHas, ArmsHave, CaseArmHas, CaseArmsHave, CaseElseHas, DesignatorHas, ExprHas, ExprOptionHas, ExprsHave, FieldHas, FieldsHave, FormHas, FormalsHave, HeadingHas, IfArmHas, IfArmsHave, ItemHas, LabelHas, LabelsHave, NameHas, NameOptionHas, NamesHave, NextHas, NextsHave, QualHas, QualOptionHas, SectionHas, SelectorHas, SelectorsHave, StatementFormHas, StatementHas, StatementsHave, StreamHas, TypeFormHas, TypeHas, TypeOptionHas, TypesHave}
 use Rattle.m2_base.specs.Trees.{CaseArm, CaseArms, CaseElse, Designator, Expr, ExprForm, Exprs, FieldList, FieldLists, Formal, Heading, Ident, IfArm, IfArms, Label, Labels, Next, Nexts, Qual, Section, Selector, Selectors, Statement, Statements, StmtForm, Stream, TypeExpr, TypeExprs, TypeForm, VariantArm, VariantArms, array_type, assign_form, call_form, call_statement, case_arm, case_else, case_fields, case_form, char_form, deref_selector, designator, empty_form, enum_type, exit_form, expr, field_selector, for_form, if_arm, if_form, index_selector, loop_form, many_form, more_case_arms, more_exprs, more_fields, more_if_arms, more_labels, more_nexts, more_selectors, more_statements, more_types, more_variant_arms, name_form, named_type, next, no_case_arms, no_case_else, no_exprs, no_fields, no_if_arms, no_labels, no_nexts, no_selectors, no_statements, no_types, no_variant_arms, number_form, one_form, one_label, plain_fields, pointer_type, proc_type, range_label, record_type, repeat_form, return_form, set_form, set_type, statement, string_form, sub_type, type_expr, typed_set_form, variant_arm, while_form, with_form}
-
-pub each_all : {A : Type 0} (P : A → Type 0) → ((x : A) → P x) → (xs : List A) → Each P xs
-each_all P f [] = tt
-each_all P f (x ∷ xs) = (f x, each_all P f xs)
+use Rattle.m2_base.proofs.EachLaws.{each_all}
 
 module _ (P : Leaf → Type 0) (all : (leaf : Leaf) → P leaf) where
   -- ** Expressions
@@ -65,7 +61,7 @@ module _ (P : Leaf → Type 0) (all : (leaf : Leaf) → P leaf) where
   option_all (Some i) = all (name_leaf i)
 
   names_all : (idents : List Ident) → NamesHave P idents
-  names_all idents = each_all (NameHas P) (λ i. all (name_leaf i)) idents
+  names_all idents = each_all (NameHas P) idents (λ i. all (name_leaf i))
 
   qual_all : (q : Qual) → QualHas P q
   qual_all q = record { first = all (name_leaf q.first); second = option_all q.second }
@@ -75,7 +71,7 @@ module _ (P : Leaf → Type 0) (all : (leaf : Leaf) → P leaf) where
   qual_option_all (Some q) = qual_all q
 
   formals_all : (formals : List Formal) → FormalsHave P formals
-  formals_all formals = each_all (λ f. QualHas P f.of) (λ f. qual_all f.of) formals
+  formals_all formals = each_all (λ f. QualHas P f.of) formals (λ f. qual_all f.of)
 
   mutual
     type_all : (t : TypeExpr) → TypeHas P t
@@ -123,7 +119,7 @@ module _ (P : Leaf → Type 0) (all : (leaf : Leaf) → P leaf) where
   heading_all h =
       record {
         name = all (name_leaf h.name);
-        sections = each_all (SectionHas P) section_all h.sections;
+        sections = each_all (SectionHas P) h.sections section_all;
         result = qual_option_all h.result;
       }
 
@@ -182,4 +178,4 @@ module _ (P : Leaf → Type 0) (all : (leaf : Leaf) → P leaf) where
     case_else_all (case_else body) = statements_all body
 
   pub stream_all : (s : Stream) → StreamHas P s
-  stream_all s = record { items = each_all (ItemHas P) item_all (items_of s); name = option_all s.name; body = statements_all s.body; close = all (name_leaf s.close) }
+  stream_all s = record { items = each_all (ItemHas P) (items_of s) item_all; name = option_all s.name; body = statements_all s.body; close = all (name_leaf s.close) }

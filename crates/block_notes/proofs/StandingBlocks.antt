@@ -18,11 +18,12 @@ use Rattle.m2_base.specs.Trees.{Heading, Stream}
 use Rattle.m2_base.specs.declared.trees.Ident.{Ident}
 use Rattle.m2_base.specs.declared.trees.declarations.StreamKind.{StreamKind}
 use Rattle.m2_base.specs.declared.trees.declarations.StreamKind.TheVariants.{Definition, Main, Procedure}
+use Rattle.m2_base.proofs.EachLaws.{each_all}
 use Rattle.m2_base.proofs.StandingItems.{block_at}
 use Rattle.m2_base.proofs.StandingNotes.{Noted, NotesAt, join, none, notes_either, one}
 use Rattle.stmt_sem.specs.BlockCode.{block_diags, body_of, cells_with, run_of, size_by, size_diags, stand_of, too_many_at}
 use Rattle.stmt_sem.specs.Flows.{Run}
-use Rattle.block_notes.proofs.EveryTree.{each_all, stream_all}
+use Rattle.block_notes.proofs.EveryTree.{stream_all}
 use Rattle.block_notes.proofs.StandingClosings.{RowsHere, closing_at, home_rows_here}
 use Rattle.block_notes.proofs.StandingFlows.{statements_at}
 
@@ -74,4 +75,4 @@ anywhere value = tt
 pub block_in_text : (source : Source) (before all : List (List Row)) (b : BlockTree) → Noted b.block.text (λ at. Unit {0}) (block_diags source before all b)
 block_in_text source before all b =
     all_at (λ at. Unit {0}) source before all b (stream_all (Stands (λ at. Unit {0})) anywhere b.tree)
-    (λ e. each_all (λ (r : Row). Unit {0}) (λ r. tt) (rows_at (complete_context source all b.block).scene.tables b.block.home))
+    (λ e. each_all (λ (r : Row). Unit {0}) (rows_at (complete_context source all b.block).scene.tables b.block.home) (λ r. tt))
