@@ -26,7 +26,7 @@ module _ (P : Leaf → Type 0) where
   from_leaves (of_right of_empty) r = tt
 
   import_leaves : {d : Tree Token} → Derives grammar rules.imported d → LeavesHave P d → ImportHas (streams.import_of d)
-  import_leaves (of_then p (of_then import (of_then q semicolon))) r = (from_leaves p r.0, names_leaves P q r.1.1.0)
+  import_leaves (of_then p (of_then import (of_then q stop))) r = (from_leaves p r.0, names_leaves P q r.1.1.0)
 
   pub imports_leaves : {d : Tree Token} → Derives grammar (many rules.imported) d → LeavesHave P d → Each ImportHas (streams.imports_of d)
   imports_leaves of_last r = tt

@@ -106,7 +106,7 @@ module _ (P : Leaf → Type 0) (none : P (stream_leaf 0)) where
 
   all_imports_leaves : (is : List Import) → Each (ImportHas P) is → Each (ItemHas P) (flat_map import_items is)
   all_imports_leaves [] h = tt
-  all_imports_leaves (i ∷ is) h = each_append (ItemHas P) (import_items i) (flat_map import_items is) (import_items_leaves i.from i.names h.0.0 h.0.1) (all_imports_leaves P is h.1)
+  all_imports_leaves (i ∷ is) h = each_append (ItemHas P) (import_items i) (flat_map import_items is) (import_items_leaves i.from i.names h.0.0 h.0.1) (all_imports_leaves is h.1)
 
   decls_leaves : (ds : List Decl) → Each DeclHas ds → Each (ItemHas P) (map decl_item ds)
   decls_leaves [] h = tt
