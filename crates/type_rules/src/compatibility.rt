@@ -8,6 +8,7 @@ ghost use Rattle.m2_base.specs.Statics.Compatible.{is_compatible, are_compatible
 ghost use Rattle.m2_base.specs.Statics.Types.{base_of as spec_base};
 ghost use Rattle.type_rules.specs.Asks.{Reads, WhereKnown, WhereWaiting};
 ghost use Rattle.type_rules.specs.Scenes.{Suits, IsThere, IsOperandThere, scene_of, WhereTold};
+ghost use Rattle.type_rules.specs.Standing.{StopsAtEither, StopsAtType};
 
 use crate::operands::{
     CHARACTER, NIL, WHOLE, is_integer_or_cardinal, is_one_char, is_string, operand_type,
@@ -25,6 +26,7 @@ pub fn is_pointer<S: Scopes>(scopes: &mut S, around: &Around, of: Place) -> Ask<
     ensures waits { WhereWaiting result (λ head. Waits (S.state scopes.old) (S.state scopes.new) head) }
     ensures told { WhereTold (S.state scopes.old).frame (λ made.
         WhereKnown result (λ holds. holds ≡ spec_pointer (scene_of (S.state scopes.old).frame made around.now) of)) }
+    ensures stops { WhereWaiting result (λ head. StopsAtType (S.state scopes.new) around.now of head) }
 {
     let (_, meaning) = known!(stand(scopes, around, of));
     Ask::Known(matches!(meaning, RowMeaning::Pointer(_) | RowMeaning::Opaque))
@@ -41,6 +43,7 @@ fn compatible_bases<S: Scopes>(scopes: &mut S, around: &Around, x: Place, y: Pla
     ensures waits { WhereWaiting result (λ head. Waits (S.state scopes.old) (S.state scopes.new) head) }
     ensures told { WhereTold (S.state scopes.old).frame (λ made.
         WhereKnown result (λ holds. holds ≡ are_compatible_bases (scene_of (S.state scopes.old).frame made around.now) x y)) }
+    ensures stops { WhereWaiting result (λ head. StopsAtEither (S.state scopes.new) around.now x y head) }
 {
     if x == y {
         return Ask::Known(true);
@@ -84,6 +87,7 @@ pub fn bases_of<S: Scopes>(
     ensures right { WhereTold (S.state scopes.old).frame (λ made.
         WhereKnown result (λ bases. bases.1 ≡ spec_base (scene_of (S.state scopes.old).frame made around.now) y)) }
     ensures there { WhereKnown result (λ bases. IsThere (S.state scopes.old).frame bases.0 × IsThere (S.state scopes.old).frame bases.1) }
+    ensures stops { WhereWaiting result (λ head. StopsAtEither (S.state scopes.new) around.now x y head) }
 {
     let left = known!(base_of(scopes, around, x));
     let right = known!(base_of(scopes, around, y));

@@ -8,6 +8,7 @@ ghost use Rattle.m2_base.specs.Statics.Ranges.{range};
 ghost use Rattle.m2_base.specs.Statics.Types.{base_of as spec_base, range_by as spec_by, range_of as spec_range};
 ghost use Rattle.type_rules.specs.Asks.{Reads, WhereKnown, WhereWaiting};
 ghost use Rattle.type_rules.specs.Scenes.{Suits, IsThere, scene_of, WhereTold};
+ghost use Rattle.type_rules.specs.Standing.{StopsAtType};
 
 use crate::standing::stand;
 use m2_base::{
@@ -25,6 +26,7 @@ pub fn base_of<S: Scopes>(scopes: &mut S, around: &Around, of: Place) -> Ask<Pla
     ensures told { WhereTold (S.state scopes.old).frame (λ made.
         WhereKnown result (λ base. base ≡ spec_base (scene_of (S.state scopes.old).frame made around.now) of)) }
     ensures there { WhereKnown result (λ base. IsThere (S.state scopes.old).frame base) }
+    ensures stops { WhereWaiting result (λ head. StopsAtType (S.state scopes.new) around.now of head) }
 {
     let (stood, meaning) = known!(stand(scopes, around, of));
     match meaning {
@@ -58,6 +60,7 @@ pub fn range_of<S: Scopes>(scopes: &mut S, around: &Around, of: Place) -> Ask<Op
     ensures told { WhereTold (S.state scopes.old).frame (λ made.
         WhereKnown result (λ ends. option_map (λ ends. range ends.0 ends.1) ends ≡ spec_range (scene_of (S.state scopes.old).frame made around.now) of)) }
     ensures values { WhereKnown result (λ ends. IfSome ends (λ ends. IsValue ends.0 × IsValue ends.1)) }
+    ensures stops { WhereWaiting result (λ head. StopsAtType (S.state scopes.new) around.now of head) }
 {
     let (_, meaning) = known!(stand(scopes, around, of));
     Ask::Known(range_by(meaning))
