@@ -28,6 +28,11 @@ use Rattle.decl_sem.specs.declared.making.Made.{Made}
 
 -- ** Rows in hand
 
+-- the ordinal of the first row of an item, if there is one
+abbrev pub first_by : Layout → Option ℕ → Option ℕ
+first_by l None = None
+first_by l (Some item) = first_row l item
+
 -- the ordinal behind the rows of an item, before those of the names that it brings
 abbrev pub end_by : Layout → Option ℕ → ℕ
 end_by l None = 0
