@@ -38,6 +38,7 @@ use Rattle.decl_sem.specs.Making.{next_ordinal}
 use Rattle.decl_sem.specs.Pieces.{AreNewRows, BeginsAt, Declares, IsMaking, IsOwned, end_by, first_by, item_end}
 use Rattle.decl_sem.specs.declared.declaring.Declared.{Declared}
 use Rattle.decl_sem.specs.declared.making.Made.{Made}
+use Rattle.decl_sem.proofs.Aliases.{aliases_before}
 use Rattle.decl_sem.proofs.FirstOrdinals.{before_all, begins_behind, end_of, first_of, rows_of}
 use Rattle.decl_sem.proofs.LaidOnce.{some_is}
 use Rattle.decl_sem.proofs.LayoutSteps.{brought_behind, firsts_ahead, firsts_are, laid_with, names_are, new_items, next_layout, rows_are}
@@ -135,6 +136,7 @@ module _ {f : Frame} {s : Site} {stream : Stream} {x : items.Item} {cell procedu
         of_item = at.item;
         begins = begins_behind s.layout.now at.before (x ∷ at.rest) made.first names_here first (old_here made.first first);
         old = old_here made.first first;
+        aliases = aliases_before s.layout.now stream at.before at.rest x made.first at.items names_here first (old_here made.first first);
         count = count;
         entered = subst (λ (n : ℕ). Each (λ r. IsOwned n (row_meaning r)) f.entered) count at.owned;
         types = subst (λ (rows : List Row). Each (λ r. NamesNoType (row_meaning r)) rows) (sym none) tt;

@@ -277,6 +277,7 @@ fn bring<S: Scopes>(
 ) -> Result<Ask<Vec<Named>>, Memory>
     requires making { IsMaking (S.state scopes.old).frame site.now made.old [] }
     requires row { IfSome entry (λ e. IsRowOf (S.state scopes.old).frame e.0 e.1) }
+    requires before { IfSome entry (λ e. e.0.scope < (S.state scopes.old).frame.setting.fills) }
     ensures { DeclaresWith (S.state scopes.old) (S.state scopes.new) made.old made.new site.now (listed result) [] all_names IsAny (λ c. brought_by c at (members_of c.scene entry)) }
 {
     let found = analysed!(members_in(alloc, scopes, site, entry, made));
@@ -296,6 +297,7 @@ fn entry_rows<S: Scopes>(
     requires making { IsMaking (S.state scopes.old).frame site.now made.old (named alias_kind name ∷ []) }
     requires named { IsReadName site.now.texts.now.names name }
     requires row { IfSome entry (λ e. IsRowOf (S.state scopes.old).frame e.0 e.1) }
+    requires before { IfSome entry (λ e. e.0.scope < (S.state scopes.old).frame.setting.fills) }
     ensures { DeclaresWith (S.state scopes.old) (S.state scopes.new) made.old made.new site.now (listed result) (named alias_kind name ∷ []) all_names IsAny (λ c. make_then c (alias_row c name (spec_target entry)) (λ d p. brought_by d name.at (members_of d.scene entry))) }
 {
     let _place = analysed!(own_row(scopes, site, name, entry, made));
