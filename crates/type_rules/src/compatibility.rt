@@ -2,7 +2,7 @@
 ghost use Rattle.std.specs.Prelude.{◌≡◌, ◌&&◌, ◌||◌, not};
 ghost use Rattle.m2_base.specs.Rows.{is_same_place};
 ghost use Rattle.m2_base.specs.Standard.{character};
-ghost use Rattle.m2_base.specs.Statics.Operands.{is_string as spec_string, is_one_char as spec_one_char};
+ghost use Rattle.m2_base.specs.Statics.Operands.{is_string as spec_string, is_one_char as spec_one_char, operand_type as spec_type};
 ghost use Rattle.m2_base.specs.States.{Waits};
 ghost use Rattle.m2_base.specs.Statics.Compatible.{is_compatible, are_compatible_bases, is_pointer as spec_pointer};
 ghost use Rattle.m2_base.specs.Statics.Types.{base_of as spec_base};
@@ -94,7 +94,32 @@ pub fn bases_of<S: Scopes>(
     Ask::Known((left, right))
 }
 
-/// Whether two operands are compatible: the same base, or one of the other pairs that go together.
+/// Whether two operands whose types have these bases are compatible: the same base, or one of the other pairs that go together.
+#[tactic(auto, using(crate::proofs::Reading::reading))]
+pub fn compatible_with<S: Scopes>(
+    scopes: &mut S,
+    around: &Around,
+    x: &Operand,
+    left: Place,
+    y: &Operand,
+    right: Place,
+) -> Ask<bool>
+    requires suits { Suits (S.state scopes.old).frame around.now }
+    requires left { IsThere (S.state scopes.old).frame left }
+    requires right { IsThere (S.state scopes.old).frame right }
+    ensures reads { Reads (S.state scopes.old) (S.state scopes.new) }
+    ensures waits { WhereWaiting result (λ head. Waits (S.state scopes.old) (S.state scopes.new) head) }
+    ensures told { WhereTold (S.state scopes.old).frame (λ made.
+        WhereKnown result (λ holds. let scene = scene_of (S.state scopes.old).frame made around.now in left ≡ spec_base scene (spec_type x.now) → right ≡ spec_base scene (spec_type y.now) → holds ≡ is_compatible scene x.now y.now)) }
+    ensures stops { WhereWaiting result (λ head. StopsAtEither (S.state scopes.new) around.now left right head) }
+{
+    if is_char_beside(x, left, y, right) {
+        return Ask::Known(true);
+    }
+    compatible_bases(scopes, around, left, right)
+}
+
+/// Whether two operands are compatible.
 #[tactic(auto, using(crate::proofs::Reading::reading))]
 pub fn compatible<S: Scopes>(scopes: &mut S, around: &Around, x: &Operand, y: &Operand) -> Ask<bool>
     requires suits { Suits (S.state scopes.old).frame around.now }
@@ -106,8 +131,5 @@ pub fn compatible<S: Scopes>(scopes: &mut S, around: &Around, x: &Operand, y: &O
         WhereKnown result (λ holds. holds ≡ is_compatible (scene_of (S.state scopes.old).frame made around.now) x.now y.now)) }
 {
     let (left, right) = known!(bases_of(scopes, around, operand_type(x), operand_type(y)));
-    if is_char_beside(x, left, y, right) {
-        return Ask::Known(true);
-    }
-    compatible_bases(scopes, around, left, right)
+    compatible_with(scopes, around, x, left, y, right)
 }

@@ -3,11 +3,11 @@ ghost use Rattle.std.specs.Prelude.{◌≡◌, ℕ, option_map};
 ghost use Rattle.std.specs.Option.{IfSome};
 ghost use Rattle.m2_base.specs.Rows.{Fits, IsValue};
 ghost use Rattle.m2_base.specs.declared.rows.Place.{Place as Spot};
-ghost use Rattle.m2_base.specs.States.{Waits};
+ghost use Rattle.m2_base.specs.States.{Frame, Waits};
 ghost use Rattle.m2_base.specs.Statics.Ranges.{range};
-ghost use Rattle.m2_base.specs.Statics.Types.{base_of as spec_base, range_by as spec_by, range_of as spec_range};
+ghost use Rattle.m2_base.specs.Statics.Types.{base_by as spec_base_by, base_of as spec_base, range_by as spec_by, range_of as spec_range};
 ghost use Rattle.type_rules.specs.Asks.{Reads, WhereKnown, WhereWaiting};
-ghost use Rattle.type_rules.specs.Scenes.{Suits, IsThere, scene_of, WhereTold};
+ghost use Rattle.type_rules.specs.Scenes.{IsSaid, Suits, IsThere, scene_of, WhereTold};
 ghost use Rattle.type_rules.specs.Standing.{StopsAtType};
 
 use crate::standing::stand;
@@ -15,6 +15,17 @@ use m2_base::{
     Around, Ask, GREATEST_CARDINAL, GREATEST_CHARACTER, GREATEST_INTEGER, LEAST_INTEGER, Place,
     RowMeaning, Scopes,
 };
+
+/// The base of a type that stands for this one, by what its row says.
+pub fn base_by(stood: Place, meaning: RowMeaning) -> Place
+    ensures base { result ≡ spec_base_by stood meaning }
+    ensures there { (f : Frame) → IsThere f stood → IsSaid f stood meaning → IsThere f result }
+{
+    match meaning {
+        RowMeaning::Subrange(base, _, _) => base,
+        _ => stood,
+    }
+}
 
 /// The base of a subrange; any other type is its own base.
 #[tactic(auto, using(crate::proofs::Reading::reading))]
@@ -29,10 +40,7 @@ pub fn base_of<S: Scopes>(scopes: &mut S, around: &Around, of: Place) -> Ask<Pla
     ensures stops { WhereWaiting result (λ head. StopsAtType (S.state scopes.new) around.now of head) }
 {
     let (stood, meaning) = known!(stand(scopes, around, of));
-    match meaning {
-        RowMeaning::Subrange(base, _, _) => Ask::Known(base),
-        _ => Ask::Known(stood),
-    }
+    Ask::Known(base_by(stood, meaning))
 }
 
 /// The least and the greatest value of an ordinal type, by what its row says.
