@@ -1,4 +1,5 @@
 pub mod Analyses
+pub mod Based
 pub mod Calls
 pub mod Ends
 pub mod Extremes
@@ -7,4 +8,5 @@ pub mod NamedTexts
 pub mod Numbers
 pub mod Parts
 pub mod Sites
+pub mod Standard
 pub mod Structures

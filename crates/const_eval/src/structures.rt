@@ -24,7 +24,7 @@ pub fn is_broken<S: Scopes>(scopes: &mut S, around: &Around, of: Place) -> Ask<b
 }
 
 /// The place and the base of a set's row.
-fn set_by(place: Place, meaning: RowMeaning) -> Option<(Place, Place)>
+pub(crate) fn set_by(place: Place, meaning: RowMeaning) -> Option<(Place, Place)>
     ensures { result ≡ set_row_by place meaning }
 {
     match meaning {
