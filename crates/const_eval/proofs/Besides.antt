@@ -47,6 +47,13 @@ char_taken c x y base e = absurd (cc)
 pub some_where : {T : Type 0} (b : Bool) (p q : T) → b ≡ true → p ≡ q → Some p ≡ (if b then Some q else None)
 some_where b p q holds same = ap (λ v. Some v) same ∙ sym (ap (λ t. if t then Some q else None) holds)
 
+-- and under one that doesn't
+pub none_where : {T : Type 0} (b : Bool) (q : T) → b ≡ false → None ≡ (if b then Some q else None)
+none_where b q fails = sym (ap (λ t. if t then Some q else None) fails)
+
+pub pair_of : {A B : Type 0} (a b : A) (c d : B) → a ≡ b → c ≡ d → ◌≡◌ {A = A × B} (a, c) (b, d)
+pair_of {A} {B} a b c d e h = ap (λ (u : A). let p : A × B = (u, c) in p) e ∙ ap (λ (u : B). let p : A × B = (b, u) in p) h
+
 -- an operand that isn't a whole constant beside INTEGER or CARDINAL stays
 pub number_stays : (c : Context) (at : ℕ) (t : Place) (x : Operand) → takes_base x t ≡ false → gives x ≡ as_number c at t x
 number_stays c at t (Constant u v) h = sym (ap (λ b. if b then (if is_within (range_of c.scene t) v then gives (Constant t v) else refuse c at out_of_range InError) else gives (Constant u v)) h)

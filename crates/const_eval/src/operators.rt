@@ -139,7 +139,7 @@ struct Based {
 }
 
 /// An operand with the base of its type, by what that stands for and what its row says.
-fn based(x: Argument, stood: Place, meaning: RowMeaning) -> Based
+fn with_base(x: Argument, stood: Place, meaning: RowMeaning) -> Based
     ensures { result ≡ record { at = x.at; operand = x.operand; base = spec_base_by stood meaning } }
 {
     Based {
@@ -350,8 +350,8 @@ fn on_alike<S: Scopes>(
     if are_sets_alike(left, right) {
         return Ask::Known(set_operation(operator_at, operator, x.operand, y.operand));
     }
-    let first = based(x, left.0, left.1);
-    let second = based(y, right.0, right.1);
+    let first = with_base(x, left.0, left.1);
+    let second = with_base(y, right.0, right.1);
     on_values(scopes, site, operator, operator_at, first, second)
 }
 
