@@ -3,7 +3,7 @@
 use Rattle.std.specs.Prelude.{◌≡◌, ◌≢◌, ℕ, Bool, true, false, List, [], ◌∷◌, ◌++◌, Option, Some, None, nat_lt}
 use Rattle.std.proofs.Common.{◌∙◌, subst, sym}
 use Rattle.std.proofs.lemmas.List.{append-nil, append_cancel_left}
-use Rattle.m2_base.specs.Gives.{Adds, Gives, and_then}
+use Rattle.m2_base.specs.Gives.{Adds, Gives, and_then, gives}
 use Rattle.m2_base.specs.Lists.{Each}
 use Rattle.m2_base.specs.Standard.{bitset, is_standard, standard_place}
 use Rattle.m2_base.specs.Statics.Builtins.{builtin_of}
@@ -55,7 +55,7 @@ module _ (c : Context) (there : HasStandardRows c) where
 
   outside-whole : (name at : ℕ) (e : Option Entry) → UnlessSpoilt c.scene IsWholeEntry (bound_outside c name at e)
   outside-whole name at None = noted
-  outside-whole name at (Some e) = by_test (stands_later c at e) (λ later. in_turn {P = λ n. Unit {0}} (answered (λ w. tt)) (λ n h. noted)) (λ earlier. answered (λ w. w))
+  outside-whole name at (Some e) = by_test (stands_later c at e) (λ later. record { holds = λ none w. absurd cc }) (λ earlier. answered (λ w. w))
 
   in_item-whole : (item name at : ℕ) (n : Option Named) → UnlessSpoilt c.scene IsWholeEntry (use_in_item c item name at n)
   in_item-whole item name at (Some n) = by_test (nat_lt n.item item) (λ e. bound-whole _ name at (entry_in c.scene.tables c.scene.block.scope name)) (λ e. noted)
@@ -84,6 +84,10 @@ module _ (c : Context) (there : HasStandardRows c) where
   no_constant-whole : (args : List Argument) → AreWhole args → IsWholeOperand c.scene (no_constant args)
   no_constant-whole [] h = tt
   no_constant-whole (a ∷ args) h = spoilt-whole c there a.operand (no_constant args) h.0 (no_constant-whole args h.1)
+
+  -- one more argument
+  with_argument : (e : Expr) (o : Operand) (args : List Argument) → IsWholeOperand c.scene o → AreWhole args → UnlessSpoilt c.scene AreWhole (gives (record { at = expr_at e; operand = o } ∷ args))
+  with_argument e o args h k = given (h, k)
 
   -- a function of a value
   function-whole : (a : Argument) (rule : Operand → Gives Operand) → IsWholeOperand c.scene a.operand → ((o : Operand) → IsSound c.scene o → Sound (rule o)) → Whole (and_then (value_argument c a) rule)
@@ -120,9 +124,6 @@ module _ (c : Context) (there : HasStandardRows c) where
   mutual
     pub expression-whole : (e : Expr) → Whole (operand_in c e)
     expression-whole (expr at form) = form-whole at form
-
-    value_in-sound : (e : Expr) → Sound (and_then (operand_in c e) (λ o. value_wanted c (expr_at e) o))
-    value_in-sound e = in_turn (expression-whole e) (λ o h. value-sound c there (expr_at e) o h)
 
     form-whole : (at : ℕ) (f : ExprForm) → Whole (form_in c at f)
     form-whole at (number_form n) = given (whole_whole c there)
@@ -188,7 +189,7 @@ module _ (c : Context) (there : HasStandardRows c) where
 
     arguments-whole : (es : Exprs) → UnlessSpoilt c.scene AreWhole (arguments_in c es)
     arguments-whole no_exprs = given tt
-    arguments-whole (more_exprs e es) = in_turn (expression-whole e) (λ o h. in_turn (arguments-whole es) (λ args k. given (h, k)))
+    arguments-whole (more_exprs e es) = in_turn (expression-whole e) (λ o h. in_turn (arguments-whole es) (λ args k. with_argument e o args h k))
 
   -- ---- the whole constant
 
@@ -216,8 +217,8 @@ module _ (c : Context) (there : HasStandardRows c) where
 -- so it is of the notes
 pub has_cause : (c : Context) → HasStandardRows c → (x y : Notes) (o : Option Operand) (e : Expr) → Adds x y (constant_of c e) o → IsCaused c.scene x y o
 has_cause c there x y (Some p) e adds = tt
-has_cause c there x y None e adds added is used kept =
-    let diags : x.diags.items ++ (constant_of c e).diags ≡ x.diags.items ++ [] = sym adds.diags ∙ kept ∙ sym (append-nil x.diags.items) in
+has_cause c there x y None e adds =
+    λ added is used kept. let diags : x.diags.items ++ (constant_of c e).diags ≡ x.diags.items ++ [] = sym adds.diags ∙ kept ∙ sym (append-nil x.diags.items) in
     constant-caused c there e (sym adds.value_is)
     (subst (Each (IsWholeUse c.scene)) (append_cancel_left x.answers.items added (constant_of c e).answers (sym is ∙ adds.answers)) used)
     (append_cancel_left x.diags.items (constant_of c e).diags [] diags)

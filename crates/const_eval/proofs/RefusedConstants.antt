@@ -30,6 +30,7 @@ use Rattle.m2_base.specs.declared.replies.Ask.{Ask}
 use Rattle.m2_base.specs.declared.rows.Place.{Place}
 use Rattle.m2_base.specs.declared.sites.Site.{Site}
 use Rattle.m2_base.specs.declared.trees.Ident.{Ident}
+use Rattle.m2_base.specs.declared.trees.operators.Operator.{Operator}
 use Rattle.type_rules.specs.Scenes.{WhereTold}
 use Rattle.type_rules.specs.Sites.{AreOfSite, SuitsSite, context_of}
 use Rattle.const_eval.specs.Analyses.{Analysed}
@@ -419,9 +420,9 @@ nothing_noted c x y (Some p) g adds (spoilt w) = absurd (let e = adds.value_is �
 
 no_use_spoilt : (c : Context) (x y : Notes) (o : Option Operand) (g : Gives (Option Operand)) → Adds x y g o → SoundOr c IsMissing g → IsUnspoilt c.scene x y o
 no_use_spoilt c x y None g adds q = tt
-no_use_spoilt c x y (Some p) g adds (sound n s) added e =
-    subst (Each (IsSoundUse c.scene)) (append_cancel_left x.answers.items g.answers added (sym adds.answers ∙ e)) s
-no_use_spoilt c x y (Some p) g adds (spoilt w) added e = absurd (let both = adds.value_is ∙ w in cc)
+no_use_spoilt c x y (Some p) g adds (sound n s) =
+    λ added e. subst (Each (IsSoundUse c.scene)) (append_cancel_left x.answers.items g.answers added (sym adds.answers ∙ e)) s
+no_use_spoilt c x y (Some p) g adds (spoilt w) = absurd (let both = adds.value_is ∙ w in cc)
 
 -- what is so of each value is so where it is known
 known_so : (x y : Notes) (answer : Result (Ask (Option Operand)) Memory) (g : Gives (Option Operand)) (P : Option Operand → Type 0)

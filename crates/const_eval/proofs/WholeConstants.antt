@@ -1,6 +1,6 @@
 -- What operators, functions and sets give of operands that aren't in error, whose sets have bases that aren't, is such an operand too,
 -- unless a diagnostic was noted.
-use Rattle.std.specs.Prelude.{◌≡◌, ℕ, ◌&&◌, ◌||◌, not, Bool, true, false, if◌then◌else◌, is_none, is_some, ℤ, pos, List, [], ◌∷◌, Option, Some, None}
+use Rattle.std.specs.Prelude.{◌≡◌, ℕ, ◌&&◌, ◌||◌, not, Bool, true, false, if◌then◌else◌, is_none, is_some, nat_abs, ℤ, pos, List, [], ◌∷◌, Option, Some, None}
 use Rattle.std.proofs.Common.{refl, ap, sym, subst, ◌∙◌}
 use Rattle.std.proofs.lemmas.Bool.{or_from}
 use Rattle.m2_base.specs.Gives.{Gives, and_then, gives}
@@ -239,7 +239,8 @@ module _ (c : Context) (there : HasStandardRows c) where
       (λ e. by_test (is_ordinal c (char_or_same c.source o)) (λ f. given (good_sound c.scene (char_or_same c.source o) (char_or_same-good o (sound_good c.scene o h e)))) (λ f. noted))
 
   absolute-sound : (at : ℕ) (t : Place) (o : Operand) → HasWholeBase c.scene t → IsSound c.scene o → UnlessSpoilt c.scene (IsSound c.scene) (absolute c at t o)
-  absolute-sound at t (Constant u v) w h = by_test _ (λ e. noted) (λ e. given w)
+  absolute-sound at t (Constant u v) w h =
+      by_test (is_same_place t integer && not (is_within (Some integer_range) (pos (nat_abs v)))) (λ e. noted) (λ e. given w)
   absolute-sound at t NotConstant w h = given tt
   absolute-sound at t InError w h = absurd h
   absolute-sound at t o w h = given w
@@ -304,7 +305,7 @@ module _ (c : Context) (there : HasStandardRows c) where
   val-sound t_at t at o w h =
       in_turn (ordinal_argument-whole t_at t w) (λ typ k.
       in_turn (ordinal_argument-sound at o h) (λ x l.
-      otherwise (is_broken c.scene typ) _ k.0.0 (converted-sound at typ x k.0.1 l)))
+      otherwise (is_broken c.scene typ) (gives InError) k.0.0 (converted-sound at typ x k.0.1 l)))
 
   end-sound : (t : Place) (end : Range → ℤ) (r : Option Range) → is_none r ≡ false → HasWholeBase c.scene t → IsSound c.scene (end_value c t end r)
   end-sound t end (Some r) e h = h
