@@ -169,15 +169,32 @@ module _ (c : Context) (there : HasStandardRows c) where
   names_whole : Each IsWholeRow (named_rows 1 standard_meanings)
   names_whole = (
     named_type 0 Integer refl refl refl integer_whole 1,
-    (named_type 1 Cardinal refl refl refl cardinal_whole 2,
-    (named_type 2 Character refl refl refl character_whole 3,
-    (named_type 3 (Enum 2) refl refl refl boolean_whole 4,
-    (named_type 5 (Set bit_range) refl refl refl bitset_whole 5,
-    (named_type 6 (ProcType None 0 6) refl refl refl (plain_base proc_type (ProcType None 0 6) (kind_itself 6 (ProcType None 0 6) refl refl) refl) 6,
-    (named_constant 3 (Enum 2) refl refl refl refl boolean_whole 7 (pos 1),
-    (named_constant 3 (Enum 2) refl refl refl refl boolean_whole 8 (pos 0),
-    (named_constant 7 Nil refl refl refl refl (plain_base nil_type Nil (kind_itself 7 Nil refl refl) refl) 9 (pos 0),
-    (tt, (tt, (tt, (tt, (tt, (tt, (tt, (tt, (tt, (tt, (tt, (tt, (tt, (tt, (tt, (tt, (tt, tt))))))))))))))))))))))))))
+    (
+      named_type 1 Cardinal refl refl refl cardinal_whole 2,
+      (
+        named_type 2 Character refl refl refl character_whole 3,
+        (
+          named_type 3 (Enum 2) refl refl refl boolean_whole 4,
+          (
+            named_type 5 (Set bit_range) refl refl refl bitset_whole 5,
+            (
+              named_type 6 (ProcType None 0 6) refl refl refl (plain_base proc_type (ProcType None 0 6) (kind_itself 6 (ProcType None 0 6) refl refl) refl) 6,
+              (
+                named_constant 3 (Enum 2) refl refl refl refl boolean_whole 7 (pos 1),
+                (
+                  named_constant 3 (Enum 2) refl refl refl refl boolean_whole 8 (pos 0),
+                  (
+                    named_constant 7 Nil refl refl refl refl (plain_base nil_type Nil (kind_itself 7 Nil refl refl) refl) 9 (pos 0),
+                    (tt, (tt, (tt, (tt, (tt, (tt, (tt, (tt, (tt, (tt, (tt, (tt, (tt, (tt, (tt, (tt, (tt, tt))))))))))))))))),
+                  ),
+                ),
+              ),
+            ),
+          ),
+        ),
+      ),
+    ),
+  )
 
   abbrev type_rows : List Row
   type_rows = map (row_of 0 0) (Integer ∷ Cardinal ∷ Character ∷ Enum 2 ∷ Subrange cardinal (pos 0) (pos 31) ∷ Set bit_range ∷ ProcType None 0 6 ∷ Nil ∷ Text ∷ Whole ∷ Broken ∷ [])

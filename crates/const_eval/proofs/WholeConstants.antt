@@ -341,7 +341,7 @@ module _ (c : Context) (there : HasStandardRows c) where
       (λ e. let kind = ap (meaning_at c.scene) (set_stands t (kind_of c.scene t) refl e) in
       given (
         ap (λ (m : RowMeaning). is_broken c.scene (set_base_by m)) kind ∙ h.1 e,
-        (λ s. ap (λ (m : RowMeaning). is_broken c.scene (set_base_by m)) kind ∙ h.1 e)
+        (λ s. ap (λ (m : RowMeaning). is_broken c.scene (set_base_by m)) kind ∙ h.1 e),
       )) (λ e. noted)
   set_type-whole at InError h = absurd h
   set_type-whole at o h = noted

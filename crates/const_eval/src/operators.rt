@@ -20,6 +20,7 @@ ghost use Rattle.const_eval.specs.Structures.{are_alike as spec_alike, set_row_b
 ghost use Rattle.type_rules.specs.Asks.{Reads, WhereKnown, WhereWaiting};
 ghost use Rattle.type_rules.specs.Scenes.{IsThere, Suits, WhereTold, scene_of};
 ghost use Rattle.type_rules.specs.Sites.{SuitsSite, context_of};
+ghost use Rattle.type_rules.specs.Standing.{StopsAtEither};
 
 use crate::faults::Fault;
 use crate::membership::membership;
@@ -230,6 +231,7 @@ fn kinds_of<S: Scopes>(
         WhereKnown result (λ kinds. kinds.0 ≡ kind_of (scene_of (S.state scopes.old).frame made site.now.around.now) left)) }
     ensures right { WhereTold (S.state scopes.old).frame (λ made.
         WhereKnown result (λ kinds. kinds.1 ≡ kind_of (scene_of (S.state scopes.old).frame made site.now.around.now) right)) }
+    ensures stops { WhereWaiting result (λ head. StopsAtEither (S.state scopes.new) site.now.around.now left right head) }
 {
     let (_, first) = known!(stand(scopes, site.around, left));
     let (_, second) = known!(stand(scopes, site.around, right));

@@ -7,7 +7,7 @@ ghost use Rattle.m2_base.specs.States.{Frame, Waits};
 ghost use Rattle.m2_base.specs.Gives.{gives};
 ghost use Rattle.m2_base.specs.Statics.Compatible.{is_beside_char as spec_beside_char, is_compatible, is_integer_or_cardinal as is_number_base, taken_beside as spec_taken};
 ghost use Rattle.m2_base.specs.Statics.Contexts.{Context};
-ghost use Rattle.m2_base.specs.Statics.Operands.{is_one_char as spec_one_char, is_string as spec_string};
+ghost use Rattle.m2_base.specs.Statics.Operands.{is_one_char as spec_one_char, is_string as spec_string, operand_type as spec_operand_type};
 ghost use Rattle.m2_base.specs.Statics.Operations.{as_number as spec_as_number, base_type, is_ordinal as spec_ordinal};
 ghost use Rattle.m2_base.specs.Statics.Ranges.{is_within as spec_within, range};
 ghost use Rattle.m2_base.specs.Statics.Types.{range_of as spec_range};
@@ -19,6 +19,7 @@ ghost use Rattle.const_eval.specs.Standard.{HasStandardRows};
 ghost use Rattle.type_rules.specs.Asks.{Reads, WhereKnown, WhereWaiting};
 ghost use Rattle.type_rules.specs.Scenes.{IsThere, WhereTold};
 ghost use Rattle.type_rules.specs.Sites.{SuitsSite, context_of};
+ghost use Rattle.type_rules.specs.Standing.{StopsAtType};
 
 use crate::faults::Fault;
 use crate::operands::as_char;
@@ -57,6 +58,7 @@ pub fn is_ordinal<S: Scopes>(scopes: &mut S, site: &Site, x: Operand) -> Ask<boo
     ensures waits { WhereWaiting result (λ head. Waits (S.state scopes.old) (S.state scopes.new) head) }
     ensures told { WhereTold (S.state scopes.old).frame (λ made.
         WhereKnown result (λ given. let c = context_of (S.state scopes.old).frame made site.now in given ≡ spec_ordinal c x)) }
+    ensures stops { WhereWaiting result (λ head. StopsAtType (S.state scopes.new) site.now.around.now (spec_operand_type x) head) }
 {
     let of = operand_type(&x);
     if is_whole(of) {
@@ -203,9 +205,5 @@ pub(crate) fn as_number(at: u32, other: Place, x: Operand) -> Result<Operand, Fa
 pub(crate) fn number_base(x: Operand, base: Place, other: Place) -> Place
     ensures { (c : Context) (at : ℕ) (y : Taken) → HasStandardRows c → base ≡ base_type c x → gives y ≡ spec_as_number c at other x → result ≡ base_type c y }
 {
-    if takes_base(x, other) {
-        other
-    } else {
-        base
-    }
+    if takes_base(x, other) { other } else { base }
 }
