@@ -2,9 +2,11 @@ pub mod GrammarChecks
 mod BlockLimitChecks
 mod BroughtLaws
 pub mod ChainLaws
+pub mod FieldRows
 pub mod FinishedLaws
 pub mod ImportLaws
 pub mod Kept
+pub mod KeyLaws
 pub mod KindTables
 pub mod LoneModules
 mod NameTexts
