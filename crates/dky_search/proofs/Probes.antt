@@ -3,8 +3,9 @@ use Rattle.std.proofs.Common.{◌≡◌, ◌≢◌, ℕ, ◌+◌, ◌<◌, List,
 use Rattle.std.proofs.lemmas.Option.{get_or_from_slice_get, slice_get_within}
 use mathlib.Core.Logic.{dite}
 use native.Mathlib.Decide.{ℕ_discrete, dec_le}
-use Rattle.m2_base.specs.Keys.{RowKey, first_keyed, row_key}
+use Rattle.m2_base.specs.Keys.{first_keyed, row_key}
 use Rattle.m2_base.specs.declared.rows.Row.{Row}
+use Rattle.m2_base.specs.declared.rows.RowKey.{RowKey}
 use Rattle.m2_base.proofs.KeyLaws.{first_hit, first_lacks}
 use Rattle.scope_table.specs.Cells.{probe, seed, IsFirstOf, IsHidden, IsIndexed}
 use Rattle.scope_table.specs.Rows.{blank, row_of}

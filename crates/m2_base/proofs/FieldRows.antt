@@ -1,10 +1,10 @@
 -- No row of a field has a name, in the rows of every unit.
-use Rattle.std.specs.Prelude.{◌≡◌, refl, ℕ, zero, suc, ◌+◌, ◌==◌, Bool, true, false, not, ◌||◌, if◌then◌else◌, List, [], ◌∷◌, ◌++◌, flat_map, length, map, Option, Some, None, slice_index_or}
-use Rattle.std.proofs.Common.{sym, ap, ◌∙◌, subst, ⊎_elim, arith}
+use Rattle.std.specs.Prelude.{◌≡◌, refl, ℕ, zero, suc, ◌+◌, ◌==◌, Bool, true, false, not, ◌||◌, if◌then◌else◌, List, [], ◌∷◌, ◌++◌, flat_map, map, Option, Some, None}
+use Rattle.std.proofs.Common.{sym, ◌∙◌, subst, ⊎_elim, arith}
 use Rattle.std.proofs.lemmas.Bool.{eqb-false, eqb-true, not-true, or_cases}
 use Rattle.m2_base.specs.Finished.{IsFinished}
 use Rattle.m2_base.specs.Lists.{Each}
-use Rattle.m2_base.specs.Rows.{Row, alias_kind, const_kind, enum_kind, field_kind, module_kind, type_name_kind, var_kind, proc_kind}
+use Rattle.m2_base.specs.Rows.{Row, alias_kind, const_kind, field_kind, type_name_kind, var_kind, proc_kind}
 use Rattle.m2_base.specs.Standard.{standard_rows}
 use Rattle.m2_base.specs.Statics.BlockRows.{at_item, brought_in, declare_block, declare_items}
 use Rattle.m2_base.specs.Statics.Blocks.{BlockTree, blocks_of}
@@ -14,7 +14,7 @@ use Rattle.m2_base.specs.Statics.ImportRows.{alias_row, place_or_broken}
 use Rattle.m2_base.specs.Statics.ImportedConstants.{Member, are_too_many, brings, brought_names, members_of, new_members}
 use Rattle.m2_base.specs.Statics.Items.{Item, const_item, heading_item, import_item, items_of, proc_item, type_item, vars_item}
 use Rattle.m2_base.specs.Statics.Layouts.{brought_shape, with_brought}
-use Rattle.m2_base.specs.Statics.Makes.{Makes, own_rows, with_rows}
+use Rattle.m2_base.specs.Statics.Makes.{Makes, with_rows}
 use Rattle.m2_base.specs.Statics.ShapedRows.{AreShaped, more_of, none_of}
 use Rattle.m2_base.specs.Statics.Shapes.{Shape, array_shapes, arms_shapes, field_shapes, fields_shapes, form_shapes, formal_shapes, import_kind, item_shapes, named, nameless, open_shapes, own_section_shapes, section_shapes, tag_shapes, type_item_shapes, type_shapes, types_shapes}
 use Rattle.m2_base.specs.Statics.UnitRows.{rows_from, unit_rows}

@@ -1,5 +1,5 @@
 -- The keys of rows, and the first row of a key.
-use Rattle.std.specs.Prelude.{◌≡◌, ◌≢◌, ℕ, zero, suc, ◌+◌, ◌<◌, ◌≤◌, ◌==◌, nat_lt, Bool, true, false, ◌&&◌, if◌then◌else◌, List, [], ◌∷◌, length, take, slice_get, Option, Some, None, unwrap_or}
+use Rattle.std.specs.Prelude.{◌≡◌, ◌≢◌, ℕ, zero, suc, ◌+◌, ◌<◌, ◌≤◌, ◌==◌, Bool, true, false, ◌&&◌, if◌then◌else◌, List, [], ◌∷◌, length, take, slice_get, Option, Some, None}
 use Rattle.std.proofs.Common.{refl, sym, ap, ◌∙◌, subst, arith}
 use Rattle.std.proofs.lemmas.Bool.{eq-eqb, ne_eqb, eqb-true, true≢false, lt-ltb, le-ltb}
 use Rattle.std.proofs.lemmas.List.{take-append-le}
@@ -8,7 +8,7 @@ use mathlib.Core.Logic.{dite}
 use native.Mathlib.Decide.{ℕ_discrete}
 use Rattle.m2_base.specs.Keys.{RowKey, Name, Member, before_only, field_before, first_keyed, is_keyed, is_same_key, row_key}
 use Rattle.m2_base.specs.Lists.{IsPrefixOf}
-use Rattle.m2_base.specs.Rows.{Row, RowMeaning, basic_of, field_kind, natural, row_meaning}
+use Rattle.m2_base.specs.Rows.{Row, RowMeaning, basic_of, field_kind, natural}
 use Rattle.m2_base.specs.Statics.TypeParts.{is_field, is_field_meaning}
 use Rattle.m2_base.specs.Tables.{first_named}
 use Rattle.m2_base.proofs.NoRepeats.{some_is}
@@ -191,6 +191,10 @@ first_taken k (x ∷ rows) n (suc m) = go (is_keyed k (row_key x)) (first_taken 
     go false rest = rest
 
 -- ** The fields before a record's row
+
+-- they are those that are found before it
+pub field_only : (rows : List Row) (own x : ℕ) → field_before rows own x ≡ before_only own (first_keyed (Member own x) rows 0)
+field_only rows own x = first_taken (Member own x) rows 0 own ∙ ap (λ (m : ℕ). before_only m (first_keyed (Member own x) rows 0)) (omega arith)
 
 taken_at : (rows : List Row) (m i : ℕ) (r : Row) → slice_get (take m rows) i ≡ Some r → (i < m) × (slice_get rows i ≡ Some r)
 taken_at [] zero i r e = absurd (cc)

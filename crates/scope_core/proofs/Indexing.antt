@@ -4,7 +4,8 @@ use Rattle.std.specs.List.{slice_get}
 use Rattle.std.specs.Option.{option_map, option_or}
 use Rattle.std.proofs.lemmas.Option.{slice_get_within, get_or_from_slice_get}
 use Rattle.m2_base.specs.declared.rows.Row.{Row}
-use Rattle.m2_base.specs.Keys.{RowKey, first_keyed, is_keyed, row_key}
+use Rattle.m2_base.specs.declared.rows.RowKey.{RowKey}
+use Rattle.m2_base.specs.Keys.{first_keyed, is_keyed, row_key}
 use Rattle.m2_base.proofs.KeyLaws.{first_hit}
 use Rattle.scope_core.specs.Kept.{IsIndexOf}
 

@@ -190,33 +190,37 @@ same_fields t full own x counts begun =
     (λ (less : nat_lt own (length t.rows) ≡ true). let l = ltb-true own (length t.rows) less in field_front t.rows full own x begun.first (omega (arith, l)))
     (or_cases t.complete (nat_lt own (length t.rows)) counts)
 
-selects : (p : Plain) (q : Place) (x : ℕ) → IsSoundly p → Selects (state_of p) (state_of p) q x (field_in (table_at p.tables q.scope) q x)
-selects p q x sound = go (t.complete || nat_lt q.ordinal (length t.rows)) refl
-  where
-    abbrev t : Table
-    t = table_at p.tables q.scope
+module _ (p : Plain) (q : Place) (x : ℕ) (sound : IsSoundly p) where
+  abbrev there : Table
+  there = table_at p.tables q.scope
 
-    known : (t.complete || nat_lt q.ordinal (length t.rows)) ≡ true → (o : Option (ℕ × Row)) → field_before t.rows q.ordinal x ≡ o → Selects (state_of p) (state_of p) q x (Known o)
-    known counts (Some hit) e =
-        let f = field_hit t.rows q.ordinal x hit e in
-        record {
-          before = f.0;
-          keyed = f.2;
-          shown = shown_at p q.scope hit.0 hit.1 sound f.1;
-          own = λ same. subst (λ j. field_before (table_at p.tables j).rows q.ordinal x ≡ Some hit) same e;
-          told = λ finished told. same_fields t (rows_at finished q.scope) q.ordinal x counts (sound.told finished told q.scope) ∙ e;
-        }
-    known counts None e =
-        record {
-          own = λ same. subst (λ j. field_before (table_at p.tables j).rows q.ordinal x ≡ None) same e;
-          told = λ finished told. same_fields t (rows_at finished q.scope) q.ordinal x counts (sound.told finished told q.scope) ∙ e;
-        }
+  abbrev counts : Bool
+  counts = there.complete || nat_lt q.ordinal (length there.rows)
 
-    go : (b : Bool) → (t.complete || nat_lt q.ordinal (length t.rows)) ≡ b → Selects (state_of p) (state_of p) q x (if b then Known (field_before t.rows q.ordinal x) else Waiting (head_of q.scope t))
-    go true counts = known counts (field_before t.rows q.ordinal x) refl
-    go false none =
-        let parts = or_parts t.complete (nat_lt q.ordinal (length t.rows)) none in
-        record { on = refl; short = ltb-false q.ordinal (length t.rows) parts.1; stops = stops_at p q.scope parts.0 }
+  selects_known : counts ≡ true → (o : Option (ℕ × Row)) → field_before there.rows q.ordinal x ≡ o → Selects (state_of p) (state_of p) q x (Known o)
+  selects_known all (Some hit) e =
+      let f = field_hit there.rows q.ordinal x hit e in
+      record {
+        before = f.0;
+        keyed = f.2;
+        shown = shown_at p q.scope hit.0 hit.1 sound f.1;
+        own = λ same. subst (λ j. field_before (table_at p.tables j).rows q.ordinal x ≡ Some hit) same e;
+        told = λ finished told. same_fields there (rows_at finished q.scope) q.ordinal x all (sound.told finished told q.scope) ∙ e;
+      }
+  selects_known all None e =
+      record {
+        own = λ same. subst (λ j. field_before (table_at p.tables j).rows q.ordinal x ≡ None) same e;
+        told = λ finished told. same_fields there (rows_at finished q.scope) q.ordinal x all (sound.told finished told q.scope) ∙ e;
+      }
+
+  selects : Selects (state_of p) (state_of p) q x (field_in there q x)
+  selects = go counts refl
+    where
+      go : (b : Bool) → counts ≡ b → Selects (state_of p) (state_of p) q x (if b then Known (field_before there.rows q.ordinal x) else Waiting (head_of q.scope there))
+      go true all = selects_known all (field_before there.rows q.ordinal x) refl
+      go false none =
+          let parts = or_parts there.complete (nat_lt q.ordinal (length there.rows)) none in
+          record { on = refl; short = ltb-false q.ordinal (length there.rows) parts.1; stops = stops_at p q.scope parts.0 }
 
 -- a selection
 pub selected : (p : Plain) (q : Place) (x : ℕ) (answer : Ask (Option (ℕ × Row))) → IsSoundly p → answer ≡ one_thread_field p.tables q x → Selected (state_of p) (state_of p) q x answer

@@ -2,7 +2,8 @@
 use Rattle.std.specs.Prelude.{◌≡◌, ℕ, true, List, ◌++◌, Option, map, slice_set}
 use Rattle.std.specs.Option.{option_map}
 use Rattle.m2_base.specs.declared.rows.Row.{Row}
-use Rattle.m2_base.specs.Keys.{RowKey, first_keyed}
+use Rattle.m2_base.specs.declared.rows.RowKey.{RowKey}
+use Rattle.m2_base.specs.Keys.{first_keyed}
 use Rattle.m2_base.specs.Tables.{Table, table_at}
 
 -- a scope's table, and for how many rows there is room

@@ -2,9 +2,10 @@
 ghost use Rattle.std.specs.Prelude.{◌≡◌, ℕ, ◌+◌, ◌-◌, ◌<◌, ◌≤◌, ◌≢◌, ◌^◌, [], ◌∷◌, length, nat_lt, slice_get, slice_index, OnOk, OnErr, IsOk, IfOk, replicate, if◌then◌else◌};
 ghost use Rattle.std.specs.Option.{option_or};
 ghost use Rattle.indexmap.specs.IndexMap.{get, spare};
-ghost use Rattle.m2_base.specs.Keys.{RowKey, field_before, first_keyed, is_keyed, is_same_key, one_thread_field};
+ghost use Rattle.m2_base.specs.Keys.{field_before, first_keyed, is_keyed, is_same_key, one_thread_field};
 ghost use Rattle.m2_base.specs.Lists.{Each};
-ghost use Rattle.m2_base.specs.Tables.{head_of, one_thread, table_at, no_rows};
+ghost use Rattle.m2_base.specs.declared.rows.RowKey.{RowKey as Key};
+ghost use Rattle.m2_base.specs.Tables.{first_named, head_of, one_thread, table_at, no_rows};
 ghost use Rattle.m2_base.specs.Standard.{standard_rows as spec_rows};
 ghost use Rattle.scope_core.specs.PlainScopes.{first_tables};
 ghost use Rattle.m2_base.specs.Tables.{one_thread_row};
@@ -82,8 +83,16 @@ impl Kept {
     fn first_keyed(&self, key: RowKey) -> Option<(u32, Row)>
         ensures { result ≡ first_keyed key self.now.table.rows 0 }
     {
-        let ordinal = self.index.get(&key).copied()?;
+        let ordinal = ordinal_of(&self.index, key)?;
         Some((ordinal, self.rows[ordinal as usize]))
+    }
+
+    /// The first row under a name, with its ordinal.
+    fn first_named(&self, name: u32) -> Option<(u32, Row)>
+        requires { name ≢ 0 }
+        ensures { result ≡ first_named name self.now.table.rows 0 }
+    {
+        self.first_keyed(RowKey::Name(name))
     }
 
     /// Whether it has a row of this ordinal.
@@ -152,17 +161,33 @@ impl Kept {
     }
 }
 
+/// What stands under a key.
+fn ordinal_of(index: &IndexMap<RowKey, u32>, key: RowKey) -> Option<u32>
+    ensures { result ≡ get is_same_key index.now key }
+{
+    index.get(&key).copied()
+}
+
+/// Puts an ordinal under a key.
+fn put_ordinal(index: &mut IndexMap<RowKey, u32>, key: RowKey, ordinal: u32)
+    requires { 0 < spare index.old }
+    ensures put { (k : Key) → get is_same_key index.new k ≡ (if is_same_key key k then Some ordinal else get is_same_key index.old k) }
+    ensures room { spare index.old ≤ spare index.new + 1 }
+{
+    index.insert(key, ordinal).unwrap();
+}
+
 /// Puts an ordinal under a key that has none yet.
 fn note_first(index: &mut IndexMap<RowKey, u32>, key: Option<RowKey>, ordinal: u32)
     requires { 0 < spare index.old }
-    ensures noted { (k : RowKey) → get is_same_key index.new k ≡ option_or (get is_same_key index.old k) (if is_keyed k key then Some ordinal else None) }
+    ensures noted { (k : Key) → get is_same_key index.new k ≡ option_or (get is_same_key index.old k) (if is_keyed k key then Some ordinal else None) }
     ensures room { spare index.old ≤ spare index.new + 1 }
 {
     let Some(key) = key else {
         return;
     };
-    if !index.contains_key(&key) {
-        index.insert(key, ordinal).unwrap();
+    if ordinal_of(index, key).is_none() {
+        put_ordinal(index, key, ordinal);
     }
 }
 
@@ -211,7 +236,7 @@ pub fn reply_in(kept: &[Kept], chain: &[u32], name: u32) -> Reply
 {
     for s in chain {
         let table = &kept[*s as usize];
-        if let Some((ordinal, row)) = table.first_keyed(RowKey::Name(name)) {
+        if let Some((ordinal, row)) = table.first_named(name) {
             let place = Place { scope: *s, ordinal };
             return Reply::Found(place, row);
         }

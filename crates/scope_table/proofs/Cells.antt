@@ -8,7 +8,7 @@ use Rattle.m2_base.specs.declared.rows.Row.{Row}
 use Rattle.scope_table.specs.declared.view.Shown.{Shown}
 use Rattle.scope_table.specs.declared.view.About.{About}
 use Rattle.scope_table.specs.declared.view.View.{View}
-use Rattle.m2_base.specs.Keys.{RowKey}
+use Rattle.m2_base.specs.declared.rows.RowKey.{RowKey}
 use Rattle.scope_table.specs.Cells.{probe, seed, IsHidden, IsIndexed, IsPassed, HasOneEach, HasNoCell, Stays}
 use Rattle.scope_table.specs.Rows.{rows_at, words_at}
 use Rattle.scope_table.specs.Rule.{base, mid, width, scopes, is_odd, table_at, nothing, shown_at, IsBefore, IsGood, AreFormed, Fills, Knows, IsLaid, IsKept, IsSeated}

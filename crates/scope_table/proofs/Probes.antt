@@ -6,7 +6,8 @@ use Rattle.std.proofs.Math.Nat.{mod-lt, mod-eq_of_lt, add-mod_right, mod-add-div
 use mathlib.Core.Logic.{dite, ◌⊎◌, inl, inr}
 use native.Mathlib.Decide.{ℕ_discrete, dec_le}
 use Rattle.m2_base.specs.declared.rows.Row.{Row}
-use Rattle.m2_base.specs.Keys.{RowKey, row_key}
+use Rattle.m2_base.specs.Keys.{row_key}
+use Rattle.m2_base.specs.declared.rows.RowKey.{RowKey}
 use Rattle.m2_base.proofs.NoRepeats.{some_is}
 use Rattle.scope_table.specs.Cells.{home, probe, seed, HasNoCell, HasOneEach, IsAmong, IsFirstEmpty, IsFirstOf, IsFull, IsHidden, IsIndexed, IsPassed, Stays}
 use Rattle.scope_table.specs.Rows.{words_of, blank, row_of, rows_of}

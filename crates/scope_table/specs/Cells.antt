@@ -1,7 +1,9 @@
 -- The index of a scope: cells that lead from a key to the ordinal of its row. A cell is 0 where it is empty, else an ordinal plus 1.
 use Rattle.std.specs.Prelude.{◌≡◌, ◌≢◌, ℕ, ◌+◌, ◌*◌, ◌/◌, ◌%◌, ◌<◌, ◌≤◌, ◌^◌, List, Some, length, slice_index}
-use Rattle.m2_base.specs.Keys.{RowKey, Name, Member, row_key}
+use Rattle.m2_base.specs.Keys.{row_key}
 use Rattle.m2_base.specs.declared.rows.Row.{Row}
+use Rattle.m2_base.specs.declared.rows.RowKey.{RowKey}
+use Rattle.m2_base.specs.declared.rows.RowKey.TheVariants.{Name, Member}
 use Rattle.scope_table.specs.Rows.{row_of}
 
 -- A scope with room for so many rows has so many cells: the least power of 2 that is more than twice the rows, and 2 at least.

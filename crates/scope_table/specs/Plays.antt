@@ -8,7 +8,8 @@ use Rattle.scope_table.specs.declared.view.Shown.{Shown}
 use Rattle.scope_table.specs.declared.view.Look.{Look}
 use Rattle.scope_table.specs.declared.view.About.{About}
 use Rattle.scope_table.specs.declared.view.View.{View}
-use Rattle.m2_base.specs.Keys.{RowKey, row_key}
+use Rattle.m2_base.specs.Keys.{row_key}
+use Rattle.m2_base.specs.declared.rows.RowKey.{RowKey}
 use Rattle.scope_table.specs.Cells.{IsFirstEmpty, HasNoCell, seed}
 use Rattle.scope_table.specs.Rows.{words_of, row_of, rows_of, IsField}
 use Rattle.scope_table.specs.Rule.{IsGood, IsBefore, shown_at, texts_in, scopes, is_odd, times, base, nothing, mid, width}

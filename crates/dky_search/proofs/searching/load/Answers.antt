@@ -1,5 +1,6 @@
 use Rattle.std.proofs.Common.{◌≡◌, ℕ, ◌<◌, length, sym, ap, ◌∙◌, subst}
-use Rattle.m2_base.specs.Keys.{Name, first_keyed}
+use Rattle.m2_base.specs.Keys.{first_keyed}
+use Rattle.m2_base.specs.declared.rows.RowKey.TheVariants.{Name}
 use Rattle.m2_base.specs.Tables.{first_named}
 use Rattle.m2_base.specs.declared.replies.Head.{Head}
 use Rattle.m2_base.proofs.KeyLaws.{first_named-keyed}

@@ -8,12 +8,12 @@ use Rattle.scope_core.proofs.kept.Kept.first_keyed.Goals as goal
 pub index-requires : goal.index-requires
 index-requires c =
     let within = indexed_within (get is_same_key c.self.inside.index) c.self.inside.rows.items c.args.key c.in_ok-ordinal.ordinal c.self.invariant
-    (sym c.get.ensures.value ∙ sym c.copied.ensures ∙ c.in_ok-ordinal.was) in
+    (sym c.ordinal_of.ensures ∙ c.in_ok-ordinal.was) in
     omega (arith, within, c.self.inside.rows.ok.0)
 
 pub returns : goal.returns
 returns c =
     ap (λ r. Some (c.in_ok-ordinal.ordinal, r)) c.index.ensures
     ∙ indexed_row (get is_same_key c.self.inside.index) c.self.inside.rows.items c.args.key c.in_ok-ordinal.ordinal c.index.result.now c.self.invariant
-    (sym c.get.ensures.value ∙ sym c.copied.ensures ∙ c.in_ok-ordinal.was)
+    (sym c.ordinal_of.ensures ∙ c.in_ok-ordinal.was)
     ∙ ap (λ (k : TableWithRoom). first_keyed c.args.key k.table.rows 0) c.self.view_is

@@ -2,7 +2,8 @@ use Rattle.std.proofs.Common.{◌≡◌, [], ◌∷◌, ◌++◌, Option, Some, 
 use Rattle.std.specs.Option.{option_or}
 use Rattle.std.proofs.lemmas.Grind.{common_steps}
 use Rattle.indexmap.specs.IndexMap.{get}
-use Rattle.m2_base.specs.Keys.{RowKey, is_keyed, is_same_key, row_key}
+use Rattle.m2_base.specs.declared.rows.RowKey.{RowKey}
+use Rattle.m2_base.specs.Keys.{is_keyed, is_same_key, row_key}
 use Rattle.scope_core.specs.Kept.{IsIndexOf}
 use Rattle.scope_core.proofs.Indexing.{IsIndexOf-push}
 use Rattle.scope_core.proofs.kept.Kept.put.Goals as goal
