@@ -60,35 +60,33 @@ module _ (rows : List Row) (row : Row) where
         (λ n. ix k i (first_stays k i f n) (hidden_more k i hid))
 
     -- its ordinal goes into the first empty cell from its home
-    pub indexed_put : (m : ℕ) (key : RowKey) → row_key row ≡ Some key → IsIndexed w rows cs → m < w → probe w (seed key) m < length cs → get_or cs (probe w (seed key) m) 0 ≡ 0
-        → ((e : ℕ) → e < m → get_or cs (probe w (seed key) e) 0 ≢ 0) → IsIndexed w all (set cs (probe w (seed key) m) (length rows + 1))
-    indexed_put m key keyed ix lm inside empty run k i f hid = dite (ℕ_discrete i (length rows))
-        (λ same. here (subst (IsFirstOf k all) same f) (subst (IsHidden w all ds k) same hid))
-        (λ n. ix k i (first_stays k i f n) (hidden_more k i (hidden_stays w k i all cs ds stays hid)))
-      where
-        abbrev cell : ℕ
-        cell = probe w (seed key) m
+    module _ (m : ℕ) (key : RowKey) (keyed : row_key row ≡ Some key) (empty : get_or cs (probe w (seed key) m) 0 ≡ 0) (run : (e : ℕ) → e < m → get_or cs (probe w (seed key) e) 0 ≢ 0) where
+      abbrev marked_cells : List ℕ
+      marked_cells = set cs (probe w (seed key) m) (length rows + 1)
 
-        abbrev ds : List ℕ
-        ds = set cs cell (length rows + 1)
+      stays : Stays cs marked_cells
+      stays = stays_set cs (probe w (seed key) m) (length rows + 1) empty
 
-        stays : Stays cs ds
-        stays = stays_set cs cell (length rows + 1) empty
+      passes : IsFirstOf key all (length rows) → (q : ℕ) → q < m → IsPassed key all marked_cells (probe w (seed key) q)
+      passes first q lq =
+          let there : get_or marked_cells (probe w (seed key) q) 0 ≡ get_or cs (probe w (seed key) q) 0 = stays (probe w (seed key) q) (run q lq) in record {
+            some = λ z. run q lq (sym there ∙ z);
+            other = λ j l e.
+                let len : length all ≡ length rows + 1 = length-append rows (row ∷ []) in
+                dite (ℕ_discrete j (length rows)) (λ same. absurd (new (probe w (seed key) q) (sym there ∙ e ∙ ap (λ (z : ℕ). z + 1) same)))
+                (λ n. first.before j (omega (arith, len, l, n)));
+          }
 
-        passes : IsFirstOf key all (length rows) → (q : ℕ) → q < m → IsPassed key all ds (probe w (seed key) q)
-        passes first q lq =
-            let there : get_or ds (probe w (seed key) q) 0 ≡ get_or cs (probe w (seed key) q) 0 = stays (probe w (seed key) q) (run q lq) in record {
-              some = λ z. run q lq (sym there ∙ z);
-              other = λ j l e.
-                  let len : length all ≡ length rows + 1 = length-append rows (row ∷ []) in
-                  dite (ℕ_discrete j (length rows)) (λ same. absurd (new (probe w (seed key) q) (sym there ∙ e ∙ ap (λ (z : ℕ). z + 1) same)))
-                  (λ n. first.before j (omega (arith, len, l, n)));
-            }
+      found_there : m < w → probe w (seed key) m < length cs → (k : RowKey) → IsFirstOf k all (length rows) → IsHidden w all marked_cells k (length rows) → ⊥
+      found_there lm inside k first hidden =
+          let same : k ≡ key = some_is k key (sym first.keyed ∙ ap row_key (row-last rows row) ∙ keyed) in
+          subst (λ (z : RowKey). IsHidden w all marked_cells z (length rows)) same hidden m lm (get_or-set_same cs (probe w (seed key) m) (length rows + 1) 0 inside)
+          (passes (subst (λ (z : RowKey). IsFirstOf z all (length rows)) same first))
 
-        here : IsFirstOf k all (length rows) → IsHidden w all ds k (length rows) → ⊥
-        here first hidden =
-            let same : k ≡ key = some_is k key (sym first.keyed ∙ ap row_key (row-last rows row) ∙ keyed) in
-            subst (λ (z : RowKey). IsHidden w all ds z (length rows)) same hidden m lm (get_or-set_same cs cell (length rows + 1) 0 inside) (passes (subst (λ (z : RowKey). IsFirstOf z all (length rows)) same first))
+      pub indexed_put : IsIndexed w rows cs → m < w → probe w (seed key) m < length cs → IsIndexed w all marked_cells
+      indexed_put ix lm inside k i f hid = dite (ℕ_discrete i (length rows))
+          (λ same. found_there lm inside k (subst (IsFirstOf k all) same f) (subst (IsHidden w all marked_cells k) same hid))
+          (λ n. ix k i (first_stays k i f n) (hidden_more k i (hidden_stays w k i all cs marked_cells stays hid)))
 
 -- a row without a key is the first of none
 pub no_key : (rows : List Row) (row : Row) → row_key row ≡ None → (k : RowKey) → IsFirstOf k (rows ++ row ∷ []) (length rows) → ⊥
@@ -120,7 +118,7 @@ keyed_put u j c w rows row key more l many new keyed ix f pos =
     let cells : set (shown_at u j).cells (probe w (seed key) f.distance) (length rows + 1) ≡ (shown_at (marks u j c (length rows + 1)) j).cells = (λ i. set (shown_at u j).cells (sym cell i) (length rows + 1)) ∙ ap (λ (y : Shown). y.cells) (sym there) in
     let all_rows : rows ++ row ∷ [] ≡ (grown (marks u j c (length rows + 1)) j).rows = sym more ∙ ap (λ (y : Shown). y.rows ++ rows_of u.put) (sym there) in
     subst (λ (z : List Row × List ℕ). IsIndexed w z.0 z.1) (λ i. (all_rows i, cells i))
-    (indexed_put rows row w (shown_at u j).cells new f.distance key keyed ix f.less (omega arith) (ap (λ (z : ℕ). get_or (shown_at u j).cells z 0) (sym cell) ∙ f.empty) f.run)
+    (indexed_put rows row w (shown_at u j).cells new f.distance key keyed (ap (λ (z : ℕ). get_or (shown_at u j).cells z 0) (sym cell) ∙ f.empty) f.run ix f.less (omega arith))
 
 pub grown_marked : (u : View) (j c x : ℕ) → j < length u.seen → (grown (marks u j c x) j).rows ≡ (grown u j).rows
 grown_marked u j c x l = ap (λ (y : Shown). y.rows ++ rows_of u.put) (get_or-set_same u.seen j (marked (shown_at u j) c x) nothing l)
