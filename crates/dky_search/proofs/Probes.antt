@@ -22,8 +22,7 @@ first_of k rows i r e =
     let same : f.0 ≡ i = (let o = f.1 in omega (arith, o)) in
     let l : f.0 < length rows = slice_get_within rows f.0 r f.2.at in
     let row : row_of rows f.0 ≡ r = get_or_from_slice_get rows f.0 r blank f.2.at in
-    subst (λ (n : ℕ). IsFirstOf k rows n × (r ≡ row_of rows n)) same
-    (
+    subst (λ (n : ℕ). IsFirstOf k rows n × (r ≡ row_of rows n)) same (
       record {
         within = l;
         keyed = ap row_key row ∙ f.2.keyed;

@@ -1,5 +1,5 @@
 //! A search goes from scope to scope, and finds the rows of a key by the index of each.
-ghost use Rattle.std.specs.Prelude.{◌≡◌, ◌≢◌, ◌+◌, ◌≤◌, ◌<◌, [], ℕ, Option, length, min, IsNone};
+ghost use Rattle.std.specs.Prelude.{◌≡◌, ◌≢◌, ◌+◌, ◌≤◌, ◌<◌, [], ◌||◌, ℕ, Option, length, min, nat_lt, IsNone};
 ghost use Rattle.m2_base.specs.Keys.{before_only, first_keyed};
 ghost use Rattle.m2_base.specs.Lists.{Each};
 ghost use Rattle.m2_base.specs.Rows.{IsWellFormed};
@@ -72,8 +72,15 @@ pub(crate) fn find(
     None
 }
 
+/// Whether the head counts the row of this ordinal, or all rows of its scope.
+pub(crate) fn counts(head: Head, ordinal: u32) -> bool
+    ensures { result ≡ (head.complete || nat_lt ordinal head.count) }
+{
+    head.complete || ordinal < head.count
+}
+
 /// What was found before an ordinal, with its own.
-pub(crate) fn before(hit: Option<(Place, Row)>, upto: u32) -> Option<(u32, Row)>
+pub(crate) fn found_before(hit: Option<(Place, Row)>, upto: u32) -> Option<(u32, Row)>
     ensures { (s : ℕ) (o : Option (ℕ × Row)) → hit ≡ found_at s o → result ≡ before_only upto o }
 {
     match hit {

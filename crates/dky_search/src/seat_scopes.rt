@@ -14,7 +14,7 @@ ghost use Rattle.scope_table.specs.Seats.{IsOf, view, scope_of, key_of};
 ghost use Rattle.dky_search.specs.Seen.{behind, tables_in, look_of, state_in, HaveGrown, IsLawful};
 
 use crate::entering::put_all;
-use crate::searching::{before, find, fly, load_row, note};
+use crate::searching::{counts, find, fly, found_before, load_row, note};
 use m2_base::{Ask, Head, Place, Reply, Row, RowKey, Scopes, Texts};
 use scope_core::Flight;
 use scope_table::{ScopeTable, TableSeat};
@@ -176,12 +176,12 @@ impl<'t> Scopes for SeatScopes<'t> {
     {
         let head = self.table.load_head(&mut self.seat, of.scope);
         let _whole = self.seat.scope();
-        if !head.complete && head.count <= of.ordinal {
+        if !counts(head, of.ordinal) {
             return Ask::DontKnowYet(head);
         }
         let key = RowKey::Member(of.ordinal as u64, name as u64);
         let hit = find(self.table, &mut self.seat, head, key, &mut self.rows_loaded);
-        Ask::Known(before(hit, of.ordinal))
+        Ask::Known(found_before(hit, of.ordinal))
     }
 
     fn enter(&mut self, rows: &[Row])

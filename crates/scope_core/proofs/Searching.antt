@@ -1,7 +1,7 @@
 -- what a search in tables that nobody else changes shows
 use Rattle.std.proofs.Common.{◌≡◌, ℕ, ◌≤◌, ◌+◌, Bool, true, false, ◌==◌, List, [], ◌∷◌, ◌++◌, Option, Some, None, length, refl, sym, ap, ◌∙◌, subst, arith, ⊎_elim, ◌⊎◌, inl, inr, suc, zero, if◌then◌else◌}
 use Rattle.std.specs.List.{slice_get}
-use Rattle.std.specs.Prelude.{nat_lt, ◌||◌, ◌<◌}
+use Rattle.std.specs.Prelude.{nat_lt, ◌||◌}
 use Rattle.std.proofs.lemmas.Bool.{ltb-false, ltb-true, or_cases, or_parts}
 use Rattle.std.proofs.lemmas.Option.{slice_get_within}
 use Rattle.std.proofs.lemmas.Grind.{common_steps}
@@ -184,7 +184,7 @@ fetched p q answer sound is =
     })
 
 -- the fields before a row that a table has, or behind all, are those of all its rows
-same_fields : (t : Table) (full : List Row) (own x : ℕ) → (t.complete || nat_lt own (length t.rows)) ≡ true → IsBegun t full → field_before full own x ≡ field_before t.rows own x
+pub same_fields : (t : Table) (full : List Row) (own x : ℕ) → (t.complete || nat_lt own (length t.rows)) ≡ true → IsBegun t full → field_before full own x ≡ field_before t.rows own x
 same_fields t full own x counts begun =
     ⊎_elim (λ (done : t.complete ≡ true). ap (λ (rows : List Row). field_before rows own x) (sym (begun.whole done)))
     (λ (less : nat_lt own (length t.rows) ≡ true). let l = ltb-true own (length t.rows) less in field_front t.rows full own x begun.first (omega (arith, l)))
