@@ -130,7 +130,8 @@ pub record Fetched (old new : State) (p : Place) (answer : Ask (Option Row)) : T
 
 -- ** Select
 
--- The first field of this name before the row of its record, which is the one at the place p: a row that is shown, and its ordinal.
+-- The first field of this name before the row of its record, which is the one at the place p: a row that is shown, and its
+-- ordinal.
 pub record IsSelected (old new : State) (p : Place) (name : ℕ) (hit : ℕ × Row) : Type 0 where
   pub before : hit.0 < p.ordinal
   pub keyed : row_key hit.1 ≡ Some (Member p.ordinal name)
@@ -148,8 +149,8 @@ Selects old new p name (Known (Some hit)) = IsSelected old new p name hit
 Selects old new p name (Known None) = LacksField old new p name
 Selects old new p name (Waiting h) = IsNotYet old new p h
 
--- A selection loads the head of its scope alone, and waits where a fetch of the record's row would. Where nobody else changes the
--- tables, it gives what one thread answers.
+-- A selection loads the head of its scope alone, and waits where a fetch of the record's row would. Where nobody else changes
+-- the tables, it gives what one thread answers.
 pub record Selected (old new : State) (p : Place) (name : ℕ) (answer : Ask (Option (ℕ × Row))) : Type 0 where
   pub keeps : Keeps old new []
   pub elsewhere : (s : ℕ) → s ≢ p.scope → new.seen s ≡ old.seen s

@@ -1,4 +1,5 @@
--- The index of a scope: cells that lead from a key to the ordinal of its row. A cell is 0 where it is empty, else an ordinal plus 1.
+-- The index of a scope: cells that lead from a key to the ordinal of its row. A cell is 0 where it is empty, else an ordinal
+-- plus 1.
 use Rattle.std.specs.Prelude.{◌≡◌, ◌≢◌, ℕ, ◌+◌, ◌*◌, ◌/◌, ◌%◌, ◌<◌, ◌≤◌, ◌^◌, List, Some, length, slice_index}
 use Rattle.m2_base.specs.Keys.{row_key}
 use Rattle.m2_base.specs.declared.rows.Row.{Row}
@@ -43,8 +44,8 @@ abbrev pub IsHidden : ℕ → List Row → List ℕ → RowKey → (ordinal : �
 IsHidden w rows cs k o =
     (d : ℕ) → d < w → slice_index cs (probe w (seed k) d) ≡ o + 1 → ¬ ((e : ℕ) → e < d → IsPassed k rows cs (probe w (seed k) e))
 
--- The first row of every key has a cell, and from its home to that cell no cell is empty, and none is that of another row of
--- the key.
+-- The first row of every key has a cell, and from its home to that cell no cell is empty, and none is that of another row
+-- of the key.
 abbrev pub IsIndexed : ℕ → List Row → List ℕ → Type 0
 IsIndexed w rows cs = (k : RowKey) (i : ℕ) → IsFirstOf k rows i → ¬ IsHidden w rows cs k i
 

@@ -103,8 +103,8 @@ pub record CanPut (v : View) (p : ℕ) : Type 0 where
   pub at : p ≡ base v.about scope + 8 * length (shown_at v scope).rows + length v.put
   pub room : p + 8 ≤ mid v.about scope
 
--- The ordinal is that of a row that is put and not shown; the row has a key and no cell, and this is the first empty cell
--- from the home of the key.
+-- The ordinal is that of a row that is put and not shown; the row has a key and no cell, and this is the first empty
+-- cell from the home of the key.
 pub record CanMark (w : ℕ) (v : View) (j c o : ℕ) : Type 0 where
   pub hidden : length (shown_at v j).rows ≤ o
   pub put : o < length (grown v j).rows

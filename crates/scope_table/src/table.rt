@@ -225,8 +225,8 @@ impl ScopeTable {
         seat.waiting += 1;
     }
 
-    /// The first empty cell from the home of a key in the scope that the seat fills; none where one of these rows, which
-    /// were put and aren't shown, has the key and a cell before that.
+    /// The first empty cell from the home of a key in the scope that the seat fills; none where one of these rows,
+    /// which were put and aren't shown, has the key and a cell before that.
     pub fn first_empty(&self, seat: &mut TableSeat, key: RowKey, before: &[Row]) -> Option<u32>
         requires table { IsOf self.now seat.old }
         ensures same { seat.new ≡ seat.old }
@@ -248,8 +248,8 @@ impl ScopeTable {
         None
     }
 
-    /// Puts a row with its cell, if it has a key and none of the rows before, which were put and aren't shown, has the same.
-    /// Where the rows put before have theirs, all have then.
+    /// Puts a row with its cell, if it has a key and none of these rows before it, which were put and aren't shown, has
+    /// the same. Where the rows put before have theirs, all have then.
     pub fn put_indexed(&self, seat: &mut TableSeat, row: &Row, before: &[Row])
         requires table { IsOf self.now seat.old }
         requires going { (shown_at (view seat.old) (scope_of seat.old)).complete ≡ false }
