@@ -72,6 +72,15 @@ module _ {T U V W : Type 0} {a b d : State} {x y z : Notes} {f1 f2 f3 : Flows} {
   unknown_after p q =
       record { works = Works-trans p.works q.works; waits = Waits_after p.works.keeps q.waits; grows = Grows-trans p.grows q.grows; told = λ made in_hand told of_site. tt; there = tt }
 
+-- the same behind several steps
+module _ {U W R X : Type 0} {a b d : State} {x y z : Notes} {f1 f2 f3 : Flows} {s : Site} {Q : Frame → Flows → U → Type 0} {as_q : Flows → U → (cell : ℕ) → W} {h : Context → Gives W} {S : Frame → Flows → R → Type 0} {as_r : Flows → R → (cell : ℕ) → X} {k : Context → Gives X} where
+  pub unmade_behind : {m : Memory} → Works a b x y → Grows f1 f2 → Flowing b d y z f2 f3 s (Err m) Q as_q h → (n : Memory) → Flowing a d x z f1 f3 s (Err n) S as_r k
+  unmade_behind w g q n = record { works = Works-trans w q.works; waits = tt; grows = Grows-trans g q.grows; told = λ made in_hand told of_site. tt; there = tt }
+
+  pub unknown_behind : {head : Head} → Works a b x y → Grows f1 f2 → Flowing b d y z f2 f3 s (Ok (DontKnowYet head)) Q as_q h → Flowing a d x z f1 f3 s (Ok (DontKnowYet head)) S as_r k
+  unknown_behind w g q =
+      record { works = Works-trans w q.works; waits = Waits_after w.keeps q.waits; grows = Grows-trans g q.grows; told = λ made in_hand told of_site. tt; there = tt }
+
 module _ {T V : Type 0} {a b : State} {x y : Notes} {f1 f2 : Flows} {s : Site} {P : Frame → Flows → T → Type 0} {as_p : Flows → T → (cell : ℕ) → V} {g h : Context → Gives V} where
   -- the same, of another description
   pub described : (answer : Result (Ask T) Memory) → Flowing a b x y f1 f2 s answer P as_p g → ((c : Context) → g c ≡ h c) → Flowing a b x y f1 f2 s answer P as_p h
@@ -136,6 +145,29 @@ waits_on : {U : Type 0} {a b : State} (d : State) {x y : Notes} (answer : Result
 waits_on d (Ok (Known v)) w h = tt
 waits_on d (Ok (DontKnowYet head)) w h = Waits_after w.keeps h
 waits_on d (Err m) w h = tt
+
+module _ {T U V W : Type 0} {a b d : State} {x y z : Notes} {f1 f2 f3 : Flows} {s : Site} {P : Frame → Flows → T → Type 0} {Q : Frame → Flows → U → Type 0} {as_p : Flows → T → (cell : ℕ) → V} {as_q : Flows → U → (cell : ℕ) → W} (g : Context → Gives V) where
+  -- code that is made of a value by a further step, which notes nothing
+  pub emitted_after : {v : T} (e : Context → W) (k : V → Context → W) (answer : Result (Ask U) Memory) → Flowing a b x y f1 f2 s (Ok (Known v)) P as_p g → Flowing b d y z f2 f3 s answer Q as_q (λ c. gives (e c))
+      → ((c : Context) (u : V) → ((cell : ℕ) → as_p f2 v cell ≡ u) → e c ≡ k u c) → Flowing a d x z f1 f3 s answer Q as_q (λ c. and_then (g c) (λ u. gives (k u c)))
+  emitted_after {v} e k answer p q same =
+      record {
+        works = Works-trans p.works q.works;
+        waits = waits_on d answer p.works q.waits;
+        grows = Grows-trans p.grows q.grows;
+        told = λ made in_hand told of_site. both made answer (p.told made in_hand told of_site)
+            (told_later a.frame b.frame (λ f rows. AreOfSite s rows → IfKnown answer (λ w. (cell : ℕ) → Adds y z (gives (e (context_of f rows s))) (as_q f3 w cell))) p.works.keeps.frame q.told made in_hand told of_site);
+        there = subst (λ (f : Frame). IfKnown answer (λ w. Q f f3 w)) p.works.keeps.frame q.there;
+      }
+    where
+      both : (made : Hand) (answer : Result (Ask U) Memory) → ((n : ℕ) → Adds x y (g (context_of a.frame made s)) (as_p f2 v n)) → IfKnown answer (λ w. (cell : ℕ) → Adds y z (gives (e (context_of a.frame made s))) (as_q f3 w cell))
+          → IfKnown answer (λ w. (cell : ℕ) → Adds x z (and_then (g (context_of a.frame made s)) (λ u. gives (k u (context_of a.frame made s)))) (as_q f3 w cell))
+      both made (Ok (Known w)) p' q' = λ cell.
+          let c = context_of a.frame made s in
+          let u = as_p f2 v 0 in
+          Adds-and_then (g c) (λ o. gives (k o c)) (p' 0) (subst (λ (o : W). Adds y z (gives o) (as_q f3 w cell)) (same c u (λ n. (p' n).value_is ∙ sym (p' 0).value_is)) (q' cell))
+      both made (Ok (DontKnowYet head)) p' q' = tt
+      both made (Err m) p' q' = tt
 
 module _ {T U V W : Type 0} {a b d : State} {x y z : Notes} {f1 f2 f3 : Flows} {s : Site} {P : Frame → Flows → T → Type 0} {Q : Frame → Flows → U → Type 0} {as_p : Flows → T → (cell : ℕ) → V} {as_q : Flows → U → (cell : ℕ) → W} (g : Context → Gives V) (h : V → Context → Gives W) where
   -- one flowing after another, where the second is the whole's

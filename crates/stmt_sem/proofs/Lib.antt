@@ -7,7 +7,6 @@ pub mod StatementLengths
 pub mod BlockLengths
 pub mod LengthLaw
 pub mod ActionCases
-pub mod LoopFlows
 pub mod LoopCases
 pub mod FlowsKept
 pub mod FlowsPushed

@@ -11,13 +11,13 @@ pub mod Heights
 pub mod Tokens
 pub mod Lengths
 pub mod Plain
-pub mod LoopParts
 pub mod FlowNodes
 pub mod Flowings
 pub mod FlowSizes
 pub mod FlowPieces
 pub mod Places
 pub mod Stands
+pub mod Turns
 pub mod StatementParts
 pub mod Taken
 pub mod Stated

@@ -1,19 +1,18 @@
 //! What of a statement is refused, as a diagnostic at a token.
-ghost use Rattle.std.specs.Prelude.{◌≡◌, List, None, IfOk, OnErr};
+ghost use Rattle.std.specs.Prelude.{◌≡◌, List, IfOk, OnErr, pos};
 ghost use Rattle.m2_base.specs.Diagnostics.{code_of};
 ghost use Rattle.m2_base.specs.Noting.{IsRefused};
 ghost use Rattle.m2_base.specs.Standard.{broken};
 ghost use Rattle.m2_base.specs.States.{State};
 ghost use Rattle.m2_base.specs.Statics.Contexts.{refuse as spec_refuse};
 ghost use Rattle.type_rules.specs.Scenes.{IsThere};
-ghost use Rattle.expr_sem.specs.Coded.{in_error};
-ghost use Rattle.expr_sem.specs.Codings.{Coding, IsCoded, IsFragment, coded_in};
+ghost use Rattle.expr_sem.specs.Codings.{Coding, IsFragment};
 ghost use Rattle.expr_sem.specs.Fragments.{part};
 ghost use Rattle.expr_sem.specs.Parts.{none};
 ghost use Rattle.expr_sem.specs.declared.fragments.Node.{Node};
 ghost use Rattle.stmt_sem.specs.Plain.{IsStep, IsType, itself};
 
-use expr_sem::{Coded, Fragment};
+use expr_sem::Fragment;
 use m2_base::{Ask, Diagnostic, Memory, Notes, Place, Site};
 use type_rules::BROKEN;
 
@@ -39,19 +38,6 @@ pub fn refused_code(
     Ok(Ask::Known(Fragment::Nothing))
 }
 
-/// Notes a diagnostic at a token; what is refused is in error.
-pub fn refused_operand(
-    site: &Site,
-    at: u32,
-    refusal: Diagnostic,
-    notes: &mut Notes,
-) -> Result<Ask<Coded>, Memory>
-    ensures { (state : State) (nodes : List Node) → Coding state state notes.old notes.new nodes nodes site.now result IsCoded coded_in (λ c. spec_refuse c at (code_of refusal) in_error) }
-{
-    noted(site, at, refusal, notes)?;
-    Ok(Ask::Known(Coded::in_error()))
-}
-
 /// Notes a diagnostic at a token; the type is that of parts in error.
 pub fn refused_type(
     site: &Site,
@@ -65,15 +51,15 @@ pub fn refused_type(
     Ok(Ask::Known(BROKEN))
 }
 
-/// Notes a diagnostic at a token; there is no step.
+/// Notes a diagnostic at a token; the step is 1.
 pub fn refused_step(
     site: &Site,
     at: u32,
     refusal: Diagnostic,
     notes: &mut Notes,
-) -> Result<Ask<Option<i64>>, Memory>
-    ensures { (state : State) (nodes : List Node) → Coding state state notes.old notes.new nodes nodes site.now result IsStep itself (λ c. spec_refuse c at (code_of refusal) None) }
+) -> Result<Ask<i64>, Memory>
+    ensures { (state : State) (nodes : List Node) → Coding state state notes.old notes.new nodes nodes site.now result IsStep itself (λ c. spec_refuse c at (code_of refusal) (pos 1)) }
 {
     noted(site, at, refusal, notes)?;
-    Ok(Ask::Known(None))
+    Ok(Ask::Known(1))
 }

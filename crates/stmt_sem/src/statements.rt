@@ -16,13 +16,15 @@ ghost use Rattle.stmt_sem.specs.Stated.{AreArms, AreFlows, IsArm, IsCase, IsOthe
 ghost use Rattle.stmt_sem.specs.StatementParts.{case_of as spec_case, form_of, otherwise as spec_otherwise, statements_onto, with_body as spec_with};
 ghost use Rattle.stmt_sem.specs.Statements.{arm_flow, arms_flow, case_flow, cases_flow, else_flow, flow_of, statement_flow};
 
-use crate::flow_parts::{answered, case_made, for_made, opened, with_made};
+use crate::control_variables::control_variable;
+use crate::counting::{Count, check_bound, check_step, emit_for};
+use crate::flow_parts::{answered, case_made, opened, with_made};
 use crate::flows::{Arm, Code, Flow, Flows};
 use crate::simple_statements::{
     assign_statement, called_statement, exit_statement, no_case_else, return_statement,
 };
 use crate::stands::Stand;
-use crate::statement_parts::{Limits, for_parts, record_of, selector, test};
+use crate::statement_parts::{record_of, selector, test};
 use case_labels::{Covered, case_labels};
 use const_eval::is_bad;
 use expr_sem::{Coded, Fragment};
@@ -37,6 +39,15 @@ use type_rules::operand_type;
 struct OneCase {
     arm: Arm,
     covered: Covered,
+}
+
+/// What a FOR has before its statements.
+#[derive(Clone, Copy)]
+struct ForHead<'a> {
+    name: Ident,
+    first: &'a Expr,
+    last: &'a Expr,
+    by: &'a Option<Expr>,
 }
 
 /// A statement.
@@ -84,8 +95,13 @@ pub fn statement<S: Scopes>(
             by,
             body,
         } => {
-            let limits = Limits { first, last, by };
-            for_statement(scopes, site, stand, *name, &limits, body, flows, notes)
+            let head = ForHead {
+                name: *name,
+                first,
+                last,
+                by,
+            };
+            for_statement(scopes, site, stand, &head, body, flows, notes)
         }
         StmtForm::With { of, body } => {
             with_statement(scopes, site, stand, of, body, flows, notes)
@@ -459,8 +475,7 @@ fn for_statement<S: Scopes>(
     scopes: &mut S,
     site: &Site,
     stand: &Stand,
-    name: Ident,
-    limits: &Limits,
+    head: &ForHead,
     body: &[Statement],
     flows: &mut Flows,
     notes: &mut Notes,
@@ -469,17 +484,27 @@ fn for_statement<S: Scopes>(
     requires item { site.now.item ≡ None }
     requires stand { IsStand (S.state scopes.old).frame stand.now }
     requires sound { AreSound flows.old }
-    requires name { name.name ≢ 0 }
-    requires first { IsReadExpr site.now.texts.now.names (expr_view limits.now.first.now) }
-    requires last { IsReadExpr site.now.texts.now.names (expr_view limits.now.last.now) }
-    requires by { IsReadExprOption site.now.texts.now.names (option_map expr_view limits.now.by.now) }
+    requires name { head.now.name.name ≢ 0 }
+    requires first { IsReadExpr site.now.texts.now.names (expr_view head.now.first.now) }
+    requires last { IsReadExpr site.now.texts.now.names (expr_view head.now.last.now) }
+    requires by { IsReadExprOption site.now.texts.now.names (option_map expr_view head.now.by.now) }
     requires read { AreReadStatements site.now.texts.now.names (spec_list (map statement_view body.now)) }
-    ensures { Flowing (S.state scopes.old) (S.state scopes.new) notes.old notes.new flows.old flows.new site.now result IsFlow flow_in (λ c. form_of (stand_in c stand.now) (for_form name (expr_view limits.now.first.now) (expr_view limits.now.last.now) (option_map expr_view limits.now.by.now) (spec_list (map statement_view body.now)))) }
+    ensures { Flowing (S.state scopes.old) (S.state scopes.new) notes.old notes.new flows.old flows.new site.now result IsFlow flow_in (λ c. form_of (stand_in c stand.now) (for_form head.now.name (expr_view head.now.first.now) (expr_view head.now.last.now) (option_map expr_view head.now.by.now) (spec_list (map statement_view body.now)))) }
 {
     let fragments = &mut flows.fragments;
-    let (parts, by) = analysed!(for_parts(scopes, site, stand, name, limits, fragments, notes));
+    let withs = stand.withs;
+    let x = analysed!(control_variable(scopes, site, withs, head.name, fragments, notes));
+    let first = analysed!(check_bound(scopes, site, stand, x, head.first, fragments, notes));
+    let last = analysed!(check_bound(scopes, site, stand, x, head.last, fragments, notes));
+    let by = analysed!(check_step(scopes, site, head.by, notes));
     let inner = analysed!(statements(scopes, site, stand, body, flows, notes));
-    answered(for_made(parts, by, inner, flows))
+    let count = Count {
+        variable: x,
+        first,
+        last,
+        by,
+    };
+    emit_for(scopes, site, &count, inner, flows)
 }
 
 /// The statements in a WITH of this record.
