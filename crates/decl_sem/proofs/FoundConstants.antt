@@ -30,7 +30,7 @@ use Rattle.m2_base.specs.declared.rows.Place.{Place}
 use Rattle.m2_base.specs.declared.rows.Row.{Row}
 use Rattle.m2_base.specs.declared.rows.RowMeaning.TheVariants.{Broken}
 use Rattle.m2_base.specs.declared.sites.Site.{Site}
-use Rattle.m2_base.proofs.Kept.{Each-append}
+use Rattle.m2_base.proofs.EachLaws.{each_append}
 use Rattle.type_rules.specs.Scenes.{AreInHand, Hand, rows_of, scene_of}
 use Rattle.type_rules.specs.Sites.{context_of}
 use Rattle.decl_sem.specs.Brought.{brings_new}
@@ -76,12 +76,12 @@ names_differ name (m ∷ members) h = go (m.name == name) refl h (λ e. names_di
 
 differ_more : (members : List Member) (m : Member) → Differ members → Each (λ (k : Member). m.name ≢ k.name) members → Differ (members ++ m ∷ [])
 differ_more [] m h others = (tt, tt)
-differ_more (k ∷ members) m h others = (Each-append (λ (j : Member). j.name ≢ k.name) members (m ∷ []) h.0 (others.0, tt), differ_more members m h.1 others.1)
+differ_more (k ∷ members) m h others = (each_append (λ (j : Member). j.name ≢ k.name) members (m ∷ []) h.0 (others.0, tt), differ_more members m h.1 others.1)
 
 new_more : (f : Frame) (s : Site) (made : Made) (members : List Member) (m : Member) → AreNewMembers f s made members → IsNewMember f s (next_ordinal made) m → list_any (λ k. k.name == m.name) members ≡ false → AreNewMembers f s made (members ++ m ∷ [])
 new_more f s made members m h is other =
     record {
-      each = Each-append (IsNewMember f s (next_ordinal made)) members (m ∷ []) h.each (is, tt);
+      each = each_append (IsNewMember f s (next_ordinal made)) members (m ∷ []) h.each (is, tt);
       differ = differ_more members m h.differ (names_differ m.name members other);
     }
 

@@ -25,7 +25,8 @@ use Rattle.m2_base.specs.declared.replies.Head.{Head}
 use Rattle.m2_base.specs.declared.rows.Row.{Row}
 use Rattle.m2_base.specs.declared.sites.Named.{Named}
 use Rattle.m2_base.specs.declared.sites.Site.{Site}
-use Rattle.m2_base.proofs.Kept.{Each-map, Keeps-refl}
+use Rattle.m2_base.proofs.EachLaws.{each_then}
+use Rattle.m2_base.proofs.Kept.{Keeps-refl}
 use Rattle.type_rules.specs.Scenes.{NamesNoType}
 use Rattle.type_rules.specs.Sites.{context_of}
 use Rattle.decl_sem.specs.DeclaredItems.{DeclaresItem}
@@ -66,7 +67,7 @@ module _ {f : Frame} {s : Site} {stream : Stream} {x : items.Item} {cell procedu
   brought_next =
       let e = at.of_each in
       before_all s.layout.now.brought (length at.before + 1)
-      (Each-map (λ b. b.item < length at.brought) (λ b. b.item < length at.before + 1) s.layout.now.brought (λ b h. omega (arith, e, h)) at.layout.earlier)
+      (each_then (λ b. b.item < length at.brought) (λ b. b.item < length at.before + 1) s.layout.now.brought (λ b h. omega (arith, e, h)) at.layout.earlier)
 
   -- the first ordinal of the item by the layout
   first_is : (first : ℕ) → IfSome s.item (λ item. first_row s.layout.now item ≡ Some first) → first ≡ rows_of at.before + length s.layout.now.brought
@@ -103,7 +104,7 @@ module _ {f : Frame} {s : Site} {stream : Stream} {x : items.Item} {cell procedu
   old_here : (first : ℕ) → first ≡ rows_of at.before + length s.layout.now.brought → Each (λ b. b.ordinal < first) s.layout.now.brought
   old_here first e =
       let r = rows_here in
-      Each-map (λ b. b.ordinal < length (laid_shapes at.before at.brought)) (λ b. b.ordinal < first) s.layout.now.brought (λ b h. omega (arith, e, r, h))
+      each_then (λ b. b.ordinal < length (laid_shapes at.before at.brought)) (λ b. b.ordinal < first) s.layout.now.brought (λ b h. omega (arith, e, r, h))
       (brought_behind at.layout at.before at.rest x at.items at.of_each)
 
   ahead_here : IsAhead s.layout.now f.entered (item_shapes x)
@@ -158,7 +159,7 @@ module _ {f : Frame} {s : Site} {stream : Stream} {x : items.Item} {cell procedu
         (subst (λ (n : ℕ). AreLaid s.layout.now n (item_shapes x) grown.own) start grown.laid) (laid-length grown.laid) grown.of_names
 
     pub of_here : Each (λ (n : Named). s.item ≡ Some n.item) b
-    of_here = Each-map (λ (n : Named). n.item ≡ length at.before) (λ (n : Named). s.item ≡ Some n.item) b (λ n e. at.item ∙ ap (λ (k : ℕ). Some k) (sym e))
+    of_here = each_then (λ (n : Named). n.item ≡ length at.before) (λ (n : Named). s.item ≡ Some n.item) b (λ n e. at.item ∙ ap (λ (k : ℕ). Some k) (sym e))
         (new_items s.layout.now (length at.before) (next_ordinal x0 + length (item_shapes x)) (next_ordinal x0 + length (item_shapes x)) b named_here)
 
     pub next_here : BringsIts x b → (brought : List (List Named)) → s.item ≡ Some (length brought) → IsLayoutAt s.layout.now stream brought → IsLayoutAt (extended s.layout.now b) stream (brought ++ b ∷ [])

@@ -22,7 +22,7 @@ use crate::looking::look_up;
 use crate::rows::row_at;
 use m2_base::{
     Answer, Around, Ask, Diagnostic, Memory, Notes, Place, Row, RowMeaning, Scopes, Site, Texts,
-    read_row, standard_rows,
+    read_row, standard_row,
 };
 
 /// A row with its place.
@@ -250,11 +250,11 @@ fn standard_entry(name: u32) -> Entry
     ensures place { result.0 ≡ standard_place name }
     ensures row { slice_get spec_rows (name + 10) ≡ Some result.1 }
 {
-    let ordinal = name + 10;
-    (
-        Place { scope: 0, ordinal },
-        standard_rows()[ordinal as usize],
-    )
+    let place = Place {
+        scope: 0,
+        ordinal: name + 10,
+    };
+    (place, standard_row(name))
 }
 
 /// What a name stands for where it is used at a token, with the place of its row; none with a diagnostic. A name after a
