@@ -3,9 +3,11 @@ mod BlockLimitChecks
 mod BroughtLaws
 pub mod ChainLaws
 pub mod EachLaws
+pub mod FieldRows
 pub mod FinishedLaws
 pub mod ImportLaws
 pub mod Kept
+pub mod KeyLaws
 pub mod KindTables
 pub mod LoneModules
 mod NameTexts

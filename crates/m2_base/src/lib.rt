@@ -50,7 +50,7 @@ pub use notes::{Answer, Diag, Notes};
 pub use operands::{FoldKind, Operand};
 pub use outputs::{HeadingNote, Output, ProcCode, StreamFault};
 pub use replies::{Ask, Chain, Head, Reply};
-pub use rows::{Mode, Place, Row, RowMeaning, read_row, write_row};
+pub use rows::{Mode, Place, Row, RowKey, RowMeaning, has_key, read_row, row_key, write_row};
 pub use scopes::Scopes;
 pub use sites::{Around, Layout, Named, Site};
 pub use standard::{standard_row, standard_rows};

@@ -1,6 +1,6 @@
 //! Handles on one table.
 ghost use Rattle.std.specs.Prelude.{◌≡◌, ◌≢◌, ◌<◌, [], Some};
-ghost use Rattle.m2_base.specs.Scopes.{CanSearch, Searched, CanFetch, Fetched, CanEnter, Entered, CanComplete, Completed};
+ghost use Rattle.m2_base.specs.Scopes.{CanSearch, Searched, CanFetch, Fetched, Selected, CanEnter, Entered, CanComplete, Completed};
 ghost use Rattle.m2_base.specs.States.{IsSound, fills_of};
 ghost use Rattle.scope_core.specs.Fronts.{ShowsFront};
 ghost use Rattle.scope_table.specs.Rule.{texts_in};
@@ -91,6 +91,10 @@ impl<'t, J: OfTable> Scopes for TableScopes<'t, J> {
 
     fn fetch(&mut self, at: u32, place: Place) -> Ask<Option<Row>> {
         self.scopes.fetch(at, place)
+    }
+
+    fn select(&mut self, of: Place, name: u32) -> Ask<Option<(u32, Row)>> {
+        self.scopes.select(of, name)
     }
 
     fn enter(&mut self, rows: &[Row]) {

@@ -3,7 +3,7 @@ use Rattle.std.specs.Prelude.{find}
 use Rattle.m2_base.specs.Statics.TypeParts.{is_field, rows_between}
 use Rattle.type_rules.specs.Asks.{Reads}
 use Rattle.type_rules.specs.Scenes.{WhereTold, scene_of}
-use Rattle.type_rules.proofs.members.field_among.Given as goal
+use Rattle.type_rules.proofs.members.walk_to_field.Given as goal
 
 -- the field is that among the rows that are left
 abbrev pub invariant-loop-ordinal : goal.invariant-loop-ordinal
