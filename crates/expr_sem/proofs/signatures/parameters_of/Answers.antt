@@ -4,7 +4,7 @@ use Rattle.m2_base.specs.Statics.TypeParts as parts
 use Rattle.type_rules.specs.Forms.{parameters_from}
 use Rattle.type_rules.specs.Scenes.{scene_of}
 use Rattle.type_rules.proofs.Reading.{Reads-trans}
-use Rattle.expr_sem.specs.ArgumentFits.{parameter_view}
+use Rattle.expr_sem.specs.ArgumentCodes.{parameter_view}
 use Rattle.m2_base.specs.Lists.{Each}
 use Rattle.m2_base.proofs.EachLaws.{each_append}
 use Rattle.type_rules.specs.Forms.{parameters_by}

@@ -2,11 +2,11 @@ use Rattle.std.proofs.Common.{None, Ok, refl}
 use Rattle.m2_base.specs.Gives.{gives}
 use Rattle.m2_base.specs.Statics.Contexts.{refuse}
 use Rattle.m2_base.specs.declared.replies.Ask.TheVariants.{Known}
-use Rattle.expr_sem.specs.ArgumentFits.{IsArgument, argument_in}
+use Rattle.expr_sem.specs.ArgumentCodes.{IsArgument, argument_in}
 use Rattle.expr_sem.specs.Coded.{in_error}
 use Rattle.m2_base.specs.Diagnostics.{code_of}
 use Rattle.expr_sem.proofs.Operating.{coding_after, unknown, unmade, value_alone}
-use Rattle.expr_sem.proofs.arguments.refused_argument.Goals as goal
+use Rattle.expr_sem.proofs.arguments.refuse_argument.Goals as goal
 
 pub returns-in-DontKnowYet : goal.returns-in-DontKnowYet
 returns-in-DontKnowYet c state nodes = unknown (rw c.in-DontKnowYet.is at c.in-Ok.ensures state nodes)

@@ -7,7 +7,7 @@ use Rattle.expr_sem.specs.Fragments.{IsMade, part}
 use Rattle.expr_sem.specs.Parts.{plain, ◌⨟◌}
 use Rattle.expr_sem.proofs.Selecting.{made_full}
 use Rattle.expr_sem.proofs.Sequencing.{Grows-refl, then_rest}
-use Rattle.expr_sem.proofs.arguments.string_passed.Goals as goal
+use Rattle.expr_sem.proofs.arguments.push_string.Goals as goal
 
 pub returns-in_err-address : goal.returns-in_err-address
 returns-in_err-address c source same = made_full c.from_residual.result c.from_residual.ensures.0 (c.in_err-address.ensures source same) (Grows-refl c.args.fragments.now.nodes.items)
