@@ -15,7 +15,7 @@ use Rattle.m2_base.specs.declared.notes.Answer.{Answer}
 use Rattle.m2_base.specs.declared.operands.Operand.TheVariants.{Computed, Constant, InError, ModuleName, NamedType, NotConstant, Procedure, StandardProcedure, StringConstant, Variable}
 use Rattle.m2_base.specs.declared.operands.Operand.{Operand}
 use Rattle.m2_base.specs.declared.sites.Named.{Named}
-use Rattle.m2_base.proofs.Kept.{Each-append}
+use Rattle.m2_base.proofs.EachLaws.{each_append}
 use Rattle.const_eval.specs.Causes.{IsSoundUse, used_operand}
 use Rattle.const_eval.proofs.RefusedSteps.{IsError, QuietOr, quiet, wrong}
 use Rattle.const_eval.proofs.Silent.{IsSilent, silent}
@@ -39,7 +39,7 @@ sound-unless c W g (spoilt w) right = absurd (right w)
 pub sound-then : (c : Context) {A B : Type 0} (V : A → Type 0) (W : B → Type 0) (a : Gives A) (f : A → Gives B) → SoundOr c V a
     → (V a.value → W (f a.value).value) → SoundOr c W (f a.value) → SoundOr c W (and_then a f)
 sound-then c V W a f (sound p s) kept (sound q r) =
-    sound (ap (λ l. l ++ (f a.value).diags) p ∙ q) (Each-append (IsSoundUse c.scene) a.answers (f a.value).answers s r)
+    sound (ap (λ l. l ++ (f a.value).diags) p ∙ q) (each_append (IsSoundUse c.scene) a.answers (f a.value).answers s r)
 sound-then c V W a f (sound p s) kept (spoilt w) = spoilt w
 sound-then c V W a f (spoilt v) kept q = spoilt (kept v)
 

@@ -10,7 +10,7 @@ use Rattle.m2_base.specs.Statics.Lookup.{brought_before, entry_named, entry_or, 
 use Rattle.m2_base.specs.Statics.Shapes.{Shape, arm_shapes, arms_shapes, array_shapes, field_shapes, fields_shapes, form_shapes, formal_shapes, item_shapes, named, nameless, open_shapes, own_section_shapes, section_shapes, tag_shapes, type_item_shapes, type_shapes, types_shapes}
 use Rattle.m2_base.specs.Trees.{Decl, const_decl, proc_decl, type_decl, vars_decl, FieldList, FieldLists, Formal, Heading, Ident, Import, Qual, Section, Stream, TypeExpr, TypeExprs, TypeForm, VariantArm, VariantArms, array_type, case_fields, enum_type, more_fields, more_types, more_variant_arms, named_type, no_fields, no_types, no_variant_arms, plain_fields, pointer_type, proc_type, record_type, set_type, sub_type, type_expr, variant_arm}
 use Rattle.m2_base.specs.declared.sites.Named.{Named}
-use Rattle.m2_base.proofs.Kept.{Each-append, Each-map}
+use Rattle.m2_base.proofs.EachLaws.{each_append, each_then}
 use Rattle.decl_sem.specs.Pieces.{AreAliasesBefore}
 use Rattle.decl_sem.proofs.FirstOrdinals.{before_few, early_entry, entry_of, of_item, rows_of}
 
@@ -21,7 +21,7 @@ abbrev IsOfType : Shape → Type 0
 IsOfType s = (s.kind ≡ const_kind) ⊎ (field_kind ≤ s.kind)
 
 both : (xs ys : List Shape) → Each IsOfType xs → Each IsOfType ys → Each IsOfType (xs ++ ys)
-both xs ys h k = Each-append IsOfType xs ys h k
+both xs ys h k = each_append IsOfType xs ys h k
 
 many : {X : Type 0} (k : ℕ) (at : X → ℕ) → field_kind ≤ k → (xs : List X) → Each IsOfType (map (λ x. nameless k (at x)) xs)
 many k at h [] = tt
@@ -94,7 +94,7 @@ no_alias s (inl k) e = let a : s.kind ≡ const_kind = k in let b : s.kind ≡ a
 no_alias s (inr k) e = let b : s.kind ≡ alias_kind = e in absurd (omega (arith, k, b))
 
 of_type : (xs : List Shape) → Each IsOfType xs → Each IsNoAlias xs
-of_type xs h = Each-map IsOfType IsNoAlias xs no_alias h
+of_type xs h = each_then IsOfType IsNoAlias xs no_alias h
 
 other : (k : ℕ) (i : Ident) → k ≢ alias_kind → Each IsNoAlias (named k i ∷ [])
 other k i h = (h, tt)
@@ -117,11 +117,11 @@ type_items name (Some t) = types t
 declared : (d : Decl) → Each IsNoAlias (item_shapes (decl_item d))
 declared (const_decl name value) = other const_kind name (λ e. let h : const_kind ≡ alias_kind = e in absurd (omega (arith, h)))
 declared (type_decl name typ) =
-    Each-append IsNoAlias (type_item_shapes name typ) (named type_name_kind name ∷ []) (of_type (type_item_shapes name typ) (type_items name typ))
+    each_append IsNoAlias (type_item_shapes name typ) (named type_name_kind name ∷ []) (of_type (type_item_shapes name typ) (type_items name typ))
     (other type_name_kind name (λ e. let h : type_name_kind ≡ alias_kind = e in absurd (omega (arith, h))))
-declared (vars_decl names typ) = Each-append IsNoAlias (type_shapes typ) (map (named var_kind) names) (of_type (type_shapes typ) (types typ)) (variables names)
+declared (vars_decl names typ) = each_append IsNoAlias (type_shapes typ) (map (named var_kind) names) (of_type (type_shapes typ) (types typ)) (variables names)
 declared (proc_decl h stream) =
-    Each-append IsNoAlias (flat_map section_shapes h.sections) (nameless proc_type_kind h.name.at ∷ named proc_kind h.name ∷ []) (of_type (flat_map section_shapes h.sections) (parameters h.sections))
+    each_append IsNoAlias (flat_map section_shapes h.sections) (nameless proc_type_kind h.name.at ∷ named proc_kind h.name ∷ []) (of_type (flat_map section_shapes h.sections) (parameters h.sections))
     ((λ e. let k : proc_type_kind ≡ alias_kind = e in absurd (omega (arith, k))), other proc_kind h.name (λ e. let k : proc_kind ≡ alias_kind = e in absurd (omega (arith, k))))
 
 -- ** The items of aliases
@@ -143,15 +143,15 @@ IsAliasBefore item n = n.kind ≡ alias_kind → n.item < item
 no_aliases : (item : ℕ) (decls : List Decl) (i o : ℕ) → Each (IsAliasBefore item) (names_from i o (map decl_item decls))
 no_aliases item [] i o = tt
 no_aliases item (d ∷ decls) i o =
-    Each-append (IsAliasBefore item) (names_of_item i o (item_shapes (decl_item d))) (names_from (i + 1) (o + length (item_shapes (decl_item d))) (map decl_item decls))
-    (Each-map (λ n. n.kind ≢ alias_kind) (IsAliasBefore item) (names_of_item i o (item_shapes (decl_item d))) (λ n h e. absurd (h e)) (kinds_of_item i o (item_shapes (decl_item d)) (declared d)))
+    each_append (IsAliasBefore item) (names_of_item i o (item_shapes (decl_item d))) (names_from (i + 1) (o + length (item_shapes (decl_item d))) (map decl_item decls))
+    (each_then (λ n. n.kind ≢ alias_kind) (IsAliasBefore item) (names_of_item i o (item_shapes (decl_item d))) (λ n h e. absurd (h e)) (kinds_of_item i o (item_shapes (decl_item d)) (declared d)))
     (no_aliases item decls (i + 1) (o + length (item_shapes (decl_item d))))
 
 imported : (front : List Item) (decls : List Decl) (i o : ℕ) → Each (IsAliasBefore (i + length front)) (names_from i o (front ++ map decl_item decls))
 imported [] decls i o = no_aliases (i + 0) decls i o
 imported (x ∷ front) decls i o =
     let n : i + 1 + length front ≡ i + length (x ∷ front) = omega arith in
-    Each-append (IsAliasBefore (i + length (x ∷ front))) (names_of_item i o (item_shapes x)) (names_from (i + 1) (o + length (item_shapes x)) (front ++ map decl_item decls))
+    each_append (IsAliasBefore (i + length (x ∷ front))) (names_of_item i o (item_shapes x)) (names_from (i + 1) (o + length (item_shapes x)) (front ++ map decl_item decls))
     (of_item (IsAliasBefore (i + length (x ∷ front))) i o (item_shapes x) (λ name m kind at p k e. omega arith))
     (subst (λ (k : ℕ). Each (IsAliasBefore k) (names_from (i + 1) (o + length (item_shapes x)) (front ++ map decl_item decls))) n (imported front decls (i + 1) (o + length (item_shapes x))))
 
@@ -182,8 +182,8 @@ own_variables (i ∷ names) = ((λ e. let h : var_kind ≡ pointer_kind = e in a
 own_parameters : (sections : List Section) → Each IsNoPointer (flat_map own_section_shapes sections)
 own_parameters [] = tt
 own_parameters (s ∷ sections) =
-    Each-append IsNoPointer (own_section_shapes s) (flat_map own_section_shapes sections)
-    (Each-append IsNoPointer (open_shapes s.is_open s.of) (map (named var_kind) s.names) (own_open s.is_open s.of) (own_variables s.names)) (own_parameters sections)
+    each_append IsNoPointer (own_section_shapes s) (flat_map own_section_shapes sections)
+    (each_append IsNoPointer (open_shapes s.is_open s.of) (map (named var_kind) s.names) (own_open s.is_open s.of) (own_variables s.names)) (own_parameters sections)
 
 of_import : (from : Option Ident) (name : Ident) → Each IsNoPointer (item_shapes (import_item from name))
 of_import None name = ((λ e. let h : module_kind ≡ pointer_kind = e in absurd (omega (arith, h))), tt)
@@ -209,7 +209,7 @@ of_names from (n ∷ names) = ((λ h. h), of_names from names)
 
 of_imports : (imports : List Import) → Each (λ y. IsDeclaration y → ⊥) (flat_map import_items imports)
 of_imports [] = tt
-of_imports (i ∷ imports) = Each-append (λ y. IsDeclaration y → ⊥) (import_items i) (flat_map import_items imports) (of_names i.from i.names) (of_imports imports)
+of_imports (i ∷ imports) = each_append (λ y. IsDeclaration y → ⊥) (import_items i) (flat_map import_items imports) (of_names i.from i.names) (of_imports imports)
 
 of_heading : (h : Option Heading) → Each (λ y. IsDeclaration y → ⊥) (heading_items h)
 of_heading None = tt
@@ -224,7 +224,7 @@ module _ (s : Stream) (before rest : List Item) (x : Item) (items : items_of s �
   front_within : length front ≤ length before
   front_within =
       front_is_before front (map decl_item s.decls) before rest x items
-      (Each-append (λ y. IsDeclaration y → ⊥) (heading_items s.heading) (flat_map import_items s.imports) (of_heading s.heading) (of_imports s.imports)) is
+      (each_append (λ y. IsDeclaration y → ⊥) (heading_items s.heading) (flat_map import_items s.imports) (of_heading s.heading) (of_imports s.imports)) is
 
   all_before : Each (IsAliasBefore (0 + length front)) (names_from 0 0 (before ++ x ∷ rest))
   all_before = subst (λ (xs : List Item). Each (IsAliasBefore (0 + length front)) (names_from 0 0 xs)) items (imported front s.decls 0 0)

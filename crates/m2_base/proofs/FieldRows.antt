@@ -24,7 +24,7 @@ use Rattle.m2_base.specs.Trees.{FieldList, FieldLists, Formal, Ident, Qual, Sect
 use Rattle.m2_base.specs.Units.{UnitTexts}
 use Rattle.m2_base.proofs.ItemLaws.{item_of}
 use Rattle.m2_base.proofs.KeyLaws.{IsPlain}
-use Rattle.m2_base.proofs.Kept.{Each-append}
+use Rattle.m2_base.proofs.EachLaws.{each_append}
 
 -- ** Shapes
 
@@ -183,8 +183,8 @@ items_plain [] c kind i cell = tt
 items_plain (x ∷ items) c kind i cell =
     let e = declare (at_item c i) kind x cell in
     let es = declare_items (brought_in (with_rows c e.rows) e.value.brought) kind (i + 1) e.value.cell items in
-    Each-append IsPlain e.rows (es.rows ++ []) (declared_item_plain x (at_item c i) kind cell)
-    (Each-append IsPlain es.rows [] (items_plain items _ kind (i + 1) _) tt)
+    each_append IsPlain e.rows (es.rows ++ []) (declared_item_plain x (at_item c i) kind cell)
+    (each_append IsPlain es.rows [] (items_plain items _ kind (i + 1) _) tt)
 
 block_plain : (source : Source) (tables : List (List Row)) (b : BlockTree) → Each IsPlain (declare_block source tables b).rows
 unfolding declare_block
@@ -194,7 +194,7 @@ unit_plain : (source : Source) (blocks : List BlockTree) (tables : List (List Ro
 unit_plain source [] tables h = h
 unit_plain source (b ∷ blocks) tables h =
     unit_plain source blocks (tables ++ (declare_block source tables b).rows ∷ [])
-    (Each-append (Each IsPlain) tables _ h (block_plain source tables b, tt))
+    (each_append (Each IsPlain) tables _ h (block_plain source tables b, tt))
 
 -- the test of it
 are_plain : List Row → Bool
