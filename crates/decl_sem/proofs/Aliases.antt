@@ -8,8 +8,11 @@ use Rattle.m2_base.specs.Statics.Items.{Item, const_item, decl_item, heading_ite
 use Rattle.m2_base.specs.Statics.Layouts.{names_from, names_of_item}
 use Rattle.m2_base.specs.Statics.Lookup.{brought_before, entry_named, entry_or, moved}
 use Rattle.m2_base.specs.Statics.Shapes.{Shape, arm_shapes, arms_shapes, array_shapes, field_shapes, fields_shapes, form_shapes, formal_shapes, item_shapes, named, nameless, open_shapes, own_section_shapes, section_shapes, tag_shapes, type_item_shapes, type_shapes, types_shapes}
-use Rattle.m2_base.specs.Trees.{Decl, const_decl, proc_decl, type_decl, vars_decl, FieldList, FieldLists, Formal, Heading, Ident, Import, Qual, Section, Stream, TypeExpr, TypeExprs, TypeForm, VariantArm, VariantArms, array_type, case_fields, enum_type, more_fields, more_types, more_variant_arms, named_type, no_fields, no_types, no_variant_arms, plain_fields, pointer_type, proc_type, record_type, set_type, sub_type, type_expr, variant_arm}
+use Rattle.m2_base.specs.Trees.{Decl, const_decl, proc_decl, type_decl, vars_decl, FieldList, FieldLists, Heading, Import, Section, Stream, TypeExpr, TypeExprs, TypeForm, VariantArm, VariantArms, array_type, case_fields, enum_type, more_fields, more_types, more_variant_arms, named_type, no_fields, no_types, no_variant_arms, plain_fields, pointer_type, proc_type, record_type, set_type, sub_type, type_expr, variant_arm}
 use Rattle.m2_base.specs.declared.sites.Named.{Named}
+use Rattle.m2_base.specs.declared.trees.Ident.{Ident}
+use Rattle.m2_base.specs.declared.trees.Qual.{Qual}
+use Rattle.m2_base.specs.declared.trees.types.Formal.{Formal}
 use Rattle.m2_base.proofs.EachLaws.{each_append, each_then}
 use Rattle.decl_sem.specs.Pieces.{AreAliasesBefore}
 use Rattle.decl_sem.proofs.FirstOrdinals.{before_few, early_entry, entry_of, of_item, rows_of}
@@ -218,7 +221,7 @@ of_heading (Some h) = ((λ k. k), tt)
 -- ** The aliases of a block
 
 module _ (s : Stream) (before rest : List Item) (x : Item) (items : items_of s ≡ before ++ x ∷ rest) (is : IsDeclaration x) where
-  front : List Item
+  abbrev front : List Item
   front = heading_items s.heading ++ flat_map import_items s.imports
 
   front_within : length front ≤ length before

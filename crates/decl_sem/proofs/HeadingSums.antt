@@ -27,7 +27,7 @@ section_within d =
     n : ℕ
     n = length d.names.items
 
-    go : (b : Bool) → length (section_shapes (section_view d)) ≡ length (open_shapes d.is_open d.of) + length (map (λ i. nameless param_kind i.at) d.names.items) → length (map (λ i. nameless param_kind i.at) d.names.items) ≡ n
+    go : (b : Bool) → length (section_shapes (section_view d)) ≡ length (open_shapes b d.of) + length (map (λ i. nameless param_kind i.at) d.names.items) → length (map (λ i. nameless param_kind i.at) d.names.items) ≡ n
         → (n ≤ length (section_shapes (section_view d))) × ((if b then 2 * n else n) ≤ 2 * length (section_shapes (section_view d)) - 1)
     go true l m = (omega (arith, l, m), omega (arith, l, m))
     go false l m = (omega (arith, l, m), omega (arith, l, m))

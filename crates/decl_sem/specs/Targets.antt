@@ -32,7 +32,7 @@ pub record IsFirst (l : Layout) (n : Named) : Type 0 where
 -- an alias has the kind of an alias
 abbrev pub HasItsKind : Laid → (kind : ℕ) → Type 0
 HasItsKind Alias kind = kind ≡ alias_kind
-HasItsKind other kind = Unit {0}
+HasItsKind _ kind = Unit {0}
 
 -- the target, where there is one
 abbrev pub optional : Option (Gives Place) → Gives (Option Place)

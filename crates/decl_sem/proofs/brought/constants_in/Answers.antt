@@ -15,7 +15,7 @@ loop-ordinal-init g c =
     record {
       reads = Reads-refl a;
       before = c.requires.before;
-      found = found_none a.frame c.args.site.now c.args.made.now (constants_left c.args.of.scope c.ordinals_of.result.0 c.ordinals_of.result.1) c.new-found.result c.new-found.ensures.members c.new-found.ensures.names c.new-found.ensures.hidden;
+      found = found_none a.frame c.args.site.now c.args.made.now (constants_left c.args.of.scope c.ordinals_of-first.result.0 c.ordinals_of-first.result.1) c.new-found.result c.new-found.ensures.members c.new-found.ensures.names c.new-found.ensures.hidden;
     }
 
 pub take_place-requires-clause-making : goal.take_place-requires-clause-making
@@ -40,10 +40,10 @@ pub returns-then-is_full-clause-seen : goal.returns-then-is_full-clause-seen
 returns-then-is_full-clause-seen g c =
     let f = (g.S.Scopes.state c.args.scopes.now).frame in
     let scope = c.args.of.scope in
-    let next = place_taken scope c.ordinals_of.result.0 c.ordinals_of.result.1 c.loop-ordinal.ordinal c.loop-ordinal.found c.take_place.new.found c.loop-ordinal.invariant.reads.keeps.frame c.loop-ordinal-test.true
+    let next = place_taken scope c.ordinals_of-first.result.0 c.ordinals_of-first.result.1 c.loop-ordinal.ordinal c.loop-ordinal.found c.take_place.new.found c.loop-ordinal.invariant.reads.keeps.frame c.loop-ordinal-test.true
     c.loop-ordinal.invariant.found (rw c.in-Known.is at c.in-Ok.ensures.found) in
-    seen_as (constants_left scope c.ordinals_of.result.0 c.ordinals_of.result.1) (λ k. constants_of k.scene (Some (c.args.of, c.args.count))) c.take_place.new.found
-    (λ hand in_hand told same. sym (c.ordinals_of.ensures (context_of f hand c.args.site.now) (few_rows hand c.args.of.scope c.requires.making.suits told c.requires.before)))
+    seen_as (constants_left scope c.ordinals_of-first.result.0 c.ordinals_of-first.result.1) (λ k. constants_of k.scene (Some (c.args.of, c.args.count))) c.take_place.new.found
+    (λ hand in_hand told same. sym (c.ordinals_of-first.ensures (context_of f hand c.args.site.now) (few_rows hand c.args.of.scope c.requires.making.suits told c.requires.before)))
     (seen_enough next (sym c.is_full.ensures ∙ c.if-is_full.true))
 
 pub loop-ordinal-preserved : goal.loop-ordinal-preserved
@@ -51,7 +51,7 @@ loop-ordinal-preserved g c =
     record {
       reads = Reads-trans c.loop-ordinal.invariant.reads c.take_place.ensures.reads;
       before = c.loop-ordinal.invariant.before;
-      found = place_taken c.args.of.scope c.ordinals_of.result.0 c.ordinals_of.result.1 c.loop-ordinal.ordinal c.loop-ordinal.found c.take_place.new.found c.loop-ordinal.invariant.reads.keeps.frame c.loop-ordinal-test.true
+      found = place_taken c.args.of.scope c.ordinals_of-first.result.0 c.ordinals_of-first.result.1 c.loop-ordinal.ordinal c.loop-ordinal.found c.take_place.new.found c.loop-ordinal.invariant.reads.keeps.frame c.loop-ordinal-test.true
           c.loop-ordinal.invariant.found (rw c.in-Known.is at c.in-Ok.ensures.found);
     }
 
@@ -60,6 +60,6 @@ returns-clause-seen g c =
     let f = (g.S.Scopes.state c.args.scopes.now).frame in
     let scope = c.args.of.scope in
     let past = c.loop-ordinal-test.false in
-    seen_as (constants_left scope c.ordinals_of.result.0 c.ordinals_of.result.1) (λ k. constants_of k.scene (Some (c.args.of, c.args.count))) c.loop-ordinal.found
-    (λ hand in_hand told same. sym (c.ordinals_of.ensures (context_of f hand c.args.site.now) (few_rows hand c.args.of.scope c.requires.making.suits told c.requires.before)))
-    (seen_all c.loop-ordinal.invariant.found (λ hand in_hand told same. left_none scope c.loop-ordinal.ordinal c.ordinals_of.result.1 (context_of f hand c.args.site.now) (omega (arith, past))))
+    seen_as (constants_left scope c.ordinals_of-first.result.0 c.ordinals_of-first.result.1) (λ k. constants_of k.scene (Some (c.args.of, c.args.count))) c.loop-ordinal.found
+    (λ hand in_hand told same. sym (c.ordinals_of-first.ensures (context_of f hand c.args.site.now) (few_rows hand c.args.of.scope c.requires.making.suits told c.requires.before)))
+    (seen_all c.loop-ordinal.invariant.found (λ hand in_hand told same. left_none scope c.loop-ordinal.ordinal c.ordinals_of-first.result.1 (context_of f hand c.args.site.now) (omega (arith, past))))

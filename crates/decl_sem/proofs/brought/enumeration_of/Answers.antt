@@ -13,5 +13,5 @@ returns-in-Enum-clause-before g c =
     let f = (g.S.Scopes.state c.args.scopes.now).frame in
     let row = rw c.in-Some.is at c.requires.row in
     let before = rw c.in-Some.is at c.requires.before in
-    let upto = rw c.in-Some-named_type.is at (c.in-Some-named_type.ensures.upto (length f.setting.texts.names) row.said.fits) in
+    let upto = c.in-Some-named_type.ensures.upto (length f.setting.texts.names) row.said.fits in
     omega (arith, before, upto)

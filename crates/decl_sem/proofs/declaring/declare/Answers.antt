@@ -10,8 +10,8 @@ item_rows-requires-clause-making g c =
     let made : Made = record { first = c.in-Some.first; rows = c.new-rows.result; notes = c.new-notes.result } in
     making_begins c.requires made (sym c.first_ordinal.ensures ∙ c.in-Some.is) c.new-rows.ensures
 
-pub prove-unreachable-requires : goal.prove-unreachable-requires
-prove-unreachable-requires g c = has_first c.requires (sym c.first_ordinal.ensures ∙ c.in_default.is)
+pub unreachable-requires : goal.unreachable-requires
+unreachable-requires g c = has_first c.requires (sym c.first_ordinal.ensures ∙ c.in_default.is)
 
 pub returns-in-Ok-Known : goal.returns-in-Ok-Known
 returns-in-Ok-Known g c =
