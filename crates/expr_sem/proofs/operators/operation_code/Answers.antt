@@ -90,7 +90,7 @@ returns-in-And g c notes =
     after_values (λ k. value_code k (with_char k (coded_in ns c.args.x))) (λ k. value_code k (with_char k (coded_in ns c.args.y))) (λ p q k. operation_code k.scene c.args.op c.args.of t p q) c.answered.result first
     (described _ second (λ k. ap (λ u. gives (value_code k (with_char k u))) (coded_later first.grows c.args.y c.requires.y)))
     (made_alone notes c.decide.result c.answered.result (λ k. operation_code k.scene c.args.op c.args.of t (part ls left) (part ls right)) c.answered.ensures c.decide.ensures
-    (λ rows. ap (λ o. operation_code (context_of (g.S.Scopes.state c.args.scopes.now).frame rows c.args.site.now).scene o c.args.of t (part ls left) (part ls right)) (sym c.in-And.is)))
+    (λ rows. ap (λ o. operation_code (context_of (g.S.Scopes.state c.char_value-2.new.scopes).frame rows c.args.site.now).scene o c.args.of t (part ls left) (part ls right)) (sym c.in-And.is)))
 
 pub returns-in-Or : goal.returns-in-Or
 returns-in-Or g c notes =
@@ -104,7 +104,7 @@ returns-in-Or g c notes =
     after_values (λ k. value_code k (with_char k (coded_in ns c.args.x))) (λ k. value_code k (with_char k (coded_in ns c.args.y))) (λ p q k. operation_code k.scene c.args.op c.args.of t p q) c.answered-in-Or.result first
     (described _ second (λ k. ap (λ u. gives (value_code k (with_char k u))) (coded_later first.grows c.args.y c.requires.y)))
     (made_alone notes c.decide-in-Or.result c.answered-in-Or.result (λ k. operation_code k.scene c.args.op c.args.of t (part ls left) (part ls right)) c.answered-in-Or.ensures c.decide-in-Or.ensures
-    (λ rows. ap (λ o. operation_code (context_of (g.S.Scopes.state c.args.scopes.now).frame rows c.args.site.now).scene o c.args.of t (part ls left) (part ls right)) (sym c.in-Or.is)))
+    (λ rows. ap (λ o. operation_code (context_of (g.S.Scopes.state c.char_value-2.new.scopes).frame rows c.args.site.now).scene o c.args.of t (part ls left) (part ls right)) (sym c.in-Or.is)))
 
 pub returns-in-Known-instruction : goal.returns-in-Known-instruction
 returns-in-Known-instruction g c notes =
