@@ -68,7 +68,10 @@ fn selects_by_the_record(rt: HostRuntime) -> Result<(), Fail> {
     assert!(rt; filled.is_some());
     let (one, other) = (field_row(1), field_row(3));
     assert_eq!(rt; field_at(&mut reader, 1, FIRST), Ask::Known(Some((0, one))));
-    assert_eq!(rt; field_at(&mut reader, 3, FIRST), Ask::Known(Some((2, other))));
+    assert_eq!(rt;
+        field_at(&mut reader, 3, FIRST),
+        Ask::Known(Some((2, other)))
+    );
     assert_eq!(rt; field_at(&mut reader, 3, FIRST + 1), Ask::Known(None));
     assert_eq!(rt; field_at(&mut reader, 2, FIRST), Ask::Known(None));
     Ok(())
