@@ -25,6 +25,7 @@ use Rattle.m2_base.specs.declared.rows.Place.{Place}
 use Rattle.m2_base.specs.declared.rows.RowMeaning.{RowMeaning}
 use Rattle.m2_base.specs.Standard.{broken, cardinal, character, integer}
 use Rattle.m2_base.specs.Statics.Assignable.{is_assignable, taken_into}
+use Rattle.m2_base.specs.Statics.Cells.{most_cells}
 use Rattle.m2_base.specs.Statics.Compatible.{is_compatible}
 use Rattle.m2_base.specs.Statics.Contexts.{Context, Scene, level_of, refuse}
 use Rattle.m2_base.specs.Statics.Diagnostics.{not_a_procedure_value, out_of_range, wrong_argument}
@@ -332,7 +333,7 @@ module _ (q : Step → Type 0) (seen : ℕ → Type 0) (cells bytes : ℕ) (c : 
   behind-right : (is : List Instr) (v : Coded) → W v → Each q (map plain_step is) → R (value_code c v ⨟ plain is)
   behind-right is v g e = thn (value_code c v) (plain is) (value-right v g) (all is e)
 
-  count-value : (z : ℤ) → 1 ≤ count_to z → count_to z ≤ 16777215 → IsValue z
+  count-value : (z : ℤ) → 1 ≤ count_to z → count_to z ≤ most_cells → IsValue z
   count-value (pos k) h e = natural-value k (omega (arith, e))
   count-value (negsuc k) h e = absurd (omega (arith, h))
 

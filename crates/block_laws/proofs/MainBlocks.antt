@@ -15,7 +15,7 @@ use Rattle.m2_base.specs.Statics.Declarations.{declare}
 use Rattle.m2_base.specs.Statics.Items.{Item, const_item, decl_item, heading_item, heading_items, import_item, import_items, items_of, proc_item, type_item, vars_item}
 use Rattle.m2_base.specs.Statics.UnitNotes.{complete_context}
 use Rattle.m2_base.specs.Statics.UnitRows.{unit_rows}
-use Rattle.m2_base.proofs.ChainLaws.{each_append}
+use Rattle.m2_base.proofs.EachLaws.{each_append}
 use Rattle.row_laws.specs.RowRanges.{CellsAreThere, EachBlock, IsCopyBelow, IsSoundUnit}
 use Rattle.row_laws.specs.Sight.{LeadsInSight, LeadsTo}
 use Rattle.row_laws.specs.TextTrees.{AreOfTexts, HasTree}

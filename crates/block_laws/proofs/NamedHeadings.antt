@@ -1,7 +1,7 @@
 -- Each procedure that a block without diagnostics declares has a name in its row.
 use Rattle.std.specs.Prelude.{◌≡◌, ◌≢◌, refl, ℕ, ◌+◌, ◌<◌, ◌≤◌, ◌==◌, Bool, true, false, if◌then◌else◌, List, [], ◌∷◌, ◌++◌, flat_map, map, Option, Some, None}
 use Rattle.std.proofs.Common.{ap, subst, sym, ◌∙◌, arith}
-use Rattle.m2_base.proofs.ChainLaws.{each_append}
+use Rattle.m2_base.proofs.EachLaws.{each_append}
 use Rattle.m2_base.proofs.ItemLaws.{item_of, sections_of}
 use Rattle.m2_base.proofs.SoundTypes.{either}
 use Rattle.m2_base.specs.Lists.{Each, IsIn, WhereKept}

@@ -5,7 +5,7 @@ use Rattle.std.proofs.lemmas.Bool.{cases_order}
 use Rattle.code_form.specs.Modules.{Procedure}
 use Rattle.code_form.specs.Valid.{IsValidCode, names_what_is_there}
 use Rattle.expr_sem.specs.Variables.{cell_instr}
-use Rattle.m2_base.proofs.ChainLaws.{each_append}
+use Rattle.m2_base.proofs.EachLaws.{each_append}
 use Rattle.m2_base.specs.Lists.{Each, IsIn}
 use Rattle.m2_base.specs.Statics.BlockRows.{context_of, declare_block, declare_items, first_cell as cell_before, scene_of}
 use Rattle.m2_base.specs.Statics.Blocks.{BlockTree, UnitTrees, blocks_of, home_of}

@@ -1,3 +1,4 @@
+pub mod EveryTree
 pub mod StandingOperands
 pub mod StandingProcedures
 pub mod StandingCalls
@@ -6,14 +7,3 @@ pub mod StandingFlows
 pub mod StandingRows
 pub mod StandingClosings
 pub mod StandingBlocks
-pub mod TextNotes
-pub mod TextOperations
-pub mod TextConstants
-pub mod TextTypes
-pub mod TextItems
-pub mod TextOperands
-pub mod TextProcedures
-pub mod TextCalls
-pub mod TextValues
-pub mod TextFlows
-pub mod TextBlocks

@@ -4,8 +4,8 @@
 //! `specs/Statements`, over `expr_sem`'s `specs/Expressions`), and so is what a whole block notes (its `specs/BlockCode`);
 //! which tokens a tree names, `m2_base`'s `specs/Statics/StandingTrees` tells. There is no code here: the functions do
 //! nothing, and their contracts are the laws, beside that of declarations in `m2_base`. Their lemmas go over operands,
-//! standard procedures, calls, expressions, labels and statements, a file each in `proofs/`: `Standing` by tokens, `Text`
-//! by texts, which go over declarations as well.
+//! standard procedures, calls, expressions, labels and statements, a file each in `proofs/`, and say of the text and of any
+//! places at once that what is noted stands there.
 #![tactic(auto)]
 
 ghost use Rattle.std.specs.Prelude.{◌≡◌, ℕ, ◌<◌, List};

@@ -6,6 +6,7 @@ ghost use Rattle.code_form.specs.Reading.{Reads, number_at, distance_at, value_a
 
 use crate::instr::Instr;
 use crate::table::instructions;
+use m2_base::{GREATEST_CARDINAL, LEAST_INTEGER};
 
 #[inline(always)]
 fn number(bytes: &mut &[u8]) -> Option<u32>
@@ -39,7 +40,7 @@ fn value(bytes: &mut &[u8]) -> Option<i64>
     let number = i64::from_le_bytes([
         front[0], front[1], front[2], front[3], front[4], front[5], front[6], front[7],
     ]);
-    if number < -2147483648 || number > 4294967295 {
+    if number < LEAST_INTEGER || number > GREATEST_CARDINAL {
         return None;
     }
     *bytes = rest;

@@ -1,5 +1,6 @@
 -- What the words of a command line ask for: a verb, and behind it what it is about and the verb's options, in any order.
 use Rattle.std.specs.Prelude.{◌≡◌, ℕ, ◌<◌, ◌≤◌, IsTrue, List, ◌∷◌, Option, Some, None, codes, unwrap_or}
+use Rattle.m2_base.specs.declared.limits.TheConstants.{MOST_PROCEDURES}
 use Rattle.command_words.specs.Names.{is_name}
 use Rattle.command_words.specs.Operands.{procedures_in}
 use Rattle.command_words.specs.Parts.{Given, Gives}
@@ -51,4 +52,4 @@ abbrev pub IsSound : Command → Type 0
 IsSound (compile name workers) = IsTrue (is_name name) × (0 < workers) × (workers ≤ 64)
 IsSound (run name steps cells) = IsTrue (is_name name) × (0 < cells)
 IsSound (dump name) = IsTrue (is_name name)
-IsSound (big procedures workers) = (0 < procedures) × (procedures ≤ 16384) × (0 < workers) × (workers ≤ 64)
+IsSound (big procedures workers) = (0 < procedures) × (procedures ≤ MOST_PROCEDURES) × (0 < workers) × (workers ≤ 64)

@@ -4,12 +4,13 @@ ghost use Rattle.command_words.specs.Operands.{is_operand as spec_operand, proce
 
 use crate::name::is_name;
 use crate::numeral::value_to;
+use m2_base::MOST_PROCEDURES;
 
 /// How many procedures a word gives the big module.
 pub fn procedures_in(word: &str) -> Option<u32>
     ensures { result ≡ spec_procedures word.now }
 {
-    value_to(16_384, word)
+    value_to(MOST_PROCEDURES as u32, word)
 }
 
 /// Whether a word is a module's name, or how many procedures the big module has.

@@ -4,13 +4,16 @@ use Rattle.std.proofs.lemmas.List.{length-map, map-append}
 use Rattle.m2_io.specs.Files.{Files}
 use Rattle.std.specs.Prelude.{nat_eq, not}
 use Rattle.m2_base.specs.Lists.{Each}
-use Rattle.m2_base.specs.Statics.StandingTrees.{AreStandingNames, IsStandingOption}
+use Rattle.m2_base.specs.Statics.Leaves.{NameOptionHas, NamesHave}
+use Rattle.m2_base.specs.Statics.StandingTrees.{IsBelow, Stands}
 use Rattle.m2_base.specs.Units.{IsUnit, TextOf, UnitTexts}
 use Rattle.m2_base.specs.declared.diagnostic.Diagnostic.TheVariants.{CircularImports, NoDefinitionText, OtherModuleName}
 use Rattle.m2_base.specs.declared.diagnostic.Diagnostic.{Diagnostic}
 use Rattle.m2_base.specs.declared.notes.Diag.{Diag}
 use Rattle.m2_base.specs.declared.trees.Ident.{Ident}
-use Rattle.m2_base.proofs.Kept.{Each-append}
+use Rattle.m2_base.proofs.EachLaws.{each_append}
+use Rattle.m2_base.proofs.LeafFronts.{FrontHas}
+use Rattle.m2_base.proofs.StandingStreams.{front_stands, tokens_below}
 use Rattle.m2_lex.proofs.TextUnit.{text_listed}
 use Rattle.def_import.specs.Answers.{IsWhole}
 use Rattle.def_import.specs.Closure.{Found, Progress, own_name}
@@ -24,8 +27,6 @@ use Rattle.compile_command.specs.Decisions.{Decides, DecidesUnit, has_diagnostic
 use Rattle.compile_command.specs.Lines.{HasLine}
 use Rattle.compile_command.specs.Verdicts.{Decision, listed}
 use Rattle.compile_command.proofs.GatheredUnits.{is_whole}
-use Rattle.unit_outcome.proofs.StreamTokens.{tokens_below}
-use Rattle.compile_command.proofs.StandingFronts.{IsStandingFront, front_stands}
 
 -- the text at a place of a list
 at_place : {A : Type 0} (before : List A) (x : A) (behind : List A) → slice_get (before ++ x ∷ behind) (length before) ≡ Some x
@@ -36,10 +37,10 @@ at_place (b ∷ before) x behind = at_place before x behind
 
 -- the names of the text's front stand at its tokens
 abbrev IsListed : Found → Type 0
-IsListed f = IsStandingFront (length f.text.tokens) f.front
+IsListed f = FrontHas (Stands (IsBelow (length f.text.tokens))) f.front
 
 each_pushed : {A : Type 0} (P : A → Type 0) (xs : List A) (x : A) → Each P xs → P x → Each P (xs ++ x ∷ [])
-each_pushed P xs x h p = Each-append P xs (x ∷ []) h (p, tt)
+each_pushed P xs x h p = each_append P xs (x ∷ []) h (p, tt)
 
 read_listed : (old new : List (List ℕ)) (definition : Bool) (name : ℕ) (bytes : List ℕ) (f : Found) → IsRead old definition name bytes new f → IsListed f
 read_listed old new definition name bytes f read =
@@ -58,25 +59,25 @@ module _ (u : UnitTexts) (text : ℕ) (f : Found) (there : slice_get u.list text
   one_line i kind false low = tt
   one_line i kind true low = ((f.text, there, low), tt)
 
-  own_line : (p : Progress) (o : Option Ident) → IsStandingOption (length f.text.tokens) o → Each (HasLine u) (no_own p text o)
+  own_line : (p : Progress) (o : Option Ident) → NameOptionHas (Stands (IsBelow (length f.text.tokens))) o → Each (HasLine u) (no_own p text o)
   own_line p None h = tt
   own_line p (Some i) h = one_line i NoDefinitionText (is_missing p i) h
 
-  name_line : (order : List ℕ) (o : Option Ident) → IsStandingOption (length f.text.tokens) o → Each (HasLine u) (wrong_name order text f o)
+  name_line : (order : List ℕ) (o : Option Ident) → NameOptionHas (Stands (IsBelow (length f.text.tokens))) o → Each (HasLine u) (wrong_name order text f o)
   name_line order None h = tt
   name_line order (Some i) h =
-      Each-append (HasLine u) (wrong_at text i OtherModuleName (not (nat_eq i.name f.text.name))) (wrong_at text i CircularImports (is_circular order text))
+      each_append (HasLine u) (wrong_at text i OtherModuleName (not (nat_eq i.name f.text.name))) (wrong_at text i CircularImports (is_circular order text))
       (one_line i OtherModuleName (not (nat_eq i.name f.text.name)) h) (one_line i CircularImports (is_circular order text) h)
 
-  import_lines : (p : Progress) (imports : List Ident) → AreStandingNames (length f.text.tokens) imports → Each (HasLine u) (missing_imports p text imports)
+  import_lines : (p : Progress) (imports : List Ident) → NamesHave (Stands (IsBelow (length f.text.tokens))) imports → Each (HasLine u) (missing_imports p text imports)
   import_lines p [] h = tt
   import_lines p (i ∷ imports) h =
-      Each-append (HasLine u) (wrong_at text i NoDefinitionText (is_missing p i)) (missing_imports p text imports) (one_line i NoDefinitionText (is_missing p i) h.0) (import_lines p imports h.1)
+      each_append (HasLine u) (wrong_at text i NoDefinitionText (is_missing p i)) (missing_imports p text imports) (one_line i NoDefinitionText (is_missing p i) h.0) (import_lines p imports h.1)
 
-  own_stands : IsListed f → IsStandingOption (length f.text.tokens) (own_name f.front)
+  own_stands : IsListed f → NameOptionHas (Stands (IsBelow (length f.text.tokens))) (own_name f.front)
   own_stands h = go f.front.implementation
     where
-      go : (b : Bool) → IsStandingOption (length f.text.tokens) (if b then f.front.name else None)
+      go : (b : Bool) → NameOptionHas (Stands (IsBelow (length f.text.tokens))) (if b then f.front.name else None)
       go true = h.name
       go false = tt
 
@@ -84,8 +85,8 @@ module _ (u : UnitTexts) (text : ℕ) (f : Found) (there : slice_get u.list text
   text_lines p order h =
       let own = no_own p text (own_name f.front) in
       let name = wrong_name order text f f.front.name in
-      Each-append (HasLine u) (own ++ name) (missing_imports p text f.front.imports)
-      (Each-append (HasLine u) own name (own_line p (own_name f.front) (own_stands h)) (name_line order f.front.name h.name)) (import_lines p f.front.imports h.imports)
+      each_append (HasLine u) (own ++ name) (missing_imports p text f.front.imports)
+      (each_append (HasLine u) own name (own_line p (own_name f.front) (own_stands h)) (name_line order f.front.name h.name)) (import_lines p f.front.imports h.imports)
 
 module _ (u : UnitTexts) (p : Progress) (texts : u.list ≡ map (λ (f : Found). f.text) p.found) where
   found_at : (before : List Found) (f : Found) (behind : List Found) → p.found ≡ before ++ f ∷ behind → slice_get u.list (length before) ≡ Some f.text
@@ -99,7 +100,7 @@ module _ (u : UnitTexts) (p : Progress) (texts : u.list ≡ map (λ (f : Found).
   all_lines before (f ∷ behind) e h =
       let there : slice_get u.list (length before) ≡ Some f.text = found_at before f behind e in
       let rest = all_lines (before ++ f ∷ []) behind (e ∙ sym (append_assoc before (f ∷ []) behind)) h.1 in
-      Each-append (HasLine u) (wrongs_in p (dependency_order p) (length before) f) (wrongs_from p (dependency_order p) (length before + 1) behind)
+      each_append (HasLine u) (wrongs_in p (dependency_order p) (length before) f) (wrongs_from p (dependency_order p) (length before + 1) behind)
       (text_lines u (length before) f there p (dependency_order p) h.0)
       (subst (λ (k : ℕ). Each (HasLine u) (wrongs_from p (dependency_order p) k behind)) (length-append before (f ∷ [])) rest)
 

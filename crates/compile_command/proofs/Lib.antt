@@ -4,7 +4,6 @@ pub mod Merging
 pub mod OneOutcome
 pub mod Deciding
 pub mod Leaving
-pub mod StandingFronts
 pub mod HaveLines
 pub mod Answering
 pub mod OneSummary

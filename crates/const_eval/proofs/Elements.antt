@@ -1,5 +1,5 @@
 -- An element and a set.
-use Rattle.std.proofs.Common.{◌≡◌, ◌∙◌, ℕ, Bool, Option, Some, None, refl, sym, ap, if◌then◌else◌}
+use Rattle.std.proofs.Common.{◌≡◌, ◌∙◌, ℕ, Bool, true, false, Option, Some, None, refl, sym, ap, if◌then◌else◌}
 use Rattle.std.specs.Prelude.{◌&&◌}
 use Rattle.m2_base.specs.Gives.{Gives, and_then, gives}
 use Rattle.m2_base.specs.Statics.Compatible.{is_compatible, taken_beside}
@@ -27,15 +27,15 @@ module _ (c : Context) (x : Operand) (base : Place) where
   abbrev pub ordinal : Option Operand
   ordinal = if is_compatible c.scene x (Computed base) && is_ordinal c element then Some element else None
 
-  pub ordinal_some : (p : Operand × Operand) (b : Bool) → Some p ≡ pair → b ≡ is_ordinal c p.0 → (if b then Some p.0 else None) ≡ ordinal
-  ordinal_some p b e is =
-      let both = some_of (is_compatible c.scene x (Computed base)) p (element, other) e in
-      ap (λ t. if t then Some p.0 else None) is
-      ∙ ap (λ (t : Operand × Operand). if is_ordinal c t.0 then Some t.0 else None) both.1
-      ∙ sym (ap (λ t. if t && is_ordinal c element then Some element else None) both.0)
+  -- compatible, and then ordinal or not
+  pub ordinal_some : (e : Operand) (b : Bool) → is_compatible c.scene x (Computed base) ≡ true → e ≡ element → b ≡ is_ordinal c e → (if b then Some e else None) ≡ ordinal
+  ordinal_some e b holds same is =
+      ap (λ t. if t then Some e else None) is
+      ∙ ap (λ (o : Operand). if is_ordinal c o then Some o else None) same
+      ∙ sym (ap (λ t. if t && is_ordinal c element then Some element else None) holds)
 
-  pub ordinal_none : None ≡ pair → None ≡ ordinal
-  ordinal_none e = sym (ap (λ t. if t && is_ordinal c element then Some element else None) (none_of (is_compatible c.scene x (Computed base)) (element, other) e))
+  pub ordinal_none : is_compatible c.scene x (Computed base) ≡ false → None ≡ ordinal
+  ordinal_none fails = sym (ap (λ t. if t && is_ordinal c element then Some element else None) fails)
 
 pick_some : (b : Bool) (t e : Operand) (k : Operand → Gives Operand) (w : Gives Operand) → Some e ≡ (if b then Some t else None) → k e ≡ (if b then k t else w)
 pick_some b t e k w h =

@@ -1,6 +1,7 @@
 pub mod Analysing
 pub mod Besides
 pub mod Bits
+pub mod ConstantCauses
 pub mod CallKinds
 pub mod Elements
 pub mod Folding
@@ -11,13 +12,17 @@ pub mod PartsGiven
 pub mod ReadParts
 pub mod RefusedSteps
 pub mod RefusedOperands
+pub mod RefusedUses
 pub mod RefusedConstants
 pub mod Refusals
 pub mod Sequences
 pub mod SetElements
+pub mod Spoilt
 pub mod SetRows
+pub mod Silent
 pub mod Sizes
 pub mod Standard
 pub mod TypeArguments
 pub mod TypePairs
 pub mod TypesThere
+pub mod WholeConstants

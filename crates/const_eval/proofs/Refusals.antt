@@ -111,19 +111,15 @@ module _ (c : Context) (op : Operator) (at : ℕ) (x : Operand) (x_at : ℕ) (y 
   abbrev pub values : Bool → Gives Operand
   values b = if b then on_compatible c op at (taken_beside c.source c.scene x y) x_at (taken_beside c.source c.scene y x) y_at else wrong c at
 
-  -- both as they are taken beside each other, where they are compatible
-  abbrev pub taken_where : Option (Operand × Operand)
-  taken_where = if is_compatible c.scene x y then Some (taken_beside c.source c.scene x y, taken_beside c.source c.scene y x) else None
-
-  pub values_some : (p : Operand × Operand) → Some p ≡ taken_where
-      → on_compatible c op at p.0 x_at p.1 y_at ≡ values (is_compatible c.scene x y)
-  values_some p e =
-      let is = some_of (is_compatible c.scene x y) p (taken_beside c.source c.scene x y, taken_beside c.source c.scene y x) e in
-      ap (λ (t : Operand × Operand). on_compatible c op at t.0 x_at t.1 y_at) is.1 ∙ sym (ap values is.0)
-
-  pub values_none : None ≡ taken_where
-      → wrong c at ≡ values (is_compatible c.scene x y)
-  values_none e = sym (ap values (none_of (is_compatible c.scene x y) (taken_beside c.source c.scene x y, taken_beside c.source c.scene y x) e))
+  -- two that are compatible, as they are taken beside each other
+  pub values_at : (u : Operand) (u_at : ℕ) (v : Operand) (v_at : ℕ) → u ≡ taken_beside c.source c.scene x y → u_at ≡ x_at → v ≡ taken_beside c.source c.scene y x → v_at ≡ y_at → is_compatible c.scene x y ≡ true
+      → on_compatible c op at u u_at v v_at ≡ values (is_compatible c.scene x y)
+  values_at u u_at v v_at left left_at right right_at holds =
+      ap (λ o. on_compatible c op at o u_at v v_at) left
+      ∙ ap (λ n. on_compatible c op at (taken_beside c.source c.scene x y) n v v_at) left_at
+      ∙ ap (λ o. on_compatible c op at (taken_beside c.source c.scene x y) x_at o v_at) right
+      ∙ ap (λ n. on_compatible c op at (taken_beside c.source c.scene x y) x_at (taken_beside c.source c.scene y x) n) right_at
+      ∙ sym (ap values holds)
 
   pub alike_by : (b : Bool) → b ≡ are_sets_alike c x y → (if b then set_operation c op at x y else values (is_compatible c.scene x y)) ≡ on_alike c op at x x_at y y_at
   alike_by b e = ap (λ t. if t then set_operation c op at x y else values (is_compatible c.scene x y)) e

@@ -29,13 +29,10 @@ alike_types c x y l r left right =
     ∙ ap (λ o. are_alike (row_in c.scene (operand_type x)) o) right
     ∙ alike_rows (stands_for c.scene (operand_type x)) (stands_for c.scene (operand_type y)) (kind_of c.scene (operand_type x)) (kind_of c.scene (operand_type y))
 
+-- by what a type stands for and what its row says
+pub by_row : {T : Type 0} (f : Place → RowMeaning → T) {p q : Place} {m n : RowMeaning} → p ≡ q → m ≡ n → f p m ≡ f q n
+by_row f {p} {q} {m} {n} place kind = ap (λ (t : Place). f t m) place ∙ ap (f q) kind
+
 pub ends_some : (o : Option (ℤ × ℤ)) → is_some o ≡ is_some (option_map (λ (e : ℤ × ℤ). range e.0 e.1) o)
 ends_some None = refl
 ends_some (Some e) = refl
-
--- both types have ranges
-pub both_ranges : (scene : Scene) (t u : Place) (x y : Option (ℤ × ℤ)) → option_map (λ (e : ℤ × ℤ). range e.0 e.1) x ≡ range_of scene t → option_map (λ (e : ℤ × ℤ). range e.0 e.1) y ≡ range_of scene u
-    → (is_some x && is_some y) ≡ (is_some (range_of scene t) && is_some (range_of scene u))
-both_ranges scene t u x y left right =
-    ap (λ b. b && is_some y) (ends_some x ∙ ap is_some left)
-    ∙ ap (λ b. is_some (range_of scene t) && b) (ends_some y ∙ ap is_some right)

@@ -1,5 +1,7 @@
 pub mod Analyses
+pub mod Based
 pub mod Calls
+pub mod Causes
 pub mod Ends
 pub mod Extremes
 pub mod Judgements
@@ -7,4 +9,5 @@ pub mod NamedTexts
 pub mod Numbers
 pub mod Parts
 pub mod Sites
+pub mod Standard
 pub mod Structures

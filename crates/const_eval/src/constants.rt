@@ -8,11 +8,12 @@ ghost use Rattle.m2_base.specs.States.{State};
 ghost use Rattle.m2_base.specs.Statics.Constants.{constant_of, constant_or_refused as spec_constant};
 ghost use Rattle.m2_base.specs.Views.{expr_view};
 ghost use Rattle.const_eval.specs.Analyses.{Analysed};
+ghost use Rattle.const_eval.specs.Causes.{IsCaused, IsUnspoilt};
 ghost use Rattle.const_eval.specs.NamedTexts.{IsNamedText};
 ghost use Rattle.m2_base.specs.Statics.ReadTrees.{IsReadExpr};
 ghost use Rattle.const_eval.specs.Sites.{IsOperand};
 ghost use Rattle.type_rules.specs.Scenes.{WhereTold};
-ghost use Rattle.type_rules.specs.Sites.{AreOfSite, SuitsSite};
+ghost use Rattle.type_rules.specs.Sites.{AreOfSite, SuitsSite, context_of};
 
 use crate::calls::fault_noted;
 use crate::expressions::value_in;
@@ -52,7 +53,8 @@ fn constant_or_refused(
     }
 }
 
-/// The constant that an expression stands for. There is none where a diagnostic was noted or a part is in error.
+/// The constant that an expression stands for. There is none where a diagnostic was noted or a used row is in error; and without one a
+/// diagnostic was noted, or a used row has a part in error.
 pub fn constant<S: Scopes>(
     scopes: &mut S,
     site: &Site,
@@ -63,6 +65,8 @@ pub fn constant<S: Scopes>(
     requires read { IsReadExpr site.now.texts.now.names (expr_view e.now) }
     ensures analysed { Analysed (S.state scopes.old) (S.state scopes.new) notes.old notes.new site.now result (λ f constant. IfSome constant (λ operand. IsOperand f operand × IsNamedText f operand)) (λ c. constant_of c (expr_view e.now)) }
     ensures unrefused { WhereTold (S.state scopes.old).frame (λ made. AreOfSite site.now made → IfKnown result (λ o. IfSome o (λ p. notes.new.diags.items ≡ notes.old.diags.items))) }
+    ensures unspoilt { WhereTold (S.state scopes.old).frame (λ made. AreOfSite site.now made → IfKnown result (λ o. IsUnspoilt (context_of (S.state scopes.old).frame made site.now).scene notes.old notes.new o)) }
+    ensures caused { WhereTold (S.state scopes.old).frame (λ made. AreOfSite site.now made → IfKnown result (λ o. IsCaused (context_of (S.state scopes.old).frame made site.now).scene notes.old notes.new o)) }
 {
     let operand = analysed!(value_in(scopes, site, e, notes));
     constant_or_refused(site, e.at, operand, notes)

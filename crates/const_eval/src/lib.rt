@@ -70,7 +70,7 @@ pub use faults::Fault;
 pub use functions::{
     abs_of, cap_of, char_of_string, chr_of, odd_of, ord_of, ordinal_type_argument, val_of,
 };
-pub use laws::diagnostics_leave_nothing;
+pub use laws::{diagnostics_leave_nothing, missing_constants_have_a_cause};
 pub use names::{is_in_error, name_operand, operand_of};
 pub use noting::{note, note_type};
 pub use operands::{Argument, char_or_same, constant_value, is_bad};

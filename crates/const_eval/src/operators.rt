@@ -1,21 +1,26 @@
 //! What an operator gives of its operands: which it takes, the type that it gives, and the value where all are constant.
 ghost use Rattle.std.specs.Prelude.{◌≡◌, ◌||◌, ◌&&◌, true, IfOk, if◌then◌else◌, is_some};
 ghost use Rattle.m2_base.specs.Rows.{is_same_place};
-ghost use Rattle.m2_base.specs.Standard.{boolean};
+ghost use Rattle.m2_base.specs.Standard.{boolean, character};
 ghost use Rattle.m2_base.specs.States.{Frame, Waits};
 ghost use Rattle.m2_base.specs.Statics.Contexts.{Context};
 ghost use Rattle.m2_base.specs.Statics.Operands.{is_bad as spec_bad, is_procedure as spec_procedure, worse as spec_worse};
 ghost use Rattle.m2_base.specs.Gives.{Gives, and_then, gives};
-ghost use Rattle.m2_base.specs.Statics.Compatible.{is_compatible, is_number_type, is_pointer as spec_pointer, taken_beside as spec_taken};
+ghost use Rattle.m2_base.specs.Statics.Compatible.{is_compatible, is_number_type, is_pointer_kind, taken_beside as spec_taken};
 ghost use Rattle.m2_base.specs.Statics.Folding.{is_arithmetic as spec_arithmetic, is_equality as spec_equality, is_relation as spec_relation};
-ghost use Rattle.m2_base.specs.Statics.Operations.{apply_one as spec_apply_one, as_number as spec_as_number, base_type, logical as spec_logical, number_operation as spec_number_operation, on_numbers as spec_on_numbers, on_scalars as spec_on_scalars, on_compatible as spec_on_compatible, on_alike as spec_on_alike, operate as spec_operate, operate_by as spec_operate_by, wrong as spec_wrong};
-ghost use Rattle.m2_base.specs.Statics.Types.{range_of as spec_range};
+ghost use Rattle.m2_base.specs.Statics.Operations.{apply_one as spec_apply_one, logical as spec_logical, on_numbers as spec_on_numbers, on_scalars as spec_on_scalars, on_compatible as spec_on_compatible, on_alike as spec_on_alike, operate as spec_operate, operate_by as spec_operate_by, wrong as spec_wrong};
+ghost use Rattle.m2_base.specs.Statics.Types.{base_by as spec_base_by, kind_of, range_by as spec_range_by};
+ghost use Rattle.m2_base.specs.declared.sites.Around.{Around as Surroundings};
 ghost use Rattle.std.specs.Option.{IfSome};
 ghost use Rattle.const_eval.specs.Judgements.{judged, settled_or};
-ghost use Rattle.const_eval.specs.Sites.{IsOperand};
+ghost use Rattle.const_eval.specs.Based.{IsBased, IsBasedHere};
+ghost use Rattle.const_eval.specs.Sites.{IsNamed, IsOperand};
+ghost use Rattle.const_eval.specs.Standard.{HasStandardRows};
+ghost use Rattle.const_eval.specs.Structures.{are_alike as spec_alike, set_row_by};
 ghost use Rattle.type_rules.specs.Asks.{Reads, WhereKnown, WhereWaiting};
-ghost use Rattle.type_rules.specs.Scenes.{IsThere, WhereTold};
+ghost use Rattle.type_rules.specs.Scenes.{IsThere, Suits, WhereTold, scene_of};
 ghost use Rattle.type_rules.specs.Sites.{SuitsSite, context_of};
+ghost use Rattle.type_rules.specs.Standing.{StopsAtEither};
 
 use crate::faults::Fault;
 use crate::membership::membership;
@@ -23,10 +28,14 @@ use crate::numbers::{
     applied, combined, is_arithmetic, is_equality, is_relation, number_operation, set_operation,
 };
 use crate::operands::{Argument, is_bad, is_procedure, worse};
-use crate::pairs::{are_sets_alike, as_number, compatible_pair};
-use m2_base::{Ask, Diagnostic, FoldKind, Operand, Operator, Place, Scopes, Site};
+use crate::pairs::{as_number, base_beside, number_base, taken_beside};
+use crate::structures::{are_alike, set_by};
+use m2_base::{
+    Ask, Diagnostic, FoldKind, Names, Operand, Operator, Place, RowMeaning, Scopes, Site,
+};
 use type_rules::{
-    BOOLEAN, WHOLE, base_of, bases_of, is_integer_or_cardinal, is_pointer, operand_type, range_of,
+    BOOLEAN, WHOLE, base_by, base_of, bases_of, compatible_with, is_integer_or_cardinal,
+    operand_type, range_by, stand,
 };
 
 /// Whether a base is INTEGER, CARDINAL or that of whole constants.
@@ -55,13 +64,6 @@ fn takes_numbers(operator: Operator) -> bool
     ensures { result ≡ (spec_arithmetic operator || spec_relation operator) }
 {
     is_arithmetic(operator) || is_relation(operator)
-}
-
-/// Whether both are ranges.
-fn are_ranges(x: Option<(i64, i64)>, y: Option<(i64, i64)>) -> bool
-    ensures { result ≡ (is_some x && is_some y) }
-{
-    x.is_some() && y.is_some()
 }
 
 /// Whether one of two holds.
@@ -129,169 +131,135 @@ fn logical<S: Scopes>(
     }
 }
 
-/// Two numbers of one type.
-#[tactic(auto, using(type_rules::proofs::Reading::reading, crate::proofs::TypesThere::there))]
-fn operate_numbers<S: Scopes>(
-    scopes: &mut S,
-    site: &Site,
-    operator: Operator,
-    operator_at: u32,
-    x: Operand,
-    y: Operand,
-) -> Ask<Result<Operand, Fault>>
-    requires suits { SuitsSite (S.state scopes.old).frame site.now }
-    requires x { IsOperand (S.state scopes.old).frame x }
-    requires y { IsOperand (S.state scopes.old).frame y }
-    ensures reads { Reads (S.state scopes.old) (S.state scopes.new) }
-    ensures waits { WhereWaiting result (λ head. Waits (S.state scopes.old) (S.state scopes.new) head) }
-    ensures told { WhereTold (S.state scopes.old).frame (λ made.
-        WhereKnown result (λ given. let c = context_of (S.state scopes.old).frame made site.now in judged c given ≡ spec_number_operation c operator operator_at x y)) }
-    ensures there { WhereKnown result (λ given. IfOk given (λ operand. IsOperand (S.state scopes.old).frame operand)) }
-{
-    let base = known!(base_of(scopes, site.around, operand_type(&x)));
-    Ask::Known(number_operation(operator_at, operator, base, x, y))
+/// An operand with its first token and the base of its type.
+#[derive(Clone, Copy)]
+struct Based {
+    at: u32,
+    operand: Operand,
+    base: Place,
 }
 
-/// Two numbers, of which the right takes the base of the left where it is a whole constant.
-#[tactic(auto, using(type_rules::proofs::Reading::reading, crate::proofs::TypesThere::there))]
-fn on_right_number<S: Scopes>(
-    scopes: &mut S,
-    site: &Site,
-    operator: Operator,
-    operator_at: u32,
-    x: Operand,
-    left: Place,
-    y: Argument,
-) -> Ask<Result<Operand, Fault>>
-    requires suits { SuitsSite (S.state scopes.old).frame site.now }
-    requires number { spec_arithmetic operator || spec_relation operator ≡ true }
-    requires left { IsThere (S.state scopes.old).frame left }
-    requires x { IsOperand (S.state scopes.old).frame x }
-    requires y { IsOperand (S.state scopes.old).frame y.operand }
-    ensures reads { Reads (S.state scopes.old) (S.state scopes.new) }
-    ensures waits { WhereWaiting result (λ head. Waits (S.state scopes.old) (S.state scopes.new) head) }
-    ensures told { WhereTold (S.state scopes.old).frame (λ made.
-        WhereKnown result (λ given. let c = context_of (S.state scopes.old).frame made site.now in judged c given ≡ and_then (spec_as_number c y.at left y.operand) (λ y. spec_number_operation c operator operator_at x y))) }
-    ensures there { WhereKnown result (λ given. IfOk given (λ operand. IsOperand (S.state scopes.old).frame operand)) }
+/// An operand with the base of its type, by what that stands for and what its row says.
+fn with_base(x: Argument, stood: Place, meaning: RowMeaning) -> Based
+    ensures { result ≡ record { at = x.at; operand = x.operand; base = spec_base_by stood meaning } }
 {
-    match known!(as_number(scopes, site, y.at, left, y.operand)) {
-        Ok(y) => operate_numbers(scopes, site, operator, operator_at, x, y),
-        Err(fault) => Ask::Known(Err(fault)),
+    Based {
+        at: x.at,
+        operand: x.operand,
+        base: base_by(stood, meaning),
     }
 }
 
-/// Two numbers with these bases, of which a whole constant takes the other's.
-#[tactic(auto, using(type_rules::proofs::Reading::reading, crate::proofs::TypesThere::there))]
-fn on_numbers<S: Scopes>(
-    scopes: &mut S,
-    site: &Site,
-    operator: Operator,
-    operator_at: u32,
-    x: Argument,
-    left: Place,
-    y: Argument,
-    right: Place,
-) -> Ask<Result<Operand, Fault>>
-    requires suits { SuitsSite (S.state scopes.old).frame site.now }
-    requires left { IsThere (S.state scopes.old).frame left }
-    requires right { IsThere (S.state scopes.old).frame right }
-    requires x { IsOperand (S.state scopes.old).frame x.operand }
-    requires y { IsOperand (S.state scopes.old).frame y.operand }
-    ensures reads { Reads (S.state scopes.old) (S.state scopes.new) }
-    ensures waits { WhereWaiting result (λ head. Waits (S.state scopes.old) (S.state scopes.new) head) }
-    ensures told { WhereTold (S.state scopes.old).frame (λ made.
-        WhereKnown result (λ given. let c = context_of (S.state scopes.old).frame made site.now in left ≡ base_type c x.operand → right ≡ base_type c y.operand → judged c given ≡ spec_on_numbers c operator operator_at x.operand x.at y.operand y.at)) }
-    ensures there { WhereKnown result (λ given. IfOk given (λ operand. IsOperand (S.state scopes.old).frame operand)) }
+/// An operand as it is taken beside another.
+fn taken(names: &Names, x: Based, y: Based) -> Based
+    requires { IsNamed names.now x.operand }
+    ensures at { result.at ≡ x.at }
+    ensures told { (c : Context) → c.source.spellings ≡ names.now → IsBased c y → result.operand ≡ spec_taken c.source c.scene x.operand y.operand }
+    ensures based { (c : Context) → c.source.spellings ≡ names.now → HasStandardRows c → IsBased c x → IsBased c y → IsBased c result }
+    ensures there { (f : Frame) → IsThere f character → IsBasedHere f x → IsBasedHere f result }
 {
-    if takes_numbers(operator) {
-        match known!(as_number(scopes, site, x.at, right, x.operand)) {
-            Ok(x) => on_right_number(scopes, site, operator, operator_at, x, left, y),
-            Err(fault) => Ask::Known(Err(fault)),
-        }
-    } else {
-        Ask::Known(fault!(operator_at, WrongOperands))
+    Based {
+        at: x.at,
+        operand: taken_beside(names, x.operand, &y.operand, y.base),
+        base: base_beside(&x.operand, x.base, &y.operand, y.base),
     }
 }
 
-/// Whether both types are ordinal.
-#[tactic(auto, using(type_rules::proofs::Reading::reading, crate::proofs::TypesThere::there))]
-fn are_ordinal<S: Scopes>(scopes: &mut S, site: &Site, left: Place, right: Place) -> Ask<bool>
-    requires suits { SuitsSite (S.state scopes.old).frame site.now }
-    requires left { IsThere (S.state scopes.old).frame left }
-    requires right { IsThere (S.state scopes.old).frame right }
-    ensures reads { Reads (S.state scopes.old) (S.state scopes.new) }
-    ensures waits { WhereWaiting result (λ head. Waits (S.state scopes.old) (S.state scopes.new) head) }
-    ensures told { WhereTold (S.state scopes.old).frame (λ made.
-        WhereKnown result (λ given. let c = context_of (S.state scopes.old).frame made site.now in given ≡ (is_some (spec_range c.scene left) && is_some (spec_range c.scene right)))) }
+/// Two numbers, of which a whole constant takes the other's base.
+fn on_numbers(operator: Operator, operator_at: u32, x: Based, y: Based) -> Result<Operand, Fault>
+    ensures told { (c : Context) → HasStandardRows c → IsBased c x → IsBased c y → judged c result ≡ spec_on_numbers c operator operator_at x.operand x.at y.operand y.at }
+    ensures there { (f : Frame) (a : Surroundings) → Suits f a → IsBasedHere f x → IsBasedHere f y → IfOk result (λ operand. IsOperand f operand) }
 {
-    let low = known!(range_of(scopes, site.around, left));
-    let high = known!(range_of(scopes, site.around, right));
-    Ask::Known(are_ranges(low, high))
+    if !takes_numbers(operator) {
+        return fault!(operator_at, WrongOperands);
+    }
+    let base = number_base(x.operand, x.base, y.base);
+    let left = match as_number(x.at, y.base, x.operand) {
+        Ok(left) => left,
+        Err(fault) => return Err(fault),
+    };
+    match as_number(y.at, x.base, y.operand) {
+        Ok(right) => number_operation(operator_at, operator, base, left, right),
+        Err(fault) => Err(fault),
+    }
 }
 
-/// Whether one of two types is a pointer or opaque.
-#[tactic(auto, using(type_rules::proofs::Reading::reading, crate::proofs::TypesThere::there))]
-fn has_pointer<S: Scopes>(scopes: &mut S, site: &Site, left: Place, right: Place) -> Ask<bool>
-    requires suits { SuitsSite (S.state scopes.old).frame site.now }
-    requires left { IsThere (S.state scopes.old).frame left }
-    requires right { IsThere (S.state scopes.old).frame right }
-    ensures reads { Reads (S.state scopes.old) (S.state scopes.new) }
-    ensures waits { WhereWaiting result (λ head. Waits (S.state scopes.old) (S.state scopes.new) head) }
-    ensures told { WhereTold (S.state scopes.old).frame (λ made.
-        WhereKnown result (λ given. let c = context_of (S.state scopes.old).frame made site.now in given ≡ (spec_pointer c.scene left || spec_pointer c.scene right))) }
+/// Whether both hold.
+fn both(x: bool, y: bool) -> bool
+    ensures { result ≡ (x && y) }
 {
-    let left = known!(is_pointer(scopes, site.around, left));
-    let right = known!(is_pointer(scopes, site.around, right));
-    Ask::Known(either(left, right))
+    x && y
 }
 
-/// Whether an operator compares two scalars with these bases.
+/// Whether a type is ordinal, by what its row says.
+fn is_ordinal_row(meaning: RowMeaning) -> bool
+    ensures { result ≡ is_some (spec_range_by meaning) }
+{
+    range_by(meaning).is_some()
+}
+
+/// Whether a type is a pointer or opaque, by what its row says.
+fn is_pointer_row(meaning: RowMeaning) -> bool
+    ensures { result ≡ is_pointer_kind meaning }
+{
+    matches!(meaning, RowMeaning::Pointer(_) | RowMeaning::Opaque)
+}
+
+/// Whether an operator compares two scalars with bases of these rows.
+fn compares(operator: Operator, left: RowMeaning, right: RowMeaning) -> bool
+    ensures { result ≡ ((spec_relation operator && (is_some (spec_range_by left) && is_some (spec_range_by right))) || (spec_equality operator && (is_pointer_kind left || is_pointer_kind right))) }
+{
+    let ordinal = both(is_ordinal_row(left), is_ordinal_row(right));
+    let pointer = either(is_pointer_row(left), is_pointer_row(right));
+    takes_scalars(operator, ordinal, pointer)
+}
+
+/// What the rows of two types say.
 #[tactic(auto, using(type_rules::proofs::Reading::reading, crate::proofs::TypesThere::there))]
-fn compares<S: Scopes>(
+fn kinds_of<S: Scopes>(
     scopes: &mut S,
     site: &Site,
-    operator: Operator,
     left: Place,
     right: Place,
-) -> Ask<bool>
+) -> Ask<(RowMeaning, RowMeaning)>
     requires suits { SuitsSite (S.state scopes.old).frame site.now }
     requires left { IsThere (S.state scopes.old).frame left }
     requires right { IsThere (S.state scopes.old).frame right }
     ensures reads { Reads (S.state scopes.old) (S.state scopes.new) }
     ensures waits { WhereWaiting result (λ head. Waits (S.state scopes.old) (S.state scopes.new) head) }
-    ensures told { WhereTold (S.state scopes.old).frame (λ made.
-        WhereKnown result (λ given. let c = context_of (S.state scopes.old).frame made site.now in given ≡ ((spec_relation operator && (is_some (spec_range c.scene left) && is_some (spec_range c.scene right))) || (spec_equality operator && (spec_pointer c.scene left || spec_pointer c.scene right))))) }
+    ensures left { WhereTold (S.state scopes.old).frame (λ made.
+        WhereKnown result (λ kinds. kinds.0 ≡ kind_of (scene_of (S.state scopes.old).frame made site.now.around.now) left)) }
+    ensures right { WhereTold (S.state scopes.old).frame (λ made.
+        WhereKnown result (λ kinds. kinds.1 ≡ kind_of (scene_of (S.state scopes.old).frame made site.now.around.now) right)) }
+    ensures stops { WhereWaiting result (λ head. StopsAtEither (S.state scopes.new) site.now.around.now left right head) }
 {
-    let ordinal = known!(are_ordinal(scopes, site, left, right));
-    let pointer = known!(has_pointer(scopes, site, left, right));
-    Ask::Known(takes_scalars(operator, ordinal, pointer))
+    let (_, first) = known!(stand(scopes, site.around, left));
+    let (_, second) = known!(stand(scopes, site.around, right));
+    Ask::Known((first, second))
 }
 
-/// Two scalars with these bases that are no numbers.
+/// Two scalars that are no numbers.
 #[tactic(auto, using(type_rules::proofs::Reading::reading, crate::proofs::TypesThere::there))]
 fn on_scalars<S: Scopes>(
     scopes: &mut S,
     site: &Site,
     operator: Operator,
     operator_at: u32,
-    x: Operand,
-    left: Place,
-    y: Operand,
-    right: Place,
+    x: Based,
+    y: Based,
 ) -> Ask<Result<Operand, Fault>>
     requires suits { SuitsSite (S.state scopes.old).frame site.now }
-    requires left { IsThere (S.state scopes.old).frame left }
-    requires right { IsThere (S.state scopes.old).frame right }
-    requires x { IsOperand (S.state scopes.old).frame x }
-    requires y { IsOperand (S.state scopes.old).frame y }
+    requires x { IsBasedHere (S.state scopes.old).frame x }
+    requires y { IsBasedHere (S.state scopes.old).frame y }
     ensures reads { Reads (S.state scopes.old) (S.state scopes.new) }
     ensures waits { WhereWaiting result (λ head. Waits (S.state scopes.old) (S.state scopes.new) head) }
     ensures told { WhereTold (S.state scopes.old).frame (λ made.
-        WhereKnown result (λ given. let c = context_of (S.state scopes.old).frame made site.now in left ≡ base_type c x → right ≡ base_type c y → judged c given ≡ spec_on_scalars c operator operator_at x y)) }
+        WhereKnown result (λ given. let c = context_of (S.state scopes.old).frame made site.now in IsBased c x → IsBased c y → judged c given ≡ spec_on_scalars c operator operator_at x.operand y.operand)) }
     ensures there { WhereKnown result (λ given. IfOk given (λ operand. IsOperand (S.state scopes.old).frame operand)) }
 {
-    let compared = known!(compares(scopes, site, operator, left, right));
-    if compared {
+    let (left, right) = known!(kinds_of(scopes, site, x.base, y.base));
+    if compares(operator, left, right) {
+        let (x, y) = (x.operand, y.operand);
         Ask::Known(combined(operator_at, FoldKind::Ordinal, operator, BOOLEAN, x, y))
     } else {
         Ask::Known(fault!(operator_at, WrongOperands))
@@ -305,37 +273,22 @@ fn on_compatible<S: Scopes>(
     site: &Site,
     operator: Operator,
     operator_at: u32,
-    x: Argument,
-    y: Argument,
+    x: Based,
+    y: Based,
 ) -> Ask<Result<Operand, Fault>>
     requires suits { SuitsSite (S.state scopes.old).frame site.now }
-    requires x { IsOperand (S.state scopes.old).frame x.operand }
-    requires y { IsOperand (S.state scopes.old).frame y.operand }
+    requires x { IsBasedHere (S.state scopes.old).frame x }
+    requires y { IsBasedHere (S.state scopes.old).frame y }
     ensures reads { Reads (S.state scopes.old) (S.state scopes.new) }
     ensures waits { WhereWaiting result (λ head. Waits (S.state scopes.old) (S.state scopes.new) head) }
     ensures told { WhereTold (S.state scopes.old).frame (λ made.
-        WhereKnown result (λ given. let c = context_of (S.state scopes.old).frame made site.now in judged c given ≡ spec_on_compatible c operator operator_at x.operand x.at y.operand y.at)) }
+        WhereKnown result (λ given. let c = context_of (S.state scopes.old).frame made site.now in IsBased c x → IsBased c y → judged c given ≡ spec_on_compatible c operator operator_at x.operand x.at y.operand y.at)) }
     ensures there { WhereKnown result (λ given. IfOk given (λ operand. IsOperand (S.state scopes.old).frame operand)) }
 {
-    let (left, right) = known!(bases_of(
-        scopes,
-        site.around,
-        operand_type(&x.operand),
-        operand_type(&y.operand)
-    ));
-    if are_numbers(left, right) {
-        on_numbers(scopes, site, operator, operator_at, x, left, y, right)
+    if are_numbers(x.base, y.base) {
+        Ask::Known(on_numbers(operator, operator_at, x, y))
     } else {
-        on_scalars(
-            scopes,
-            site,
-            operator,
-            operator_at,
-            x.operand,
-            left,
-            y.operand,
-            right,
-        )
+        on_scalars(scopes, site, operator, operator_at, x, y)
     }
 }
 
@@ -346,35 +299,36 @@ fn on_values<S: Scopes>(
     site: &Site,
     operator: Operator,
     operator_at: u32,
-    x: Argument,
-    y: Argument,
+    x: Based,
+    y: Based,
 ) -> Ask<Result<Operand, Fault>>
     requires suits { SuitsSite (S.state scopes.old).frame site.now }
-    requires x { IsOperand (S.state scopes.old).frame x.operand }
-    requires y { IsOperand (S.state scopes.old).frame y.operand }
+    requires x { IsBasedHere (S.state scopes.old).frame x }
+    requires y { IsBasedHere (S.state scopes.old).frame y }
     ensures reads { Reads (S.state scopes.old) (S.state scopes.new) }
     ensures waits { WhereWaiting result (λ head. Waits (S.state scopes.old) (S.state scopes.new) head) }
     ensures told { WhereTold (S.state scopes.old).frame (λ made.
-        WhereKnown result (λ given. let c = context_of (S.state scopes.old).frame made site.now in judged c given ≡ (if is_compatible c.scene x.operand y.operand then spec_on_compatible c operator operator_at (spec_taken c.source c.scene x.operand y.operand) x.at (spec_taken c.source c.scene y.operand x.operand) y.at else spec_wrong c operator_at))) }
+        WhereKnown result (λ given. let c = context_of (S.state scopes.old).frame made site.now in IsBased c x → IsBased c y → judged c given ≡ (if is_compatible c.scene x.operand y.operand then spec_on_compatible c operator operator_at (spec_taken c.source c.scene x.operand y.operand) x.at (spec_taken c.source c.scene y.operand x.operand) y.at else spec_wrong c operator_at))) }
     ensures there { WhereKnown result (λ given. IfOk given (λ operand. IsOperand (S.state scopes.old).frame operand)) }
 {
-    match known!(compatible_pair(scopes, site, x.operand, y.operand)) {
-        Some(pair) => {
-            let left = Argument {
-                at: x.at,
-                operand: pair.0,
-            };
-            let right = Argument {
-                at: y.at,
-                operand: pair.1,
-            };
-            on_compatible(scopes, site, operator, operator_at, left, right)
-        }
-        None => Ask::Known(fault!(operator_at, WrongOperands)),
+    let around = site.around;
+    if !known!(compatible_with(scopes, around, &x.operand, x.base, &y.operand, y.base)) {
+        return Ask::Known(fault!(operator_at, WrongOperands));
     }
+    let texts = site.texts;
+    let left = taken(&texts.names, x, y);
+    let right = taken(&texts.names, y, x);
+    on_compatible(scopes, site, operator, operator_at, left, right)
 }
 
-/// Two operands of one type, or of compatible types.
+/// Whether two types are those of one set, by what they stand for and what their rows say.
+fn are_sets_alike(left: (Place, RowMeaning), right: (Place, RowMeaning)) -> bool
+    ensures { result ≡ spec_alike (set_row_by left.0 left.1) (set_row_by right.0 right.1) }
+{
+    are_alike(set_by(left.0, left.1), set_by(right.0, right.1))
+}
+
+/// Two operands of one type, or of compatible types. What each type stands for is asked once.
 #[tactic(auto, using(type_rules::proofs::Reading::reading, crate::proofs::TypesThere::there))]
 fn on_alike<S: Scopes>(
     scopes: &mut S,
@@ -393,12 +347,14 @@ fn on_alike<S: Scopes>(
         WhereKnown result (λ given. let c = context_of (S.state scopes.old).frame made site.now in judged c given ≡ spec_on_alike c operator operator_at x.operand x.at y.operand y.at)) }
     ensures there { WhereKnown result (λ given. IfOk given (λ operand. IsOperand (S.state scopes.old).frame operand)) }
 {
-    let alike = known!(are_sets_alike(scopes, site, x.operand, y.operand));
-    if alike {
-        Ask::Known(set_operation(operator_at, operator, x.operand, y.operand))
-    } else {
-        on_values(scopes, site, operator, operator_at, x, y)
+    let left = known!(stand(scopes, site.around, operand_type(&x.operand)));
+    let right = known!(stand(scopes, site.around, operand_type(&y.operand)));
+    if are_sets_alike(left, right) {
+        return Ask::Known(set_operation(operator_at, operator, x.operand, y.operand));
     }
+    let first = with_base(x, left.0, left.1);
+    let second = with_base(y, right.0, right.1);
+    on_values(scopes, site, operator, operator_at, first, second)
 }
 
 /// What is given without a look at types: a bad operand gives no fault, and a procedure has no operator.

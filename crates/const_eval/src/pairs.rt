@@ -1,29 +1,35 @@
 //! Two operands beside each other.
-ghost use Rattle.std.specs.Prelude.{◌≡◌, ◌&&◌, IfOk, if◌then◌else◌, true, Some, None, not, option_map};
+ghost use Rattle.std.specs.Prelude.{◌≡◌, ℕ, ◌&&◌, IfOk, if◌then◌else◌, true, Some, None, not, option_map};
 ghost use Rattle.std.specs.Option.{IfSome};
 ghost use Rattle.m2_base.specs.Rows.{is_same_place};
 ghost use Rattle.m2_base.specs.Standard.{character, whole};
 ghost use Rattle.m2_base.specs.States.{Frame, Waits};
-ghost use Rattle.m2_base.specs.Statics.Compatible.{is_beside_char as spec_beside_char, is_compatible, taken_beside as spec_taken};
+ghost use Rattle.m2_base.specs.Gives.{gives};
+ghost use Rattle.m2_base.specs.Statics.Compatible.{is_beside_char as spec_beside_char, is_compatible, is_integer_or_cardinal as is_number_base, taken_beside as spec_taken};
 ghost use Rattle.m2_base.specs.Statics.Contexts.{Context};
-ghost use Rattle.m2_base.specs.Statics.Operands.{is_one_char as spec_one_char, is_string as spec_string};
-ghost use Rattle.m2_base.specs.Statics.Operations.{are_sets_alike as spec_alike, as_number as spec_as_number, is_ordinal as spec_ordinal};
+ghost use Rattle.m2_base.specs.Statics.Operands.{is_one_char as spec_one_char, is_string as spec_string, operand_type as spec_operand_type};
+ghost use Rattle.m2_base.specs.Statics.Operations.{as_number as spec_as_number, base_type, is_ordinal as spec_ordinal};
 ghost use Rattle.m2_base.specs.Statics.Ranges.{is_within as spec_within, range};
 ghost use Rattle.m2_base.specs.Statics.Types.{range_of as spec_range};
+ghost use Rattle.m2_base.specs.declared.operands.Operand.{Operand as Taken};
 ghost use Rattle.const_eval.specs.Judgements.{judged};
 ghost use Rattle.const_eval.specs.Numbers.{takes_base as spec_takes};
-ghost use Rattle.const_eval.specs.Sites.{IsOperand};
+ghost use Rattle.const_eval.specs.Sites.{IsNamed, IsOperand};
+ghost use Rattle.const_eval.specs.Standard.{HasStandardRows};
 ghost use Rattle.type_rules.specs.Asks.{Reads, WhereKnown, WhereWaiting};
 ghost use Rattle.type_rules.specs.Scenes.{IsThere, WhereTold};
 ghost use Rattle.type_rules.specs.Sites.{SuitsSite, context_of};
+ghost use Rattle.type_rules.specs.Standing.{StopsAtType};
 
 use crate::faults::Fault;
 use crate::operands::as_char;
-use crate::structures::{are_alike, set_row};
-use m2_base::{Ask, Diagnostic, Operand, Place, Scopes, Site};
+use m2_base::{
+    Ask, Diagnostic, GREATEST_CARDINAL, GREATEST_INTEGER, LEAST_INTEGER, Names, Operand, Place,
+    Scopes, Site,
+};
 use type_rules::{
-    CHARACTER, WHOLE, base_of, compatible, is_integer_or_cardinal, is_one_char, is_string,
-    operand_type, range_of,
+    CHARACTER, INTEGER, WHOLE, bases_of, compatible_with, is_integer_or_cardinal, is_one_char,
+    is_string, operand_type, range_of,
 };
 
 /// Whether a value is in a range, where there is one.
@@ -34,27 +40,6 @@ pub fn is_within(ends: Option<(i64, i64)>, value: i64) -> bool
         None => true,
         Some((low, high)) => low <= value && value <= high,
     }
-}
-
-/// Whether two operands are sets of one type.
-#[tactic(auto, using(type_rules::proofs::Reading::reading, crate::proofs::TypesThere::there))]
-pub(crate) fn are_sets_alike<S: Scopes>(
-    scopes: &mut S,
-    site: &Site,
-    x: Operand,
-    y: Operand,
-) -> Ask<bool>
-    requires suits { SuitsSite (S.state scopes.old).frame site.now }
-    requires x { IsOperand (S.state scopes.old).frame x }
-    requires y { IsOperand (S.state scopes.old).frame y }
-    ensures reads { Reads (S.state scopes.old) (S.state scopes.new) }
-    ensures waits { WhereWaiting result (λ head. Waits (S.state scopes.old) (S.state scopes.new) head) }
-    ensures told { WhereTold (S.state scopes.old).frame (λ made.
-        WhereKnown result (λ given. let c = context_of (S.state scopes.old).frame made site.now in given ≡ spec_alike c x y)) }
-{
-    let left = known!(set_row(scopes, site.around, operand_type(&x)));
-    let right = known!(set_row(scopes, site.around, operand_type(&y)));
-    Ask::Known(are_alike(left, right))
 }
 
 /// Whether a type is that of whole constants.
@@ -73,6 +58,7 @@ pub fn is_ordinal<S: Scopes>(scopes: &mut S, site: &Site, x: Operand) -> Ask<boo
     ensures waits { WhereWaiting result (λ head. Waits (S.state scopes.old) (S.state scopes.new) head) }
     ensures told { WhereTold (S.state scopes.old).frame (λ made.
         WhereKnown result (λ given. let c = context_of (S.state scopes.old).frame made site.now in given ≡ spec_ordinal c x)) }
+    ensures stops { WhereWaiting result (λ head. StopsAtType (S.state scopes.new) site.now.around.now (spec_operand_type x) head) }
 {
     let of = operand_type(&x);
     if is_whole(of) {
@@ -96,69 +82,40 @@ fn is_char(base: Place) -> bool
     base == CHARACTER
 }
 
-/// Whether an operand is a string of one character beside a CHAR that is no string.
-#[tactic(auto, using(type_rules::proofs::Reading::reading, crate::proofs::TypesThere::there))]
-fn is_beside_char<S: Scopes>(scopes: &mut S, site: &Site, x: Operand, y: Operand) -> Ask<bool>
-    requires suits { SuitsSite (S.state scopes.old).frame site.now }
-    requires y { IsOperand (S.state scopes.old).frame y }
-    ensures reads { Reads (S.state scopes.old) (S.state scopes.new) }
-    ensures waits { WhereWaiting result (λ head. Waits (S.state scopes.old) (S.state scopes.new) head) }
-    ensures told { WhereTold (S.state scopes.old).frame (λ made.
-        WhereKnown result (λ given. let c = context_of (S.state scopes.old).frame made site.now in given ≡ spec_beside_char c.scene x y)) }
+/// Whether an operand is a string of one character beside a CHAR that is no string, whose type has this base.
+fn is_beside_char(x: &Operand, y: &Operand, base: Place) -> bool
+    ensures { (c : Context) → base ≡ base_type c y.now → result ≡ spec_beside_char c.scene x.now y.now }
 {
-    if may_be_char(&x, &y) {
-        let base = known!(base_of(scopes, site.around, operand_type(&y)));
-        Ask::Known(is_char(base))
+    if may_be_char(x, y) {
+        is_char(base)
     } else {
-        Ask::Known(false)
+        false
     }
 }
 
-/// An operand as it is taken beside another: a string of one character beside a CHAR is a CHAR.
-#[tactic(auto, using(type_rules::proofs::Reading::reading, crate::proofs::TypesThere::there))]
-pub(crate) fn taken_beside<S: Scopes>(
-    scopes: &mut S,
-    site: &Site,
-    x: Operand,
-    y: Operand,
-) -> Ask<Operand>
-    requires suits { SuitsSite (S.state scopes.old).frame site.now }
-    requires x { IsOperand (S.state scopes.old).frame x }
-    requires y { IsOperand (S.state scopes.old).frame y }
-    ensures reads { Reads (S.state scopes.old) (S.state scopes.new) }
-    ensures waits { WhereWaiting result (λ head. Waits (S.state scopes.old) (S.state scopes.new) head) }
-    ensures told { WhereTold (S.state scopes.old).frame (λ made.
-        WhereKnown result (λ given. let c = context_of (S.state scopes.old).frame made site.now in given ≡ spec_taken c.source c.scene x y)) }
-    ensures there { WhereKnown result (λ given. IsOperand (S.state scopes.old).frame given) }
+/// An operand as it is taken beside another, whose type has this base: a string of one character beside a CHAR is a CHAR.
+pub(crate) fn taken_beside(names: &Names, x: Operand, y: &Operand, base: Place) -> Operand
+    requires { IsNamed names.now x }
+    ensures told { (c : Context) → c.source.spellings ≡ names.now → base ≡ base_type c y.now → result ≡ spec_taken c.source c.scene x y.now }
+    ensures there { (f : Frame) → IsThere f character → IsOperand f x → IsOperand f result }
 {
-    if known!(is_beside_char(scopes, site, x, y)) {
-        let texts = site.texts;
-        Ask::Known(as_char(&texts.names, x))
+    if is_beside_char(&x, y, base) {
+        as_char(names, x)
     } else {
-        Ask::Known(x)
+        x
     }
 }
 
-/// Two operands as they are taken beside each other.
-#[tactic(auto, using(type_rules::proofs::Reading::reading, crate::proofs::TypesThere::there))]
-pub(crate) fn taken_pair<S: Scopes>(
-    scopes: &mut S,
-    site: &Site,
-    x: Operand,
-    y: Operand,
-) -> Ask<(Operand, Operand)>
-    requires suits { SuitsSite (S.state scopes.old).frame site.now }
-    requires x { IsOperand (S.state scopes.old).frame x }
-    requires y { IsOperand (S.state scopes.old).frame y }
-    ensures reads { Reads (S.state scopes.old) (S.state scopes.new) }
-    ensures waits { WhereWaiting result (λ head. Waits (S.state scopes.old) (S.state scopes.new) head) }
-    ensures told { WhereTold (S.state scopes.old).frame (λ made.
-        WhereKnown result (λ given. let c = context_of (S.state scopes.old).frame made site.now in given ≡ (spec_taken c.source c.scene x y, spec_taken c.source c.scene y x))) }
-    ensures there { WhereKnown result (λ given. IsOperand (S.state scopes.old).frame given.0 × IsOperand (S.state scopes.old).frame given.1) }
+/// The base of an operand as it is taken beside another, where their types have these bases.
+pub(crate) fn base_beside(x: &Operand, left: Place, y: &Operand, right: Place) -> Place
+    ensures told { (c : Context) → HasStandardRows c → left ≡ base_type c x.now → right ≡ base_type c y.now → result ≡ base_type c (spec_taken c.source c.scene x.now y.now) }
+    ensures there { (f : Frame) → IsThere f character → IsThere f left → IsThere f result }
 {
-    let left = known!(taken_beside(scopes, site, x, y));
-    let right = known!(taken_beside(scopes, site, y, x));
-    Ask::Known((left, right))
+    if is_beside_char(x, y, right) {
+        CHARACTER
+    } else {
+        left
+    }
 }
 
 /// Two operands as they are taken beside each other, where they are compatible.
@@ -178,12 +135,15 @@ pub fn compatible_pair<S: Scopes>(
         WhereKnown result (λ given. let c = context_of (S.state scopes.old).frame made site.now in given ≡ (if is_compatible c.scene x y then Some (spec_taken c.source c.scene x y, spec_taken c.source c.scene y x) else None))) }
     ensures there { WhereKnown result (λ given. IfSome given (λ pair. IsOperand (S.state scopes.old).frame pair.0 × IsOperand (S.state scopes.old).frame pair.1)) }
 {
-    let allowed = known!(compatible(scopes, site.around, &x, &y));
-    if allowed {
-        Ask::Known(Some(known!(taken_pair(scopes, site, x, y))))
-    } else {
-        Ask::Known(None)
+    let around = site.around;
+    let (left, right) = known!(bases_of(scopes, around, operand_type(&x), operand_type(&y)));
+    if !known!(compatible_with(scopes, around, &x, left, &y, right)) {
+        return Ask::Known(None);
     }
+    let texts = site.texts;
+    let first = taken_beside(&texts.names, x, &y, right);
+    let second = taken_beside(&texts.names, y, &x, left);
+    Ask::Known(Some((first, second)))
 }
 
 /// Whether an operand is a whole constant beside a base that is INTEGER or CARDINAL.
@@ -218,28 +178,32 @@ fn number_within(
     }
 }
 
+/// The least and the greatest value of INTEGER or CARDINAL.
+fn number_ends(base: Place) -> (i64, i64)
+    ensures { (c : Context) → HasStandardRows c → is_number_base base ≡ true → Some (range result.0 result.1) ≡ spec_range c.scene base }
+{
+    if base == INTEGER {
+        (LEAST_INTEGER, GREATEST_INTEGER)
+    } else {
+        (0, GREATEST_CARDINAL)
+    }
+}
+
 /// A whole constant takes the other operand's base, INTEGER or CARDINAL; outside its range it is refused.
-#[tactic(auto, using(type_rules::proofs::Reading::reading, crate::proofs::TypesThere::there))]
-pub(crate) fn as_number<S: Scopes>(
-    scopes: &mut S,
-    site: &Site,
-    at: u32,
-    other: Place,
-    x: Operand,
-) -> Ask<Result<Operand, Fault>>
-    requires suits { SuitsSite (S.state scopes.old).frame site.now }
-    requires other { IsThere (S.state scopes.old).frame other }
-    requires x { IsOperand (S.state scopes.old).frame x }
-    ensures reads { Reads (S.state scopes.old) (S.state scopes.new) }
-    ensures waits { WhereWaiting result (λ head. Waits (S.state scopes.old) (S.state scopes.new) head) }
-    ensures told { WhereTold (S.state scopes.old).frame (λ made.
-        WhereKnown result (λ given. let c = context_of (S.state scopes.old).frame made site.now in judged c given ≡ spec_as_number c at other x)) }
-    ensures there { WhereKnown result (λ given. IfOk given (λ operand. IsOperand (S.state scopes.old).frame operand)) }
+pub(crate) fn as_number(at: u32, other: Place, x: Operand) -> Result<Operand, Fault>
+    ensures told { (c : Context) → HasStandardRows c → judged c result ≡ spec_as_number c at other x }
+    ensures there { (f : Frame) → IsThere f other → IsOperand f x → IfOk result (λ operand. IsOperand f operand) }
 {
     if takes_base(x, other) {
-        let ends = known!(range_of(scopes, site.around, other));
-        Ask::Known(number_within(at, other, ends, x))
+        number_within(at, other, Some(number_ends(other)), x)
     } else {
-        Ask::Known(Ok(x))
+        Ok(x)
     }
+}
+
+/// The base of an operand with this base as it is taken as a number beside another.
+pub(crate) fn number_base(x: Operand, base: Place, other: Place) -> Place
+    ensures { (c : Context) (at : ℕ) (y : Taken) → HasStandardRows c → base ≡ base_type c x → gives y ≡ spec_as_number c at other x → result ≡ base_type c y }
+{
+    if takes_base(x, other) { other } else { base }
 }

@@ -16,6 +16,7 @@ ghost use Rattle.const_eval.specs.Sites.{IsOperand};
 ghost use Rattle.type_rules.specs.Asks.{Reads, WhereKnown, WhereWaiting};
 ghost use Rattle.type_rules.specs.Scenes.{IsThere, WhereTold};
 ghost use Rattle.type_rules.specs.Sites.{SuitsSite, context_of};
+ghost use Rattle.type_rules.specs.Standing.{StopsAtType};
 
 use crate::faults::Fault;
 use crate::operands::{is_bad, is_procedure};
@@ -61,6 +62,7 @@ fn named_set_type<S: Scopes>(
     ensures told { WhereTold (S.state scopes.old).frame (λ made.
         WhereKnown result (λ given. let c = context_of (S.state scopes.old).frame made site.now in judged_or c broken given ≡ spec_set_type c at (Operand.NamedType of))) }
     ensures there { WhereKnown result (λ given. IfOk given (λ of. IsThere (S.state scopes.old).frame of)) }
+    ensures stops { WhereWaiting result (λ head. StopsAtType (S.state scopes.new) site.now.around.now of head) }
 {
     Ask::Known(set_type(at, known!(set_row(scopes, site.around, of))))
 }
@@ -98,6 +100,7 @@ pub fn set_base<S: Scopes>(scopes: &mut S, site: &Site, of: Place) -> Ask<Place>
     ensures told { WhereTold (S.state scopes.old).frame (λ made.
         WhereKnown result (λ given. let c = context_of (S.state scopes.old).frame made site.now in given ≡ spec_base c of)) }
     ensures there { WhereKnown result (λ given. IsThere (S.state scopes.old).frame given) }
+    ensures stops { WhereWaiting result (λ head. StopsAtType (S.state scopes.new) site.now.around.now of head) }
 {
     Ask::Known(base_in_row(known!(set_row(scopes, site.around, of))))
 }

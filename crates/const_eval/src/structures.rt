@@ -1,11 +1,13 @@
 //! What the row of a type says that isn't ordinal.
 ghost use Rattle.std.specs.Prelude.{◌≡◌};
 ghost use Rattle.std.specs.Option.{IfSome};
+ghost use Rattle.m2_base.specs.Standard.{broken};
 ghost use Rattle.m2_base.specs.States.{Waits};
 ghost use Rattle.m2_base.specs.Statics.Types.{is_broken as spec_broken, kind_of, stands_for};
 ghost use Rattle.const_eval.specs.Structures.{are_alike as spec_alike, set_row_by};
 ghost use Rattle.type_rules.specs.Asks.{Reads, WhereKnown, WhereWaiting};
 ghost use Rattle.type_rules.specs.Scenes.{Suits, IsThere, scene_of, WhereTold};
+ghost use Rattle.type_rules.specs.Standing.{StopsAtEither, StopsAtType};
 
 use m2_base::{Around, Ask, Place, RowMeaning, Scopes};
 use type_rules::{BROKEN, same, stand};
@@ -19,12 +21,13 @@ pub fn is_broken<S: Scopes>(scopes: &mut S, around: &Around, of: Place) -> Ask<b
     ensures waits { WhereWaiting result (λ head. Waits (S.state scopes.old) (S.state scopes.new) head) }
     ensures told { WhereTold (S.state scopes.old).frame (λ made.
         WhereKnown result (λ holds. holds ≡ spec_broken (scene_of (S.state scopes.old).frame made around.now) of)) }
+    ensures stops { WhereWaiting result (λ head. StopsAtEither (S.state scopes.new) around.now of broken head) }
 {
     same(scopes, around, of, BROKEN)
 }
 
 /// The place and the base of a set's row.
-fn set_by(place: Place, meaning: RowMeaning) -> Option<(Place, Place)>
+pub(crate) fn set_by(place: Place, meaning: RowMeaning) -> Option<(Place, Place)>
     ensures { result ≡ set_row_by place meaning }
 {
     match meaning {
@@ -57,6 +60,7 @@ pub(crate) fn set_row<S: Scopes>(
     ensures told { WhereTold (S.state scopes.old).frame (λ made.
         WhereKnown result (λ row. let scene = scene_of (S.state scopes.old).frame made around.now in row ≡ set_row_by (stands_for scene of) (kind_of scene of))) }
     ensures there { WhereKnown result (λ row. IfSome row (λ row. IsThere (S.state scopes.old).frame row.0 × IsThere (S.state scopes.old).frame row.1)) }
+    ensures stops { WhereWaiting result (λ head. StopsAtType (S.state scopes.new) around.now of head) }
 {
     let (place, meaning) = known!(stand(scopes, around, of));
     Ask::Known(set_by(place, meaning))

@@ -1,5 +1,5 @@
 -- The cells of arrays, and types of too many cells.
-use Rattle.std.specs.Prelude.{◌≡◌, ℕ, ◌*◌, ◌<◌, ◌≤◌, ◌^◌, Bool, true, false, if◌then◌else◌, List, [], ◌∷◌, length, max, min, nat_lt}
+use Rattle.std.specs.Prelude.{◌≡◌, ℕ, ◌*◌, ◌<◌, ◌≤◌, ◌^◌, Bool, true, false, if◌then◌else◌, List, [], ◌∷◌, length, max, min, nat_lt, ◌+◌}
 use Rattle.std.proofs.Common.{refl, sym, ap, ◌∙◌, subst, arith, Ok, Err, Result}
 use Rattle.std.proofs.lemmas.List.{append-nil}
 use Rattle.m2_base.specs.Noting.{IsRefused}
@@ -44,7 +44,7 @@ fitting_as : (c : Context) (at size : ℕ) (t : Place) (b : Bool) → nat_lt mos
 fitting_as c at size t b e = ap (λ (k : Bool). if k then refuse c at too_many_cells broken else gives t) (sym e)
 
 -- a type that is kept
-pub fits : (a : State) (x : Made) (s : Site) (at size : ℕ) (t : Place) → size < 16777216 → IsBehind a.frame (next_ordinal x) t
+pub fits : (a : State) (x : Made) (s : Site) (at size : ℕ) (t : Place) → size < most_cells + 1 → IsBehind a.frame (next_ordinal x) t
     → Declares a a x x s (Ok (Known t)) [] IsBehind (λ c. only_gives (fitting c at size t))
 fits a x s at size t h behind =
     let few : nat_lt most_cells size ≡ false = grind (arith, h) in
@@ -52,7 +52,7 @@ fits a x s at size t h behind =
     (λ hand in_hand told same. ap only_gives (fitting_as (context_of a.frame hand s) at size t false few))
 
 -- one that is refused
-pub too_large : {y : Notes} (a : State) (x : Made) (s : Site) (at size : ℕ) (t : Place) → 16777216 ≤ size → IsMaking a.frame s x [] → IsRefused x.notes y s.around.now.text at too_many_cells
+pub too_large : {y : Notes} (a : State) (x : Made) (s : Site) (at size : ℕ) (t : Place) → most_cells + 1 ≤ size → IsMaking a.frame s x [] → IsRefused x.notes y s.around.now.text at too_many_cells
     → y.answers.items ≡ x.notes.answers.items → IsPrefixOf x.notes.diags.items y.diags.items
     → Declares a a x (record x { notes = y }) s (Ok (Known broken)) [] IsBehind (λ c. only_gives (fitting c at size t))
 too_large {y} a x s at size t h making noted answers diags =

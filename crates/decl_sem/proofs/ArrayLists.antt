@@ -6,7 +6,7 @@ use Rattle.std.specs.Result.{IsErr}
 use Rattle.std.specs.declared.alloc.Global.{Global}
 use Rattle.std.specs.declared.boxed.Box.{Box}
 use Rattle.std.specs.declared.vec.Vec.{Vec}
-use Rattle.m2_base.proofs.Kept.{Each-append}
+use Rattle.m2_base.proofs.EachLaws.{each_append}
 use Rattle.m2_base.proofs.Seen.{array_seen}
 use Rattle.m2_base.specs.Lists.{Each}
 use Rattle.m2_base.specs.Rows.{array_kind}
@@ -208,7 +208,7 @@ module _ {a b : State} {x y : Made} {s : Site} (types : List code.TypeExpr.TypeE
       (record {
         on = goes_step (λ c. index_row c next) (λ i c. rest_rows c (indexes ++ i ∷ []) (trees (drop (k + 1) types))) (type_no_types next) indexes_at p;
         count = length-append indexes (i ∷ []) ∙ ap (λ (n : ℕ). n + 1) so.count;
-        behind = Each-append (IsBehind e.frame (next_ordinal z)) indexes (i ∷ []) (all_behind p indexes so.behind) (subst (λ (f : Frame). IsBehind f (next_ordinal z) i) (sym p.works.keeps.frame) p.there, tt);
+        behind = each_append (IsBehind e.frame (next_ordinal z)) indexes (i ∷ []) (all_behind p indexes so.behind) (subst (λ (f : Frame). IsBehind f (next_ordinal z) i) (sym p.works.keeps.frame) p.there, tt);
       })
 
   pub indexes_failed : {e : State} {z : Made} {m : Memory} (n : Memory) → Declares b e y z s (Err m) (type_shapes next) IsBehind (λ c. index_row c next)

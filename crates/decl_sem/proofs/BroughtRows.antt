@@ -32,7 +32,8 @@ use Rattle.m2_base.specs.declared.rows.RowMeaning.TheVariants.{Alias}
 use Rattle.m2_base.specs.declared.sites.Named.{Named}
 use Rattle.m2_base.specs.declared.sites.Site.{Site}
 use Rattle.m2_base.specs.declared.trees.Ident.{Ident}
-use Rattle.m2_base.proofs.Kept.{Each-map, Works-kept, Works-notes, Works-trans, IsPrefixOf-refl}
+use Rattle.m2_base.proofs.EachLaws.{each_then}
+use Rattle.m2_base.proofs.Kept.{Works-kept, Works-notes, Works-trans, IsPrefixOf-refl}
 use Rattle.type_rules.specs.Asks.{Reads}
 use Rattle.type_rules.specs.Scenes.{AreInHand, Hand}
 use Rattle.type_rules.specs.Sites.{context_of}
@@ -342,7 +343,7 @@ pub room_for_brought : {f : Frame} {s : Site} {x : Made} {ss : List Shape} → I
 room_for_brought making = let r = making.room in let n = making.few in omega (arith, r, n)
 
 pub places_small : {f : Frame} {s : Site} {x : Made} {ss : List Shape} → IsMaking f s x ss → (ms : List Member) → AreNewMembers f s x ms → Each (λ (m : Member). m.place.scope < 2 ^ 31) ms
-places_small {f} {s} {x} making ms new = Each-map (IsNewMember f s (next_ordinal x)) (λ (m : Member). m.place.scope < 2 ^ 31) ms (λ m h. let b = h.member.before in let n = making.small in omega (arith, b, n)) new.each
+places_small {f} {s} {x} making ms new = each_then (IsNewMember f s (next_ordinal x)) (λ (m : Member). m.place.scope < 2 ^ 31) ms (λ m h. let b = h.member.before in let n = making.small in omega (arith, b, n)) new.each
 
 -- memory is wanted for a note
 pub found_unmade : {s : Site} {x y : Made} (at : ℕ) (found : Found) (a : State) (m : Memory) → y.notes.answers.items ≡ x.notes.answers.items → IsPrefixOf x.notes.diags.items y.notes.diags.items → y.first ≡ x.first
@@ -397,7 +398,7 @@ again_piece {s} {x} {y} i target again result made rows is answers diags first a
       kind = refl;
       at = refl;
       name = again_kept s.layout.now (next_ordinal x) i.name some
-          (Each-map (λ b. b.ordinal < x.first) (λ b. b.ordinal < next_ordinal x) s.layout.now.brought (λ b h. omega (arith, h)) making.old);
+          (each_then (λ b. b.ordinal < x.first) (λ b. b.ordinal < next_ordinal x) s.layout.now.brought (λ b h. omega (arith, h)) making.old);
     })
     (new_row a.frame s (next_ordinal x) 0 i.at (Alias target) (some_names making) (record { small = behind.small; scopes = small_scope making behind; fits = before_next behind; filled = tt; owned = tt }))
   where

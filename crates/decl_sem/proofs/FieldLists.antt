@@ -5,7 +5,7 @@ use Rattle.std.proofs.lemmas.List.{append-nil}
 use Rattle.m2_base.specs.Lists.{Each}
 use Rattle.m2_base.specs.Rows.{field_kind, row_meaning, type_name_kind}
 use Rattle.m2_base.specs.States.{Frame, State}
-use Rattle.m2_base.specs.Statics.Cells.{capped}
+use Rattle.m2_base.specs.Statics.Cells.{capped, most_cells}
 use Rattle.m2_base.specs.Statics.Contexts.{Context, Scene}
 use Rattle.m2_base.specs.Statics.Fields.{field_row, plain_rows, tag_rows}
 use Rattle.m2_base.specs.Statics.Makes.{Makes, makes, with_rows}
@@ -43,12 +43,12 @@ read_field texts xs k d h all = read_at texts xs k d h all
 
 -- the first k of the fields are made, and the next offset is this one
 pub record HasFields (a : State) (s : Site) (before now : Made) (own : ℕ) (of : Place) (size first : ℕ) (names : List Ident) (k offset : ℕ) : Type 0 where
-  pub offset_is : offset ≤ 16777216
+  pub offset_is : offset ≤ most_cells + 1
   pub count : next_ordinal before ≤ next_ordinal now
   pub first_is : now.first ≡ before.first
   pub on : GoesOn a a before now s (shapes names) (shapes (drop k names)) IsOffset (λ c. sized_fields c own of size first names) (λ c. sized_fields c own of size offset (drop k names))
 
-pub no_fields_yet : {a : State} {s : Site} {before : Made} {names : List Ident} (own : ℕ) (of : Place) (size first : ℕ) → IsMaking a.frame s before (shapes names) → first ≤ 16777216
+pub no_fields_yet : {a : State} {s : Site} {before : Made} {names : List Ident} (own : ℕ) (of : Place) (size first : ℕ) → IsMaking a.frame s before (shapes names) → first ≤ most_cells + 1
     → HasFields a s before before own of size first names 0 first
 no_fields_yet own of size first making h = record { offset_is = h; count = omega arith; first_is = refl; on = goes_start making }
 
@@ -134,7 +134,7 @@ fields_of_size {a} {b} {x} {z} {s} own t offset names size answer making reads i
 -- ** A tag
 
 -- a tag without a name
-pub no_tag : (a : State) (x : Made) (s : Site) (own offset : ℕ) (t : Place) (tag : Option Ident) → tag ≡ None → offset ≤ 16777216
+pub no_tag : (a : State) (x : Made) (s : Site) (own offset : ℕ) (t : Place) (tag : Option Ident) → tag ≡ None → offset ≤ most_cells + 1
     → Declares a a x x s (Ok (Known offset)) (tag_shapes tag) IsOffset (λ c. tag_rows c own offset t tag)
 no_tag a x s own offset t tag e h =
     subst (λ (o : Option Ident). Declares a a x x s (Ok (Known offset)) (tag_shapes o) IsOffset (λ c. tag_rows c own offset t o)) (sym e) (value_alone a x s offset IsOffset h)

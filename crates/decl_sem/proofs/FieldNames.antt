@@ -1,6 +1,6 @@
 -- A field, and whether it is the second of its name.
 use Rattle.std.specs.List.{list_any}
-use Rattle.std.specs.Prelude.{◌≡◌, ℕ, ◌<◌, ◌≤◌, ◌==◌, ◌&&◌, ◌||◌, Bool, true, false, if◌then◌else◌, List, [], ◌∷◌, ◌++◌, length, Result, Ok, Err}
+use Rattle.std.specs.Prelude.{◌≡◌, ℕ, ◌<◌, ◌≤◌, ◌==◌, ◌&&◌, ◌||◌, Bool, true, false, if◌then◌else◌, List, [], ◌∷◌, ◌++◌, length, Result, Ok, Err, ◌+◌}
 use Rattle.std.proofs.Common.{refl, sym, ap, ◌∙◌, subst, arith}
 use Rattle.std.proofs.lemmas.List.{append-nil}
 use Rattle.std.proofs.lemmas.List.Folds.{list_any-append}
@@ -8,6 +8,7 @@ use Rattle.m2_base.specs.Gives.{Gives}
 use Rattle.m2_base.specs.Lists.{Each, IsPrefixOf}
 use Rattle.m2_base.specs.Rows.{field_kind, row_meaning}
 use Rattle.m2_base.specs.States.{Frame, State}
+use Rattle.m2_base.specs.Statics.Cells.{most_cells}
 use Rattle.m2_base.specs.Statics.Contexts.{Context, diag}
 use Rattle.m2_base.specs.Statics.Diagnostics.{declared_twice}
 use Rattle.m2_base.specs.Statics.Fields.{field_row, field_with}
@@ -98,7 +99,7 @@ field_after c own i t offset none =
     go false = refl
 
 -- the meaning of a field's row
-pub field_meaning : {f : Frame} {s : Site} {x : Made} {ss : List Shape} {i : Ident} {t : Place} {offset own : ℕ} → IsMaking f s x ss → IsBehind f (next_ordinal x) t → IsReadName s.texts.now.names i → offset ≤ 16777216 → own < item_end s
+pub field_meaning : {f : Frame} {s : Site} {x : Made} {ss : List Shape} {i : Ident} {t : Place} {offset own : ℕ} → IsMaking f s x ss → IsBehind f (next_ordinal x) t → IsReadName s.texts.now.names i → offset ≤ most_cells + 1 → own < item_end s
     → IsNewMeaning f s (next_ordinal x) (Field t offset own i.name)
 field_meaning {f} {s} {x} {i = i} making behind read small within =
     record {

@@ -9,7 +9,7 @@ use Rattle.m2_base.specs.Statics.Contexts.{Layout}
 use Rattle.m2_base.specs.Statics.Lookup.{brought_before, entry_named, entry_or, moved}
 use Rattle.m2_base.specs.Statics.Shapes.{Shape, item_shapes}
 use Rattle.m2_base.specs.declared.sites.Named.{Named}
-use Rattle.m2_base.proofs.Kept.{Each-append}
+use Rattle.m2_base.proofs.EachLaws.{each_append}
 use Rattle.decl_sem.specs.Pieces.{BeginsAt}
 
 -- the rows of these items
@@ -57,7 +57,7 @@ of_item P i o (s ∷ ss) h =
 later : (item first : ℕ) (items : List Item) (i o : ℕ) → item ≤ i → Each (IsEarly item first) (names_from i o items)
 later item first [] i o h = tt
 later item first (x ∷ items) i o h =
-    Each-append (IsEarly item first) (names_of_item i o (item_shapes x)) (names_from (i + 1) (o + length (item_shapes x)) items)
+    each_append (IsEarly item first) (names_of_item i o (item_shapes x)) (names_from (i + 1) (o + length (item_shapes x)) items)
     (of_item (IsEarly item first) i o (item_shapes x) (λ name n kind at m k early. absurd (omega arith)))
     (later item first items (i + 1) (o + length (item_shapes x)) (omega arith))
 
@@ -67,7 +67,7 @@ early (x ∷ before) rest i o =
     let n : i + 1 + length before ≡ i + length (x ∷ before) = omega arith in
     let e = rows_more x before in
     let g : o + length (item_shapes x) + rows_of before ≡ o + rows_of (x ∷ before) = omega arith in
-    Each-append (IsEarly (i + length (x ∷ before)) (o + rows_of (x ∷ before))) (names_of_item i o (item_shapes x)) (names_from (i + 1) (o + length (item_shapes x)) (before ++ rest))
+    each_append (IsEarly (i + length (x ∷ before)) (o + rows_of (x ∷ before))) (names_of_item i o (item_shapes x)) (names_from (i + 1) (o + length (item_shapes x)) (before ++ rest))
     (of_item (IsEarly (i + length (x ∷ before)) (o + rows_of (x ∷ before))) i o (item_shapes x) (λ name m kind at p k h. omega arith))
     (subst (λ (k : ℕ). Each (IsEarly k (o + rows_of (x ∷ before))) (names_from (i + 1) (o + length (item_shapes x)) (before ++ rest))) n
     (subst (λ (k : ℕ). Each (IsEarly (i + 1 + length before) k) (names_from (i + 1) (o + length (item_shapes x)) (before ++ rest))) g (early before rest (i + 1) (o + length (item_shapes x)))))
@@ -81,7 +81,7 @@ IsLate item first e = item ≤ e.item → first ≤ e.ordinal
 behind_first : (items : List Item) (i o first item : ℕ) → first ≤ o → Each (IsLate item first) (names_from i o items)
 behind_first [] i o first item h = tt
 behind_first (x ∷ items) i o first item h =
-    Each-append (IsLate item first) (names_of_item i o (item_shapes x)) (names_from (i + 1) (o + length (item_shapes x)) items)
+    each_append (IsLate item first) (names_of_item i o (item_shapes x)) (names_from (i + 1) (o + length (item_shapes x)) items)
     (of_item (IsLate item first) i o (item_shapes x) (λ name n kind at m k late. omega (arith, h, m)))
     (behind_first items (i + 1) (o + length (item_shapes x)) first item (omega (arith, h)))
 
@@ -91,7 +91,7 @@ late (x ∷ before) rest i o =
     let n : i + 1 + length before ≡ i + length (x ∷ before) = omega arith in
     let e = rows_more x before in
     let g : o + length (item_shapes x) + rows_of before ≡ o + rows_of (x ∷ before) = omega arith in
-    Each-append (IsLate (i + length (x ∷ before)) (o + rows_of (x ∷ before))) (names_of_item i o (item_shapes x)) (names_from (i + 1) (o + length (item_shapes x)) (before ++ rest))
+    each_append (IsLate (i + length (x ∷ before)) (o + rows_of (x ∷ before))) (names_of_item i o (item_shapes x)) (names_from (i + 1) (o + length (item_shapes x)) (before ++ rest))
     (of_item (IsLate (i + length (x ∷ before)) (o + rows_of (x ∷ before))) i o (item_shapes x) (λ name m kind at p k h. absurd (omega (arith, h))))
     (subst (λ (k : ℕ). Each (IsLate k (o + rows_of (x ∷ before))) (names_from (i + 1) (o + length (item_shapes x)) (before ++ rest))) n
     (subst (λ (k : ℕ). Each (IsLate (i + 1 + length before) k) (names_from (i + 1) (o + length (item_shapes x)) (before ++ rest))) g (late before rest (i + 1) (o + length (item_shapes x)))))

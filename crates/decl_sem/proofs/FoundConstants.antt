@@ -1,9 +1,9 @@
 -- The constants of an enumeration, one after another.
 use Rattle.std.specs.HashSet.{contains}
 use Rattle.std.specs.List.{list_any}
-use Rattle.std.specs.Prelude.{◌≡◌, ◌≢◌, ◌⊎◌, ℕ, zero, suc, ◌+◌, ◌-◌, ◌<◌, ◌≤◌, ◌==◌, ◌||◌, ◌&&◌, nat_eq, nat_lt, Bool, true, false, not, cond, is_some, if◌then◌else◌, List, [], ◌∷◌, ◌++◌, length, map, take, drop, slice_get, slice_index_or, Option, None, Some, option_map, unwrap_or, Result, Ok, Err}
+use Rattle.std.specs.Prelude.{◌≡◌, ◌≢◌, ◌⊎◌, ℕ, zero, suc, ◌+◌, ◌-◌, ◌<◌, ◌≤◌, ◌==◌, ◌||◌, ◌&&◌, nat_eq, nat_lt, Bool, true, false, not, cond, is_some, if◌then◌else◌, List, [], ◌∷◌, ◌++◌, length, map, take, drop, slice_get, slice_index_or, Option, None, Some, option_map, unwrap_or, Result, Ok, Err, ◌^◌, min}
 use Rattle.std.proofs.Common.{refl, sym, ap, ◌∙◌, subst, arith, inl, inr}
-use Rattle.std.proofs.lemmas.List.{append_assoc, append-nil, drop_all, drop_more, length-append, length-map}
+use Rattle.std.proofs.lemmas.List.{append_assoc, append-nil, drop_all, drop_more, length-append, length-drop, length-map, take_all}
 use Rattle.std.proofs.lemmas.List.Folds.{list_any-append}
 use Rattle.m2_base.specs.Asks.{IfKnown}
 use Rattle.m2_base.specs.Finished.{IsFinished}
@@ -30,11 +30,12 @@ use Rattle.m2_base.specs.declared.rows.Place.{Place}
 use Rattle.m2_base.specs.declared.rows.Row.{Row}
 use Rattle.m2_base.specs.declared.rows.RowMeaning.TheVariants.{Broken}
 use Rattle.m2_base.specs.declared.sites.Site.{Site}
-use Rattle.m2_base.proofs.Kept.{Each-append}
+use Rattle.m2_base.proofs.EachLaws.{each_append}
 use Rattle.type_rules.specs.Scenes.{AreInHand, Hand, rows_of, scene_of}
-use Rattle.type_rules.specs.Sites.{context_of}
+use Rattle.type_rules.specs.Sites.{SuitsSite, context_of}
+use Rattle.type_rules.proofs.Counting.{counted_below}
 use Rattle.decl_sem.specs.Brought.{brings_new}
-use Rattle.decl_sem.specs.FoundConstants.{AreFound, AreNewMembers, AreSeen, Differ, IsMember, IsNewMember, constant_by, constants_of, member_view, with_member}
+use Rattle.decl_sem.specs.FoundConstants.{AreFound, AreNewMembers, AreSeen, Differ, IsMember, IsNewMember, constant_by, constants_left, constants_of, member_view, with_member}
 use Rattle.decl_sem.specs.Making.{next_ordinal}
 use Rattle.decl_sem.specs.NewNames.{earlier_row}
 use Rattle.decl_sem.specs.Pieces.{IsMaking, WhereMaking}
@@ -76,12 +77,12 @@ names_differ name (m ∷ members) h = go (m.name == name) refl h (λ e. names_di
 
 differ_more : (members : List Member) (m : Member) → Differ members → Each (λ (k : Member). m.name ≢ k.name) members → Differ (members ++ m ∷ [])
 differ_more [] m h others = (tt, tt)
-differ_more (k ∷ members) m h others = (Each-append (λ (j : Member). j.name ≢ k.name) members (m ∷ []) h.0 (others.0, tt), differ_more members m h.1 others.1)
+differ_more (k ∷ members) m h others = (each_append (λ (j : Member). j.name ≢ k.name) members (m ∷ []) h.0 (others.0, tt), differ_more members m h.1 others.1)
 
 new_more : (f : Frame) (s : Site) (made : Made) (members : List Member) (m : Member) → AreNewMembers f s made members → IsNewMember f s (next_ordinal made) m → list_any (λ k. k.name == m.name) members ≡ false → AreNewMembers f s made (members ++ m ∷ [])
 new_more f s made members m h is other =
     record {
-      each = Each-append (IsNewMember f s (next_ordinal made)) members (m ∷ []) h.each (is, tt);
+      each = each_append (IsNewMember f s (next_ordinal made)) members (m ∷ []) h.each (is, tt);
       differ = differ_more members m h.differ (names_differ m.name members other);
     }
 
@@ -235,10 +236,6 @@ found_framed s made all rest found e h = subst (λ (k : Frame). AreFound k s mad
 
 -- ** The constants at their places
 
--- those with ordinals from this one up to the end
-abbrev pub constants_left : (scope o end : ℕ) → Context → List plain.Member
-constants_left scope o end c = constants_from scope o (take (end - o) (drop o (rows_at c.scene.tables scope)))
-
 take_none : (n : ℕ) → take n (let xs : List Row = [] in xs) ≡ []
 take_none zero = refl
 take_none (suc n) = refl
@@ -289,12 +286,40 @@ left_step scope o end c below = go (within_or_past o (length (rows_at c.scene.ta
 pub left_none : (scope o end : ℕ) (c : Context) → end ≤ o → constants_left scope o end c ≡ []
 left_none scope o end c past = let none : end - o ≡ 0 = omega (arith, past) in ap (λ n. constants_from scope o (take n (drop o (rows_at c.scene.tables scope)))) none
 
--- all are left at the begin
-pub left_all : (of : Place) (count first end : ℕ) (c : Context) → first ≡ of.ordinal + 1 → end ≡ of.ordinal + 1 + count → constants_of c.scene (Some (of, count)) ≡ constants_left of.scope first end c
-left_all of count first end c begin behind =
-    let n : end - first ≡ count = omega (arith, begin, behind) in
-    ap (λ k. constants_from of.scope (of.ordinal + 1) (take k (drop (of.ordinal + 1) (rows_at c.scene.tables of.scope)))) (sym n)
-    ∙ ap (λ k. constants_from of.scope k (take (end - first) (drop k (rows_at c.scene.tables of.scope)))) (sym begin)
+-- as many rows as there are, or more
+same_front : (n m : ℕ) (rows : List Row) → (n ≡ m) ⊎ ((length rows ≤ n) × (length rows ≤ m)) → take n rows ≡ take m rows
+same_front n m rows (inl same) = ap (λ k. take k rows) same
+same_front n m rows (inr all) = take_all n rows all.0 ∙ sym (take_all m rows all.1)
+
+-- all are left at the begin, where no row stands behind the greatest ordinal
+pub left_all : (of : Place) (count first end : ℕ) (c : Context) → of.ordinal < 2 ^ 32 → first ≡ min (of.ordinal + 1) (2 ^ 32 - 1) → end ≡ min (first + count) (2 ^ 32 - 1) → length (rows_at c.scene.tables of.scope) < 2 ^ 32
+    → constants_of c.scene (Some (of, count)) ≡ constants_left of.scope first end c
+left_all of count first end c small begin behind few = go (within_or_past (of.ordinal + 1) (2 ^ 32))
+  where
+    rows : List Row
+    rows = rows_at c.scene.tables of.scope
+
+    go : (of.ordinal + 1 < 2 ^ 32) ⊎ (2 ^ 32 ≤ of.ordinal + 1) → constants_of c.scene (Some (of, count)) ≡ constants_left of.scope first end c
+    go (inl within) =
+        let at : of.ordinal + 1 ≡ first = omega (arith, begin, within) in
+        let l = length-drop (of.ordinal + 1) rows in
+        let n : (count ≡ end - first) ⊎ ((length (drop (of.ordinal + 1) rows) ≤ count) × (length (drop (of.ordinal + 1) rows) ≤ end - first)) =
+        elim (within_or_past (first + count) (2 ^ 32)) as (λ _. (count ≡ end - first) ⊎ ((length (drop (of.ordinal + 1) rows) ≤ count) × (length (drop (of.ordinal + 1) rows) ≤ end - first))) [
+          | inl fits ↦ inl (omega (arith, behind, fits, at))
+          | inr over ↦ inr (omega (arith, over, at, l, few), omega (arith, behind, over, at, l, few))
+        ] in
+        ap (constants_from of.scope (of.ordinal + 1)) (same_front count (end - first) (drop (of.ordinal + 1) rows) n)
+        ∙ ap (λ k. constants_from of.scope k (take (end - first) (drop k rows))) at
+    go (inr last) =
+        ap (λ (rs : List Row). constants_from of.scope (of.ordinal + 1) (take count rs)) (drop_all (of.ordinal + 1) rows (omega (arith, last, few)))
+        ∙ ap (constants_from of.scope (of.ordinal + 1)) (take_none count)
+        ∙ sym (left_none of.scope first end c (omega (arith, begin, behind, last)))
+
+-- the rows of a scope before have ordinals of 32 bits
+pub few_rows : {f : Frame} {s : Site} (hand : Hand) (scope : ℕ) → SuitsSite f s → IsFinished f.setting.texts hand.finished → scope < f.setting.fills → length (rows_at (context_of f hand s).scene.tables scope) < 2 ^ 32
+few_rows {f} hand scope suits told below =
+    let agrees = suits.around.told hand.finished told in
+    subst (λ (rows : List Row). length rows < 2 ^ 32) (sym (counted_below f hand scope agrees below)) (agrees.few scope)
 
 -- the rest, told otherwise
 pub found_rest : {f : Frame} {s : Site} {made : Made} {all : Context → List plain.Member} (rest more : Context → List plain.Member) {found : Found} → WhereMaking f made (λ hand. rest (context_of f hand s) ≡ more (context_of f hand s))

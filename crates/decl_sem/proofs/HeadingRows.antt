@@ -1,7 +1,7 @@
 -- The rows of a heading in the scope round the procedure.
-use Rattle.std.specs.Prelude.{◌≡◌, ℕ, ◌+◌, ◌<◌, ◌^◌, List, [], ◌∷◌, ◌++◌, filter, flat_map, length, map, Option, Result, Ok, Err}
+use Rattle.std.specs.Prelude.{◌≡◌, ℕ, ◌+◌, ◌<◌, ◌≤◌, ◌^◌, List, [], ◌∷◌, ◌++◌, filter, flat_map, length, map, Option, Result, Ok, Err}
 use Rattle.std.proofs.Common.{refl, sym, ap, ◌∙◌, subst, arith}
-use Rattle.std.proofs.lemmas.List.{append-nil}
+use Rattle.std.proofs.lemmas.List.{append-nil, length-append}
 use Rattle.m2_base.specs.Rows.{proc_kind, proc_type_kind, type_name_kind}
 use Rattle.m2_base.specs.States.{Frame, State}
 use Rattle.m2_base.specs.Statics.Contexts.{Context}
@@ -30,6 +30,7 @@ use Rattle.decl_sem.specs.Pieces.{Declares, IsAny, IsBehind, IsMaking, IsNewMean
 use Rattle.decl_sem.specs.declared.making.Made.{Made}
 use Rattle.decl_sem.proofs.Asking.{revalued}
 use Rattle.decl_sem.proofs.Hands.{hand_is, own_are}
+use Rattle.decl_sem.proofs.HeadingSums.{rows_are_shapes}
 use Rattle.decl_sem.proofs.OneRows.{before_next, small_scope}
 use Rattle.decl_sem.proofs.Parameters.{make_then_assoc}
 use Rattle.decl_sem.proofs.Pieces.{AreNoTypes, described, failed, making_front, making_on, then_after, value_alone, waiting}
@@ -143,6 +144,18 @@ heading_room ss ts making = let a = making.room in let b = making.few in omega a
 -- the last two shapes of a heading
 abbrev pub last_shapes : Heading → List Shape
 last_shapes h = nameless proc_type_kind h.name.at ∷ named proc_kind h.name ∷ []
+
+-- the rows of the sections are within those of the item
+pub rows_within : {f : Frame} {s : Site} {x : Made} (h : Heading) → IsMaking f s x (flat_map section_shapes (heading_view h).sections ++ last_shapes h) → next_ordinal x + sections_length (heading_view h).sections + 2 ≤ 2 ^ 31
+rows_within h making =
+    let l = length-append (flat_map section_shapes (heading_view h).sections) (last_shapes h) in
+    let e = rows_are_shapes h.sections.items in
+    let a = making.room in
+    let b = making.few in
+    omega arith
+
+pub few_rows : {f : Frame} {s : Site} {x : Made} (h : Heading) → IsMaking f s x (flat_map section_shapes (heading_view h).sections ++ last_shapes h) → sections_length (map section_view h.sections.items) ≤ 2 ^ 31
+few_rows h making = let w = rows_within h making in omega (arith, w)
 
 -- what the sections need
 pub sections_making : {f : Frame} {s : Site} {x : Made} (h : Heading) (sections : List Section) → sections ≡ h.sections.items → IsMaking f s x (flat_map section_shapes (heading_view h).sections ++ last_shapes h) → IsMaking f s x (flat_map section_shapes (map section_view sections))

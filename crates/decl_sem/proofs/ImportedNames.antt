@@ -1,5 +1,5 @@
 -- The rows of imports.
-use Rattle.std.specs.Prelude.{◌≡◌, ℕ, ◌<◌, ◌^◌, List, [], ◌∷◌, Option, None, Some, Result, Ok, Err}
+use Rattle.std.specs.Prelude.{◌≡◌, ℕ, ◌<◌, ◌≤◌, ◌^◌, List, [], ◌∷◌, Option, None, Some, Result, Ok, Err}
 use Rattle.std.proofs.Common.{refl, sym, ap, subst, arith}
 use Rattle.std.specs.Option.{IfSome}
 use Rattle.m2_base.specs.Rows.{alias_kind, module_kind}
@@ -44,6 +44,11 @@ use Rattle.decl_sem.proofs.Pieces.{analysed}
 -- the entry is that of a row that can be asked for
 abbrev pub IsEntry : Frame → Option Entry → Type 0
 IsEntry f o = IfSome o (λ e. IsRowOf f e.0 e.1)
+
+-- the row of a name of a module before is of a scope before
+pub entry_before : (scope fills : ℕ) (o : Option Entry) → IfSome o (λ e. e.0.scope ≤ scope) → scope < fills → IfSome o (λ e. e.0.scope < fills)
+entry_before scope fills None within before = tt
+entry_before scope fills (Some e) within before = omega (arith, within, before)
 
 pub module_meaning : {f : Frame} (s : Site) (o scope m : ℕ) → scope ≡ m → m < f.setting.fills → IsNewMeaning f s o (Module scope)
 module_meaning s o scope m e h = record { small = tt; scopes = tt; fits = omega arith; filled = tt; owned = tt }

@@ -1,11 +1,9 @@
 -- The scope of the definition module of a name: the modules one after another.
-use Rattle.std.specs.Prelude.{◌≡◌, ℕ, suc, ◌+◌, ◌<◌, ◌==◌, Bool, true, false, not, cond, nat_lt, if◌then◌else◌, List, [], ◌∷◌, length, drop, map, position, slice_index_or, None, Some, option_map, unwrap_or, Result, Ok, Err}
+use Rattle.std.specs.Prelude.{◌≡◌, ℕ, suc, ◌+◌, ◌<◌, ◌==◌, Bool, true, false, not, cond, nat_lt, if◌then◌else◌, List, [], ◌∷◌, length, drop, map, position, slice_index_or, None, Some, option_map, unwrap_or}
 use Rattle.std.specs.List.{position_or_len}
 use Rattle.std.proofs.Common.{refl, sym, ap, ◌∙◌, arith, get_or}
 use Rattle.m2_base.specs.Statics.Contexts.{DefinitionModule, scope_of_module}
-use Rattle.std.specs.Result.{IfOk}
 use Rattle.m2_base.specs.Units.{UnitTexts}
-use Rattle.m2_base.specs.declared.memory.Memory.{Memory}
 use Rattle.m2_base.specs.Finished.{definitions_of, no_text, source_of}
 use Rattle.std.proofs.lemmas.Bool.{lt-ltb}
 use Rattle.decl_sem.specs.ImportedModules.{first_from, is_text_named}
@@ -40,29 +38,28 @@ scope_is u name =
     ∙ over_map (λ (k : ℕ). record { name = (slice_index_or u.list k no_text).name; text = k }) (λ (d : DefinitionModule). d.name == name) u.order 1
 
 -- the first k don't pass
-pub record NoneYet (p : ℕ → Bool) (order : List ℕ) (scope k : ℕ) : Type 0 where
-  pub left : first_from p scope (drop k order) ≡ first_from p 1 order
+pub record NoneYet (p : ℕ → Bool) (order : List ℕ) (k : ℕ) : Type 0 where
+  pub left : first_from p (k + 1) (drop k order) ≡ first_from p 1 order
 
-pub none_yet : (p : ℕ → Bool) (order : List ℕ) → NoneYet p order 1 0
+pub none_yet : (p : ℕ → Bool) (order : List ℕ) → NoneYet p order 0
 none_yet p order = record { left = refl }
 
 one_step : (p : ℕ → Bool) (order : List ℕ) (scope k d : ℕ) → k < length order
     → first_from p scope (drop k order) ≡ (if p (get_or order k d) then scope else first_from p (scope + 1) (drop (k + 1) order))
 one_step p order scope k d h = ap (first_from p scope) (next_left order k d h)
 
-pub other_module : (p : ℕ → Bool) (order : List ℕ) (scope k d : ℕ) → k < length order → p (get_or order k d) ≡ false → NoneYet p order scope k → NoneYet p order (scope + 1) (k + 1)
-other_module p order scope k d h other so =
-    record { left = sym (one_step p order scope k d h ∙ ap (λ (b : Bool). if b then scope else first_from p (scope + 1) (drop (k + 1) order)) other) ∙ so.left }
+pub other_module : (p : ℕ → Bool) (order : List ℕ) (k d : ℕ) → k < length order → p (get_or order k d) ≡ false → NoneYet p order k → NoneYet p order (k + 1)
+other_module p order k d h other so =
+    record { left = sym (one_step p order (k + 1) k d h ∙ ap (λ (b : Bool). if b then k + 1 else first_from p (k + 1 + 1) (drop (k + 1) order)) other) ∙ so.left }
 
-pub this_module : (p : ℕ → Bool) (order : List ℕ) (scope k d : ℕ) → k < length order → p (get_or order k d) ≡ true → NoneYet p order scope k → scope ≡ first_from p 1 order
-this_module p order scope k d h same so =
-    sym (one_step p order scope k d h ∙ ap (λ (b : Bool). if b then scope else first_from p (scope + 1) (drop (k + 1) order)) same) ∙ so.left
+pub this_module : (p : ℕ → Bool) (order : List ℕ) (k d : ℕ) → k < length order → p (get_or order k d) ≡ true → NoneYet p order k → k + 1 ≡ first_from p 1 order
+this_module p order k d h same so =
+    sym (one_step p order (k + 1) k d h ∙ ap (λ (b : Bool). if b then k + 1 else first_from p (k + 1 + 1) (drop (k + 1) order)) same) ∙ so.left
 
-pub no_module : (p : ℕ → Bool) (order : List ℕ) (scope k : ℕ) → k ≡ length order → NoneYet p order scope k → 0 ≡ first_from p 1 order
-no_module p order scope k end so =
-    sym (ap (λ (n : ℕ). first_from p scope (drop n order)) end ∙ ap (first_from p scope) (none_left order)) ∙ so.left
+pub no_module : (p : ℕ → Bool) (order : List ℕ) (k : ℕ) → k ≡ length order → NoneYet p order k → 0 ≡ first_from p 1 order
+no_module p order k end so =
+    sym (ap (λ (n : ℕ). first_from p (k + 1) (drop n order)) end ∙ ap (first_from p (k + 1)) (none_left order)) ∙ so.left
 
 -- the scope of the module, by the list of the definition texts
-pub scope_told : (u : UnitTexts) (name : ℕ) (order : List ℕ) (answer : Result ℕ Memory) → order ≡ u.order → IfOk answer (λ scope. scope ≡ first_from (is_text_named u name) 1 order) → IfOk answer (λ scope. scope ≡ scope_of_module (source_of u) name)
-scope_told u name order (Ok scope) same h = h ∙ ap (first_from (is_text_named u name) 1) same ∙ sym (scope_is u name)
-scope_told u name order (Err m) same h = tt
+pub scope_told : (u : UnitTexts) (name : ℕ) (order : List ℕ) → order ≡ u.order → first_from (is_text_named u name) 1 order ≡ scope_of_module (source_of u) name
+scope_told u name order same = ap (first_from (is_text_named u name) 1) same ∙ sym (scope_is u name)

@@ -1,5 +1,5 @@
 -- An item's rows begin to be made, and all are made.
-use Rattle.std.specs.Prelude.{◌≡◌, ℕ, ◌+◌, ◌<◌, ◌≤◌, ◌^◌, List, [], ◌∷◌, ◌++◌, length, flat_map, slice_get, unwrap_or, option_map, Option, Some, Ok, Err}
+use Rattle.std.specs.Prelude.{◌≡◌, ℕ, ◌+◌, ◌<◌, ◌≤◌, ◌^◌, List, [], ◌∷◌, ◌++◌, length, flat_map, slice_get, unwrap_or, option_map, Option, None, Some, Ok, Err}
 use Rattle.std.proofs.Common.{sym, ap, ◌∙◌, subst, arith}
 use Rattle.std.proofs.lemmas.List.{append_assoc, append-nil, length-append}
 use Rattle.std.proofs.lemmas.List.Concat.{flat_map-append}
@@ -25,7 +25,8 @@ use Rattle.m2_base.specs.declared.replies.Head.{Head}
 use Rattle.m2_base.specs.declared.rows.Row.{Row}
 use Rattle.m2_base.specs.declared.sites.Named.{Named}
 use Rattle.m2_base.specs.declared.sites.Site.{Site}
-use Rattle.m2_base.proofs.Kept.{Each-map, Keeps-refl}
+use Rattle.m2_base.proofs.EachLaws.{each_then}
+use Rattle.m2_base.proofs.Kept.{Keeps-refl}
 use Rattle.type_rules.specs.Scenes.{NamesNoType}
 use Rattle.type_rules.specs.Sites.{context_of}
 use Rattle.decl_sem.specs.DeclaredItems.{DeclaresItem}
@@ -35,9 +36,10 @@ use Rattle.decl_sem.specs.LaidRows.{AreLaid, HasFirsts, IsAhead}
 use Rattle.decl_sem.specs.Layouts.{IsLayoutAt}
 use Rattle.decl_sem.specs.NewNames.{AreNewNames}
 use Rattle.decl_sem.specs.Making.{next_ordinal}
-use Rattle.decl_sem.specs.Pieces.{AreNewRows, BeginsAt, Declares, IsMaking, IsOwned, end_by, item_end}
+use Rattle.decl_sem.specs.Pieces.{AreNewRows, BeginsAt, Declares, IsMaking, IsOwned, end_by, first_by, item_end}
 use Rattle.decl_sem.specs.declared.declaring.Declared.{Declared}
 use Rattle.decl_sem.specs.declared.making.Made.{Made}
+use Rattle.decl_sem.proofs.Aliases.{aliases_before}
 use Rattle.decl_sem.proofs.FirstOrdinals.{before_all, begins_behind, end_of, first_of, rows_of}
 use Rattle.decl_sem.proofs.LaidOnce.{some_is}
 use Rattle.decl_sem.proofs.LayoutSteps.{brought_behind, firsts_ahead, firsts_are, laid_with, names_are, new_items, next_layout, rows_are}
@@ -66,18 +68,24 @@ module _ {f : Frame} {s : Site} {stream : Stream} {x : items.Item} {cell procedu
   brought_next =
       let e = at.of_each in
       before_all s.layout.now.brought (length at.before + 1)
-      (Each-map (λ b. b.item < length at.brought) (λ b. b.item < length at.before + 1) s.layout.now.brought (λ b h. omega (arith, e, h)) at.layout.earlier)
+      (each_then (λ b. b.item < length at.brought) (λ b. b.item < length at.before + 1) s.layout.now.brought (λ b h. omega (arith, e, h)) at.layout.earlier)
 
   -- the first ordinal of the item by the layout
-  first_is : (first : ℕ) → IfSome s.item (λ item. first_row s.layout.now item ≡ Some first) → first ≡ rows_of at.before + length s.layout.now.brought
-  first_is first h =
-      let here : first_row s.layout.now (length at.before) ≡ Some first = subst (λ (o : Option ℕ). IfSome o (λ item. first_row s.layout.now item ≡ Some first)) at.item h in
+  first_here : first_by s.layout.now s.item ≡ Some (0 + rows_of at.before + brought_before s.layout.now.brought (length at.before))
+  first_here =
       let there : slice_get s.layout.now.firsts (length at.before) ≡ Some (0 + rows_of at.before) = ap (λ (l : List ℕ). slice_get l (length at.before)) firsts_here ∙ first_of at.before at.rest x 0 in
-      let moved : first_row s.layout.now (length at.before) ≡ Some (0 + rows_of at.before + brought_before s.layout.now.brought (length at.before)) =
-      ap (option_map (λ (o : ℕ). o + brought_before s.layout.now.brought (length at.before))) there in
+      ap (first_by s.layout.now) at.item ∙ ap (option_map (λ (o : ℕ). o + brought_before s.layout.now.brought (length at.before))) there
+
+  first_is : (first : ℕ) → first_by s.layout.now s.item ≡ Some first → first ≡ rows_of at.before + length s.layout.now.brought
+  first_is first h =
+      let there = first_here in
       let same : first ≡ 0 + rows_of at.before + brought_before s.layout.now.brought (length at.before) = cc in
       let b = brought_here in
       omega (arith, same, b)
+
+  -- so there is one
+  pub has_first : first_by s.layout.now s.item ≡ None → ⊥
+  has_first h = let there = first_here in cc
 
   end_is : item_end s ≡ rows_of at.before + length s.layout.now.brought + length (item_shapes x)
   end_is =
@@ -103,7 +111,7 @@ module _ {f : Frame} {s : Site} {stream : Stream} {x : items.Item} {cell procedu
   old_here : (first : ℕ) → first ≡ rows_of at.before + length s.layout.now.brought → Each (λ b. b.ordinal < first) s.layout.now.brought
   old_here first e =
       let r = rows_here in
-      Each-map (λ b. b.ordinal < length (laid_shapes at.before at.brought)) (λ b. b.ordinal < first) s.layout.now.brought (λ b h. omega (arith, e, r, h))
+      each_then (λ b. b.ordinal < length (laid_shapes at.before at.brought)) (λ b. b.ordinal < first) s.layout.now.brought (λ b h. omega (arith, e, r, h))
       (brought_behind at.layout at.before at.rest x at.items at.of_each)
 
   ahead_here : IsAhead s.layout.now f.entered (item_shapes x)
@@ -116,7 +124,7 @@ module _ {f : Frame} {s : Site} {stream : Stream} {x : items.Item} {cell procedu
             (firsts_ahead at.layout at.before at.rest x at.items at.of_each);
       }
 
-  pub making_begins : (made : Made) → IfSome s.item (λ item. first_row s.layout.now item ≡ Some made.first) → made.rows.items ≡ [] → IsMaking f s made (item_shapes x)
+  pub making_begins : (made : Made) → first_by s.layout.now s.item ≡ Some made.first → made.rows.items ≡ [] → IsMaking f s made (item_shapes x)
   making_begins made h none =
       let first = first_is made.first h in
       let count : length f.entered ≡ made.first = entered_are ∙ sym first in
@@ -129,6 +137,7 @@ module _ {f : Frame} {s : Site} {stream : Stream} {x : items.Item} {cell procedu
         of_item = at.item;
         begins = begins_behind s.layout.now at.before (x ∷ at.rest) made.first names_here first (old_here made.first first);
         old = old_here made.first first;
+        aliases = aliases_before s.layout.now stream at.before at.rest x made.first at.items names_here first (old_here made.first first);
         count = count;
         entered = subst (λ (n : ℕ). Each (λ r. IsOwned n (row_meaning r)) f.entered) count at.owned;
         types = subst (λ (rows : List Row). Each (λ r. NamesNoType (row_meaning r)) rows) (sym none) tt;
@@ -158,7 +167,7 @@ module _ {f : Frame} {s : Site} {stream : Stream} {x : items.Item} {cell procedu
         (subst (λ (n : ℕ). AreLaid s.layout.now n (item_shapes x) grown.own) start grown.laid) (laid-length grown.laid) grown.of_names
 
     pub of_here : Each (λ (n : Named). s.item ≡ Some n.item) b
-    of_here = Each-map (λ (n : Named). n.item ≡ length at.before) (λ (n : Named). s.item ≡ Some n.item) b (λ n e. at.item ∙ ap (λ (k : ℕ). Some k) (sym e))
+    of_here = each_then (λ (n : Named). n.item ≡ length at.before) (λ (n : Named). s.item ≡ Some n.item) b (λ n e. at.item ∙ ap (λ (k : ℕ). Some k) (sym e))
         (new_items s.layout.now (length at.before) (next_ordinal x0 + length (item_shapes x)) (next_ordinal x0 + length (item_shapes x)) b named_here)
 
     pub next_here : BringsIts x b → (brought : List (List Named)) → s.item ≡ Some (length brought) → IsLayoutAt s.layout.now stream brought → IsLayoutAt (extended s.layout.now b) stream (brought ++ b ∷ [])
@@ -218,8 +227,3 @@ module _ {a b : State} {s : Site} {x y : Made} {shapes : List Shape} {item : ite
   pub declares_failed : (stream : Stream) (m n : Memory) → DeclaresWith a b x y s (Err m) shapes (λ v. v.brought) (IsEffectOf item) given → DeclaresItem a b s stream (Err n) shapes given
   declares_failed stream m n p =
       record { looks = p.works.looks; keeps = p.works.keeps; waits = tt; shown = tt; laid = tt; of_item = tt; next = λ bs number so. tt; new_rows = tt; effect = tt; told = λ hand in_hand told same. tt }
-
--- no first ordinal is found
-pub declares_nothing : (a : State) (s : Site) (stream : Stream) (m : Memory) (shapes : List Shape) (given : Context → Makes Effect) → DeclaresItem a a s stream (Err m) shapes given
-declares_nothing a s stream m shapes given =
-    record { looks = []; keeps = Keeps-refl a; waits = tt; shown = tt; laid = tt; of_item = tt; next = λ bs number so. tt; new_rows = tt; effect = tt; told = λ hand in_hand told same. tt }

@@ -15,7 +15,7 @@ use Rattle.m2_base.specs.Trees.{Stream}
 use Rattle.m2_base.specs.declared.limits.TheConstants.{MOST_BROUGHT}
 use Rattle.m2_base.specs.declared.rows.Row.{Row}
 use Rattle.m2_base.specs.declared.sites.Named.{Named}
-use Rattle.m2_base.proofs.Kept.{Each-append, Each-map}
+use Rattle.m2_base.proofs.EachLaws.{each_append, each_then}
 use Rattle.decl_sem.specs.LaidRows.{AreLaid, HasFirsts, IsLaid, first_shape, is_of, kept_name, more_laid, none_laid}
 use Rattle.decl_sem.specs.Layouts.{IsLayoutAt, rows_before}
 use Rattle.decl_sem.specs.NewNames.{AreNewNames, AreRowsOf, IsNewName, ordinal_before}
@@ -178,13 +178,13 @@ module _ (l : Layout) (xs ys : List Shape) (item : ℕ) (b : List Named) (firsts
   of_syntax : (name : ℕ) (n : Named) → entry_named l.names name ≡ Some n → entry_named b name ≡ None → Some (n.ordinal + brought_before l.brought n.item) ≡ first_shape name (xs ++ ys) 0
       → (n.item ≤ item) ⊎ (item < n.item) → Some (n.ordinal + brought_before (l.brought ++ b) n.item) ≡ first_shape name (xs ++ (map brought_shape b ++ ys)) 0
   of_syntax name n found lacks h (inl here) =
-      let none : brought_before b n.item ≡ 0 = before_none b n.item (Each-map (λ d. d.item ≡ item) (λ d. n.item ≤ d.item) b (λ d e. omega (arith, e, here)) (new_items l item (length xs) (length xs) b new)) in
+      let none : brought_before b n.item ≡ 0 = before_none b n.item (each_then (λ d. d.item ≡ item) (λ d. n.item ≤ d.item) b (λ d e. omega (arith, e, here)) (new_items l item (length xs) (length xs) b new)) in
       let both = before_append l.brought b n.item in
       let same : n.ordinal + brought_before (l.brought ++ b) n.item ≡ n.ordinal + brought_before l.brought n.item = omega (arith, none, both) in
       let below = early name n found here in
       ap (λ (k : ℕ). Some k) same ∙ sym (shape_front name xs ys (map brought_shape b ++ ys) 0 (n.ordinal + brought_before l.brought n.item) (sym h) (omega (arith, below)))
   of_syntax name n found lacks h (inr past) =
-      let all : brought_before b n.item ≡ length b = before_all b n.item (Each-map (λ d. d.item ≡ item) (λ d. d.item < n.item) b (λ d e. omega (arith, e, past)) (new_items l item (length xs) (length xs) b new)) in
+      let all : brought_before b n.item ≡ length b = before_all b n.item (each_then (λ d. d.item ≡ item) (λ d. d.item < n.item) b (λ d e. omega (arith, e, past)) (new_items l item (length xs) (length xs) b new)) in
       let both = before_append l.brought b n.item in
       let same : n.ordinal + brought_before (l.brought ++ b) n.item ≡ n.ordinal + brought_before l.brought n.item + length b = omega (arith, all, both) in
       let none = lacking_before name (n.ordinal + brought_before l.brought n.item) (sym h) (late name n found past) in
@@ -421,7 +421,7 @@ new_below : (l : Layout) (i limit o : ℕ) (b : List Named) → AreNewNames l i 
 new_below l i limit o [] new = tt
 new_below l i limit o (d ∷ b) new =
     let at = new.0.at in
-    (omega (arith, at), Each-map (λ e. e.ordinal < o + 1 + length b) (λ e. e.ordinal < o + suc (length b)) b (λ e h. omega (arith, h)) (new_below l i limit (o + 1) b new.1.1))
+    (omega (arith, at), each_then (λ e. e.ordinal < o + 1 + length b) (λ e. e.ordinal < o + suc (length b)) b (λ e h. omega (arith, h)) (new_below l i limit (o + 1) b new.1.1))
 
 -- a layout at its first item
 pub layout_at_start : (stream : Stream) → IsLayoutAt (layout_of stream) stream []
@@ -495,13 +495,13 @@ module _ {l : Layout} {stream : Stream} {bs : List (List Named)} (at : IsLayoutA
       let j = joined_length in
       let r = late_entry (before ++ x ∷ []) rest name n (ap (λ (ns : List Named). entry_named ns name) (sym names_joined) ∙ found) (omega (arith, h, j)) in
       let k = rows_joined before x in
-      let all = before_all l.brought n.item (Each-map (λ d. d.item < length bs) (λ d. d.item < n.item) l.brought (λ d e. let c = count in omega (arith, e, c, h)) at.earlier) in
+      let all = before_all l.brought n.item (each_then (λ d. d.item < length bs) (λ d. d.item < n.item) l.brought (λ d e. let c = count in omega (arith, e, c, h)) at.earlier) in
       let g = front_length in
       omega (arith, r, k, all, g)
 
   old_here : Each (λ d. d.ordinal < length (laid_shapes before bs ++ item_shapes x)) l.brought
   old_here = let e = length-append (laid_shapes before bs) (item_shapes x) in
-      Each-map (λ d. d.ordinal < length (laid_shapes before bs)) (λ d. d.ordinal < length (laid_shapes before bs ++ item_shapes x)) l.brought (λ d h. omega (arith, e, h)) brought_behind
+      each_then (λ d. d.ordinal < length (laid_shapes before bs)) (λ d. d.ordinal < length (laid_shapes before bs ++ item_shapes x)) l.brought (λ d h. omega (arith, e, h)) brought_behind
 
   module _ (b : List Named) (limit : ℕ) (behind : limit ≡ length (laid_shapes before bs) + length (item_shapes x)) (named : AreNewNames l (length before) limit limit b) where
     limit_is : limit ≡ length (laid_shapes before bs ++ item_shapes x)
@@ -528,17 +528,17 @@ module _ {l : Layout} {stream : Stream} {bs : List (List Named)} (at : IsLayoutA
     behind_next : Each (λ d. d.ordinal < length (laid_shapes (before ++ x ∷ []) (bs ++ b ∷ []))) (l.brought ++ b)
     behind_next =
         let r = rows_next in
-        Each-append (λ d. d.ordinal < length (laid_shapes (before ++ x ∷ []) (bs ++ b ∷ []))) l.brought b
-        (Each-map (λ d. d.ordinal < length (laid_shapes before bs)) (λ d. d.ordinal < length (laid_shapes (before ++ x ∷ []) (bs ++ b ∷ []))) l.brought (λ d h. omega (arith, r, h, behind)) brought_behind)
-        (Each-map (λ d. d.ordinal < limit + length b) (λ d. d.ordinal < length (laid_shapes (before ++ x ∷ []) (bs ++ b ∷ []))) b (λ d h. omega (arith, r, h)) (new_below l (length before) limit limit b named))
+        each_append (λ d. d.ordinal < length (laid_shapes (before ++ x ∷ []) (bs ++ b ∷ []))) l.brought b
+        (each_then (λ d. d.ordinal < length (laid_shapes before bs)) (λ d. d.ordinal < length (laid_shapes (before ++ x ∷ []) (bs ++ b ∷ []))) l.brought (λ d h. omega (arith, r, h, behind)) brought_behind)
+        (each_then (λ d. d.ordinal < limit + length b) (λ d. d.ordinal < length (laid_shapes (before ++ x ∷ []) (bs ++ b ∷ []))) b (λ d h. omega (arith, r, h)) (new_below l (length before) limit limit b named))
 
     earlier_next : Each (λ d. d.item < length (bs ++ b ∷ [])) (l.brought ++ b)
     earlier_next =
         let e = length-append bs (b ∷ []) in
         let c = count in
-        Each-append (λ d. d.item < length (bs ++ b ∷ [])) l.brought b
-        (Each-map (λ d. d.item < length bs) (λ d. d.item < length (bs ++ b ∷ [])) l.brought (λ d h. omega (arith, e, h)) at.earlier)
-        (Each-map (λ d. d.item ≡ length before) (λ d. d.item < length (bs ++ b ∷ [])) b (λ d h. omega (arith, e, h, c)) (new_items l (length before) limit limit b named))
+        each_append (λ d. d.item < length (bs ++ b ∷ [])) l.brought b
+        (each_then (λ d. d.item < length bs) (λ d. d.item < length (bs ++ b ∷ [])) l.brought (λ d h. omega (arith, e, h)) at.earlier)
+        (each_then (λ d. d.item ≡ length before) (λ d. d.item < length (bs ++ b ∷ [])) b (λ d h. omega (arith, e, h, c)) (new_items l (length before) limit limit b named))
 
     -- the layout at the next item
     pub next_layout : BringsIts x b → length l.brought + length b ≤ MOST_BROUGHT → IsLayoutAt (extended l b) stream (bs ++ b ∷ [])

@@ -1,4 +1,5 @@
 pub mod AgainNames
+pub mod Aliases
 pub mod ArrayCells
 pub mod ArrayLists
 pub mod Asking

@@ -8,7 +8,7 @@ use Rattle.m2_base.specs.Views.{import_view}
 use Rattle.m2_base.specs.declared.memory.Memory.{Memory}
 use Rattle.m2_base.specs.declared.trees.declarations.Import.{Import}
 use Rattle.m2_base.specs.Lists.{Each}
-use Rattle.m2_base.proofs.Kept.{Each-append, Each-map}
+use Rattle.m2_base.proofs.EachLaws.{each_append, each_then}
 use Rattle.m2_base.specs.Statics.Layouts.{Layout, names_of_item, names_from, firsts_from}
 use Rattle.m2_base.specs.Statics.Shapes.{Shape, item_shapes}
 use Rattle.decl_sem.specs.Progress.{Progress, at_start, with_item, with_items}
@@ -88,11 +88,11 @@ pub record IsCounted (p : Progress) : Type 0 where
 one_counted : (p : Progress) (shapes : List Shape) → IsCounted p → IsCounted (with_item p shapes)
 one_counted p shapes h =
     record {
-      names = Each-append (λ n. n.ordinal < p.rows + length shapes) p.names (names_of_item (length p.firsts) p.rows shapes)
-          (Each-map (λ n. n.ordinal < p.rows) (λ n. n.ordinal < p.rows + length shapes) p.names (λ n k. omega (arith, k)) h.names)
+      names = each_append (λ n. n.ordinal < p.rows + length shapes) p.names (names_of_item (length p.firsts) p.rows shapes)
+          (each_then (λ n. n.ordinal < p.rows) (λ n. n.ordinal < p.rows + length shapes) p.names (λ n k. omega (arith, k)) h.names)
           (of_item (λ n. n.ordinal < p.rows + length shapes) (length p.firsts) p.rows shapes (λ name n kind at m k. k));
-      firsts = Each-append (λ o. o ≤ p.rows + length shapes) p.firsts (p.rows ∷ [])
-          (Each-map (λ o. o ≤ p.rows) (λ o. o ≤ p.rows + length shapes) p.firsts (λ o k. omega (arith, k)) h.firsts)
+      firsts = each_append (λ o. o ≤ p.rows + length shapes) p.firsts (p.rows ∷ [])
+          (each_then (λ o. o ≤ p.rows) (λ o. o ≤ p.rows + length shapes) p.firsts (λ o k. omega (arith, k)) h.firsts)
           (omega arith, tt);
     }
 

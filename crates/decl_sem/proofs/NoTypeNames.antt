@@ -7,11 +7,11 @@ use Rattle.m2_base.specs.Trees.{TypeExpr, type_expr, TypeForm, named_type, enum_
 use Rattle.m2_base.specs.declared.trees.Ident.{Ident}
 use Rattle.m2_base.specs.declared.trees.Qual.{Qual}
 use Rattle.m2_base.specs.declared.trees.types.Formal.{Formal}
-use Rattle.m2_base.proofs.Kept.{Each-append}
+use Rattle.m2_base.proofs.EachLaws.{each_append}
 use Rattle.decl_sem.proofs.Pieces.{AreNoTypes}
 
 pub both : (xs ys : List Shape) → AreNoTypes xs → AreNoTypes ys → AreNoTypes (xs ++ ys)
-both xs ys h k = Each-append (λ (s : Shape). s.kind ≢ type_name_kind) xs ys h k
+both xs ys h k = each_append (λ (s : Shape). s.kind ≢ type_name_kind) xs ys h k
 
 one : (k at : ℕ) → k ≢ type_name_kind → AreNoTypes (nameless k at ∷ [])
 one k at h = (h, tt)

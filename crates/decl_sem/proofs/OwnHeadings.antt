@@ -1,17 +1,18 @@
 -- The sections of a heading in the procedure's own scope, one after another.
-use Rattle.std.specs.Prelude.{◌≡◌, ℕ, ◌+◌, ◌<◌, ◌≤◌, List, [], ◌∷◌, ◌++◌, flat_map, length, map, drop, Option, None, Result, Ok, Err}
+use Rattle.std.specs.Prelude.{◌≡◌, ℕ, ◌+◌, ◌<◌, ◌≤◌, ◌^◌, List, [], ◌∷◌, ◌++◌, flat_map, length, map, drop, Option, None, Result, Ok, Err}
 use Rattle.std.proofs.Common.{refl, sym, ap, ◌∙◌, subst, arith, get_or}
-use Rattle.std.proofs.lemmas.List.{append-nil}
+use Rattle.std.proofs.lemmas.List.{append-nil, length-append, length-map}
 use Rattle.m2_base.specs.Lists.{Each}
 use Rattle.m2_base.specs.States.{Frame, State}
 use Rattle.m2_base.specs.Statics.Cells.{capped, most_cells}
 use Rattle.m2_base.specs.Statics.Effects.{Effect}
 use Rattle.m2_base.specs.Statics.HeadingRows.{Placing, heading_rows, own_section_rows, own_sections_rows, parameter_rows, placing}
 use Rattle.m2_base.specs.Statics.Makes.{makes, only_gives}
-use Rattle.m2_base.specs.Statics.ProcedureRows.{parameter_cells}
+use Rattle.m2_base.specs.Rows.{param_kind, var_kind}
+use Rattle.m2_base.specs.Statics.ProcedureRows.{parameter_cells, sections_length}
 use Rattle.m2_base.specs.Statics.ProcedureTypes.{open_array_row, result_type}
 use Rattle.m2_base.specs.Statics.ReadTrees.{IsReadSection}
-use Rattle.m2_base.specs.Statics.Shapes.{Shape, open_shapes, own_section_shapes}
+use Rattle.m2_base.specs.Statics.Shapes.{Shape, named, nameless, open_shapes, own_section_shapes, section_shapes}
 use Rattle.m2_base.specs.Statics.TypeNames.{type_of_qual}
 use Rattle.m2_base.specs.Views.{heading_view, section_view}
 use Rattle.m2_base.specs.declared.memory.Memory.{Memory}
@@ -46,6 +47,20 @@ section_none x = both (open_shapes x.is_open x.of) (variables.shapes x.names.ite
 sections_none : (xs : List Section) → AreNoTypes (shapes xs)
 sections_none [] = tt
 sections_none (x ∷ xs) = both (own_section_shapes (section_view x)) (shapes xs) (section_none x) (sections_none xs)
+
+-- a heading has as many rows in the own scope as round the procedure
+own_section_length : (x : Section) → length (own_section_shapes (section_view x)) ≡ length (section_shapes (section_view x))
+own_section_length x =
+    length-append (open_shapes x.is_open x.of) (map (named var_kind) x.names.items)
+    ∙ ap (λ n. length (open_shapes x.is_open x.of) + n) (length-map x.names.items (named var_kind) ∙ sym (length-map x.names.items (λ (i : Ident). nameless param_kind i.at)))
+    ∙ sym (length-append (open_shapes x.is_open x.of) (map (λ (i : Ident). nameless param_kind i.at) x.names.items))
+
+own_rows_length : (xs : List Section) → length (shapes xs) ≡ sections_length (map section_view xs)
+own_rows_length [] = refl
+own_rows_length (x ∷ xs) =
+    length-append (own_section_shapes (section_view x)) (shapes xs)
+    ∙ ap (λ n. n + length (shapes xs)) (own_section_length x)
+    ∙ ap (λ n. length (section_shapes (section_view x)) + n) (own_rows_length xs)
 
 -- ** One section
 
@@ -141,6 +156,14 @@ effect_given {a = a} {y = y} q p e same cells piece =
     (subst (λ (v : Effect). IsLoneEffect a.frame (next_ordinal y) v) (sym same) (record { effect = record { cell = cells.own; result = piece.there }; alone = refl })) piece
 
 -- what the sections need
+-- they are not too many
+pub few_own_rows : {f : Frame} {s : Site} {x : Made} (h : Heading) → IsMaking f s x (flat_map own_section_shapes (heading_view h).sections) → sections_length (map section_view h.sections.items) ≤ 2 ^ 31
+few_own_rows h making =
+    let e = own_rows_length h.sections.items in
+    let a = making.room in
+    let b = making.few in
+    omega arith
+
 pub all_making : {f : Frame} {s : Site} {x : Made} (h : Heading) (sections : List Section) → sections ≡ h.sections.items → IsMaking f s x (flat_map own_section_shapes (heading_view h).sections) → IsMaking f s x (shapes sections)
 all_making {f} {s} {x} h sections same making = subst (λ (xs : List Section). IsMaking f s x (shapes xs)) (sym same) making
 

@@ -1,10 +1,10 @@
 -- Pieces of an item, one after another.
 use Rattle.std.specs.Prelude.{◌≡◌, ◌≢◌, ℕ, suc, ◌+◌, ◌<◌, ◌==◌, Bool, true, false, if◌then◌else◌, List, [], ◌∷◌, ◌++◌, length, Result, Ok, Err}
-use Rattle.std.proofs.Common.{refl, sym, ap, ◌∙◌, subst, arith}
+use Rattle.std.proofs.Common.{refl, sym, ap, ◌∙◌, subst, arith, inl, inr}
 use Rattle.std.proofs.lemmas.List.{append_assoc, append-nil, length-append}
 use Rattle.m2_base.specs.Asks.{IfKnown, IfWaits}
 use Rattle.m2_base.specs.Gives.{Gives}
-use Rattle.m2_base.specs.Lists.{Each}
+use Rattle.m2_base.specs.Lists.{Each, IsIn}
 use Rattle.m2_base.specs.Rows.{basic_of, natural, row_meaning, type_name_kind}
 use Rattle.m2_base.specs.States.{Frame, State, Waits, Works}
 use Rattle.m2_base.specs.Statics.Contexts.{Context, Layout}
@@ -27,7 +27,7 @@ use Rattle.const_eval.specs.Analyses.{Analysed}
 use Rattle.decl_sem.specs.LaidRows.{AreLaid, HasFirsts, IsAhead, none_laid, more_laid}
 use Rattle.decl_sem.specs.MadeRows.{RowsInHand}
 use Rattle.decl_sem.specs.Making.{MakesAll, next_ordinal}
-use Rattle.decl_sem.specs.Pieces.{AreNewRows, BeginsAt, Declares, Grown, IsMaking, holding, IsOwned, WhereMaking, item_end}
+use Rattle.decl_sem.specs.Pieces.{AreAliasesBefore, AreNewRows, BeginsAt, Declares, Grown, IsMaking, holding, IsOwned, WhereMaking, item_end}
 use Rattle.decl_sem.specs.declared.making.Made.{Made}
 use Rattle.decl_sem.proofs.FirstNames.{AreLaid-append, gone_on}
 use Rattle.decl_sem.proofs.Hands.{hand_with, hand_none, in_hand, of_this_site}
@@ -169,6 +169,16 @@ types-append (x ∷ xs) ys h k = (h.0, types-append xs ys h.1 k)
 
 -- ** Going on
 
+-- one of some shapes is one of more
+pub in_behind : (t : Shape) (ss ts : List Shape) → IsIn t ts → IsIn t (ss ++ ts)
+in_behind t [] ts on = on
+in_behind t (x ∷ ss) ts on = inr (in_behind t ss ts on)
+
+pub in_front : (t : Shape) (ss ts : List Shape) → IsIn t ss → IsIn t (ss ++ ts)
+in_front t [] ts on = absurd on
+in_front t (x ∷ ss) ts (inl e) = inl e
+in_front t (x ∷ ss) ts (inr on) = inr (in_front t ss ts on)
+
 -- what the next piece needs
 pub making_on : {T : Type 0} {a b : State} {x y : Made} {s : Site} {ss ts : List Shape} {P : Frame → ℕ → T → Type 0} {g : Context → Makes T} {v : T}
     → AreNoTypes ss → IsMaking a.frame s x (ss ++ ts) → Declares a b x y s (Ok (Known v)) ss P g → IsMaking b.frame s y ts
@@ -190,6 +200,7 @@ making_on {a = a} {b = b} {x = x} {y = y} {s = s} {ss = ss} {ts = ts} none makin
       of_item = making.of_item;
       begins = subst (λ n. BeginsAt s.layout.now making.item n) (sym p.first) making.begins;
       old = subst (λ n. Each (λ b. b.ordinal < n) s.layout.now.brought) (sym p.first) making.old;
+      aliases = λ t on is. subst (λ n. AreAliasesBefore s.layout.now n) (sym p.first) (making.aliases t (in_behind t ss ts on) is);
       count = making.count ∙ sym p.first;
       entered = subst (λ n. Each (λ r. IsOwned n (row_meaning r)) a.frame.entered) (sym p.first) making.entered;
       types = subst (λ (rows : List Row). Each (λ r. NamesNoType (row_meaning r)) rows) (sym p.grown.more)
@@ -246,6 +257,7 @@ making_front {f} {s} {x} ss ts h =
       of_item = h.of_item;
       begins = h.begins;
       old = h.old;
+      aliases = λ t on is. h.aliases t (in_front t ss ts on) is;
       count = h.count;
       entered = h.entered;
       types = h.types;

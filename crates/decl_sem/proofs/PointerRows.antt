@@ -1,6 +1,6 @@
 -- The rows of pointers, after their targets.
 use Rattle.std.specs.Prelude.{◌≡◌, ℕ, List, [], ◌∷◌, ◌++◌, Option, None, Some, Result, Ok, Err}
-use Rattle.std.proofs.Common.{refl, sym, ap, ◌∙◌, subst, arith}
+use Rattle.std.proofs.Common.{refl, sym, ap, ◌∙◌, subst, arith, inl}
 use Rattle.m2_base.specs.Gives.{Gives}
 use Rattle.m2_base.specs.Rows.{pointer_kind}
 use Rattle.m2_base.specs.States.{Frame, State}
@@ -26,11 +26,11 @@ use Rattle.std.specs.Option.{IfSome}
 use Rattle.type_rules.specs.Sites.{context_of}
 use Rattle.const_eval.specs.Analyses.{Analysed}
 use Rattle.decl_sem.specs.Making.{next_ordinal}
-use Rattle.decl_sem.specs.Pieces.{Declares, IsBehind, IsMaking, IsNewMeaning}
+use Rattle.decl_sem.specs.Pieces.{AreAliasesBefore, Declares, IsBehind, IsMaking, IsNewMeaning}
 use Rattle.decl_sem.specs.Targets.{IsOptionTarget, IsTarget, optional}
 use Rattle.decl_sem.specs.declared.making.Made.{Made}
 use Rattle.decl_sem.proofs.Hands.{hand_none}
-use Rattle.decl_sem.proofs.Pieces.{analysed, described, failed, making_on, reshaped, then_after, waiting}
+use Rattle.decl_sem.proofs.Pieces.{analysed, described, failed, in_behind, making_on, reshaped, then_after, waiting}
 use Rattle.decl_sem.proofs.TypeForms.{type_no_types}
 use Rattle.decl_sem.proofs.Uses.{first_known}
 
@@ -60,6 +60,10 @@ by_layout {a} {b} t x y s at named v making laid e f p =
     same_target : (n : ℕ) (w : Option Place) → IsOptionTarget a.frame 0 w → IsOptionTarget a.frame n w
     same_target n None h = tt
     same_target n (Some p) h = h
+
+-- the aliases that the layout gives stand before the item of a pointer
+pub aliases_of_pointer : {f : Frame} {s : Site} {x : Made} (at : ℕ) (of : TypeExpr) → IsMaking f s x (form_shapes at (pointer_type of)) → AreAliasesBefore s.layout.now x.first
+aliases_of_pointer at of making = making.aliases (nameless pointer_kind at) (in_behind (nameless pointer_kind at) (type_shapes of) (nameless pointer_kind at ∷ []) (inl refl)) refl
 
 -- ** Rows
 

@@ -85,3 +85,17 @@ few_formals at formals making =
     let b = making.few in
     let e = each_has_a_row formals in
     omega arith
+
+formals_length_is : (xs : List Formal) → formals_length xs ≡ length (formals_shapes xs)
+formals_length_is [] = refl
+formals_length_is (x ∷ xs) = ap (λ n. length (formal_shapes x) + n) (formals_length_is xs) ∙ sym (length-append (formal_shapes x) (formals_shapes xs))
+
+-- the row behind them has an ordinal of 32 bits
+pub room_for_own : {f : Frame} {s : Site} {x : Made} {first : ℕ} (at : ℕ) (formals : List Formal) → IsMaking f s x (formals_shapes formals ++ nameless proc_type_kind at ∷ []) → first ≡ next_ordinal x
+    → first + formals_length formals < 2 ^ 32
+room_for_own at formals making is =
+    let l = length-append (formals_shapes formals) (nameless proc_type_kind at ∷ []) in
+    let e = formals_length_is formals in
+    let a = making.room in
+    let b = making.few in
+    omega (arith, is)

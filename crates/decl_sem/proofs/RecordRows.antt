@@ -9,7 +9,7 @@ use Rattle.m2_base.proofs.Seen.{case_fields_seen, plain_fields_seen, variant_arm
 use Rattle.m2_base.specs.Rows.{field_kind, record_kind}
 use Rattle.m2_base.specs.States.{Frame, State}
 use Rattle.m2_base.specs.Statics.CaseLabels.{labels_of}
-use Rattle.m2_base.specs.Statics.Cells.{fitting}
+use Rattle.m2_base.specs.Statics.Cells.{fitting, most_cells}
 use Rattle.m2_base.specs.Statics.Contexts.{Context, Scene}
 use Rattle.m2_base.specs.Statics.Fields.{plain_rows, tag_rows, tag_type}
 use Rattle.m2_base.specs.Statics.Makes.{Makes, make_then, makes, makes_row, only_gives, with_rows}
@@ -110,11 +110,11 @@ left {X} xs k x h e = next_left xs k x h ∙ ap (λ (u : X). u ∷ drop (k + 1) 
 
 -- the first k of the field lists are made, and this is the offset behind them
 pub record HasFields (a b : State) (s : Site) (before now : Made) (own first : ℕ) (xs : List code.FieldList.FieldList) (k end : ℕ) : Type 0 where
-  pub end_is : end ≤ 16777216
+  pub end_is : end ≤ most_cells + 1
   pub owner : IsOwner s now (fields_shapes (fields_of (drop k xs))) own
   pub on : GoesOn a b before now s (fields_shapes (fields_of xs)) (fields_shapes (fields_of (drop k xs))) IsOffset (λ c. fields_rows c own first (fields_of xs)) (λ c. fields_rows c own end (fields_of (drop k xs)))
 
-pub no_lists : {a : State} {s : Site} {before : Made} {own first : ℕ} {xs : List code.FieldList.FieldList} → IsMaking a.frame s before (fields_shapes (fields_of xs)) → IsOwner s before (fields_shapes (fields_of xs)) own → first ≤ 16777216
+pub no_lists : {a : State} {s : Site} {before : Made} {own first : ℕ} {xs : List code.FieldList.FieldList} → IsMaking a.frame s before (fields_shapes (fields_of xs)) → IsOwner s before (fields_shapes (fields_of xs)) own → first ≤ most_cells + 1
     → HasFields a a s before before own first xs 0 first
 no_lists making owner h = record { end_is = h; owner = owner; on = goes_start making }
 
@@ -186,7 +186,7 @@ arm_seen a = variant_arm (labels_seen a) (fields_of a.fields.items)
 
 -- the first k of the variants are made; they cover these values, and the greatest ends at this offset
 pub record HasArms (a b : State) (s : Site) (before now : Made) (v : Variants) (xs : List code.VariantArm.VariantArm) (k : ℕ) (covered : List Range) (end : ℕ) : Type 0 where
-  pub end_is : end ≤ 16777216
+  pub end_is : end ≤ most_cells + 1
   pub owner : IsOwner s now (arms_shapes (arms_of (drop k xs))) v.own
   pub tag : IsThere b.frame v.tag
   pub on : GoesOn a b before now s (arms_shapes (arms_of xs)) (arms_shapes (arms_of (drop k xs))) IsOffset (λ c. arms_rows c v.own v.offset v.tag [] v.offset (arms_of xs)) (λ c. arms_rows c v.own v.offset v.tag covered end (arms_of (drop k xs)))

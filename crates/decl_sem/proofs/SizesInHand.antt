@@ -14,7 +14,7 @@ use Rattle.m2_base.specs.declared.rows.Row.{Row}
 use Rattle.m2_base.specs.declared.rows.RowMeaning.{RowMeaning}
 use Rattle.m2_base.specs.declared.rows.RowMeaning.TheVariants.{Broken, Opaque}
 use Rattle.m2_base.specs.declared.sites.Site.{Site}
-use Rattle.m2_base.proofs.Kept.{Each-append}
+use Rattle.m2_base.proofs.EachLaws.{each_append}
 use Rattle.m2_base.proofs.RowLaws.{HasSmallNumbers-fits}
 use Rattle.type_rules.specs.Asks.{WhereKnown}
 use Rattle.type_rules.specs.Scenes.{AreInHand, Hand, IsThere, NamesNoType, WhereTold}
@@ -116,7 +116,7 @@ in_hand_more : {f : Frame} {s : Site} {x : Made} {ss : List Shape} (hand : Hand)
 in_hand_more {f} {s} {x} hand more making same types =
     record {
       closed = λ e. absurd (let b = making.begun in let h : true ≡ false = sym e ∙ b in cc);
-      types = Each-append (λ (r : Row). NamesNoType (row_meaning r)) hand.rows more (subst (λ (rows : List Row). Each (λ r. NamesNoType (row_meaning r)) rows) (sym same) making.types) types;
+      types = each_append (λ (r : Row). NamesNoType (row_meaning r)) hand.rows more (subst (λ (rows : List Row). Each (λ r. NamesNoType (row_meaning r)) rows) (sym same) making.types) types;
     }
 
 pub size_entered : {f : Frame} {s : Site} {x : Made} {ss : List Shape} (t : Place) (answer : Ask ℕ) → IsMaking f s x ss

@@ -7,7 +7,7 @@ use Rattle.m2_base.specs.Lists.{Each}
 use Rattle.m2_base.specs.Rows.{row_meaning, row_of, type_name_kind, var_kind}
 use Rattle.m2_base.specs.Standard.{is_standard}
 use Rattle.m2_base.specs.States.{Frame, State, Waits}
-use Rattle.m2_base.specs.Statics.Cells.{capped}
+use Rattle.m2_base.specs.Statics.Cells.{capped, most_cells}
 use Rattle.m2_base.specs.Statics.Contexts.{Context, Scene, diag}
 use Rattle.m2_base.specs.Statics.Diagnostics.{declared_twice, standard_declared}
 use Rattle.m2_base.specs.Statics.Lookup.{has_name}
@@ -51,11 +51,11 @@ no_ident = record { name = 0; at = 0 }
 
 -- the first k of the variables are made, and the next cell is this one
 pub record HasVariables (a : State) (s : Site) (before now : Made) (of : Place) (size first : ℕ) (names : List Ident) (k cell : ℕ) : Type 0 where
-  pub cell_is : cell ≤ 16777216
+  pub cell_is : cell ≤ most_cells + 1
   pub count : next_ordinal before ≤ next_ordinal now
   pub on : GoesOn a a before now s (shapes names) (shapes (drop k names)) IsCell (λ c. sized_rows c of size first names) (λ c. sized_rows c of size cell (drop k names))
 
-pub no_variables : {a : State} {s : Site} {before : Made} {names : List Ident} (of : Place) (size first : ℕ) → IsMaking a.frame s before (shapes names) → first ≤ 16777216
+pub no_variables : {a : State} {s : Site} {before : Made} {names : List Ident} (of : Place) (size first : ℕ) → IsMaking a.frame s before (shapes names) → first ≤ most_cells + 1
     → HasVariables a s before before of size first names 0 first
 no_variables of size first making h = record { cell_is = h; count = omega arith; on = goes_start making }
 

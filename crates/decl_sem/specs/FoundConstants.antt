@@ -1,7 +1,7 @@
 -- The constants of an enumeration that an import names, as the code finds them.
 use Rattle.std.specs.HashSet.{contains}
 use Rattle.std.specs.List.{list_any}
-use Rattle.std.specs.Prelude.{◌≡◌, ◌≢◌, ◌<◌, ◌^◌, ℕ, ◌+◌, ◌==◌, ◌||◌, ◌&&◌, nat_eq, Bool, false, not, if◌then◌else◌, List, [], ◌∷◌, ◌++◌, length, map, take, drop, Option, None, Some}
+use Rattle.std.specs.Prelude.{◌≡◌, ◌≢◌, ◌<◌, ◌^◌, ℕ, ◌+◌, ◌-◌, ◌==◌, ◌||◌, ◌&&◌, nat_eq, Bool, false, not, if◌then◌else◌, List, [], ◌∷◌, ◌++◌, length, map, take, drop, Option, None, Some}
 use Rattle.m2_base.specs.Lists.{Each}
 use Rattle.m2_base.specs.Rows.{at_place, row_meaning}
 use Rattle.m2_base.specs.Standard.{is_standard}
@@ -40,6 +40,10 @@ with_member (Some m) rest = m ∷ rest
 abbrev pub constants_of : Scene → Option (Place × ℕ) → List plain.Member
 constants_of scene None = []
 constants_of scene (Some e) = constants_from e.0.scope (e.0.ordinal + 1) (take e.1 (drop (e.0.ordinal + 1) (rows_at scene.tables e.0.scope)))
+
+-- those in the rows of a scope from one ordinal up to the end
+abbrev pub constants_left : (scope o end : ℕ) → Context → List plain.Member
+constants_left scope o end c = constants_from scope o (take (end - o) (drop o (rows_at c.scene.tables scope)))
 
 -- those of a type that is named, if there is one, and isn't one of the standard scope
 abbrev pub members_of_named : Scene → Option Place → List plain.Member

@@ -2,8 +2,8 @@
 -- then entered at once.
 use Rattle.std.specs.Prelude.{◌≡◌, ◌≢◌, ℕ, ◌+◌, ◌<◌, ◌≤◌, ◌^◌, false, List, [], ◌∷◌, ◌++◌, length, Option, Some, None, unwrap_or, Result, Ok, Err}
 use Rattle.m2_base.specs.Asks.{IfKnown, IfWaits}
-use Rattle.m2_base.specs.Lists.{Each}
-use Rattle.m2_base.specs.Rows.{Fits, HasSmallOrdinals, HasSmallScopes, at_place, numbers_of, row_meaning}
+use Rattle.m2_base.specs.Lists.{Each, IsIn}
+use Rattle.m2_base.specs.Rows.{Fits, HasSmallOrdinals, HasSmallScopes, alias_kind, at_place, numbers_of, pointer_kind, row_meaning}
 use Rattle.m2_base.specs.States.{Frame, State, Waits, Works}
 use Rattle.m2_base.specs.Statics.Contexts.{Context, Layout}
 use Rattle.m2_base.specs.Statics.FormedRows.{IsFilled, IsRight}
@@ -27,6 +27,11 @@ use Rattle.decl_sem.specs.Making.{MakesAll, next_ordinal}
 use Rattle.decl_sem.specs.declared.making.Made.{Made}
 
 -- ** Rows in hand
+
+-- the ordinal of the first row of an item, if there is one
+abbrev pub first_by : Layout → Option ℕ → Option ℕ
+first_by l None = None
+first_by l (Some item) = first_row l item
 
 -- the ordinal behind the rows of an item, before those of the names that it brings
 abbrev pub end_by : Layout → Option ℕ → ℕ
@@ -91,8 +96,13 @@ kind_number m = (numbers_of m).0
 pub record BeginsAt (layout : Layout) (item first : ℕ) : Type 0 where
   pub before : (name : ℕ) (e : Named) → name ≢ 0 → first_entry layout name ≡ Some e → e.item < item → e.ordinal < first
 
+-- the aliases that the layout gives stand before this ordinal
+abbrev pub AreAliasesBefore : Layout → (first : ℕ) → Type 0
+AreAliasesBefore l first = (name : ℕ) (e : Named) → first_entry l name ≡ Some e → e.kind ≡ alias_kind → e.ordinal < first
+
 -- The rows of the site's item are being made: these are in hand, and rows of these shapes are the next. The scope isn't complete;
--- as many rows are entered as the first in hand has its ordinal; the item has room for the shapes.
+-- as many rows are entered as the first in hand has its ordinal; the item has room for the shapes. An item that makes the row of a
+-- pointer stands behind all imports.
 pub record IsMaking (f : Frame) (s : Site) (made : Made) (shapes : List Shape) : Type 0 where
   pub suits : SuitsSite f s
   pub small : f.setting.fills < 2 ^ 31
@@ -101,6 +111,7 @@ pub record IsMaking (f : Frame) (s : Site) (made : Made) (shapes : List Shape) :
   pub of_item : s.item ≡ Some item
   pub begins : BeginsAt s.layout.now item made.first
   pub old : Each (λ b. b.ordinal < made.first) s.layout.now.brought
+  pub aliases : (t : Shape) → IsIn t shapes → t.kind ≡ pointer_kind → AreAliasesBefore s.layout.now made.first
   pub count : length f.entered ≡ made.first
   pub entered : Each (λ r. IsOwned made.first (row_meaning r)) f.entered
   pub types : Each (λ r. NamesNoType (row_meaning r)) made.rows.items

@@ -2,7 +2,7 @@
 ghost use Rattle.std.specs.HashSet.{contains};
 ghost use Rattle.std.specs.List.{list_any};
 ghost use Rattle.std.specs.Option.{IfSome};
-ghost use Rattle.std.specs.Prelude.{◌≡◌, ◌<◌, ◌+◌, ◌++◌, ◌∷◌, ◌||◌, ◌^◌, ℕ, List, [], length, map, nat_eq, nat_lt, option_map, true, false, cond, not, ◌≢◌, Some, IfOk};
+ghost use Rattle.std.specs.Prelude.{◌≡◌, ◌<◌, ◌≤◌, ◌+◌, ◌++◌, ◌∷◌, ◌||◌, ◌^◌, ℕ, List, [], length, map, nat_eq, nat_lt, option_map, true, false, cond, not, ◌≢◌, Some, IfOk};
 ghost use Rattle.m2_base.specs.Asks.{IfKnown, IfWaits};
 ghost use Rattle.m2_base.specs.Rows.{Fits, HasSmallNumbers, at_place, is_same_place, row_meaning};
 ghost use Rattle.m2_base.specs.Standard.{is_standard as spec_is_standard};
@@ -12,11 +12,12 @@ ghost use Rattle.m2_base.specs.Statics.Contexts.{Context, Scene, row_at};
 ghost use Rattle.m2_base.specs.Statics.ImportedConstants.{Member as PlainMember, leads_elsewhere, members_of, members_of_row};
 ghost use Rattle.m2_base.specs.Statics.Lookup.{entry_at, entry_in};
 ghost use Rattle.m2_base.specs.Statics.Uses.{followed};
+ghost use Rattle.m2_base.specs.Tables.{rows_at};
 ghost use Rattle.m2_base.specs.declared.limits.TheConstants as limits;
 ghost use Rattle.type_rules.specs.Asks.{Reads, WhereKnown, WhereWaiting};
 ghost use Rattle.type_rules.specs.Scenes.{IsRowOf, IsThere, Suits, WhereTold, rows_of, scene_of};
 ghost use Rattle.type_rules.specs.Sites.{SuitsSite};
-ghost use Rattle.decl_sem.specs.FoundConstants.{AreFound, AreSeen, IsMember, constant_by, constants_of, member_view, members_of_named, with_member};
+ghost use Rattle.decl_sem.specs.FoundConstants.{AreFound, AreSeen, IsMember, constant_by, constants_left, constants_of, member_view, members_of_named, with_member};
 ghost use Rattle.decl_sem.specs.Making.{next_ordinal};
 ghost use Rattle.decl_sem.specs.NewNames.{earlier_row};
 ghost use Rattle.decl_sem.specs.Pieces.{IsMaking, WhereMaking};
@@ -233,8 +234,7 @@ pub(crate) fn is_full(site: &Site, found: &Found) -> bool
             .saturating_add(found.members.len())
 }
 
-/// The constants of an enumeration at this place that has so many, or so many of them that they are too many. An enumeration
-/// of a scope that isn't before, or of more rows than numbers, finds no memory.
+/// The constants of an enumeration at this place of a scope before that has so many, or so many of them that they are too many.
 fn constants_in<S: Scopes>(
     alloc: Global,
     scopes: &mut S,
@@ -244,14 +244,13 @@ fn constants_in<S: Scopes>(
     count: u32,
 ) -> Result<Ask<Found>, Memory>
     requires making { IsMaking (S.state scopes.old).frame site.now made.now [] }
+    requires before { of.scope < (S.state scopes.old).frame.setting.fills }
     ensures reads { Reads (S.state scopes.old) (S.state scopes.new) }
     ensures waits { IfWaits result (λ head. Waits (S.state scopes.old) (S.state scopes.new) head) }
     ensures seen { IfKnown result (λ found. AreSeen (S.state scopes.old).frame site.now made.now (λ c. constants_of c.scene (Some (of, count))) found) }
 {
     let mut found = Found::new(alloc);
-    let Some((first, end)) = ordinals_of(site, of, count) else {
-        return Err(Memory);
-    };
+    let (first, end) = ordinals_of(of, count);
     for ordinal in first..end {
         let scope = of.scope;
         let place = Place { scope, ordinal };
@@ -263,18 +262,13 @@ fn constants_in<S: Scopes>(
     Ok(Ask::Known(found))
 }
 
-/// The ordinals of an enumeration's constants: the first, and that behind the last; none where the scope isn't before.
-fn ordinals_of(site: &Site, of: Place, count: u32) -> Option<(u32, u32)>
-    ensures before { IfSome result (λ _. of.scope < site.now.around.now.scope) }
-    ensures first { IfSome result (λ ordinals. ordinals.0 ≡ of.ordinal + 1) }
-    ensures end { IfSome result (λ ordinals. ordinals.1 ≡ of.ordinal + 1 + count) }
+/// The ordinals of an enumeration's constants: the first, and that behind the last. No row stands behind the greatest ordinal.
+fn ordinals_of(of: Place, count: u32) -> (u32, u32)
+    ensures { (c : Context) → length (rows_at c.scene.tables of.scope) < 2 ^ 32 → constants_of c.scene (Some (of, count)) ≡ constants_left of.scope result.0 result.1 c }
 {
-    if of.scope >= site.around.scope {
-        return None;
-    }
-    let first = of.ordinal.checked_add(1)?;
-    let end = first.checked_add(count)?;
-    Some((first, end))
+    let first = of.ordinal.saturating_add(1);
+    let end = first.saturating_add(count);
+    (first, end)
 }
 
 /// The type to which the name of a type leads, unless it is one of the standard scope.
@@ -282,6 +276,7 @@ fn named_type(row: &Row, place: Place) -> Option<Place>
     requires small { HasSmallNumbers (row_meaning row.now) }
     ensures told { (scene : Scene) → members_of_row scene (row_meaning row.now) ≡ members_of_named scene result }
     ensures there { (f : Frame) (a : Surroundings) (n : ℕ) → Suits f a → IsThere f place → Fits n place (row_meaning row.now) → IfSome result (λ t. IsThere f t) }
+    ensures upto { (n : ℕ) → Fits n place (row_meaning row.now) → IfSome result (λ t. t.scope ≤ place.scope) }
 {
     let _place = small_place(place);
     match read_row(row) {
@@ -290,7 +285,8 @@ fn named_type(row: &Row, place: Place) -> Option<Place>
     }
 }
 
-/// The enumeration to whose name an entry leads: its place, and the number of its constants. The standard scope's brings nothing.
+/// The enumeration to whose name an entry of a scope before leads: its place, and the number of its constants. The standard scope's
+/// brings nothing.
 fn enumeration_of<S: Scopes>(
     scopes: &mut S,
     site: &Site,
@@ -298,8 +294,10 @@ fn enumeration_of<S: Scopes>(
 ) -> Ask<Option<(Place, u32)>>
     requires suits { SuitsSite (S.state scopes.old).frame site.now }
     requires row { IfSome entry (λ e. IsRowOf (S.state scopes.old).frame e.0 e.1) }
+    requires before { IfSome entry (λ e. e.0.scope < (S.state scopes.old).frame.setting.fills) }
     ensures reads { Reads (S.state scopes.old) (S.state scopes.new) }
     ensures waits { WhereWaiting result (λ head. Waits (S.state scopes.old) (S.state scopes.new) head) }
+    ensures before { WhereKnown result (λ of. IfSome of (λ e. e.0.scope < (S.state scopes.old).frame.setting.fills)) }
     ensures told { WhereTold (S.state scopes.old).frame (λ made.
         WhereKnown result (λ of. let scene = scene_of (S.state scopes.old).frame made site.now.around.now in members_of scene entry ≡ constants_of scene of)) }
 {
@@ -325,6 +323,7 @@ pub(crate) fn members_in<S: Scopes>(
 ) -> Result<Ask<Found>, Memory>
     requires making { IsMaking (S.state scopes.old).frame site.now made.now [] }
     requires row { IfSome entry (λ e. IsRowOf (S.state scopes.old).frame e.0 e.1) }
+    requires before { IfSome entry (λ e. e.0.scope < (S.state scopes.old).frame.setting.fills) }
     ensures reads { Reads (S.state scopes.old) (S.state scopes.new) }
     ensures waits { IfWaits result (λ head. Waits (S.state scopes.old) (S.state scopes.new) head) }
     ensures seen { IfKnown result (λ found. AreSeen (S.state scopes.old).frame site.now made.now (λ c. members_of c.scene entry) found) }

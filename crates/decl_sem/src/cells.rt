@@ -8,20 +8,17 @@ ghost use Rattle.decl_sem.specs.Pieces.{Declares, IsBehind, IsMaking, known_of};
 
 use crate::making::Made;
 use crate::names::refuse;
-use m2_base::{Diagnostic, MOST_CELLS, Memory, Place, Site};
+use m2_base::{Diagnostic, Memory, Place, Site, TOO_MANY_CELLS};
 use type_rules::BROKEN;
-
-/// One more than a type or a block may have.
-pub(crate) const TOO_MANY: u32 = MOST_CELLS + 1;
 
 /// What would be more than too many is counted as too many.
 pub(crate) fn capped(cells: u64) -> u32
     ensures { result ≡ spec_capped cells }
 {
-    if cells < TOO_MANY as u64 {
+    if cells < TOO_MANY_CELLS as u64 {
         cells as u32
     } else {
-        TOO_MANY
+        TOO_MANY_CELLS
     }
 }
 
@@ -35,7 +32,7 @@ pub(crate) fn fit(
 ) -> Result<Place, Memory>
     ensures { (a : State) → IsMaking a.frame site.now made.old [] → IsBehind a.frame (next_ordinal made.old) of → Declares a a made.old made.new site.now (known_of result) [] IsBehind (λ c. only_gives (fitting c at size of)) }
 {
-    if size < TOO_MANY {
+    if size < TOO_MANY_CELLS {
         return Ok(of);
     }
     put!(refuse(site, at, Diagnostic::TooManyCells, &mut made.notes));

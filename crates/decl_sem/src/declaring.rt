@@ -1,12 +1,11 @@
 //! What an item declares.
-ghost use Rattle.std.specs.Prelude.{◌≡◌, Some};
-ghost use Rattle.std.specs.Option.{IfSome};
+ghost use Rattle.std.specs.Prelude.{◌≡◌};
 ghost use Rattle.m2_base.specs.Statics.Declarations.{declare as spec_declare};
-ghost use Rattle.m2_base.specs.Statics.Layouts.{first_row};
 ghost use Rattle.m2_base.specs.Statics.Shapes.{item_shapes};
 ghost use Rattle.m2_base.specs.Views.{stream_view};
 ghost use Rattle.decl_sem.specs.DeclaredItems.{DeclaresItem};
 ghost use Rattle.decl_sem.specs.Items.{IsAtItem, item_view};
+ghost use Rattle.decl_sem.specs.Pieces.{first_by};
 
 use crate::effects::Effect;
 use crate::items::{Before, Item, item_rows};
@@ -25,7 +24,7 @@ pub struct Declared {
 
 /// The ordinal of the first row of the site's item.
 fn first_ordinal(site: &Site) -> Option<u32>
-    ensures { IfSome result (λ first. IfSome site.now.item (λ item. first_row site.now.layout.now item ≡ Some first)) }
+    ensures { result ≡ first_by site.now.layout.now site.now.item }
 {
     let item = site.item?;
     site.layout.first_row(item)
@@ -44,7 +43,7 @@ pub fn declare<S: Scopes>(
     ensures { DeclaresItem (S.state scopes.old) (S.state scopes.new) site.now (stream_view stream.now) result (item_shapes (item_view item.now)) (λ c. spec_declare c stream.now.kind (item_view item.now) before.cell) }
 {
     let Some(first) = first_ordinal(site) else {
-        return Err(Memory);
+        unreachable!()
     };
     let rows = MadeRows::new(alloc);
     let notes = Notes::new(alloc);

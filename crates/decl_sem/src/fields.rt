@@ -5,6 +5,7 @@ ghost use Rattle.m2_base.specs.Lists.{IsPrefixOf};
 ghost use Rattle.m2_base.specs.Rows.{field_kind};
 ghost use Rattle.m2_base.specs.Standard.{broken};
 ghost use Rattle.m2_base.specs.States.{State};
+ghost use Rattle.m2_base.specs.Statics.Cells.{most_cells};
 ghost use Rattle.m2_base.specs.Statics.Contexts.{refuse as refuses};
 ghost use Rattle.m2_base.specs.Statics.Diagnostics.{declared_twice, wrong_operands};
 ghost use Rattle.m2_base.specs.Statics.Fields.{checked_tag as spec_checked, field_row, plain_rows, tag_rows, tag_type};
@@ -54,7 +55,7 @@ fn put_field<S: Scopes>(
     requires read { IsReadName site.now.texts.now.names name }
     requires behind { made.old.first ≤ own }
     requires within { own < item_end site.now }
-    requires offset { offset ≤ 16777216 }
+    requires offset { offset ≤ most_cells + 1 }
     ensures { Declares (S.state scopes.now) (S.state scopes.now) made.old made.new site.now (known_of result) (nameless field_kind name.at ∷ []) IsBehind (λ c. field_row c own name of offset) }
 {
     let second = made.rows.has_field(own, name.name);
@@ -79,7 +80,7 @@ fn put_sized<S: Scopes>(
     requires read { AreReadNames site.now.texts.now.names names.now }
     requires owner { IsOwner site.now made.old (map (λ i. nameless field_kind i.at) names.now) own }
     requires size { size < 2 ^ 32 }
-    requires offset { offset ≤ 16777216 }
+    requires offset { offset ≤ most_cells + 1 }
     ensures { Declares (S.state scopes.now) (S.state scopes.now) made.old made.new site.now (known_of result) (map (λ i. nameless field_kind i.at) names.now) IsOffset (λ c. sized_fields c own of size offset names.now) }
 {
     let mut next = offset;
@@ -107,7 +108,7 @@ pub(crate) fn put_fields<S: Scopes>(
     requires of { IsBehind (S.state scopes.old).frame (next_ordinal made.old) of }
     requires read { AreReadNames site.now.texts.now.names names.now }
     requires owner { IsOwner site.now made.old (map (λ i. nameless field_kind i.at) names.now) own }
-    requires offset { offset ≤ 16777216 }
+    requires offset { offset ≤ most_cells + 1 }
     ensures { Declares (S.state scopes.old) (S.state scopes.new) made.old made.new site.now result (map (λ i. nameless field_kind i.at) names.now) IsOffset (λ c. plain_rows c own of offset names.now) }
 {
     match cells_of(scopes, site, made, of) {
@@ -202,7 +203,7 @@ pub(crate) fn put_tag<S: Scopes>(
     requires of { IsBehind (S.state scopes.now).frame (next_ordinal made.old) of }
     requires read { IsReadOption site.now.texts.now.names tag }
     requires owner { IsOwner site.now made.old (tag_shapes tag) own }
-    requires offset { offset ≤ 16777216 }
+    requires offset { offset ≤ most_cells + 1 }
     ensures { Declares (S.state scopes.now) (S.state scopes.now) made.old made.new site.now (known_of result) (tag_shapes tag) IsOffset (λ c. tag_rows c own offset of tag) }
 {
     let Some(name) = tag else {

@@ -1,8 +1,9 @@
 //! Where the variables of a block begin.
-ghost use Rattle.std.specs.Prelude.{◌≡◌, ◌<◌, ◌≤◌};
+ghost use Rattle.std.specs.Prelude.{◌≡◌, ◌<◌, ◌≤◌, ◌+◌};
 ghost use Rattle.m2_base.specs.Rows.{row_meaning};
 ghost use Rattle.m2_base.specs.States.{Waits, fills_of};
 ghost use Rattle.m2_base.specs.Statics.BlockRows.{cell_after as spec_after, cells_after, first_cell as spec_first};
+ghost use Rattle.m2_base.specs.Statics.Cells.{most_cells};
 ghost use Rattle.m2_base.specs.Tables.{rows_at};
 ghost use Rattle.type_rules.specs.Asks.{Reads, WhereKnown, WhereWaiting};
 ghost use Rattle.type_rules.specs.Scenes.{IsRowOf, Suits, WhereTold, rows_of, scene_of};
@@ -24,12 +25,12 @@ fn cell_after<S: Scopes>(
     requires suits { Suits (S.state scopes.old).frame around.now }
     requires before { place.scope < fills_of (S.state scopes.old) }
     requires row { IsRowOf (S.state scopes.old).frame place row.now }
-    requires cell { cell ≤ 16777216 }
+    requires cell { cell ≤ most_cells + 1 }
     ensures reads { Reads (S.state scopes.old) (S.state scopes.new) }
     ensures waits { WhereWaiting result (λ head. Waits (S.state scopes.old) (S.state scopes.new) head) }
     ensures told { WhereTold (S.state scopes.old).frame (λ made.
         WhereKnown result (λ next. next ≡ spec_after (scene_of (S.state scopes.old).frame made around.now) cell (row_meaning row.now))) }
-    ensures cell { WhereKnown result (λ next. next ≤ 16777216) }
+    ensures cell { WhereKnown result (λ next. next ≤ most_cells + 1) }
 {
     let _scope = place.scope;
     let RowMeaning::Var(of, _, _) = read_row(row) else {
@@ -48,7 +49,7 @@ fn cell_behind<S: Scopes>(scopes: &mut S, around: &Around, own: u32) -> Ask<u32>
     ensures waits { WhereWaiting result (λ head. Waits (S.state scopes.old) (S.state scopes.new) head) }
     ensures told { WhereTold (S.state scopes.old).frame (λ made.
         WhereKnown result (λ cell. cell ≡ cells_after (scene_of (S.state scopes.old).frame made around.now) 0 (rows_at (rows_of (S.state scopes.old).frame made) own))) }
-    ensures cell { WhereKnown result (λ cell. cell ≤ 16777216) }
+    ensures cell { WhereKnown result (λ cell. cell ≤ most_cells + 1) }
 {
     let mut cell = 0;
     for ordinal in 0..u32::MAX {
@@ -73,7 +74,7 @@ pub fn first_cell<S: Scopes>(scopes: &mut S, around: &Around, kind: StreamKind) 
     ensures waits { WhereWaiting result (λ head. Waits (S.state scopes.old) (S.state scopes.new) head) }
     ensures told { WhereTold (S.state scopes.old).frame (λ made.
         WhereKnown result (λ cell. cell ≡ spec_first (scene_of (S.state scopes.old).frame made around.now) kind around.now.own)) }
-    ensures cell { WhereKnown result (λ cell. cell ≤ 16777216) }
+    ensures cell { WhereKnown result (λ cell. cell ≤ most_cells + 1) }
 {
     match (kind, around.own) {
         (StreamKind::Main, Some(own)) => cell_behind(scopes, around, own),

@@ -51,29 +51,25 @@ fn has_name(texts: &Texts, text: u32, name: u32) -> bool
     }
 }
 
-/// The number of the first text of this name, counted from 1; 0 where none has it. A number of more than 32 bits finds no
-/// memory.
-fn scope_in(texts: &Texts, order: &[u32], name: u32) -> Result<u32, Memory>
-    requires { name ≢ 0 }
-    ensures { IfOk result (λ scope. scope ≡ first_from (is_text_named texts.now name) 1 order.now) }
+/// The number of the first text of this name, counted from 1; 0 where none has it.
+fn scope_in(texts: &Texts, order: &[u32], name: u32) -> u32
+    requires named { name ≢ 0 }
+    requires small { first_from (is_text_named texts.now name) 1 order.now < 2 ^ 32 }
+    ensures { result ≡ first_from (is_text_named texts.now name) 1 order.now }
 {
-    let mut scope: u32 = 1;
-    for text in order {
+    for (place, text) in order.iter().enumerate() {
         if has_name(texts, *text, name) {
-            return Ok(scope);
-        }
-        match scope.checked_add(1) {
-            Some(next) => scope = next,
-            None => return Err(Memory),
+            return (place + 1) as u32;
         }
     }
-    Ok(0)
+    0
 }
 
 /// The scope of the definition module of this name.
-fn module_scope(texts: &Texts, name: u32) -> Result<u32, Memory>
-    requires { name ≢ 0 }
-    ensures { IfOk result (λ scope. scope ≡ scope_of_module (source_of texts.now) name) }
+fn module_scope(texts: &Texts, name: u32) -> u32
+    requires named { name ≢ 0 }
+    requires small { scope_of_module (source_of texts.now) name < 2 ^ 32 }
+    ensures { result ≡ scope_of_module (source_of texts.now) name }
 {
     scope_in(texts, &texts.order, name)
 }
@@ -90,10 +86,7 @@ fn put_module<S: Scopes>(
     requires before { scope_of_module (source_of site.now.texts.now) name.name < (S.state scopes.now).frame.setting.fills }
     ensures { Declares (S.state scopes.now) (S.state scopes.now) made.old made.new site.now (known_of result) (named module_kind name ∷ []) IsBehind (λ c. spec_named c name.name name.at (Module (scope_of_module (source_of site.now.texts.now) name.name))) }
 {
-    let scope = match module_scope(site.texts, name.name) {
-        Ok(scope) => scope,
-        Err(memory) => return Err(memory),
-    };
+    let scope = module_scope(site.texts, name.name);
     name_row(scopes, site, made, name, RowMeaning::Module(scope))
 }
 
@@ -284,6 +277,7 @@ fn bring<S: Scopes>(
 ) -> Result<Ask<Vec<Named>>, Memory>
     requires making { IsMaking (S.state scopes.old).frame site.now made.old [] }
     requires row { IfSome entry (λ e. IsRowOf (S.state scopes.old).frame e.0 e.1) }
+    requires before { IfSome entry (λ e. e.0.scope < (S.state scopes.old).frame.setting.fills) }
     ensures { DeclaresWith (S.state scopes.old) (S.state scopes.new) made.old made.new site.now (listed result) [] all_names IsAny (λ c. brought_by c at (members_of c.scene entry)) }
 {
     let found = analysed!(members_in(alloc, scopes, site, entry, made));
@@ -303,6 +297,7 @@ fn entry_rows<S: Scopes>(
     requires making { IsMaking (S.state scopes.old).frame site.now made.old (named alias_kind name ∷ []) }
     requires named { IsReadName site.now.texts.now.names name }
     requires row { IfSome entry (λ e. IsRowOf (S.state scopes.old).frame e.0 e.1) }
+    requires before { IfSome entry (λ e. e.0.scope < (S.state scopes.old).frame.setting.fills) }
     ensures { DeclaresWith (S.state scopes.old) (S.state scopes.new) made.old made.new site.now (listed result) (named alias_kind name ∷ []) all_names IsAny (λ c. make_then c (alias_row c name (spec_target entry)) (λ d p. brought_by d name.at (members_of d.scene entry))) }
 {
     let _place = analysed!(own_row(scopes, site, name, entry, made));
@@ -368,10 +363,8 @@ fn member_rows<S: Scopes>(
     requires before { scope_of_module (source_of site.now.texts.now) outer.name < (S.state scopes.old).frame.setting.fills }
     ensures { DeclaresWith (S.state scopes.old) (S.state scopes.new) made.old made.new site.now (listed result) (named alias_kind name ∷ []) all_names (BringAny (import_item (Some outer) name)) (λ c. spec_rows c (Some outer) name) }
 {
-    match module_scope(site.texts, outer.name) {
-        Ok(scope) => from_rows(alloc, scopes, site, scope, name, made),
-        Err(memory) => Err(memory),
-    }
+    let scope = module_scope(site.texts, outer.name);
+    from_rows(alloc, scopes, site, scope, name, made)
 }
 
 /// A module; or a name of a module, an alias of what it stands for there, and the names that it brings.

@@ -1,5 +1,6 @@
 //! The rows of an item, and what it gives beside them.
-ghost use Rattle.std.specs.Prelude.{◌≡◌, ◌≤◌, [], filter, length, option_map};
+ghost use Rattle.std.specs.Prelude.{◌≡◌, ◌≤◌, [], filter, length, option_map, ◌+◌};
+ghost use Rattle.m2_base.specs.Statics.Cells.{most_cells};
 ghost use Rattle.m2_base.specs.Statics.Declarations.{declare as spec_declare};
 ghost use Rattle.m2_base.specs.Statics.Items.{const_item as spec_const, decl_item, import_item as spec_import, proc_item as spec_proc, type_item as spec_type, vars_item as spec_vars};
 ghost use Rattle.m2_base.specs.Statics.ProcedureRows.{is_proc};
@@ -54,7 +55,7 @@ fn import_item<S: Scopes>(
     requires making { IsMaking (S.state scopes.old).frame site.now made.old (item_shapes (spec_import from.now name)) }
     requires read { IsReadItem site.now.texts.now.names (spec_import from.now name) }
     requires before { IsFromBefore (source_of site.now.texts.now) (S.state scopes.old).frame.setting.fills (spec_import from.now name) }
-    requires cell { cell ≤ 16777216 }
+    requires cell { cell ≤ most_cells + 1 }
     ensures { DeclaresWith (S.state scopes.old) (S.state scopes.new) made.old made.new site.now result (item_shapes (spec_import from.now name)) (λ e. e.brought) (IsEffectOf (spec_import from.now name)) (λ c. spec_declare c kind (spec_import from.now name) cell) }
 {
     let _kind = kind;
@@ -78,7 +79,7 @@ fn const_item<S: Scopes>(
 ) -> Result<Ask<Effect>, Memory>
     requires making { IsMaking (S.state scopes.old).frame site.now made.old (item_shapes (spec_const name (expr_view value.now))) }
     requires read { IsReadItem site.now.texts.now.names (spec_const name (expr_view value.now)) }
-    requires cell { cell ≤ 16777216 }
+    requires cell { cell ≤ most_cells + 1 }
     ensures { Declares (S.state scopes.old) (S.state scopes.new) made.old made.new site.now result (item_shapes (spec_const name (expr_view value.now))) IsLoneEffect (λ c. spec_declare c kind (spec_const name (expr_view value.now)) cell) }
 {
     let _kind = kind;
@@ -102,7 +103,7 @@ fn type_item<S: Scopes>(
 ) -> Result<Ask<Effect>, Memory>
     requires making { IsMaking (S.state scopes.old).frame site.now made.old (item_shapes (spec_type name (option_map type_view typ.now))) }
     requires read { IsReadItem site.now.texts.now.names (spec_type name (option_map type_view typ.now)) }
-    requires cell { cell ≤ 16777216 }
+    requires cell { cell ≤ most_cells + 1 }
     ensures { Declares (S.state scopes.old) (S.state scopes.new) made.old made.new site.now result (item_shapes (spec_type name (option_map type_view typ.now))) IsLoneEffect (λ c. spec_declare c kind (spec_type name (option_map type_view typ.now)) cell) }
 {
     let _kind = kind;
@@ -126,7 +127,7 @@ fn vars_item<S: Scopes>(
 ) -> Result<Ask<Effect>, Memory>
     requires making { IsMaking (S.state scopes.old).frame site.now made.old (item_shapes (spec_vars names.now (type_view typ.now))) }
     requires read { IsReadItem site.now.texts.now.names (spec_vars names.now (type_view typ.now)) }
-    requires cell { cell ≤ 16777216 }
+    requires cell { cell ≤ most_cells + 1 }
     ensures { Declares (S.state scopes.old) (S.state scopes.new) made.old made.new site.now result (item_shapes (spec_vars names.now (type_view typ.now))) IsLoneEffect (λ c. spec_declare c kind (spec_vars names.now (type_view typ.now)) cell) }
 {
     let _kind = kind;
@@ -151,7 +152,7 @@ fn proc_item<S: Scopes>(
     requires making { IsMaking (S.state scopes.old).frame site.now made.old (item_shapes (spec_proc (heading_view heading.now) stream)) }
     requires begun { made.old.rows.items ≡ [] }
     requires read { IsReadItem site.now.texts.now.names (spec_proc (heading_view heading.now) stream) }
-    requires cell { before.cell ≤ 16777216 }
+    requires cell { before.cell ≤ most_cells + 1 }
     requires number { before.procedures ≡ length (filter is_proc (S.state scopes.old).frame.entered) }
     ensures { Declares (S.state scopes.old) (S.state scopes.new) made.old made.new site.now result (item_shapes (spec_proc (heading_view heading.now) stream)) IsLoneEffect (λ c. spec_declare c kind (spec_proc (heading_view heading.now) stream) before.cell) }
 {
@@ -176,7 +177,7 @@ fn declaration<S: Scopes>(
     requires making { IsMaking (S.state scopes.old).frame site.now made.old (item_shapes (decl_item (decl_view declaration.now))) }
     requires begun { made.old.rows.items ≡ [] }
     requires read { IsReadItem site.now.texts.now.names (decl_item (decl_view declaration.now)) }
-    requires cell { before.cell ≤ 16777216 }
+    requires cell { before.cell ≤ most_cells + 1 }
     requires number { before.procedures ≡ length (filter is_proc (S.state scopes.old).frame.entered) }
     ensures { Declares (S.state scopes.old) (S.state scopes.new) made.old made.new site.now result (item_shapes (decl_item (decl_view declaration.now))) IsLoneEffect (λ c. spec_declare c kind (decl_item (decl_view declaration.now)) before.cell) }
 {
@@ -207,7 +208,7 @@ pub(crate) fn item_rows<S: Scopes>(
     requires begun { made.old.rows.items ≡ [] }
     requires read { IsReadItem site.now.texts.now.names (item_view item.now) }
     requires before { IsFromBefore (source_of site.now.texts.now) (S.state scopes.old).frame.setting.fills (item_view item.now) }
-    requires cell { before.cell ≤ 16777216 }
+    requires cell { before.cell ≤ most_cells + 1 }
     requires number { before.procedures ≡ length (filter is_proc (S.state scopes.old).frame.entered) }
     ensures { DeclaresWith (S.state scopes.old) (S.state scopes.new) made.old made.new site.now result (item_shapes (item_view item.now)) (λ e. e.brought) (IsEffectOf (item_view item.now)) (λ c. spec_declare c kind (item_view item.now) before.cell) }
 {

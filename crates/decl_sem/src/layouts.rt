@@ -8,12 +8,9 @@ ghost use Rattle.m2_base.specs.Views.{decl_view, heading_view, import_view, stre
 ghost use Rattle.decl_sem.specs.Progress.{Progress as PlainProgress, at_start, with_item, with_items};
 
 use crate::shapes::{Shapes, put_declaration, put_heading, put_import};
-use m2_base::{Decl, Heading, Ident, Import, Layout, Memory, Named, Stream};
+use m2_base::{Decl, Heading, Ident, Import, Layout, MOST_ROWS, Memory, Named, Stream};
 use std::alloc::Global;
 use std::marker::Model;
-
-/// A layout has at most so many rows.
-const MOST_ROWS: u32 = 2_147_483_648;
 
 /// The layout of the items so far.
 #[derive(Drop)]

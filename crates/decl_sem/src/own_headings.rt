@@ -116,7 +116,7 @@ pub(crate) fn heading_rows<S: Scopes>(
     requires read { IsReadHeading site.now.texts.now.names (heading_view heading.now) }
     ensures { Declares (S.state scopes.old) (S.state scopes.new) made.old made.new site.now result (flat_map own_section_shapes (heading_view heading.now).sections) IsLoneEffect (λ c. spec_rows c (heading_view heading.now)) }
 {
-    let sizes = put!(heading_sizes(&heading.sections));
+    let sizes = heading_sizes(&heading.sections);
     let first = Placing::new(alloc, capped(sizes.cells as u64));
     let behind = analysed!(sections_in(scopes, site, made, &heading.sections, first));
     effect_in(alloc, scopes, site, made, heading.result, behind)

@@ -1,5 +1,5 @@
 //! The rows of a procedure type.
-ghost use Rattle.std.specs.Prelude.{◌≡◌, ◌≤◌, ◌+◌, ◌∷◌, [], length, IfSome};
+ghost use Rattle.std.specs.Prelude.{◌≡◌, ◌<◌, ◌≤◌, ◌+◌, ◌^◌, ◌∷◌, [], length};
 ghost use Rattle.m2_base.specs.Rows.{proc_type_kind};
 ghost use Rattle.m2_base.specs.Statics.Makes.{make_then, makes_row, only_gives};
 ghost use Rattle.m2_base.specs.Statics.ProcedureTypes.{formals_length, result_type};
@@ -24,18 +24,15 @@ fn rows_of_formal(formal: &Formal) -> u32
 }
 
 /// The ordinal of a procedure type's row, where the first of its parameters' rows has this one.
-fn own_after(first: u32, formals: &[Formal]) -> Option<u32>
-    ensures { IfSome result (λ own. own ≡ first + formals_length formals.now) }
+fn own_after(first: u32, formals: &[Formal]) -> u32
+    requires { first + formals_length formals.now < 2 ^ 32 }
+    ensures { result ≡ first + formals_length formals.now }
 {
     let mut own = first;
     for formal in formals {
-        let rows = rows_of_formal(formal);
-        let Some(next) = own.checked_add(rows) else {
-            return None;
-        };
-        own = next;
+        own += rows_of_formal(formal);
     }
-    Some(own)
+    own
 }
 
 /// The row of a procedure type with this result, behind its parameters.
@@ -75,9 +72,7 @@ pub(crate) fn proc_in<S: Scopes>(
 {
     let first = next_row(made);
     let count = formals.len() as u32;
-    let Some(own) = own_after(first, formals) else {
-        return Err(Memory);
-    };
+    let own = own_after(first, formals);
     analysed!(formals_in(scopes, site, own, formals, made));
     proc_row(scopes, site, at, first, count, qual, made)
 }

@@ -86,10 +86,8 @@ pub(crate) fn proc_rows<S: Scopes>(
     let first = next_row(made);
     let number = proc_number(kind, stream, site.around.module, procedures);
     let scope = proc_scope(kind, stream);
-    let sizes = put!(heading_sizes(&heading.sections));
-    let Some(own) = first.checked_add(sizes.rows) else {
-        return Err(Memory);
-    };
+    let sizes = heading_sizes(&heading.sections);
+    let own = first + sizes.rows;
     analysed!(sections_rows(scopes, site, made, own, &heading.sections));
     match typed_proc(
         scopes,

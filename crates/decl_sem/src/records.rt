@@ -1,8 +1,9 @@
 //! The row of a record, where its variants stand, and their labels.
-ghost use Rattle.std.specs.Prelude.{◌≤◌, ◌∷◌, ◌<◌, ◌^◌, [], map};
+ghost use Rattle.std.specs.Prelude.{◌≤◌, ◌∷◌, ◌<◌, ◌^◌, [], map, ◌+◌};
 ghost use Rattle.m2_base.specs.Rows.{record_kind};
 ghost use Rattle.m2_base.specs.States.{State};
 ghost use Rattle.m2_base.specs.Statics.CaseLabels.{labels_of};
+ghost use Rattle.m2_base.specs.Statics.Cells.{most_cells};
 ghost use Rattle.m2_base.specs.Statics.Makes.{only_gives};
 ghost use Rattle.m2_base.specs.Statics.ReadTrees.{AreReadLabels, IsReadOption, IsReadQual};
 ghost use Rattle.m2_base.specs.Statics.Shapes.{nameless, tag_shapes};
@@ -41,7 +42,7 @@ pub(crate) fn begin_variants<S: Scopes>(
 ) -> Result<Ask<Variants>, Memory>
     requires making { IsMaking (S.state scopes.old).frame site.now made.old (tag_shapes tag) }
     requires owner { IsOwner site.now made.old (tag_shapes tag) own }
-    requires offset { offset ≤ 16777216 }
+    requires offset { offset ≤ most_cells + 1 }
     requires tag { IsReadOption site.now.texts.now.names tag }
     requires read { IsReadQual site.now.texts.now.names of }
     ensures { Declares (S.state scopes.old) (S.state scopes.new) made.old made.new site.now result (tag_shapes tag) (AreVariantsOf own) (λ c. tag_made c own offset tag of) }

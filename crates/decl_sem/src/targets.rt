@@ -1,8 +1,8 @@
 //! What a pointer points to. A name alone that the block declares may be declared later: the layout says where.
-ghost use Rattle.std.specs.Prelude.{◌≡◌, ◌∷◌, ◌<◌, ◌≤◌, [], ℕ, Some, None, if◌then◌else◌, ◌&&◌, is_none, length, not, option_map};
+ghost use Rattle.std.specs.Prelude.{◌≡◌, ◌∷◌, ◌<◌, [], ℕ, Some, None, if◌then◌else◌, ◌&&◌, is_none, length, not, option_map};
 ghost use Rattle.std.specs.Option.{IfSome};
 ghost use Rattle.m2_base.specs.Asks.{IfKnown};
-ghost use Rattle.m2_base.specs.Rows.{HasSmallNumbers, at_place, pointer_kind, row_meaning};
+ghost use Rattle.m2_base.specs.Rows.{HasSmallNumbers, alias_kind, at_place, pointer_kind, row_meaning};
 ghost use Rattle.m2_base.specs.Standard.{broken, is_standard as spec_is_standard};
 ghost use Rattle.m2_base.specs.States.{Frame, State, Waits};
 ghost use Rattle.m2_base.specs.Statics.Contexts.{Context, refuse as refuses};
@@ -19,8 +19,8 @@ ghost use Rattle.const_eval.specs.Analyses.{Analysed};
 ghost use Rattle.type_rules.specs.Asks.{Reads, WhereKnown, WhereWaiting};
 ghost use Rattle.type_rules.specs.Scenes.{IsRowOf, IsThere, Suits, WhereTold, scene_of};
 ghost use Rattle.type_rules.specs.Sites.{SuitsSite};
-ghost use Rattle.decl_sem.specs.Pieces.{Declares, IsBehind, IsMaking, known_of};
-ghost use Rattle.decl_sem.specs.Targets.{IsOptionTarget, IsTarget, laid_target_of, optional};
+ghost use Rattle.decl_sem.specs.Pieces.{AreAliasesBefore, Declares, IsBehind, IsMaking, known_of};
+ghost use Rattle.decl_sem.specs.Targets.{HasItsKind, IsFirst, IsOptionTarget, IsTarget, laid_target_of, optional};
 ghost use Rattle.decl_sem.specs.TypeUses.{type_or};
 
 use crate::kinds::{ALIAS, TYPE_NAME};
@@ -70,6 +70,7 @@ fn target_name(typ: &TypeExpr) -> Option<Ident>
 fn laid_target(site: &Site, typ: &TypeExpr) -> Option<(u32, Named)>
     ensures told { (c : Context) → c.layout ≡ site.now.layout.now → target_by_name c (spec_name c (type_view typ.now)) ≡ option_map (λ laid. spec_layout c laid.0 laid.1) result }
     ensures plain { IfSome result (λ _. type_shapes (type_view typ.now) ≡ []) }
+    ensures first { IfSome result (λ laid. IsFirst site.now.layout.now laid.1) }
 {
     let Some(name) = target_name(typ) else {
         return None;
@@ -102,7 +103,8 @@ enum Laid {
 
 /// What a row of this kind is as a target.
 fn laid_as(kind: u8) -> Laid
-    ensures { (c : Context) (at : ℕ) (n : Entries) → n.kind ≡ kind → spec_layout c at n ≡ laid_target_of c at (at_place c.scene.block.scope n.ordinal) result }
+    ensures alias { HasItsKind result kind }
+    ensures target { (c : Context) (at : ℕ) (n : Entries) → n.kind ≡ kind → spec_layout c at n ≡ laid_target_of c at (at_place c.scene.block.scope n.ordinal) result }
 {
     match kind {
         TYPE_NAME => Laid::TypeName,
@@ -166,26 +168,6 @@ fn refused_target(site: &Site, at: u32, notes: &mut Notes) -> Result<Place, Memo
     Ok(BROKEN)
 }
 
-/// The target that an alias leads to. It stands in an import, and so before the item whose first row has this ordinal.
-fn imported_in<S: Scopes>(
-    scopes: &mut S,
-    site: &Site,
-    first: u32,
-    at: u32,
-    place: Place,
-    notes: &mut Notes,
-) -> Result<Ask<Place>, Memory>
-    requires suits { SuitsSite (S.state scopes.old).frame site.now }
-    requires first { first ≤ length (S.state scopes.old).frame.entered }
-    requires own { place.scope ≡ site.now.around.now.scope }
-    ensures { Analysed (S.state scopes.old) (S.state scopes.new) notes.old notes.new site.now result IsTarget (λ c. entry_target c at (followed c.scene (entry_at c.scene place))) }
-{
-    if place.ordinal >= first {
-        return Err(Memory);
-    }
-    alias_target(scopes, site, at, place, notes)
-}
-
 /// The place of a row of the own scope.
 fn own_place(site: &Site, ordinal: u32) -> Place
     ensures place { result ≡ at_place site.now.around.now.scope ordinal }
@@ -199,19 +181,18 @@ fn own_place(site: &Site, ordinal: u32) -> Place
 fn layout_target<S: Scopes>(
     scopes: &mut S,
     site: &Site,
-    first: u32,
     at: u32,
     named: Named,
     notes: &mut Notes,
 ) -> Result<Ask<Place>, Memory>
     requires suits { SuitsSite (S.state scopes.old).frame site.now }
-    requires first { first ≤ length (S.state scopes.old).frame.entered }
+    requires entered { named.kind ≡ alias_kind → named.ordinal < length (S.state scopes.old).frame.entered }
     ensures { Analysed (S.state scopes.old) (S.state scopes.new) notes.old notes.new site.now result IsTarget (λ c. spec_layout c at named) }
 {
     let place = own_place(site, named.ordinal);
     match laid_as(named.kind) {
         Laid::TypeName => Ok(Ask::Known(place)),
-        Laid::Alias => imported_in(scopes, site, first, at, place, notes),
+        Laid::Alias => alias_target(scopes, site, at, place, notes),
         Laid::Other => {
             let of = put!(refused_target(site, at, notes));
             Ok(Ask::Known(of))
@@ -219,7 +200,8 @@ fn layout_target<S: Scopes>(
     }
 }
 
-/// What a pointer points to by the layout; none where the layout doesn't say it.
+/// What a pointer points to by the layout; none where the layout doesn't say it. An alias stands in an import, and so before the
+/// item of the pointer.
 pub(crate) fn target_in<S: Scopes>(
     scopes: &mut S,
     site: &Site,
@@ -227,13 +209,14 @@ pub(crate) fn target_in<S: Scopes>(
     made: &mut Made,
 ) -> Result<Ask<Option<Place>>, Memory>
     requires making { IsMaking (S.state scopes.old).frame site.now made.old [] }
+    requires aliases { AreAliasesBefore site.now.layout.now made.old.first }
     ensures target { Declares (S.state scopes.old) (S.state scopes.new) made.old made.new site.now result [] IsOptionTarget (λ c. only_gives (optional (target_by_name c (spec_name c (type_view typ.now))))) }
     ensures plain { IfKnown result (λ target. IfSome target (λ _. type_shapes (type_view typ.now) ≡ [])) }
 {
     let Some((at, named)) = laid_target(site, typ) else {
         return Ok(Ask::Known(None));
     };
-    let of = analysed!(layout_target(scopes, site, made.first, at, named, &mut made.notes));
+    let of = analysed!(layout_target(scopes, site, at, named, &mut made.notes));
     Ok(Ask::Known(Some(of)))
 }
 

@@ -1,5 +1,6 @@
 //! The rows of a type expression.
-ghost use Rattle.std.specs.Prelude.{[], length, map, ◌≤◌};
+ghost use Rattle.std.specs.Prelude.{[], length, map, ◌≤◌, ◌+◌};
+ghost use Rattle.m2_base.specs.Statics.Cells.{most_cells};
 ghost use Rattle.m2_base.specs.Statics.Makes.{only_gives};
 ghost use Rattle.m2_base.specs.Statics.Shapes.{arms_shapes, field_shapes, fields_shapes, form_shapes, type_shapes, types_shapes};
 ghost use Rattle.m2_base.specs.Statics.TypeNames.{type_of_qual as spec_type_of};
@@ -180,7 +181,7 @@ fn fields_in<S: Scopes>(
 ) -> Result<Ask<u32>, Memory>
     requires making { IsMaking (S.state scopes.old).frame site.now made.old (fields_shapes (field_lists (map field_list_view fields.now))) }
     requires owner { IsOwner site.now made.old (fields_shapes (field_lists (map field_list_view fields.now))) own }
-    requires offset { offset ≤ 16777216 }
+    requires offset { offset ≤ most_cells + 1 }
     requires read { AreReadFields site.now.texts.now.names (field_lists (map field_list_view fields.now)) }
     ensures { Declares (S.state scopes.old) (S.state scopes.new) made.old made.new site.now result (fields_shapes (field_lists (map field_list_view fields.now))) IsOffset (λ c. fields_rows c own offset (field_lists (map field_list_view fields.now))) }
 {
@@ -204,7 +205,7 @@ fn field_list_in<S: Scopes>(
 ) -> Result<Ask<u32>, Memory>
     requires making { IsMaking (S.state scopes.old).frame site.now made.old (field_shapes (field_list_view list.now)) }
     requires owner { IsOwner site.now made.old (field_shapes (field_list_view list.now)) own }
-    requires offset { offset ≤ 16777216 }
+    requires offset { offset ≤ most_cells + 1 }
     requires read { IsReadField site.now.texts.now.names (field_list_view list.now) }
     ensures { Declares (S.state scopes.old) (S.state scopes.new) made.old made.new site.now result (field_shapes (field_list_view list.now)) IsOffset (λ c. field_list_rows c own offset (field_list_view list.now)) }
 {

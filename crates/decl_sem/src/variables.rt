@@ -1,8 +1,9 @@
 //! Variables of one type, each with the cells of that type.
-ghost use Rattle.std.specs.Prelude.{◌≡◌, ◌++◌, [], ◌-◌, ◌<◌, ◌≤◌, ◌^◌, List, None, map, slice_get, Some, IfSome};
+ghost use Rattle.std.specs.Prelude.{◌≡◌, ◌++◌, [], ◌-◌, ◌<◌, ◌≤◌, ◌^◌, List, None, map, slice_get, Some, IfSome, ◌+◌};
 ghost use Rattle.m2_base.specs.Lists.{Each};
 ghost use Rattle.m2_base.specs.Rows.{HasSmallNumbers, row_meaning, var_kind};
 ghost use Rattle.m2_base.specs.States.{Waits};
+ghost use Rattle.m2_base.specs.Statics.Cells.{most_cells};
 ghost use Rattle.m2_base.specs.Statics.NameRows.{var_rows as spec_vars, vars_rows as spec_all};
 ghost use Rattle.m2_base.specs.Statics.Shapes.{named, type_shapes};
 ghost use Rattle.m2_base.specs.Statics.Types.{size_by as spec_size_by, size_of as spec_size};
@@ -79,7 +80,7 @@ fn put_variables<S: Scopes>(
     requires of { IsBehind (S.state scopes.now).frame (next_ordinal made.old) of }
     requires read { AreReadNames site.now.texts.now.names names.now }
     requires size { size < 2 ^ 32 }
-    requires cell { cell ≤ 16777216 }
+    requires cell { cell ≤ most_cells + 1 }
     ensures { Declares (S.state scopes.now) (S.state scopes.now) made.old made.new site.now (known_of result) (map (named var_kind) names.now) IsCell (λ c. sized_rows c of size cell names.now) }
 {
     let mut next = cell;
@@ -105,7 +106,7 @@ fn put_of<S: Scopes>(
     requires making { IsMaking (S.state scopes.old).frame site.now made.old (map (named var_kind) names.now) }
     requires of { IsBehind (S.state scopes.old).frame (next_ordinal made.old) of }
     requires read { AreReadNames site.now.texts.now.names names.now }
-    requires cell { cell ≤ 16777216 }
+    requires cell { cell ≤ most_cells + 1 }
     ensures { Declares (S.state scopes.old) (S.state scopes.new) made.old made.new site.now result (map (named var_kind) names.now) IsCell (λ c. spec_vars c of cell names.now) }
 {
     match cells_of(scopes, site, made, of) {
@@ -130,7 +131,7 @@ pub(crate) fn vars_rows<S: Scopes>(
     requires making { IsMaking (S.state scopes.old).frame site.now made.old (type_shapes (type_view typ.now) ++ map (named var_kind) names.now) }
     requires read { IsReadType site.now.texts.now.names (type_view typ.now) }
     requires named { AreReadNames site.now.texts.now.names names.now }
-    requires cell { cell ≤ 16777216 }
+    requires cell { cell ≤ most_cells + 1 }
     ensures { Declares (S.state scopes.old) (S.state scopes.new) made.old made.new site.now result (type_shapes (type_view typ.now) ++ map (named var_kind) names.now) IsCell (λ c. spec_all c names.now (type_view typ.now) cell) }
 {
     match type_in(alloc, scopes, site, typ, made) {

@@ -70,7 +70,7 @@ too_many_named found mods f kept many =
 pub read_named : (old new : List (List ℕ)) (definition : Bool) (name : ℕ) (bytes : List ℕ) (f : Found) → IsRead old definition name bytes new f → Each (IsNamed new) (names_of (modules_of f.front))
 read_named old new definition file bytes f read =
     let values = (text_listed old new bytes f.text.tokens read.tokens read.short).1 in
-    numbers_named new (modules_of f.front) (front_named new definition f.text.tokens f.front read.front values).1
+    numbers_named new (modules_of f.front) (front_named new definition f.text.tokens f.front read.front values)
 
 -- ** One more text
 
@@ -83,7 +83,7 @@ module _ (p : Progress) (mods keys : List ℕ) (count : ℕ) (definition : Bool)
   fronts_named : Each (IsNamed new) (names_of (modules_of f.front))
   fronts_named =
       let values = (text_listed p.names new bytes f.text.tokens read.tokens read.short).1 in
-      numbers_named new (modules_of f.front) (front_named new definition f.text.tokens f.front read.front values).1
+      numbers_named new (modules_of f.front) (front_named new definition f.text.tokens f.front read.front values)
 
   pub reads_on : length p.found ≤ length p.asked → length keys < 257 → count + length f.text.tokens ≤ 4194304 → (found : List Found) → found ≡ p.found ++ f ∷ []
       → IsKept (progress_of new found p.asked) keys (count + length f.text.tokens)

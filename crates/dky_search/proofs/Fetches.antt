@@ -104,7 +104,7 @@ module _ (a : About) (own : ℕ) (v w : View) (later : (j : ℕ) → IsBefore (s
   waits (Some r) at = tt
   waits None at = go there.complete refl
     where
-      go : (b : Bool) → there.complete ≡ b → WaitsNew (state_in a v own) (if b then Known None else Waiting (head_of p.scope there))
+      go : (b : Bool) → there.complete ≡ b → WaitsNew {T = Option Row} (state_in a v own) (if b then Known None else Waiting (head_of p.scope there))
       go true done = tt
       go false still = not_before a own v w later mine p.scope (ap (λ (t : Table). t.complete) (sym (seen_table w p.scope)) ∙ still)
 

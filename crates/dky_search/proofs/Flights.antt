@@ -13,7 +13,7 @@ use Rattle.m2_base.specs.declared.replies.Reply.{Reply}
 use Rattle.m2_base.specs.declared.replies.Reply.TheVariants.{Found, Absent, DontKnowYet}
 use Rattle.m2_base.specs.declared.rows.Place.{Place}
 use Rattle.m2_base.specs.declared.rows.Row.{Row}
-use Rattle.m2_base.proofs.Kept.{Each-append}
+use Rattle.m2_base.proofs.EachLaws.{each_append}
 use Rattle.scope_core.specs.Flights.{Flown, IsFlight, GoesOn, IsHitOf, reply_of, reply_by, next_by, next_of, heads_in, found_at, with_load}
 use Rattle.scope_core.specs.Heads.{heads_of, heads_after}
 use Rattle.scope_core.specs.declared.flight.Load.{Load}
@@ -114,10 +114,10 @@ flown_more a own v w w' f s l flown next sees_it later mine head hit formed ther
       elsewhere = λ j no. others_stay w w' s sees_it later j (λ e. no (in_last j f.loads l (e ∙ sym scope))) ∙ flown.elsewhere j (λ on. no (in_front j f.loads (l ∷ []) on));
       mine = dite (ℕ_discrete own s) (λ e. subst (λ (k : ℕ). shown_at w' k ≡ shown_at w k) (sym e) (mine (sym e))) (λ n. others_stay w w' s sees_it later own n) ∙ flown.mine;
       flight = flight_more f.chain f.name f.loads l flown.flight facts.0 (facts.1 ∙ ap Some (sym scope));
-      exist = Each-append (λ l. l.head.scope < scopes a) f.loads (l ∷ []) flown.exist (subst (λ (k : ℕ). k < scopes a) (sym scope) there, tt);
-      current = Each-append (IsCurrent w' f.name) f.loads (l ∷ []) (current_stays w w' f.name f.loads (step_later w w' s sees_it later) (all_complete f.chain f.loads facts.0) flown.current)
+      exist = each_append (λ l. l.head.scope < scopes a) f.loads (l ∷ []) flown.exist (subst (λ (k : ℕ). k < scopes a) (sym scope) there, tt);
+      current = each_append (IsCurrent w' f.name) f.loads (l ∷ []) (current_stays w w' f.name f.loads (step_later w w' s sees_it later) (all_complete f.chain f.loads facts.0) flown.current)
           (record { head = subst (λ (k : ℕ). l.head ≡ head_in k (shown_at w' k)) (sym scope) head; hit = subst (λ (k : ℕ). l.hit ≡ found_at k (first_named f.name (shown_at w' k).rows 0)) (sym scope) hit }, tt);
-      formed = Each-append (λ l. IsFormed (length (texts_in a).names) l.hit) f.loads (l ∷ []) flown.formed (formed, tt);
+      formed = each_append (λ l. IsFormed (length (texts_in a).names) l.hit) f.loads (l ∷ []) flown.formed (formed, tt);
     }
 
 -- the scope that comes next is one of the chain

@@ -6,5 +6,6 @@ pub mod Lawful
 pub mod Searches
 pub mod Sought
 pub mod Fetches
+pub mod Selects
 pub mod Enters
 pub mod Telling

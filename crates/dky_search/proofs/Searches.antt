@@ -12,7 +12,8 @@ use Rattle.m2_base.specs.declared.replies.Reply.{Reply}
 use Rattle.m2_base.specs.declared.replies.Reply.TheVariants.{Found, Absent, DontKnowYet}
 use Rattle.m2_base.specs.declared.rows.Place.{Place}
 use Rattle.m2_base.specs.declared.rows.Row.{Row}
-use Rattle.m2_base.proofs.Kept.{IsLater-refl, Each-map}
+use Rattle.m2_base.proofs.EachLaws.{each_then}
+use Rattle.m2_base.proofs.Kept.{IsLater-refl}
 use Rattle.scope_core.specs.Heads.{heads_of}
 use Rattle.scope_core.proofs.Settling.{one_thread_settles, lawful_heads}
 use Rattle.scope_table.specs.Rule.{scopes, shown_at, texts_in, IsBefore, IsSound}
@@ -83,7 +84,7 @@ module _ (a : About) (own : ℕ) (v w : View) (later : (j : ℕ) → IsBefore (s
   replied chain x (Found p row) tells formed = record { on = tells.0; named = tells.1; shown = shown_there p row tells.2 (formed p row refl) }
   replied chain x Absent tells formed =
       record {
-        complete = Each-map (λ s. IsWithout x (table_at (tables_in w) s)) (λ s. (new.seen s).complete ≡ true) chain (λ s h. sym (mark_there s) ∙ h.complete) tells;
+        complete = each_then (λ s. IsWithout x (table_at (tables_in w) s)) (λ s. (new.seen s).complete ≡ true) chain (λ s h. sym (mark_there s) ∙ h.complete) tells;
         own = λ on. let h = each_in (λ s. IsWithout x (table_at (tables_in w) s)) chain own tells on in
             (sym (mark_there own) ∙ h.complete, subst (λ (rows : List Row). Lacks rows x) (rows_there own) h.lacks);
       }

@@ -37,13 +37,13 @@ abbrev pub StopsNew : State → Reply → Type 0
 StopsNew old (DontKnowYet h) = (old.seen h.scope).complete ≡ false
 StopsNew old other = Unit {0}
 
--- the head at which a fetch stopped is of a scope that wasn't seen complete
-abbrev pub WaitsNew : State → Ask (Option Row) → Type 0
+-- the head at which a fetch or a selection stopped is of a scope that wasn't seen complete
+abbrev pub WaitsNew : {T : Type 0} → State → Ask T → Type 0
 WaitsNew old (Waiting h) = (old.seen h.scope).complete ≡ false
 WaitsNew old (Known there) = Unit {0}
 
 -- what is known of a place stays so
-abbrev pub StaysKnown : Ask (Option Row) → Ask (Option Row) → Type 0
+abbrev pub StaysKnown : {T : Type 0} → Ask T → Ask T → Type 0
 StaysKnown (Known there) later = later ≡ Known there
 StaysKnown (Waiting h) later = Unit {0}
 

@@ -23,8 +23,8 @@ pub(crate) fn put_all(table: &ScopeTable, seat: &mut TableSeat, rows: &[Row])
     ensures looks { (view seat.new).looks ≡ (view seat.old).looks }
 {
     let _whole = seat.scope();
-    for row in rows {
-        table.put_indexed(seat, row);
+    for (at, row) in rows.iter().enumerate() {
+        table.put_indexed(seat, row, &rows[..at]);
     }
     let _put = seat.scope();
     table.show(seat);

@@ -1,5 +1,6 @@
-//! A search goes from scope to scope, and looks a name up by the index of each.
-ghost use Rattle.std.specs.Prelude.{◌≡◌, ◌≢◌, ◌+◌, ◌≤◌, ◌<◌, [], ℕ, length, min, IfSome, IsNone};
+//! A search goes from scope to scope, and finds the rows of a key by the index of each.
+ghost use Rattle.std.specs.Prelude.{◌≡◌, ◌≢◌, ◌+◌, ◌≤◌, ◌<◌, [], ◌||◌, ℕ, Option, length, min, nat_lt, IsNone};
+ghost use Rattle.m2_base.specs.Keys.{before_only, first_keyed};
 ghost use Rattle.m2_base.specs.Lists.{Each};
 ghost use Rattle.m2_base.specs.Rows.{IsWellFormed};
 ghost use Rattle.m2_base.specs.Tables.{first_named};
@@ -11,9 +12,9 @@ ghost use Rattle.scope_table.specs.Rule.{scopes, shown_at, texts_in, IsBefore};
 ghost use Rattle.scope_table.specs.Seats.{IsOf, IsSameSeat, view, scope_of, key_of};
 ghost use Rattle.dky_search.specs.Flying.{IsFlown, IsFormed, noted_by};
 
-use m2_base::{Head, Place, Row};
+use m2_base::{Head, Place, Row, RowKey, has_key};
 use scope_core::{Flight, Load};
-use scope_table::{ScopeTable, TableSeat, probe};
+use scope_table::{ScopeTable, TableSeat, probe, seed};
 
 /// A row that the seat has seen; it counts. The count stands still at its last value.
 pub(crate) fn load_row(
@@ -35,40 +36,63 @@ pub(crate) fn load_row(
     table.load_row(seat, place)
 }
 
-/// The first row of a name among those that the head counts, which are the ones that the seat has seen.
-fn find(
+/// The first row of a key among those that the head counts, which are the ones that the seat has seen.
+pub(crate) fn find(
     table: &ScopeTable,
     seat: &mut TableSeat,
     head: Head,
-    name: u32,
+    key: RowKey,
     rows_loaded: &mut u64,
 ) -> Option<(Place, Row)>
     requires table { IsOf table.now seat.old }
     requires scope { head.scope < scopes (key_of table.now) }
     requires count { head.count ≡ length (shown_at (view seat.old) head.scope).rows }
-    requires named { name ≢ 0 }
     ensures same { seat.new ≡ seat.old }
-    ensures found { result ≡ found_at head.scope (first_named name (shown_at (view seat.old) head.scope).rows 0) }
+    ensures found { result ≡ found_at head.scope (first_keyed key (shown_at (view seat.old) head.scope).rows 0) }
     ensures formed { IsFormed (length (texts_in (key_of table.now)).names) result }
     ensures counted { rows_loaded.old ≤ rows_loaded.new }
 {
     let Head { scope, count, .. } = head;
     let _whole = seat.scope();
     let width = table.width(scope);
+    let seed = seed(key);
     for distance in 0..width {
-        let cell = probe(width, name, distance);
+        let cell = probe(width, seed, distance);
         let Some(ordinal) = table.load_cell(seat, scope, cell) else {
             return None;
         };
         if ordinal < count {
             let place = Place { scope, ordinal };
             let row = load_row(table, seat, place, rows_loaded);
-            if row.name == name {
+            if has_key(&row, key) {
                 return Some((place, row));
             }
         }
     }
     None
+}
+
+/// Whether the head counts the row of this ordinal, or all rows of its scope.
+pub(crate) fn counts(head: Head, ordinal: u32) -> bool
+    ensures { result ≡ (head.complete || nat_lt ordinal head.count) }
+{
+    head.complete || ordinal < head.count
+}
+
+/// What was found before an ordinal, with its own.
+pub(crate) fn found_before(hit: Option<(Place, Row)>, upto: u32) -> Option<(u32, Row)>
+    ensures { (s : ℕ) (o : Option (ℕ × Row)) → hit ≡ found_at s o → result ≡ before_only upto o }
+{
+    match hit {
+        Some((place, row)) => {
+            if place.ordinal < upto {
+                Some((place.ordinal, row))
+            } else {
+                None
+            }
+        }
+        None => None,
+    }
 }
 
 /// Loads the head of a scope, and finds what its rows have of a name.
@@ -92,7 +116,7 @@ fn load(
     ensures counted { rows_loaded.old ≤ rows_loaded.new }
 {
     let head = table.load_head(seat, scope);
-    let hit = find(table, seat, head, name, rows_loaded);
+    let hit = find(table, seat, head, RowKey::Name(name), rows_loaded);
     Load { head, hit }
 }
 

@@ -1,7 +1,8 @@
 //! Scopes over the shared tables.
 ghost use Rattle.std.specs.Prelude.{◌≡◌, ◌≢◌, ◌++◌, ◌∷◌, [], ◌≤◌, ◌<◌, ℕ, List, length, map, Some};
+ghost use Rattle.m2_base.specs.Keys.{one_thread_field};
 ghost use Rattle.m2_base.specs.Lists.{Each, HasNoRepeats};
-ghost use Rattle.m2_base.specs.Scopes.{CanSearch, Searched, CanFetch, Fetched, CanEnter, Entered, CanComplete, Completed, looks_of};
+ghost use Rattle.m2_base.specs.Scopes.{CanSearch, Searched, CanFetch, Fetched, Selected, CanEnter, Entered, CanComplete, Completed, looks_of};
 ghost use Rattle.m2_base.specs.States.{IsSound, areas_of, fills_of, texts_of};
 ghost use Rattle.m2_base.specs.Tables.{Table, one_thread, one_thread_row};
 ghost use Rattle.scope_core.specs.Events.{Stays};
@@ -13,8 +14,8 @@ ghost use Rattle.scope_table.specs.Seats.{IsOf, view, scope_of, key_of};
 ghost use Rattle.dky_search.specs.Seen.{behind, tables_in, look_of, state_in, HaveGrown, IsLawful};
 
 use crate::entering::put_all;
-use crate::searching::{fly, load_row, note};
-use m2_base::{Ask, Head, Place, Reply, Row, Scopes, Texts};
+use crate::searching::{counts, find, fly, found_before, load_row, note};
+use m2_base::{Ask, Head, Place, Reply, Row, RowKey, Scopes, Texts};
 use scope_core::Flight;
 use scope_table::{ScopeTable, TableSeat};
 
@@ -160,6 +161,27 @@ impl<'t> Scopes for SeatScopes<'t> {
             return Ask::Known(Some(row));
         }
         not_there(head)
+    }
+
+    fn select(&mut self, of: Place, name: u32) -> Ask<Option<(u32, Row)>>
+        requires { CanFetch (state_of self.old) of }
+        ensures selected { Selected (state_of self.old) (state_of self.new) of name result }
+        ensures answer { result ≡ one_thread_field (tables_in (view_in self.new)) of name }
+        ensures loads { (view_in self.new).loads ≡ (view_in self.old).loads ++ head_in of.scope (shown_at (view_in self.new) of.scope) ∷ [] }
+        ensures waits { WaitsNew (state_of self.old) result }
+        ensures grown { HaveGrown (tables_in (view_in self.old)) (tables_in (view_in self.new)) }
+        ensures stays { (later : List Table) → HaveGrown (tables_in (view_in self.new)) later → StaysKnown result (one_thread_field later of name) }
+        ensures table { table_in self.new ≡ table_in self.old }
+        ensures counted { loaded_in self.old ≤ loaded_in self.new }
+    {
+        let head = self.table.load_head(&mut self.seat, of.scope);
+        let _whole = self.seat.scope();
+        if !counts(head, of.ordinal) {
+            return Ask::DontKnowYet(head);
+        }
+        let key = RowKey::Member(of.ordinal as u64, name as u64);
+        let hit = find(self.table, &mut self.seat, head, key, &mut self.rows_loaded);
+        Ask::Known(found_before(hit, of.ordinal))
     }
 
     fn enter(&mut self, rows: &[Row])

@@ -26,7 +26,7 @@ use Rattle.type_rules.specs.Scenes.{WhereTold, scene_of}
 use Rattle.type_rules.specs.declared.forms.Form.{Form}
 use Rattle.type_rules.specs.declared.forms.Formal.{Formal}
 use Rattle.type_rules.proofs.Compatibles.{told_later}
-use Rattle.expr_sem.specs.ArgumentFits.{parameter_view}
+use Rattle.expr_sem.specs.ArgumentCodes.{parameter_view}
 use Rattle.expr_sem.specs.Callees.{allowed_by, target_called, variable_allowed}
 use Rattle.expr_sem.specs.Calls.{Called, allowed, allowed_by_type, called_by, cells_of_all, is_same_truth, no_call, of_target, of_variable, standard_call}
 use Rattle.expr_sem.specs.Parts.{Part}

@@ -15,7 +15,7 @@ use Rattle.m2_base.specs.declared.replies.Ask.TheVariants.{Known}
 use Rattle.m2_base.specs.declared.rows.Place.{Place}
 use Rattle.m2_base.specs.declared.sites.Site.{Site}
 use Rattle.type_rules.specs.Scenes.{IsThere}
-use Rattle.expr_sem.specs.ArgumentFits.{IsArgument, argument_in, parameter_view}
+use Rattle.expr_sem.specs.ArgumentCodes.{IsArgument, argument_in, parameter_view}
 use Rattle.expr_sem.specs.Arguments.{after_argument, argument}
 use Rattle.expr_sem.specs.Callees.{IsCallee}
 use Rattle.expr_sem.specs.Coded as code

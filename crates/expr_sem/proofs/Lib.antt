@@ -9,6 +9,7 @@ pub mod Proper
 pub mod Quiet
 pub mod Law
 pub mod Onwards
+pub mod Following
 pub mod Operating
 pub mod Sequencing
 pub mod Selecting
@@ -22,7 +23,6 @@ pub mod ValueCases
 pub mod PieceParts
 pub mod Stacked
 pub mod ArgumentCases
-pub mod OpenArguments
 pub mod CallCases
 pub mod Walking
 pub mod ExpressionFolds

@@ -3,7 +3,7 @@ use Rattle.std.proofs.Common.{◌≡◌, ◌∙◌, ◌++◌, ◌∷◌, [], ℕ
 use Rattle.std.specs.Prelude.{get_or, slice_get, slice_index_or}
 use Rattle.std.proofs.lemmas.List.{get_or_push, length_push}
 use Rattle.m2_base.specs.Lists.{Each}
-use Rattle.m2_base.proofs.Kept.{Each-append}
+use Rattle.m2_base.proofs.EachLaws.{each_append}
 use Rattle.expr_sem.specs.Fragments.{AreSound, IsBefore, IsIn, IsMadeOf, part, part_among, part_by, parts_after}
 use Rattle.expr_sem.specs.Parts.{Part, none, skip, ◌⨟◌}
 use Rattle.expr_sem.specs.Fragments.{jump_of}
@@ -89,7 +89,7 @@ behind_in ns (WithRecord i) h = tt
 
 -- what comes on the stack is among the nodes
 pub still_in : (ns : List Node) (rest more : List Fragment) (form : Form) → more ≡ rest ++ behind form → IsMadeOf (length ns) form → Each (λ f. IsIn ns f) rest → Each (λ f. IsIn ns f) more
-still_in ns rest more form e h r = subst (λ (l : List Fragment). Each (λ f. IsIn ns f) l) (sym e) (Each-append (λ f. IsIn ns f) rest (behind form) r (behind_in ns form h))
+still_in ns rest more form e h r = subst (λ (l : List Fragment). Each (λ f. IsIn ns f) l) (sym e) (each_append (λ f. IsIn ns f) rest (behind form) r (behind_in ns form h))
 
 -- the front of the stack, and its last fragment
 pub front_in : (ns : List Node) (rest : List Fragment) (f : Fragment) → Each (λ g. IsIn ns g) (rest ++ f ∷ []) → Each (λ g. IsIn ns g) rest × IsIn ns f

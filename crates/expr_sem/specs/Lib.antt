@@ -26,7 +26,7 @@ pub mod RangeChecks
 pub mod SetCodings
 pub mod MadeAnswers
 pub mod Selections
-pub mod ArgumentFits
+pub mod ArgumentCodes
 pub mod VariableArguments
 pub mod Updates
 pub mod SetMembers

@@ -9,7 +9,7 @@ use Rattle.m2_base.specs.declared.rows.Place.{Place}
 use Rattle.type_rules.specs.Forms.{parameters_from}
 use Rattle.type_rules.specs.Scenes.{IsThere}
 use Rattle.type_rules.specs.declared.forms.Form.{Form}
-use Rattle.expr_sem.specs.ArgumentFits.{parameter_view}
+use Rattle.expr_sem.specs.ArgumentCodes.{parameter_view}
 use Rattle.expr_sem.specs.declared.signatures.Signature.{Signature}
 
 -- its types can be asked for

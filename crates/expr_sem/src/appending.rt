@@ -12,21 +12,18 @@ use crate::fragments::{Connective, Form, Fragment, Fragments};
 use crate::pieces::{Piece, With};
 use crate::steps::Step;
 use code_form::Instr;
-use m2_base::Memory;
-
-/// One more than a type's or a block's cells, or a block's bytes of data, can be.
-const TOO_MANY: u32 = 16777216;
+use m2_base::{Memory, TOO_MANY_CELLS};
 
 /// So many more cells or bytes.
 pub fn capped_sum(count: u32, more: usize) -> u32
     ensures { result ≡ capped (count + more) }
 {
     let Ok(more) = u32::try_from(more) else {
-        return TOO_MANY;
+        return TOO_MANY_CELLS;
     };
     match count.checked_add(more) {
-        Some(sum) if sum < TOO_MANY => sum,
-        _ => TOO_MANY,
+        Some(sum) if sum < TOO_MANY_CELLS => sum,
+        _ => TOO_MANY_CELLS,
     }
 }
 
@@ -55,7 +52,7 @@ fn push_bytes(piece: &mut Piece, characters: &Vec<u8>, last: u32) -> Result<(), 
     ensures byte { piece.new.byte ≡ piece.old.byte }
     ensures ok { OnOk result (piece.new.bytes.items ≡ piece.old.bytes.items ++ unless_too_many last (characters.now.items ++ 0 ∷ [])) }
 {
-    if last < TOO_MANY {
+    if last < TOO_MANY_CELLS {
         piece.bytes.extend_from_slice(characters)?;
         piece.bytes.push(0)?;
     }

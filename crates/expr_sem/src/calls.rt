@@ -10,7 +10,7 @@ ghost use Rattle.m2_base.specs.declared.rows.Row.{Row as RowOf};
 ghost use Rattle.m2_base.specs.declared.sites.Site.{Site as SiteOf};
 ghost use Rattle.code_form.specs.declared.instr.Instr.TheVariants.{Load};
 ghost use Rattle.const_eval.specs.Sites.{IsOperand};
-ghost use Rattle.expr_sem.specs.ArgumentFits.{IsArgument, argument_in, parameter_view};
+ghost use Rattle.expr_sem.specs.ArgumentCodes.{IsArgument, argument_in, parameter_view};
 ghost use Rattle.expr_sem.specs.Calls.{allowed as spec_allowed, allowed_by_type, call_code as spec_call_code, call_coded as spec_call_coded, call_instr as spec_call_instr, called as spec_called, called_by, is_same_truth as spec_same, links_to as spec_links, no_call, of_target, result_cells as spec_result};
 ghost use Rattle.expr_sem.specs.Callees.{IsCallee, IsCallable, called_in, target_called, value_called, variable_allowed, variable_called};
 ghost use Rattle.expr_sem.specs.Coded.{coded, in_error};

@@ -4,7 +4,7 @@ ghost use Rattle.m2_base.specs.Lists.{Each};
 ghost use Rattle.m2_base.specs.Statics.ReadTrees.{AreReadExprs, AreReadLabels, AreReadNexts, AreReadSelectors, IsReadDesignator, IsReadExpr, IsReadLabel, IsReadNext, IsReadSelector};
 ghost use Rattle.m2_base.specs.Trees.{exprs, labels, nexts, selectors};
 ghost use Rattle.m2_base.specs.Views.{designator_view, expr_view, label_view, next_view, selector_view};
-ghost use Rattle.expr_sem.specs.ArgumentFits.{IsArgument, argument_in, parameter_view};
+ghost use Rattle.expr_sem.specs.ArgumentCodes.{IsArgument, argument_in, parameter_view};
 ghost use Rattle.expr_sem.specs.Callees.{IsCallable, IsCallee, called_in};
 ghost use Rattle.expr_sem.specs.Codings.{Coding, IsCoded, coded_in, with_types};
 ghost use Rattle.expr_sem.specs.ExpressionParts.{IsPlace, called_as as spec_called_as, called_with as spec_called_with, first_argument as spec_first, index as spec_index, lacking as spec_lacking, member as spec_member, next_passed as spec_next, place_in, procedure as spec_procedure, range_to as spec_range, second_argument as spec_second, set_of as spec_set, type_before as spec_type};

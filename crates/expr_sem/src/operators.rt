@@ -1,5 +1,5 @@
 //! The code of operators: the operands' values from left to right, and then the instruction.
-ghost use Rattle.std.specs.Prelude.{◌≡◌, ◌∷◌, [], List};
+ghost use Rattle.std.specs.Prelude.{◌≡◌, List};
 ghost use Rattle.m2_base.specs.Gives.{gives};
 ghost use Rattle.m2_base.specs.States.{Frame, Waits};
 ghost use Rattle.m2_base.specs.Standard.{character};
@@ -18,6 +18,7 @@ ghost use Rattle.type_rules.specs.Asks.{Reads, WhereKnown, WhereWaiting};
 ghost use Rattle.type_rules.specs.Scenes.{IsThere, WhereTold};
 ghost use Rattle.type_rules.specs.Sites.{SuitsSite, context_of};
 
+use crate::answers::answered;
 use crate::chains::applied;
 use crate::coded::{Coded, Placed};
 use crate::fragments::{Connective, Fragment, Fragments};
@@ -142,7 +143,7 @@ fn signed(fragments: &mut Fragments, op: Operator, value: Fragment) -> Result<Fr
 }
 
 /// Two values, the right one skipped where the left one decides.
-fn decided(
+fn decide(
     fragments: &mut Fragments,
     connective: Connective,
     x: Fragment,
@@ -154,46 +155,6 @@ fn decided(
 {
     let skipped = fragments.skip(connective, y)?;
     fragments.then(x, skipped)
-}
-
-/// The code of an operator before one operand.
-fn one_code<S: Scopes>(
-    scopes: &mut S,
-    site: &Site,
-    op: Operator,
-    x: Coded,
-    fragments: &mut Fragments,
-) -> Result<Ask<Fragment>, Memory>
-    requires suits { SuitsSite (S.state scopes.old).frame site.now }
-    requires x { IsCoded (S.state scopes.old).frame fragments.old.nodes.items x }
-    ensures { (notes : NotesOf) → Coding (S.state scopes.old) (S.state scopes.new) notes notes fragments.old.nodes.items fragments.new.nodes.items site.now result IsFragment part (λ c. gives (spec_value c (coded_in fragments.old.nodes.items x) ⨟ plain (one_instr op))) }
-{
-    let value = analysed!(value_code(scopes, site, x, fragments));
-    let code = signed(fragments, op, value)?;
-    Ok(Ask::Known(code))
-}
-
-/// What an operator before one operand makes, by its result.
-fn one_made<S: Scopes>(
-    scopes: &mut S,
-    site: &Site,
-    op: Operator,
-    result_is: Operand,
-    x: Coded,
-    fragments: &mut Fragments,
-) -> Result<Ask<Coded>, Memory>
-    requires suits { SuitsSite (S.state scopes.old).frame site.now }
-    requires result_is { IsOperand (S.state scopes.old).frame result_is }
-    requires x { IsCoded (S.state scopes.old).frame fragments.old.nodes.items x }
-    ensures { (notes : NotesOf) → Coding (S.state scopes.old) (S.state scopes.new) notes notes fragments.old.nodes.items fragments.new.nodes.items site.now result IsCoded coded_in (λ c. gives (spec_made result_is (spec_value c (coded_in fragments.old.nodes.items x) ⨟ plain (one_instr op)))) }
-{
-    match result_is {
-        Operand::Computed(_) => {
-            let code = analysed!(one_code(scopes, site, op, x, fragments));
-            Ok(Ask::Known(made(result_is, code)))
-        }
-        _ => Ok(Ask::Known(made(result_is, Fragment::Nothing))),
-    }
 }
 
 /// An operator before one operand.
@@ -211,7 +172,12 @@ pub fn one_coded<S: Scopes>(
     ensures { Coding (S.state scopes.old) (S.state scopes.new) notes.old notes.new fragments.old.nodes.items fragments.new.nodes.items site.now result IsCoded coded_in (λ c. spec_one c op op_at (coded_in fragments.old.nodes.items x)) }
 {
     let given = analysed!(applied_one(scopes, site, op, op_at, x.operand, notes));
-    one_made(scopes, site, op, given, x, fragments)
+    let Operand::Computed(_) = given else {
+        return Ok(Ask::Known(made(given, Fragment::Nothing)));
+    };
+    let value = analysed!(value_code(scopes, site, x, fragments));
+    let code = signed(fragments, op, value)?;
+    Ok(Ask::Known(made(given, code)))
 }
 
 /// A string of one character as a CHAR, anything else as it is.
@@ -240,91 +206,8 @@ fn char_value<S: Scopes>(
     value_code(scopes, site, x.taken(operand), fragments)
 }
 
-/// Two values and the instruction of an operator.
-fn instructed<S: Scopes>(
-    scopes: &mut S,
-    site: &Site,
-    op: Operator,
-    of: Place,
-    right: Place,
-    x: Fragment,
-    y: Fragment,
-    fragments: &mut Fragments,
-) -> Result<Ask<Fragment>, Memory>
-    requires suits { SuitsSite (S.state scopes.old).frame site.now }
-    requires of { IsThere (S.state scopes.old).frame of }
-    requires right { IsThere (S.state scopes.old).frame right }
-    requires x { IsIn fragments.old.nodes.items x }
-    requires y { IsIn fragments.old.nodes.items y }
-    ensures { (notes : NotesOf) → Coding (S.state scopes.old) (S.state scopes.new) notes notes fragments.old.nodes.items fragments.new.nodes.items site.now result IsFragment part (λ c. gives (part fragments.old.nodes.items x ⨟ part fragments.old.nodes.items y ⨟ plain (two_instr c.scene op of right ∷ []))) }
-{
-    let instr = asked!(instruction(scopes, site, op, of, right));
-    let code = applied(fragments, x, y, instr)?;
-    Ok(Ask::Known(code))
-}
-
-/// An operator between two values, by its result's type and its right operand's.
-fn operation_code<S: Scopes>(
-    scopes: &mut S,
-    site: &Site,
-    op: Operator,
-    of: Place,
-    right: Place,
-    x: Fragment,
-    y: Fragment,
-    fragments: &mut Fragments,
-) -> Result<Ask<Fragment>, Memory>
-    requires suits { SuitsSite (S.state scopes.old).frame site.now }
-    requires of { IsThere (S.state scopes.old).frame of }
-    requires right { IsThere (S.state scopes.old).frame right }
-    requires x { IsIn fragments.old.nodes.items x }
-    requires y { IsIn fragments.old.nodes.items y }
-    ensures { (notes : NotesOf) → Coding (S.state scopes.old) (S.state scopes.new) notes notes fragments.old.nodes.items fragments.new.nodes.items site.now result IsFragment part (λ c. gives (spec_operation c.scene op of right (part fragments.old.nodes.items x) (part fragments.old.nodes.items y))) }
-{
-    match op {
-        Operator::And => {
-            let code = decided(fragments, Connective::And, x, y)?;
-            Ok(Ask::Known(code))
-        }
-        Operator::Or => {
-            let code = decided(fragments, Connective::Or, x, y)?;
-            Ok(Ask::Known(code))
-        }
-        _ => instructed(scopes, site, op, of, right, x, y, fragments),
-    }
-}
-
-/// The code of an operator between a value that is made and an operand, by its result's type.
-fn right_code<S: Scopes>(
-    scopes: &mut S,
-    site: &Site,
-    op: Operator,
-    of: Place,
-    left: Fragment,
-    y: Coded,
-    fragments: &mut Fragments,
-) -> Result<Ask<Fragment>, Memory>
-    requires suits { SuitsSite (S.state scopes.old).frame site.now }
-    requires of { IsThere (S.state scopes.old).frame of }
-    requires left { IsIn fragments.old.nodes.items left }
-    requires y { IsCoded (S.state scopes.old).frame fragments.old.nodes.items y }
-    ensures { (notes : NotesOf) → Coding (S.state scopes.old) (S.state scopes.new) notes notes fragments.old.nodes.items fragments.new.nodes.items site.now result IsFragment part (λ c. gives (spec_operation c.scene op of (spec_type y.operand) (part fragments.old.nodes.items left) (spec_value c (spec_char c (coded_in fragments.old.nodes.items y))))) }
-{
-    let right = analysed!(char_value(scopes, site, y, fragments));
-    operation_code(
-        scopes,
-        site,
-        op,
-        of,
-        operand_type(&y.operand),
-        left,
-        right,
-        fragments,
-    )
-}
-
 /// The code of an operator between two operands, by its result's type.
-fn two_code<S: Scopes>(
+fn operation_code<S: Scopes>(
     scopes: &mut S,
     site: &Site,
     op: Operator,
@@ -340,31 +223,14 @@ fn two_code<S: Scopes>(
     ensures { (notes : NotesOf) → Coding (S.state scopes.old) (S.state scopes.new) notes notes fragments.old.nodes.items fragments.new.nodes.items site.now result IsFragment part (λ c. gives (spec_operation c.scene op of (spec_type y.operand) (spec_value c (spec_char c (coded_in fragments.old.nodes.items x))) (spec_value c (spec_char c (coded_in fragments.old.nodes.items y))))) }
 {
     let left = analysed!(char_value(scopes, site, x, fragments));
-    right_code(scopes, site, op, of, left, y, fragments)
-}
-
-/// What an operator between two operands makes, by its result.
-fn two_made<S: Scopes>(
-    scopes: &mut S,
-    site: &Site,
-    op: Operator,
-    result_is: Operand,
-    x: Coded,
-    y: Coded,
-    fragments: &mut Fragments,
-) -> Result<Ask<Coded>, Memory>
-    requires suits { SuitsSite (S.state scopes.old).frame site.now }
-    requires result_is { IsOperand (S.state scopes.old).frame result_is }
-    requires x { IsCoded (S.state scopes.old).frame fragments.old.nodes.items x }
-    requires y { IsCoded (S.state scopes.old).frame fragments.old.nodes.items y }
-    ensures { (notes : NotesOf) → Coding (S.state scopes.old) (S.state scopes.new) notes notes fragments.old.nodes.items fragments.new.nodes.items site.now result IsCoded coded_in (λ c. gives (spec_made result_is (spec_operation c.scene op (spec_type result_is) (spec_type y.operand) (spec_value c (spec_char c (coded_in fragments.old.nodes.items x))) (spec_value c (spec_char c (coded_in fragments.old.nodes.items y)))))) }
-{
-    match result_is {
-        Operand::Computed(of) => {
-            let code = analysed!(two_code(scopes, site, op, of, x, y, fragments));
-            Ok(Ask::Known(made(result_is, code)))
+    let right = analysed!(char_value(scopes, site, y, fragments));
+    match op {
+        Operator::And => answered(decide(fragments, Connective::And, left, right)),
+        Operator::Or => answered(decide(fragments, Connective::Or, left, right)),
+        _ => {
+            let instr = asked!(instruction(scopes, site, op, of, operand_type(&y.operand)));
+            answered(applied(fragments, left, right, instr))
         }
-        _ => Ok(Ask::Known(made(result_is, Fragment::Nothing))),
     }
 }
 
@@ -393,5 +259,9 @@ pub fn two_coded<S: Scopes>(
         operand: y.coded.operand,
     };
     let given = analysed!(operated(scopes, site, op, op_at, left, right, notes));
-    two_made(scopes, site, op, given, x.coded, y.coded, fragments)
+    let Operand::Computed(of) = given else {
+        return Ok(Ask::Known(made(given, Fragment::Nothing)));
+    };
+    let code = analysed!(operation_code(scopes, site, op, of, x.coded, y.coded, fragments));
+    Ok(Ask::Known(made(given, code)))
 }

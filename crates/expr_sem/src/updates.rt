@@ -24,7 +24,10 @@ use crate::operators::side_of;
 use crate::values::value_code;
 use code_form::Instr;
 use const_eval::is_bad;
-use m2_base::{Ask, Builtin, Memory, Operand, Place, Scopes, Site};
+use m2_base::{
+    Ask, Builtin, GREATEST_CARDINAL, GREATEST_INTEGER, LEAST_INTEGER, Memory, Operand, Place,
+    Scopes, Site,
+};
 use type_rules::{BROKEN, operand_type, range_of};
 
 /// What the call of a proper procedure stands for.
@@ -96,9 +99,9 @@ fn counting_range(side: u8) -> (i64, i64)
     ensures { range result.0 result.1 ≡ spec_counting side }
 {
     if side == 0 {
-        (-2147483648, 2147483647)
+        (LEAST_INTEGER, GREATEST_INTEGER)
     } else {
-        (0, 4294967295)
+        (0, GREATEST_CARDINAL)
     }
 }
 

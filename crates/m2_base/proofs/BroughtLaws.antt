@@ -8,7 +8,7 @@ use Rattle.m2_base.specs.Statics.Layouts.{Ascend, AreBrought}
 use Rattle.m2_base.specs.Statics.Lookup.{brought_before, entry_named, entry_or}
 use Rattle.m2_base.specs.declared.sites.Named.{Named}
 use Rattle.m2_base.specs.declared.limits.TheConstants.{MOST_BROUGHT}
-use Rattle.m2_base.proofs.ChainLaws.{each_append}
+use Rattle.m2_base.proofs.EachLaws.{each_append}
 
 -- ** The order
 

@@ -1,28 +1,12 @@
 -- Every chain goes down: its scopes but the first have smaller numbers than the block's.
-use Rattle.std.specs.Prelude.{ℕ, ◌+◌, ◌<◌, ◌≤◌, Bool, true, false, if◌then◌else◌, List, [], ◌∷◌, ◌++◌, find, Option, Some, None}
+use Rattle.std.specs.Prelude.{ℕ, ◌+◌, ◌<◌, ◌≤◌, List, [], ◌∷◌, ◌++◌, Option, Some, None}
 use Rattle.std.specs.List.{list_any}
 use Rattle.std.proofs.Common.{arith}
 use Rattle.m2_base.specs.Lists.{Each, WhereKept}
 use Rattle.m2_base.specs.Trees.{Stream}
 use Rattle.m2_base.specs.Statics.Blocks.{BlockTree, UnitTrees, GoesDown, blocks_of, blocks_of_main, declares, definition_blocks, encloser, home_of, main_block, main_blocks, procedure_block, with_own}
 use Rattle.m2_base.specs.Statics.Contexts.{DefinitionModule}
-
-pub each_append : {A : Type 0} (P : A → Type 0) (xs ys : List A) → Each P xs → Each P ys → Each P (xs ++ ys)
-each_append P [] ys h k = k
-each_append P (x ∷ xs) ys h k = (h.0, each_append P xs ys h.1 k)
-
-pub each_then : {A : Type 0} (P Q : A → Type 0) (xs : List A) → ((x : A) → P x → Q x) → Each P xs → Each Q xs
-each_then P Q [] f h = tt
-each_then P Q (x ∷ xs) f h = (f x h.0, each_then P Q xs f h.1)
-
--- what is found is one of them
-pub each_found : {A : Type 0} (P : A → Type 0) (test : A → Bool) (xs : List A) → Each P xs → WhereKept (find test xs) P
-each_found P test [] h = tt
-each_found {A} P test (x ∷ xs) h = by_test (test x) (each_found P test xs h.1)
-  where
-    by_test : (b : Bool) → WhereKept (find test xs) P → WhereKept (if b then Some x else find test xs) P
-    by_test true k = h.0
-    by_test false k = k
+use Rattle.m2_base.proofs.EachLaws.{each_append, each_found, each_then}
 
 -- a block below scope s, whose chain goes down
 pub record IsBelow (s : ℕ) (b : BlockTree) : Type 0 where

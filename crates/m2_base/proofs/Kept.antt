@@ -11,6 +11,7 @@ use Rattle.m2_base.specs.declared.notes.Answer.{Answer}
 use Rattle.m2_base.specs.declared.notes.Notes.{Notes}
 use Rattle.m2_base.specs.declared.replies.Head.{Head}
 use Rattle.m2_base.specs.declared.replies.Reply.TheVariants.{Found}
+use Rattle.m2_base.proofs.EachLaws.{each_append, each_then}
 
 -- ** Lists
 
@@ -24,14 +25,6 @@ IsPrefixOf-refl xs = record { rest = []; joined = sym (append-nil xs) }
 pub IsPrefixOf-trans : {A : Type 0} {xs ys zs : List A} → IsPrefixOf xs ys → IsPrefixOf ys zs → IsPrefixOf xs zs
 IsPrefixOf-trans {A} {xs} {ys} {zs} p q =
     record { rest = p.rest ++ q.rest; joined = sym (append_assoc xs p.rest q.rest) ∙ ap (λ t. t ++ q.rest) p.joined ∙ q.joined }
-
-pub Each-map : {A : Type 0} (P Q : A → Type 0) (xs : List A) → ((x : A) → P x → Q x) → Each P xs → Each Q xs
-Each-map P Q [] f h = tt
-Each-map P Q (x ∷ xs) f h = (f x h.0, Each-map P Q xs f h.1)
-
-pub Each-append : {A : Type 0} (P : A → Type 0) (xs ys : List A) → Each P xs → Each P ys → Each P (xs ++ ys)
-Each-append P [] ys h k = k
-Each-append P (x ∷ xs) ys h k = (h.0, Each-append P xs ys h.1 k)
 
 pub Grows-refl : {A : Type 0} (o : Option (List A)) → Grows o [] o
 Grows-refl None = tt
@@ -95,9 +88,9 @@ Works-trans {a} {b} {c} {x} {y} {z} p q =
       keeps = Keeps-trans p.keeps q.keeps;
       answers = p.answers ++ q.answers;
       noted = q.noted ∙ ap (λ t. t ++ q.answers) p.noted ∙ append_assoc x.answers.items p.answers q.answers;
-      shown = Each-append (IsAmong (p.looks ++ q.looks)) p.answers q.answers
-          (Each-map (IsAmong p.looks) (IsAmong (p.looks ++ q.looks)) p.answers (λ r. IsAmong_left p.looks q.looks r) p.shown)
-          (Each-map (IsAmong q.looks) (IsAmong (p.looks ++ q.looks)) q.answers (λ r. IsAmong_right p.looks q.looks r) q.shown);
+      shown = each_append (IsAmong (p.looks ++ q.looks)) p.answers q.answers
+          (each_then (IsAmong p.looks) (IsAmong (p.looks ++ q.looks)) p.answers (λ r. IsAmong_left p.looks q.looks r) p.shown)
+          (each_then (IsAmong q.looks) (IsAmong (p.looks ++ q.looks)) q.answers (λ r. IsAmong_right p.looks q.looks r) q.shown);
       diags = IsPrefixOf-trans p.diags q.diags;
     }
 

@@ -2,9 +2,12 @@ pub mod GrammarChecks
 mod BlockLimitChecks
 mod BroughtLaws
 pub mod ChainLaws
+pub mod EachLaws
+pub mod FieldRows
 pub mod FinishedLaws
 pub mod ImportLaws
 pub mod Kept
+pub mod KeyLaws
 pub mod KindTables
 pub mod LoneModules
 mod NameTexts
@@ -14,17 +17,19 @@ pub mod Numbers
 pub mod OneList
 pub mod OneReading
 mod ReservedWords
-pub mod ReadExpressions
 pub mod ReadSound
-pub mod ReadStatements
-pub mod ReadStreams
+pub mod ReadTrees
 pub mod ReadTokens
-pub mod ReadTypes
 pub mod RowLaws
 pub mod SceneLaws
 pub mod Seen
 pub mod ItemLaws
 pub mod LayoutIndex
+pub mod LeafExpressions
+pub mod LeafFronts
+pub mod LeafStatements
+pub mod LeafStreams
+pub mod LeafTypes
 pub mod LayoutLaws
 pub mod ShapeLaws
 pub mod Sound
@@ -43,14 +48,11 @@ pub mod SoundTypes
 pub mod SoundUnits
 pub mod StandardLaws
 pub mod StandingConstants
-pub mod StandingExpressions
 pub mod StandingItems
 pub mod StandingNotes
 pub mod StandingOperations
-pub mod StandingStatements
 pub mod StandingStreams
 pub mod StandingTypes
-pub mod StandingTypeTrees
 pub mod WholeTextChecks
 pub mod TypeLaws
 pub mod UnitTerms

@@ -8,6 +8,7 @@ use Rattle.m2_base.specs.Tables.{rows_at}
 use Rattle.m2_base.specs.Trees.{StreamKind, Main}
 use Rattle.m2_base.specs.Statics.BlockRows.{declare_block, declare_items, context_of, scene_of, first_cell, cells_after, cell_after}
 use Rattle.m2_base.specs.Statics.Blocks.{BlockTree}
+use Rattle.m2_base.specs.Statics.Cells.{most_cells}
 use Rattle.m2_base.specs.Statics.Contexts.{Block, Named, Scene, Source}
 use Rattle.m2_base.specs.Statics.FormedRows.{IsReady, IsRight}
 use Rattle.m2_base.specs.Statics.Items.{Item, items_of}
@@ -16,14 +17,14 @@ use Rattle.m2_base.specs.Statics.Makes.{scene_with}
 use Rattle.m2_base.specs.Statics.Shapes.{Shape, item_shapes}
 use Rattle.m2_base.specs.Statics.Types.{meaning_at, size_by}
 use Rattle.m2_base.specs.declared.limits.TheConstants.{MOST_BROUGHT}
-use Rattle.m2_base.proofs.ChainLaws.{each_found, each_append}
+use Rattle.m2_base.proofs.EachLaws.{each_append}
 use Rattle.m2_base.proofs.LayoutLaws.{block_counted, block_few}
 use Rattle.m2_base.proofs.NoRepeats.{scene_open, scene_empty, some_is}
 use Rattle.m2_base.proofs.SceneLaws.{IsOpen, own_of, own-with, open-with}
 use Rattle.m2_base.proofs.Sound.{Sound, RowOk, AreOk, no_ok, more_ok, next_of}
 use Rattle.m2_base.proofs.SoundItems.{items_ok}
 use Rattle.m2_base.proofs.SoundOperations.{SoundContext}
-use Rattle.m2_base.proofs.SoundParts.{most, capped-most}
+use Rattle.m2_base.proofs.SoundParts.{capped-most}
 
 -- ** The layout's ordinals
 
@@ -46,15 +47,15 @@ item_ordinals i o (x ∷ items) k h =
 
 -- ** The first cell
 
-cell_most : (scene : Scene) (cell : ℕ) (m : RowMeaning) → cell ≤ most → cell_after scene cell m ≤ most
+cell_most : (scene : Scene) (cell : ℕ) (m : RowMeaning) → cell ≤ most_cells + 1 → cell_after scene cell m ≤ most_cells + 1
 cell_most scene cell (Var t mode offset) h = capped-most (cell + size_by (meaning_at scene t))
 cell_most scene cell m h = h
 
-cells_most : (scene : Scene) (rows : List Row) (cell : ℕ) → cell ≤ most → cells_after scene cell rows ≤ most
+cells_most : (scene : Scene) (rows : List Row) (cell : ℕ) → cell ≤ most_cells + 1 → cells_after scene cell rows ≤ most_cells + 1
 cells_most scene [] cell h = h
 cells_most scene (r ∷ rows) cell h = cells_most scene rows (cell_after scene cell (row_meaning r)) (cell_most scene cell (row_meaning r) h)
 
-pub first_cell_most : (scene : Scene) (kind : StreamKind) (own : Option ℕ) → first_cell scene kind own ≤ most
+pub first_cell_most : (scene : Scene) (kind : StreamKind) (own : Option ℕ) → first_cell scene kind own ≤ most_cells + 1
 first_cell_most scene Main (Some own) = cells_most scene (rows_at scene.tables own) 0 (omega arith)
 first_cell_most scene kind own = omega arith
 

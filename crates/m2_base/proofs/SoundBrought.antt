@@ -13,7 +13,7 @@ use Rattle.m2_base.specs.Statics.Types.{meaning_at}
 use Rattle.m2_base.specs.Tables.{rows_at}
 use Rattle.m2_base.specs.declared.limits.TheConstants.{MOST_BROUGHT}
 use Rattle.m2_base.proofs.ImportLaws.{names_length}
-use Rattle.m2_base.proofs.ChainLaws.{each_append}
+use Rattle.m2_base.proofs.EachLaws.{each_append}
 use Rattle.m2_base.proofs.Sound.{Sound, EntryOk, AreOk, no_ok, ok-append, at_ordinal, IsThere, there-with, Room, room-left, room-right}
 use Rattle.m2_base.proofs.SoundMade.{context-with, row_made}
 use Rattle.m2_base.proofs.SoundOperations.{LayoutOk, SoundContext}

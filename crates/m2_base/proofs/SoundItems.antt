@@ -7,7 +7,7 @@ use Rattle.m2_base.specs.Rows.{Place, Mode, Alias, Const, Module, Opaque, Param,
 use Rattle.m2_base.specs.Standard.{text_type, broken}
 use Rattle.m2_base.specs.Trees.{Ident, TypeExpr, Section, Heading, StreamKind, Definition}
 use Rattle.m2_base.specs.Statics.BlockRows.{at_item, brought_in, declare_items}
-use Rattle.m2_base.specs.Statics.Cells.{capped}
+use Rattle.m2_base.specs.Statics.Cells.{capped, most_cells}
 use Rattle.m2_base.specs.Statics.Constants.{constant_of}
 use Rattle.m2_base.specs.Statics.Contexts.{Context, Named, Scene, scope_of_module}
 use Rattle.m2_base.specs.Statics.Declarations.{declare}
@@ -38,9 +38,9 @@ use Rattle.m2_base.proofs.Sound.{Sound, EntryOk, AreOk, no_ok, ok-append, ok-end
 use Rattle.m2_base.proofs.SoundConstants.{constant_ok}
 use Rattle.m2_base.proofs.SoundMade.{Made, context-with, context-then, there-then, plain_made, named_made}
 use Rattle.m2_base.proofs.SoundOperands.{OperandOk, natural-value}
-use Rattle.m2_base.proofs.SoundOperations.{LayoutOk, SoundContext}
+use Rattle.m2_base.proofs.SoundOperations.{LayoutOk, SoundContext, filter_count}
 use Rattle.m2_base.proofs.SoundBrought.{brought_ok, members_ok}
-use Rattle.m2_base.proofs.SoundParts.{most, capped-most, parameter_made, open_made, result_ok}
+use Rattle.m2_base.proofs.SoundParts.{capped-most, parameter_made, open_made, result_ok}
 use Rattle.m2_base.proofs.SoundRows.{type_made, result_small, result_before}
 use Rattle.m2_base.proofs.SoundTypes.{either, broken-there, standard-there, use_ok, qual_there}
 
@@ -54,14 +54,6 @@ sections_count (s ∷ sections) =
     let f = length-append (open_shapes s.is_open s.of) params in
     let g = length-map s.names (λ (i : Ident). nameless param_kind i.at) in
     (omega (arith, rest.0, e), omega (arith, rest.1, f, g))
-
-filter_count : {A : Type 0} (p : A → Bool) (xs : List A) → length (filter p xs) ≤ length xs
-filter_count p [] = omega arith
-filter_count {A} p (x ∷ xs) = by_test (p x) (filter_count p xs)
-  where
-    by_test : (b : Bool) → length (filter p xs) ≤ length xs → length (if b then x ∷ filter p xs else filter p xs) ≤ length (x ∷ xs)
-    by_test true h = omega (arith, h)
-    by_test false h = omega (arith, h)
 
 module _ (names : ℕ) where
   -- ** Imports, constants and types
@@ -97,8 +89,8 @@ module _ (names : ℕ) where
 
   -- ** Variables and parameters
 
-  vars_made : (idents : List Ident) (c : Context) (t : Place) (cell : ℕ) → SoundContext names c → AreSoundNames names idents → IsThere c.scene t → cell ≤ most → Room c.scene (var_rows c t cell idents).rows
-      → AreOk names c.scene (var_rows c t cell idents).rows × ((var_rows c t cell idents).value ≤ most)
+  vars_made : (idents : List Ident) (c : Context) (t : Place) (cell : ℕ) → SoundContext names c → AreSoundNames names idents → IsThere c.scene t → cell ≤ most_cells + 1 → Room c.scene (var_rows c t cell idents).rows
+      → AreOk names c.scene (var_rows c t cell idents).rows × ((var_rows c t cell idents).value ≤ most_cells + 1)
   vars_made [] c t cell sound h k l room = (no_ok, l)
   vars_made (i ∷ idents) c t cell sound h k l room =
       let m = makes_named c i.name i.at (Var t Plain cell) in
@@ -138,7 +130,7 @@ module _ (names : ℕ) where
   -- ** A heading in its own scope
 
   abbrev PlacingOk : Placing → Type 0
-  PlacingOk f = (f.cell ≤ most) × (f.own ≤ most)
+  PlacingOk f = (f.cell ≤ most_cells + 1) × (f.own ≤ most_cells + 1)
 
   abbrev PlacedOk : Context → Makes Placing → Type 0
   PlacedOk c m = AreOk names c.scene m.rows × PlacingOk m.value
@@ -160,7 +152,7 @@ module _ (names : ℕ) where
       (ok-end (at_cell Plain f.own l.1), (capped-most (f.cell + 1), capped-most (f.own + size)))
       (ok-end (at_cell Plain f.cell l.0), (capped-most (f.cell + 1), l.1))))
     where
-      at_cell : (m : Mode) (cell : ℕ) → cell ≤ most → AreOk names c.scene (makes_named c i.name i.at (Var t m cell)).rows
+      at_cell : (m : Mode) (cell : ℕ) → cell ≤ most_cells + 1 → AreOk names c.scene (makes_named c i.name i.at (Var t m cell)).rows
       at_cell m cell small = (named_made c sound i.name i.at (Var t m cell) h k.0 (k.1, omega (arith, small)) tt).rows_ok
 
   parameters_ok : (idents : List Ident) (c : Context) (s : Section) (elem t : Place) (f : Placing) → SoundContext names c → AreSoundNames names idents → IsThere c.scene t → PlacingOk f
@@ -251,10 +243,10 @@ module _ (names : ℕ) where
   -- rows that are right, the next free cell, and a right layout
   abbrev pub ItemOk : Context → StreamKind → Item → ℕ → Type 0
   ItemOk c kind x cell =
-      AreOk names c.scene (declare c kind x cell).rows × ((declare c kind x cell).value.cell ≤ most)
+      AreOk names c.scene (declare c kind x cell).rows × ((declare c kind x cell).value.cell ≤ most_cells + 1)
       × LayoutOk (extended c.layout (declare c kind x cell).value.brought)
 
-  pub item_ok : (x : Item) (c : Context) (kind : StreamKind) (cell : ℕ) → SoundContext names c → IsSoundItem names x → IsImportedBefore c.source c.scene.block.scope x → cell ≤ most
+  pub item_ok : (x : Item) (c : Context) (kind : StreamKind) (cell : ℕ) → SoundContext names c → IsSoundItem names x → IsImportedBefore c.source c.scene.block.scope x → cell ≤ most_cells + 1
       → Room c.scene (declare c kind x cell).rows → ItemOk c kind x cell
   item_ok (heading_item h) c kind cell sound good imported small room =
       let m = own_sections_rows c (placing 0 (capped (parameter_cells h.sections)) []) h.sections in
@@ -302,7 +294,7 @@ module _ (names : ℕ) where
   item_ok (proc_item h stream) c kind cell sound good imported small room =
       (ok-end (proc_ok h stream c kind sound good.0 good.2 (room-left (proc_rows c kind h stream).rows [] room)), small, sound.layout)
 
-  pub items_ok : (items : List Item) (c : Context) (kind : StreamKind) (i cell : ℕ) → SoundContext names c → Each (IsSoundItem names) items → Each (IsImportedBefore c.source c.scene.block.scope) items → cell ≤ most
+  pub items_ok : (items : List Item) (c : Context) (kind : StreamKind) (i cell : ℕ) → SoundContext names c → Each (IsSoundItem names) items → Each (IsImportedBefore c.source c.scene.block.scope) items → cell ≤ most_cells + 1
       → Room c.scene (declare_items c kind i cell items).rows → AreOk names c.scene (declare_items c kind i cell items).rows
   items_ok [] c kind i cell sound good imported small room = no_ok
   items_ok (x ∷ items) c kind i cell sound good imported small room =

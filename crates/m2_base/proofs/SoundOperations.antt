@@ -25,7 +25,7 @@ use Rattle.m2_base.specs.declared.operands.FoldKind.TheVariants as kinds
 use Rattle.m2_base.specs.declared.operands.Operand.{Operand}
 use Rattle.m2_base.specs.declared.operands.Operand.TheVariants.{Constant, StringConstant, Computed, Variable, NamedType, InError}
 use Rattle.m2_base.specs.declared.trees.operators.Operator.TheVariants.{In, Or, And, Not}
-use Rattle.m2_base.proofs.ChainLaws.{each_found}
+use Rattle.m2_base.proofs.EachLaws.{each_found}
 use Rattle.m2_base.proofs.Sound.{Sound, IsThere}
 use Rattle.m2_base.proofs.SoundOperands.{SoundSource, OperandOk, IsConstant, AreValues, natural-value, truth-value, fold_value, where_in_value, integer_values, whole_values}
 use Rattle.m2_base.proofs.SoundTypes.{either, broken-there, standard-there, stands_there}
@@ -37,7 +37,8 @@ pub record LayoutOk (l : Layout) : Type 0 where
   pub brought_small : Each (λ n. n.ordinal < 2 ^ 32) l.brought
   pub few : length l.brought ≤ MOST_BROUGHT
 
-filter_count : {A : Type 0} (p : A → Bool) (xs : List A) → length (filter p xs) ≤ length xs
+-- no list gets longer when it is filtered
+pub filter_count : {A : Type 0} (p : A → Bool) (xs : List A) → length (filter p xs) ≤ length xs
 filter_count p [] = omega arith
 filter_count {A} p (x ∷ xs) = by_test (p x) (filter_count p xs)
   where

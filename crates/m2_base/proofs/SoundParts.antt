@@ -8,7 +8,7 @@ use Rattle.m2_base.specs.Rows.{Place, at_place, row_meaning, RowMeaning, Alias, 
 use Rattle.m2_base.specs.Standard.{integer, cardinal, whole, text_type, broken}
 use Rattle.m2_base.specs.Trees.{Ident, Qual, Formal, Expr, expr_at}
 use Rattle.m2_base.specs.Statics.Arrays.{array_size, array_rows, checked_index, checked_base, is_index_range, is_set_range, elements}
-use Rattle.m2_base.specs.Statics.Cells.{most_cells, capped, fitting}
+use Rattle.m2_base.specs.Statics.Cells.{capped, fitting, most_cells}
 use Rattle.m2_base.specs.Statics.Compatible.{is_integer_or_cardinal}
 use Rattle.m2_base.specs.Statics.Constants.{constant_of}
 use Rattle.m2_base.specs.Statics.Contexts.{Context, Scene, Named}
@@ -27,7 +27,7 @@ use Rattle.m2_base.specs.Statics.Types.{is_broken, range_of, base_of, size_of, s
 use Rattle.m2_base.specs.Statics.Uses.{followed, followed_by}
 use Rattle.m2_base.specs.declared.operands.Operand.{Operand}
 use Rattle.m2_base.specs.declared.operands.Operand.TheVariants.{Constant}
-use Rattle.m2_base.proofs.ChainLaws.{each_then}
+use Rattle.m2_base.proofs.EachLaws.{each_then}
 use Rattle.m2_base.proofs.Sound.{Sound, AreOk, no_ok, ok-append, IsThere, there-with, Room, room-left, room-right, room-then, row_ok}
 use Rattle.m2_base.proofs.SoundConstants.{constant_ok}
 use Rattle.m2_base.proofs.SoundMade.{Made, made-append, made-then, made-before, context-with, context-then, there-then, row_made, plain_made, named_made}
@@ -35,11 +35,7 @@ use Rattle.m2_base.proofs.SoundOperands.{OperandOk, natural-value}
 use Rattle.m2_base.proofs.SoundOperations.{layout_small, SoundContext, operand_there, char_or_same_ok}
 use Rattle.m2_base.proofs.SoundTypes.{either, broken-there, standard-there, stands_there, base_there, qual_there}
 
--- as many cells as a number can name
-abbrev pub most : ℕ
-most = 16777216
-
-pub capped-most : (n : ℕ) → capped n ≤ most
+pub capped-most : (n : ℕ) → capped n ≤ most_cells + 1
 capped-most n = min-le_right n (most_cells + 1)
 
 module _ (names : ℕ) where
@@ -251,14 +247,14 @@ module _ (names : ℕ) where
 
   -- rows that are right, and the offset behind them
   abbrev pub FieldsOk : Context → Makes ℕ → Type 0
-  FieldsOk c made = AreOk names c.scene made.rows × (made.value ≤ most)
+  FieldsOk c made = AreOk names c.scene made.rows × (made.value ≤ most_cells + 1)
 
-  field_made : (c : Context) → SoundContext names c → (own : ℕ) (i : Ident) (t : Place) (offset : ℕ) → own < 2 ^ 32 → i.name < names → IsThere c.scene t → offset ≤ most
+  field_made : (c : Context) → SoundContext names c → (own : ℕ) (i : Ident) (t : Place) (offset : ℕ) → own < 2 ^ 32 → i.name < names → IsThere c.scene t → offset ≤ most_cells + 1
       → AreOk names c.scene (field_row c own i t offset).rows
   field_made c sound own i t offset h k l m =
       (row_made c sound 0 i.at (Field t offset own i.name) sound.scene.some l.0 (l.1, omega (arith, m), h, k) tt).rows_ok
 
-  pub plain_fields_made : (idents : List Ident) (c : Context) (own : ℕ) (t : Place) (offset : ℕ) → SoundContext names c → own < 2 ^ 32 → AreSoundNames names idents → IsThere c.scene t → offset ≤ most
+  pub plain_fields_made : (idents : List Ident) (c : Context) (own : ℕ) (t : Place) (offset : ℕ) → SoundContext names c → own < 2 ^ 32 → AreSoundNames names idents → IsThere c.scene t → offset ≤ most_cells + 1
       → Room c.scene (plain_rows c own t offset idents).rows → FieldsOk c (plain_rows c own t offset idents)
   plain_fields_made [] c own t offset sound h k l m room = (no_ok, m)
   plain_fields_made (i ∷ idents) c own t offset sound h k l m room =
@@ -276,7 +272,7 @@ module _ (names : ℕ) where
   pub tag_there : (c : Context) → Sound names c.scene → (q : Qual) → IsThere c.scene (tag_type c q).value
   tag_there c sound q = checked_tag_there c sound q.first.at (type_of_qual c q).value (qual_there c sound q)
 
-  pub tag_made : (tag : Option Ident) (c : Context) (own offset : ℕ) (t : Place) → SoundContext names c → own < 2 ^ 32 → IsSoundTag names tag → IsThere c.scene t → offset ≤ most
+  pub tag_made : (tag : Option Ident) (c : Context) (own offset : ℕ) (t : Place) → SoundContext names c → own < 2 ^ 32 → IsSoundTag names tag → IsThere c.scene t → offset ≤ most_cells + 1
       → FieldsOk c (tag_rows c own offset t tag)
   tag_made None c own offset t sound h k l m = (no_ok, m)
   tag_made (Some i) c own offset t sound h k l m = (field_made c sound own i t offset h k l m, capped-most (offset + 1))

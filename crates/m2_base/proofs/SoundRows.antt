@@ -9,6 +9,7 @@ use Rattle.m2_base.specs.Rows.{Row, Place, Enum, Record, Set, Pointer, ProcType,
 use Rattle.m2_base.specs.Trees.{Formal, TypeExpr, type_expr, TypeForm, named_type, enum_type, sub_type, array_type, record_type, set_type, pointer_type, proc_type, TypeExprs, no_types, more_types, FieldList, plain_fields, case_fields, FieldLists, no_fields, more_fields, variant_arm, VariantArms, no_variant_arms, more_variant_arms, type_at}
 use Rattle.m2_base.specs.Statics.Arrays.{checked_index, checked_base}
 use Rattle.m2_base.specs.Statics.CaseLabels.{labels_of}
+use Rattle.m2_base.specs.Statics.Cells.{most_cells}
 use Rattle.m2_base.specs.Statics.Contexts.{Context, Scene}
 use Rattle.m2_base.specs.Statics.Enumerations.{constant_rows}
 use Rattle.m2_base.specs.Statics.Fields.{tag_type, tag_rows}
@@ -20,24 +21,20 @@ use Rattle.m2_base.specs.Statics.SoundTrees.{IsSoundType, IsSoundTypeForm, AreSo
 use Rattle.m2_base.specs.Statics.Subranges.{subrange_of}
 use Rattle.m2_base.specs.Statics.Targets.{target_name, target_by_name, target_or}
 use Rattle.m2_base.specs.Statics.TypeRows.{type_rows, form_rows, index_rows, fields_rows, field_list_rows, arms_rows}
-use Rattle.m2_base.proofs.ChainLaws.{each_then}
+use Rattle.m2_base.proofs.EachLaws.{each_append, each_then}
 use Rattle.m2_base.proofs.LayoutLaws.{AreShaped-length}
 use Rattle.m2_base.proofs.SceneLaws.{IsOpen, own_of, own-with, with-none, with-twice}
 use Rattle.m2_base.proofs.ShapeLaws.{constants_of, formals_of, fields_of}
 use Rattle.m2_base.proofs.Sound.{AreOk, no_ok, ok-append, ok-end, ok-then, IsThere, there-with, Room, room-left, room-right, room-then, sound-with}
 use Rattle.m2_base.proofs.SoundMade.{Made, made-append, made-then, made-before, context-with, context-then, there-then, plain_made}
 use Rattle.m2_base.proofs.SoundOperations.{SoundContext}
-use Rattle.m2_base.proofs.SoundParts.{most, constants_made, BoundsOk, subrange_ok, subrange_row_made, index_there, set_base_there, fitting_there, arrays_made, IsTarget, there_target, by_name_ok, formals_ok, result_ok, FieldsOk, plain_fields_made, tag_there, tag_made}
+use Rattle.m2_base.proofs.SoundParts.{constants_made, BoundsOk, subrange_ok, subrange_row_made, index_there, set_base_there, fitting_there, arrays_made, IsTarget, there_target, by_name_ok, formals_ok, result_ok, FieldsOk, plain_fields_made, tag_there, tag_made}
 use Rattle.m2_base.proofs.SoundTypes.{qual_there}
-
-each_append' : {A : Type 0} (P : A → Type 0) (xs ys : List A) → Each P xs → Each P ys → Each P (xs ++ ys)
-each_append' P [] ys h k = k
-each_append' P (x ∷ xs) ys h k = (h.0, each_append' P xs ys h.1 k)
 
 each_reverse : {A : Type 0} (P : A → Type 0) (xs : List A) → Each P xs → Each P (reverse xs)
 each_reverse P [] h = tt
 each_reverse P (x ∷ xs) h =
-    subst (Each P) (sym (reverse-append (x ∷ []) xs)) (each_append' P (reverse xs) (x ∷ []) (each_reverse P xs h.1) (h.0, tt))
+    subst (Each P) (sym (reverse-append (x ∷ []) xs)) (each_append P (reverse xs) (x ∷ []) (each_reverse P xs h.1) (h.0, tt))
 
 -- each parameter of a procedure type has a row
 formals_count : (formals : List Formal) → (formals_length formals ≡ length (flat_map formal_shapes formals)) × (length formals ≤ formals_length formals)
@@ -132,7 +129,7 @@ module _ (names : ℕ) where
         let after = context-with sound first.0 left in
         let size = max 1 fields.value in
         let row = makes_row d at (Record start size) in
-        let small : size ≤ most = max-le (omega arith) first.1 in
+        let small : size ≤ most_cells + 1 = max-le (omega arith) first.1 in
         let behind = ap length (own-with c.scene fields.rows sound.scene.room) in
         let sum = length-append (own_of c.scene) fields.rows in
         let second = plain_made d after at (Record start size) tt (omega (arith, behind, sum), omega (arith, small)) (le-max_left 1 fields.value) in
@@ -191,7 +188,7 @@ module _ (names : ℕ) where
         (all-cons second.scene.room (there-then d.scene i (index_there names d after.scene (type_at t) m.value first.there))
         (all-end (index_made ts e second h.1 (room-left (index_rows e ts).rows [] rest)))))
 
-    fields_made : (fs : FieldLists) (c : Context) (own offset : ℕ) → SoundContext names c → AreSoundFields names fs → own < 2 ^ 32 → offset ≤ most → Room c.scene (fields_rows c own offset fs).rows
+    fields_made : (fs : FieldLists) (c : Context) (own offset : ℕ) → SoundContext names c → AreSoundFields names fs → own < 2 ^ 32 → offset ≤ most_cells + 1 → Room c.scene (fields_rows c own offset fs).rows
         → FieldsOk names c (fields_rows c own offset fs)
     fields_made no_fields c own offset sound h k l room = (no_ok, l)
     fields_made (more_fields f fs) c own offset sound h k l room =
@@ -201,7 +198,7 @@ module _ (names : ℕ) where
         let rest = fields_made fs (with_rows c m.rows) own m.value (context-with sound first.0 left) h.1 k first.1 (room-right c.scene m.rows _ sound.scene.room room) in
         (ok-append first.0 rest.0, rest.1)
 
-    field_list_made : (f : FieldList) (c : Context) (own offset : ℕ) → SoundContext names c → IsSoundField names f → own < 2 ^ 32 → offset ≤ most → Room c.scene (field_list_rows c own offset f).rows
+    field_list_made : (f : FieldList) (c : Context) (own offset : ℕ) → SoundContext names c → IsSoundField names f → own < 2 ^ 32 → offset ≤ most_cells + 1 → Room c.scene (field_list_rows c own offset f).rows
         → FieldsOk names c (field_list_rows c own offset f)
     field_list_made (plain_fields idents t) c own offset sound h k l room =
         let m = type_rows c t in
@@ -231,7 +228,7 @@ module _ (names : ℕ) where
         let others = fields_made other f own first.value sf h.2 k tags.1 (room-left last.rows [] rf) in
         (ok-then (ok-append tags.0 (ok-append variants.0 (ok-end others.0))), max-le variants.1 others.1)
 
-    arms_made : (arms : VariantArms) (c : Context) (own offset : ℕ) (t : Place) (covered : List Range) (end : ℕ) → SoundContext names c → AreSoundArms names arms → own < 2 ^ 32 → offset ≤ most → end ≤ most
+    arms_made : (arms : VariantArms) (c : Context) (own offset : ℕ) (t : Place) (covered : List Range) (end : ℕ) → SoundContext names c → AreSoundArms names arms → own < 2 ^ 32 → offset ≤ most_cells + 1 → end ≤ most_cells + 1
         → Room c.scene (arms_rows c own offset t covered end arms).rows → FieldsOk names c (arms_rows c own offset t covered end arms)
     arms_made no_variant_arms c own offset t covered end sound h k l m room = (no_ok, m)
     arms_made (more_variant_arms (variant_arm ls fs) arms) c own offset t covered end sound h k l m room =

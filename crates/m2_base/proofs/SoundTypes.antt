@@ -1,7 +1,6 @@
 -- In a sound scene what a name is bound to is right, and types stand before the next row.
-use Rattle.std.specs.Prelude.{◌≡◌, ℕ, ◌+◌, ◌^◌, ◌<◌, ◌==◌, Bool, true, false, if◌then◌else◌, [], ◌∷◌, drop, nat_lt, nat_le, Option, Some, None}
+use Rattle.std.specs.Prelude.{◌≡◌, ℕ, ◌+◌, ◌^◌, ◌<◌, ◌==◌, Bool, true, false, if◌then◌else◌, [], ◌∷◌, drop, nat_lt, Option, Some, None}
 use Rattle.std.proofs.Common.{refl, arith}
-use Rattle.std.proofs.lemmas.Bool.{and_parts, leb-true}
 use Rattle.m2_base.specs.Gives.{Gives, gives}
 use Rattle.m2_base.specs.Lists.{WhereKept}
 use Rattle.m2_base.specs.Rows.{Place, at_place, row_meaning, RowMeaning, TypeName, Module, Alias, Subrange, Opaque, IsBefore, Fits, HasSmallOrdinals}
@@ -14,6 +13,7 @@ use Rattle.m2_base.specs.Statics.TypeNames.{member_of, qualified, type_by, type_
 use Rattle.m2_base.specs.Statics.Types.{meaning_at, unless_opaque, type_named, named_or, declared_as, opaque_as, stands_as, stands_for, kind_of, base_by, base_of}
 use Rattle.m2_base.specs.Statics.Uses.{followed, followed_by, bound, bound_or, stands_later, bound_outside, use_in_item, use_by_item, use_of}
 use Rattle.m2_base.proofs.Sound.{Sound, EntryOk, IsThere, found_ok, row_ok}
+use Rattle.m2_base.proofs.StandardLaws.{standard_small}
 
 -- of two values one, by a test
 pub either : {A : Type 0} (P : A → Type 0) (b : Bool) (x y : A) → P x → P y → P (if b then x else y)
@@ -110,16 +110,13 @@ use_by_item_ok c sound name at (Some item) = use_in_item_ok c sound item name at
 use_by_item_ok c sound name at None =
     bound_or_ok c sound 40 name at (lookup c.scene.tables c.scene.block.chain name) (found_ok sound c.scene.block.chain name)
 
-standard_name_small : (name : ℕ) → is_standard name ≡ true → name + 10 < 2 ^ 32
-standard_name_small name h = let e = leb-true name 26 (and_parts (nat_le 1 name) (nat_le name 26) h).1 in omega (arith, e)
-
 pub use_ok : {names : ℕ} (c : Context) → Sound names c.scene → (within : Option ℕ) (name at : ℕ) → WhereKept (use_of c within name at).value (EntryOk names c.scene)
 use_ok c sound (Some s) name at = bound_or_ok c sound 44 name at (entry_in c.scene.tables s name) (found_ok sound (s ∷ []) name)
 use_ok {names} c sound None name at = by_test (is_standard name) refl
   where
     by_test : (b : Bool) → is_standard name ≡ b
         → WhereKept (if b then gives (Some (entry_at c.scene (standard_place name))) else use_by_item c name at c.item).value (EntryOk names c.scene)
-    by_test true e = record { there = standard-there sound (name + 10) (standard_name_small name e); row = row_ok sound (standard_place name) }
+    by_test true e = record { there = standard-there sound (name + 10) (standard_small name e); row = row_ok sound (standard_place name) }
     by_test false e = use_by_item_ok c sound name at c.item
 
 -- ** Types by name

@@ -1,11 +1,13 @@
--- The standard scope: its rows are well formed, and their names differ.
-use Rattle.std.proofs.Common.{◌≡◌, ◌≢◌, ℕ, ◌+◌, ◌≤◌, Bool, true, not, ◌&&◌, ◌||◌, ◌==◌, List, [], ◌∷◌, Some, length, refl, sym, ◌∙◌, ap, subst, arith, suc, zero, lit<, length-append, rules}
+-- The standard scope: its rows are well formed, their names differ, and the row of a name is that of its meaning.
+use Rattle.std.proofs.Common.{◌≡◌, ◌≢◌, ℕ, ◌+◌, ◌-◌, ◌<◌, ◌≤◌, ◌^◌, Bool, true, not, ◌&&◌, ◌||◌, ◌==◌, List, [], ◌∷◌, Some, length, drop, get_or, refl, sym, ◌∙◌, ap, subst, arith, suc, zero, lit<, length-append, rules}
 use Rattle.std.specs.List.{slice_get}
+use Rattle.std.specs.Prelude.{nat_le, pos}
+use Rattle.std.proofs.lemmas.Bool.{and_parts, leb-true}
 use Rattle.std.proofs.lemmas.Grind.{common_steps}
-use Rattle.m2_base.specs.Lists.{IsPrefixOf, HasNoRepeats}
+use Rattle.m2_base.specs.Lists.{Each, IsPrefixOf, HasNoRepeats}
 use Rattle.m2_base.specs.Names.{standard_names}
-use Rattle.m2_base.specs.Rows.{Row, at_place, IsWellFormed}
-use Rattle.m2_base.specs.Standard.{standard_rows}
+use Rattle.m2_base.specs.Rows.{Const, Row, RowMeaning, at_place, row_of, HasSmallScopes, IsWellFormed}
+use Rattle.m2_base.specs.Standard.{is_standard, named_rows, standard_meanings, standard_rows}
 
 -- these rows of scope 0 are well formed, of which the first has ordinal k
 abbrev pub AreFormed : (names k : ℕ) → List Row → Type 0
@@ -179,3 +181,40 @@ HasNoRepeats-test {A} number (x ∷ xs) h = go (HasNoRepeats-test number xs (gri
 -- no standard name is that of two rows
 pub HasNoRepeats-standard : HasNoRepeats (λ r. r.name) standard_rows
 HasNoRepeats-standard = HasNoRepeats-test (λ r. r.name) standard_rows refl
+
+-- its name is between 1 and 26
+pub standard_between : (name : ℕ) → is_standard name ≡ true → (1 ≤ name) × (name ≤ 26)
+standard_between name h = let parts = and_parts (nat_le 1 name) (nat_le name 26) h in (leb-true 1 name parts.0, leb-true name 26 parts.1)
+
+pub standard_small : (name : ℕ) → is_standard name ≡ true → name + 10 < 2 ^ 32
+standard_small name h = let high = (standard_between name h).1 in omega (arith, high)
+
+-- no meaning of a standard name has a scope but 0
+pub standard_scopes : (i : ℕ) → HasSmallScopes (get_or standard_meanings i (Const (at_place 0 0) (pos 0) 0))
+standard_scopes i = each_or standard_meanings i (search rules)
+  where
+    each_or : (meanings : List RowMeaning) (i : ℕ) → Each HasSmallScopes meanings → HasSmallScopes (get_or meanings i (Const (at_place 0 0) (pos 0) 0))
+    each_or [] i all = lit< tt
+    each_or (m ∷ meanings) zero all = all.0
+    each_or (m ∷ meanings) (suc i) all = each_or meanings i all.1
+
+named_at : (meanings : List RowMeaning) (first i : ℕ) (m : RowMeaning) → i < length meanings → slice_get (named_rows first meanings) i ≡ Some (row_of (first + i) 0 (get_or meanings i m))
+named_at [] first i m h = absurd (omega (arith, h))
+named_at (x ∷ meanings) first zero m h = let same : first ≡ first + 0 = omega arith in ap (λ n. Some (row_of n 0 x)) same
+named_at (x ∷ meanings) first (suc i) m h =
+    let same : first + 1 + i ≡ first + suc i = omega arith in
+    named_at meanings (first + 1) i m (omega (arith, h)) ∙ ap (λ n. Some (row_of n 0 (get_or meanings i m))) same
+
+get_behind : (k : ℕ) (rows : List Row) (i : ℕ) → slice_get rows (k + i) ≡ slice_get (drop k rows) i
+get_behind zero rows i = let same : 0 + i ≡ i = omega arith in ap (slice_get rows) same
+get_behind (suc k) [] i = refl
+get_behind (suc k) (r ∷ rows) i = let same : suc k + i ≡ suc (k + i) = omega arith in ap (slice_get (r ∷ rows)) same ∙ get_behind k rows i
+
+-- the row of a standard name, by its meaning
+pub named_row : (name : ℕ) (m : RowMeaning) → is_standard name ≡ true → slice_get standard_rows (name + 10) ≡ Some (row_of name 0 (get_or standard_meanings (name - 1) m))
+named_row name m h =
+    let between = standard_between name h in
+    let at : name + 10 ≡ 11 + (name - 1) = omega (arith, between.0) in
+    let same : 1 + (name - 1) ≡ name = omega (arith, between.0) in
+    ap (slice_get standard_rows) at ∙ get_behind 11 standard_rows (name - 1) ∙ named_at standard_meanings 1 (name - 1) m (omega (arith, between.0, between.1))
+    ∙ ap (λ n. Some (row_of n 0 (get_or standard_meanings (name - 1) m))) same

@@ -1,6 +1,6 @@
 -- The diagnostics of type expressions stand at their tokens.
 use Rattle.std.specs.List.{list_any}
-use Rattle.std.specs.Prelude.{ℕ, ◌<◌, ◌+◌, Bool, true, false, if◌then◌else◌, not, is_none, nat_lt, max, ◌==◌, ◌&&◌, ◌||◌, ℤ, int_le, int_lt, pos, List, [], ◌∷◌, length, reverse, Option, Some, None}
+use Rattle.std.specs.Prelude.{ℕ, ◌+◌, Bool, true, false, if◌then◌else◌, not, is_none, nat_lt, max, ◌==◌, ◌&&◌, ◌||◌, ℤ, int_le, int_lt, pos, List, [], ◌∷◌, length, reverse, Option, Some, None}
 use Rattle.m2_base.specs.Gives.{Gives}
 use Rattle.m2_base.specs.Rows.{Place, RowMeaning, Const, Param, Record, Enum, Array, TypeName, Broken, alias_kind, at_place, type_name_kind}
 use Rattle.m2_base.specs.Trees.{Expr, Formal, Ident, Qual, TypeExpr, type_expr, TypeForm, named_type, enum_type, sub_type, array_type, record_type, set_type, pointer_type, proc_type, TypeExprs, no_types, more_types, FieldList, plain_fields, case_fields, FieldLists, no_fields, more_fields, variant_arm, VariantArms, no_variant_arms, more_variant_arms, Label, one_label, range_label, Labels, no_labels, more_labels, expr_at, type_at}
@@ -20,7 +20,8 @@ use Rattle.m2_base.specs.Statics.Operations.{is_ordinal}
 use Rattle.m2_base.specs.Statics.ProcedureTypes.{formal_rows, formals_length, is_structured, open_array_row, parameter_type, result_type}
 use Rattle.m2_base.specs.Statics.Ranges.{Range, is_within, range}
 use Rattle.m2_base.specs.Statics.Shapes.{fields_shapes}
-use Rattle.m2_base.specs.Statics.StandingTrees.{AreStandingArms, AreStandingFields, AreStandingFormals, AreStandingLabels, AreStandingNames, AreStandingTypes, IsStandingExpr, IsStandingField, IsStandingLabel, IsStandingOption, IsStandingQual, IsStandingQualOption, IsStandingType, IsStandingTypeForm}
+use Rattle.m2_base.specs.Statics.Leaves.{ArmsHave, ExprHas, FieldHas, FieldsHave, FormalsHave, LabelHas, LabelsHave, NameOptionHas, NamesHave, QualHas, QualOptionHas, TypeFormHas, TypeHas, TypesHave}
+use Rattle.m2_base.specs.Statics.StandingTrees.{Stands}
 use Rattle.m2_base.specs.Statics.Subranges.{Bounds, checked_bound, common_type, is_broken_base, named_base, of_bounds, of_common, of_ordinals, of_values, ordered_bounds, subrange_base, subrange_of, subrange_row, within_base}
 use Rattle.m2_base.specs.Statics.Targets.{entry_target, imported_target, layout_target, target_by_layout, target_by_name, target_name, target_or}
 use Rattle.m2_base.specs.Statics.TypeNames.{type_of_qual}
@@ -31,114 +32,113 @@ use Rattle.m2_base.specs.Statics.Uses.{followed}
 use Rattle.m2_base.specs.declared.operands.Operand.TheVariants.{Computed}
 use Rattle.m2_base.specs.declared.operands.Operand.{Operand}
 use Rattle.m2_base.proofs.StandingConstants.{constant_at, first_token}
-use Rattle.m2_base.proofs.StandingNotes.{AtTokens, GivesAt, MakesAt, join, named_at, none, one, qual_at}
-use Rattle.m2_base.proofs.StandingOperations.{gives_either}
+use Rattle.m2_base.proofs.StandingNotes.{GivesAt, MakesAt, NotesAt, gives_either, join, named_at, none, one, qual_at}
 
-module _ (n : ℕ) where
+module _ (Here : ℕ → Type 0) where
   -- ** Subranges
 
-  bound_at : (c : Context) (base : Place) (at : ℕ) (v : ℤ) → at < n → GivesAt n (checked_bound c base at v)
-  bound_at c base at v h = gives_either n (is_within (range_of c.scene base) v) _ _ (none n) (one n _ h)
+  bound_at : (c : Context) (base : Place) (at : ℕ) (v : ℤ) → Here at → GivesAt Here c (checked_bound c base at v)
+  bound_at c base at v h = gives_either (is_within (range_of c.scene base) v) _ _ none (one h)
 
-  ordered_at : (c : Context) (at : ℕ) (low high : ℤ) (x y : Bool) → at < n → GivesAt n (ordered_bounds c at low high x y)
-  ordered_at c at low high true true h = gives_either n (int_lt high low) _ _ (one n _ h) (none n)
-  ordered_at c at low high true false h = none n
-  ordered_at c at low high false y h = none n
+  ordered_at : (c : Context) (at : ℕ) (low high : ℤ) (x y : Bool) → Here at → GivesAt Here c (ordered_bounds c at low high x y)
+  ordered_at c at low high true true h = gives_either (int_lt high low) _ _ (one h) none
+  ordered_at c at low high true false h = none
+  ordered_at c at low high false y h = none
 
-  within_base_at : (c : Context) (low_at high_at : ℕ) (low high : ℤ) (o : Option Place) → low_at < n → high_at < n → GivesAt n (within_base c low_at high_at low high o)
-  within_base_at c low_at high_at low high None h k = one n _ k
+  within_base_at : (c : Context) (low_at high_at : ℕ) (low high : ℤ) (o : Option Place) → Here low_at → Here high_at → GivesAt Here c (within_base c low_at high_at low high o)
+  within_base_at c low_at high_at low high None h k = one k
   within_base_at c low_at high_at low high (Some base) h k =
       let x = (checked_bound c base low_at low).value in
       let y = (checked_bound c base high_at high).value in
-      join n (bound_at c base low_at low h) (join n (bound_at c base high_at high k) (join n (ordered_at c high_at low high x y k) (none n)))
+      join (bound_at c base low_at low h) (join (bound_at c base high_at high k) (join (ordered_at c high_at low high x y k) none))
 
-  common_at : (c : Context) (base : Option Place) (low_at high_at : ℕ) (low high : ℤ) (o : Option Place) → low_at < n → high_at < n → GivesAt n (of_common c base low_at high_at low high o)
-  common_at c base low_at high_at low high None h k = one n _ k
+  common_at : (c : Context) (base : Option Place) (low_at high_at : ℕ) (low high : ℤ) (o : Option Place) → Here low_at → Here high_at → GivesAt Here c (of_common c base low_at high_at low high o)
+  common_at c base low_at high_at low high None h k = one k
   common_at c base low_at high_at low high (Some t) h k = within_base_at c low_at high_at low high (subrange_base c base t low) h k
 
-  values_at : (c : Context) (base : Option Place) (low_at high_at : ℕ) (x y : Operand) (v w : Option ℤ) → low_at < n → high_at < n → GivesAt n (of_values c base low_at high_at x y v w)
+  values_at : (c : Context) (base : Option Place) (low_at high_at : ℕ) (x y : Operand) (v w : Option ℤ) → Here low_at → Here high_at → GivesAt Here c (of_values c base low_at high_at x y v w)
   values_at c base low_at high_at x y (Some low) (Some high) h k =
       common_at c base low_at high_at low high (common_type (base_of c.scene (operand_type x)) (base_of c.scene (operand_type y))) h k
-  values_at c base low_at high_at x y None w h k = none n
-  values_at c base low_at high_at x y (Some v) None h k = none n
+  values_at c base low_at high_at x y None w h k = none
+  values_at c base low_at high_at x y (Some v) None h k = none
 
-  ordinals_at : (c : Context) (base : Option Place) (low_at high_at : ℕ) (x y : Operand) → low_at < n → high_at < n → GivesAt n (of_ordinals c base low_at high_at x y)
+  ordinals_at : (c : Context) (base : Option Place) (low_at high_at : ℕ) (x y : Operand) → Here low_at → Here high_at → GivesAt Here c (of_ordinals c base low_at high_at x y)
   ordinals_at c base low_at high_at x y h k =
-      gives_either n (is_ordinal c x && is_ordinal c y) _ _ (values_at c base low_at high_at x y (constant_of_operand x) (constant_of_operand y) h k) (one n _ k)
+      gives_either (is_ordinal c x && is_ordinal c y) _ _ (values_at c base low_at high_at x y (constant_of_operand x) (constant_of_operand y) h k) (one k)
 
-  bounds_at : (c : Context) (base : Option Place) (low_at high_at : ℕ) (x y : Option Operand) → low_at < n → high_at < n → GivesAt n (of_bounds c base low_at high_at x y)
+  bounds_at : (c : Context) (base : Option Place) (low_at high_at : ℕ) (x y : Option Operand) → Here low_at → Here high_at → GivesAt Here c (of_bounds c base low_at high_at x y)
   bounds_at c base low_at high_at (Some x) (Some y) h k =
-      gives_either n (is_broken_base c base) _ _ (none n) (ordinals_at c base low_at high_at (char_or_same c.source x) (char_or_same c.source y) h k)
-  bounds_at c base low_at high_at None y h k = none n
-  bounds_at c base low_at high_at (Some x) None h k = none n
+      gives_either (is_broken_base c base) _ _ none (ordinals_at c base low_at high_at (char_or_same c.source x) (char_or_same c.source y) h k)
+  bounds_at c base low_at high_at None y h k = none
+  bounds_at c base low_at high_at (Some x) None h k = none
 
-  named_base_at : (c : Context) (q : Option Qual) → IsStandingQualOption n q → GivesAt n (named_base c q)
-  named_base_at c None h = none n
-  named_base_at c (Some q) h = join n (qual_at n c q h) (none n)
+  named_base_at : (c : Context) (q : Option Qual) → QualOptionHas (Stands Here) q → GivesAt Here c (named_base c q)
+  named_base_at c None h = none
+  named_base_at c (Some q) h = join (qual_at Here c q h) none
 
-  subrange_at : (c : Context) (base : Option Qual) (low high : Expr) → IsStandingQualOption n base → IsStandingExpr n low → IsStandingExpr n high → GivesAt n (subrange_of c base low high)
+  subrange_at : (c : Context) (base : Option Qual) (low high : Expr) → QualOptionHas (Stands Here) base → ExprHas (Stands Here) low → ExprHas (Stands Here) high → GivesAt Here c (subrange_of c base low high)
   subrange_at c base low high h k l =
-      join n (named_base_at c base h) (join n (constant_at n low c k) (join n (constant_at n high c l)
-      (bounds_at c (named_base c base).value (expr_at low) (expr_at high) (constant_of c low).value (constant_of c high).value (first_token n low k) (first_token n high l))))
+      join (named_base_at c base h) (join (constant_at Here low c k) (join (constant_at Here high c l)
+      (bounds_at c (named_base c base).value (expr_at low) (expr_at high) (constant_of c low).value (constant_of c high).value (first_token Here low k) (first_token Here high l))))
 
-  subrange_row_at : (c : Context) (at : ℕ) (o : Option Bounds) → MakesAt n (subrange_row c at o)
-  subrange_row_at c at (Some b) = none n
-  subrange_row_at c at None = none n
+  subrange_row_at : (c : Context) (at : ℕ) (o : Option Bounds) → MakesAt Here c (subrange_row c at o)
+  subrange_row_at c at (Some b) = none
+  subrange_row_at c at None = none
 
   -- ** Arrays and sets
 
-  fitting_at : (c : Context) (at size : ℕ) (t : Place) → at < n → GivesAt n (fitting c at size t)
-  fitting_at c at size t h = gives_either n (nat_lt most_cells size) _ _ (one n _ h) (none n)
+  fitting_at : (c : Context) (at size : ℕ) (t : Place) → Here at → GivesAt Here c (fitting c at size t)
+  fitting_at c at size t h = gives_either (nat_lt most_cells size) _ _ (one h) none
 
-  index_at : (c : Context) (at : ℕ) (t : Place) → at < n → GivesAt n (checked_index c at t)
-  index_at c at t h = gives_either n (is_broken c.scene t || is_index_range (range_of c.scene t)) _ _ (none n) (one n _ h)
+  index_at : (c : Context) (at : ℕ) (t : Place) → Here at → GivesAt Here c (checked_index c at t)
+  index_at c at t h = gives_either (is_broken c.scene t || is_index_range (range_of c.scene t)) _ _ none (one h)
 
-  base_at : (c : Context) (at : ℕ) (t : Place) → at < n → GivesAt n (checked_base c at t)
-  base_at c at t h = gives_either n (is_broken c.scene t || is_set_range (range_of c.scene t)) _ _ (none n) (one n _ h)
+  base_at : (c : Context) (at : ℕ) (t : Place) → Here at → GivesAt Here c (checked_base c at t)
+  base_at c at t h = gives_either (is_broken c.scene t || is_set_range (range_of c.scene t)) _ _ none (one h)
 
-  arrays_at : (last_first : List Place) (c : Context) (at : ℕ) (elem : Place) → at < n → MakesAt n (array_rows c at last_first elem)
-  arrays_at [] c at elem h = none n
+  arrays_at : (last_first : List Place) (c : Context) (at : ℕ) (elem : Place) → Here at → MakesAt Here c (array_rows c at last_first elem)
+  arrays_at [] c at elem h = none
   arrays_at (index ∷ outer) c at elem h =
       let size = array_size c index elem in
       let t = makes_row c at (Array index elem size) in
       let d = with_rows c t.rows in
       let u = fitting d at size t.value in
-      join n (none n) (join n (fitting_at d at size t.value h) (arrays_at outer (with_rows d []) at u.value h))
+      join none (join (fitting_at d at size t.value h) (arrays_at outer (with_rows d []) at u.value h))
 
   -- ** Pointers
 
-  imported_at : (c : Context) (at : ℕ) (p : Place) (m : RowMeaning) → at < n → GivesAt n (imported_target c at p m)
-  imported_at c at p (TypeName t) h = none n
-  imported_at c at p Broken h = none n
-  imported_at c at p m h = one n _ h
+  imported_at : (c : Context) (at : ℕ) (p : Place) (m : RowMeaning) → Here at → GivesAt Here c (imported_target c at p m)
+  imported_at c at p (TypeName t) h = none
+  imported_at c at p Broken h = none
+  imported_at c at p m h = one h
 
-  entry_target_at : (c : Context) (at : ℕ) (e : Entry) → at < n → GivesAt n (entry_target c at e)
+  entry_target_at : (c : Context) (at : ℕ) (e : Entry) → Here at → GivesAt Here c (entry_target c at e)
   entry_target_at c at e h = imported_at c at e.0 _ h
 
-  layout_at : (c : Context) (at : ℕ) (x : Named) → at < n → GivesAt n (layout_target c at x)
+  layout_at : (c : Context) (at : ℕ) (x : Named) → Here at → GivesAt Here c (layout_target c at x)
   layout_at c at x h =
       let p = at_place c.scene.block.scope x.ordinal in
-      gives_either n (x.kind == type_name_kind) _ _ (none n)
-      (gives_either n (x.kind == alias_kind) _ _ (entry_target_at c at (followed c.scene (entry_at c.scene p)) h) (one n _ h))
+      gives_either (x.kind == type_name_kind) _ _ none
+      (gives_either (x.kind == alias_kind) _ _ (entry_target_at c at (followed c.scene (entry_at c.scene p)) h) (one h))
 
   -- the target, where there is one
-  abbrev TargetAt : Option (Gives Place) → Type 0
-  TargetAt None = Unit {0}
-  TargetAt (Some g) = GivesAt n g
+  abbrev TargetAt : Context → Option (Gives Place) → Type 0
+  TargetAt c None = Unit {0}
+  TargetAt c (Some g) = GivesAt Here c g
 
-  by_layout_at : (c : Context) (i : Ident) (o : Option Named) → i.at < n → TargetAt (target_by_layout c i o)
+  by_layout_at : (c : Context) (i : Ident) (o : Option Named) → Here i.at → TargetAt c (target_by_layout c i o)
   by_layout_at c i None h = tt
   by_layout_at c i (Some x) h = layout_at c i.at x h
 
-  by_name_at : (c : Context) (o : Option Ident) → IsStandingOption n o → TargetAt (target_by_name c o)
+  by_name_at : (c : Context) (o : Option Ident) → NameOptionHas (Stands Here) o → TargetAt c (target_by_name c o)
   by_name_at c None h = tt
   by_name_at c (Some i) h = by_layout_at c i (first_entry c.layout i.name) h
 
-  option_either : (b : Bool) (o : Option Ident) → IsStandingOption n o → IsStandingOption n (if b then o else None)
+  option_either : (b : Bool) (o : Option Ident) → NameOptionHas (Stands Here) o → NameOptionHas (Stands Here) (if b then o else None)
   option_either true o h = h
   option_either false o h = tt
 
-  target_name_at : (c : Context) (t : TypeExpr) → IsStandingType n t → IsStandingOption n (target_name c t)
+  target_name_at : (c : Context) (t : TypeExpr) → TypeHas (Stands Here) t → NameOptionHas (Stands Here) (target_name c t)
   target_name_at c (type_expr at (named_type q)) h = option_either _ (Some q.first) h.1.first
   target_name_at c (type_expr at (enum_type idents)) h = tt
   target_name_at c (type_expr at (sub_type base low high)) h = tt
@@ -148,170 +148,170 @@ module _ (n : ℕ) where
   target_name_at c (type_expr at (pointer_type of)) h = tt
   target_name_at c (type_expr at (proc_type formals result)) h = tt
 
-  target_or_at : (o : Option (Gives Place)) (m : Makes Place) → TargetAt o → MakesAt n m → MakesAt n (target_or o m)
-  target_or_at None m h k = k
-  target_or_at (Some g) m h k = h
+  target_or_at : (c : Context) (o : Option (Gives Place)) (m : Makes Place) → TargetAt c o → MakesAt Here c m → MakesAt Here c (target_or o m)
+  target_or_at c None m h k = k
+  target_or_at c (Some g) m h k = h
 
   -- ** Enumerations and procedure types
 
-  constants_at : (idents : List Ident) (c : Context) (t : Place) (value : ℕ) → AreStandingNames n idents → MakesAt n (constant_rows c t value idents)
-  constants_at [] c t value h = none n
+  constants_at : (idents : List Ident) (c : Context) (t : Place) (value : ℕ) → NamesHave (Stands Here) idents → MakesAt Here c (constant_rows c t value idents)
+  constants_at [] c t value h = none
   constants_at (i ∷ idents) c t value h =
       let m = makes_named c i.name i.at (Const t (pos value) 0) in
-      join n (named_at n c i.name i.at (Const t (pos value) 0) h.0) (constants_at idents (with_rows c m.rows) t (value + 1) h.1)
+      join (named_at Here c i.name i.at (Const t (pos value) 0) h.0) (constants_at idents (with_rows c m.rows) t (value + 1) h.1)
 
-  pub open_array_at : (c : Context) (at : ℕ) (is_open : Bool) (t : Place) → MakesAt n (open_array_row c at is_open t)
-  open_array_at c at true t = none n
-  open_array_at c at false t = none n
+  pub open_array_at : (c : Context) (at : ℕ) (is_open : Bool) (t : Place) → MakesAt Here c (open_array_row c at is_open t)
+  open_array_at c at true t = none
+  open_array_at c at false t = none
 
-  pub parameter_at : (c : Context) (is_open : Bool) (q : Qual) → IsStandingQual n q → MakesAt n (parameter_type c is_open q)
-  parameter_at c is_open q h = join n (qual_at n c q h) (open_array_at (with_rows c []) q.first.at is_open (type_of_qual c q).value)
+  pub parameter_at : (c : Context) (is_open : Bool) (q : Qual) → QualHas (Stands Here) q → MakesAt Here c (parameter_type c is_open q)
+  parameter_at c is_open q h = join (qual_at Here c q h) (open_array_at (with_rows c []) q.first.at is_open (type_of_qual c q).value)
 
-  formals_at : (formals : List Formal) (c : Context) (own : ℕ) → AreStandingFormals n formals → MakesAt n (formal_rows c own formals)
-  formals_at [] c own h = none n
+  formals_at : (formals : List Formal) (c : Context) (own : ℕ) → FormalsHave (Stands Here) formals → MakesAt Here c (formal_rows c own formals)
+  formals_at [] c own h = none
   formals_at (f ∷ formals) c own h =
       let typ = parameter_type c f.is_open f.of in
       let d = with_rows c typ.rows in
       let p = makes_row d f.of.first.at (Param typ.value f.by_ref own) in
-      join n (parameter_at c f.is_open f.of h.0) (join n (none n) (formals_at formals (with_rows d p.rows) own h.1))
+      join (parameter_at c f.is_open f.of h.0) (join none (formals_at formals (with_rows d p.rows) own h.1))
 
-  pub result_at : (c : Context) (q : Option Qual) → IsStandingQualOption n q → GivesAt n (result_type c q)
-  result_at c None h = none n
-  result_at c (Some q) h = join n (qual_at n c q h) (gives_either n (is_structured c (type_of_qual c q).value) _ _ (one n _ h.first) (none n))
+  pub result_at : (c : Context) (q : Option Qual) → QualOptionHas (Stands Here) q → GivesAt Here c (result_type c q)
+  result_at c None h = none
+  result_at c (Some q) h = join (qual_at Here c q h) (gives_either (is_structured c (type_of_qual c q).value) _ _ (one h.first) none)
 
   -- ** Labels
 
-  cover_at : (c : Context) (at : ℕ) (test : LabelTest) (r : Range) (covered : List Range) → at < n → GivesAt n (cover c at test r covered)
+  cover_at : (c : Context) (at : ℕ) (test : LabelTest) (r : Range) (covered : List Range) → Here at → GivesAt Here c (cover c at test r covered)
   cover_at c at test r covered h =
-      gives_either n (int_le r.low r.high) _ _ (gives_either n (list_any (overlaps r) covered) _ _ (one n _ h) (none n)) (none n)
+      gives_either (int_le r.low r.high) _ _ (gives_either (list_any (overlaps r) covered) _ _ (one h) none) none
 
-  one_test_at : (c : Context) (at : ℕ) (o : Option ℤ) (covered : List Range) → at < n → GivesAt n (one_test c at o covered)
+  one_test_at : (c : Context) (at : ℕ) (o : Option ℤ) (covered : List Range) → Here at → GivesAt Here c (one_test c at o covered)
   one_test_at c at (Some v) covered h = cover_at c at (record { low = v; high = None }) (range v v) covered h
-  one_test_at c at None covered h = none n
+  one_test_at c at None covered h = none
 
-  range_test_at : (c : Context) (at : ℕ) (o p : Option ℤ) (covered : List Range) → at < n → GivesAt n (range_test c at o p covered)
+  range_test_at : (c : Context) (at : ℕ) (o p : Option ℤ) (covered : List Range) → Here at → GivesAt Here c (range_test c at o p covered)
   range_test_at c at (Some v) (Some w) covered h = cover_at c at (record { low = v; high = Some w }) (range v w) covered h
-  range_test_at c at None p covered h = none n
-  range_test_at c at (Some v) None covered h = none n
+  range_test_at c at None p covered h = none
+  range_test_at c at (Some v) None covered h = none
 
-  one_taken_at : (c : Context) (at : ℕ) (t : Place) (covered : List Range) (o : Option Operand) → at < n → GivesAt n (one_taken c at t covered o)
-  one_taken_at c at t covered None h = none n
+  one_taken_at : (c : Context) (at : ℕ) (t : Place) (covered : List Range) (o : Option Operand) → Here at → GivesAt Here c (one_taken c at t covered o)
+  one_taken_at c at t covered None h = none
   one_taken_at c at t covered (Some x) h =
-      gives_either n (is_broken c.scene t) _ _ (none n)
-      (gives_either n (is_compatible c.scene x (Computed t)) _ _ (one_test_at c at (constant_of_operand (taken_label c t x)) covered h) (one n _ h))
+      gives_either (is_broken c.scene t) _ _ none
+      (gives_either (is_compatible c.scene x (Computed t)) _ _ (one_test_at c at (constant_of_operand (taken_label c t x)) covered h) (one h))
 
-  range_taken_at : (c : Context) (at : ℕ) (t : Place) (covered : List Range) (o p : Option Operand) → at < n → GivesAt n (range_taken c at t covered o p)
+  range_taken_at : (c : Context) (at : ℕ) (t : Place) (covered : List Range) (o p : Option Operand) → Here at → GivesAt Here c (range_taken c at t covered o p)
   range_taken_at c at t covered (Some x) (Some y) h =
-      gives_either n (is_broken c.scene t) _ _ (none n)
-      (gives_either n (is_compatible c.scene x (Computed t) && is_compatible c.scene y (Computed t)) _ _
-      (range_test_at c at (constant_of_operand (taken_label c t x)) (constant_of_operand (taken_label c t y)) covered h) (one n _ h))
-  range_taken_at c at t covered None p h = none n
-  range_taken_at c at t covered (Some x) None h = none n
+      gives_either (is_broken c.scene t) _ _ none
+      (gives_either (is_compatible c.scene x (Computed t) && is_compatible c.scene y (Computed t)) _ _
+      (range_test_at c at (constant_of_operand (taken_label c t x)) (constant_of_operand (taken_label c t y)) covered h) (one h))
+  range_taken_at c at t covered None p h = none
+  range_taken_at c at t covered (Some x) None h = none
 
-  label_at : (c : Context) (t : Place) (covered : List Range) (l : Label) → IsStandingLabel n l → GivesAt n (label_of c t covered l)
-  label_at c t covered (one_label e) h = join n (constant_at n e c h) (one_taken_at c (expr_at e) t covered (constant_of c e).value (first_token n e h))
+  label_at : (c : Context) (t : Place) (covered : List Range) (l : Label) → LabelHas (Stands Here) l → GivesAt Here c (label_of c t covered l)
+  label_at c t covered (one_label e) h = join (constant_at Here e c h) (one_taken_at c (expr_at e) t covered (constant_of c e).value (first_token Here e h))
   label_at c t covered (range_label low high) h =
-      join n (constant_at n low c h.0) (join n (constant_at n high c h.1)
-      (range_taken_at c (expr_at low) t covered (constant_of c low).value (constant_of c high).value (first_token n low h.0)))
+      join (constant_at Here low c h.0) (join (constant_at Here high c h.1)
+      (range_taken_at c (expr_at low) t covered (constant_of c low).value (constant_of c high).value (first_token Here low h.0)))
 
-  pub labels_at : (ls : Labels) (c : Context) (t : Place) (covered : List Range) → AreStandingLabels n ls → GivesAt n (labels_of c t covered ls)
-  labels_at no_labels c t covered h = none n
+  pub labels_at : (ls : Labels) (c : Context) (t : Place) (covered : List Range) → LabelsHave (Stands Here) ls → GivesAt Here c (labels_of c t covered ls)
+  labels_at no_labels c t covered h = none
   labels_at (more_labels l ls) c t covered h =
-      join n (label_at c t covered l h.0) (join n (labels_at ls c t (label_of c t covered l).value.covered h.1) (none n))
+      join (label_at c t covered l h.0) (join (labels_at ls c t (label_of c t covered l).value.covered h.1) none)
 
   -- ** Fields
 
-  twice_at : (b : Bool) (c : Context) (i : Ident) → i.at < n → AtTokens n (if b then diag c i.at declared_twice ∷ [] else [])
-  twice_at true c i h = one n _ h
-  twice_at false c i h = none n
+  twice_at : (b : Bool) (c : Context) (i : Ident) → Here i.at → NotesAt Here c (if b then diag c i.at declared_twice ∷ [] else [])
+  twice_at true c i h = one h
+  twice_at false c i h = none
 
-  field_at : (c : Context) (own : ℕ) (i : Ident) (t : Place) (offset : ℕ) → i.at < n → MakesAt n (field_row c own i t offset)
+  field_at : (c : Context) (own : ℕ) (i : Ident) (t : Place) (offset : ℕ) → Here i.at → MakesAt Here c (field_row c own i t offset)
   field_at c own i t offset h = twice_at (list_any (is_field own i.name) (own_rows c)) c i h
 
-  plain_at : (idents : List Ident) (c : Context) (own : ℕ) (t : Place) (offset : ℕ) → AreStandingNames n idents → MakesAt n (plain_rows c own t offset idents)
-  plain_at [] c own t offset h = none n
+  plain_at : (idents : List Ident) (c : Context) (own : ℕ) (t : Place) (offset : ℕ) → NamesHave (Stands Here) idents → MakesAt Here c (plain_rows c own t offset idents)
+  plain_at [] c own t offset h = none
   plain_at (i ∷ idents) c own t offset h =
       let d = with_rows c (field_row c own i t offset).rows in
-      join n (field_at c own i t offset h.0) (plain_at idents d own t (capped (offset + size_of d.scene t)) h.1)
+      join (field_at c own i t offset h.0) (plain_at idents d own t (capped (offset + size_of d.scene t)) h.1)
 
-  tag_type_at : (c : Context) (q : Qual) → IsStandingQual n q → GivesAt n (tag_type c q)
+  tag_type_at : (c : Context) (q : Qual) → QualHas (Stands Here) q → GivesAt Here c (tag_type c q)
   tag_type_at c q h =
       let t = (type_of_qual c q).value in
-      join n (qual_at n c q h) (gives_either n (not (is_broken c.scene t) && is_none (range_of c.scene t)) _ _ (one n _ h.first) (none n))
+      join (qual_at Here c q h) (gives_either (not (is_broken c.scene t) && is_none (range_of c.scene t)) _ _ (one h.first) none)
 
-  tag_at : (c : Context) (own offset : ℕ) (t : Place) (tag : Option Ident) → IsStandingOption n tag → MakesAt n (tag_rows c own offset t tag)
-  tag_at c own offset t None h = none n
-  tag_at c own offset t (Some i) h = join n (field_at c own i t offset h) (none n)
+  tag_at : (c : Context) (own offset : ℕ) (t : Place) (tag : Option Ident) → NameOptionHas (Stands Here) tag → MakesAt Here c (tag_rows c own offset t tag)
+  tag_at c own offset t None h = none
+  tag_at c own offset t (Some i) h = join (field_at c own i t offset h) none
 
-  type_first : (t : TypeExpr) → IsStandingType n t → type_at t < n
+  type_first : (t : TypeExpr) → TypeHas (Stands Here) t → Here (type_at t)
   type_first (type_expr at form) h = h.0
 
   -- ** Types
 
   mutual
-    pub type_rows_at : (t : TypeExpr) (c : Context) → IsStandingType n t → MakesAt n (type_rows c t)
+    pub type_rows_at : (t : TypeExpr) (c : Context) → TypeHas (Stands Here) t → MakesAt Here c (type_rows c t)
     type_rows_at (type_expr at form) c h = form_at form c at h.0 h.1
 
-    form_at : (form : TypeForm) (c : Context) (at : ℕ) → at < n → IsStandingTypeForm n form → MakesAt n (form_rows c at form)
-    form_at (named_type q) c at k h = qual_at n c q h
+    form_at : (form : TypeForm) (c : Context) (at : ℕ) → Here at → TypeFormHas (Stands Here) form → MakesAt Here c (form_rows c at form)
+    form_at (named_type q) c at k h = qual_at Here c q h
     form_at (enum_type idents) c at k h =
         let m = makes_row c at (Enum (length idents)) in
-        join n (none n) (constants_at idents (with_rows c m.rows) m.value 0 h)
+        join none (constants_at idents (with_rows c m.rows) m.value 0 h)
     form_at (sub_type base low high) c at k h =
-        join n (subrange_at c base low high h.0 h.1 h.2) (subrange_row_at (with_rows c []) at (subrange_of c base low high).value)
+        join (subrange_at c base low high h.0 h.1 h.2) (subrange_row_at (with_rows c []) at (subrange_of c base low high).value)
     form_at (array_type index of) c at k h =
         let m = index_rows c index in
         let d = with_rows c m.rows in
         let t = type_rows d of in
-        join n (indexes_at index c h.0) (join n (type_rows_at of d h.1) (arrays_at (reverse m.value) (with_rows d t.rows) at t.value k))
+        join (indexes_at index c h.0) (join (type_rows_at of d h.1) (arrays_at (reverse m.value) (with_rows d t.rows) at t.value k))
     form_at (record_type fields) c at k h =
         let first = (next_place c).ordinal in
         let own = first + length (fields_shapes fields) in
         let m = fields_rows c own 0 fields in
         let d = with_rows c m.rows in
         let r = makes_row d at (Record first (max 1 m.value)) in
-        join n (fields_at fields c own 0 h) (join n (none n) (fitting_at (with_rows d r.rows) at (max 1 m.value) r.value k))
+        join (fields_at fields c own 0 h) (join none (fitting_at (with_rows d r.rows) at (max 1 m.value) r.value k))
     form_at (set_type of) c at k h =
         let m = type_rows c of in
-        join n (type_rows_at of c h) (join n (base_at (with_rows c m.rows) (type_at of) m.value (type_first of h)) (none n))
+        join (type_rows_at of c h) (join (base_at (with_rows c m.rows) (type_at of) m.value (type_first of h)) none)
     form_at (pointer_type of) c at k h =
-        join n (target_or_at (target_by_name c (target_name c of)) (type_rows c of) (by_name_at c (target_name c of) (target_name_at c of h)) (type_rows_at of c h)) (none n)
+        join (target_or_at c (target_by_name c (target_name c of)) (type_rows c of) (by_name_at c (target_name c of) (target_name_at c of h)) (type_rows_at of c h)) none
     form_at (proc_type formals result) c at k h =
         let own = (next_place c).ordinal + formals_length formals in
         let d = with_rows c (formal_rows c own formals).rows in
-        join n (formals_at formals c own h.0) (join n (result_at d result h.1) (none n))
+        join (formals_at formals c own h.0) (join (result_at d result h.1) none)
 
-    indexes_at : (ts : TypeExprs) (c : Context) → AreStandingTypes n ts → MakesAt n (index_rows c ts)
-    indexes_at no_types c h = none n
+    indexes_at : (ts : TypeExprs) (c : Context) → TypesHave (Stands Here) ts → MakesAt Here c (index_rows c ts)
+    indexes_at no_types c h = none
     indexes_at (more_types t ts) c h =
         let m = type_rows c t in
         let d = with_rows c m.rows in
-        join n (type_rows_at t c h.0) (join n (index_at d (type_at t) m.value (type_first t h.0)) (join n (indexes_at ts (with_rows d []) h.1) (none n)))
+        join (type_rows_at t c h.0) (join (index_at d (type_at t) m.value (type_first t h.0)) (join (indexes_at ts (with_rows d []) h.1) none))
 
-    fields_at : (fs : FieldLists) (c : Context) (own offset : ℕ) → AreStandingFields n fs → MakesAt n (fields_rows c own offset fs)
-    fields_at no_fields c own offset h = none n
+    fields_at : (fs : FieldLists) (c : Context) (own offset : ℕ) → FieldsHave (Stands Here) fs → MakesAt Here c (fields_rows c own offset fs)
+    fields_at no_fields c own offset h = none
     fields_at (more_fields f fs) c own offset h =
         let m = field_list_rows c own offset f in
-        join n (field_list_at f c own offset h.0) (fields_at fs (with_rows c m.rows) own m.value h.1)
+        join (field_list_at f c own offset h.0) (fields_at fs (with_rows c m.rows) own m.value h.1)
 
-    field_list_at : (f : FieldList) (c : Context) (own offset : ℕ) → IsStandingField n f → MakesAt n (field_list_rows c own offset f)
+    field_list_at : (f : FieldList) (c : Context) (own offset : ℕ) → FieldHas (Stands Here) f → MakesAt Here c (field_list_rows c own offset f)
     field_list_at (plain_fields idents typ) c own offset h =
         let m = type_rows c typ in
-        join n (type_rows_at typ c h.1) (plain_at idents (with_rows c m.rows) own m.value offset h.0)
+        join (type_rows_at typ c h.1) (plain_at idents (with_rows c m.rows) own m.value offset h.0)
     field_list_at (case_fields tag of arms other) c own offset h =
         let t = (tag_type c of).value in
         let d = with_rows c [] in
         let g = tag_rows d own offset t tag in
         let e = with_rows d g.rows in
         let a = arms_rows e own g.value t [] g.value arms in
-        join n (tag_type_at c of h.1) (join n (tag_at d own offset t tag h.0)
-        (join n (arms_at arms e own g.value t [] g.value h.2) (join n (fields_at other (with_rows e a.rows) own g.value h.3) (none n))))
+        join (tag_type_at c of h.1) (join (tag_at d own offset t tag h.0)
+        (join (arms_at arms e own g.value t [] g.value h.2) (join (fields_at other (with_rows e a.rows) own g.value h.3) none)))
 
-    arms_at : (arms : VariantArms) (c : Context) (own offset : ℕ) (t : Place) (covered : List Range) (end : ℕ) → AreStandingArms n arms → MakesAt n (arms_rows c own offset t covered end arms)
-    arms_at no_variant_arms c own offset t covered end h = none n
+    arms_at : (arms : VariantArms) (c : Context) (own offset : ℕ) (t : Place) (covered : List Range) (end : ℕ) → ArmsHave (Stands Here) arms → MakesAt Here c (arms_rows c own offset t covered end arms)
+    arms_at no_variant_arms c own offset t covered end h = none
     arms_at (more_variant_arms (variant_arm labels fields) arms) c own offset t covered end h =
         let ls = (labels_of c t covered labels).value in
         let d = with_rows c [] in
         let m = fields_rows d own offset fields in
-        join n (labels_at labels c t covered h.0.0)
-        (join n (fields_at fields d own offset h.0.1) (arms_at arms (with_rows d m.rows) own offset t ls.covered (max end m.value) h.1))
+        join (labels_at labels c t covered h.0.0)
+        (join (fields_at fields d own offset h.0.1) (arms_at arms (with_rows d m.rows) own offset t ls.covered (max end m.value) h.1))

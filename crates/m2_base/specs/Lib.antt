@@ -7,6 +7,7 @@ pub mod Finished
 pub mod Fronts
 pub mod Gives
 pub mod Grammar
+pub mod Keys
 pub mod KindNumbers
 pub mod Kinds
 pub mod Letters

@@ -1,6 +1,7 @@
 -- The calls of Scopes: when each may be made, and what it leaves and answers.
 use Rattle.std.specs.Prelude.{◌≡◌, ◌≢◌, ◌⊎◌, ℕ, ◌+◌, ◌<◌, ◌≤◌, true, false, List, [], ◌∷◌, ◌++◌, Option, Some, None, length, map, slice_get, slice_index}
 use Rattle.m2_base.specs.Finished.{WhereFinished}
+use Rattle.m2_base.specs.Keys.{Member, field_before, one_thread_field, row_key}
 use Rattle.m2_base.specs.Lists.{IsPrefixOf, IsIn, Each, WhereKept, HasNoRepeats}
 use Rattle.m2_base.specs.Rows.{Row, Place, at_place, IsWellFormed}
 use Rattle.m2_base.specs.States.{State, Look, IsLater, Keeps, mark_of, texts_of, fills_of, areas_of, others_of, tables_of}
@@ -126,6 +127,35 @@ pub record Fetched (old new : State) (p : Place) (answer : Ask (Option Row)) : T
   pub elsewhere : (s : ℕ) → s ≢ p.scope → new.seen s ≡ old.seen s
   pub says : Fetches old new p answer
   pub alone : WhereKept (others_of old) (λ others. answer ≡ one_thread_row (tables_of old others) p)
+
+-- ** Select
+
+-- The first field of this name before the row of its record, which is the one at the place p: a row that is shown, and its
+-- ordinal.
+pub record IsSelected (old new : State) (p : Place) (name : ℕ) (hit : ℕ × Row) : Type 0 where
+  pub before : hit.0 < p.ordinal
+  pub keyed : row_key hit.1 ≡ Some (Member p.ordinal name)
+  pub shown : IsShown new (at_place p.scope hit.0) hit.1
+  pub own : p.scope ≡ fills_of new → field_before new.frame.entered p.ordinal name ≡ Some hit
+  pub told : WhereFinished (texts_of old) (λ tables. field_before (rows_at tables p.scope) p.ordinal name ≡ Some hit)
+
+-- there is no such field, for good
+pub record LacksField (old new : State) (p : Place) (name : ℕ) : Type 0 where
+  pub own : p.scope ≡ fills_of new → field_before new.frame.entered p.ordinal name ≡ None
+  pub told : WhereFinished (texts_of old) (λ tables. field_before (rows_at tables p.scope) p.ordinal name ≡ None)
+
+abbrev pub Selects : State → State → Place → (name : ℕ) → Ask (Option (ℕ × Row)) → Type 0
+Selects old new p name (Known (Some hit)) = IsSelected old new p name hit
+Selects old new p name (Known None) = LacksField old new p name
+Selects old new p name (Waiting h) = IsNotYet old new p h
+
+-- A selection loads the head of its scope alone, and waits where a fetch of the record's row would. Where nobody else changes
+-- the tables, it gives what one thread answers.
+pub record Selected (old new : State) (p : Place) (name : ℕ) (answer : Ask (Option (ℕ × Row))) : Type 0 where
+  pub keeps : Keeps old new []
+  pub elsewhere : (s : ℕ) → s ≢ p.scope → new.seen s ≡ old.seen s
+  pub says : Selects old new p name answer
+  pub alone : WhereKept (others_of old) (λ others. answer ≡ one_thread_field (tables_of old others) p name)
 
 -- ** Enter and complete
 

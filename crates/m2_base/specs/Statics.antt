@@ -25,6 +25,7 @@ pub mod ImportRows
 pub mod ImportedConstants
 pub mod Items
 pub mod Layouts
+pub mod Leaves
 pub mod Lookup
 pub mod Makes
 pub mod NameRows

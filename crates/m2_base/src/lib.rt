@@ -41,7 +41,8 @@ pub use letters::{
 pub use limits::{
     DEEPEST_LEVEL, GREATEST_CARDINAL, GREATEST_CHARACTER, GREATEST_ELEMENT, GREATEST_INTEGER,
     LEAST_INTEGER, LONGEST_CHAIN, MOST_BROUGHT, MOST_CELLS, MOST_NESTED, MOST_PROCEDURES,
-    MOST_TEXT_BYTES, MOST_TEXTS, MOST_TOKENS, MOST_UNIT_TOKENS, STANDARD_ROWS,
+    MOST_ROWS, MOST_TEXT_BYTES, MOST_TEXTS, MOST_TOKENS, MOST_UNIT_TOKENS, STANDARD_ROWS,
+    TOO_MANY_CELLS,
 };
 pub use memory::Memory;
 pub use names::Names;
@@ -49,10 +50,10 @@ pub use notes::{Answer, Diag, Notes};
 pub use operands::{FoldKind, Operand};
 pub use outputs::{HeadingNote, Output, ProcCode, StreamFault};
 pub use replies::{Ask, Chain, Head, Reply};
-pub use rows::{Mode, Place, Row, RowMeaning, read_row, write_row};
+pub use rows::{Mode, Place, Row, RowKey, RowMeaning, has_key, read_row, row_key, write_row};
 pub use scopes::Scopes;
 pub use sites::{Around, Layout, Named, Site};
-pub use standard::standard_rows;
+pub use standard::{standard_row, standard_rows};
 pub use static_laws::{
     chains_go_down, items_are_read, lone_modules_are_read, one_table, ranges_are_whole,
     rows_are_right, rows_have_their_shapes, same_is_an_equivalence, second_rows_are_nameless,

@@ -27,8 +27,14 @@ pub const DEEPEST_LEVEL: usize = 16;
 /// A search tries at most so many scopes: those of the procedures round a block, the module's, and the standard one.
 pub const LONGEST_CHAIN: usize = 18;
 
-/// A type, or a block's variables, has at most so many cells.
+/// A type, or a block's variables, has at most so many cells, and a block at most so many bytes of data.
 pub const MOST_CELLS: u32 = 16_777_215;
+
+/// What is more counts as one more.
+pub const TOO_MANY_CELLS: u32 = MOST_CELLS + 1;
+
+/// The layout of a block has at most so many rows.
+pub const MOST_ROWS: u32 = 2_147_483_648;
 
 /// How many rows scope 0 has.
 pub const STANDARD_ROWS: usize = 37;

@@ -1,5 +1,6 @@
 //! Rows: what a scope has an entry of. Code and definitions speak of a row's meaning; its numbers are read and written here alone.
 ghost use Rattle.std.specs.Prelude.{◌≡◌, ℕ, pos};
+ghost use Rattle.m2_base.specs.Keys.{row_key as spec_key, is_keyed};
 ghost use Rattle.m2_base.specs.Rows.{place_of, natural, row_meaning, mode_of, mode_number, result_of, result_number, basic_of, number_of, numbers_of, numbers_row, row_of, HasSmallNumbers, HasSmallOrdinals, HasSmallScopes, IsSmall, IsSmallScope, ResultHasSmallScope};
 ghost use Rattle.m2_base.specs.declared.rows.RowMeaning.{RowMeaning as Meant};
 
@@ -83,6 +84,15 @@ pub enum RowMeaning {
     Opaque,
 }
 
+/// What the index of a scope finds a row by.
+#[derive(Clone, Copy, Debug, PartialEq, Eq, Hash)]
+pub enum RowKey {
+    /// Its name.
+    Name(u32),
+    /// Of a field without a name, as each is that is declared: the ordinal of its record, and its name there.
+    Member(u64, u64),
+}
+
 /// The place that a row's number names.
 fn place_from(number: i64) -> Place
     ensures { result ≡ place_of number }
@@ -114,6 +124,13 @@ fn natural_from(number: i64) -> u32
     ensures { result ≡ natural number }
 {
     if number < 0 { 0 } else { number as u32 }
+}
+
+/// The same of a number of any size.
+fn magnitude(number: i64) -> u64
+    ensures { result ≡ natural number }
+{
+    if number < 0 { 0 } else { number as u64 }
 }
 
 fn mode_from(number: i64) -> Mode
@@ -204,6 +221,31 @@ pub fn read_row(row: &Row) -> RowMeaning
         18 => RowMeaning::ProcType(result_from(row.a), natural_from(row.b), natural_from(row.c)),
         19 => RowMeaning::Opaque,
         _ => RowMeaning::Broken,
+    }
+}
+
+/// What the index of a scope finds the row by, if it has a name or is a field.
+#[tactic(auto, unfolding(crate::specs::Keys::row_key))]
+pub fn row_key(row: &Row) -> Option<RowKey>
+    ensures { result ≡ spec_key row.now }
+{
+    if row.name != 0 {
+        Some(RowKey::Name(row.name))
+    } else if row.kind == 7 {
+        Some(RowKey::Member(magnitude(row.c), magnitude(row.e)))
+    } else {
+        None
+    }
+}
+
+/// Whether this is the row's key.
+pub fn has_key(row: &Row, key: RowKey) -> bool
+    ensures { result ≡ is_keyed key (spec_key row.now) }
+{
+    match (row_key(row), key) {
+        (Some(RowKey::Name(x)), RowKey::Name(y)) => x == y,
+        (Some(RowKey::Member(own, x)), RowKey::Member(of, y)) => own == of && x == y,
+        _ => false,
     }
 }
 

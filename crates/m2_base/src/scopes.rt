@@ -1,6 +1,6 @@
 //! The tables of all scopes as whoever fills one of them sees them, while others may fill the rest.
 ghost use Rattle.m2_base.specs.States.{State};
-ghost use Rattle.m2_base.specs.Scopes.{CanSearch, Searched, CanFetch, Fetched, CanEnter, Entered, CanComplete, Completed};
+ghost use Rattle.m2_base.specs.Scopes.{CanSearch, Searched, CanFetch, Fetched, Selected, CanEnter, Entered, CanComplete, Completed};
 
 use crate::replies::{Ask, Reply};
 use crate::rows::{Place, Row};
@@ -19,6 +19,12 @@ pub trait Scopes {
     fn fetch(&mut self, at: u32, place: Place) -> Ask<Option<Row>>
         requires { CanFetch (state self.old) place }
         ensures { Fetched (state self.old) (state self.new) place result };
+
+    /// The field of this name of the record whose row stands at a place: the first before that row, with its ordinal;
+    /// None where there is none for good.
+    fn select(&mut self, of: Place, name: u32) -> Ask<Option<(u32, Row)>>
+        requires { CanFetch (state self.old) of }
+        ensures { Selected (state self.old) (state self.new) of name result };
 
     /// Adds rows to the scope that this value fills, in one step.
     fn enter(&mut self, rows: &[Row])

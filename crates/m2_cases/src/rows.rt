@@ -10,7 +10,7 @@ use crate::lexemes::name_of;
 use crate::units::unit_of;
 use anyhow::{Context, Result, ensure};
 use decl_sem::close_check;
-use m2_base::{Answer, Ask, Diag, Memory, Names, Notes, Row, TokenKind};
+use m2_base::{Answer, Ask, Diag, MOST_CELLS, Memory, Names, Notes, Row, TokenKind};
 use m2_samples::{Block, Made, Sample, around, layout_of, read, scopes};
 use scope_core::PlainScopes;
 use std::alloc::Global;
@@ -21,9 +21,6 @@ use type_rules::TEXT;
 const CONSTANT: u8 = 1;
 
 const FIELD: u8 = 7;
-
-/// The most cells of a module's variables. More of them are told at its name by the whole program alone.
-const MOST_CELLS: u32 = 16_777_215;
 
 /// A sample's text has a fault before the module's: its tokens have numbers that are greater by one.
 const FAULT: &[u8] = b"!";
@@ -198,6 +195,7 @@ pub fn answer(alloc: Global, case: &Case) -> Result<Option<String>> {
     let mut text = FAULT.to_vec(alloc)?;
     text.extend_from_slice(&case.main_text(alloc)?)?;
     let (names, made) = made_of(alloc, &text).ok().context("no rows are made")?;
+    // more of them are told at its name by the whole program alone
     if made.cell > MOST_CELLS {
         return Ok(None);
     }

@@ -32,7 +32,7 @@ use Rattle.m2_base.specs.declared.sites.Named.{Named}
 use Rattle.m2_base.specs.declared.sites.Site.{Site}
 use Rattle.m2_base.specs.declared.trees.declarations.Decl.{Decl as HeldDecl}
 use Rattle.m2_base.specs.declared.trees.declarations.Stream.{Stream as HeldStream}
-use Rattle.m2_base.proofs.Kept.{Each-append, Each-map}
+use Rattle.m2_base.proofs.EachLaws.{each_append, each_then}
 use Rattle.scope_core.specs.PlainScopes.{Plain, started, state_of}
 use Rattle.decl_sem.specs.ImportedModules.{IsFromBefore}
 use Rattle.decl_sem.specs.Items.{IsAtItem}
@@ -323,8 +323,8 @@ module _ (f : Frame) (s : Site) (u : UnitTexts) (tree : HeldStream) (n : ℕ) (d
           room = so_far.room;
           open_yet = so_far.open_yet;
           laid = laid_on;
-          owned = Each-append (λ r. IsOwned (length (f.entered ++ rows)) (row_meaning r)) f.entered rows
-              (Each-map (λ r. IsOwned (length f.entered) (row_meaning r)) (λ r. IsOwned (length (f.entered ++ rows)) (row_meaning r)) f.entered (λ r. owned_more (length f.entered) (length (f.entered ++ rows)) more (row_meaning r)) so_far.owned)
+          owned = each_append (λ r. IsOwned (length (f.entered ++ rows)) (row_meaning r)) f.entered rows
+              (each_then (λ r. IsOwned (length f.entered) (row_meaning r)) (λ r. IsOwned (length (f.entered ++ rows)) (row_meaning r)) f.entered (λ r. owned_more (length f.entered) (length (f.entered ++ rows)) more (row_meaning r)) so_far.owned)
               (subst (λ limit. Each (λ r. IsOwned limit (row_meaning r)) rows) end_is (owned_rows f (item_end s) (length f.entered) rows new));
           procedures =
               (let l = ap length (filter-append is_proc f.entered rows) in

@@ -11,7 +11,7 @@ use Rattle.m2_base.specs.declared.kind.TokenKind.TheVariants.{Bad}
 use Rattle.m2_base.specs.declared.token.Token.{Token}
 use Rattle.m2_base.specs.declared.trees.declarations.StreamKind.TheVariants.{Main}
 use Rattle.m2_base.proofs.Numbers.{with_name-grows}
-use Rattle.m2_base.proofs.ReadStreams.{items_are_read}
+use Rattle.m2_base.proofs.ReadTrees.{items_are_read}
 use Rattle.m2_lex.specs.LoneTexts.{IsLoneText}
 use Rattle.m2_lex.proofs.ReadTokens.{tokens_read}
 use Rattle.m2_parse.specs.Streams.{SpellsStream}

@@ -1,6 +1,7 @@
 //! The rows that the declarations of a sample make, entered into its scope.
 ghost use Rattle.std.specs.Prelude.{◌≡◌, ◌+◌, ◌≤◌, ◌^◌, Some, IfOk, OnOk, filter, length, slice_get};
 ghost use Rattle.m2_base.specs.Scopes.{CanEnter, Entered};
+ghost use Rattle.m2_base.specs.Statics.Cells.{most_cells};
 ghost use Rattle.m2_base.specs.Statics.Layouts.{layout_of as spec_layout};
 ghost use Rattle.m2_base.specs.Statics.ProcedureRows.{is_proc};
 ghost use Rattle.m2_base.specs.Trees.{Stream};
@@ -21,10 +22,7 @@ use std::alloc::Global;
 const STANDARD_ROWS: u32 = m2_base::STANDARD_ROWS as u32;
 
 /// A block has at most so many rows, so that there is room for those of the names that imports bring.
-const MOST_ROWS: u32 = 2_147_483_648 - m2_base::MOST_BROUGHT as u32;
-
-/// The next free cell of too many is this.
-const TOO_MANY_CELLS: u32 = m2_base::MOST_CELLS + 1;
+const MOST_ROWS: u32 = m2_base::MOST_ROWS - m2_base::MOST_BROUGHT as u32;
 
 /// The kind of the rows of procedures.
 const PROCEDURE: u8 = 4;
@@ -101,12 +99,12 @@ fn enter<S: Scopes>(scopes: &mut S, declared: &Declared, made: &mut Made) -> Res
     requires { CanEnter (S.state scopes.old) declared.now.rows.items }
     ensures entered { OnOk result (Entered (S.state scopes.old) (S.state scopes.new) declared.now.rows.items) }
     ensures none { OnOk result (length (filter is_proc declared.now.rows.items) ≡ 0) }
-    ensures few { IfOk result (λ cell. cell ≤ 16777216) }
+    ensures few { IfOk result (λ cell. cell ≤ most_cells + 1) }
 {
     scopes.enter(&declared.rows);
     keep(made, declared)?;
     let cell = declared.effect.cell;
-    if cell > TOO_MANY_CELLS || count_procedures(&declared.rows) > 0 {
+    if cell > m2_base::TOO_MANY_CELLS || count_procedures(&declared.rows) > 0 {
         return Err(Memory);
     }
     Ok(cell)

@@ -6,13 +6,10 @@ ghost use Rattle.m2_base.specs.declared.trees.declarations.StreamKind.TheVariant
 ghost use Rattle.m2_parse.specs.Streams.{SpellsStream};
 ghost use Rattle.m2_samples.specs.Samples.{HasDeclarations, IsSample, first_kind};
 
-use m2_base::{Memory, Stream, StreamKind, Texts, Token, TokenKind};
+use m2_base::{MOST_TEXT_BYTES, Memory, Stream, StreamKind, Texts, Token, TokenKind};
 use m2_lex::lone_text;
 use m2_parse::{parse_stream, values_fit};
 use std::alloc::Global;
-
-/// A text has at most so many bytes.
-const MOST_BYTES: usize = 1_048_576;
 
 /// A module that is analysed. Its unit's text has a fault before it, so that no rows are the unit's in the end, and any may be
 /// entered.
@@ -57,7 +54,7 @@ fn tree_of(alloc: Global, tokens: &[Token]) -> Result<Stream, Memory>
 pub fn read(alloc: Global, text: &[u8]) -> Result<Sample, Memory>
     ensures { IfOk result (λ sample. IsSample sample.texts (stream_view sample.tree)) }
 {
-    if text.len() > MOST_BYTES {
+    if text.len() > MOST_TEXT_BYTES {
         return Err(Memory);
     }
     let Ok(texts) = lone_text(alloc, b"M", text) else {

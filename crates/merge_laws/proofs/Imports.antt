@@ -26,6 +26,7 @@ use Rattle.m2_base.specs.declared.trees.Ident.{Ident}
 use Rattle.m2_base.specs.declared.trees.Qual.{Qual}
 use Rattle.m2_base.specs.declared.trees.declarations.StreamKind.{StreamKind}
 use Rattle.m2_base.specs.declared.trees.declarations.StreamKind.TheVariants.{Definition, Main, Procedure}
+use Rattle.m2_base.proofs.EachLaws.{each_append}
 use Rattle.block_laws.specs.Worlds.{callee_of, import_over, name_bytes, over_blocks}
 use Rattle.definition_keys.specs.Keys.{Keys}
 use Rattle.object_file.specs.Contents.{KeyedImport}
@@ -161,10 +162,6 @@ item_bounded (proc_item h stream) c kind cell =
     let bound = sections_bound h.sections in
     let all = length-append (flat_map section_shapes h.sections) (nameless proc_type_kind h.name.at ∷ named proc_kind h.name ∷ []) in
     note_bounded kind h (proc_number c kind stream) (length (item_shapes (proc_item h stream))) (omega (arith, bound, all)) (omega (arith, all))
-
-each_append : {A : Type 0} (P : A → Type 0) (xs ys : List A) → Each P xs → Each P ys → Each P (xs ++ ys)
-each_append P [] ys h k = k
-each_append P (x ∷ xs) ys h k = (h.0, each_append P xs ys h.1 k)
 
 items_bounded : (items : List Item) (c : Context) (kind : StreamKind) (i cell : ℕ) → Bounded (length (flat_map item_shapes items)) (declare_items c kind i cell items).value.headings
 items_bounded [] c kind i cell = record { few = omega arith; fit = tt }

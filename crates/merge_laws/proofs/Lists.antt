@@ -9,6 +9,7 @@ use Rattle.m2_base.specs.Statics.Blocks.{BlockTree, UnitTrees, blocks_of}
 use Rattle.m2_base.specs.Statics.Contexts.{Source}
 use Rattle.m2_base.specs.Statics.FormedRows.{AreConsecutive}
 use Rattle.m2_base.specs.declared.rows.Row.{Row}
+use Rattle.m2_base.proofs.EachLaws.{each_append}
 use Rattle.block_laws.specs.Worlds.{of_blocks, over_blocks, without_own}
 use Rattle.block_laws.proofs.BlocksAt.{before_at, before_of, in_at, scope_at}
 use Rattle.object_file.specs.FieldsOf.{AllBehind}
@@ -75,10 +76,6 @@ pub each_drop : {A : Type 0} (P : A → Type 0) (n : ℕ) (xs : List A) → Each
 each_drop P zero xs h = h
 each_drop P (suc n) [] h = tt
 each_drop P (suc n) (x ∷ xs) h = each_drop P n xs h.1
-
-each_append : {A : Type 0} (P : A → Type 0) (xs ys : List A) → Each P xs → Each P ys → Each P (xs ++ ys)
-each_append P [] ys h k = k
-each_append P (x ∷ xs) ys h k = (h.0, each_append P xs ys h.1 k)
 
 pub each_without : {A : Type 0} (P : A → Type 0) (own : Option ℕ) (xs : List A) → Each P xs → Each P (without_own own xs)
 each_without P None xs h = h

@@ -16,6 +16,7 @@ use Rattle.stream_split.proofs.Agree.{trees_agree}
 use Rattle.m2_base.specs.Lists.{Each, IsIn, WhereKept}
 use Rattle.m2_base.specs.Statics.BlockRows.{declare_block}
 use Rattle.m2_base.specs.Statics.Blocks.{BlockTree, UnitTrees, blocks_of, home_of}
+use Rattle.m2_base.specs.Statics.Cells.{most_cells}
 use Rattle.m2_base.specs.Statics.Contexts.{Source}
 use Rattle.m2_base.specs.Statics.FormedRows.{IsImportedBefore, IsSoundBlock}
 use Rattle.m2_base.specs.Statics.Items.{items_of}
@@ -302,7 +303,7 @@ module _ (texts : UnitTexts) (unit : IsUnit texts) (front : TextOf → Front) (w
     params : (0 < k) ⊎ (p.params ≡ 0)
     result : (p.result ≤ 1) × ((0 < k) ⊎ (p.result ≡ 0))
     inside : p.params ≤ p.locals
-    locals : p.locals ≤ 16777215
+    locals : p.locals ≤ most_cells
     bytes : length p.bytes < 2 ^ 32
     code_short : length p.code < 2 ^ 32
 
@@ -518,7 +519,7 @@ module _ (texts : UnitTexts) (unit : IsUnit texts) (front : TextOf → Front) (w
               result = both_true _ _ (both_true _ _ (le-leb p.result 1 result) (zero_test k p.result frame.result.1))
                   (exported_test k p e (λ x. p.result == x.2) (λ h x same. eq-eqb p.result h.result (sym (ap (λ (q : Procedure). q.result) same) ∙ x.result)));
               result_fits = omega (arith, result);
-              locals = both_true _ _ (le-leb p.params p.locals inside) (le-leb p.locals 16777215 locals);
+              locals = both_true _ _ (le-leb p.params p.locals inside) (le-leb p.locals most_cells locals);
               locals_fit = omega (arith, locals);
               high = high_at k p e;
               bytes_short = frame.bytes;
@@ -678,7 +679,7 @@ module _ (texts : UnitTexts) (unit : IsUnit texts) (front : TextOf → Front) (w
           by None e = tt
           by (Some s) e = let low = own_low s e in let p = low.0 in let q = low.1 in let n = many in omega (arith, p, q, n)
 
-      cells_few : contents.cells ≤ 16777215
+      cells_few : contents.cells ≤ most_cells
       cells_few =
           let same : contents.cells ≡ (made names u is b0).value.cell = at_module (λ before b. (declare_block u.source before b).value.cell) 0 in
           let few = (has_room names u is statements b0 module_block.there behind0).own in

@@ -10,6 +10,7 @@ use Rattle.object_file.specs.FieldsOf.{AllBehind, HasExport, HasHeading, HasImpo
 use Rattle.object_file.specs.Formats.{Format, done, exact, number, text, raw, ◌>>=◌, many, counted, Spells}
 use Rattle.object_file.specs.ObjectFormat.{any, is_count, export_format, heading_format, import_format, procedure_format, fields_format, format_with, version_near}
 use Rattle.object_file.specs.Validity.{HaveValidCode, IsValid}
+use Rattle.m2_base.specs.declared.limits.TheConstants.{MOST_CELLS}
 
 -- ---- by parts
 
@@ -161,7 +162,7 @@ fields_spelled o h =
             own_cells,
             omega (arith, few),
             refl,
-            le-leb o.cells 16777215 few,
+            le-leb o.cells MOST_CELLS few,
             (o.own_cells, key, omega (arith, few, own), refl, le-leb o.own_cells o.cells own, (o.key, exports, h.key, refl, of_exports)),
           ),
         ),

@@ -4,6 +4,7 @@ use Rattle.code_form.specs.Heights.{Callee}
 use Rattle.code_form.specs.Modules.{Procedure}
 use Rattle.object_file.specs.Contents.{Export, KeyedImport, Contents}
 use Rattle.object_file.specs.ObjectFormat.{key_length, is_identifier, is_new_name, is_export, is_count, is_outer, is_params, is_result, is_locals}
+use Rattle.m2_base.specs.declared.limits.TheConstants.{MOST_CELLS}
 
 -- a number has four bytes
 abbrev pub IsNumber : ℕ → Type 0
@@ -50,7 +51,7 @@ pub record HasFields (o : Contents) : Type 0 where
   pub name : is_identifier o.name ≡ true
   pub name_short : IsNumber (length o.name)
   pub key : length o.key ≡ key_length o.version
-  pub cells : o.cells ≤ 16777215
+  pub cells : o.cells ≤ MOST_CELLS
   pub own_cells : o.own_cells ≤ o.cells
   pub exports_few : IsNumber (length o.exports)
   pub exports : AllBehind HasExport [] o.exports

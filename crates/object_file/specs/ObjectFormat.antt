@@ -3,6 +3,7 @@ use Rattle.std.specs.Prelude.{ℕ, ◌==◌, Bool, true, false, ◌&&◌, ◌||�
 use Rattle.std.specs.List.{list_all, list_any}
 use Rattle.std.specs.Str.{bytes_eq}
 use Rattle.m2_base.specs.Letters.{is_letter, goes_on}
+use Rattle.m2_base.specs.declared.limits.TheConstants.{MOST_CELLS}
 use Rattle.code_form.specs.Heights.{Callee}
 use Rattle.code_form.specs.Modules.{Procedure}
 use Rattle.object_file.specs.Contents.{Export, KeyedImport, Contents, u32, magic}
@@ -15,7 +16,7 @@ any x = true
 
 -- the most cells that a block or a module has
 abbrev pub is_cells : ℕ → Bool
-is_cells n = nat_le n 16777215
+is_cells n = nat_le n MOST_CELLS
 
 -- the definition's cells are among the module's
 abbrev pub is_own_cells : ℕ → ℕ → Bool
@@ -56,7 +57,7 @@ is_result exports k result = nat_le result 1 && (nat_lt 0 k || result == 0) && a
 
 -- the parameters are among the cells
 abbrev pub is_locals : ℕ → ℕ → Bool
-is_locals params locals = nat_le params locals && nat_le locals 16777215
+is_locals params locals = nat_le params locals && nat_le locals MOST_CELLS
 
 -- ---- the fields
 

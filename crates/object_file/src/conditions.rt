@@ -6,7 +6,7 @@ ghost use Rattle.object_file.specs.ObjectFormat.{is_identifier as spec_identifie
 
 use crate::exports::Exports;
 use crate::imports::Imports;
-use m2_base::{goes_on, is_letter};
+use m2_base::{MOST_CELLS, goes_on, is_letter};
 
 fn all_go_on(bytes: &[u8]) -> bool
     ensures { result ≡ list_all spec_goes_on bytes.now }
@@ -72,5 +72,5 @@ pub(crate) fn is_result(exports: &Exports, k: u32, cells: u32) -> bool
 pub(crate) fn is_locals(params: u32, locals: u32) -> bool
     ensures { result ≡ spec_locals params locals }
 {
-    params <= locals && locals <= 16_777_215
+    params <= locals && locals <= MOST_CELLS
 }

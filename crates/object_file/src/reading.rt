@@ -13,7 +13,7 @@ use crate::fault::Stop;
 use crate::fields::{ends, exact, number, raw, text, valid};
 use crate::imports::Imports;
 use crate::parts::{ImportNote, Parts};
-use m2_base::ProcCode;
+use m2_base::{MOST_CELLS, ProcCode};
 use std::alloc::Global;
 
 #[tactic(auto, unfolding(crate::specs::Reading::export_at))]
@@ -205,7 +205,7 @@ fn parts(alloc: Global, version: u32, bytes: &mut &[u8]) -> Result<Parts, Stop>
     valid(is_identifier(&name), at)?;
     let at = *bytes;
     let cells = number(bytes)?;
-    valid(cells <= 16_777_215, at)?;
+    valid(cells <= MOST_CELLS, at)?;
     let at = *bytes;
     let own_cells = number(bytes)?;
     valid(own_cells <= cells, at)?;

@@ -35,7 +35,7 @@ use Rattle.m2_base.specs.Statics.Targets.{target_name, target_by_name, target_or
 use Rattle.m2_base.specs.Statics.TypeNames.{type_of_qual}
 use Rattle.m2_base.specs.Statics.TypeRows.{type_rows, form_rows, index_rows, fields_rows, field_list_rows, arms_rows}
 use Rattle.m2_base.specs.Statics.Types.{base_of, is_broken, range_of, size_of}
-use Rattle.m2_base.proofs.ChainLaws.{each_then}
+use Rattle.m2_base.proofs.EachLaws.{each_append, each_then}
 use Rattle.m2_base.proofs.RowLaws.{place_of-number_of}
 use Rattle.m2_base.proofs.SceneLaws.{with-none, with-twice}
 use Rattle.m2_base.proofs.Sound.{Sound}
@@ -145,14 +145,10 @@ subrange_agrees : (c : Context) (at : ℕ) (o : Option Bounds) → IsOrdered o �
 subrange_agrees c at (Some b) h = one_agrees 0 at (Subrange b.base b.low b.high) h
 subrange_agrees c at None h = one_agrees 0 at (Subrange broken (pos 0) (pos 0)) (record { le = tt })
 
-each_append' : {A : Type 0} (P : A → Type 0) (xs ys : List A) → Each P xs → Each P ys → Each P (xs ++ ys)
-each_append' P [] ys h k = k
-each_append' P (x ∷ xs) ys h k = (h.0, each_append' P xs ys h.1 k)
-
 pub each_reverse : {A : Type 0} (P : A → Type 0) (xs : List A) → Each P xs → Each P (reverse xs)
 each_reverse P [] h = tt
 each_reverse P (x ∷ xs) h =
-    subst (Each P) (sym (reverse-append (x ∷ []) xs)) (each_append' P (reverse xs) (x ∷ []) (each_reverse P xs h.1) (h.0, tt))
+    subst (Each P) (sym (reverse-append (x ∷ []) xs)) (each_append P (reverse xs) (x ∷ []) (each_reverse P xs h.1) (h.0, tt))
 
 module _ (names : ℕ) where
   -- ** Arrays

@@ -7,7 +7,7 @@ use Rattle.m2_base.specs.Trees.{Stream}
 use Rattle.m2_base.specs.declared.trees.declarations.StreamKind.TheVariants.{Definition, Procedure}
 use Rattle.m2_base.specs.Statics.Blocks.{BlockTree, UnitTrees, blocks_of, blocks_of_main, declares, definition_blocks, encloser, home_of, main_block, main_blocks, procedure_block, with_own}
 use Rattle.m2_base.specs.Statics.Contexts.{Block, DefinitionModule}
-use Rattle.m2_base.proofs.ChainLaws.{each_append, each_found, each_then}
+use Rattle.m2_base.proofs.EachLaws.{each_append, each_found, each_then}
 use Rattle.row_laws.specs.TextTrees.{AreOfMain, AreOfTexts, HasTree, IsTreeOf}
 
 -- a definition module's block is its own module's, every other one is the main module's

@@ -18,7 +18,7 @@ use Rattle.m2_base.specs.Statics.Lookup.{brought_before, moved}
 use Rattle.m2_base.specs.Statics.Makes.{Makes, scene_with, with_rows}
 use Rattle.m2_base.specs.Statics.ShapedRows.{AreShaped, more_of}
 use Rattle.m2_base.specs.Statics.Shapes.{Shape, item_shapes}
-use Rattle.m2_base.proofs.ChainLaws.{each_append, each_then}
+use Rattle.m2_base.proofs.EachLaws.{each_append, each_then}
 use Rattle.m2_base.proofs.LayoutLaws.{AreShaped-length}
 use Rattle.m2_base.proofs.SceneLaws.{IsOpen, own_of, own-with}
 use Rattle.row_laws.proofs.ClearTargets.{HasImports, IsMade, IsMadeImport, front_stays, made_with}

@@ -1,7 +1,7 @@
 -- Scenes in which no row has a type in error, and what is found in them.
-use Rattle.std.specs.Prelude.{◌≡◌, ◌≢◌, ℕ, zero, suc, ◌+◌, ◌-◌, ◌*◌, ◌/◌, ◌%◌, ◌^◌, ◌<◌, ◌≤◌, ◌==◌, Bool, true, false, if◌then◌else◌, ◌⊎◌, List, [], ◌∷◌, ◌++◌, length, map, nat_le, pos, slice_get, slice_index_or, Option, Some, None, unwrap_or}
+use Rattle.std.specs.Prelude.{◌≡◌, ◌≢◌, ℕ, zero, suc, ◌+◌, ◌-◌, ◌*◌, ◌/◌, ◌%◌, ◌^◌, ◌<◌, ◌≤◌, ◌==◌, Bool, true, false, if◌then◌else◌, ◌⊎◌, List, [], ◌∷◌, ◌++◌, length, map, pos, slice_get, slice_index_or, Option, Some, None, unwrap_or}
 use Rattle.std.proofs.Common.{ap, subst, sym, ◌∙◌, refl, inl, inr, arith}
-use Rattle.std.proofs.lemmas.Bool.{and_from, and_parts, both_ways, cases_order, eq-eqb, eqb-true, leb-true}
+use Rattle.std.proofs.lemmas.Bool.{and_from, and_parts, both_ways, cases_order, eq-eqb, eqb-true}
 use Rattle.std.proofs.lemmas.List.{append-nil, get_or_append_left, get_or_past, get_or-append-add, get_or-set_other}
 use Rattle.std.proofs.lemmas.Option.{get_or_from_slice_get, slice_get_cases}
 use Rattle.m2_base.specs.Lists.{Each, WhereKept}
@@ -20,6 +20,7 @@ use Rattle.row_laws.specs.Clear.{AreClear, HasClear, IsClear, IsClearRow, IsName
 use Rattle.m2_base.proofs.NoRepeats.{some_is}
 use Rattle.m2_base.proofs.SceneLaws.{IsOpen, open-with, own_of, own-with}
 use Rattle.m2_base.proofs.SoundTypes.{either}
+use Rattle.m2_base.proofs.StandardLaws.{standard_between}
 
 -- ** Types that aren't in error
 
@@ -246,14 +247,12 @@ named_above n (m ∷ ms) h = (λ (e : n ≡ 0). omega (arith, h, e), named_above
 
 standard_row : (P : Row → Type 0) → Each P (named_rows 1 standard_meanings) → (name : ℕ) → is_standard name ≡ true → P (slice_index_or standard_rows (name + 10) (row_of 0 0 Broken))
 standard_row P all name h =
-    let parts = and_parts (nat_le 1 name) (nat_le name 26) h in
-    let low = leb-true 1 name parts.0 in
-    let high = leb-true name 26 parts.1 in
+    let between = standard_between name h in
     let k = name - 1 in
     let types = map (row_of 0 0) (Integer ∷ Cardinal ∷ Character ∷ Enum 2 ∷ Subrange cardinal (pos 0) (pos 31) ∷ Set bit_range ∷ ProcType None 0 6 ∷ Nil ∷ Text ∷ Whole ∷ Broken ∷ []) in
-    let same : name + 10 ≡ length types + k = omega (arith, low) in
+    let same : name + 10 ≡ length types + k = omega (arith, between.0) in
     subst P (sym (ap (λ n. slice_index_or standard_rows n (row_of 0 0 Broken)) same ∙ get_or-append-add types (named_rows 1 standard_meanings) k (row_of 0 0 Broken)))
-    (each_index P (named_rows 1 standard_meanings) (row_of 0 0 Broken) all k (omega (arith, low, high)))
+    (each_index P (named_rows 1 standard_meanings) (row_of 0 0 Broken) all k (omega (arith, between.0, between.1)))
 
 pub standard_target : (name : ℕ) → is_standard name ≡ true → IsNamedTarget (slice_index_or standard_rows (name + 10) (row_of 0 0 Broken))
 standard_target name h =

@@ -19,7 +19,7 @@ use Rattle.m2_base.specs.Statics.Lookup.{entry_at, entry_named, entry_or, first_
 use Rattle.m2_base.specs.Statics.Makes.{scene_with, with_rows}
 use Rattle.m2_base.specs.Statics.Targets.{entry_target, imported_target, layout_target, target_by_layout, target_by_name, target_name}
 use Rattle.m2_base.specs.Statics.Uses.{followed_by}
-use Rattle.m2_base.proofs.ChainLaws.{each_found, each_then}
+use Rattle.m2_base.proofs.EachLaws.{each_found, each_then}
 use Rattle.m2_base.proofs.SceneLaws.{IsOpen, own_of, own-with}
 use Rattle.m2_base.proofs.TypeLaws.{same_place-is}
 use Rattle.row_laws.specs.Clear.{IsClear, IsTarget, LeadsOn}

@@ -25,7 +25,7 @@ use Rattle.m2_base.specs.Statics.ProcedureRows.{heading_note, is_proc, is_proc_m
 use Rattle.m2_base.specs.Statics.ProcedureTypes.{result_type}
 use Rattle.m2_base.specs.Statics.ShapedRows.{AreShaped, none_of, more_of}
 use Rattle.m2_base.specs.Statics.Shapes.{Shape, named, type_shapes, type_item_shapes, section_shapes}
-use Rattle.m2_base.proofs.ChainLaws.{each_append, each_then}
+use Rattle.m2_base.proofs.EachLaws.{each_append, each_then}
 use Rattle.m2_base.proofs.ItemLaws.{item_of, sections_of}
 use Rattle.m2_base.proofs.NoRepeats.{scene_empty}
 use Rattle.m2_base.proofs.RowLaws.{place_of-number_of}

@@ -6,7 +6,7 @@ use Rattle.m2_base.specs.Lists.{Each, WhereKept}
 use Rattle.m2_base.specs.Trees.{Stream}
 use Rattle.m2_base.specs.Statics.Blocks.{BlockTree, UnitTrees, blocks_of, blocks_of_main, declares, definition_blocks, encloser, home_of, main_block, main_blocks, procedure_block}
 use Rattle.m2_base.specs.Statics.Contexts.{Block, DefinitionModule}
-use Rattle.m2_base.proofs.ChainLaws.{each_append, each_found, each_then}
+use Rattle.m2_base.proofs.EachLaws.{each_append, each_found, each_then}
 
 -- a block of the main module, whose scope is `home`, or of a definition module
 abbrev pub IsInModule : (own : Option ℕ) → (home : ℕ) → Block → Type 0

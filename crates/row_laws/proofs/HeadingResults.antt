@@ -1,8 +1,8 @@
 -- The result that a heading binds in its own block depends on the scopes outside alone: a name of the block itself stands for
 -- nothing there.
-use Rattle.std.specs.Prelude.{◌≡◌, ℕ, ◌+◌, ◌^◌, ◌<◌, ◌==◌, Bool, true, false, if◌then◌else◌, nat_le, nat_lt, drop, List, [], ◌∷◌, slice_index_or, Option, Some, None}
+use Rattle.std.specs.Prelude.{◌≡◌, ℕ, ◌+◌, ◌^◌, ◌<◌, ◌==◌, Bool, true, false, if◌then◌else◌, nat_lt, drop, List, [], ◌∷◌, slice_index_or, Option, Some, None}
 use Rattle.std.proofs.Common.{refl, ap, ◌∙◌, arith}
-use Rattle.std.proofs.lemmas.Bool.{and_parts, leb-true, ltb-true}
+use Rattle.std.proofs.lemmas.Bool.{ltb-true}
 use Rattle.m2_base.specs.Gives.{and_then, gives, gives_answer}
 use Rattle.m2_base.specs.Lists.{Each, WhereKept}
 use Rattle.m2_base.specs.Rows.{Fits, HasSmallOrdinals, IsBefore, at_place, row_meaning, row_of}
@@ -23,13 +23,11 @@ use Rattle.m2_base.specs.declared.sites.Named.{Named}
 use Rattle.m2_base.specs.declared.trees.Ident.{Ident}
 use Rattle.m2_base.specs.declared.trees.Qual.{Qual}
 use Rattle.m2_base.proofs.Sound.{EntryOk, RowOk, Sound, found_ok, row_ok}
+use Rattle.m2_base.proofs.StandardLaws.{standard_small}
 
 no_less : (n : ℕ) (b : Bool) → nat_lt n 0 ≡ b → b ≡ false
 no_less n true e = absurd (let h = ltb-true n 0 e in omega arith)
 no_less n false e = refl
-
-standard_small : (name : ℕ) → is_standard name ≡ true → name + 10 < 2 ^ 32
-standard_small name h = let e = leb-true name 26 (and_parts (nat_le 1 name) (nat_le name 26) h).1 in omega (arith, e)
 
 module _ (names : ℕ) (source : Source) (b : Block) (layout : Layout) (t u : List (List Row))
     (sound : Sound names (record { block = b; tables = t })) (same : (s : ℕ) → s < b.scope → rows_at u s ≡ rows_at t s)

@@ -23,7 +23,7 @@ use Rattle.m2_base.specs.Statics.Makes.{Makes, makes_named, own_rows, scene_with
 use Rattle.m2_base.specs.Statics.ShapedRows.{AreShaped, more_of, none_of}
 use Rattle.m2_base.specs.Statics.Shapes.{Shape, item_shapes, named}
 use Rattle.m2_base.specs.Statics.Uses.{use_of}
-use Rattle.m2_base.proofs.ChainLaws.{each_append}
+use Rattle.m2_base.proofs.EachLaws.{each_append}
 use Rattle.m2_base.proofs.ItemLaws.{item_of}
 use Rattle.m2_base.proofs.LayoutLaws.{item_few}
 use Rattle.m2_base.proofs.SceneLaws.{IsOpen, open-with, own_of, own-with, with-none}

@@ -17,7 +17,7 @@ use Rattle.m2_base.specs.WholeTexts as whole
 use Rattle.m2_base.specs.WholeTexts.{block_from, blocks_after, procedures_from}
 use Rattle.m2_base.specs.declared.token.Token.{Token}
 use Rattle.m2_base.specs.declared.trees.Ident.{Ident}
-use Rattle.m2_base.proofs.ChainLaws.{each_append, each_then}
+use Rattle.m2_base.proofs.EachLaws.{each_append, each_then}
 use Rattle.row_laws.specs.UnitBlocks.{IsProcedureIn}
 use Rattle.row_laws.proofs.Joined.{find_left, find_right, in_either, in_left, in_right}
 use Rattle.row_laws.proofs.Numbered.{Has, after_procedure, block_declares, block_has, has, has_high, has_low, later}

@@ -28,7 +28,7 @@ use Rattle.m2_base.specs.Statics.Shapes.{Shape, type_item_shapes, section_shapes
 use Rattle.m2_base.specs.Statics.SoundTrees.{IsSoundItem}
 use Rattle.m2_base.specs.Statics.TypeRows.{type_rows}
 use Rattle.m2_base.specs.Statics.Types.{meaning_at, opaque_as, size_by, size_of, stands_as, stands_for}
-use Rattle.m2_base.proofs.ChainLaws.{each_append}
+use Rattle.m2_base.proofs.EachLaws.{each_append}
 use Rattle.m2_base.proofs.ItemLaws.{item_of}
 use Rattle.m2_base.proofs.RowLaws.{place_of-number_of}
 use Rattle.m2_base.proofs.SceneLaws.{with-twice}

@@ -27,10 +27,10 @@ use Rattle.m2_base.specs.Statics.ShapedRows.{AreShaped, none_of, more_of}
 use Rattle.m2_base.specs.Statics.Shapes.{Shape, type_shapes, form_shapes, types_shapes, fields_shapes, field_shapes, arms_shapes, array_shapes, formal_shapes, open_shapes, tag_shapes}
 use Rattle.m2_base.specs.Statics.TypeNames.{type_of_qual}
 use Rattle.m2_base.specs.Statics.Types.{kind_of, size_by, size_of, stands_for}
-use Rattle.m2_base.proofs.ChainLaws.{each_append, each_then}
+use Rattle.m2_base.proofs.EachLaws.{each_append, each_then}
 use Rattle.m2_base.proofs.ShapeLaws.{open_of}
 use Rattle.m2_base.proofs.Sound.{Sound, row_ok}
-use Rattle.m2_base.proofs.SoundParts.{most, capped-most}
+use Rattle.m2_base.proofs.SoundParts.{capped-most}
 use Rattle.m2_base.proofs.SoundTypes.{either, kind_fits}
 use Rattle.row_laws.specs.RowRanges.{IsBelow, IsCopyBelow, IsCopyInRange}
 use Rattle.row_laws.proofs.Agreeing.{Ready, ready-left, ready-right, ready-then}
@@ -57,7 +57,7 @@ size_few {names} {scene} sound t = small_size names (stands_for scene t) (kind_o
 
 -- a variable's offset isn't too great, and its cells are below this one, unless that is one too many
 abbrev pub IsPlaced : (cells : ℕ) → RowMeaning → Type 0
-IsPlaced cells (Var t mode offset) = (offset ≤ most) × (cells ≤ most_cells → IsBelow cells (Var t mode offset))
+IsPlaced cells (Var t mode offset) = (offset ≤ most_cells + 1) × (cells ≤ most_cells → IsBelow cells (Var t mode offset))
 IsPlaced cells other = Unit {0}
 
 abbrev pub ArePlaced : (cells : ℕ) → List Row → Type 0
@@ -197,11 +197,11 @@ named_placed cells c name at m h =
 -- cells after this one, and rows that are placed below them
 pub record Cells (cell next : ℕ) (rows : List Row) : Type 0 where
   pub more : cell ≤ next
-  pub few : next ≤ most
+  pub few : next ≤ most_cells + 1
   pub placed : ArePlaced next rows
 
 -- the cells after a variable of some cells
-after_cells : (cell size : ℕ) → cell ≤ most → cell ≤ capped (cell + size)
+after_cells : (cell size : ℕ) → cell ≤ most_cells + 1 → cell ≤ capped (cell + size)
 after_cells cell size h = omega (arith, h)
 
 -- a cell before the cells after it, unless they are too many
@@ -209,7 +209,7 @@ before_cells : (cell size end : ℕ) → 1 ≤ size → capped (cell + size) ≤
 before_cells cell size end some h few = omega (arith, some, h, few)
 
 module _ (names : ℕ) where
-  pub vars_placed : (idents : List Ident) (c : Context) (t : Place) (cell : ℕ) → Ready names c (var_rows c t cell idents).rows → cell ≤ most
+  pub vars_placed : (idents : List Ident) (c : Context) (t : Place) (cell : ℕ) → Ready names c (var_rows c t cell idents).rows → cell ≤ most_cells + 1
       → Cells cell (var_rows c t cell idents).value (var_rows c t cell idents).rows
   vars_placed [] c t cell ready h = record { more = omega arith; few = h; placed = tt }
   vars_placed (i ∷ idents) c t cell ready h =
@@ -236,8 +236,8 @@ module _ (names : ℕ) where
 
   -- where parameters are placed, of which so many cells are left
   record Left (f : Placing) (left : ℕ) : Type 0 where
-    cell : f.cell ≤ most
-    own : f.own ≤ most
+    cell : f.cell ≤ most_cells + 1
+    own : f.own ≤ most_cells + 1
     room : capped (f.cell + left) ≤ f.own
     copies : Each (IsCopyPlaced f.own) f.copies
 
@@ -264,7 +264,7 @@ module _ (names : ℕ) where
   two_below : (cell left own : ℕ) → capped (cell + (2 + left)) ≤ own → own ≤ most_cells → cell + 1 < own
   two_below cell left own h few = omega (arith, h, few)
 
-  open_copies_placed : (by_ref : Bool) (cell size own : ℕ) → cell ≤ most → size < 2 ^ 32 → (own ≤ most_cells → cell + 1 < own) → Each (IsCopyPlaced own) (open_copies by_ref cell size)
+  open_copies_placed : (by_ref : Bool) (cell size own : ℕ) → cell ≤ most_cells + 1 → size < 2 ^ 32 → (own ≤ most_cells → cell + 1 < own) → Each (IsCopyPlaced own) (open_copies by_ref cell size)
   open_copies_placed true cell size own h k l = tt
   open_copies_placed false cell size own h k l = (((omega (arith, h), k), l), tt)
 
@@ -399,7 +399,7 @@ module _ (names : ℕ) where
 
   -- what the parameters of a heading make in its own scope
   pub record Heads (own : ℕ) (copies : List ParamCopy) (rows : List Row) : Type 0 where
-    pub few : own ≤ most
+    pub few : own ≤ most_cells + 1
     pub placed : ArePlaced own rows
     pub copied : Each (IsCopyPlaced own) copies
 

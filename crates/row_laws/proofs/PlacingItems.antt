@@ -10,7 +10,7 @@ use Rattle.m2_base.specs.declared.trees.declarations.StreamKind.{StreamKind}
 use Rattle.m2_base.specs.Trees.{Decl, const_decl, type_decl, vars_decl, proc_decl, TypeExpr, Import, Section, Heading}
 use Rattle.m2_base.specs.Statics.BlockRows.{declare_block, declare_items, at_item, brought_in, context_of, scene_of, first_cell}
 use Rattle.m2_base.specs.Statics.Blocks.{BlockTree}
-use Rattle.m2_base.specs.Statics.Cells.{capped}
+use Rattle.m2_base.specs.Statics.Cells.{capped, most_cells}
 use Rattle.m2_base.specs.Statics.Contexts.{Context, Source}
 use Rattle.m2_base.specs.Statics.Declarations.{declare}
 use Rattle.m2_base.specs.Statics.Effects.{Effect, BlockEffects}
@@ -21,10 +21,9 @@ use Rattle.m2_base.specs.Statics.NameRows.{var_rows}
 use Rattle.m2_base.specs.Statics.ProcedureRows.{parameter_cells}
 use Rattle.m2_base.specs.Statics.Shapes.{nameless, type_item_shapes, section_shapes, open_shapes}
 use Rattle.m2_base.specs.Statics.TypeRows.{type_rows}
-use Rattle.m2_base.proofs.ChainLaws.{each_append}
+use Rattle.m2_base.proofs.EachLaws.{each_append}
 use Rattle.m2_base.proofs.ItemLaws.{item_of}
 use Rattle.m2_base.proofs.ShapeLaws.{type_of}
-use Rattle.m2_base.proofs.SoundParts.{most}
 use Rattle.row_laws.proofs.Agreeing.{Ready, ready-left, ready-right}
 use Rattle.row_laws.proofs.ImportedRows.{alias_shapes, import_aliases, own_shaped, ready-next}
 use Rattle.row_laws.proofs.Placing.{AreOther, ArePlaced, IsPlaced, IsCopyPlaced, Cells, copies-more, mapped, open_others, others, placed-more, sections_placed, shaped_placed, type_others, type_placed, vars_placed}
@@ -72,12 +71,12 @@ pub record ItemsPlaced (cell : ℕ) (m : Makes BlockEffects) : Type 0 where
 
 -- what a block makes: its rows and what is copied are placed
 pub record Placed (m : Makes BlockEffects) : Type 0 where
-  pub few : m.value.cell ≤ most
+  pub few : m.value.cell ≤ most_cells + 1
   pub placed : ArePlaced m.value.cell m.rows
   pub copied : Each (IsCopyPlaced m.value.cell) m.value.prologue
 
 module _ (names : ℕ) where
-  item_placed : (x : Item) (c : Context) (kind : StreamKind) (cell : ℕ) → IsInner x → Ready names c (declare c kind x cell).rows → cell ≤ most → ItemPlaced cell (declare c kind x cell)
+  item_placed : (x : Item) (c : Context) (kind : StreamKind) (cell : ℕ) → IsInner x → Ready names c (declare c kind x cell).rows → cell ≤ most_cells + 1 → ItemPlaced cell (declare c kind x cell)
   item_placed (heading_item h) c kind cell good ready small = absurd good
   item_placed (import_item None i) c kind cell good ready small =
       record { cells = record { more = omega arith; few = small; placed = shaped_placed cell _ _ (item_of (import_item None i) c kind cell) (refl, tt) }; none = refl }
@@ -119,7 +118,7 @@ module _ (names : ℕ) where
         none = refl;
       }
 
-  items_placed : (items : List Item) (c : Context) (kind : StreamKind) (i cell : ℕ) → Each IsInner items → Ready names c (declare_items c kind i cell items).rows → cell ≤ most
+  items_placed : (items : List Item) (c : Context) (kind : StreamKind) (i cell : ℕ) → Each IsInner items → Ready names c (declare_items c kind i cell items).rows → cell ≤ most_cells + 1
       → ItemsPlaced cell (declare_items c kind i cell items)
   items_placed [] c kind i cell good ready small = record { cells = record { more = omega arith; few = small; placed = tt }; none = refl }
   items_placed (x ∷ items) c kind i cell good ready small =
@@ -151,7 +150,7 @@ module _ (names : ℕ) where
       }
 
   -- with the heading of the block itself, or without one
-  all_placed : (o : Option Heading) (xs ys : List Item) (c : Context) (kind : StreamKind) (cell : ℕ) → Each IsInner (xs ++ ys) → Ready names c (declare_items c kind 0 cell (heading_items o ++ xs ++ ys)).rows → cell ≤ most
+  all_placed : (o : Option Heading) (xs ys : List Item) (c : Context) (kind : StreamKind) (cell : ℕ) → Each IsInner (xs ++ ys) → Ready names c (declare_items c kind 0 cell (heading_items o ++ xs ++ ys)).rows → cell ≤ most_cells + 1
       → Placed (declare_items c kind 0 cell (heading_items o ++ xs ++ ys))
   all_placed None xs ys c kind cell good ready small =
       let all = items_placed (xs ++ ys) c kind 0 cell good ready small in

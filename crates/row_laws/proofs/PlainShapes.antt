@@ -18,7 +18,7 @@ use Rattle.m2_base.specs.Statics.Items.{Item, const_item, decl_item, heading_ite
 use Rattle.m2_base.specs.Statics.Makes.{with_rows}
 use Rattle.m2_base.specs.Statics.ShapedRows.{AreShaped, none_of, more_of}
 use Rattle.m2_base.specs.Statics.Shapes.{Shape, named, nameless, item_shapes, type_shapes, form_shapes, types_shapes, fields_shapes, field_shapes, arms_shapes, array_shapes, formal_shapes, open_shapes, tag_shapes, type_item_shapes, section_shapes, own_section_shapes}
-use Rattle.m2_base.proofs.ChainLaws.{each_append, each_then}
+use Rattle.m2_base.proofs.EachLaws.{each_append, each_then}
 use Rattle.m2_base.proofs.ItemLaws.{item_of}
 use Rattle.m2_base.proofs.SoundTypes.{either}
 use Rattle.row_laws.specs.Sight.{LeadsTo}

@@ -27,7 +27,7 @@ use Rattle.m2_base.specs.Statics.TypeNames.{type_of_qual}
 use Rattle.m2_base.specs.Statics.TypeParts.{Parameter, parameter_of, parameters, parameters_by, result_of_type, rows_between}
 use Rattle.m2_base.specs.Statics.TypeParts as parts
 use Rattle.m2_base.specs.Statics.Types.{kind_of, meaning_at, stands_as, stands_for}
-use Rattle.m2_base.proofs.ChainLaws.{each_append}
+use Rattle.m2_base.proofs.EachLaws.{each_append}
 use Rattle.m2_base.proofs.ItemLaws.{sections_of}
 use Rattle.m2_base.proofs.LayoutLaws.{AreShaped-length}
 use Rattle.m2_base.proofs.RowLaws.{place_of-number_of}

@@ -19,7 +19,7 @@ use Rattle.m2_base.specs.WholeTexts as whole
 use Rattle.m2_base.specs.WholeTexts.{SpellsDefinition, SpellsMain, blocks_after, procedures_from}
 use Rattle.m2_base.specs.declared.token.Token.{Token}
 use Rattle.m2_base.specs.declared.trees.declarations.StreamKind.TheVariants.{Definition, Procedure}
-use Rattle.m2_base.proofs.ChainLaws.{each_append, each_then}
+use Rattle.m2_base.proofs.EachLaws.{each_append, each_then}
 use Rattle.row_laws.specs.TextTrees.{AreOfMain, AreOfTexts, HasTree, IsTreeOf}
 use Rattle.row_laws.specs.UnitBlocks.{HasItsBlocks, HasItsForm, HasItsProcedures}
 use Rattle.row_laws.proofs.Chains.{IsChained, blocks_chained}

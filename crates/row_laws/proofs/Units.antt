@@ -34,7 +34,8 @@ use Rattle.m2_base.specs.Statics.ProcedureTypes.{result_type}
 use Rattle.m2_base.specs.Statics.Types.{meaning_at}
 use Rattle.m2_base.specs.Statics.UnitNotes.{complete_context}
 use Rattle.m2_base.specs.Statics.UnitRows.{rows_from, unit_rows}
-use Rattle.m2_base.proofs.ChainLaws.{chains_down, each_then}
+use Rattle.m2_base.proofs.ChainLaws.{chains_down}
+use Rattle.m2_base.proofs.EachLaws.{each_then}
 use Rattle.m2_base.proofs.LayoutLaws.{block_counted as rows_counted, block_few}
 use Rattle.m2_base.proofs.NoRepeats.{scene_empty, some_is}
 use Rattle.m2_base.proofs.SceneLaws.{own_of, own-with}

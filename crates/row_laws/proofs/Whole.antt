@@ -20,7 +20,6 @@ use Rattle.m2_base.specs.Statics.FormedRows.{AreRight, IsFilled, IsSoundText}
 use Rattle.m2_base.specs.Statics.Ranges.{Range, range, count_of, count_to, cardinal_range, integer_range}
 use Rattle.m2_base.specs.Statics.Types.{is_broken, kind_of, meaning_at, range_by, range_of, stands_for}
 use Rattle.m2_base.proofs.Sound.{Sound, RowOk, IsThere}
-use Rattle.m2_base.proofs.SoundParts.{most}
 use Rattle.row_laws.proofs.Numbers.{IsIndex, Agrees}
 use Rattle.row_laws.specs.RowRanges.{HasOperands, IsIndexRange}
 use Rattle.row_laws.proofs.Fitting.{IsInModule}
@@ -128,7 +127,7 @@ module _ (names : ℕ) (source : Source) (own : Option ℕ) (home : ℕ) (all : 
 
 -- an offset isn't too great
 abbrev pub HasOffset : RowMeaning → Type 0
-HasOffset (Var t mode offset) = offset ≤ most
+HasOffset (Var t mode offset) = offset ≤ most_cells + 1
 HasOffset other = Unit {0}
 
 counted_as : (low high z : ℤ) → high -ℤ low ≡ z → low ≤ℤ high → 1 ≤ count_to z

@@ -15,7 +15,7 @@ use Rattle.m2_base.specs.declared.replies.Reply.TheVariants.{Found, Absent, Dont
 use Rattle.m2_base.specs.Lists.{Each, IsIn}
 use Rattle.m2_base.specs.Tables.{Table, table_at, first_named, one_thread, reply_or, head_of, no_rows}
 use Rattle.m2_base.specs.Scopes.{IsTaken}
-use Rattle.m2_base.proofs.Kept.{Each-append}
+use Rattle.m2_base.proofs.EachLaws.{each_append}
 use Rattle.scope_core.specs.Flights.{reply_of, reply_by, IsFlight, GoesOn, heads_in, cut_table, cut, found_at, IsTrueIn, AreEqual, IsLawfulIn, Flown, next_by, next_of, IsHitOf, IsFlying}
 use Rattle.scope_core.specs.declared.flight.Load.{Load}
 use Rattle.scope_core.proofs.Searching.{hit_at}
@@ -199,7 +199,7 @@ flying_more chain x taken loads reply later l size now next is_hit later_is =
       short = now.short;
       within = omega (arith, below);
       flight = subst (IsFlight chain x) (sym more) (flight_more chain x (take taken loads) l now.flight facts.0 facts.1);
-      hits = subst (Each (λ k. IsHitOf x k.head k.hit)) (sym more) (Each-append (λ k. IsHitOf x k.head k.hit) (take taken loads) (l ∷ []) now.hits (is_hit, tt));
+      hits = subst (Each (λ k. IsHitOf x k.head k.hit)) (sym more) (each_append (λ k. IsHitOf x k.head k.hit) (take taken loads) (l ∷ []) now.hits (is_hit, tt));
       reply_is = later_is
           ∙ ap (λ n. reply_by l.hit l.head (reply_of (drop n chain) [])) (sym same)
           ∙ sym (reply_more chain (take taken loads) l l.head.scope facts.0 facts.1)

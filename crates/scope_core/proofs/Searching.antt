@@ -1,6 +1,8 @@
 -- what a search in tables that nobody else changes shows
-use Rattle.std.proofs.Common.{◌≡◌, ℕ, ◌≤◌, ◌+◌, Bool, true, false, ◌==◌, List, [], ◌∷◌, ◌++◌, Option, Some, None, length, refl, sym, ap, subst, arith, ◌⊎◌, inl, inr, suc, zero, if◌then◌else◌}
+use Rattle.std.proofs.Common.{◌≡◌, ℕ, ◌≤◌, ◌+◌, Bool, true, false, ◌==◌, List, [], ◌∷◌, ◌++◌, Option, Some, None, length, refl, sym, ap, ◌∙◌, subst, arith, ⊎_elim, ◌⊎◌, inl, inr, suc, zero, if◌then◌else◌}
 use Rattle.std.specs.List.{slice_get}
+use Rattle.std.specs.Prelude.{nat_lt, ◌||◌}
+use Rattle.std.proofs.lemmas.Bool.{ltb-false, ltb-true, or_cases, or_parts}
 use Rattle.std.proofs.lemmas.Option.{slice_get_within}
 use Rattle.std.proofs.lemmas.Grind.{common_steps}
 use Rattle.m2_base.specs.declared.rows.Row.{Row}
@@ -13,11 +15,13 @@ use Rattle.m2_base.specs.declared.replies.Ask.TheVariants.{Known, DontKnowYet as
 use Rattle.m2_base.specs.Finished.{WhereFinished}
 use Rattle.m2_base.specs.Rows.{at_place}
 use Rattle.m2_base.specs.Lists.{Each}
-use Rattle.m2_base.specs.Tables.{table_at, rows_at, head_of, fetched_or, first_named, one_thread, one_thread_row, reply_or, Lacks}
-use Rattle.m2_base.specs.Scopes.{IsLoaded, IsTaken, EndsAt, IsShown, StopsAt, Replied, Searched, Fetches, Fetched}
+use Rattle.m2_base.specs.Keys.{field_before, field_in, one_thread_field}
+use Rattle.m2_base.specs.Tables.{Table, table_at, rows_at, head_of, fetched_or, first_named, one_thread, one_thread_row, reply_or, Lacks}
+use Rattle.m2_base.specs.Scopes.{IsLoaded, IsTaken, EndsAt, IsShown, StopsAt, Replied, Searched, Fetches, Fetched, Selects, Selected}
+use Rattle.m2_base.proofs.KeyLaws.{field_front, field_hit}
 use Rattle.m2_base.proofs.Kept.{IsLater-refl, Keeps-refl}
 use Rattle.scope_core.specs.Heads.{heads_of, heads_after}
-use Rattle.scope_core.specs.PlainScopes.{Plain, state_of, IsSoundly}
+use Rattle.scope_core.specs.PlainScopes.{IsBegun, IsSoundly, Plain, state_of}
 use Rattle.scope_core.proofs.Settling.{one_thread_settles, lawful_heads}
 use Rattle.scope_core.proofs.Filling.{put_back}
 
@@ -177,4 +181,54 @@ fetched p q answer sound is =
       elsewhere = λ s other. refl;
       says = fetches p q (slice_get (table_at p.tables q.scope).rows q.ordinal) sound refl;
       alone = ap (λ t. one_thread_row t q) (sym (put_back p.tables p.fills));
+    })
+
+-- the fields before a row that a table has, or behind all, are those of all its rows
+pub same_fields : (t : Table) (full : List Row) (own x : ℕ) → (t.complete || nat_lt own (length t.rows)) ≡ true → IsBegun t full → field_before full own x ≡ field_before t.rows own x
+same_fields t full own x counts begun =
+    ⊎_elim (λ (done : t.complete ≡ true). ap (λ (rows : List Row). field_before rows own x) (sym (begun.whole done)))
+    (λ (less : nat_lt own (length t.rows) ≡ true). let l = ltb-true own (length t.rows) less in field_front t.rows full own x begun.first (omega (arith, l)))
+    (or_cases t.complete (nat_lt own (length t.rows)) counts)
+
+module _ (p : Plain) (q : Place) (x : ℕ) (sound : IsSoundly p) where
+  abbrev there : Table
+  there = table_at p.tables q.scope
+
+  abbrev counts : Bool
+  counts = there.complete || nat_lt q.ordinal (length there.rows)
+
+  selects_known : counts ≡ true → (o : Option (ℕ × Row)) → field_before there.rows q.ordinal x ≡ o → Selects (state_of p) (state_of p) q x (Known o)
+  selects_known all (Some hit) e =
+      let f = field_hit there.rows q.ordinal x hit e in
+      record {
+        before = f.0;
+        keyed = f.2;
+        shown = shown_at p q.scope hit.0 hit.1 sound f.1;
+        own = λ same. subst (λ j. field_before (table_at p.tables j).rows q.ordinal x ≡ Some hit) same e;
+        told = λ finished told. same_fields there (rows_at finished q.scope) q.ordinal x all (sound.told finished told q.scope) ∙ e;
+      }
+  selects_known all None e =
+      record {
+        own = λ same. subst (λ j. field_before (table_at p.tables j).rows q.ordinal x ≡ None) same e;
+        told = λ finished told. same_fields there (rows_at finished q.scope) q.ordinal x all (sound.told finished told q.scope) ∙ e;
+      }
+
+  selects : Selects (state_of p) (state_of p) q x (field_in there q x)
+  selects = go counts refl
+    where
+      go : (b : Bool) → counts ≡ b → Selects (state_of p) (state_of p) q x (if b then Known (field_before there.rows q.ordinal x) else Waiting (head_of q.scope there))
+      go true all = selects_known all (field_before there.rows q.ordinal x) refl
+      go false none =
+          let parts = or_parts there.complete (nat_lt q.ordinal (length there.rows)) none in
+          record { on = refl; short = ltb-false q.ordinal (length there.rows) parts.1; stops = stops_at p q.scope parts.0 }
+
+-- a selection
+pub selected : (p : Plain) (q : Place) (x : ℕ) (answer : Ask (Option (ℕ × Row))) → IsSoundly p → answer ≡ one_thread_field p.tables q x → Selected (state_of p) (state_of p) q x answer
+selected p q x answer sound is =
+    subst (Selected (state_of p) (state_of p) q x) (sym is)
+    (record {
+      keeps = Keeps-refl _;
+      elsewhere = λ s other. refl;
+      says = selects p q x sound;
+      alone = ap (λ t. one_thread_field t q x) (sym (put_back p.tables p.fills));
     })

@@ -2,16 +2,18 @@
 use Rattle.std.specs.Prelude.{◌≡◌, ℕ, true, List, ◌++◌, Option, map, slice_set}
 use Rattle.std.specs.Option.{option_map}
 use Rattle.m2_base.specs.declared.rows.Row.{Row}
-use Rattle.m2_base.specs.Tables.{Table, table_at, first_named}
+use Rattle.m2_base.specs.declared.rows.RowKey.{RowKey}
+use Rattle.m2_base.specs.Keys.{first_keyed}
+use Rattle.m2_base.specs.Tables.{Table, table_at}
 
 -- a scope's table, and for how many rows there is room
 pub record TableWithRoom : Type 0 where
   pub table : Table
   pub room : ℕ
 
--- each name leads to the ordinal of its first row
-abbrev pub IsIndexOf : (ℕ → Option ℕ) → List Row → Type 0
-IsIndexOf index rows = (name : ℕ) → index name ≡ option_map (λ hit. hit.0) (first_named name rows 0)
+-- each key leads to the ordinal of its first row
+abbrev pub IsIndexOf : (RowKey → Option ℕ) → List Row → Type 0
+IsIndexOf index rows = (key : RowKey) → index key ≡ option_map (λ hit. hit.0) (first_keyed key rows 0)
 
 abbrev pub tables_in : List TableWithRoom → List Table
 tables_in kept = map (λ k. k.table) kept

@@ -1,8 +1,10 @@
 //! What the code keeps of each scope.
-ghost use Rattle.std.specs.Prelude.{◌≡◌, ℕ, ◌+◌, ◌-◌, ◌<◌, ◌≤◌, ◌^◌, ◌==◌, [], ◌∷◌, length, nat_eq, slice_get, slice_index, OnOk, OnErr, IsOk, IfOk, replicate, if◌then◌else◌};
+ghost use Rattle.std.specs.Prelude.{◌≡◌, ℕ, ◌+◌, ◌-◌, ◌<◌, ◌≤◌, ◌≢◌, ◌^◌, [], ◌∷◌, length, nat_lt, slice_get, slice_index, OnOk, OnErr, IsOk, IfOk, replicate, if◌then◌else◌};
 ghost use Rattle.std.specs.Option.{option_or};
 ghost use Rattle.indexmap.specs.IndexMap.{get, spare};
+ghost use Rattle.m2_base.specs.Keys.{field_before, first_keyed, is_keyed, is_same_key, one_thread_field};
 ghost use Rattle.m2_base.specs.Lists.{Each};
+ghost use Rattle.m2_base.specs.declared.rows.RowKey.{RowKey as Key};
 ghost use Rattle.m2_base.specs.Tables.{first_named, head_of, one_thread, table_at, no_rows};
 ghost use Rattle.m2_base.specs.Standard.{standard_rows as spec_rows};
 ghost use Rattle.scope_core.specs.PlainScopes.{first_tables};
@@ -10,7 +12,7 @@ ghost use Rattle.m2_base.specs.Tables.{one_thread_row};
 ghost use Rattle.scope_core.specs.Kept.{tables_in, rooms_in, longer, marked, with_rows, completed};
 
 use indexmap::IndexMap;
-use m2_base::{Ask, Head, Memory, Place, Reply, Row, standard_rows};
+use m2_base::{Ask, Head, Memory, Place, Reply, Row, RowKey, row_key, standard_rows};
 use std::alloc::{AllocError, Global};
 use std::marker::Model;
 
@@ -19,20 +21,21 @@ use std::marker::Model;
 pub struct Kept {
     rows: Vec<Row>,
     complete: bool,
-    /// The ordinal of the first row of each name.
-    index: IndexMap<u32, u32>,
+    /// The ordinal of the first row of each key.
+    index: IndexMap<RowKey, u32>,
 }
 
 impl Model for Kept {
-    ghost use Rattle.std.specs.Prelude.{◌+◌, length, min, nat_eq, vec_capacity};
+    ghost use Rattle.std.specs.Prelude.{◌+◌, length, min, vec_capacity};
     ghost use Rattle.indexmap.specs.IndexMap.{get, spare};
+    ghost use Rattle.m2_base.specs.Keys.{is_same_key};
     ghost use Rattle.scope_core.specs.Kept.{TableWithRoom, IsIndexOf};
 
     ghost Value = { TableWithRoom };
 
     ghost view = { λ k. record { table = record { rows = k.rows.items; complete = k.complete }; room = min (vec_capacity k.rows) (length k.rows.items + spare k.index) } };
 
-    ghost invariant = { λ k. IsIndexOf (get nat_eq k.index) k.rows.items };
+    ghost invariant = { λ k. IsIndexOf (get is_same_key k.index) k.rows.items };
 }
 
 impl Kept {
@@ -76,12 +79,39 @@ impl Kept {
         self.rows.get(ordinal as usize).copied()
     }
 
+    /// The first row of a key, with its ordinal.
+    fn first_keyed(&self, key: RowKey) -> Option<(u32, Row)>
+        ensures { result ≡ first_keyed key self.now.table.rows 0 }
+    {
+        let ordinal = ordinal_of(&self.index, key)?;
+        Some((ordinal, self.rows[ordinal as usize]))
+    }
+
     /// The first row under a name, with its ordinal.
     fn first_named(&self, name: u32) -> Option<(u32, Row)>
+        requires { name ≢ 0 }
         ensures { result ≡ first_named name self.now.table.rows 0 }
     {
-        let ordinal = self.index.get(&name).copied()?;
-        Some((ordinal, self.rows[ordinal as usize]))
+        self.first_keyed(RowKey::Name(name))
+    }
+
+    /// Whether it has a row of this ordinal.
+    fn has_row(&self, ordinal: u32) -> bool
+        ensures { result ≡ nat_lt ordinal (length self.now.table.rows) }
+    {
+        (ordinal as usize) < self.rows.len()
+    }
+
+    /// The first field of this name before the row of its record, which has this ordinal.
+    fn field(&self, own: u32, name: u32) -> Option<(u32, Row)>
+        ensures { result ≡ field_before self.now.table.rows own name }
+    {
+        let (ordinal, row) = self.first_keyed(RowKey::Member(own as u64, name as u64))?;
+        if ordinal < own {
+            Some((ordinal, row))
+        } else {
+            None
+        }
     }
 
     /// Makes room for so many more rows.
@@ -104,7 +134,7 @@ impl Kept {
     {
         let ordinal = self.rows.len() as u32;
         self.rows.push(row).unwrap();
-        note_first(&mut self.index, row.name, ordinal);
+        note_first(&mut self.index, row_key(&row), ordinal);
     }
 
     /// Adds rows. Where memory runs out, it adds none.
@@ -131,14 +161,33 @@ impl Kept {
     }
 }
 
-/// Puts an ordinal under a name that has none yet.
-fn note_first(index: &mut IndexMap<u32, u32>, name: u32, ordinal: u32)
+/// What stands under a key.
+fn ordinal_of(index: &IndexMap<RowKey, u32>, key: RowKey) -> Option<u32>
+    ensures { result ≡ get is_same_key index.now key }
+{
+    index.get(&key).copied()
+}
+
+/// Puts an ordinal under a key.
+fn put_ordinal(index: &mut IndexMap<RowKey, u32>, key: RowKey, ordinal: u32)
     requires { 0 < spare index.old }
-    ensures noted { (x : ℕ) → get nat_eq index.new x ≡ option_or (get nat_eq index.old x) (if name == x then Some ordinal else None) }
+    ensures put { (k : Key) → get is_same_key index.new k ≡ (if is_same_key key k then Some ordinal else get is_same_key index.old k) }
     ensures room { spare index.old ≤ spare index.new + 1 }
 {
-    if !index.contains_key(&name) {
-        index.insert(name, ordinal).unwrap();
+    index.insert(key, ordinal).unwrap();
+}
+
+/// Puts an ordinal under a key that has none yet.
+fn note_first(index: &mut IndexMap<RowKey, u32>, key: Option<RowKey>, ordinal: u32)
+    requires { 0 < spare index.old }
+    ensures noted { (k : Key) → get is_same_key index.new k ≡ option_or (get is_same_key index.old k) (if is_keyed k key then Some ordinal else None) }
+    ensures room { spare index.old ≤ spare index.new + 1 }
+{
+    let Some(key) = key else {
+        return;
+    };
+    if ordinal_of(index, key).is_none() {
+        put_ordinal(index, key, ordinal);
     }
 }
 
@@ -181,6 +230,7 @@ pub fn standard_tables(alloc: Global, sizes: &[u32]) -> Result<Vec<Kept>, Memory
 /// What one thread answers.
 pub fn reply_in(kept: &[Kept], chain: &[u32], name: u32) -> Reply
     requires exist { Each (λ s. s < length kept.now) chain.now }
+    requires named { name ≢ 0 }
     requires fit { (s : ℕ) → length (table_at (tables_in kept.now) s).rows < 2 ^ 32 }
     ensures { result ≡ one_thread (tables_in kept.now) chain.now name }
 {
@@ -234,5 +284,19 @@ pub fn row_in(kept: &[Kept], place: Place) -> Ask<Option<Row>>
                 Ask::DontKnowYet(table.head(place.scope))
             }
         }
+    }
+}
+
+/// The field of this name of the record at a place.
+pub fn field_in(kept: &[Kept], of: Place, name: u32) -> Ask<Option<(u32, Row)>>
+    requires exist { of.scope < length kept.now }
+    requires fit { (s : ℕ) → length (table_at (tables_in kept.now) s).rows < 2 ^ 32 }
+    ensures { result ≡ one_thread_field (tables_in kept.now) of name }
+{
+    let table = &kept[of.scope as usize];
+    if table.is_complete() || table.has_row(of.ordinal) {
+        Ask::Known(table.field(of.ordinal, name))
+    } else {
+        Ask::DontKnowYet(table.head(of.scope))
     }
 }

@@ -1,5 +1,6 @@
 //! The Scopes of one thread.
-ghost use Rattle.std.specs.Prelude.{◌≡◌, ◌<◌, ◌≤◌, ◌^◌, length, slice_get, Some, IfOk};
+ghost use Rattle.std.specs.Prelude.{◌≡◌, ◌≢◌, ◌<◌, ◌≤◌, ◌^◌, length, slice_get, Some, IfOk};
+ghost use Rattle.m2_base.specs.Keys.{one_thread_field};
 ghost use Rattle.m2_base.specs.Lists.{Each, HasNoRepeats};
 ghost use Rattle.m2_base.specs.Scopes.{CanEnter, CanComplete};
 ghost use Rattle.m2_base.specs.States.{IsSound, areas_of, fills_of};
@@ -8,7 +9,7 @@ ghost use Rattle.scope_core.specs.Fronts.{ShowsFront};
 ghost use Rattle.m2_base.specs.Tables.{one_thread_row};
 ghost use Rattle.scope_core.specs.PlainScopes.{state_of, filled, closed, moved, started, IsSoundly};
 
-use crate::kept::{Kept, add_rows, close, reply_in, row_in, standard_tables};
+use crate::kept::{Kept, add_rows, close, field_in, reply_in, row_in, standard_tables};
 use m2_base::{Ask, Memory, Place, Reply, Row, Scopes, Texts};
 use std::alloc::Global;
 use std::marker::Model;
@@ -75,7 +76,8 @@ impl<'u> PlainScopes<'u> {
     }
 
     fn reply(&self, chain: &[u32], name: u32) -> Reply
-        requires { Each (λ s. s < length self.now.areas) chain.now }
+        requires exist { Each (λ s. s < length self.now.areas) chain.now }
+        requires named { name ≢ 0 }
         ensures sound { IsSoundly self.now }
         ensures reply { result ≡ one_thread self.now.tables chain.now name }
     {
@@ -88,6 +90,14 @@ impl<'u> PlainScopes<'u> {
         ensures row { result ≡ one_thread_row self.now.tables place }
     {
         row_in(&self.tables, place)
+    }
+
+    fn field(&self, of: Place, name: u32) -> Ask<Option<(u32, Row)>>
+        requires { of.scope < length self.now.areas }
+        ensures sound { IsSoundly self.now }
+        ensures field { result ≡ one_thread_field self.now.tables of name }
+    {
+        field_in(&self.tables, of, name)
     }
 
     fn put(&mut self, rows: &[Row])
@@ -118,6 +128,10 @@ impl<'u> Scopes for PlainScopes<'u> {
 
     fn fetch(&mut self, _at: u32, place: Place) -> Ask<Option<Row>> {
         self.row(place)
+    }
+
+    fn select(&mut self, of: Place, name: u32) -> Ask<Option<(u32, Row)>> {
+        self.field(of, name)
     }
 
     fn enter(&mut self, rows: &[Row]) {

@@ -8,8 +8,9 @@ use Rattle.m2_base.specs.declared.rows.Row.{Row}
 use Rattle.scope_table.specs.declared.view.Shown.{Shown}
 use Rattle.scope_table.specs.declared.view.About.{About}
 use Rattle.scope_table.specs.declared.view.View.{View}
-use Rattle.scope_table.specs.Cells.{probe, IsIndexed, HasOneEach, HasNoCell, Stays}
-use Rattle.scope_table.specs.Rows.{rows_at, words_at, name_of}
+use Rattle.m2_base.specs.declared.rows.RowKey.{RowKey}
+use Rattle.scope_table.specs.Cells.{probe, seed, IsHidden, IsIndexed, IsPassed, HasOneEach, HasNoCell, Stays}
+use Rattle.scope_table.specs.Rows.{rows_at, words_at}
 use Rattle.scope_table.specs.Rule.{base, mid, width, scopes, is_odd, table_at, nothing, shown_at, IsBefore, IsGood, AreFormed, Fills, Knows, IsLaid, IsKept, IsSeated}
 use Rattle.scope_table.proofs.Rows.{length-rows_at, rows_at-same, get_or-words_at, words_at-set}
 use Rattle.scope_table.specs.Plays.{Sat, cell_loaded, marked, marks, cell_put}
@@ -53,9 +54,20 @@ set-past (y ∷ cs) (suc c) x h = ap (λ (l : List ℕ). y ∷ l) (set-past cs c
 pub stays_set : (cs : List ℕ) (c x : ℕ) → get_or cs c 0 ≡ 0 → Stays cs (set cs c x)
 stays_set cs c x e d n = get_or-set_other cs c d x 0 (λ q. n (ap (λ (z : ℕ). get_or cs z 0) q ∙ e))
 
+passed_stays : (k : RowKey) (rows : List Row) (cs ds : List ℕ) (c : ℕ) → Stays cs ds → IsPassed k rows cs c → IsPassed k rows ds c
+passed_stays k rows cs ds c st p = record {
+  some = λ z. p.some (sym (st c p.some) ∙ z);
+  other = λ i l e. p.other i l (sym (st c p.some) ∙ e);
+}
+
+-- what hides a row with more cells hides it without
+pub hidden_stays : (w : ℕ) (k : RowKey) (i : ℕ) (rows : List Row) (cs ds : List ℕ) → Stays cs ds → IsHidden w rows ds k i → IsHidden w rows cs k i
+hidden_stays w k i rows cs ds st hid d ld e run =
+    let p : ℕ = probe w (seed k) d in
+    hid d ld (st p (λ z. absurd (omega (arith, e, z))) ∙ e) (λ q lq. passed_stays k rows cs ds (probe w (seed k) q) st (run q lq))
+
 pub indexed_stays : (w : ℕ) (rows : List Row) (cs ds : List ℕ) → Stays cs ds → IsIndexed w rows cs → IsIndexed w rows ds
-indexed_stays w rows cs ds st ix i lt named hid = ix i lt named
-    (λ d ld e run. let x : ℕ = name_of rows i in hid d ld (st (probe w x d) (λ z. absurd (omega arith)) ∙ e) (λ q lq z. run q lq (dite (ℕ_discrete (get_or cs (probe w x q) 0) 0) (λ y. y) (λ n. sym (st (probe w x q) n) ∙ z))))
+indexed_stays w rows cs ds st ix k i first hid = ix k i first (hidden_stays w k i rows cs ds st hid)
 
 -- one more cell, whose ordinal has none
 one_set : (cs : List ℕ) (c o : ℕ) → HasOneEach cs → get_or cs c 0 ≡ 0 → HasNoCell cs o → HasOneEach (set cs c (o + 1))

@@ -109,7 +109,7 @@ good_empty a j room after = record {
     begun = λ finished told. refl;
     whole = λ c. absurd (true≢false (sym c));
   };
-  index = λ i l. absurd (omega arith);
+  index = λ k i f. let w = f.within in absurd (omega (arith, w));
   one = λ c d n. absurd (n (zeros (width a j) c));
   ordinals = λ c. let z = zeros (width a j) c in omega arith;
 }

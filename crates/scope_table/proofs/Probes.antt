@@ -1,53 +1,124 @@
 -- Rows that are put with their cells.
-use Rattle.std.proofs.Common.{◌-◌, ◌/◌, ◌%◌, ◌≤◌, ◌≡◌, ◌≢◌, ℕ, zero, suc, refl, ◌+◌, ◌*◌, ◌<◌, List, [], ◌∷◌, ◌++◌, length, get_or, set, sym, ap, ◌∙◌, subst, ⊎_elim, arith, length-append, get_or-set_same, get_or-set_other}
+use Rattle.std.proofs.Common.{◌-◌, ◌/◌, ◌%◌, ◌≤◌, ◌≡◌, ◌≢◌, ℕ, zero, suc, refl, ◌+◌, ◌*◌, ◌<◌, List, [], ◌∷◌, ◌++◌, Some, None, length, get_or, set, sym, ap, ◌∙◌, subst, ⊎_elim, arith, length-append, get_or-set_same, get_or-set_other}
 use lib.ListN.{get_or-append}
 use lib.Seq.{get_or-append_seam}
 use Rattle.std.proofs.Math.Nat.{mod-lt, mod-eq_of_lt, add-mod_right, mod-add-div, mul-add-mod_self_left}
 use mathlib.Core.Logic.{dite, ◌⊎◌, inl, inr}
 use native.Mathlib.Decide.{ℕ_discrete, dec_le}
 use Rattle.m2_base.specs.declared.rows.Row.{Row}
-use Rattle.scope_table.specs.Cells.{home, probe, IsHidden, IsIndexed, HasOneEach, IsFirstEmpty, IsFull}
-use Rattle.scope_table.specs.Rows.{words_of, blank, name_of, rows_of}
-use Rattle.scope_table.specs.Rule.{shown_at, nothing}
+use Rattle.m2_base.specs.Keys.{row_key}
+use Rattle.m2_base.specs.declared.rows.RowKey.{RowKey}
+use Rattle.m2_base.proofs.NoRepeats.{some_is}
+use Rattle.scope_table.specs.Cells.{home, probe, seed, HasNoCell, HasOneEach, IsAmong, IsFirstEmpty, IsFirstOf, IsFull, IsHidden, IsIndexed, IsPassed, Stays}
+use Rattle.scope_table.specs.Rows.{words_of, blank, row_of, rows_of}
+use Rattle.scope_table.specs.Rule.{shown_at, nothing, Begins}
 use Rattle.scope_table.specs.declared.view.Shown.{Shown}
 use Rattle.scope_table.specs.declared.view.View.{View}
 use Rattle.scope_table.specs.Plays.{puts, grown, marked, marks, HasPut}
-use Rattle.scope_table.proofs.Cells.{stays_set, indexed_stays}
+use Rattle.scope_table.proofs.Cells.{hidden_stays, stays_set}
 
-name-before : (rows : List Row) (row : Row) (i : ℕ) → i < length rows → name_of (rows ++ row ∷ []) i ≡ name_of rows i
-name-before rows row i l = ap (λ (r : Row). r.name) (get_or-append rows (row ∷ []) blank i l)
+row-before : (rows : List Row) (row : Row) (i : ℕ) → i < length rows → row_of (rows ++ row ∷ []) i ≡ row_of rows i
+row-before rows row i l = get_or-append rows (row ∷ []) blank i l
 
-pub name-last : (rows : List Row) (row : Row) → name_of (rows ++ row ∷ []) (length rows) ≡ row.name
-name-last rows row = ap (λ (r : Row). r.name) (get_or-append_seam rows row [] blank)
+pub row-last : (rows : List Row) (row : Row) → row_of (rows ++ row ∷ []) (length rows) ≡ row
+row-last rows row = get_or-append_seam rows row [] blank
 
--- a row more, whose ordinal goes into the first empty cell from its home
-pub indexed_put : (w m : ℕ) (rows : List Row) (row : Row) (cs : List ℕ) → IsIndexed w rows cs → m < w → probe w row.name m < length cs → get_or cs (probe w row.name m) 0 ≡ 0 → ((e : ℕ) → e < m → get_or cs (probe w row.name e) 0 ≢ 0)
-    → IsIndexed w (rows ++ row ∷ []) (set cs (probe w row.name m) (length rows + 1))
-indexed_put w m rows row cs ix lm inside empty run i l named =
-    let c : ℕ = probe w row.name m in let ds : List ℕ = set cs c (length rows + 1) in let len : length (rows ++ row ∷ []) ≡ length rows + 1 = length-append rows (row ∷ []) in dite (ℕ_discrete i (length rows))
-    (λ e. let same : row.name ≡ name_of (rows ++ row ∷ []) i = sym (ap (λ (k : ℕ). name_of (rows ++ row ∷ []) k) e ∙ name-last rows row) in
-    subst (λ (y : ℕ). ¬ IsHidden w ds y i) same (λ hid. hid m lm (get_or-set_same cs c (length rows + 1) 0 inside ∙ ap (λ (k : ℕ). k + 1) (sym e))
-    (λ q lq z. run q lq (dite (ℕ_discrete (get_or cs (probe w row.name q) 0) 0) (λ y. y) (λ n. sym (stays_set cs c (length rows + 1) empty (probe w row.name q) n) ∙ z)))))
-    (λ n. let same : name_of rows i ≡ name_of (rows ++ row ∷ []) i = sym (name-before rows row i (omega arith)) in
-    subst (λ (y : ℕ). ¬ IsHidden w ds y i) same (indexed_stays w rows cs ds (stays_set cs c (length rows + 1) empty) ix i (omega arith) (λ z. named (sym same ∙ z))))
+-- ** A row more
 
--- a row more that has no name
-pub indexed_nameless : (w : ℕ) (rows : List Row) (row : Row) (cs : List ℕ) → IsIndexed w rows cs → row.name ≡ 0 → IsIndexed w (rows ++ row ∷ []) cs
-indexed_nameless w rows row cs ix none i l named =
-    let len : length (rows ++ row ∷ []) ≡ length rows + 1 = length-append rows (row ∷ []) in dite (ℕ_discrete i (length rows))
-    (λ e. absurd (named (ap (λ (k : ℕ). name_of (rows ++ row ∷ []) k) e ∙ (name-last rows row ∙ none))))
-    (λ n. let same : name_of rows i ≡ name_of (rows ++ row ∷ []) i = sym (name-before rows row i (omega arith)) in subst (λ (y : ℕ). ¬ IsHidden w cs y i) same (ix i (omega arith) (λ z. named (sym same ∙ z))))
+module _ (rows : List Row) (row : Row) where
+  abbrev all : List Row
+  all = rows ++ row ∷ []
+
+  -- the first of a key is so among fewer rows
+  first_stays : (k : RowKey) (i : ℕ) → IsFirstOf k all i → i ≢ length rows → IsFirstOf k rows i
+  first_stays k i f n =
+      let len : length all ≡ length rows + 1 = length-append rows (row ∷ []) in
+      let l : i < length rows = (let w = f.within in omega (arith, len, w, n)) in record {
+        within = l;
+        keyed = ap row_key (sym (row-before rows row i l)) ∙ f.keyed;
+        before = λ j lj e. f.before j lj (ap row_key (row-before rows row j (omega (arith, lj, l))) ∙ e);
+      }
+
+  module _ (w : ℕ) (cs : List ℕ) (new : HasNoCell cs (length rows)) where
+    passed_more : (k : RowKey) (c : ℕ) → IsPassed k rows cs c → IsPassed k all cs c
+    passed_more k c p = record {
+      some = p.some;
+      other = λ i l e.
+          let len : length all ≡ length rows + 1 = length-append rows (row ∷ []) in
+          dite (ℕ_discrete i (length rows)) (λ same. absurd (new c (e ∙ ap (λ (z : ℕ). z + 1) same)))
+          (λ n. let less : i < length rows = omega (arith, len, l, n) in λ key. p.other i less e (ap row_key (sym (row-before rows row i less)) ∙ key));
+    }
+
+    -- what hides a row among more rows hides it among fewer
+    hidden_more : (k : RowKey) (i : ℕ) → IsHidden w all cs k i → IsHidden w rows cs k i
+    hidden_more k i hid d ld e run = hid d ld e (λ q lq. passed_more k (probe w (seed k) q) (run q lq))
+
+    -- the row isn't the first of any key
+    pub indexed_more : IsIndexed w rows cs → ((k : RowKey) → IsFirstOf k all (length rows) → ⊥) → IsIndexed w all cs
+    indexed_more ix none k i f hid = dite (ℕ_discrete i (length rows))
+        (λ same. none k (subst (IsFirstOf k all) same f))
+        (λ n. ix k i (first_stays k i f n) (hidden_more k i hid))
+
+    -- its ordinal goes into the first empty cell from its home
+    module _ (m : ℕ) (key : RowKey) (keyed : row_key row ≡ Some key) (empty : get_or cs (probe w (seed key) m) 0 ≡ 0) (run : (e : ℕ) → e < m → get_or cs (probe w (seed key) e) 0 ≢ 0) where
+      abbrev marked_cells : List ℕ
+      marked_cells = set cs (probe w (seed key) m) (length rows + 1)
+
+      stays : Stays cs marked_cells
+      stays = stays_set cs (probe w (seed key) m) (length rows + 1) empty
+
+      passes : IsFirstOf key all (length rows) → (q : ℕ) → q < m → IsPassed key all marked_cells (probe w (seed key) q)
+      passes first q lq =
+          let there : get_or marked_cells (probe w (seed key) q) 0 ≡ get_or cs (probe w (seed key) q) 0 = stays (probe w (seed key) q) (run q lq) in record {
+            some = λ z. run q lq (sym there ∙ z);
+            other = λ j l e.
+                let len : length all ≡ length rows + 1 = length-append rows (row ∷ []) in
+                dite (ℕ_discrete j (length rows)) (λ same. absurd (new (probe w (seed key) q) (sym there ∙ e ∙ ap (λ (z : ℕ). z + 1) same)))
+                (λ n. first.before j (omega (arith, len, l, n)));
+          }
+
+      found_there : m < w → probe w (seed key) m < length cs → (k : RowKey) → IsFirstOf k all (length rows) → IsHidden w all marked_cells k (length rows) → ⊥
+      found_there lm inside k first hidden =
+          let same : k ≡ key = some_is k key (sym first.keyed ∙ ap row_key (row-last rows row) ∙ keyed) in
+          subst (λ (z : RowKey). IsHidden w all marked_cells z (length rows)) same hidden m lm (get_or-set_same cs (probe w (seed key) m) (length rows + 1) 0 inside)
+          (passes (subst (λ (z : RowKey). IsFirstOf z all (length rows)) same first))
+
+      pub indexed_put : IsIndexed w rows cs → m < w → probe w (seed key) m < length cs → IsIndexed w all marked_cells
+      indexed_put ix lm inside k i f hid = dite (ℕ_discrete i (length rows))
+          (λ same. found_there lm inside k (subst (IsFirstOf k all) same f) (subst (IsHidden w all marked_cells k) same hid))
+          (λ n. ix k i (first_stays k i f n) (hidden_more k i (hidden_stays w k i all cs marked_cells stays hid)))
+
+-- a row without a key is the first of none
+pub no_key : (rows : List Row) (row : Row) → row_key row ≡ None → (k : RowKey) → IsFirstOf k (rows ++ row ∷ []) (length rows) → ⊥
+no_key rows row none k f = let e : None ≡ Some k = sym none ∙ ap row_key (sym (row-last rows row)) ∙ f.keyed in cc
+
+get_or-behind : (xs ys : List Row) (k : ℕ) → row_of (xs ++ ys) (length xs + k) ≡ row_of ys k
+get_or-behind [] ys k = ap (row_of ys) (omega arith)
+get_or-behind (x ∷ xs) ys k = ap (row_of (x ∷ (xs ++ ys))) (let e : suc (length xs) + k ≡ suc (length xs + k) = omega arith in e) ∙ get_or-behind xs ys k
+
+-- a row whose key is that of one that was put before isn't the first
+pub second_key : (shown put before : List Row) (row : Row) (key : RowKey) → Begins before put → IsAmong key before → row_key row ≡ Some key → (k : RowKey) → IsFirstOf k ((shown ++ put) ++ row ∷ []) (length (shown ++ put)) → ⊥
+second_key shown put before row key front among keyed k f =
+    let j : ℕ = among.0 in
+    let less : j < length put = (let e : length before + length front.0 ≡ length put = sym (length-append before front.0) ∙ ap length front.1 in let l = among.1 in omega (arith, e, l)) in
+    let within : length shown + j < length (shown ++ put) = (let e = length-append shown put in omega (arith, e, less)) in
+    let row_is : row_of ((shown ++ put) ++ row ∷ []) (length shown + j) ≡ row_of before j =
+    row-before (shown ++ put) row (length shown + j) within ∙ get_or-behind shown put j
+    ∙ ap (λ (rows : List Row). row_of rows j) (sym front.1) ∙ get_or-append before front.0 blank j among.1 in
+    let same : k ≡ key = some_is k key (sym f.keyed ∙ ap row_key (row-last (shown ++ put) row) ∙ keyed) in
+    f.before (length shown + j) within (ap row_key row_is ∙ among.2 ∙ ap (λ (z : RowKey). Some z) (sym same))
 
 -- the index of a scope with a row more, and its cell
-pub named_put : (u : View) (j c w : ℕ) (rows : List Row) (row : Row) → (grown u j).rows ≡ rows ++ row ∷ [] → j < length u.seen → length (shown_at u j).cells ≡ w → IsIndexed w rows (shown_at u j).cells → IsFirstEmpty w row.name c (shown_at u j).cells → 0 < w
+pub keyed_put : (u : View) (j c w : ℕ) (rows : List Row) (row : Row) (key : RowKey) → (grown u j).rows ≡ rows ++ row ∷ [] → j < length u.seen → length (shown_at u j).cells ≡ w → HasNoCell (shown_at u j).cells (length rows) → row_key row ≡ Some key
+    → IsIndexed w rows (shown_at u j).cells → IsFirstEmpty w (seed key) c (shown_at u j).cells → 0 < w
     → IsIndexed w (grown (marks u j c (length rows + 1)) j).rows (grown (marks u j c (length rows + 1)) j).cells
-named_put u j c w rows row more l many ix f pos =
+keyed_put u j c w rows row key more l many new keyed ix f pos =
     let t : Shown = marked (shown_at u j) c (length rows + 1) in let there : shown_at (marks u j c (length rows + 1)) j ≡ t = get_or-set_same u.seen j t nothing l in
-    let cell : c ≡ probe w row.name f.distance = f.is in let b = mod-lt (home w row.name + f.distance) pos in
-    let cells : set (shown_at u j).cells (probe w row.name f.distance) (length rows + 1) ≡ (shown_at (marks u j c (length rows + 1)) j).cells = (λ i. set (shown_at u j).cells (sym cell i) (length rows + 1)) ∙ ap (λ (y : Shown). y.cells) (sym there) in
-    let all : rows ++ row ∷ [] ≡ (grown (marks u j c (length rows + 1)) j).rows = sym more ∙ ap (λ (y : Shown). y.rows ++ rows_of u.put) (sym there) in
-    subst (λ (z : List Row × List ℕ). IsIndexed w z.0 z.1) (λ i. (all i, cells i))
-    (indexed_put w f.distance rows row (shown_at u j).cells ix f.less (omega arith) (ap (λ (z : ℕ). get_or (shown_at u j).cells z 0) (sym cell) ∙ f.empty) f.run)
+    let cell : c ≡ probe w (seed key) f.distance = f.is in let b = mod-lt (home w (seed key) + f.distance) pos in
+    let cells : set (shown_at u j).cells (probe w (seed key) f.distance) (length rows + 1) ≡ (shown_at (marks u j c (length rows + 1)) j).cells = (λ i. set (shown_at u j).cells (sym cell i) (length rows + 1)) ∙ ap (λ (y : Shown). y.cells) (sym there) in
+    let all_rows : rows ++ row ∷ [] ≡ (grown (marks u j c (length rows + 1)) j).rows = sym more ∙ ap (λ (y : Shown). y.rows ++ rows_of u.put) (sym there) in
+    subst (λ (z : List Row × List ℕ). IsIndexed w z.0 z.1) (λ i. (all_rows i, cells i))
+    (indexed_put rows row w (shown_at u j).cells new f.distance key keyed (ap (λ (z : ℕ). get_or (shown_at u j).cells z 0) (sym cell) ∙ f.empty) f.run ix f.less (omega arith))
 
 pub grown_marked : (u : View) (j c x : ℕ) → j < length u.seen → (grown (marks u j c x) j).rows ≡ (grown u j).rows
 grown_marked u j c x l = ap (λ (y : Shown). y.rows ++ rows_of u.put) (get_or-set_same u.seen j (marked (shown_at u j) c x) nothing l)

@@ -1,5 +1,5 @@
 -- What each step tells its seat.
-use Rattle.std.specs.Prelude.{◌≡◌, ◌≢◌, ℕ, ◌+◌, ◌*◌, ◌/◌, ◌<◌, ◌≤◌, List, [], ◌∷◌, true, false, cond, ltb, suc, take, drop, replicate, ◌++◌, length, slice_index, slice_set}
+use Rattle.std.specs.Prelude.{◌≡◌, ◌≢◌, ℕ, ◌+◌, ◌*◌, ◌/◌, ◌<◌, ◌≤◌, List, [], ◌∷◌, true, false, Some, cond, ltb, suc, take, drop, replicate, ◌++◌, length, slice_index, slice_set}
 use Rattle.atomic_table.specs.Table.{Me, Step}
 use Rattle.m2_base.specs.declared.rows.Row.{Row}
 use Rattle.m2_base.specs.Rows.{at_place, IsWellFormed}
@@ -8,8 +8,10 @@ use Rattle.scope_table.specs.declared.view.Shown.{Shown}
 use Rattle.scope_table.specs.declared.view.Look.{Look}
 use Rattle.scope_table.specs.declared.view.About.{About}
 use Rattle.scope_table.specs.declared.view.View.{View}
-use Rattle.scope_table.specs.Cells.{IsFirstEmpty, HasNoCell}
-use Rattle.scope_table.specs.Rows.{words_of, row_of, rows_of, name_of, IsField}
+use Rattle.m2_base.specs.Keys.{row_key}
+use Rattle.m2_base.specs.declared.rows.RowKey.{RowKey}
+use Rattle.scope_table.specs.Cells.{IsFirstEmpty, HasNoCell, seed}
+use Rattle.scope_table.specs.Rows.{words_of, row_of, rows_of, IsField}
 use Rattle.scope_table.specs.Rule.{IsGood, IsBefore, shown_at, texts_in, scopes, is_odd, times, base, nothing, mid, width}
 
 abbrev pub Sat : Type 0
@@ -101,13 +103,14 @@ pub record CanPut (v : View) (p : ℕ) : Type 0 where
   pub at : p ≡ base v.about scope + 8 * length (shown_at v scope).rows + length v.put
   pub room : p + 8 ≤ mid v.about scope
 
--- The ordinal is that of a row that is put and not shown; the row has a name and no cell, and this is the first empty cell
--- from the home of the name.
+-- The ordinal is that of a row that is put and not shown; the row has a key and no cell, and this is the first empty
+-- cell from the home of the key.
 pub record CanMark (w : ℕ) (v : View) (j c o : ℕ) : Type 0 where
   pub hidden : length (shown_at v j).rows ≤ o
   pub put : o < length (grown v j).rows
-  pub named : name_of (grown v j).rows o ≢ 0
-  pub first : IsFirstEmpty w (name_of (grown v j).rows o) c (shown_at v j).cells
+  pub key : RowKey
+  pub keyed : row_key (row_of (grown v j).rows o) ≡ Some key
+  pub first : IsFirstEmpty w (seed key) c (shown_at v j).cells
   pub new : HasNoCell (shown_at v j).cells o
 
 -- one row more is put into scope j, and at most a cell of it

@@ -48,9 +48,6 @@ blank = record { name = 0; kind = 0; at = 0; a = pos 0; b = pos 0; c = pos 0; d 
 abbrev pub row_of : List Row → ℕ → Row
 row_of rows k = slice_index_or rows k blank
 
-abbrev pub name_of : List Row → ℕ → ℕ
-name_of rows k = (row_of rows k).name
-
 -- this word is the field of this number of the row
 abbrev pub IsField : Row → (field word : ℕ) → Type 0
 IsField r zero w = r.name ≡ w % 4294967296

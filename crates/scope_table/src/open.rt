@@ -139,7 +139,7 @@ impl ScopeTable {
     {
         let rows = standard_rows();
         for row in &rows {
-            self.put_indexed(seat, row);
+            self.put_indexed(seat, row, &[]);
         }
         self.show(seat);
         self.seal(seat);

@@ -1,9 +1,9 @@
 //! The table and its seats.
-ghost use Rattle.std.specs.Prelude.{◌≡◌, ◌≢◌, ℕ, suc, ◌+◌, ◌-◌, ◌*◌, ◌^◌, ◌<◌, ◌≤◌, ◌∷◌, ◌++◌, [], true, false, length, take, slice_index, MatchOption};
-ghost use Rattle.scope_table.specs.Cells.{probe as probe_of, IsIndexed, IsFirstEmpty, IsFull};
+ghost use Rattle.std.specs.Prelude.{◌≡◌, ◌≢◌, ℕ, suc, ◌+◌, ◌-◌, ◌*◌, ◌^◌, ◌<◌, ◌≤◌, ◌∷◌, ◌++◌, ◌⊎◌, [], true, false, length, take, slice_index, MatchOption};
+ghost use Rattle.scope_table.specs.Cells.{probe as probe_of, seed as seed_of, IsAmong, IsIndexed, IsFirstEmpty, IsFull};
 ghost use Rattle.m2_base.specs.Rows.{at_place, IsWellFormed};
 ghost use Rattle.scope_table.specs.Rows.{words_of, row_of, rows_of};
-ghost use Rattle.scope_table.specs.Rule.{shown_at, empty_at, scopes, base, mid, width, texts_in, times, IsFair, AreFormed, IsBefore, IsLaid, IsSeated, IsSound};
+ghost use Rattle.scope_table.specs.Rule.{shown_at, empty_at, scopes, base, mid, width, texts_in, times, IsFair, AreFormed, Begins, IsBefore, IsLaid, IsSeated, IsSound};
 ghost use Rattle.scope_table.specs.Looks.{look_of, CanNote};
 ghost use Rattle.scope_table.specs.Plays.{head_in, sees, marks, puts, shows, seals, grown, ended, notes, told_of, IsWordOf, HasRoom, CanPut, CanMark, HasPut};
 
@@ -14,7 +14,7 @@ use crate::law::{
 use crate::view::{About, Bases, View};
 use crate::words::{from_words, to_words};
 use atomic_table::{Seat, Table};
-use m2_base::{Head, Place, Row};
+use m2_base::{Head, Place, Row, RowKey, has_key, row_key};
 use scope_core::Flight;
 use std::alloc::Global;
 use std::marker::Brand;
@@ -183,7 +183,7 @@ impl ScopeTable {
     }
 
     /// Puts the ordinal of a row that is put and not shown into its cell: the first empty one from the home of its
-    /// name.
+    /// key.
     pub fn put_cell(&self, seat: &mut TableSeat, cell: u32, ordinal: u32)
         requires table { IsOf self.now seat.old }
         requires going { (shown_at (view seat.old) (scope_of seat.old)).complete ≡ false }
@@ -225,28 +225,36 @@ impl ScopeTable {
         seat.waiting += 1;
     }
 
-    /// The first empty cell from the home of a name in the scope that the seat fills.
-    pub fn first_empty(&self, seat: &mut TableSeat, name: u32) -> Option<u32>
+    /// The first empty cell from the home of a key in the scope that the seat fills; none where one of these rows,
+    /// which were put and aren't shown, has the key and a cell before that.
+    pub fn first_empty(&self, seat: &mut TableSeat, key: RowKey, before: &[Row]) -> Option<u32>
         requires table { IsOf self.now seat.old }
         ensures same { seat.new ≡ seat.old }
-        ensures cell { MatchOption result (IsFull (width (key_of self.now) (scope_of seat.old)) name (shown_at (view seat.old) (scope_of seat.old)).cells) (λ c. IsFirstEmpty (width (key_of self.now) (scope_of seat.old)) name c (shown_at (view seat.old) (scope_of seat.old)).cells) }
+        ensures cell { MatchOption result (IsFull (width (key_of self.now) (scope_of seat.old)) (seed_of key) (shown_at (view seat.old) (scope_of seat.old)).cells ⊎ IsAmong key before.now) (λ c. IsFirstEmpty (width (key_of self.now) (scope_of seat.old)) (seed_of key) c (shown_at (view seat.old) (scope_of seat.old)).cells) }
     {
         let scope = seat.scope;
+        let shown = seat.shown;
         let width = self.width(scope);
+        let seed = seed(key);
         for distance in 0..width {
-            let cell = probe(width, name, distance);
-            let Some(_) = self.load_cell(seat, scope, cell) else {
+            let cell = probe(width, seed, distance);
+            let Some(ordinal) = self.load_cell(seat, scope, cell) else {
                 return Some(cell);
             };
+            if is_row_of(before, shown, ordinal, key) {
+                return None;
+            }
         }
         None
     }
 
-    /// Puts a row with its cell, if it has a name. Where the rows put before have theirs, all have then.
-    pub fn put_indexed(&self, seat: &mut TableSeat, row: &Row)
+    /// Puts a row with its cell, if it has a key and none of these rows before it, which were put and aren't shown, has
+    /// the same. Where the rows put before have theirs, all have then.
+    pub fn put_indexed(&self, seat: &mut TableSeat, row: &Row, before: &[Row])
         requires table { IsOf self.now seat.old }
         requires going { (shown_at (view seat.old) (scope_of seat.old)).complete ≡ false }
         requires room { HasRoom (key_of self.now) (view seat.old) (scope_of seat.old) }
+        requires before { Begins before.now (rows_of (view seat.old).put) }
         requires index { IsIndexed (width (key_of self.now) (scope_of seat.old)) (grown (view seat.old) (scope_of seat.old)).rows (grown (view seat.old) (scope_of seat.old)).cells }
         ensures same { IsSameSeat seat.old seat.new }
         ensures rows { (grown (view seat.new) (scope_of seat.old)).rows ≡ (grown (view seat.old) (scope_of seat.old)).rows ++ row.now ∷ [] }
@@ -255,11 +263,11 @@ impl ScopeTable {
     {
         let ordinal = seat.shown + seat.waiting;
         self.put_row(seat, row);
-        if row.name == 0 {
+        let Some(key) = row_key(row) else {
             return;
-        }
-        let Some(cell) = self.first_empty(seat, row.name) else {
-            unreachable!();
+        };
+        let Some(cell) = self.first_empty(seat, key, before) else {
+            return;
         };
         self.put_cell(seat, cell, ordinal as u32);
     }
@@ -375,11 +383,36 @@ impl ScopeTable {
     }
 }
 
-/// The cell at a distance from the home of a name, of so many.
-pub fn probe(width: u64, name: u32, distance: u64) -> u32
-    requires { (0 < width) × (width ≤ 2 ^ 32) × (distance < width) }
-    ensures { result ≡ probe_of width name distance }
+/// Whether the row of this ordinal is one of these, the first of which comes behind so many, and has the key.
+fn is_row_of(rows: &[Row], first: u64, ordinal: u32, key: RowKey) -> bool
+    ensures { result ≡ true → IsAmong key rows.now }
 {
-    let home = name as u64 * 2654435761 % 4294967296 / (4294967296 / width);
+    let Some(index) = (ordinal as u64).checked_sub(first) else {
+        return false;
+    };
+    match rows.get(index as usize) {
+        Some(row) => has_key(row, key),
+        None => false,
+    }
+}
+
+/// The number by which the cells of a key are spread: of a name its own.
+pub fn seed(key: RowKey) -> u32
+    ensures { result ≡ seed_of key }
+{
+    match key {
+        RowKey::Name(name) => name,
+        RowKey::Member(own, name) => {
+            ((own % 4294967296 * 2246822519 + name % 4294967296) % 4294967296) as u32
+        }
+    }
+}
+
+/// The cell at a distance from the home of a seed, of so many.
+pub fn probe(width: u64, seed: u32, distance: u64) -> u32
+    requires { (0 < width) × (width ≤ 2 ^ 32) × (distance < width) }
+    ensures { result ≡ probe_of width seed distance }
+{
+    let home = seed as u64 * 2654435761 % 4294967296 / (4294967296 / width);
     ((home + distance) % width) as u32
 }

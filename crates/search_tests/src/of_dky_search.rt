@@ -22,6 +22,12 @@ fn row_at(scopes: &mut SeatScopes, ordinal: u32) -> Ask<Option<Row>> {
     scopes.fetch(0, Place { scope: 1, ordinal })
 }
 
+/// Selects a field of the record whose row has this ordinal in scope 1.
+fn field_at(scopes: &mut SeatScopes, ordinal: u32, name: u32) -> Ask<Option<(u32, Row)>> {
+    let _own = scopes.filled();
+    scopes.select(Place { scope: 1, ordinal }, name)
+}
+
 /// The head of scope 1 with so many rows, where more may follow.
 fn head(count: u32) -> Head {
     Head {
@@ -36,7 +42,7 @@ fn place(ordinal: u32) -> Place {
     Place { scope: 1, ordinal }
 }
 
-/// The names 100, 101 and 102 are shown together, and 110 never is.
+/// The names 100, 101 and 102 are shown together, and 110 never is. They are no fields.
 #[test]
 fn replies_as_rows_are_shown(rt: HostRuntime) -> Result<(), Fail> {
     let alloc = rt.alloc();
@@ -50,15 +56,19 @@ fn replies_as_rows_are_shown(rt: HostRuntime) -> Result<(), Fail> {
     let mut reader = SeatScopes::new(&table, &sample.texts, third);
     assert_eq!(rt; look(&mut reader, 101), Reply::DontKnowYet(head(0)));
     assert_eq!(rt; row_at(&mut reader, 2), Ask::DontKnowYet(head(0)));
+    assert_eq!(rt; field_at(&mut reader, 2, 101), Ask::DontKnowYet(head(0)));
     filler.enter(alloc, 3)?;
     let found = Reply::Found(place(1), row_of(101));
     assert_eq!(rt; look(&mut reader, 101), found);
     assert_eq!(rt; row_at(&mut reader, 2), Ask::Known(Some(row_of(102))));
+    assert_eq!(rt; field_at(&mut reader, 2, 101), Ask::Known(None));
     assert_eq!(rt; look(&mut reader, 110), Reply::DontKnowYet(head(3)));
     assert_eq!(rt; row_at(&mut reader, 3), Ask::DontKnowYet(head(3)));
+    assert_eq!(rt; field_at(&mut reader, 3, 101), Ask::DontKnowYet(head(3)));
     let mut filled = filler.complete();
     assert_eq!(rt; look(&mut reader, 110), Reply::Absent);
     assert_eq!(rt; row_at(&mut reader, 3), Ask::Known(None));
+    assert_eq!(rt; field_at(&mut reader, 3, 101), Ask::Known(None));
     assert_eq!(rt; look(&mut reader, 101), found);
     assert_eq!(rt; look(&mut filled, 102), Reply::Found(place(2), row_of(102)));
     assert_eq!(rt; (filled.filled(), reader.filled()), (1, 3));

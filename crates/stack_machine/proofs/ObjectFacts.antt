@@ -16,6 +16,7 @@ use Rattle.object_file.specs.ObjectFormat.{any, is_outer, is_params, is_result, 
 use Rattle.object_file.specs.Validity.{IsObject, IsValid, HaveValidCode}
 use Rattle.object_file.proofs.Outers.{smaller}
 use Rattle.stack_machine.proofs.Flat.{get_front, get_back, get_within, one_is, nothing_at}
+use Rattle.m2_base.specs.declared.limits.TheConstants.{MOST_CELLS}
 
 -- ---- code is one list of instructions
 
@@ -150,10 +151,10 @@ facts o v = facts_of (version_near (drop 4 (object_bytes o))) (object_bytes o) o
 pub outer_smaller : (o : Contents) (k : ℕ) (p : Procedure) → Facts o → slice_get o.procedures k ≡ Some p → p.outer ≢ 0 → p.outer < k
 outer_smaller o k p f is some = smaller o.exports k p.outer (f.procedures k p is).outer some
 
-pub params_within : (es : List Export) (k : ℕ) (p : Procedure) → Formed es k p → (p.params ≤ p.locals) × (p.locals ≤ 16777215)
+pub params_within : (es : List Export) (k : ℕ) (p : Procedure) → Formed es k p → (p.params ≤ p.locals) × (p.locals ≤ MOST_CELLS)
 params_within es k p f =
-    let h = both_true (leb p.params p.locals) (leb p.locals 16777215) f.locals in
-    (leb-true p.params p.locals h.0, leb-true p.locals 16777215 h.1)
+    let h = both_true (leb p.params p.locals) (leb p.locals MOST_CELLS) f.locals in
+    (leb-true p.params p.locals h.0, leb-true p.locals MOST_CELLS h.1)
 
 body_result : (b c : Bool) (n : ℕ) → ((b && eqb n 0) && c) ≡ true → n ≡ 0
 body_result b c n e = eqb-true n 0 (both_true b (eqb n 0) (both_true (b && eqb n 0) c e).0).1

@@ -11,6 +11,7 @@ use crate::next::Next;
 use crate::op::Kind;
 use crate::stack::{give, operand};
 use crate::trap::Trap;
+use m2_base::{GREATEST_CARDINAL, GREATEST_INTEGER, LEAST_INTEGER};
 
 /// Whether a number is of this type.
 #[inline(always)]
@@ -18,8 +19,8 @@ pub(crate) fn fits(kind: Kind, v: i64) -> bool
     ensures { result ≡ in_kind kind v }
 {
     match kind {
-        Kind::Integer => -2147483648 <= v && v <= 2147483647,
-        Kind::Cardinal => 0 <= v && v <= 4294967295,
+        Kind::Integer => LEAST_INTEGER <= v && v <= GREATEST_INTEGER,
+        Kind::Cardinal => 0 <= v && v <= GREATEST_CARDINAL,
     }
 }
 

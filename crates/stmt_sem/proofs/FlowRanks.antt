@@ -2,7 +2,7 @@
 use Rattle.std.proofs.Common.{◌≡◌, ◌∙◌, ◌∷◌, [], ℕ, zero, suc, ◌+◌, ◌-◌, ◌<◌, ◌≤◌, List, length, Option, Some, None, ap, sym, subst, arith}
 use Rattle.std.specs.Prelude.{get_or, slice_get, slice_index_or}
 use Rattle.m2_base.specs.Lists.{Each}
-use Rattle.m2_base.proofs.Kept.{Each-map}
+use Rattle.m2_base.proofs.EachLaws.{each_then}
 use Rattle.expr_sem.specs.declared.fragments.Node.{Node}
 use Rattle.stmt_sem.specs.FlowNodes.{AreSound, IsArmOf, IsBefore, IsBeforeIfAny, IsMadeOf, flow_in, flows_in, form_flow}
 use Rattle.stmt_sem.specs.declared.flows.Arm.{Arm}
@@ -92,9 +92,9 @@ if_any_up j k (Some x) l h = before_up j k x l h
 
 made_up : (ns : List Node) (j k : ℕ) (form : FlowForm) → j ≤ k → IsMadeOf ns j form → IsMadeOf ns k form
 made_up ns j k (Straight c) l h = h
-made_up ns j k (Block xs) l h = Each-map (IsBefore j) (IsBefore k) xs.items (λ x b. before_up j k x l b) h
+made_up ns j k (Block xs) l h = each_then (IsBefore j) (IsBefore k) xs.items (λ x b. before_up j k x l b) h
 made_up ns j k Exit l h = tt
-made_up ns j k (Choice as' o) l h = (Each-map (IsArmOf ns j) (IsArmOf ns k) as'.items (λ a b. (b.0, before_up j k a.body l b.1)) h.0, if_any_up j k o l h.1)
+made_up ns j k (Choice as' o) l h = (each_then (IsArmOf ns j) (IsArmOf ns k) as'.items (λ a b. (b.0, before_up j k a.body l b.1)) h.0, if_any_up j k o l h.1)
 made_up ns j k (WhileTrue c x) l h = (h.0, before_up j k x l h.1)
 made_up ns j k (UntilTrue x c) l h = (before_up j k x l h.0, h.1)
 made_up ns j k (ForEver x) l h = before_up j k x l h

@@ -2,7 +2,9 @@
 use Rattle.std.proofs.Common.{◌≡◌, ◌∙◌, ℕ, List, Option, Some, None, ap, sym, refl, option_map}
 use Rattle.std.specs.Prelude.{is_some}
 use Rattle.std.specs.Option.{IfSome}
-use Rattle.m2_base.specs.Statics.Contexts.{Scene}
+use Rattle.m2_base.specs.Gives.{gives}
+use Rattle.m2_base.specs.Statics.Contexts.{Context, Scene}
+use Rattle.m2_base.specs.Statics.Lookup.{Entry}
 use Rattle.m2_base.specs.declared.rows.Place.{Place}
 use Rattle.m2_base.specs.declared.rows.Row.{Row}
 use Rattle.expr_sem.specs.Fragments.{Grows, IsIn, part}
@@ -14,7 +16,8 @@ use Rattle.expr_sem.specs.declared.fragments.Node.{Node}
 use Rattle.expr_sem.proofs.Selecting.{with_field_numbered}
 use Rattle.expr_sem.proofs.Sequencing.{in_later, part_later}
 use Rattle.stmt_sem.specs.LoopParts.{option_in, parts_in}
-use Rattle.expr_sem.specs.Coded.{Coded}
+use Rattle.expr_sem.specs.Coded.{Coded, in_error}
+use Rattle.stmt_sem.specs.Counting.{controls}
 use Rattle.stmt_sem.specs.declared.counting.LoopParts.{LoopParts as PartsMade}
 
 some_mapped : {A B : Type 0} (f : A → B) (o : Option A) → is_some o ≡ is_some (option_map f o)
@@ -27,6 +30,11 @@ withs_have scene ts name found e =
     some_mapped (λ n. field_coded scene (with_record n.0) n.1) found
     ∙ ap (λ (o : Option (ℕ × Row)). is_some (option_map (λ n. field_coded scene (with_record n.0) n.1) o)) e
     ∙ sym (ap (λ (o : Option Coded). is_some o) (with_field_numbered scene 0 ts name))
+
+-- a name that nothing was found for
+pub no_entry : (c : Context) (at : ℕ) (e : Option Entry) → ((x : Entry) → e ≡ Some x → ⊥) → gives in_error ≡ controls c at e
+no_entry c at None h = refl
+no_entry c at (Some x) h = absurd (h x refl)
 
 -- a fragment that may be missing is the same among more of them
 pub option_later : {from to : List Node} → Grows from to → (o : Option Fragment) → IfSome o (λ k. IsIn from k) → option_in to o ≡ option_in from o

@@ -1,5 +1,6 @@
 -- How long the code of statements is, by the tokens that it was made of.
 use Rattle.std.specs.Prelude.{ℕ, ◌*◌, ◌≤◌}
+use Rattle.m2_base.specs.declared.limits.TheConstants.{MOST_TOKENS}
 use Rattle.expr_sem.specs.Lengths.{bytes_for_token}
 use Rattle.expr_sem.specs.Parts.{Spot, steps_size}
 use Rattle.stmt_sem.specs.Flows.{Flow}
@@ -10,4 +11,4 @@ IsShortFor n f = (at : Spot) (out : ℕ) → steps_size ((f at).code out) ≤ by
 
 -- the greatest number of tokens of a unit's text
 abbrev pub most_tokens : ℕ
-most_tokens = 1048576
+most_tokens = MOST_TOKENS

@@ -6,14 +6,13 @@ ghost use Rattle.m2_base.specs.Standard.{broken};
 ghost use Rattle.m2_base.specs.States.{State};
 ghost use Rattle.m2_base.specs.Statics.Contexts.{refuse as spec_refuse};
 ghost use Rattle.type_rules.specs.Scenes.{IsThere};
-ghost use Rattle.expr_sem.specs.Coded.{in_error};
-ghost use Rattle.expr_sem.specs.Codings.{Coding, IsCoded, IsFragment, coded_in};
+ghost use Rattle.expr_sem.specs.Codings.{Coding, IsFragment};
 ghost use Rattle.expr_sem.specs.Fragments.{part};
 ghost use Rattle.expr_sem.specs.Parts.{none};
 ghost use Rattle.expr_sem.specs.declared.fragments.Node.{Node};
 ghost use Rattle.stmt_sem.specs.Plain.{IsStep, IsType, itself};
 
-use expr_sem::{Coded, Fragment};
+use expr_sem::Fragment;
 use m2_base::{Ask, Diagnostic, Memory, Notes, Place, Site};
 use type_rules::BROKEN;
 
@@ -37,19 +36,6 @@ pub fn refused_code(
 {
     noted(site, at, refusal, notes)?;
     Ok(Ask::Known(Fragment::Nothing))
-}
-
-/// Notes a diagnostic at a token; what is refused is in error.
-pub fn refused_operand(
-    site: &Site,
-    at: u32,
-    refusal: Diagnostic,
-    notes: &mut Notes,
-) -> Result<Ask<Coded>, Memory>
-    ensures { (state : State) (nodes : List Node) → Coding state state notes.old notes.new nodes nodes site.now result IsCoded coded_in (λ c. spec_refuse c at (code_of refusal) in_error) }
-{
-    noted(site, at, refusal, notes)?;
-    Ok(Ask::Known(Coded::in_error()))
 }
 
 /// Notes a diagnostic at a token; the type is that of parts in error.

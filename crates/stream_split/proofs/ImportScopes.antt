@@ -6,7 +6,7 @@ use Rattle.std.proofs.lemmas.List.{length-map}
 use Rattle.std.proofs.lemmas.List.Quantifiers.{position-Some}
 use Rattle.std.proofs.lemmas.Option.{slice_get_cases}
 use Rattle.std.proofs.lemmas.List.Recursion.{is_position_or_len}
-use Rattle.m2_base.proofs.ChainLaws.{each_append}
+use Rattle.m2_base.proofs.EachLaws.{each_all, each_append, each_back, each_front}
 use Rattle.m2_base.specs.Finished.{definitions_of, no_text, source_of, tokens_in, tokens_of}
 use Rattle.m2_base.specs.Fronts as grammar_fronts
 use Rattle.m2_base.specs.Fronts.{IsFront, modules_of, modules_with}
@@ -27,18 +27,6 @@ use Rattle.stream_split.proofs.Definitions.{map_append}
 use Rattle.stream_split.proofs.TextFronts.{HasFront, front_told}
 
 -- ** Lists
-
-each_front : {A : Type 0} (P : A → Type 0) (xs ys : List A) → Each P (xs ++ ys) → Each P xs
-each_front P [] ys h = tt
-each_front P (x ∷ xs) ys h = (h.0, each_front P xs ys h.1)
-
-each_back : {A : Type 0} (P : A → Type 0) (xs ys : List A) → Each P (xs ++ ys) → Each P ys
-each_back P [] ys h = h
-each_back P (x ∷ xs) ys h = each_back P xs ys h.1
-
-each_all : {A : Type 0} (P : A → Type 0) (xs : List A) → ((x : A) → P x) → Each P xs
-each_all P [] f = tt
-each_all P (x ∷ xs) f = (f x, each_all P xs f)
 
 each_from : {A : Type 0} (P : A → Type 0) (xs : List A) → ((x : A) → IsIn x xs → P x) → Each P xs
 each_from P [] f = tt

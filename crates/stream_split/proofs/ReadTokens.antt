@@ -1,7 +1,7 @@
 -- The tokens of a unit's streams are as read.
 use Rattle.std.proofs.Common.{ℕ, zero, suc, Bool, true, false, List, [], ◌∷◌, ◌++◌, length, ◌<◌, ◌+◌, ◌^◌, ◌==◌, arith, cond}
 use Rattle.std.specs.Prelude.{slice_get}
-use Rattle.m2_base.proofs.ChainLaws.{each_append}
+use Rattle.m2_base.proofs.EachLaws.{each_append}
 use Rattle.m2_base.specs.Lists.{Each}
 use Rattle.m2_base.specs.Statics.ReadTrees.{IsReadToken}
 use Rattle.m2_base.specs.Units.{IsUnit, TextOf, UnitTexts}

@@ -2,8 +2,7 @@
 use Rattle.std.proofs.Common.{◌≡◌, ℕ, zero, suc, ◌<◌, ◌≤◌, ◌^◌, All, List, [], ◌∷◌, arith, length, subst}
 use Rattle.std.specs.Prelude.{Some, flat_map, slice_get, slice_index}
 use Rattle.std.proofs.lemmas.List.Elements.{All-head, All-tail}
-use Rattle.m2_base.proofs.ReadStatements.{statements_are_read}
-use Rattle.m2_base.proofs.ReadStreams.{items_are_read}
+use Rattle.m2_base.proofs.ReadTrees.{items_are_read, statements_are_read}
 use Rattle.m2_base.specs.Lists.{Each}
 use Rattle.m2_base.specs.Statics.Items.{items_of}
 use Rattle.m2_base.specs.Statics.ReadStatements.{AreReadStatements}

@@ -10,5 +10,5 @@
 mod tasks;
 mod turns;
 
-pub use tasks::tasks_of;
+pub use tasks::{surroundings, tasks_of};
 pub use turns::run_turns;

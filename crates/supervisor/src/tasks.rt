@@ -16,7 +16,7 @@ use stream_split::{StreamTokens, around};
 use task_state::Task;
 
 /// What surrounds the block of each stream.
-fn surroundings(
+pub fn surroundings(
     alloc: Global,
     texts: &Texts,
     streams: &[StreamTokens],

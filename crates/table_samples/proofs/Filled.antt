@@ -114,7 +114,7 @@ filling_start a v j rows s inner there room =
     record {
       going = ap (λ (t : Shown). t.complete) empty;
       room = subst (λ (t : Shown). base a j + 8 * length t.rows + 8 * rows ≤ mid a j) (sym is) (omega arith);
-      index = subst (λ (t : Shown). IsIndexed (width a j) t.rows t.cells) (sym is) (λ i l. absurd (omega arith));
+      index = subst (λ (t : Shown). IsIndexed (width a j) t.rows t.cells) (sym is) (λ k i f. let w = f.within in absurd (omega (arith, w)));
       constants = subst (λ (t : Shown). (k : ℕ) (r : Row) → slice_get t.rows k ≡ Some r → IsConstant (length (texts_in a).names) r) (sym is) (λ k r e. absurd (cc));
       ascend = subst (λ (t : Shown). Ascend 0 t.rows) (sym is) record { upto = λ k r e. absurd (cc); up = λ i k x y less e. absurd (cc) };
     }

@@ -79,7 +79,7 @@ impl<'t> Filler<'t> {
             return false;
         }
         let row = constant(name, at, value);
-        self.table.put_indexed(&mut self.seat, &row);
+        self.table.put_indexed(&mut self.seat, &row, &[]);
         self.last = self.last.max(name);
         self.left -= 1;
         true

@@ -6,14 +6,17 @@ use Rattle.m2_base.specs.Scopes.{IsTaken}
 use Rattle.m2_base.specs.Tables.{first_named}
 use Rattle.m2_base.specs.declared.replies.Head.{Head}
 use Rattle.m2_base.specs.declared.replies.Reply.{Reply}
+use Rattle.m2_base.specs.Keys.{row_key}
 use Rattle.m2_base.specs.declared.rows.Row.{Row}
+use Rattle.m2_base.specs.declared.rows.RowKey.TheVariants.{Name}
+use Rattle.m2_base.proofs.KeyLaws.{name_key}
 use Rattle.scope_core.specs.Flights.{Flown, found_at, heads_in, reply_of}
 use Rattle.scope_core.specs.declared.flight.Load.{Load}
 use Rattle.scope_table.specs.Cells.{IsFirstEmpty}
 use Rattle.scope_table.specs.Looks.{CanNote, IsLoadOf}
 use Rattle.scope_table.specs.Opening.{IsStart}
 use Rattle.scope_table.specs.Plays.{grown, head_in, later, puts, told_of, CanMark, HasRoom}
-use Rattle.scope_table.specs.Rows.{name_of, rows_of, words_of}
+use Rattle.scope_table.specs.Rows.{row_of, rows_of, words_of}
 use Rattle.scope_table.specs.Rule.{base, mid, width, scopes, nothing, shown_at, empty_at, times, WasShown}
 use Rattle.scope_table.specs.declared.view.About.{About}
 use Rattle.scope_table.specs.declared.view.Shown.{Shown}
@@ -46,12 +49,13 @@ module _ (a : About) (v : View) (j : ℕ) (s : IsStart a v) (inner : 0 < j) (the
   can_mark w c r u is rows named first =
       let seen : shown_at u j ≡ shown_at v j = ap (λ (x : View). shown_at x j) is in
       let all : (grown u j).rows ≡ r ∷ [] = rows ∙ ap (λ (l : List Row). l ++ r ∷ []) none_put in
-      let name : name_of (grown u j).rows 0 ≡ r.name = ap (λ (l : List Row). name_of l 0) all in
+      let key : row_key (row_of (grown u j).rows 0) ≡ Some (Name r.name) = ap (λ (l : List Row). row_key (row_of l 0)) all ∙ name_key r named in
       record {
         hidden = let n : length (shown_at u j).rows ≡ 0 = ap (λ (t : Shown). length t.rows) seen ∙ ap length no_rows in omega arith;
         put = let n : length (grown u j).rows ≡ 1 = ap length all in omega arith;
-        named = λ z. named (sym name ∙ z);
-        first = subst (λ (x : ℕ). IsFirstEmpty w x c (shown_at u j).cells) (sym name) first;
+        key = Name r.name;
+        keyed = key;
+        first = first;
         new = λ q e. let z : get_or (shown_at u j).cells q 0 ≡ 0 = ap (λ (t : Shown). get_or t.cells q 0) seen ∙ clear q in absurd (omega arith);
       }
 

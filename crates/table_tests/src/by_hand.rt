@@ -4,9 +4,9 @@ ghost use Rattle.scope_table.specs.Opening.{IsStart};
 ghost use Rattle.scope_table.specs.Rule.{base, mid, scopes};
 ghost use Rattle.scope_table.specs.Seats.{key_of, scope_of, view, IsOf};
 
-use m2_base::{Head, Place, Reply, Row};
+use m2_base::{Head, Place, Reply, Row, RowKey};
 use scope_core::Flight;
-use scope_table::{ScopeTable, TableSeat, probe};
+use scope_table::{ScopeTable, TableSeat, probe, seed};
 use std::test::Fail;
 use table_samples::{Filler, Opened, Reader, constant, open, unit};
 
@@ -79,6 +79,8 @@ fn has_standard_rows(rt: HostRuntime) -> Result<(), Fail> {
     let mut truth = row(7, 0, 1);
     truth.a = 3;
     assert_eq!(rt; rows.first().copied(), Some(truth));
+    assert_eq!(rt; seed(RowKey::Name(7)), 7);
+    assert_eq!(rt; seed(RowKey::Member(5, 7)), 2_644_178_010);
     assert_eq!(rt; probe(128, 7, 0), 41);
     assert_eq!(rt; reader.cell(0, 41), Some(Some(17)));
     Ok(())
@@ -140,11 +142,13 @@ fn put_by_hand(table: &ScopeTable, seat: &mut TableSeat) -> Option<[u32; 2]>
     requires room { mid (key_of table.now) 2 ≡ base (key_of table.now) 2 + 16 }
 {
     table.put_row(seat, &constant(31, 4, 11));
-    let Some(first) = table.first_empty(seat, 31) else {
+    let Some(first) = table.first_empty(seat, RowKey::Name(31), &[]) else {
         return None;
     };
     table.put_cell(seat, first, 0);
-    table.first_empty(seat, 36).map(|second| [first, second])
+    table
+        .first_empty(seat, RowKey::Name(36), &[])
+        .map(|second| [first, second])
 }
 
 /// A row and its cell are put by hand: the names 31 and 36 have cell 1 of 8 as their home. Others see the cell, but no row.

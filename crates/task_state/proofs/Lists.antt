@@ -4,7 +4,8 @@ use Rattle.std.proofs.Common.{refl, sym, ap, subst, arith}
 use Rattle.m2_base.specs.Lists.{Each, Grows, WhereKept}
 use Rattle.m2_base.specs.States.{IsAmong, Look}
 use Rattle.m2_base.specs.declared.notes.Answer.{Answer}
-use Rattle.m2_base.proofs.Kept.{Each-append, Each-map, IsAmong_left, IsAmong_right}
+use Rattle.m2_base.proofs.EachLaws.{each_append, each_front, each_then}
+use Rattle.m2_base.proofs.Kept.{IsAmong_left, IsAmong_right}
 
 -- an item of a list, with those before and behind it
 pub record Splits {A : Type 0} (xs : List A) (n : ℕ) (x : A) : Type 0 where
@@ -31,10 +32,6 @@ each_at P [] n x h e = absurd (cc)
 each_at P (y ∷ xs) zero x h e = subst P (some_is y x e) h.0
 each_at P (y ∷ xs) (suc n) x h e = each_at P xs n x h.1 e
 
-pub each_front : {A : Type 0} (P : A → Type 0) (xs ys : List A) → Each P (xs ++ ys) → Each P xs
-each_front P [] ys h = tt
-each_front P (x ∷ xs) ys h = (h.0, each_front P xs ys h.1)
-
 -- there is no item behind the last
 pub none_left : {A : Type 0} (xs : List A) (n : ℕ) → slice_get xs n ≡ None → n ≤ length xs → n ≡ length xs
 none_left [] zero e h = refl
@@ -49,16 +46,16 @@ shown_more None (Some b) more xs ys g old new = absurd g
 shown_more (Some a) None more xs ys g old new = absurd g
 shown_more (Some a) (Some b) more xs ys g old new =
     subst (λ l. Each (IsAmong l) (xs ++ ys)) (sym g)
-    (Each-append (IsAmong (a ++ more)) xs ys
-    (Each-map (IsAmong a) (IsAmong (a ++ more)) xs (λ r. IsAmong_left a more r) old)
-    (Each-map (IsAmong more) (IsAmong (a ++ more)) ys (λ r. IsAmong_right a more r) new))
+    (each_append (IsAmong (a ++ more)) xs ys
+    (each_then (IsAmong a) (IsAmong (a ++ more)) xs (λ r. IsAmong_left a more r) old)
+    (each_then (IsAmong more) (IsAmong (a ++ more)) ys (λ r. IsAmong_right a more r) new))
 
 pub shown_still : (o o' : Option (List Look)) (more : List Look) (xs : List Answer) → Grows o more o' → WhereKept o (λ l. Each (IsAmong l) xs) → WhereKept o' (λ l. Each (IsAmong l) xs)
 shown_still None None more xs g old = tt
 shown_still None (Some b) more xs g old = absurd g
 shown_still (Some a) None more xs g old = absurd g
 shown_still (Some a) (Some b) more xs g old =
-    subst (λ l. Each (IsAmong l) xs) (sym g) (Each-map (IsAmong a) (IsAmong (a ++ more)) xs (λ r. IsAmong_left a more r) old)
+    subst (λ l. Each (IsAmong l) xs) (sym g) (each_then (IsAmong a) (IsAmong (a ++ more)) xs (λ r. IsAmong_left a more r) old)
 
 pub shown_front : (o : Option (List Look)) (xs ys : List Answer) → WhereKept o (λ l. Each (IsAmong l) (xs ++ ys)) → WhereKept o (λ l. Each (IsAmong l) xs)
 shown_front None xs ys h = tt

@@ -35,7 +35,7 @@ use Rattle.m2_base.specs.declared.sites.Around.{Around}
 use Rattle.m2_base.specs.declared.sites.Named.{Named}
 use Rattle.m2_base.specs.declared.sites.Site.{Site}
 use Rattle.m2_base.proofs.ImportLaws.{extended_length}
-use Rattle.m2_base.proofs.Kept.{Each-append, Each-map}
+use Rattle.m2_base.proofs.EachLaws.{each_append, each_then}
 use Rattle.type_rules.specs.Scenes.{Agrees, IsThere, Suits, WhereTold, block_of, hand}
 use Rattle.type_rules.specs.Sites.{SuitsSite, context_of}
 use Rattle.decl_sem.specs.DeclaredItems.{GivesAll}
@@ -464,9 +464,9 @@ module _ (f : Frame) (s : Site) (a : Around) (tree : Stream) (m : Collected) (x 
           of_each = next_each;
           layout = layout_on;
           laid = laid_next;
-          owned = Each-append (λ r. IsOwned (length (f.entered ++ d.rows.items)) (row_meaning r)) f.entered d.rows.items
-              (Each-map (λ r. IsOwned (length f.entered) (row_meaning r)) (λ r. IsOwned (length (f.entered ++ d.rows.items)) (row_meaning r)) f.entered (λ r. owned_more (length f.entered) (length (f.entered ++ d.rows.items)) more (row_meaning r)) so_far.owned)
-              (Each-map (λ r. IsOwned (item_end s) (row_meaning r)) (λ r. IsOwned (length (f.entered ++ d.rows.items)) (row_meaning r)) d.rows.items (λ r. owned_more (item_end s) (length (f.entered ++ d.rows.items)) end_first (row_meaning r))
+          owned = each_append (λ r. IsOwned (length (f.entered ++ d.rows.items)) (row_meaning r)) f.entered d.rows.items
+              (each_then (λ r. IsOwned (length f.entered) (row_meaning r)) (λ r. IsOwned (length (f.entered ++ d.rows.items)) (row_meaning r)) f.entered (λ r. owned_more (length f.entered) (length (f.entered ++ d.rows.items)) more (row_meaning r)) so_far.owned)
+              (each_then (λ r. IsOwned (item_end s) (row_meaning r)) (λ r. IsOwned (length (f.entered ++ d.rows.items)) (row_meaning r)) d.rows.items (λ r. owned_more (item_end s) (length (f.entered ++ d.rows.items)) end_first (row_meaning r))
               (owned_rows f (item_end s) (length f.entered) d.rows.items p.new_rows));
           cells = effect.cell;
           procedures =

@@ -20,7 +20,7 @@ use Rattle.m2_base.specs.Units.{UnitTexts}
 use Rattle.m2_base.specs.declared.rows.Row.{Row}
 use Rattle.m2_base.specs.declared.sites.Around.{Around}
 use Rattle.m2_base.proofs.FinishedLaws.{finished-standard}
-use Rattle.m2_base.proofs.Kept.{Each-map}
+use Rattle.m2_base.proofs.EachLaws.{each_then}
 use Rattle.decl_sem.specs.ImportedModules.{IsFromBefore}
 use Rattle.stream_split.specs.Agreement.{SpellsStream}
 use Rattle.stream_split.specs.Chains.{around_view, block_of, own_scope}
@@ -184,7 +184,7 @@ module _ (g : Setting) (s : StreamOf) (a : Around) (tree : Stream) (of : IsOfUni
         items = stream_items u of.index s tree of.unit of.there spelled;
         statements = stream_statements u of.index s tree of.unit of.there spelled;
         imports = subst (λ (k : ℕ). Each (IsFromBefore (source_of u) k) (items_of tree)) (sym of.fills)
-            (Each-map (IsImportedBefore (source_of u) s.stream) (IsFromBefore (source_of u) s.stream) (items_of tree) (from_before (source_of u) s.stream)
+            (each_then (IsImportedBefore (source_of u) s.stream) (IsFromBefore (source_of u) s.stream) (items_of tree) (from_before (source_of u) s.stream)
             (stream_imports u of.unit of.front of.fronts of.whole of.index s tree of.there spelled));
         few = stream_few u of.index s tree of.unit of.there spelled;
         room =

@@ -24,7 +24,8 @@ use Rattle.m2_base.specs.declared.rows.Row.{Row}
 use Rattle.m2_base.specs.declared.rows.RowMeaning.TheVariants.{Broken}
 use Rattle.m2_base.specs.declared.sites.Around.{Around}
 use Rattle.m2_base.specs.declared.sites.Site.{Site}
-use Rattle.m2_base.proofs.Kept.{Works-trans, Works-kept, IsPrefixOf-refl, Each-map, Adds-refl}
+use Rattle.m2_base.proofs.EachLaws.{each_then}
+use Rattle.m2_base.proofs.Kept.{Works-trans, Works-kept, IsPrefixOf-refl, Adds-refl}
 use Rattle.m2_base.proofs.RowLaws.{HasSmallNumbers-fits}
 use Rattle.m2_base.proofs.StandardLaws.{IsWellFormed-standard}
 use Rattle.type_rules.specs.Asks.{Reads}
@@ -113,7 +114,7 @@ below_not n [] below on = on
 below_not n (s ∷ chain) below on = elim on as (λ _. ⊥) [ inl same ↦ (let e : n ≡ s = same in let b : s < n = below.0 in absurd (omega (arith, e, b))) | inr later ↦ below_not n chain below.1 later ]
 
 below_inner : (n : ℕ) (chain : List ℕ) → Each (λ s. s < n) chain → Each (λ s. s ≤ n) chain
-below_inner n chain below = Each-map (λ s. s < n) (λ s. s ≤ n) chain (λ s b. omega (arith, b)) below
+below_inner n chain below = each_then (λ s. s < n) (λ s. s ≤ n) chain (λ s b. omega (arith, b)) below
 
 rest_short : (xs : List ℕ) → length xs ≤ 18 → length (drop 1 xs) ≤ 18
 rest_short [] h = h

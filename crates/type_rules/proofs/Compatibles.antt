@@ -10,6 +10,7 @@ use Rattle.m2_base.specs.Statics.Operands.{is_string, is_one_char, operand_type}
 use Rattle.m2_base.specs.Statics.Types.{base_of}
 use Rattle.m2_base.specs.declared.operands.Operand.{Operand}
 use Rattle.m2_base.specs.declared.replies.Ask.{Ask}
+use Rattle.m2_base.specs.declared.replies.Ask.TheVariants.{DontKnowYet, Known}
 use Rattle.m2_base.specs.declared.rows.Place.{Place}
 use Rattle.type_rules.specs.Asks.{WhereKnown}
 use Rattle.type_rules.specs.Scenes.{Hand, WhereTold}
@@ -25,6 +26,19 @@ pub told_as : {T : Type 0} (answer : Ask T) (f mid : Frame) (given : Frame → H
 told_as {T} answer f mid given value same asked is made in_hand told =
     subst (λ (n : T). WhereKnown answer (λ x. x ≡ n)) (is made in_hand told)
     (subst (λ (h : Frame). WhereTold h (λ rows. WhereKnown answer (λ x. x ≡ given h rows))) same asked made in_hand told)
+
+-- what is answered under two conditions is what is wanted under them
+pub told_under : {T : Type 0} (answer : Ask T) (A B : Type 0) (given value : T) → WhereKnown answer (λ x. x ≡ given) → (A → B → given ≡ value) → WhereKnown answer (λ x. A → B → x ≡ value)
+told_under (Known x) A B given value asked is = λ a b. asked ∙ is a b
+told_under (DontKnowYet h) A B given value asked is = tt
+
+-- what a later question says under two conditions, which hold
+pub told_met : {T : Type 0} (answer : Ask T) (f mid : Frame) (A B : Frame → Hand → Type 0) (given : Frame → Hand → T) → mid ≡ f
+    → WhereTold mid (λ made. WhereKnown answer (λ x. A mid made → B mid made → x ≡ given mid made)) → WhereTold f (A f) → WhereTold f (B f)
+    → WhereTold f (λ made. WhereKnown answer (λ x. x ≡ given f made))
+told_met (Known x) f mid A B given same asked a b made in_hand told =
+    subst (λ (h : Frame). WhereTold h (λ rows. A h rows → B h rows → x ≡ given h rows)) same asked made in_hand told (a made in_hand told) (b made in_hand told)
+told_met (DontKnowYet h) f mid A B given same asked a b made in_hand told = tt
 
 -- one of two operands of these bases is a string of one character, and the other a CHAR
 abbrev pub beside : Operand → Place → Operand → Place → Bool

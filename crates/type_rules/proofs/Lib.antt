@@ -4,6 +4,7 @@ pub mod Divisions
 pub mod Searches
 pub mod Opaque
 pub mod Walks
+pub mod Fields
 pub mod Compatibles
 pub mod Binding
 pub mod Naming

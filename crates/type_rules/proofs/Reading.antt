@@ -2,7 +2,8 @@
 use Rattle.std.proofs.Common.{◌≡◌, [], ◌++◌}
 use Rattle.m2_base.specs.States.{State, Look, Keeps, Waits}
 use Rattle.m2_base.specs.declared.replies.Head.{Head}
-use Rattle.m2_base.proofs.Kept.{Keeps-refl, Keeps-trans, Each-append, Waits_after}
+use Rattle.m2_base.proofs.EachLaws.{each_append}
+use Rattle.m2_base.proofs.Kept.{Keeps-refl, Keeps-trans, Waits_after}
 use Rattle.type_rules.specs.Asks.{Reads}
 
 pub Reads-refl : (a : State) → Reads a a
@@ -13,7 +14,7 @@ Reads-trans {a} {b} {c} p q =
     record {
       looks = p.looks ++ q.looks;
       keeps = Keeps-trans p.keeps q.keeps;
-      silent = Each-append (λ (l : Look). l.at ≡ 0) p.looks q.looks p.silent q.silent;
+      silent = each_append (λ (l : Look). l.at ≡ 0) p.looks q.looks p.silent q.silent;
     }
 
 -- a call that adds no look

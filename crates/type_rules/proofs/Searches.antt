@@ -21,7 +21,7 @@ use Rattle.m2_base.specs.declared.rows.Row.{Row}
 use Rattle.m2_base.specs.declared.rows.RowMeaning.{RowMeaning}
 use Rattle.m2_base.specs.declared.rows.RowMeaning.TheVariants.{TypeName}
 use Rattle.m2_base.specs.declared.sites.Around.{Around}
-use Rattle.m2_base.proofs.Kept.{Each-map}
+use Rattle.m2_base.proofs.EachLaws.{each_then}
 use Rattle.m2_base.proofs.RowLaws.{HasSmallNumbers-fits}
 use Rattle.type_rules.specs.Asks.{Reads}
 use Rattle.type_rules.specs.Scenes.{Agrees, AreInHand, Hand, IsRowOf, NamesNoType, Suits, rows_of}
@@ -250,7 +250,7 @@ lookup_all f made name (s ∷ chain) agrees in_hand inner settled =
 pub can_look : (st : State) (a : Around) (name : ℕ) (chain : List ℕ) → Suits st.frame a → CanLook st.frame chain → name ≢ 0 → CanSearch st chain name
 can_look st a name chain suits can named = record {
   short = can.short;
-  exist = Each-map (λ s. s ≤ fills_of st) (λ s. s < length st.frame.setting.areas) chain (λ s k. let e = suits.exist in omega (arith, e, k)) can.inner;
+  exist = each_then (λ s. s ≤ fills_of st) (λ s. s < length st.frame.setting.areas) chain (λ s k. let e = suits.exist in omega (arith, e, k)) can.inner;
   named = named;
 }
 

@@ -3,4 +3,5 @@ pub mod Assigning
 pub mod Forms
 pub mod Scenes
 pub mod Sites
+pub mod Standing
 pub mod Members

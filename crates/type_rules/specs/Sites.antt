@@ -53,6 +53,12 @@ pub record CanLook (f : Frame) (chain : List ℕ) : Type 0 where
   pub inner : Each (λ s. s ≤ f.setting.fills) chain
   pub settled : (chain ≡ f.setting.fills ∷ []) ⊎ (IsIn f.setting.fills chain → f.closed ≡ true)
 
+-- the place is of a scope of the chain, or of one before such a scope
+pub record IsWithin (chain : List ℕ) (p : Place) : Type 0 where
+  pub scope : ℕ
+  pub on : IsIn scope chain
+  pub upto : p.scope ≤ scope
+
 -- what a search leaves as before, and that what it found is the reply of a look that it added
 pub record Looked (old new : State) (at name : ℕ) (answer : Ask (Option Entry)) : Type 0 where
   pub looks : List Look

@@ -9,6 +9,7 @@ ghost use Rattle.m2_base.specs.Statics.Types.{stands_for as spec_stands, kind_of
 ghost use Rattle.type_rules.specs.Asks.{Reads, WhereKnown, WhereWaiting};
 ghost use Rattle.type_rules.specs.Assigning.{takes_char as spec_takes_char, takes_text as spec_takes_text, takes_value as spec_takes_value, takes_other as spec_takes_other, takes_closed as spec_takes_closed, array_takes};
 ghost use Rattle.type_rules.specs.Scenes.{Suits, IsThere, IsOperandThere, IsSaid, scene_of, WhereTold};
+ghost use Rattle.type_rules.specs.Standing.{StopsAtType};
 
 use crate::compatibility::{bases_of, compatible};
 use crate::forms::{forms_of, same_form};
@@ -27,6 +28,7 @@ pub fn is_open_array<S: Scopes>(scopes: &mut S, around: &Around, of: Place) -> A
     ensures waits { WhereWaiting result (λ head. Waits (S.state scopes.old) (S.state scopes.new) head) }
     ensures told { WhereTold (S.state scopes.old).frame (λ made.
         WhereKnown result (λ holds. holds ≡ spec_open_array (scene_of (S.state scopes.old).frame made around.now) of)) }
+    ensures stops { WhereWaiting result (λ head. StopsAtType (S.state scopes.new) around.now of head) }
 {
     let (_, meaning) = known!(stand(scopes, around, of));
     Ask::Known(matches!(meaning, RowMeaning::OpenArray(_)))

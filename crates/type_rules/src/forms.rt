@@ -1,5 +1,5 @@
 //! When two procedure types are of the same form.
-ghost use Rattle.std.specs.Prelude.{◌≡◌, ◌≤◌, ◌<◌, option_map};
+ghost use Rattle.std.specs.Prelude.{◌≡◌, ◌⊎◌, ◌≤◌, ◌<◌, option_map};
 ghost use Rattle.std.specs.Option.{IfSome};
 ghost use Rattle.m2_base.specs.Rows.{row_meaning, HasSmallNumbers};
 ghost use Rattle.m2_base.specs.declared.rows.Place.{Place as Spot};
@@ -10,6 +10,7 @@ ghost use Rattle.m2_base.specs.Statics.Types.{stands_for as spec_stands, kind_of
 ghost use Rattle.type_rules.specs.Asks.{Reads, WhereKnown, WhereWaiting};
 ghost use Rattle.type_rules.specs.Forms.{form_by, are_same_places, same_by as spec_same_by, IsFormHere, parameters_from, parameters_by, GoesOn, Progresses, GoesLater, same_forms, compared};
 ghost use Rattle.type_rules.specs.Scenes.{Suits, IsThere, IsStood, IsStoodHere, scene_of, WhereTold};
+ghost use Rattle.type_rules.specs.Standing.{IsShortBefore, StopsAtEither, StopsAtType};
 
 use crate::operands::BROKEN;
 use crate::rows::row_at;
@@ -49,6 +50,7 @@ pub fn form_of<S: Scopes>(scopes: &mut S, around: &Around, of: Place) -> Ask<Opt
     ensures told { WhereTold (S.state scopes.old).frame (λ made. WhereKnown result (λ form.
         form ≡ form_by (spec_stands (scene_of (S.state scopes.old).frame made around.now) of) (kind_of (scene_of (S.state scopes.old).frame made around.now) of))) }
     ensures here { WhereKnown result (λ form. IfSome form (λ form. IsFormHere (S.state scopes.old).frame form)) }
+    ensures stops { WhereWaiting result (λ head. StopsAtType (S.state scopes.new) around.now of head) }
 {
     let (stood, meaning) = known!(stand(scopes, around, of));
     match meaning {
@@ -71,6 +73,7 @@ fn same_part<S: Scopes>(scopes: &mut S, around: &Around, x: Place, y: Place) -> 
     ensures waits { WhereWaiting result (λ head. Waits (S.state scopes.old) (S.state scopes.new) head) }
     ensures told { WhereTold (S.state scopes.old).frame (λ made.
         WhereKnown result (λ same. same ≡ spec_same_part (scene_of (S.state scopes.old).frame made around.now) x y)) }
+    ensures stops { WhereWaiting result (λ head. StopsAtEither (S.state scopes.new) around.now x y head) }
 {
     let left = known!(stands_for(scopes, around, x));
     let right = known!(stands_for(scopes, around, y));
@@ -103,6 +106,7 @@ pub fn next_parameter<S: Scopes>(
     ensures told { WhereTold (S.state scopes.old).frame (λ made. WhereKnown result (λ formal.
         parameters_from (scene_of (S.state scopes.old).frame made around.now) of start ≡ parameters_by (scene_of (S.state scopes.old).frame made around.now) of formal)) }
     ensures goes_on { WhereKnown result (λ formal. IfSome formal (λ formal. GoesOn (S.state scopes.old).frame of start formal)) }
+    ensures stops { WhereWaiting result (λ head. IsShortBefore of head) }
 {
     for ordinal in start..of.ordinal {
         let place = Place {
@@ -139,6 +143,7 @@ fn stand_both<S: Scopes>(
     ensures right { WhereTold (S.state scopes.old).frame (λ made.
         WhereKnown result (λ both. IsStood (scene_of (S.state scopes.old).frame made around.now) y both.1)) }
     ensures here { WhereKnown result (λ both. IsStoodHere (S.state scopes.old).frame both.0 × IsStoodHere (S.state scopes.old).frame both.1) }
+    ensures stops { WhereWaiting result (λ head. StopsAtEither (S.state scopes.new) around.now x y head) }
 {
     let left = known!(stand(scopes, around, x));
     let right = known!(stand(scopes, around, y));
@@ -212,6 +217,7 @@ fn next_pair<S: Scopes>(
         parameters_from (scene_of (S.state scopes.old).frame made around.now) y right ≡ parameters_by (scene_of (S.state scopes.old).frame made around.now) y pair.1)) }
     ensures left_goes_on { WhereKnown result (λ pair. IfSome pair.0 (GoesOn (S.state scopes.old).frame x left)) }
     ensures right_goes_on { WhereKnown result (λ pair. IfSome pair.1 (GoesOn (S.state scopes.old).frame y right)) }
+    ensures stops { WhereWaiting result (λ head. IsShortBefore x head ⊎ IsShortBefore y head) }
 {
     let first = known!(next_parameter(scopes, around, x, left));
     let second = known!(next_parameter(scopes, around, y, right));
@@ -353,6 +359,7 @@ pub(crate) fn forms_of<S: Scopes>(
     ensures right { WhereTold (S.state scopes.old).frame (λ made.
         WhereKnown result (λ forms. forms.1 ≡ form_by (spec_stands (scene_of (S.state scopes.old).frame made around.now) y) (kind_of (scene_of (S.state scopes.old).frame made around.now) y))) }
     ensures here { WhereKnown result (λ forms. IfSome forms.0 (IsFormHere (S.state scopes.old).frame) × IfSome forms.1 (IsFormHere (S.state scopes.old).frame)) }
+    ensures stops { WhereWaiting result (λ head. StopsAtEither (S.state scopes.new) around.now x y head) }
 {
     let left = known!(form_of(scopes, around, x));
     let right = known!(form_of(scopes, around, y));

@@ -5,6 +5,7 @@ ghost use Rattle.m2_base.specs.Statics.SameForm.{is_same_form};
 ghost use Rattle.type_rules.specs.Asks.{Reads, WhereKnown, WhereWaiting};
 ghost use Rattle.type_rules.specs.Forms.{IsFormHere, is_bare as spec_is_bare};
 ghost use Rattle.type_rules.specs.Scenes.{Suits, IsThere, scene_of, WhereTold};
+ghost use Rattle.type_rules.specs.Standing.{IsShortBefore};
 
 use crate::forms::{Form, Formal, forms_of, next_parameter, same_form};
 use m2_base::{Around, Ask, Place, Scopes};
@@ -25,6 +26,7 @@ fn is_bare<S: Scopes>(scopes: &mut S, around: &Around, form: Form) -> Ask<bool>
     ensures waits { WhereWaiting result (λ head. Waits (S.state scopes.old) (S.state scopes.new) head) }
     ensures told { WhereTold (S.state scopes.old).frame (λ made.
         WhereKnown result (λ bare. bare ≡ spec_is_bare (scene_of (S.state scopes.old).frame made around.now) form)) }
+    ensures stops { WhereWaiting result (λ head. IsShortBefore form.of head) }
 {
     let first = known!(next_parameter(scopes, around, form.of, form.first));
     Ask::Known(is_nothing(first, form.result))

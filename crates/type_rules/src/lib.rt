@@ -34,7 +34,7 @@ mod standing;
 mod uses;
 
 pub use assigning::{assignable, is_open_array};
-pub use compatibility::{bases_of, compatible, is_pointer};
+pub use compatibility::{bases_of, compatible, compatible_with, is_pointer};
 pub use finding::entry_of_module;
 pub use folding::fold;
 pub use forms::{Form, Formal, form_of, next_parameter};
@@ -44,7 +44,7 @@ pub use operands::{
     BITSET, BOOLEAN, BROKEN, CARDINAL, CHARACTER, INTEGER, NIL, TEXT, WHOLE,
     is_integer_or_cardinal, is_one_char, is_string, operand_type,
 };
-pub use ordinals::{base_of, range_by, range_of};
+pub use ordinals::{base_by, base_of, range_by, range_of};
 pub use rows::{meaning_at, row_at, row_before};
 pub use sameness::same;
 pub use sizes::size_of;

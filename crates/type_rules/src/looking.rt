@@ -7,7 +7,7 @@ ghost use Rattle.m2_base.specs.Tables.{Lacks, lookup};
 ghost use Rattle.m2_base.specs.declared.replies.Reply.TheVariants.{DontKnowYet as Unknown};
 ghost use Rattle.type_rules.specs.Asks.{WhereKnown, WhereWaiting};
 ghost use Rattle.type_rules.specs.Scenes.{Suits, IsRowOf, rows_of, WhereTold};
-ghost use Rattle.type_rules.specs.Sites.{CanLook, Looked, IsLookFor};
+ghost use Rattle.type_rules.specs.Sites.{CanLook, IsLookFor, IsWithin, Looked};
 
 use m2_base::{Around, Ask, Place, Reply, Row, Scopes};
 
@@ -29,6 +29,7 @@ pub(crate) fn look_up<S: Scopes>(
         (IsIn (fills_of (S.state scopes.old)) chain.now → Lacks made.rows name) →
         WhereKnown result (λ entry. entry ≡ lookup (rows_of (S.state scopes.old).frame made) chain.now name)) }
     ensures row { WhereKnown result (λ entry. IfSome entry (λ entry. IsRowOf (S.state scopes.old).frame entry.0 entry.1)) }
+    ensures within { WhereKnown result (λ entry. IfSome entry (λ entry. IsWithin chain.now entry.0)) }
 {
     match scopes.search(at, chain, name) {
         Reply::Found(place, row) => Ask::Known(Some((place, row))),

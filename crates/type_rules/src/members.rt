@@ -42,9 +42,9 @@ fn is_field(row: &Row, of: u32, name: u32) -> bool
     }
 }
 
-/// The field of a name among the rows of a record, the first of which has an ordinal that isn't above the record's.
+/// The field of a name among the rows of a record from the first on, gone over one after another.
 #[tactic(auto, using(crate::proofs::Reading::reading))]
-fn field_among<S: Scopes>(
+fn walk_to_field<S: Scopes>(
     scopes: &mut S,
     around: &Around,
     of: Place,
@@ -71,6 +71,34 @@ fn field_among<S: Scopes>(
         }
     }
     Ask::Known(None)
+}
+
+/// The field of a name among the rows of a record, the first of which has an ordinal that isn't above the record's.
+#[tactic(auto, using(crate::proofs::Reading::reading))]
+fn field_among<S: Scopes>(
+    scopes: &mut S,
+    around: &Around,
+    of: Place,
+    first: u32,
+    name: u32,
+) -> Ask<Option<Row>>
+    requires suits { Suits (S.state scopes.old).frame around.now }
+    requires there { IsThere (S.state scopes.old).frame of }
+    ensures reads { Reads (S.state scopes.old) (S.state scopes.new) }
+    ensures waits { WhereWaiting result (λ head. Waits (S.state scopes.old) (S.state scopes.new) head) }
+    ensures told { WhereTold (S.state scopes.old).frame (λ made.
+        WhereKnown result (λ row. row ≡ find (spec_is_field of.ordinal name) (rows_between (scene_of (S.state scopes.old).frame made around.now) of.scope first of.ordinal))) }
+    ensures here { WhereKnown result (λ row. IfSome row (λ row. IsHere (S.state scopes.old).frame row)) }
+    ensures typed { WhereKnown result (λ row. IfSome row (λ row. IsFieldThere (S.state scopes.old).frame (row_meaning row))) }
+{
+    let Some((ordinal, row)) = known!(scopes.select(of, name)) else {
+        return Ask::Known(None);
+    };
+    if ordinal < first {
+        // No declaration makes a field that stands before the rows of its record.
+        return walk_to_field(scopes, around, of, first, name);
+    }
+    Ask::Known(Some(row))
 }
 
 /// The row of a record's field of this name; none where a type is no record or has no such field.

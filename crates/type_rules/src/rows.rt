@@ -22,6 +22,7 @@ pub fn row_at<S: Scopes>(scopes: &mut S, around: &Around, place: Place) -> Ask<R
     ensures row { WhereKnown result (λ row. IsRowOf (S.state scopes.old).frame place row) }
     ensures of { WhereWaiting result (λ head. head.scope ≡ place.scope) }
     ensures stops { WhereWaiting result (λ head. head.count ≤ place.ordinal) }
+    ensures looks { (S.state scopes.new).looks ≡ (S.state scopes.old).looks }
 {
     let _scope = around.scope;
     match scopes.fetch(0, place) {
@@ -60,6 +61,7 @@ pub fn meaning_at<S: Scopes>(scopes: &mut S, around: &Around, place: Place) -> A
     ensures said { WhereKnown result (λ meaning. IsSaid (S.state scopes.old).frame place meaning) }
     ensures of { WhereWaiting result (λ head. head.scope ≡ place.scope) }
     ensures stops { WhereWaiting result (λ head. head.count ≤ place.ordinal) }
+    ensures looks { (S.state scopes.new).looks ≡ (S.state scopes.old).looks }
 {
     let row = known!(row_at(scopes, around, place));
     Ask::Known(read_row(&row))

@@ -4,6 +4,7 @@ ghost use Rattle.m2_base.specs.States.{Waits};
 ghost use Rattle.m2_base.specs.Statics.Types.{size_of as spec_size};
 ghost use Rattle.type_rules.specs.Asks.{Reads, WhereKnown, WhereWaiting};
 ghost use Rattle.type_rules.specs.Scenes.{Suits, IsThere, scene_of, WhereTold};
+ghost use Rattle.type_rules.specs.Standing.{StopsAtType};
 
 use crate::standing::stand;
 use m2_base::{Around, Ask, Place, RowMeaning, Scopes};
@@ -18,6 +19,7 @@ pub fn size_of<S: Scopes>(scopes: &mut S, around: &Around, of: Place) -> Ask<u64
     ensures told { WhereTold (S.state scopes.old).frame (λ made.
         WhereKnown result (λ size. size ≡ spec_size (scene_of (S.state scopes.old).frame made around.now) of)) }
     ensures small { WhereKnown result (λ size. size < 2 ^ 32) }
+    ensures stops { WhereWaiting result (λ head. StopsAtType (S.state scopes.new) around.now of head) }
 {
     let (_, meaning) = known!(stand(scopes, around, of));
     match meaning {

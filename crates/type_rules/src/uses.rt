@@ -1,5 +1,5 @@
 //! What a name stands for where it is used.
-ghost use Rattle.std.specs.Prelude.{◌≡◌, ◌≢◌, ◌+◌, ◌<◌, ◌∷◌, ◌++◌, ◌==◌, ◌&&◌, ◌⊎◌, [], drop, length, nat_lt, slice_get, IfOk, OnErr, MatchOption, true};
+ghost use Rattle.std.specs.Prelude.{◌≡◌, ◌≢◌, ◌+◌, ◌<◌, ◌≤◌, ◌∷◌, ◌++◌, ◌==◌, ◌&&◌, ◌⊎◌, [], drop, length, nat_lt, slice_get, IfOk, OnErr, MatchOption, true};
 ghost use Rattle.std.specs.Option.{IfSome};
 ghost use Rattle.m2_base.specs.Asks.{IfKnown, IfWaits};
 ghost use Rattle.m2_base.specs.Diagnostics.{code_of};
@@ -16,13 +16,13 @@ ghost use Rattle.m2_base.specs.Standard.{standard_place, standard_rows as spec_r
 ghost use Rattle.m2_base.specs.Tables.{Lacks, lookup};
 ghost use Rattle.type_rules.specs.Asks.{Reads, WhereKnown, WhereWaiting};
 ghost use Rattle.type_rules.specs.Scenes.{Suits, IsRowOf, rows_of, scene_of, WhereTold};
-ghost use Rattle.type_rules.specs.Sites.{AreOfItem, AreOfSite, SuitsSite, CanLook, context_of, source_of, IsAskedIn, LeadsTo, chain_of, chain_in_item};
+ghost use Rattle.type_rules.specs.Sites.{AreOfItem, AreOfSite, SuitsSite, CanLook, context_of, source_of, IsAskedIn, IsWithin, LeadsTo, chain_of, chain_in_item};
 
 use crate::looking::look_up;
 use crate::rows::row_at;
 use m2_base::{
     Answer, Around, Ask, Diagnostic, Memory, Notes, Place, Row, RowMeaning, Scopes, Site, Texts,
-    read_row, standard_rows,
+    read_row, standard_row,
 };
 
 /// A row with its place.
@@ -54,6 +54,7 @@ pub fn follow<S: Scopes>(scopes: &mut S, around: &Around, entry: Entry) -> Ask<E
     ensures told { WhereTold (S.state scopes.old).frame (λ made.
         WhereKnown result (λ found. found ≡ followed (scene_of (S.state scopes.old).frame made around.now) entry)) }
     ensures row { WhereKnown result (λ found. IsRowOf (S.state scopes.old).frame found.0 found.1) }
+    ensures upto { WhereKnown result (λ found. found.0.scope ≤ entry.0.scope) }
     ensures of { WhereWaiting result (λ head. LeadsTo entry.1 head) }
 {
     match read_row(&entry.1) {
@@ -100,6 +101,7 @@ fn bind<S: Scopes>(
     ensures told { WhereTold (S.state scopes.old).frame (λ made.
         IfKnown result (λ found. found ≡ Some (followed (scene_of (S.state scopes.old).frame made around.now) entry))) }
     ensures row { IfKnown result (λ found. MatchOption found ⊥ (λ found. IsRowOf (S.state scopes.old).frame found.0 found.1)) }
+    ensures upto { IfKnown result (λ found. MatchOption found ⊥ (λ found. found.0.scope ≤ entry.0.scope)) }
     ensures of { IfWaits result (λ head. LeadsTo entry.1 head) }
 {
     answer(notes, name, at, &entry)?;
@@ -131,6 +133,7 @@ fn bound_or<S: Scopes>(
         IfKnown result (λ entry. Adds notes.old notes.new (spec_bound_or (context_of (S.state scopes.old).frame made site.now) (code_of diagnostic) name at (lookup (rows_of (S.state scopes.old).frame made) chain.now name)) entry)) }
     ensures none { IfKnown result (λ entry. MatchOption entry (length notes.new.diags.items ≡ length notes.old.diags.items + 1) (λ _. notes.new.diags.items ≡ notes.old.diags.items)) }
     ensures row { IfKnown result (λ entry. IfSome entry (λ entry. IsRowOf (S.state scopes.old).frame entry.0 entry.1)) }
+    ensures within { IfKnown result (λ entry. IfSome entry (λ entry. IsWithin chain.now entry.0)) }
 {
     match look_up(scopes, site.around, chain, name, at) {
         Ask::Known(Some(entry)) => bind(scopes, site.around, name, at, entry, notes),
@@ -250,11 +253,11 @@ fn standard_entry(name: u32) -> Entry
     ensures place { result.0 ≡ standard_place name }
     ensures row { slice_get spec_rows (name + 10) ≡ Some result.1 }
 {
-    let ordinal = name + 10;
-    (
-        Place { scope: 0, ordinal },
-        standard_rows()[ordinal as usize],
-    )
+    let place = Place {
+        scope: 0,
+        ordinal: name + 10,
+    };
+    (place, standard_row(name))
 }
 
 /// What a name stands for where it is used at a token, with the place of its row; none with a diagnostic. A name after a
@@ -279,6 +282,7 @@ pub fn use_name<S: Scopes>(
         IfKnown result (λ entry. Adds notes.old notes.new (spec_use_of (context_of (S.state scopes.old).frame made site.now) within name at) entry)) }
     ensures none { IfKnown result (λ entry. MatchOption entry (length notes.new.diags.items ≡ length notes.old.diags.items + 1) (λ _. notes.new.diags.items ≡ notes.old.diags.items)) }
     ensures row { IfKnown result (λ entry. IfSome entry (λ entry. IsRowOf (S.state scopes.old).frame entry.0 entry.1)) }
+    ensures within { IfKnown result (λ entry. IfSome entry (λ entry. IfSome within (λ scope. entry.0.scope ≤ scope))) }
 {
     if let Some(scope) = within {
         let module = [scope];

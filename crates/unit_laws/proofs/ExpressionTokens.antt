@@ -8,7 +8,7 @@ use Rattle.m2_base.specs.Grammar as rules
 use Rattle.m2_base.specs.Grammar.{grammar}
 use Rattle.m2_base.specs.Trees.{Expr, Next, expr, exprs, in_brackets, label_with, labels, nexts, selectors, with_operators}
 use Rattle.m2_base.specs.declared.token.Token.{Token}
-use Rattle.m2_base.proofs.ReadExpressions.{after_commas}
+use Rattle.m2_base.proofs.LeafExpressions.{after_commas}
 use Rattle.expr_sem.specs.Tokens.{designator_tokens, expr_tokens, exprs_tokens, label_tokens, labels_tokens, nexts_tokens, selector_tokens, selectors_tokens}
 use Rattle.stream_split.proofs.TypeSizes.{size}
 

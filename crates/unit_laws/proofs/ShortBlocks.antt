@@ -3,7 +3,7 @@ use Rattle.std.proofs.Common.{ℕ, suc, ◌+◌, ◌≤◌, List, [], ◌∷◌,
 use Rattle.std.specs.List.{AllZip}
 use Rattle.ll_grammar.specs.Derivations.{Tree, both, tokens, Derives, of_empty, of_token, of_then, of_left, of_right, of_last, of_more, of_deep, of_sub}
 use Rattle.ll_grammar.specs.Grammar.{Rule, many, optional, sub, ◌⨾◌}
-use Rattle.m2_base.proofs.ChainLaws.{each_append}
+use Rattle.m2_base.proofs.EachLaws.{each_append}
 use Rattle.m2_base.specs.Finished.{AreRead, main_number, main_tokens, tokens_of}
 use Rattle.m2_base.specs.Grammar as rules
 use Rattle.m2_base.specs.Grammar.{grammar}

@@ -4,7 +4,7 @@ use Rattle.std.specs.Prelude.{Option, Some, None, flat_map, option_map, position
 use Rattle.std.proofs.lemmas.List.{length-map}
 use Rattle.std.proofs.lemmas.List.Elements.{All-head, All-tail}
 use Rattle.std.proofs.lemmas.List.Quantifiers.{position-Some}
-use Rattle.m2_base.proofs.ChainLaws.{each_then}
+use Rattle.m2_base.proofs.EachLaws.{each_then}
 use Rattle.m2_base.proofs.ReadSound.{item_sound}
 use Rattle.m2_base.proofs.SoundNames.{names_sound}
 use Rattle.m2_base.specs.Finished.{AreRead, own_scope, scope_in, source_of}

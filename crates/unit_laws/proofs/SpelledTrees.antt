@@ -1,8 +1,7 @@
 -- What holds of every tree that a stream of the unit spells holds of its blocks.
 use Rattle.std.proofs.Common.{List, [], ◌∷◌, ◌++◌, map, sym, subst}
 use Rattle.m2_base.specs.Statics.ReadStatements.{AreReadStatements}
-use Rattle.m2_base.proofs.ReadStatements.{statements_are_read}
-use Rattle.m2_base.proofs.ReadStreams.{items_are_read}
+use Rattle.m2_base.proofs.ReadTrees.{items_are_read, statements_are_read}
 use Rattle.m2_base.specs.Finished.{AreRead}
 use Rattle.m2_base.specs.Lists.{Each}
 use Rattle.m2_base.specs.Statics.Blocks.{BlockTree, UnitTrees, blocks_of}

@@ -9,7 +9,7 @@ use Rattle.m2_base.specs.Trees.{Stream}
 use Rattle.m2_base.specs.Units.{IsUnit, TextOf, UnitTexts}
 use Rattle.m2_base.specs.declared.trees.declarations.StreamKind.{StreamKind}
 use Rattle.m2_base.specs.declared.trees.declarations.StreamKind.TheVariants.{Definition, Main, Procedure}
-use Rattle.m2_base.proofs.Kept.{Each-append}
+use Rattle.m2_base.proofs.EachLaws.{each_append}
 use Rattle.m2_base.proofs.StandingStreams.{streams_stand}
 use Rattle.stream_split.specs.Agreement.{SpellsStreams}
 use Rattle.stream_split.specs.Chains.{block_by, block_of}
@@ -77,7 +77,7 @@ mains_home : (trees : List Stream) (before : List BlockTree) (s : ℕ) → Each 
 mains_home [] before s h = h
 mains_home (tree ∷ trees) before s h =
     mains_home trees (before ++ procedure_block s tree (encloser before s)) (s + 1)
-    (Each-append IsHome before (procedure_block s tree (encloser before s)) h (procedure_home s tree (encloser before s)))
+    (each_append IsHome before (procedure_block s tree (encloser before s)) h (procedure_home s tree (encloser before s)))
 
 main_home : (u : UnitTrees) (trees : List Stream) → Each IsHome (blocks_of_main u trees)
 main_home u [] = tt
@@ -86,5 +86,5 @@ main_home u (tree ∷ trees) = mains_home trees (main_block u tree ∷ []) (home
 pub all_home : (u : UnitTrees) → Each IsHome (blocks_of u)
 unfolding blocks_of
 all_home u =
-    Each-append IsHome (definition_blocks 1 u.source.definitions u.definitions) (blocks_of_main u u.main)
+    each_append IsHome (definition_blocks 1 u.source.definitions u.definitions) (blocks_of_main u u.main)
     (definitions_home 1 u.source.definitions u.definitions) (main_home u u.main)

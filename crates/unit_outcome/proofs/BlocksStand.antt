@@ -12,14 +12,13 @@ use Rattle.m2_base.specs.Statics.UnitRows.{unit_rows}
 use Rattle.m2_base.specs.Units.{IsUnit, TextOf, UnitTexts}
 use Rattle.m2_base.specs.declared.notes.Diag.{Diag}
 use Rattle.m2_base.specs.declared.rows.Row.{Row}
-use Rattle.m2_base.proofs.Kept.{Each-append}
+use Rattle.m2_base.proofs.EachLaws.{each_append, each_then}
 use Rattle.row_laws.specs.RowRanges.{EachBlock}
 use Rattle.stmt_sem.specs.BlockCode.{block_diags}
 use Rattle.block_laws.specs.Worlds.{over_blocks}
 use Rattle.block_laws.proofs.BlocksAt.{before_of, unit_all, unit_made}
 use Rattle.unit_laws.proofs.SoundUnits.{scopes_are}
 use Rattle.block_notes.proofs.StandingBlocks.{block_stands}
-use Rattle.block_notes.proofs.TextBlocks.{all_here}
 use Rattle.merge_laws.specs.Outcome.{unit_diags}
 use Rattle.unit_outcome.specs.Tokens.{IsAtToken}
 use Rattle.unit_outcome.proofs.BlockTexts.{IsHome, StandsInText, all_home, unit_blocks}
@@ -29,18 +28,13 @@ each_with P b [] h i = absurd i
 each_with P b (c ∷ blocks) h (inl e) = subst P (sym e) h.0
 each_with P b (c ∷ blocks) h (inr i) = each_with P b blocks h.1 i
 
--- of one text, at tokens of it
-both : (texts : UnitTexts) (t : TextOf) (k : ℕ) (ds : List Diag) → slice_get texts.list k ≡ Some t → Each (λ (d : Diag). d.text ≡ k) ds → Each (λ (d : Diag). d.at < length t.tokens) ds → Each (IsAtToken texts) ds
-both texts t k [] there h i = tt
-both texts t k (d ∷ ds) there h i = ((t, ap (slice_get texts.list) h.0 ∙ there, i.0), both texts t k ds there h.1 i.1)
-
 -- of each block
 noted_stand : (Q : Diag → Type 0) (f : List (List Row) → BlockTree → List Diag) (source : Source) (before : List (List Row)) (blocks : List BlockTree) → EachBlock (λ ts b. Each Q (f ts b)) source before blocks
     → Each Q (flat_map (λ (diags : List Diag). diags) (over_blocks f source before blocks))
 noted_stand Q f source before [] h = tt
 noted_stand Q f source before (b ∷ blocks) h =
     let later = before ++ (declare_block source before b).rows ∷ [] in
-    Each-append Q (f before b) (flat_map (λ (diags : List Diag). diags) (over_blocks f source later blocks)) h.0 (noted_stand Q f source later blocks h.1)
+    each_append Q (f before b) (flat_map (λ (diags : List Diag). diags) (over_blocks f source later blocks)) h.0 (noted_stand Q f source later blocks h.1)
 
 module _ (Q : Diag → Type 0) where
   each_either : (b : Bool) (ds es : List Diag) → Each Q ds → Each Q es → Each Q (if b then ds else es)
@@ -66,7 +60,7 @@ module _ (texts : UnitTexts) (u : UnitTrees) (unit : IsUnit texts) (read : AreRe
       let s = each_with (StandsInText texts.list) b (blocks_of u) (unit_blocks texts u unit read) i in
       let home = each_with IsHome b (blocks_of u) (all_home u) i in
       let rows = unit_made u (scopes_are texts u read) b i in
-      both texts s.text b.block.text (made (before_of u b) b) s.there (all_here u.source (before_of u b) (unit_rows u) b).each
+      each_then (λ (d : Diag). (d.text ≡ b.block.text) × (d.at < length s.text.tokens)) (IsAtToken texts) (made (before_of u b) b) (λ d k. (s.text, ap (slice_get texts.list) k.0 ∙ s.there, k.1))
       (block_stands (length s.text.tokens) u.source (before_of u b) (unit_rows u) b s.tree home rows).each
 
   -- the diagnostics of all blocks

@@ -12,17 +12,14 @@ use Rattle.m2_base.specs.declared.token.Token.{Token}
 use Rattle.unit_merge.specs.Outcome.{refusals}
 use Rattle.unit_merge.specs.TextFaults.{AreFaults, AreFaultsFrom, IsFaultOfText, IsFirstIn}
 use Rattle.unit_outcome.specs.Tokens.{IsAtToken}
-use Rattle.unit_outcome.proofs.StreamTokens.{tokens_below}
 use Rattle.m2_base.specs.declared.outputs.StreamFault.TheVariants as faults
+use Rattle.m2_base.proofs.EachLaws.{each_back}
+use Rattle.m2_base.proofs.StandingStreams.{tokens_below}
 
 -- the text at a place of a list
 at_place : {A : Type 0} (before : List A) (x : A) (behind : List A) → slice_get (before ++ x ∷ behind) (length before) ≡ Some x
 at_place [] x behind = refl
 at_place (b ∷ before) x behind = at_place before x behind
-
-pub each_behind : (P : Token → Type 0) (xs ys : List Token) → Each P (xs ++ ys) → Each P ys
-each_behind P [] ys h = h
-each_behind P (x ∷ xs) ys h = each_behind P xs ys h.1
 
 fault_place : (k : ℕ) (diag : Diag) (fault : Fault) (rest : List Token) → faults.Syntax diag ≡ fault_in k fault rest → (diag.text ≡ k) × (diag.at ≡ place rest)
 fault_place k diag Syntax rest e =
@@ -42,12 +39,12 @@ module _ (u : UnitTexts) where
   first_stands k true t diag there numbered h =
       let n = length t.tokens in
       let at = fault_place k diag h.fault h.rest h.told in
-      let behind = each_behind (λ (x : Token). x.at < n) h.faulty.before h.rest (subst (λ (l : List Token). Each (λ (x : Token). x.at < n) l) h.faulty.is (tokens_below t.tokens numbered)) in
+      let behind = each_back (λ (x : Token). x.at < n) h.faulty.before h.rest (subst (λ (l : List Token). Each (λ (x : Token). x.at < n) l) h.faulty.is (tokens_below t.tokens numbered)) in
       (t, ap (slice_get u.list) at.0 ∙ there, subst (λ (x : ℕ). x < n) (sym at.1) (place_below n h.rest (some_tokens t.tokens numbered) behind))
   first_stands k false t diag there numbered h =
       let n = length t.tokens in
       let at = fault_place k diag h.fault h.rest h.told in
-      let behind = each_behind (λ (x : Token). x.at < n) h.faulty.before h.rest (subst (λ (l : List Token). Each (λ (x : Token). x.at < n) l) h.faulty.is (tokens_below t.tokens numbered)) in
+      let behind = each_back (λ (x : Token). x.at < n) h.faulty.before h.rest (subst (λ (l : List Token). Each (λ (x : Token). x.at < n) l) h.faulty.is (tokens_below t.tokens numbered)) in
       (t, ap (slice_get u.list) at.0 ∙ there, subst (λ (x : ℕ). x < n) (sym at.1) (place_below n h.rest (some_tokens t.tokens numbered) behind))
 
   stand_from : (m : ℕ) (before behind : List TextOf) (fs : List (Option StreamFault)) → u.list ≡ before ++ behind → Each (IsText u.names) behind → AreFaultsFrom m (length before) behind fs → Each (IsAtToken u) (refusals fs)

@@ -4,27 +4,14 @@ use Rattle.m2_base.specs.Finished.{main_number, main_tokens, tokens_in}
 use Rattle.m2_base.specs.Lists.{Each}
 use Rattle.m2_base.specs.Units.{AreNumbered, HasOneMain, IsDefinition, IsText, IsUnit, TextOf, UnitTexts}
 use Rattle.m2_base.specs.declared.token.Token.{Token}
-use Rattle.m2_base.proofs.Kept.{Each-append, Each-map}
+use Rattle.m2_base.proofs.EachLaws.{each_append}
+use Rattle.m2_base.proofs.StandingStreams.{tokens_below}
 use Rattle.stream_split.specs.declared.cutter.Mode.{Mode}
 use Rattle.stream_split.specs.declared.cutter.Mode.TheVariants.{Free, Body}
 use Rattle.stream_split.specs.declared.sorts.Sort.{Sort}
 use Rattle.stream_split.specs.declared.sorts.Sort.TheVariants.{Stop, Word, Procedure, Closer, Left, Right, Semicolon}
 use Rattle.stream_split.specs.Cut.{Enclosed, Event, Phase, all_end, amid, amid_next, end_at, ended, events, goes, goes_by, heading, heading_goes, heading_next, next, next_by, one_left, opened, out_of, pick, seen, seen_next, sort, start, State, state, to, two_left, unless_stop}
 use Rattle.stream_split.specs.Streams.{StreamOf, definition_streams, main_streams, procedure_streams, streams_of}
-
--- ** The tokens of a text
-
-below_from : (at : ℕ) (ts : List Token) → AreNumbered at ts → Each (λ (t : Token). t.at < at + length ts) ts
-below_from at [] h = absurd h
-below_from at (t ∷ []) h = ((let e : t.at ≡ at = h.1 in omega (arith, e)), tt)
-below_from at (t ∷ u ∷ ts) h = (
-  (let e : t.at ≡ at = h.1 in omega (arith, e)),
-  Each-map (λ (x : Token). x.at < (at + 1) + length (u ∷ ts)) (λ (x : Token). x.at < at + length (t ∷ u ∷ ts)) (u ∷ ts) (λ x b. omega (arith, b)) (below_from (at + 1) (u ∷ ts) h.2),
-)
-
--- they have the numbers below their count
-pub tokens_below : (ts : List Token) → AreNumbered 0 ts → Each (λ (t : Token). t.at < length ts) ts
-tokens_below ts h = Each-map (λ (t : Token). t.at < 0 + length ts) (λ (t : Token). t.at < length ts) ts (λ t b. omega (arith, b)) (below_from 0 ts h)
 
 -- ** Where they go
 
@@ -62,10 +49,10 @@ module _ (n : ℕ) where
   last_low k fs t z g = (g, tt)
 
   and_last : (hs : List Token) (t : Token) → Each IsBelow hs → IsBelow t → Each IsBelow (hs ++ (t ∷ []))
-  and_last hs t h g = Each-append IsBelow hs (t ∷ []) h (g, tt)
+  and_last hs t h g = each_append IsBelow hs (t ∷ []) h (g, tt)
 
   heading_low : (k c : ℕ) (fs : List (ℕ × Mode)) (p : ℕ) (hs : List Token) (t : Token) (z : Sort) → Each IsBelow hs → IsBelow t → Each Goes (heading_goes k c fs p hs t z)
-  heading_low k c fs p hs t Stop h g = (g, Each-append Goes (all_end fs t) (to c (hs ++ (t ∷ []))) (ends_low fs t g) (to_low c (hs ++ (t ∷ [])) (and_last hs t h g)))
+  heading_low k c fs p hs t Stop h g = (g, each_append Goes (all_end fs t) (to c (hs ++ (t ∷ []))) (ends_low fs t g) (to_low c (hs ++ (t ∷ [])) (and_last hs t h g)))
   heading_low k c fs zero hs t Semicolon h g = (g, (g, to_low c (hs ++ (t ∷ [])) (and_last hs t h g)))
   heading_low k c fs (suc p) hs t Semicolon h g = (g, tt)
   heading_low k c fs p hs t z h g = (g, tt)
@@ -124,7 +111,7 @@ module _ (n : ℕ) where
   events_low : (s : State) (ts : List Token) → Each IsBelow ts → IsLow s → Each Goes (events s ts)
   events_low s [] g h = tt
   events_low s (t ∷ ts) g h =
-      Each-append Goes (goes s t) (events (next s t) ts) (goes_low s t (sort t.kind) g.0 h) (events_low (next s t) ts g.1 (next_low s t (sort t.kind) g.0 h))
+      each_append Goes (goes s t) (events (next s t) ts) (goes_low s t (sort t.kind) g.0 h) (events_low (next s t) ts g.1 (next_low s t (sort t.kind) g.0 h))
 
   pick_low : (j : ℕ) (es : List Event) → Each Goes es → Each IsBelow (pick j es)
   pick_low j [] h = tt
@@ -187,5 +174,5 @@ some_text (t ∷ list) h = omega arith
 -- each stream of a unit
 pub streams_are : (u : UnitTexts) → IsUnit u → Each (IsOfText u.list) (streams_of u)
 streams_are u unit =
-    Each-append (IsOfText u.list) (definition_streams 1 u.list u.order) (main_streams (main_number u) (main_tokens u)) (definitions_are u.names u.list unit.texts u.order 1 unit.ordered)
+    each_append (IsOfText u.list) (definition_streams 1 u.list u.order) (main_streams (main_number u) (main_tokens u)) (definitions_are u.names u.list unit.texts u.order 1 unit.ordered)
     (main_are u.names u.list unit.texts (text_at u.names u.list unit.texts 0 (some_text u.list unit.main)) (main_number u))

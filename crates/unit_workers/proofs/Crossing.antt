@@ -1,10 +1,11 @@
--- The job of a stream may be sent to another thread: its task may, the parts of that, its tree among them, and its handle.
+-- The job of a stream may be sent to another thread: its task may, the parts of that, its tree among them, and its handle, and
+-- so may a box with both.
 use denote.RattleType.{RattleType}
 use denote.Ref.{NamedLft}
 use denote.Param.Send.{IsSend, sendable}
 use denote.Param.SendFields.{as_row_send, declared_send, variants_send}
 use denote.Struct.Field.{bool-field, u32-field, u64-field}
-use Rattle.std.proofs.Crossing.{Vec-send}
+use Rattle.std.proofs.Crossing.{Box-send, Vec-send}
 use Rattle.std.proofs.option.Option.TheSendSync as option
 use Rattle.m2_base.specs.contracts.token.Token as Token
 use Rattle.m2_base.proofs.trees.declarations.StreamKind.TheSendSync as kind
@@ -19,6 +20,7 @@ use Rattle.task_state.proofs.collecting.Collected.TheSendSync as collected
 use Rattle.task_state.proofs.stages.Stating.TheSendSync as stating
 use Rattle.tree_sending.proofs.Crossing.{tree-send}
 use Rattle.unit_workers.proofs.handles.TableScopes.TheSendSync as scopes
+use Rattle.unit_workers.specs.contracts.jobs.JobParts as JobParts
 use Rattle.unit_workers.specs.contracts.jobs.StreamJob as StreamJob
 use Rattle.unit_workers.specs.declared.handles.OfTable.{Ghosts}
 
@@ -44,5 +46,8 @@ task-send =
     declared_send Task.the_type
     (as_row_send u32-field u32-send, (as_row_send u32-field u32-send, (kind.the_send, (around.the_send, (stage-send, (as_row_send u64-field u64-send, tt))))))
 
+parts-send : (κ : NamedLft) (J : RattleType) (of : Ghosts J.Denot) → IsSend (JobParts.the_row κ J of)
+parts-send κ J of = declared_send (JobParts.the_type κ J of) (task-send, (scopes.the_send κ J of, tt))
+
 pub job-send : (κ : NamedLft) (J : RattleType) (of : Ghosts J.Denot) → IsSend (StreamJob.the_row κ J of)
-job-send κ J of = declared_send (StreamJob.the_type κ J of) (task-send, (scopes.the_send κ J of, tt))
+job-send κ J of = declared_send (StreamJob.the_type κ J of) (Box-send (JobParts.the_row κ J of) (parts-send κ J of), tt)

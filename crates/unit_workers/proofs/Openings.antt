@@ -6,6 +6,7 @@ use Rattle.std.proofs.lemmas.Bool.{false≢true}
 use Rattle.std.proofs.lemmas.List.{length-map}
 use Rattle.m2_base.specs.States.{State, fills_of}
 use Rattle.m2_base.specs.Units.{IsUnit, UnitTexts}
+use Rattle.m2_base.specs.declared.sites.Around.{Around}
 use Rattle.relay.specs.Places.{numbers_to}
 use Rattle.scope_table.specs.Rule.{base, empty_at, mid, scopes, shown_at, texts_in}
 use Rattle.scope_table.specs.Seats.{IsFirst, IsOpened, key_of, scope_of, view}
@@ -14,17 +15,22 @@ use Rattle.scope_table.specs.declared.table.TableSeat.{TableSeat}
 use Rattle.scope_table.specs.declared.view.About.{About}
 use Rattle.scope_table.specs.declared.view.Shown.{Shown}
 use Rattle.dky_search.specs.Seen.{area, areas_from, areas_in}
+use Rattle.stream_split.specs.Chains.{around_view}
 use Rattle.stream_split.specs.Sizes.{room_of, sizes_of}
 use Rattle.stream_split.specs.Streams.{StreamOf, streams_of}
+use Rattle.stream_split.specs.Surroundings.{surroundings_of}
+use Rattle.stream_split.specs.Views.{stream_view}
+use Rattle.stream_split.specs.declared.streams.StreamTokens.{StreamTokens}
 use Rattle.stream_split.proofs.StreamCounts.{number_is, streams_counted}
 use Rattle.task_state.specs.Progress.{IsAsFar, is_over}
 use Rattle.task_state.specs.declared.task.Task.{Task}
 use Rattle.task_state.proofs.Finished.{over_closed}
-use Rattle.supervisor.specs.Starts.{IsEmptyFor, StartsIn}
-use Rattle.supervisor.proofs.Starting.{pair_at, zip_count, zip_from, zip_long, zipped_at}
+use Rattle.supervisor.specs.Starts.{IsEmptyFor, IsNew, StartsIn}
+use Rattle.supervisor.specs.Units.{CanBeRun, block_in}
+use Rattle.supervisor.proofs.Starting.{starts, zip_count, zip_from, zip_long, zipped_at}
 use Rattle.unit_workers.specs.Jobs.{Fits, SeesAll}
 use Rattle.unit_workers.specs.Starts.{AreOthers, IsBegun, IsUnused, first_state}
-use Rattle.unit_workers.proofs.Places.{all_from, at_or, low_of}
+use Rattle.unit_workers.proofs.Places.{all_from, at_or, firsts_zip, low_of, map_zip, seconds_zip, unmap_zip, weaker}
 
 -- ** Rooms
 
@@ -111,33 +117,57 @@ module _ (t : ScopeTable) (u : UnitTexts) (seats : List TableSeat) (others : Are
 
   -- ** Jobs
 
-  module _ {H A : Type 0} (held : H → State) (state : A → State) (task : A → Task) (tasks : List Task) (handles : List H) (jobs : List A)
-      (start : AllZip (StartsIn u) (streams_of u) tasks) (made : AllZip (λ s h. held h ≡ first_state t s) seats handles)
-      (paired : AllZip (λ p j. (task j ≡ p.0) × (state j ≡ held p.1)) (zip tasks handles) jobs) where
-    many_tasks : length tasks ≡ length (streams_of u)
-    many_tasks = zip_long (StartsIn u) (streams_of u) tasks start
+  module _ {A : Type 0} (state : A → State) (task : A → Task) (unit : IsUnit u) (can : CanBeRun u) (streams : List StreamTokens) (arounds : List Around) (jobs : List A)
+      (cut : map stream_view streams ≡ streams_of u) (blocks : map around_view arounds ≡ surroundings_of u)
+      (made : AllZip (λ p j. IsNew (stream_view p.0.0) p.0.1 (task j) × (state j ≡ first_state t p.1)) (zip (zip streams arounds) seats) jobs) where
+    many_streams : length streams ≡ length (streams_of u)
+    many_streams =
+        let views = length-map streams stream_view in
+        let all = ap length cut in
+        omega (arith, views, all)
+
+    many_blocks : length (zip streams arounds) ≡ length (streams_of u)
+    many_blocks =
+        let a = length-map arounds around_view in
+        let b = length-map (streams_of u) (block_in u) in
+        let c = ap length blocks in
+        let all = many_streams in
+        let zipped = zip_count streams arounds (omega (arith, a, b, c, all)) in
+        omega (arith, zipped, all)
+
+    many_seats : length seats ≡ length (zip streams arounds)
+    many_seats =
+        let seated = others.opened.seats_are.all in
+        let sizes = length-map (streams_of u) room_of in
+        let all = many_blocks in
+        omega (arith, seated, sizes, all)
+
+    tasks_new : AllZip (λ p j. IsNew (stream_view p.0) p.1 (task j)) (zip streams arounds) jobs
+    tasks_new =
+        firsts_zip (λ (p : StreamTokens × Around) (j : A). IsNew (stream_view p.0) p.1 (task j)) (zip streams arounds) seats jobs many_seats
+        (weaker _ (λ (p : (StreamTokens × Around) × TableSeat) (j : A). IsNew (stream_view p.0.0) p.0.1 (task j)) (λ p j both. both.0) (zip (zip streams arounds) seats) jobs made)
+
+    held : AllZip (λ s j. state j ≡ first_state t s) seats jobs
+    held =
+        seconds_zip (λ (s : TableSeat) (j : A). state j ≡ first_state t s) (zip streams arounds) seats jobs many_seats
+        (weaker _ (λ (p : (StreamTokens × Around) × TableSeat) (j : A). state j ≡ first_state t p.1) (λ p j both. both.1) (zip (zip streams arounds) seats) jobs made)
+
+    started : AllZip (λ s j. StartsIn u s (task j)) (streams_of u) jobs
+    started =
+        unmap_zip (StartsIn u) task (streams_of u) jobs
+        (starts u unit can streams arounds (map task jobs) cut blocks (map_zip (λ (p : StreamTokens × Around) (x : Task). IsNew (stream_view p.0) p.1 x) task (zip streams arounds) jobs tasks_new))
 
     begun_at : (k : ℕ) (s : StreamOf) (j : A) → slice_get (streams_of u) k ≡ Some s → slice_get jobs k ≡ Some j → IsBegun u s (state j) (task j)
     begun_at k s j there given =
-        let z = zipped_at (λ p x. (task x ≡ p.0) × (state x ≡ held p.1)) (zip tasks handles) jobs paired k j given in
-        let pair = pair_at tasks handles k z.item z.there in
-        let h = zipped_at (λ x y. held y ≡ first_state t x) seats handles made k z.item.1 pair.second in
-        let w = zipped_at (StartsIn u) (streams_of u) tasks start k z.item.0 pair.first in
+        let h = zipped_at (λ x y. state y ≡ first_state t x) seats jobs held k j given in
+        let w = zipped_at (λ x y. StartsIn u x (task y)) (streams_of u) jobs started k j given in
         let here : Some w.item ≡ Some s = sym w.there ∙ there in
         let same : w.item ≡ s = cc in
-        let b = begun k h.item s z.item.0 h.there there (subst (λ (x : StreamOf). StartsIn u x z.item.0) same w.holds) in
-        subst (λ (x : Task). IsBegun u s (state j) x) (sym z.holds.0) (subst (λ (st : State). IsBegun u s st z.item.0) (sym (z.holds.1 ∙ h.holds)) b)
+        let b = begun k h.item s (task j) h.there there (subst (λ (x : StreamOf). StartsIn u x (task j)) same w.holds) in
+        subst (λ (st : State). IsBegun u s st (task j)) (sym h.holds) b
 
     many_jobs : length jobs ≡ length (streams_of u)
-    many_jobs =
-        let seated = others.opened.seats_are.all in
-        let sizes = length-map (streams_of u) room_of in
-        let held_by = zip_long (λ s h. held h ≡ first_state t s) seats handles made in
-        let given = many_tasks in
-        let even : length handles ≡ length tasks = omega (arith, seated, sizes, held_by, given) in
-        let zipped = zip_count tasks handles even in
-        let all = zip_long (λ p j. (task j ≡ p.0) × (state j ≡ held p.1)) (zip tasks handles) jobs paired in
-        omega (arith, zipped, all, given)
+    many_jobs = zip_long (λ s j. StartsIn u s (task j)) (streams_of u) jobs started
 
     -- each stream has its job
     pub all_begun : AllZip (λ s j. IsBegun u s (state j) (task j)) (streams_of u) jobs

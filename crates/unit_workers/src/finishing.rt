@@ -8,7 +8,7 @@ ghost use Rattle.task_state.specs.Progress.{is_over};
 ghost use Rattle.unit_workers.specs.Ends.{IsEnd};
 
 use crate::handles::OfTable;
-use crate::jobs::StreamJob;
+use crate::jobs::{JobParts, StreamJob};
 use dky_search::SeatScopes;
 use m2_base::{Memory, Output};
 use std::alloc::Global;
@@ -20,13 +20,13 @@ pub struct Finished<S> {
     pub scopes: S,
 }
 
-/// What a job leaves that is done.
-fn end_of<'t, J: OfTable>(job: StreamJob<'t, J>) -> Finished<SeatScopes<'t>>
-    requires { is_over job.task ≡ true }
-    ensures { IsEnd J.table (state_of job.entry.scopes.scopes) job.entry.task result }
+/// What the parts of a job leave that is done.
+fn end_of<'t, J: OfTable>(parts: JobParts<'t, J>) -> Finished<SeatScopes<'t>>
+    requires { is_over parts.task ≡ true }
+    ensures { IsEnd J.table (state_of parts.entry.scopes.scopes) parts.entry.task result }
 {
-    let _filled = job.scopes.filled();
-    let StreamJob { task, scopes } = job;
+    let _filled = parts.scopes.filled();
+    let JobParts { task, scopes } = parts;
     Finished {
         output: task.finished(),
         scopes: scopes.into_scopes(),
@@ -38,12 +38,13 @@ pub(crate) fn all_finished<'t, J: OfTable>(
     alloc: Global,
     jobs: Vec<StreamJob<'t, J>>,
 ) -> Result<Vec<Finished<SeatScopes<'t>>>, Memory>
-    requires { All (λ job. is_over job.task ≡ true) jobs.items }
-    ensures { IfOk result (λ all. AllZip (λ job end. IsEnd J.table (state_of job.scopes.scopes) job.task end) jobs.entry.items all.items) }
+    requires { All (λ job. is_over job.parts.value.task ≡ true) jobs.items }
+    ensures { IfOk result (λ all. AllZip (λ job end. IsEnd J.table (state_of job.parts.value.scopes.scopes) job.parts.value.task end) jobs.entry.items all.items) }
 {
     let mut all = Vec::with_capacity(alloc, jobs.len())?;
     for job in jobs {
-        all.push(end_of(job))?;
+        let parts = Box::into_inner(job.parts);
+        all.push(end_of(parts))?;
     }
     Ok(all)
 }

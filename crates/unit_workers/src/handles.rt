@@ -1,12 +1,12 @@
 //! Handles on one table.
-ghost use Rattle.std.specs.Prelude.{◌≡◌, ◌≢◌, ◌<◌, [], Some};
-ghost use Rattle.m2_base.specs.Scopes.{CanSearch, Searched, CanFetch, Fetched, CanEnter, Entered, CanComplete, Completed};
+ghost use Rattle.std.specs.Prelude.{◌≡◌, ◌≢◌, ◌<◌, Some};
+ghost use Rattle.m2_base.specs.Scopes.{CanSearch, Searched, CanFetch, Fetched, Selected, CanEnter, Entered, CanComplete, Completed};
 ghost use Rattle.m2_base.specs.States.{IsSound, fills_of};
 ghost use Rattle.scope_core.specs.Fronts.{ShowsFront};
 ghost use Rattle.scope_table.specs.Rule.{texts_in};
-ghost use Rattle.scope_table.specs.Seats.{IsOf, view, scope_of, key_of};
-ghost use Rattle.dky_search.specs.Seen.{state_in};
+ghost use Rattle.scope_table.specs.Seats.{key_of};
 ghost use Rattle.dky_search.specs.SeatScopes.{table_in, state_of, IsTold};
+ghost use Rattle.unit_workers.specs.Starts.{IsUnused, first_state};
 
 use dky_search::SeatScopes;
 use m2_base::{Ask, Place, Reply, Row, Scopes, Texts};
@@ -44,10 +44,8 @@ impl<'t, J: OfTable> TableScopes<'t, J> {
     ) -> TableScopes<'t, J>
         requires this { J.table ≡ Some table.now }
         requires texts { texts_in (key_of table.now) ≡ texts.now }
-        requires table { IsOf table.now seat }
-        requires scope { scope_of seat ≢ 0 }
-        requires none { (view seat).put ≡ [] }
-        ensures state { state_of result.scopes ≡ state_in (key_of table.now) (view seat) (scope_of seat) }
+        requires unused { IsUnused table.now seat }
+        ensures state { state_of result.scopes ≡ first_state table.now seat }
     {
         TableScopes {
             scopes: SeatScopes::new(table, texts, seat),
@@ -91,6 +89,10 @@ impl<'t, J: OfTable> Scopes for TableScopes<'t, J> {
 
     fn fetch(&mut self, at: u32, place: Place) -> Ask<Option<Row>> {
         self.scopes.fetch(at, place)
+    }
+
+    fn select(&mut self, of: Place, name: u32) -> Ask<Option<(u32, Row)>> {
+        self.scopes.select(of, name)
     }
 
     fn enter(&mut self, rows: &[Row]) {

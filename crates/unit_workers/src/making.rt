@@ -39,23 +39,26 @@ impl<'t, 'g, J: OfTable, G: Gate> Turns<StreamJob<'t, J>> for Making<'t, 'g, G> 
     ghost use Rattle.dky_search.specs.SeatScopes.{state_of};
     ghost use Rattle.unit_workers.specs.Jobs.{Fits, SeesAll, fits_on, sees_on, first_sees};
 
-    ghost fits = { λ making job. Fits making.texts.now (state_of job.scopes.scopes) job.task };
+    ghost fits = { λ making job. Fits making.texts.now (state_of job.parts.value.scopes.scopes) job.parts.value.task };
 
-    ghost ready = { λ making job. SeesAll (state_of job.scopes.scopes) };
+    ghost ready = { λ making job. SeesAll (state_of job.parts.value.scopes.scopes) };
 
     fn turn(&self, worker: u32, job: &mut StreamJob<'t, J>) -> Turned {
-        let stream = job.scopes.filled();
-        let before = job.task.steps();
+        let parts = &mut *job.parts;
+        let stream = parts.scopes.filled();
+        let before = parts.task.steps();
         self.gate.pass(worker, stream, before);
-        let turn = job.task.turn(self.alloc, self.texts, &mut job.scopes);
-        let after = job.task.steps();
+        let turn = parts.task.turn(self.alloc, self.texts, &mut parts.scopes);
+        let after = parts.task.steps();
         self.gate.pass(worker, stream, after);
         turned(&turn, before < after)
     }
 
     fn tell(&self, before: &mut StreamJob<'t, J>, job: &mut StreamJob<'t, J>) {
-        let _filled = before.scopes.filled();
-        before.scopes.tell(&mut job.scopes);
+        let from = &mut *before.parts;
+        let to = &mut *job.parts;
+        let _filled = from.scopes.filled();
+        from.scopes.tell(&mut to.scopes);
     }
 
     ghost fits_on = { λ making job later. fits_on };

@@ -23,7 +23,6 @@ use std::marker::Brand;
 use std::sync::Wait;
 use std::thread::Threads;
 use stream_split::StreamTokens;
-use supervisor::tasks_of;
 
 /// A unit, over the table that `J` names.
 fn run_as<'t, 'g, J: OfTable + Send, G: Gate, R: Threads + Wait + Sync>(
@@ -42,8 +41,7 @@ fn run_as<'t, 'g, J: OfTable + Send, G: Gate, R: Threads + Wait + Sync>(
     ensures { IfOk result (λ all. AllZip (IsFinished table.now making.now.texts.now) (streams_of making.now.texts.now) all.items) }
 {
     let _main = making.texts.main();
-    let tasks = tasks_of(making.alloc, making.texts, streams)?;
-    let jobs: Vec<StreamJob<'t, J>> = jobs_of(making.alloc, making.texts, table, tasks, seats)?;
+    let jobs: Vec<StreamJob<'t, J>> = jobs_of(making.alloc, making.texts, table, streams, seats)?;
     let done = do_all(rt, making.alloc, making, jobs, workers)?;
     all_finished(making.alloc, done)
 }

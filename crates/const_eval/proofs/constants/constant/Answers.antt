@@ -6,7 +6,7 @@ use Rattle.m2_base.specs.Views.{expr_view}
 use Rattle.const_eval.specs.Parts.{value_in}
 use Rattle.const_eval.proofs.Analysing.{and_after, and_then_assoc, described, failed, waiting}
 use Rattle.const_eval.proofs.ReadParts.{at_seen}
-use Rattle.const_eval.proofs.RefusedConstants.{unrefused}
+use Rattle.const_eval.proofs.RefusedConstants.{caused, unrefused, unspoilt}
 use Rattle.const_eval.proofs.Sequences.{stands_after}
 use Rattle.const_eval.proofs.constants.constant.Goals as goal
 
@@ -16,11 +16,23 @@ returns-in-DontKnowYet-clause-analysed g c = waiting (rw c.in-DontKnowYet.is at 
 pub returns-in-DontKnowYet-clause-unrefused : goal.returns-in-DontKnowYet-clause-unrefused
 returns-in-DontKnowYet-clause-unrefused g c made in_hand told of_site = tt
 
+pub returns-in-DontKnowYet-clause-unspoilt : goal.returns-in-DontKnowYet-clause-unspoilt
+returns-in-DontKnowYet-clause-unspoilt g c made in_hand told of_site = tt
+
+pub returns-in-DontKnowYet-clause-caused : goal.returns-in-DontKnowYet-clause-caused
+returns-in-DontKnowYet-clause-caused g c made in_hand told of_site = tt
+
 pub returns-in-Err-clause-analysed : goal.returns-in-Err-clause-analysed
 returns-in-Err-clause-analysed g c = failed c.in-Err.ensures _
 
 pub returns-in-Err-clause-unrefused : goal.returns-in-Err-clause-unrefused
 returns-in-Err-clause-unrefused g c made in_hand told of_site = tt
+
+pub returns-in-Err-clause-unspoilt : goal.returns-in-Err-clause-unspoilt
+returns-in-Err-clause-unspoilt g c made in_hand told of_site = tt
+
+pub returns-in-Err-clause-caused : goal.returns-in-Err-clause-caused
+returns-in-Err-clause-caused g c made in_hand told of_site = tt
 
 pub returns-clause-analysed : goal.returns-clause-analysed
 returns-clause-analysed g c =
@@ -33,3 +45,9 @@ returns-clause-analysed g c =
 
 pub returns-clause-unrefused : goal.returns-clause-unrefused
 returns-clause-unrefused g c = unrefused (expr_view c.args.e.now) c.constant_or_refused.result c.requires.suits (returns-clause-analysed g c)
+
+pub returns-clause-unspoilt : goal.returns-clause-unspoilt
+returns-clause-unspoilt g c = unspoilt (expr_view c.args.e.now) c.constant_or_refused.result c.requires.suits (returns-clause-analysed g c)
+
+pub returns-clause-caused : goal.returns-clause-caused
+returns-clause-caused g c = caused (expr_view c.args.e.now) c.constant_or_refused.result c.requires.suits (returns-clause-analysed g c)

@@ -1,19 +1,44 @@
-use Rattle.std.proofs.Common.{◌∙◌, sym}
+use Rattle.std.proofs.Common.{◌≡◌, ◌∙◌, Some, None, ap, sym}
+use Rattle.m2_base.specs.Gives.{and_then, gives}
+use Rattle.m2_base.specs.Rows.{is_same_place}
+use Rattle.m2_base.specs.Standard.{broken}
+use Rattle.m2_base.specs.Statics.Operations.{as_number, member_of_set}
+use Rattle.m2_base.specs.Statics.Types.{base_by, base_of}
+use Rattle.type_rules.specs.Scenes.{scene_of}
 use Rattle.type_rules.specs.Sites.{context_of}
-use Rattle.const_eval.proofs.Elements.{in_by, within}
-use Rattle.const_eval.proofs.Judging.{judged_as}
+use Rattle.type_rules.proofs.Compatibles.{told_later}
+use Rattle.const_eval.proofs.Elements.{in_by, ordinal, within_none, within_some}
+use Rattle.const_eval.proofs.Standard.{standard_there}
+use Rattle.const_eval.proofs.TypePairs.{by_row}
 use Rattle.const_eval.proofs.membership.membership_in.Goals as goal
 
-pub returns-then-broken-clause-told : goal.returns-then-broken-clause-told
-returns-then-broken-clause-told g c made in_hand told =
-    let f = (g.S.Scopes.state c.args.scopes.now).frame in
-    let s = c.args.site.now in
-    in_by (context_of f made s) c.args.operator_at c.args.x.operand c.args.x.at c.args.y c.args.base _ (sym c.if-broken.true ∙ c.in-Known.ensures.told made in_hand told)
+pub returns-then-is_broken_place-clause-told : goal.returns-then-is_broken_place-clause-told
+returns-then-is_broken_place-clause-told g c made in_hand told =
+    in_by (context_of (g.S.Scopes.state c.args.scopes.now).frame made c.args.site.now) c.args.operator_at c.args.x.operand c.args.x.at c.args.y c.args.base _
+    (sym c.if-is_broken_place.true ∙ c.is_broken_place.ensures ∙ ap (λ t. is_same_place t broken) (c.in-Known.ensures.told made in_hand told))
 
-pub returns-clause-told : goal.returns-clause-told
-returns-clause-told g c made in_hand told =
+pub returns-in-Some-clause-told : goal.returns-in-Some-clause-told
+returns-in-Some-clause-told g c made in_hand told =
     let f = (g.S.Scopes.state c.args.scopes.now).frame in
     let s = c.args.site.now in
-    judged_as c.member_within.result f _ s (λ h rows. within (context_of h rows s) c.args.operator_at c.args.x.operand c.args.x.at c.args.y c.args.base) made _
-    c.in-Known.ensures.reads.keeps.frame c.member_within.ensures.told
-    (in_by (context_of f made s) c.args.operator_at c.args.x.operand c.args.x.at c.args.y c.args.base _ (sym c.if-broken.false ∙ c.in-Known.ensures.told made in_hand told)) in_hand told
+    let now = context_of f made s in
+    let whole = c.base_by-whole.ensures.base ∙ by_row base_by (c.in-Known.ensures.told made in_hand told) (c.in-Known.ensures.kind made in_hand told) in
+    c.member.ensures.told now (standard_there f made s c.requires.suits told)
+    ∙ ap (λ t. and_then (as_number now c.args.x.at t c.in-Some.element) (λ e. gives (member_of_set e c.args.y))) whole
+    ∙ within_some now c.args.operator_at c.args.x.operand c.args.x.at c.args.y c.args.base c.in-Some.element
+    (told_later f _ (λ h rows. c.base_by-whole.result ≡ base_of (scene_of h rows s.around.now) c.args.base → Some c.in-Some.element ≡ ordinal (context_of h rows s) c.args.x.operand c.args.base)
+    c.in-Known.ensures.reads.keeps.frame (rw c.in-Some.is at c.in-Known-ordinal_element.ensures.told) made in_hand told whole)
+    ∙ in_by now c.args.operator_at c.args.x.operand c.args.x.at c.args.y c.args.base _
+    (sym c.if-is_broken_place.false ∙ c.is_broken_place.ensures ∙ ap (λ t. is_same_place t broken) (c.in-Known.ensures.told made in_hand told))
+
+pub returns-in-None-clause-told : goal.returns-in-None-clause-told
+returns-in-None-clause-told g c made in_hand told =
+    let f = (g.S.Scopes.state c.args.scopes.now).frame in
+    let s = c.args.site.now in
+    let now = context_of f made s in
+    let whole = c.base_by-whole.ensures.base ∙ by_row base_by (c.in-Known.ensures.told made in_hand told) (c.in-Known.ensures.kind made in_hand told) in
+    within_none now c.args.operator_at c.args.x.operand c.args.x.at c.args.y c.args.base
+    (told_later f _ (λ h rows. c.base_by-whole.result ≡ base_of (scene_of h rows s.around.now) c.args.base → None ≡ ordinal (context_of h rows s) c.args.x.operand c.args.base)
+    c.in-Known.ensures.reads.keeps.frame (rw c.in-None.is at c.in-Known-ordinal_element.ensures.told) made in_hand told whole)
+    ∙ in_by now c.args.operator_at c.args.x.operand c.args.x.at c.args.y c.args.base _
+    (sym c.if-is_broken_place.false ∙ c.is_broken_place.ensures ∙ ap (λ t. is_same_place t broken) (c.in-Known.ensures.told made in_hand told))

@@ -1,18 +1,45 @@
-use Rattle.std.proofs.Common.{◌∙◌}
+use Rattle.std.proofs.Common.{◌≡◌, ◌∙◌, ap, false, rules, sym, true}
+use Rattle.m2_base.specs.Statics.Compatible.{is_compatible}
+use Rattle.m2_base.specs.Statics.Operands.{operand_type}
 use Rattle.m2_base.specs.Statics.Operations.{is_ordinal}
+use Rattle.m2_base.specs.Statics.Types.{base_of}
+use Rattle.m2_base.specs.declared.operands.Operand.TheVariants.{Computed}
+use Rattle.type_rules.specs.Scenes.{scene_of}
 use Rattle.type_rules.specs.Sites.{context_of}
+use Rattle.type_rules.proofs.Compatibles.{told_later}
+use Rattle.type_rules.proofs.Reading.{Reads-trans}
 use Rattle.const_eval.proofs.Elements.{ordinal_none, ordinal_some}
 use Rattle.const_eval.proofs.Judging.{told_first}
 use Rattle.const_eval.proofs.membership.ordinal_element.Goals as goal
 
-pub returns-in-Known-is_ordinal-clause-told : goal.returns-in-Known-is_ordinal-clause-told
-returns-in-Known-is_ordinal-clause-told g c made in_hand told =
+pub returns-then-not-value-clause-told : goal.returns-then-not-value-clause-told
+returns-then-not-value-clause-told g c made in_hand told whole =
     let f = (g.S.Scopes.state c.args.scopes.now).frame in
     let s = c.args.site.now in
-    c.kept_if.ensures.told
-    ∙ ordinal_some (context_of f made s) c.args.x c.args.base c.in-Some.pair c.in-Known-is_ordinal.value ((rw c.in-Some.is at c.in-Known.ensures.told) made in_hand told)
-    (told_first _ f _ (λ h rows. is_ordinal (context_of h rows s) c.in-Some.pair.0) c.in-Known.ensures.reads.keeps.frame c.in-Known-is_ordinal.ensures.told made in_hand told)
+    let a = s.around.now in
+    let now = context_of f made s in
+    let fails : c.in-Known-compatible_with.value ≡ false = search rules in
+    let is = told_later f _ (λ h rows. c.in-Known.value ≡ base_of (scene_of h rows a) (operand_type c.args.x) → c.args.whole ≡ base_of (scene_of h rows a) c.args.base
+    → c.in-Known-compatible_with.value ≡ is_compatible (scene_of h rows a) c.args.x (Computed c.args.base)) c.in-Known.ensures.reads.keeps.frame c.in-Known-compatible_with.ensures.told made in_hand told
+    (c.in-Known.ensures.told made in_hand told ∙ ap (base_of now.scene) c.operand_type.ensures) whole in
+    ordinal_none now c.args.x c.args.base (sym is ∙ fails)
 
-pub returns-in-None-clause-told : goal.returns-in-None-clause-told
-returns-in-None-clause-told g c made in_hand told =
-    ordinal_none (context_of (g.S.Scopes.state c.args.scopes.now).frame made c.args.site.now) c.args.x c.args.base ((rw c.in-None.is at c.in-Known.ensures.told) made in_hand told)
+pub returns-clause-told : goal.returns-clause-told
+returns-clause-told g c made in_hand told whole =
+    let f = (g.S.Scopes.state c.args.scopes.now).frame in
+    let s = c.args.site.now in
+    let a = s.around.now in
+    let now = context_of f made s in
+    let holds : c.in-Known-compatible_with.value ≡ true = search rules in
+    let is = told_later f _ (λ h rows. c.in-Known.value ≡ base_of (scene_of h rows a) (operand_type c.args.x) → c.args.whole ≡ base_of (scene_of h rows a) c.args.base
+    → c.in-Known-compatible_with.value ≡ is_compatible (scene_of h rows a) c.args.x (Computed c.args.base)) c.in-Known.ensures.reads.keeps.frame c.in-Known-compatible_with.ensures.told made in_hand told
+    (c.in-Known.ensures.told made in_hand told ∙ ap (base_of now.scene) c.operand_type.ensures) whole in
+    c.kept_if.ensures.told
+    ∙ ordinal_some now c.args.x c.args.base c.taken_beside-element.result c.in-Known-is_ordinal.value (sym is ∙ holds) (c.taken_beside-element.ensures.told now (search rules) whole)
+    (told_first _ f _ (λ h rows. is_ordinal (context_of h rows s) c.taken_beside-element.result) (c.in-Known-compatible_with.ensures.reads.keeps.frame ∙ c.in-Known.ensures.reads.keeps.frame) c.in-Known-is_ordinal.ensures.told made in_hand told)
+
+pub returns-in-DontKnowYet-is_ordinal-clause-reads : goal.returns-in-DontKnowYet-is_ordinal-clause-reads
+returns-in-DontKnowYet-is_ordinal-clause-reads g c = Reads-trans (Reads-trans c.in-Known.ensures.reads c.in-Known-compatible_with.ensures.reads) c.in-DontKnowYet-is_ordinal.ensures.reads
+
+pub returns-clause-reads : goal.returns-clause-reads
+returns-clause-reads g c = Reads-trans (Reads-trans c.in-Known.ensures.reads c.in-Known-compatible_with.ensures.reads) c.in-Known-is_ordinal.ensures.reads

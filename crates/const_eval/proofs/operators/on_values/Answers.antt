@@ -1,21 +1,45 @@
+use Rattle.std.proofs.Common.{◌≡◌, ◌∙◌, ap, false, rules, subst, sym, true}
+use Rattle.m2_base.specs.Statics.Compatible.{is_compatible, taken_beside}
 use Rattle.m2_base.specs.Statics.Operations.{on_compatible}
 use Rattle.type_rules.specs.Sites.{context_of}
-use Rattle.const_eval.proofs.Judging.{judged_as}
-use Rattle.const_eval.proofs.Refusals.{values_none, values_some}
+use Rattle.m2_base.specs.States.{Frame}
+use Rattle.const_eval.specs.Based.{IsBased, IsBasedHere}
+use Rattle.const_eval.proofs.Judging.{judged_on}
+use Rattle.const_eval.proofs.Refusals.{values, values_at}
+use Rattle.const_eval.proofs.Standard.{standard_there}
+use Rattle.const_eval.proofs.TypesThere.{standard_there as standard_type}
 use Rattle.const_eval.proofs.operators.on_values.Goals as goal
 
-pub returns-in-Some-clause-told : goal.returns-in-Some-clause-told
-returns-in-Some-clause-told g c made in_hand told =
-    let f = (g.S.Scopes.state c.args.scopes.now).frame in
-    let s = c.args.site.now in
-    let x = c.args.x in
-    let y = c.args.y in
-    judged_as c.on_compatible.result f _ s (λ h rows. on_compatible (context_of h rows s) c.args.operator c.args.operator_at c.in-Some.pair.0 x.at c.in-Some.pair.1 y.at) made _
-    c.in-Known.ensures.reads.keeps.frame c.on_compatible.ensures.told
-    (values_some (context_of f made s) c.args.operator c.args.operator_at x.operand x.at y.operand y.at c.in-Some.pair ((rw c.in-Some.is at c.in-Known.ensures.told) made in_hand told)) in_hand told
+pub returns-then-not-value-clause-told : goal.returns-then-not-value-clause-told
+returns-then-not-value-clause-told g c made in_hand told left right =
+    let now = context_of (g.S.Scopes.state c.args.scopes.now).frame made c.args.site.now in
+    let fails : c.in-Known.value ≡ false = search rules in
+    ap (values now c.args.operator c.args.operator_at c.args.x.operand c.args.x.at c.args.y.operand c.args.y.at) (sym fails ∙ c.in-Known.ensures.told made in_hand told left right)
 
-pub returns-in-None-clause-told : goal.returns-in-None-clause-told
-returns-in-None-clause-told g c made in_hand told =
+pub returns-clause-told : goal.returns-clause-told
+returns-clause-told g c made in_hand told =
     let f = (g.S.Scopes.state c.args.scopes.now).frame in
     let s = c.args.site.now in
-    values_none (context_of f made s) c.args.operator c.args.operator_at c.args.x.operand c.args.x.at c.args.y.operand c.args.y.at ((rw c.in-None.is at c.in-Known.ensures.told) made in_hand told)
+    let now = context_of f made s in
+    let x = c.taken-left.result in
+    let y = c.taken-right.result in
+    let holds : c.in-Known.value ≡ true = search rules in
+    judged_on c.on_compatible.result f _ s (λ h rows. IsBased (context_of h rows s) x) (λ h rows. IsBased (context_of h rows s) y)
+    (λ h rows. on_compatible (context_of h rows s) c.args.operator c.args.operator_at x.operand x.at y.operand y.at) made
+    (values now c.args.operator c.args.operator_at c.args.x.operand c.args.x.at c.args.y.operand c.args.y.at (is_compatible now.scene c.args.x.operand c.args.y.operand))
+    (IsBased now c.args.x) (IsBased now c.args.y) c.in-Known.ensures.reads.keeps.frame c.on_compatible.ensures.told
+    (λ left right. c.taken-left.ensures.based now (search rules) (standard_there f made s c.requires.suits told) left right)
+    (λ left right. c.taken-right.ensures.based now (search rules) (standard_there f made s c.requires.suits told) right left)
+    (λ left right. values_at now c.args.operator c.args.operator_at c.args.x.operand c.args.x.at c.args.y.operand c.args.y.at x.operand x.at y.operand y.at
+    (c.taken-left.ensures.told now (search rules) right) c.taken-left.ensures.at (c.taken-right.ensures.told now (search rules) left) c.taken-right.ensures.at
+    (sym (c.in-Known.ensures.told made in_hand told left right) ∙ holds)) in_hand told
+
+pub on_compatible-requires-clause-x : goal.on_compatible-requires-clause-x
+on_compatible-requires-clause-x g c =
+    subst (λ (f : Frame). IsBasedHere f c.taken-left.result) (sym c.in-Known.ensures.reads.keeps.frame)
+    (c.taken-left.ensures.there (g.S.Scopes.state c.args.scopes.now).frame (standard_type c.requires.suits.around 2) c.requires.x)
+
+pub on_compatible-requires-clause-y : goal.on_compatible-requires-clause-y
+on_compatible-requires-clause-y g c =
+    subst (λ (f : Frame). IsBasedHere f c.taken-right.result) (sym c.in-Known.ensures.reads.keeps.frame)
+    (c.taken-right.ensures.there (g.S.Scopes.state c.args.scopes.now).frame (standard_type c.requires.suits.around 2) c.requires.y)

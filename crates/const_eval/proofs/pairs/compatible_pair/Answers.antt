@@ -1,14 +1,36 @@
-use Rattle.std.proofs.Common.{◌∙◌, sym}
-use Rattle.m2_base.specs.Statics.Compatible.{taken_beside}
+use Rattle.std.proofs.Common.{◌≡◌, ◌∙◌, false, true, ap, rules, sym}
+use Rattle.m2_base.specs.Statics.Compatible.{is_compatible}
+use Rattle.m2_base.specs.Statics.Operations.{base_type}
+use Rattle.m2_base.specs.Statics.Types.{base_of}
+use Rattle.m2_base.specs.declared.replies.Ask.TheVariants.{Known}
+use Rattle.type_rules.specs.Scenes.{scene_of}
 use Rattle.type_rules.specs.Sites.{context_of}
-use Rattle.const_eval.proofs.Besides.{some_where}
-use Rattle.const_eval.proofs.Judging.{told_first}
+use Rattle.type_rules.proofs.Compatibles.{told_met}
+use Rattle.const_eval.proofs.Besides.{none_where, pair_of, some_where}
 use Rattle.const_eval.proofs.pairs.compatible_pair.Goals as goal
 
-pub returns-in-Known-taken_pair-clause-told : goal.returns-in-Known-taken_pair-clause-told
-returns-in-Known-taken_pair-clause-told g c made in_hand told =
+pub returns-then-not-value-clause-told : goal.returns-then-not-value-clause-told
+returns-then-not-value-clause-told g c made in_hand told =
     let f = (g.S.Scopes.state c.args.scopes.now).frame in
     let s = c.args.site.now in
-    some_where _ c.in-Known-taken_pair.value _ (sym (c.in-Known.ensures.told made in_hand told) ∙ c.if-allowed.true)
-    (told_first _ f _ (λ h rows. (taken_beside (context_of h rows s).source (context_of h rows s).scene c.args.x c.args.y, taken_beside (context_of h rows s).source (context_of h rows s).scene c.args.y c.args.x))
-    c.in-Known.ensures.reads.keeps.frame c.in-Known-taken_pair.ensures.told made in_hand told)
+    let fails : c.in-Known-compatible_with.value ≡ false = search rules in
+    let holds = told_met (Known c.in-Known-compatible_with.value) f _ (λ h rows. c.in-Known.value.0 ≡ base_type (context_of h rows s) c.args.x) (λ h rows. c.in-Known.value.1 ≡ base_type (context_of h rows s) c.args.y)
+    (λ h rows. is_compatible (scene_of h rows s.around.now) c.args.x c.args.y) c.in-Known.ensures.reads.keeps.frame c.in-Known-compatible_with.ensures.told
+    (λ made in_hand told. c.in-Known.ensures.left made in_hand told ∙ ap (base_of (scene_of f made s.around.now)) c.operand_type.ensures)
+    (λ made in_hand told. c.in-Known.ensures.right made in_hand told ∙ ap (base_of (scene_of f made s.around.now)) c.operand_type-2.ensures) made in_hand told in
+    none_where (is_compatible (scene_of f made s.around.now) c.args.x c.args.y) _ (sym holds ∙ fails)
+
+pub returns-clause-told : goal.returns-clause-told
+returns-clause-told g c made in_hand told =
+    let f = (g.S.Scopes.state c.args.scopes.now).frame in
+    let s = c.args.site.now in
+    let now = context_of f made s in
+    let holds_here : c.in-Known-compatible_with.value ≡ true = search rules in
+    let left = c.in-Known.ensures.left made in_hand told ∙ ap (base_of now.scene) c.operand_type.ensures in
+    let right = c.in-Known.ensures.right made in_hand told ∙ ap (base_of now.scene) c.operand_type-2.ensures in
+    let holds = told_met (Known c.in-Known-compatible_with.value) f _ (λ h rows. c.in-Known.value.0 ≡ base_type (context_of h rows s) c.args.x) (λ h rows. c.in-Known.value.1 ≡ base_type (context_of h rows s) c.args.y)
+    (λ h rows. is_compatible (scene_of h rows s.around.now) c.args.x c.args.y) c.in-Known.ensures.reads.keeps.frame c.in-Known-compatible_with.ensures.told
+    (λ made in_hand told. c.in-Known.ensures.left made in_hand told ∙ ap (base_of (scene_of f made s.around.now)) c.operand_type.ensures)
+    (λ made in_hand told. c.in-Known.ensures.right made in_hand told ∙ ap (base_of (scene_of f made s.around.now)) c.operand_type-2.ensures) made in_hand told in
+    some_where (is_compatible now.scene c.args.x c.args.y) _ _ (sym holds ∙ holds_here)
+    (pair_of _ _ _ _ (c.taken_beside-first.ensures.told now (search rules) right) (c.taken_beside-second.ensures.told now (search rules) left))

@@ -4,9 +4,9 @@ use Rattle.m2_base.specs.States.{Frame}
 use Rattle.m2_base.proofs.Kept.{Waits_after}
 use Rattle.type_rules.specs.Sites.{context_of}
 use Rattle.type_rules.proofs.Reading.{Reads-refl, Reads-trans}
-use Rattle.decl_sem.specs.FoundConstants.{constants_of}
+use Rattle.decl_sem.specs.FoundConstants.{constants_left, constants_of}
 use Rattle.decl_sem.specs.Pieces.{IsMaking}
-use Rattle.decl_sem.proofs.FoundConstants.{constants_left, found_all, found_none, left_all, left_none, place_taken, seen_all, seen_as, seen_enough}
+use Rattle.decl_sem.proofs.FoundConstants.{few_rows, found_none, left_none, place_taken, seen_all, seen_as, seen_enough}
 use Rattle.decl_sem.proofs.brought.constants_in.Goals as goal
 
 pub loop-ordinal-init : goal.loop-ordinal-init
@@ -14,8 +14,8 @@ loop-ordinal-init g c =
     let a = g.S.Scopes.state c.args.scopes.now in
     record {
       reads = Reads-refl a;
-      before = let e = c.requires.making.suits.around.fills in let b = c.in-Some.ensures.before in omega (arith, e, b);
-      found = found_none a.frame c.args.site.now c.args.made.now (constants_left c.args.of.scope c.in-Some.first c.in-Some.end) c.new-found.result c.new-found.ensures.members c.new-found.ensures.names c.new-found.ensures.hidden;
+      before = c.requires.before;
+      found = found_none a.frame c.args.site.now c.args.made.now (constants_left c.args.of.scope c.ordinals_of-first.result.0 c.ordinals_of-first.result.1) c.new-found.result c.new-found.ensures.members c.new-found.ensures.names c.new-found.ensures.hidden;
     }
 
 pub take_place-requires-clause-making : goal.take_place-requires-clause-making
@@ -40,10 +40,10 @@ pub returns-then-is_full-clause-seen : goal.returns-then-is_full-clause-seen
 returns-then-is_full-clause-seen g c =
     let f = (g.S.Scopes.state c.args.scopes.now).frame in
     let scope = c.args.of.scope in
-    let next = place_taken scope c.in-Some.first c.in-Some.end c.loop-ordinal.ordinal c.loop-ordinal.found c.take_place.new.found c.loop-ordinal.invariant.reads.keeps.frame c.loop-ordinal-test.true
+    let next = place_taken scope c.ordinals_of-first.result.0 c.ordinals_of-first.result.1 c.loop-ordinal.ordinal c.loop-ordinal.found c.take_place.new.found c.loop-ordinal.invariant.reads.keeps.frame c.loop-ordinal-test.true
     c.loop-ordinal.invariant.found (rw c.in-Known.is at c.in-Ok.ensures.found) in
-    seen_as (constants_left scope c.in-Some.first c.in-Some.end) (λ k. constants_of k.scene (Some (c.args.of, c.args.count))) c.take_place.new.found
-    (λ hand in_hand told same. sym (left_all c.args.of c.args.count c.in-Some.first c.in-Some.end (context_of f hand c.args.site.now) c.in-Some.ensures.first c.in-Some.ensures.end))
+    seen_as (constants_left scope c.ordinals_of-first.result.0 c.ordinals_of-first.result.1) (λ k. constants_of k.scene (Some (c.args.of, c.args.count))) c.take_place.new.found
+    (λ hand in_hand told same. sym (c.ordinals_of-first.ensures (context_of f hand c.args.site.now) (few_rows hand c.args.of.scope c.requires.making.suits told c.requires.before)))
     (seen_enough next (sym c.is_full.ensures ∙ c.if-is_full.true))
 
 pub loop-ordinal-preserved : goal.loop-ordinal-preserved
@@ -51,7 +51,7 @@ loop-ordinal-preserved g c =
     record {
       reads = Reads-trans c.loop-ordinal.invariant.reads c.take_place.ensures.reads;
       before = c.loop-ordinal.invariant.before;
-      found = place_taken c.args.of.scope c.in-Some.first c.in-Some.end c.loop-ordinal.ordinal c.loop-ordinal.found c.take_place.new.found c.loop-ordinal.invariant.reads.keeps.frame c.loop-ordinal-test.true
+      found = place_taken c.args.of.scope c.ordinals_of-first.result.0 c.ordinals_of-first.result.1 c.loop-ordinal.ordinal c.loop-ordinal.found c.take_place.new.found c.loop-ordinal.invariant.reads.keeps.frame c.loop-ordinal-test.true
           c.loop-ordinal.invariant.found (rw c.in-Known.is at c.in-Ok.ensures.found);
     }
 
@@ -60,6 +60,6 @@ returns-clause-seen g c =
     let f = (g.S.Scopes.state c.args.scopes.now).frame in
     let scope = c.args.of.scope in
     let past = c.loop-ordinal-test.false in
-    seen_as (constants_left scope c.in-Some.first c.in-Some.end) (λ k. constants_of k.scene (Some (c.args.of, c.args.count))) c.loop-ordinal.found
-    (λ hand in_hand told same. sym (left_all c.args.of c.args.count c.in-Some.first c.in-Some.end (context_of f hand c.args.site.now) c.in-Some.ensures.first c.in-Some.ensures.end))
-    (seen_all c.loop-ordinal.invariant.found (λ hand in_hand told same. left_none scope c.loop-ordinal.ordinal c.in-Some.end (context_of f hand c.args.site.now) (omega (arith, past))))
+    seen_as (constants_left scope c.ordinals_of-first.result.0 c.ordinals_of-first.result.1) (λ k. constants_of k.scene (Some (c.args.of, c.args.count))) c.loop-ordinal.found
+    (λ hand in_hand told same. sym (c.ordinals_of-first.ensures (context_of f hand c.args.site.now) (few_rows hand c.args.of.scope c.requires.making.suits told c.requires.before)))
+    (seen_all c.loop-ordinal.invariant.found (λ hand in_hand told same. left_none scope c.loop-ordinal.ordinal c.ordinals_of-first.result.1 (context_of f hand c.args.site.now) (omega (arith, past))))

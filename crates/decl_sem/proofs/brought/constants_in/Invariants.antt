@@ -1,7 +1,6 @@
 use Rattle.std.specs.Prelude.{◌<◌}
 use Rattle.type_rules.specs.Asks.{Reads}
-use Rattle.decl_sem.specs.FoundConstants.{AreFound}
-use Rattle.decl_sem.proofs.FoundConstants.{constants_left}
+use Rattle.decl_sem.specs.FoundConstants.{AreFound, constants_left}
 use Rattle.decl_sem.proofs.brought.constants_in.Given as goal
 
 -- what is found of the constants, where those from this ordinal on are left

@@ -1,5 +1,5 @@
 use Rattle.std.specs.Prelude.{[], Some}
-use Rattle.std.proofs.Common.{◌∙◌, subst, sym}
+use Rattle.std.proofs.Common.{◌∙◌, ◌<◌, subst, sym}
 use Rattle.m2_base.specs.States.{Frame}
 use Rattle.m2_base.specs.Statics.ImportedConstants.{members_of}
 use Rattle.type_rules.proofs.Reading.{Reads-trans}
@@ -9,7 +9,12 @@ use Rattle.decl_sem.proofs.FoundConstants.{found_none, seen_all, seen_known}
 use Rattle.decl_sem.proofs.brought.members_in.Goals as goal
 
 pub constants_in-requires : goal.constants_in-requires
-constants_in-requires g c = record { making = subst (λ (f : Frame). IsMaking f c.args.site.now c.args.made.now []) (sym c.in-Known.ensures.reads.keeps.frame) c.requires.making }
+constants_in-requires g c =
+    let same = c.in-Known.ensures.reads.keeps.frame in
+    record {
+      making = subst (λ (f : Frame). IsMaking f c.args.site.now c.args.made.now []) (sym same) c.requires.making;
+      before = subst (λ (f : Frame). c.in-Some.of.scope < f.setting.fills) (sym same) (rw c.in-Some.is at c.in-Known.ensures.before);
+    }
 
 pub returns-in_default-clause-seen : goal.returns-in_default-clause-seen
 returns-in_default-clause-seen g c =

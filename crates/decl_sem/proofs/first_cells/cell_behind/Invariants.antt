@@ -1,8 +1,9 @@
-use Rattle.std.proofs.Common.{◌≡◌, ◌≤◌}
+use Rattle.std.proofs.Common.{◌≡◌, ◌≤◌, ◌+◌}
 use Rattle.type_rules.specs.Asks.{Reads}
 use Rattle.type_rules.specs.Scenes.{WhereTold}
 use Rattle.decl_sem.proofs.OwnRows.{behind}
 use Rattle.decl_sem.proofs.first_cells.cell_behind.Given as goal
+use Rattle.m2_base.specs.Statics.Cells.{most_cells}
 
 -- the cell after the rows so far, and the rows that are left, give that after all
 abbrev pub invariant-loop-ordinal : goal.invariant-loop-ordinal
@@ -11,6 +12,6 @@ invariant-loop-ordinal g l =
     let f = (state l.fn.scopes).frame in
     record {
       reads : Reads (state l.fn.scopes) (state l.scopes);
-      few : l.cell ≤ 16777216;
+      few : l.cell ≤ most_cells + 1;
       left : WhereTold f (λ made. behind f l.around l.own made l.cell l.ordinal ≡ behind f l.around l.own made 0 0);
     }

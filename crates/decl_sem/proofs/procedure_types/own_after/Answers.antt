@@ -1,4 +1,4 @@
-use Rattle.std.proofs.Common.{◌≡◌, ◌+◌, length, arith, ap, rules}
+use Rattle.std.proofs.Common.{◌≡◌, ◌+◌, length, arith, ap, refl}
 use Rattle.decl_sem.proofs.ProcTypes.{length_none, own_step}
 use Rattle.m2_base.specs.Statics.ProcedureTypes.{formals_length}
 use Rattle.std.proofs.Common.{drop}
@@ -7,8 +7,8 @@ use Rattle.decl_sem.proofs.procedure_types.own_after.Goals as goal
 
 pub loop-formal-preserved : goal.loop-formal-preserved
 loop-formal-preserved c =
-    let n : c.in-Some.next ≡ c.loop-formal.own + c.rows_of_formal-rows.result = search rules in
-    own_step c.loop-formal.own c.in-Some.next c.rows_of_formal-rows.result c.args.first (formals_length c.args.formals.now) c.args.formals.now c.loop-formal.formal-index _ c.loop-formal-test.true c.loop-formal.invariant c.rows_of_formal-rows.ensures n
+    own_step c.loop-formal.own (c.loop-formal.own + c.rows_of_formal-own.result) c.rows_of_formal-own.result c.args.first (formals_length c.args.formals.now) c.args.formals.now c.loop-formal.formal-index _
+    c.loop-formal-test.true c.loop-formal.invariant c.rows_of_formal-own.ensures refl
 
 pub returns : goal.returns
 returns c =

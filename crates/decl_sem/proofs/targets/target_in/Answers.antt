@@ -9,8 +9,12 @@ use Rattle.decl_sem.proofs.Pieces.{described, value_alone}
 use Rattle.decl_sem.proofs.PointerRows.{by_layout}
 use Rattle.decl_sem.proofs.targets.target_in.Goals as goal
 
-pub layout_target-requires-clause-first : goal.layout_target-requires-clause-first
-layout_target-requires-clause-first g c = let n = c.requires.making.count in omega arith
+pub layout_target-requires-clause-entered : goal.layout_target-requires-clause-entered
+layout_target-requires-clause-entered g c kind =
+    let laid = c.in-Some.ensures.first in
+    let before = c.requires.aliases laid.name c.in-Some.named laid.first kind in
+    let n = c.requires.making.count in
+    omega (arith, before, n)
 
 pub returns-in_default-clause-target : goal.returns-in_default-clause-target
 returns-in_default-clause-target g c =

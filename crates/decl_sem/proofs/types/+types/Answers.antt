@@ -21,7 +21,7 @@ use Rattle.decl_sem.proofs.RecordSizes.{arm_small, arms_of, cases_small, field_s
 use Rattle.decl_sem.proofs.TypeForms.{arms_no_types, at_seen, enum_room, fields_no_types, form_made, form_making, form_read, is_enum, is_named, is_proc, is_record, is_set, read_here, set_parts, tag_no_types, type_no_types, unmade, is_pointer, is_sub}
 use Rattle.decl_sem.proofs.TypeSizes.{smaller_base, smaller_target}
 use Rattle.decl_sem.proofs.ArrayLists.{all_indexes, arrays_making, checked_behind, checked_making, elem_behind, elem_failed, elem_making, elem_waiting, first_listed, first_waiting, index_made, index_making, index_small, indexes_behind, indexes_failed, indexes_full, indexes_making, indexes_waiting, is_array, listed_waiting, no_indexes, one_more_index, read_index, size_of_array, trees, whole_array}
-use Rattle.decl_sem.proofs.PointerRows.{plain_known, pointer_by_layout, pointer_made, pointer_unmade, pointer_waits, target_known, target_making}
+use Rattle.decl_sem.proofs.PointerRows.{aliases_of_pointer, plain_known, pointer_by_layout, pointer_made, pointer_unmade, pointer_waits, target_known, target_making}
 use Rattle.decl_sem.proofs.types.+types.Goals as goal
 
 pub type_in-name_in-requires-clause-making : goal.type_in-name_in-requires-clause-making
@@ -126,7 +126,11 @@ pub type_in-target_in-requires : goal.type_in-target_in-requires
 type_in-target_in-requires g t c =
     let u = c.deref-in-Pointer.result.now in
     let is = is_pointer c.args.typ.now c.in-Pointer.of u c.deref-in-Pointer.ensures c.in-Pointer.is in
-    record { making = making_front [] (form_shapes c.args.typ.now.at (pointer_type (type_view u))) (form_making c.args.typ.now (pointer_type (type_view u)) is c.requires.making) }
+    let making = form_making c.args.typ.now (pointer_type (type_view u)) is c.requires.making in
+    record {
+      making = making_front [] (form_shapes c.args.typ.now.at (pointer_type (type_view u))) making;
+      aliases = aliases_of_pointer c.args.typ.now.at (type_view u) making;
+    }
 
 pub type_in-pointer_row-requires-clause-making : goal.type_in-pointer_row-requires-clause-making
 type_in-pointer_row-requires-clause-making g t c =

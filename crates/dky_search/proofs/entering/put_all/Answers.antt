@@ -14,8 +14,8 @@ use Rattle.scope_table.proofs.Opening.{taken_all, taken_more}
 use Rattle.dky_search.proofs.Enters.{after_others, after_show, behind_same, fair_entered, room_left}
 use Rattle.dky_search.proofs.entering.put_all.Goals as goal
 
-pub loop-row-init : goal.loop-row-init
-loop-row-init c =
+pub loop-at-init : goal.loop-at-init
+loop-at-init c =
     let s = c.args.seat.now in let own = scope_of s in let v = view s in let a = key_of c.args.table.now in let whole = c.scope-whole.ensures.whole in
     let none : (grown v own).rows ≡ (shown_at v own).rows ++ [] = ap (λ (ws : List ℕ). (shown_at v own).rows ++ rows_of ws) c.requires.none in
     let good : IsGood a own (shown_at v own) = subst (λ (b : About). IsGood b own (shown_at v own)) c.requires.table.1 (whole.sound own whole.there) in record {
@@ -34,16 +34,24 @@ loop-row-init c =
     take_none [] = refl
     take_none (r ∷ rows) = refl
 
+pub put_indexed-requires-clause-before : goal.put_indexed-requires-clause-before
+put_indexed-requires-clause-before c =
+    let inv = c.loop-at.invariant in let v = view c.args.seat.now in let own = scope_of c.args.seat.now in let w = view c.loop-at.seat in (
+      [],
+      append-nil (take c.loop-at.at c.args.rows.now)
+          ∙ sym (behind_same (shown_at v own).rows (rows_of w.put) (take c.loop-at.at c.args.rows.now) (ap (λ (rows : List Row). rows ++ rows_of w.put) (sym inv.rows) ∙ inv.longer)),
+    )
+
 pub put_indexed-requires-clause-index : goal.put_indexed-requires-clause-index
 put_indexed-requires-clause-index c =
-    let inv = c.loop-row.invariant in let s = c.loop-row.seat in
+    let inv = c.loop-at.invariant in let s = c.loop-at.seat in
     subst (λ (z : ℕ). IsIndexed (width (key_of c.args.table.now) z) (grown (view s) z).rows (grown (view s) z).cells) (sym inv.same.1) inv.index
 
 pub put_indexed-requires-clause-room : goal.put_indexed-requires-clause-room
 put_indexed-requires-clause-room c =
-    let inv = c.loop-row.invariant in let s = c.loop-row.seat in let test = c.loop-row-test.true in
+    let inv = c.loop-at.invariant in let s = c.loop-at.seat in let test = c.loop-at-test.true in
     let v = view c.args.seat.now in let own = scope_of c.args.seat.now in let a = key_of c.args.table.now in let whole = c.scope-whole.ensures.whole in
-    let n = length (shown_at v own).rows in let k = c.loop-row.row-index in
+    let n = length (shown_at v own).rows in let k = c.loop-at.at in
     let there : own < scopes a = subst (λ (b : About). own < scopes b) c.requires.table.1 whole.there in
     let up : base a own ≤ mid a own = subst (λ (b : About). base b own ≤ mid b own) c.requires.table.1 (let r = (whole.sound own whole.there).room in omega arith) in
     let taken : length (take k c.args.rows.now) ≡ k = grind (arith, common_steps) in
@@ -53,29 +61,29 @@ put_indexed-requires-clause-room c =
 
 pub show-requires-clause-index : goal.show-requires-clause-index
 show-requires-clause-index c =
-    let inv = c.loop-row.invariant in let s = c.loop-row.seat in
+    let inv = c.loop-at.invariant in let s = c.loop-at.seat in
     subst (λ (z : ℕ). IsIndexed (width (key_of c.args.table.now) z) (grown (view s) z).rows (grown (view s) z).cells) (sym inv.same.1) inv.index
 
 pub show-requires-clause-fair : goal.show-requires-clause-fair
 show-requires-clause-fair c =
-    let inv = c.loop-row.invariant in let s = c.loop-row.seat in let test = c.loop-row-test.false in
+    let inv = c.loop-at.invariant in let s = c.loop-at.seat in let test = c.loop-at-test.false in
     let v = view c.args.seat.now in let own = scope_of c.args.seat.now in let a = key_of c.args.table.now in
-    let all : (grown (view s) own).rows ≡ (shown_at v own).rows ++ c.args.rows.now = inv.longer ∙ ap (λ (rows : List Row). (shown_at v own).rows ++ rows) (taken_all c.loop-row.row-index c.args.rows.now test) in
+    let all : (grown (view s) own).rows ≡ (shown_at v own).rows ++ c.args.rows.now = inv.longer ∙ ap (λ (rows : List Row). (shown_at v own).rows ++ rows) (taken_all c.loop-at.at c.args.rows.now test) in
     subst (λ (z : ℕ). IsFair a z (grown (view s) z).rows false) (sym inv.same.1) (fair_entered a v own c.args.rows.now (grown (view s) own).rows c.requires.can all)
 
 pub show-requires-clause-formed : goal.show-requires-clause-formed
 show-requires-clause-formed c k r e =
-    let inv = c.loop-row.invariant in let s = c.loop-row.seat in let test = c.loop-row-test.false in
+    let inv = c.loop-at.invariant in let s = c.loop-at.seat in let test = c.loop-at-test.false in
     let v = view c.args.seat.now in let own = scope_of c.args.seat.now in let a = key_of c.args.table.now in
     let put : rows_of (view s).put ≡ c.args.rows.now =
-    behind_same (shown_at v own).rows (rows_of (view s).put) c.args.rows.now (ap (λ (rows : List Row). rows ++ rows_of (view s).put) (sym inv.rows) ∙ (inv.longer ∙ ap (λ (rows : List Row). (shown_at v own).rows ++ rows) (taken_all c.loop-row.row-index c.args.rows.now test))) in
+    behind_same (shown_at v own).rows (rows_of (view s).put) c.args.rows.now (ap (λ (rows : List Row). rows ++ rows_of (view s).put) (sym inv.rows) ∙ (inv.longer ∙ ap (λ (rows : List Row). (shown_at v own).rows ++ rows) (taken_all c.loop-at.at c.args.rows.now test))) in
     let count : length (shown_at (view s) (scope_of s)).rows ≡ length (shown_at v own).rows = ap (λ (z : ℕ). length (shown_at (view s) z).rows) inv.same.1 ∙ ap (λ (rows : List Row). length rows) inv.rows in
     subst (λ (z : ℕ × ℕ). IsWellFormed (length (texts_in a).names) (at_place z.0 (z.1 + k)) r) (λ i. (sym inv.same.1 i, sym count i)) (c.requires.can.formed k r (ap (λ (rows : List Row). slice_get rows k) (sym put) ∙ e))
 
-pub loop-row-preserved : goal.loop-row-preserved
-loop-row-preserved c =
-    let inv = c.loop-row.invariant in let s = c.loop-row.seat in let v = view s in let w = view c.put_indexed.new.seat in let a = key_of c.args.table.now in let k = c.loop-row.row-index in let done = c.put_indexed.ensures in
-    let own = scope_of c.args.seat.now in let v0 = view c.args.seat.now in let test = c.loop-row-test.true in let row = row_of c.args.rows.now k in
+pub loop-at-preserved : goal.loop-at-preserved
+loop-at-preserved c =
+    let inv = c.loop-at.invariant in let s = c.loop-at.seat in let v = view s in let w = view c.put_indexed.new.seat in let a = key_of c.args.table.now in let k = c.loop-at.at in let done = c.put_indexed.ensures in
+    let own = scope_of c.args.seat.now in let v0 = view c.args.seat.now in let test = c.loop-at-test.true in let row = row_of c.args.rows.now k in
     let put : HasPut v w own row = subst (λ (z : ℕ). HasPut v w z row) inv.same.1 done.put in
     let rows : (grown w own).rows ≡ (grown v own).rows ++ row ∷ [] = subst (λ (z : ℕ). (grown w z).rows ≡ (grown v z).rows ++ row ∷ []) inv.same.1 done.rows in record {
       same = (done.same.0 ∙ inv.same.0, done.same.1 ∙ inv.same.1);
@@ -95,11 +103,11 @@ loop-row-preserved c =
 
 pub returns : goal.returns
 returns c =
-    let inv = c.loop-row.invariant in let s = c.loop-row.seat in let test = c.loop-row-test.false in let done = c.show.ensures in
+    let inv = c.loop-at.invariant in let s = c.loop-at.seat in let test = c.loop-at-test.false in let done = c.show.ensures in
     let v = view c.args.seat.now in let own = scope_of c.args.seat.now in let a = key_of c.args.table.now in let whole = c.scope-put.ensures.whole in
     let there = whole.there in let wide = whole.wide in let at = inv.same.1 in
     let inside : own < length (view s).seen = subst (λ (z : ℕ). z < length (view s).seen) at (omega arith) in
-    let all : (grown (view s) own).rows ≡ (shown_at v own).rows ++ c.args.rows.now = inv.longer ∙ ap (λ (rows : List Row). (shown_at v own).rows ++ rows) (taken_all c.loop-row.row-index c.args.rows.now test) in
+    let all : (grown (view s) own).rows ≡ (shown_at v own).rows ++ c.args.rows.now = inv.longer ∙ ap (λ (rows : List Row). (shown_at v own).rows ++ rows) (taken_all c.loop-at.at c.args.rows.now test) in
     let shown : shown_at (view c.show.new.seat) own ≡ grown (view s) own = after_show (scope_of s) own (view s) (view c.show.new.seat) done.shown at inside in record {
       same = (done.same.0 ∙ inv.same.0, done.same.1 ∙ inv.same.1);
       about = ap (λ (w : View). w.about) done.shown ∙ inv.about;

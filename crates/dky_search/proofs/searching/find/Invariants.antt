@@ -8,5 +8,5 @@ abbrev pub invariant-loop-distance : goal.invariant-loop-distance
 invariant-loop-distance l = record {
   same : l.seat ≡ l.initial.seat;
   counted : l.initial.rows_loaded ≤ l.rows_loaded;
-  met : (q : ℕ) → q < l.distance → HasMet l.width (shown_at (view l.initial.seat) l.scope).rows (shown_at (view l.initial.seat) l.scope).cells l.name q;
+  met : (q : ℕ) → q < l.distance → HasMet l.width (shown_at (view l.initial.seat) l.scope).rows (shown_at (view l.initial.seat) l.scope).cells l.key q;
 }

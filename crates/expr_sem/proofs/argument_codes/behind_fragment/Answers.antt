@@ -1,5 +1,5 @@
 use Rattle.std.proofs.Common.{◌∙◌, None, Option, Some, ap, sym}
-use Rattle.expr_sem.specs.ArgumentFits.{IsArgument, argument_in}
+use Rattle.expr_sem.specs.ArgumentCodes.{IsArgument, argument_in}
 use Rattle.expr_sem.specs.Arguments.{after_argument}
 use Rattle.expr_sem.specs.Fragments.{part}
 use Rattle.expr_sem.specs.Parts.{Part}

@@ -1,6 +1,6 @@
 use Rattle.std.proofs.Common.{None, Option, ap, sym}
 use Rattle.m2_base.specs.Gives.{gives}
-use Rattle.expr_sem.specs.ArgumentFits.{IsArgument, argument_in}
+use Rattle.expr_sem.specs.ArgumentCodes.{IsArgument, argument_in}
 use Rattle.expr_sem.specs.Arguments.{after_argument}
 use Rattle.expr_sem.specs.declared.fragments.Fragment.{Fragment}
 use Rattle.expr_sem.proofs.Operating.{described, value_alone}

@@ -1,14 +1,57 @@
-use Rattle.std.proofs.Common.{◌∙◌, ap}
+use Rattle.std.proofs.Common.{◌≡◌, ◌∙◌, None, Ok, ap, sym}
+use Rattle.m2_base.specs.Gives.{gives}
+use Rattle.m2_base.specs.Statics.Types.{is_broken as spec_broken}
+use Rattle.m2_base.specs.declared.replies.Ask.TheVariants.{Known}
+use Rattle.m2_base.specs.declared.rows.RowMeaning.TheVariants.{Array}
+use Rattle.type_rules.specs.Scenes.{scene_of}
 use Rattle.type_rules.specs.Sites.{context_of}
-use Rattle.expr_sem.specs.ArgumentFits.{fitting_argument}
+use Rattle.type_rules.proofs.Compatibles.{told_later}
+use Rattle.type_rules.proofs.Reading.{Reads-trans, Waits_read}
+use Rattle.expr_sem.specs.Arguments.{alike, array_argument}
 use Rattle.expr_sem.specs.Codings.{coded_in}
-use Rattle.expr_sem.proofs.Making.{after_question}
-use Rattle.expr_sem.proofs.OpenArguments.{array_by_fit}
+use Rattle.expr_sem.proofs.ArgumentCases.{chosen, none_passed, other, other_array}
+use Rattle.expr_sem.proofs.Making.{after_question, question_waits}
 use Rattle.expr_sem.proofs.arguments.array_argument.Goals as goal
 
-pub returns-in-Known : goal.returns-in-Known
-returns-in-Known g c =
-    after_question c.fitting_argument.result c.in-Known.ensures.reads c.fitting_argument.ensures
-    (λ made in_hand told. let k = context_of (g.S.Scopes.state c.args.scopes.now).frame made c.args.site.now in
+pub returns-in-DontKnowYet-is_broken : goal.returns-in-DontKnowYet-is_broken
+returns-in-DontKnowYet-is_broken g c =
+    question_waits _ _ (Reads-trans c.stand.ensures.reads c.is_broken.ensures.reads) (Waits_read c.stand.ensures.reads c.in-DontKnowYet-is_broken.ensures.waits)
+
+pub returns-then-value : goal.returns-then-value
+returns-then-value g c =
+    let f = (g.S.Scopes.state c.args.scopes.now).frame in
+    let h = (g.S.Scopes.state c.stand.new.scopes).frame in
+    let ns = c.args.fragments.now.nodes.items in
+    let x = coded_in ns c.args.x.coded in
+    let first = c.stand.ensures.reads in
+    let broken = told_later f h (λ e made. c.in-Known-is_broken.value ≡ spec_broken (scene_of e made c.args.site.now.around.now) c.in-Array.index) first.keeps.frame c.in-Known-is_broken.ensures.told in
+    after_question (Ok (Known None)) (Reads-trans first c.is_broken.ensures.reads) (none_passed (g.S.Scopes.state c.is_broken.new.scopes) c.args.notes.now ns c.args.site.now)
+    (λ made in_hand told. let k = context_of f made c.args.site.now in
+    chosen (spec_broken k.scene c.in-Array.index) (gives None) (alike k c.args.want c.args.x.at x (Array c.in-Array.index c.in-Array.element c.in-Array.field-2) c.in-Array.element) (sym (broken made in_hand told) ∙ c.if-value.true)
+    ∙ ap (array_argument k c.args.want c.args.x.at x) (sym c.in-Array.is ∙ c.in-Known.ensures.kind made in_hand told))
+
+pub returns-else-value : goal.returns-else-value
+returns-else-value g c =
+    let f = (g.S.Scopes.state c.args.scopes.now).frame in
+    let h = (g.S.Scopes.state c.stand.new.scopes).frame in
     let x = coded_in c.args.fragments.now.nodes.items c.args.x.coded in
-    ap (fitting_argument k c.args.x.at x c.args.stood.1) (c.in-Known.ensures.told made in_hand told) ∙ array_by_fit k c.args.want c.args.x.at x c.args.stood.1)
+    let first = c.stand.ensures.reads in
+    let broken = told_later f h (λ e made. c.in-Known-is_broken.value ≡ spec_broken (scene_of e made c.args.site.now.around.now) c.in-Array.index) first.keeps.frame c.in-Known-is_broken.ensures.told in
+    after_question c.alike.result (Reads-trans first c.is_broken.ensures.reads) c.alike.ensures
+    (λ made in_hand told. let k = context_of f made c.args.site.now in
+    other (spec_broken k.scene c.in-Array.index) (gives None) (alike k c.args.want c.args.x.at x (Array c.in-Array.index c.in-Array.element c.in-Array.field-2) c.in-Array.element) (sym (broken made in_hand told) ∙ c.if-value.false)
+    ∙ ap (array_argument k c.args.want c.args.x.at x) (sym c.in-Array.is ∙ c.in-Known.ensures.kind made in_hand told))
+
+pub returns-in-OpenArray : goal.returns-in-OpenArray
+returns-in-OpenArray g c =
+    after_question c.alike-in-OpenArray.result c.stand.ensures.reads c.alike-in-OpenArray.ensures
+    (λ made in_hand told. let k = context_of (g.S.Scopes.state c.args.scopes.now).frame made c.args.site.now in
+    ap (array_argument k c.args.want c.args.x.at (coded_in c.args.fragments.now.nodes.items c.args.x.coded)) (sym c.in-OpenArray.is ∙ c.in-Known.ensures.kind made in_hand told))
+
+pub returns-in_default : goal.returns-in_default
+returns-in_default g c =
+    let ns = c.args.fragments.now.nodes.items in
+    let x = coded_in ns c.args.x.coded in
+    after_question c.refuse_argument.result c.stand.ensures.reads (c.refuse_argument.ensures (g.S.Scopes.state c.stand.new.scopes) ns)
+    (λ made in_hand told. let k = context_of (g.S.Scopes.state c.args.scopes.now).frame made c.args.site.now in
+    other_array k c.args.want c.args.x.at x c.in-Known.value.1 c.in_default.not-Array c.in_default.not-OpenArray ∙ ap (array_argument k c.args.want c.args.x.at x) (c.in-Known.ensures.kind made in_hand told))

@@ -1,6 +1,6 @@
 use Rattle.std.proofs.Common.{Option, ap, map, sym}
 use Rattle.m2_base.specs.Gives.{gives}
-use Rattle.expr_sem.specs.ArgumentFits.{argument_in, parameter_view}
+use Rattle.expr_sem.specs.ArgumentCodes.{argument_in, parameter_view}
 use Rattle.expr_sem.specs.Calls.{call_coded as spec_call_coded}
 use Rattle.expr_sem.specs.Fragments.{part}
 use Rattle.expr_sem.specs.declared.fragments.Fragment.{Fragment}

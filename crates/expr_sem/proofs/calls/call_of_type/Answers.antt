@@ -3,7 +3,7 @@ use Rattle.m2_base.specs.Gives.{gives}
 use Rattle.m2_base.specs.declared.operands.Operand.TheVariants.{Computed}
 use Rattle.m2_base.specs.declared.replies.Ask.TheVariants.{Known}
 use Rattle.type_rules.specs.Sites.{context_of}
-use Rattle.expr_sem.specs.ArgumentFits.{parameter_view}
+use Rattle.expr_sem.specs.ArgumentCodes.{parameter_view}
 use Rattle.expr_sem.specs.Calls.{call_code as spec_call_code}
 use Rattle.expr_sem.specs.Coded.{coded, in_error}
 use Rattle.expr_sem.specs.Codings.{IsCoded, coded_in}

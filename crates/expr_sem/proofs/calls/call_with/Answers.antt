@@ -2,7 +2,7 @@ use Rattle.std.proofs.Common.{◌∙◌, Option, Some, ap, if◌then◌else◌, 
 use Rattle.m2_base.specs.Gives.{gives}
 use Rattle.m2_base.specs.declared.operands.Operand.TheVariants.{Computed}
 use Rattle.m2_base.specs.declared.rows.Place.{Place}
-use Rattle.expr_sem.specs.ArgumentFits.{parameter_view}
+use Rattle.expr_sem.specs.ArgumentCodes.{parameter_view}
 use Rattle.expr_sem.specs.Calls.{call_code as spec_call_code, call_coded as spec_call_coded}
 use Rattle.expr_sem.specs.Coded.{coded, in_error}
 use Rattle.expr_sem.specs.Fragments.{part}

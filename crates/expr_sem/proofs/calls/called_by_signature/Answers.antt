@@ -1,7 +1,7 @@
 use Rattle.std.proofs.Common.{map, refl}
 use Rattle.m2_base.specs.Gives.{gives}
 use Rattle.m2_base.specs.States.{Frame}
-use Rattle.expr_sem.specs.ArgumentFits.{parameter_view}
+use Rattle.expr_sem.specs.ArgumentCodes.{parameter_view}
 use Rattle.expr_sem.specs.Callees.{IsCallable, allowed_by, called_in, variable_called}
 use Rattle.expr_sem.specs.Fragments.{part}
 use Rattle.expr_sem.proofs.CallCases.{parts_allowed}

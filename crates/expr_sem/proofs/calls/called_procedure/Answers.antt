@@ -3,7 +3,7 @@ use Rattle.m2_base.specs.States.{Frame}
 use Rattle.type_rules.specs.Scenes.{rows_of}
 use Rattle.type_rules.specs.Sites.{context_of}
 use Rattle.type_rules.proofs.Reading.{Reads-trans, Waits_read}
-use Rattle.expr_sem.specs.ArgumentFits.{parameter_view}
+use Rattle.expr_sem.specs.ArgumentCodes.{parameter_view}
 use Rattle.expr_sem.specs.Callees.{allowed_by, called_in, target_called}
 use Rattle.expr_sem.specs.ProcedureNames.{target_of_procedure as spec_target}
 use Rattle.expr_sem.specs.Signatures.{IsSignature}

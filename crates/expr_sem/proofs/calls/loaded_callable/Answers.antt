@@ -1,6 +1,6 @@
 use Rattle.std.proofs.Common.{◌≡◌, ◌∙◌, ◌∷◌, [], ℕ, ap, arith, map}
 use Rattle.code_form.specs.declared.instr.Instr.TheVariants.{Load}
-use Rattle.expr_sem.specs.ArgumentFits.{parameter_view}
+use Rattle.expr_sem.specs.ArgumentCodes.{parameter_view}
 use Rattle.expr_sem.specs.Callees.{IsCallable, called_in, value_called}
 use Rattle.expr_sem.specs.Fragments.{part}
 use Rattle.expr_sem.specs.Parts.{plain, ◌⨟◌}

@@ -1,7 +1,7 @@
 use Rattle.std.proofs.Common.{◌∙◌, Option, ap, map, option_map, sym}
 use Rattle.code_form.specs.declared.instr.Instr.{Instr}
 use Rattle.type_rules.specs.Scenes.{block_of}
-use Rattle.expr_sem.specs.ArgumentFits.{parameter_view}
+use Rattle.expr_sem.specs.ArgumentCodes.{parameter_view}
 use Rattle.expr_sem.specs.Callees.{target_called}
 use Rattle.expr_sem.specs.Calls.{procedure_call}
 use Rattle.expr_sem.specs.Parts.{none}

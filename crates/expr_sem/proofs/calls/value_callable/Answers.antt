@@ -1,6 +1,6 @@
 use Rattle.std.proofs.Common.{ℕ, ap, map}
 use Rattle.code_form.specs.declared.instr.Instr.TheVariants.{CallVar}
-use Rattle.expr_sem.specs.ArgumentFits.{parameter_view}
+use Rattle.expr_sem.specs.ArgumentCodes.{parameter_view}
 use Rattle.expr_sem.specs.Calls.{procedure_call}
 use Rattle.expr_sem.specs.Fragments.{part}
 use Rattle.expr_sem.proofs.calls.value_callable.Goals as goal

@@ -2,7 +2,7 @@ use Rattle.std.proofs.Common.{◌∷◌, [], ℕ, ap, map}
 use Rattle.m2_base.specs.Gives.{gives}
 use Rattle.m2_base.specs.States.{Frame}
 use Rattle.code_form.specs.declared.instr.Instr.TheVariants.{Load}
-use Rattle.expr_sem.specs.ArgumentFits.{parameter_view}
+use Rattle.expr_sem.specs.ArgumentCodes.{parameter_view}
 use Rattle.expr_sem.specs.Callees.{value_called, variable_called}
 use Rattle.expr_sem.specs.Fragments.{part}
 use Rattle.expr_sem.specs.Parts.{plain, ◌⨟◌}

@@ -21,7 +21,7 @@ use Rattle.const_eval.proofs.ReadParts.{at_seen, char_told, char_value, designat
 use Rattle.const_eval.proofs.Sizes.{arguments_smaller, called_smaller, first_smaller, high_smaller, index_smaller, item_small, low_smaller, name_smaller, next_smaller, nexts_smaller, one_smaller, rest_smaller, set_smaller, set_type_smaller}
 use Rattle.const_eval.proofs.TypesThere.{standard_there}
 use Rattle.const_eval.proofs.Folding.{folded}
-use Rattle.expr_sem.specs.ArgumentFits.{IsArgument, argument_in, parameter_view}
+use Rattle.expr_sem.specs.ArgumentCodes.{IsArgument, argument_in, parameter_view}
 use Rattle.expr_sem.specs.Arguments.{after_argument, argument}
 use Rattle.expr_sem.specs.Callees.{called_in}
 use Rattle.expr_sem.specs.Calls.{call_coded, called}

@@ -3,7 +3,7 @@ use Rattle.m2_base.specs.Gives.{and_then, gives}
 use Rattle.m2_base.specs.Views.{expr_view, label_view, next_view, selector_view}
 use Rattle.m2_base.specs.declared.replies.Ask.TheVariants.{Known}
 use Rattle.const_eval.proofs.Folding.{folded}
-use Rattle.expr_sem.specs.ArgumentFits.{parameter_view}
+use Rattle.expr_sem.specs.ArgumentCodes.{parameter_view}
 use Rattle.expr_sem.specs.Coded.{in_error}
 use Rattle.expr_sem.specs.Codings.{Coding, IsCoded, coded_in, with_types}
 use Rattle.expr_sem.specs.ExpressionParts.{index}

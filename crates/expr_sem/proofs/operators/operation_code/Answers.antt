@@ -1,31 +1,123 @@
-use Rattle.std.proofs.Common.{ap, sym}
+use Rattle.std.proofs.Common.{◌∙◌, ◌∷◌, [], ap, subst, sym}
 use Rattle.m2_base.specs.Gives.{gives}
+use Rattle.m2_base.specs.States.{Frame}
+use Rattle.m2_base.specs.Statics.Operands.{operand_type}
+use Rattle.m2_base.specs.declared.rows.Place.{Place}
+use Rattle.code_form.specs.declared.instr.Instr.{Instr}
+use Rattle.type_rules.specs.Scenes.{IsThere}
+use Rattle.type_rules.specs.Sites.{context_of}
+use Rattle.const_eval.proofs.TypesThere.{type_there}
+use Rattle.expr_sem.specs.Coded.{value_code, with_char}
+use Rattle.expr_sem.specs.Codings.{coded_in}
 use Rattle.expr_sem.specs.Fragments.{part}
-use Rattle.expr_sem.specs.Operators.{operation_code}
-use Rattle.expr_sem.proofs.Operating.{described, fragment_made}
-use Rattle.expr_sem.proofs.Onwards.{just_wanted}
+use Rattle.expr_sem.specs.Operators.{operation_code, two_instr}
+use Rattle.expr_sem.specs.Parts.{plain, ◌⨟◌}
+use Rattle.expr_sem.proofs.Following.{after_values, by_coding, followed_by, holds, still_coded, still_in, still_suits, then_unknown, then_waits, then_wanted}
+use Rattle.expr_sem.proofs.Making.{made_alone, made_told}
+use Rattle.expr_sem.proofs.Operating.{coded_later, described, unknown, unmade}
+use Rattle.expr_sem.proofs.Quiet.{no_notes}
 use Rattle.expr_sem.proofs.Without.{instructed_by}
 use Rattle.expr_sem.proofs.operators.operation_code.Goals as goal
 
-pub returns-in_ok-code-in-And : goal.returns-in_ok-code-in-And
-returns-in_ok-code-in-And g c notes =
+pub returns-in-DontKnowYet : goal.returns-in-DontKnowYet
+returns-in-DontKnowYet g c notes = unknown (rw c.in-DontKnowYet.is at c.in-Ok.ensures notes)
+
+pub returns-in-Err : goal.returns-in-Err
+returns-in-Err g c notes = unmade (c.in-Err.ensures notes) _
+
+pub char_value-requires-2-clause-suits : goal.char_value-requires-2-clause-suits
+char_value-requires-2-clause-suits g c = still_suits (by_coding (c.in-Ok.ensures (no_notes c.args.fragments.now))) c.requires.suits
+
+pub char_value-requires-2-clause-x : goal.char_value-requires-2-clause-x
+char_value-requires-2-clause-x g c = still_coded (by_coding (c.in-Ok.ensures (no_notes c.args.fragments.now))) c.args.y c.requires.y
+
+pub returns-in-DontKnowYet-asked : goal.returns-in-DontKnowYet-asked
+returns-in-DontKnowYet-asked g c notes = then_unknown (by_coding (c.in-Ok.ensures notes)) (rw c.in-DontKnowYet-asked.is at c.in-Ok-char_value.ensures notes)
+
+pub returns-in-Err-char_value : goal.returns-in-Err-char_value
+returns-in-Err-char_value g c notes = then_wanted (by_coding (c.in-Ok.ensures notes)) (c.in-Err-char_value.ensures notes) _
+
+pub decide-requires-clause-x : goal.decide-requires-clause-x
+decide-requires-clause-x g c =
+    still_in (by_coding (c.in-Ok-char_value.ensures (no_notes c.args.fragments.now))) c.in-Known.value (rw c.in-Known.is at c.in-Ok.ensures (no_notes c.args.fragments.now)).there
+
+pub decide-requires-clause-y : goal.decide-requires-clause-y
+decide-requires-clause-y g c = (rw c.in-Known-asked.is at c.in-Ok-char_value.ensures (no_notes c.args.fragments.now)).there
+
+pub decide-requires-in-Or-clause-x : goal.decide-requires-in-Or-clause-x
+decide-requires-in-Or-clause-x g c =
+    still_in (by_coding (c.in-Ok-char_value.ensures (no_notes c.args.fragments.now))) c.in-Known.value (rw c.in-Known.is at c.in-Ok.ensures (no_notes c.args.fragments.now)).there
+
+pub decide-requires-in-Or-clause-y : goal.decide-requires-in-Or-clause-y
+decide-requires-in-Or-clause-y g c = (rw c.in-Known-asked.is at c.in-Ok-char_value.ensures (no_notes c.args.fragments.now)).there
+
+pub instruction-requires-clause-suits : goal.instruction-requires-clause-suits
+instruction-requires-clause-suits g c =
+    let n = no_notes c.args.fragments.now in
+    still_suits (followed_by (by_coding (c.in-Ok.ensures n)) (by_coding (c.in-Ok-char_value.ensures n))) c.requires.suits
+
+pub instruction-requires-clause-of : goal.instruction-requires-clause-of
+instruction-requires-clause-of g c =
+    let n = no_notes c.args.fragments.now in
+    holds (followed_by (by_coding (c.in-Ok.ensures n)) (by_coding (c.in-Ok-char_value.ensures n))) (λ (f : Frame). IsThere f c.args.of) c.requires.of
+
+pub instruction-requires-clause-right : goal.instruction-requires-clause-right
+instruction-requires-clause-right g c =
+    let n = no_notes c.args.fragments.now in
+    holds (followed_by (by_coding (c.in-Ok.ensures n)) (by_coding (c.in-Ok-char_value.ensures n))) (λ (f : Frame). IsThere f c.operand_type.result)
+    (subst (λ (t : Place). IsThere (g.S.Scopes.state c.args.scopes.now).frame t) (sym c.operand_type.ensures) (type_there c.requires.suits.around c.args.y.operand c.requires.y.operand))
+
+pub returns-in-DontKnowYet-instruction : goal.returns-in-DontKnowYet-instruction
+returns-in-DontKnowYet-instruction g c notes =
+    then_waits (followed_by (by_coding (c.in-Ok.ensures notes)) (by_coding (c.in-Ok-char_value.ensures notes))) c.instruction.ensures.reads c.in-DontKnowYet-instruction.ensures.waits
+
+pub applied-requires-clause-x : goal.applied-requires-clause-x
+applied-requires-clause-x g c =
+    still_in (by_coding (c.in-Ok-char_value.ensures (no_notes c.args.fragments.now))) c.in-Known.value (rw c.in-Known.is at c.in-Ok.ensures (no_notes c.args.fragments.now)).there
+
+pub applied-requires-clause-y : goal.applied-requires-clause-y
+applied-requires-clause-y g c = (rw c.in-Known-asked.is at c.in-Ok-char_value.ensures (no_notes c.args.fragments.now)).there
+
+pub returns-in-And : goal.returns-in-And
+returns-in-And g c notes =
     let ns = c.args.fragments.now.nodes.items in
-    fragment_made (g.S.Scopes.state c.args.scopes.now) notes c.args.site.now c.in_ok-code-in-And.code _ (λ k. operation_code k.scene c.args.op c.args.of c.args.right (part ns c.args.x) (part ns c.args.y)) c.in_ok-code-in-And.ensures
-    (λ k. ap (λ o. operation_code k.scene o c.args.of c.args.right (part ns c.args.x) (part ns c.args.y)) (sym c.in-And.is))
+    let ls = c.char_value-2.new.fragments.nodes.items in
+    let t = operand_type c.args.y.operand in
+    let left = c.in-Known.value in
+    let right = c.in-Known-asked.value in
+    let first = rw c.in-Known.is at c.in-Ok.ensures notes in
+    let second = rw c.in-Known-asked.is at c.in-Ok-char_value.ensures notes in
+    after_values (λ k. value_code k (with_char k (coded_in ns c.args.x))) (λ k. value_code k (with_char k (coded_in ns c.args.y))) (λ p q k. operation_code k.scene c.args.op c.args.of t p q) c.answered.result first
+    (described _ second (λ k. ap (λ u. gives (value_code k (with_char k u))) (coded_later first.grows c.args.y c.requires.y)))
+    (made_alone notes c.decide.result c.answered.result (λ k. operation_code k.scene c.args.op c.args.of t (part ls left) (part ls right)) c.answered.ensures c.decide.ensures
+    (λ rows. ap (λ o. operation_code (context_of (g.S.Scopes.state c.char_value-2.new.scopes).frame rows c.args.site.now).scene o c.args.of t (part ls left) (part ls right)) (sym c.in-And.is)))
 
-pub returns-in_ok-code-in-Or : goal.returns-in_ok-code-in-Or
-returns-in_ok-code-in-Or g c notes =
+pub returns-in-Or : goal.returns-in-Or
+returns-in-Or g c notes =
     let ns = c.args.fragments.now.nodes.items in
-    fragment_made (g.S.Scopes.state c.args.scopes.now) notes c.args.site.now c.in_ok-code-in-Or.code _ (λ k. operation_code k.scene c.args.op c.args.of c.args.right (part ns c.args.x) (part ns c.args.y)) c.in_ok-code-in-Or.ensures
-    (λ k. ap (λ o. operation_code k.scene o c.args.of c.args.right (part ns c.args.x) (part ns c.args.y)) (sym c.in-Or.is))
+    let ls = c.char_value-2.new.fragments.nodes.items in
+    let t = operand_type c.args.y.operand in
+    let left = c.in-Known.value in
+    let right = c.in-Known-asked.value in
+    let first = rw c.in-Known.is at c.in-Ok.ensures notes in
+    let second = rw c.in-Known-asked.is at c.in-Ok-char_value.ensures notes in
+    after_values (λ k. value_code k (with_char k (coded_in ns c.args.x))) (λ k. value_code k (with_char k (coded_in ns c.args.y))) (λ p q k. operation_code k.scene c.args.op c.args.of t p q) c.answered-in-Or.result first
+    (described _ second (λ k. ap (λ u. gives (value_code k (with_char k u))) (coded_later first.grows c.args.y c.requires.y)))
+    (made_alone notes c.decide-in-Or.result c.answered-in-Or.result (λ k. operation_code k.scene c.args.op c.args.of t (part ls left) (part ls right)) c.answered-in-Or.ensures c.decide-in-Or.ensures
+    (λ rows. ap (λ o. operation_code (context_of (g.S.Scopes.state c.char_value-2.new.scopes).frame rows c.args.site.now).scene o c.args.of t (part ls left) (part ls right)) (sym c.in-Or.is)))
 
-pub returns-in_default : goal.returns-in_default
-returns-in_default g c notes =
+pub returns-in-Known-instruction : goal.returns-in-Known-instruction
+returns-in-Known-instruction g c notes =
     let ns = c.args.fragments.now.nodes.items in
-    described c.instructed.result (c.instructed.ensures notes) (λ k. ap (λ p. gives p) (instructed_by k.scene c.args.op c.args.of c.args.right (part ns c.args.x) (part ns c.args.y) c.in_default.not-And c.in_default.not-Or))
-
-pub returns-in_err-code-in-And : goal.returns-in_err-code-in-And
-returns-in_err-code-in-And g c notes = just_wanted (g.S.Scopes.state c.args.scopes.now) notes c.args.site.now c.from_residual.result c.from_residual.ensures.0 c.in_err-code-in-And.ensures
-
-pub returns-in_err-code-in-Or : goal.returns-in_err-code-in-Or
-returns-in_err-code-in-Or g c notes = just_wanted (g.S.Scopes.state c.args.scopes.now) notes c.args.site.now c.from_residual-in_err-code-in-Or.result c.from_residual-in_err-code-in-Or.ensures.0 c.in_err-code-in-Or.ensures
+    let ls = c.char_value-2.new.fragments.nodes.items in
+    let t = operand_type c.args.y.operand in
+    let left = c.in-Known.value in
+    let right = c.in-Known-asked.value in
+    let first = rw c.in-Known.is at c.in-Ok.ensures notes in
+    let second = rw c.in-Known-asked.is at c.in-Ok-char_value.ensures notes in
+    after_values (λ k. value_code k (with_char k (coded_in ns c.args.x))) (λ k. value_code k (with_char k (coded_in ns c.args.y))) (λ p q k. operation_code k.scene c.args.op c.args.of t p q) c.answered-in_default.result first
+    (described _ second (λ k. ap (λ u. gives (value_code k (with_char k u))) (coded_later first.grows c.args.y c.requires.y)))
+    (made_told notes c.applied.result c.answered-in_default.result (λ k. operation_code k.scene c.args.op c.args.of t (part ls left) (part ls right)) c.answered-in_default.ensures c.instruction.ensures.reads c.applied.ensures
+    (λ made in_hand told. let scene = (context_of (g.S.Scopes.state c.char_value-2.new.scopes).frame made c.args.site.now).scene in
+    ap (λ (i : Instr). part ls left ⨟ part ls right ⨟ plain (i ∷ [])) (c.in-Known-instruction.ensures.told made in_hand told ∙ ap (λ (u : Place). two_instr scene c.args.op c.args.of u) c.operand_type.ensures)
+    ∙ instructed_by scene c.args.op c.args.of t (part ls left) (part ls right) c.in_default.not-And c.in_default.not-Or))

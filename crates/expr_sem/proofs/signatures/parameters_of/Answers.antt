@@ -4,9 +4,9 @@ use Rattle.m2_base.specs.Statics.TypeParts as parts
 use Rattle.type_rules.specs.Forms.{parameters_from}
 use Rattle.type_rules.specs.Scenes.{scene_of}
 use Rattle.type_rules.proofs.Reading.{Reads-trans}
-use Rattle.expr_sem.specs.ArgumentFits.{parameter_view}
+use Rattle.expr_sem.specs.ArgumentCodes.{parameter_view}
 use Rattle.m2_base.specs.Lists.{Each}
-use Rattle.m2_base.proofs.Kept.{Each-append}
+use Rattle.m2_base.proofs.EachLaws.{each_append}
 use Rattle.type_rules.specs.Forms.{parameters_by}
 use Rattle.type_rules.specs.Scenes.{IsThere}
 use Rattle.expr_sem.specs.declared.arguments.Parameter.{Parameter}
@@ -34,7 +34,7 @@ parameters-preserved g c =
       reads = Reads-trans at.invariant.reads c.in-Known.ensures.reads;
       within = goes.within;
       there = subst (λ (l : List Parameter). Each (λ p. IsThere f p.of) l) (sym c.in_ok-push-in-Some.ensures.items)
-          (Each-append (λ (p : Parameter). IsThere f p.of) at.params.items (record { of = formal.typ; by_ref = formal.by_ref } ∷ []) at.invariant.there (subst (λ (e : Frame). IsThere e formal.typ) at.invariant.reads.keeps.frame goes.there, tt));
+          (each_append (λ (p : Parameter). IsThere f p.of) at.params.items (record { of = formal.typ; by_ref = formal.by_ref } ∷ []) at.invariant.there (subst (λ (e : Frame). IsThere e formal.typ) at.invariant.reads.keeps.frame goes.there, tt));
       left = λ made in_hand told.
           ap (λ (l : List Parameter). map parameter_view l ++ parameters_from (scene_of f made a) c.args.form.of formal.next) c.in_ok-push-in-Some.ensures.items
           ∙ pushed_view at.params.items (record { of = formal.typ; by_ref = formal.by_ref }) (parameters_from (scene_of f made a) c.args.form.of formal.next)

@@ -3,7 +3,7 @@ use Rattle.m2_base.specs.Lists.{Each}
 use Rattle.type_rules.specs.Asks.{Reads}
 use Rattle.type_rules.specs.Forms.{parameters_from}
 use Rattle.type_rules.specs.Scenes.{IsThere, WhereTold, scene_of}
-use Rattle.expr_sem.specs.ArgumentFits.{parameter_view}
+use Rattle.expr_sem.specs.ArgumentCodes.{parameter_view}
 use Rattle.expr_sem.proofs.signatures.parameters_of.Given as goal
 
 -- the parameters so far and those that are left are all

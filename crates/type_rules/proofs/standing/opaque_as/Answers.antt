@@ -6,7 +6,7 @@ pub returns-clause-told : goal.returns-clause-told
 returns-clause-told g c =
     let own : c.args.around.now.own ≡ Some c.args.of.scope = search rules in
     let next : c.in-Some.ordinal ≡ c.args.of.ordinal + 1 = search rules in
-    opaque_told _ _ _ c.args.around.now c.args.of c.in-Known.value c.in-Known.ensures.reads.keeps.frame own (rw next at c.in-Known.ensures.told) c.declared_as.ensures.told
+    opaque_told c.declared_as.result _ _ c.args.around.now c.args.of c.in-Known.value c.in-Known.ensures.reads.keeps.frame own (rw next at c.in-Known.ensures.told) c.declared_as.ensures.told
 
 pub returns-in_default-clause-told : goal.returns-in_default-clause-told
 returns-in_default-clause-told g c made in_hand told =

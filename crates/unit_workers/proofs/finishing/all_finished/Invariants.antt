@@ -10,4 +10,4 @@ use Rattle.unit_workers.proofs.finishing.all_finished.Given as goal
 abbrev pub invariant-loop-job : goal.invariant-loop-job
 invariant-loop-job g l =
     (goal.iterator-loop-job g).can_next l.job-iterator × (goal.iterator-loop-job g).is_finite l.job-iterator
-    × AllZip (λ job end. IsEnd g.J.OfTable.table (state_of job.scopes.scopes) job.task end) l.yielded l.all.items × All (λ job. is_over job.task ≡ true) (into_iter_items l.job-iterator)
+    × AllZip (λ job end. IsEnd g.J.OfTable.table (state_of job.parts.value.scopes.scopes) job.parts.value.task end) l.yielded l.all.items × All (λ job. is_over job.parts.value.task ≡ true) (into_iter_items l.job-iterator)

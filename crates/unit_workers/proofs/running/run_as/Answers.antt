@@ -13,24 +13,24 @@ use Rattle.unit_workers.proofs.running.run_as.Goals as goal
 
 pub do_all-requires-clause-some : goal.do_all-requires-clause-some
 do_all-requires-clause-some g c κs within =
-    some_jobs c.args.making.now.texts.now (λ j. state_of j.scopes.scopes) (λ j. j.task) c.in_ok-jobs.jobs.items c.in_ok-jobs.ensures c.main-main.ensures.unit
+    some_jobs c.args.making.now.texts.now (λ j. state_of j.parts.value.scopes.scopes) (λ j. j.parts.value.task) c.in_ok-jobs.jobs.items c.in_ok-jobs.ensures c.main-main.ensures.unit
 
 pub do_all-requires-clause-order : goal.do_all-requires-clause-order
-do_all-requires-clause-order g c κs within = numbered c.args.making.now.texts.now (λ j. state_of j.scopes.scopes) (λ j. j.task) c.in_ok-jobs.jobs.items c.in_ok-jobs.ensures
+do_all-requires-clause-order g c κs within = numbered c.args.making.now.texts.now (λ j. state_of j.parts.value.scopes.scopes) (λ j. j.parts.value.task) c.in_ok-jobs.jobs.items c.in_ok-jobs.ensures
 
 pub do_all-requires-clause-undone : goal.do_all-requires-clause-undone
-do_all-requires-clause-undone g c κs within = all_undone c.args.making.now.texts.now (λ j. state_of j.scopes.scopes) (λ j. j.task) c.in_ok-jobs.jobs.items c.in_ok-jobs.ensures
+do_all-requires-clause-undone g c κs within = all_undone c.args.making.now.texts.now (λ j. state_of j.parts.value.scopes.scopes) (λ j. j.parts.value.task) c.in_ok-jobs.jobs.items c.in_ok-jobs.ensures
 
 pub do_all-requires-clause-fits : goal.do_all-requires-clause-fits
-do_all-requires-clause-fits g c κs within = all_fit c.args.making.now.texts.now (λ j. state_of j.scopes.scopes) (λ j. j.task) c.in_ok-jobs.jobs.items c.in_ok-jobs.ensures
+do_all-requires-clause-fits g c κs within = all_fit c.args.making.now.texts.now (λ j. state_of j.parts.value.scopes.scopes) (λ j. j.parts.value.task) c.in_ok-jobs.jobs.items c.in_ok-jobs.ensures
 
 pub do_all-requires-send-J : goal.do_all-requires-send-J
 do_all-requires-send-J g c κs within = search (sendable, crosses, job-send) depth 40
 
 pub returns : goal.returns
 returns g c =
-    if_ok (λ all. AllZip (λ job end. IsEnd g.J.OfTable.table (state_of job.scopes.scopes) job.task end) c.in_ok-done.done.items all.items)
+    if_ok (λ all. AllZip (λ job end. IsEnd g.J.OfTable.table (state_of job.parts.value.scopes.scopes) job.parts.value.task end) c.in_ok-done.done.items all.items)
     (λ all. AllZip (IsFinished c.args.table.now c.args.making.now.texts.now) (streams_of c.args.making.now.texts.now) all.items) c.all_finished.result
-    (λ all ends. all_finished c.args.table.now c.args.making.now.texts.now (λ j. state_of j.scopes.scopes) (λ j. j.task) c.in_ok-jobs.jobs.items c.in_ok-done.done.items all.items
+    (λ all ends. all_finished c.args.table.now c.args.making.now.texts.now (λ j. state_of j.parts.value.scopes.scopes) (λ j. j.parts.value.task) c.in_ok-jobs.jobs.items c.in_ok-done.done.items all.items
     c.in_ok-jobs.ensures c.in_ok-done.ensures.jobs
-    (subst (λ table. AllZip (λ job end. IsEnd table (state_of job.scopes.scopes) job.task end) c.in_ok-done.done.items all.items) c.requires.this ends)) c.all_finished.ensures
+    (subst (λ table. AllZip (λ job end. IsEnd table (state_of job.parts.value.scopes.scopes) job.parts.value.task end) c.in_ok-done.done.items all.items) c.requires.this ends)) c.all_finished.ensures

@@ -2,7 +2,7 @@ use Rattle.std.proofs.Common.{◌≡◌, ◌==◌, ◌<◌, ◌^◌, Option, Som
 use Rattle.m2_base.specs.Lists.{WhereKept}
 use Rattle.m2_base.specs.Statics.Lookup.{entry_named}
 use Rattle.m2_base.specs.declared.sites.Named.{Named}
-use Rattle.m2_base.proofs.ChainLaws.{each_found}
+use Rattle.m2_base.proofs.EachLaws.{each_found}
 use Rattle.m2_base.proofs.sites.Layout.first.Goals as goal
 
 -- src/sites.rt:116:22

@@ -1,19 +1,6 @@
-use Rattle.std.proofs.Common.{Some, nat_eq, ap, sym, ◌∙◌, arith}
-use Rattle.indexmap.specs.IndexMap.{get}
-use Rattle.m2_base.specs.Tables.{first_named}
-use Rattle.scope_core.specs.Kept.{TableWithRoom}
-use Rattle.scope_core.proofs.Indexing.{indexed_row, indexed_within}
+use Rattle.std.proofs.Common.{sym, ◌∙◌}
+use Rattle.m2_base.proofs.KeyLaws.{first_named-keyed}
 use Rattle.scope_core.proofs.kept.Kept.first_named.Goals as goal
 
-pub index-requires : goal.index-requires
-index-requires c =
-    let within = indexed_within (get nat_eq c.self.inside.index) c.self.inside.rows.items c.args.name c.in_ok-ordinal.ordinal c.self.invariant
-    (sym c.get.ensures.value ∙ sym c.copied.ensures ∙ c.in_ok-ordinal.was) in
-    omega (arith, within, c.self.inside.rows.ok.0)
-
 pub returns : goal.returns
-returns c =
-    ap (λ r. Some (c.in_ok-ordinal.ordinal, r)) c.index.ensures
-    ∙ indexed_row (get nat_eq c.self.inside.index) c.self.inside.rows.items c.args.name c.in_ok-ordinal.ordinal c.index.result.now c.self.invariant
-    (sym c.get.ensures.value ∙ sym c.copied.ensures ∙ c.in_ok-ordinal.was)
-    ∙ ap (λ (k : TableWithRoom). first_named c.args.name k.table.rows 0) c.self.view_is
+returns c = c.first_keyed.ensures ∙ sym (first_named-keyed c.args.name c.requires c.args.self.now.table.rows 0)

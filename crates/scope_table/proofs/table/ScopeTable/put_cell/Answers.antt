@@ -2,10 +2,8 @@ use Rattle.std.proofs.Common.{◌+◌, ◌<◌, ap, subst, sym, ◌∙◌, arith
 use Rattle.std.proofs.Math.Nat.{mod-lt}
 use Rattle.scope_table.specs.declared.view.About.{About}
 use Rattle.scope_table.specs.declared.view.View.{View}
-use Rattle.scope_table.specs.Cells.{home}
-use Rattle.scope_table.specs.Rows.{name_of}
+use Rattle.scope_table.specs.Cells.{home, seed}
 use Rattle.scope_table.specs.Rule.{scopes, mid, width, IsSeated}
-use Rattle.scope_table.specs.Plays.{grown}
 use Rattle.scope_table.specs.Seats.{view}
 use Rattle.scope_table.proofs.Cells.{reads_mid, cell_within, puts_cell, seated_marks}
 use Rattle.scope_table.proofs.Rooms.{grown_length}
@@ -15,7 +13,7 @@ pub store-requires : goal.store-requires
 store-requires c =
     let t = c.args.self.now in let st = c.args.seat.now in let v = view st in let a = t.table.shared.key in let l : st.scope < scopes a = subst (λ (b : About). st.scope < scopes b) c.requires.table.1 st.seated.there in
     let row = c.requires.row in let behind = t.behind st.scope l in let w = width a st.scope in
-    let at = row.first.is in let pos : 0 < w = omega arith in let b = mod-lt (home w (name_of (grown v st.scope).rows c.args.ordinal) + row.first.distance) pos in
+    let at = row.first.is in let pos : 0 < w = omega arith in let b = mod-lt (home w (seed row.key) + row.first.distance) pos in
     let less : c.args.cell < width a st.scope = omega arith in
     let is = reads_mid a t.mids st.scope c.at.result t.mids_are c.at.ensures in let inside = cell_within a st.scope c.args.cell t.table.shared.table_id.words t.laid l t.wide less in
     let len = grown_length v st.scope st.shown st.waiting st.closed st.seated in let n = st.seated.waiting_is in let k = st.seated.shown_is in let put = row.put in

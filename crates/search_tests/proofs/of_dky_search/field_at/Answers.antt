@@ -1,0 +1,7 @@
+use Rattle.std.proofs.Common.{arith}
+use Rattle.search_tests.proofs.of_dky_search.field_at.Goals as goal
+
+pub select-requires : goal.select-requires
+select-requires c =
+    let own = c.filled-own.ensures in
+    let f = own.filled in let i = own.inner in let n = own.inside in omega (arith, f, i, n)
