@@ -4,7 +4,7 @@ ghost use Rattle.m2_base.specs.Lists.{WhereKept};
 ghost use Rattle.m2_base.specs.Rows.{IsValue};
 ghost use Rattle.m2_base.specs.States.{Frame};
 ghost use Rattle.m2_base.specs.Statics.Contexts.{Context};
-ghost use Rattle.m2_base.specs.Statics.Folding.{is_arithmetic as spec_arithmetic, is_equality as spec_equality, is_relation as spec_relation, number_kind as spec_kind, number_type as spec_type, where_in};
+ghost use Rattle.m2_base.specs.Statics.Folding.{is_arithmetic as spec_arithmetic, is_equality as spec_equality, number_kind as spec_kind, number_type as spec_type, where_in};
 ghost use Rattle.m2_base.specs.Statics.Operations.{apply_one_by, base_type, compares_sets as spec_compares_sets, folded as spec_folded, gives_result, makes_set as spec_makes_set, is_member as spec_is_member, member_of_set as spec_member, number_operation as spec_number_operation, signed as spec_signed, set_operation as spec_set_operation, negated as spec_negated, with_sign as spec_with_sign};
 ghost use Rattle.m2_base.specs.Standard.{boolean, cardinal, integer, whole};
 ghost use Rattle.m2_base.specs.Statics.Ranges.{range};
@@ -20,7 +20,7 @@ use m2_base::{
     Diagnostic, FoldKind, GREATEST_CARDINAL, GREATEST_ELEMENT, GREATEST_INTEGER, LEAST_INTEGER,
     Operand, Operator, Place,
 };
-use type_rules::{BOOLEAN, CARDINAL, INTEGER, WHOLE, fold, operand_type};
+use type_rules::{BOOLEAN, CARDINAL, INTEGER, WHOLE, fold, is_relation, operand_type};
 
 /// Whether an operator gives a number of two numbers.
 pub(crate) fn is_arithmetic(operator: Operator) -> bool
@@ -37,21 +37,6 @@ pub(crate) fn is_equality(operator: Operator) -> bool
     ensures { result ≡ spec_equality operator }
 {
     matches!(operator, Operator::Equal | Operator::Unequal)
-}
-
-/// Whether an operator compares.
-pub(crate) fn is_relation(operator: Operator) -> bool
-    ensures { result ≡ spec_relation operator }
-{
-    matches!(
-        operator,
-        Operator::Equal
-            | Operator::Unequal
-            | Operator::Less
-            | Operator::Greater
-            | Operator::LessEqual
-            | Operator::GreaterEqual
-    )
 }
 
 /// Whether an operator gives a set of two sets.

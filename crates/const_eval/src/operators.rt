@@ -25,7 +25,7 @@ ghost use Rattle.type_rules.specs.Standing.{StopsAtEither};
 use crate::faults::Fault;
 use crate::membership::membership;
 use crate::numbers::{
-    applied, combined, is_arithmetic, is_equality, is_relation, number_operation, set_operation,
+    applied, combined, is_arithmetic, is_equality, number_operation, set_operation,
 };
 use crate::operands::{Argument, is_bad, is_procedure, worse};
 use crate::pairs::{as_number, base_beside, number_base, taken_beside};
@@ -35,7 +35,7 @@ use m2_base::{
 };
 use type_rules::{
     BOOLEAN, WHOLE, base_by, base_of, bases_of, compatible_with, is_integer_or_cardinal,
-    operand_type, range_by, stand,
+    is_relation, operand_type, range_by, stand,
 };
 
 /// Whether a base is INTEGER, CARDINAL or that of whole constants.

@@ -32,7 +32,7 @@ fn fold_by_kind(kind: FoldKind, operator: Operator, x: i64, y: i64) -> Option<i6
 }
 
 /// Whether an operator compares.
-fn is_relation(operator: Operator) -> bool
+pub fn is_relation(operator: Operator) -> bool
     ensures { result ≡ spec_relation operator }
 {
     matches!(

@@ -36,7 +36,7 @@ mod uses;
 pub use assigning::{assignable, is_open_array};
 pub use compatibility::{bases_of, compatible, compatible_with, is_pointer};
 pub use finding::entry_of_module;
-pub use folding::fold;
+pub use folding::{fold, is_relation};
 pub use forms::{Form, Formal, form_of, next_parameter};
 pub use headings::has_same_form;
 pub use members::{field_of, index_of};
