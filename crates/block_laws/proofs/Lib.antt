@@ -26,3 +26,12 @@ pub mod NamedHeadings
 pub mod CodeIsValid
 pub mod MainBlocks
 pub mod WholeRows
+pub mod EveryTree
+pub mod StandingOperands
+pub mod StandingProcedures
+pub mod StandingCalls
+pub mod StandingValues
+pub mod StandingFlows
+pub mod StandingRows
+pub mod StandingClosings
+pub mod StandingBlocks

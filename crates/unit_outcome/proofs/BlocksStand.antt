@@ -18,7 +18,7 @@ use Rattle.stmt_sem.specs.BlockCode.{block_diags}
 use Rattle.block_laws.specs.Worlds.{over_blocks}
 use Rattle.block_laws.proofs.BlocksAt.{before_of, unit_all, unit_made}
 use Rattle.unit_laws.proofs.SoundUnits.{scopes_are}
-use Rattle.block_notes.proofs.StandingBlocks.{block_stands}
+use Rattle.block_laws.proofs.StandingBlocks.{block_stands}
 use Rattle.merge_laws.specs.Outcome.{unit_diags}
 use Rattle.unit_outcome.specs.Tokens.{IsAtToken}
 use Rattle.unit_outcome.proofs.BlockTexts.{IsHome, StandsInText, all_home, unit_blocks}

@@ -25,7 +25,7 @@ use Rattle.m2_base.specs.Trees.{Stream}
 use Rattle.m2_base.specs.declared.trees.Ident.{Ident}
 use Rattle.m2_base.proofs.StandingItems.{name_diags_at}
 use Rattle.m2_base.proofs.StandingNotes.{NotesAt, join, none, notes_either, one}
-use Rattle.block_notes.proofs.StandingRows.{rows_stand}
+use Rattle.block_laws.proofs.StandingRows.{rows_stand}
 
 module _ (Here : ℕ → Type 0) where
   -- rows that stand here

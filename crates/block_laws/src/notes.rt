@@ -6,8 +6,6 @@
 //! nothing, and their contracts are the laws, beside that of declarations in `m2_base`. Their lemmas go over operands,
 //! standard procedures, calls, expressions, labels and statements, a file each in `proofs/`, and say of the text and of any
 //! places at once that what is noted stands there.
-#![tactic(auto)]
-
 ghost use Rattle.std.specs.Prelude.{◌≡◌, ℕ, ◌<◌, List};
 ghost use Rattle.m2_base.specs.Lists.{Each};
 ghost use Rattle.m2_base.specs.Statics.BlockRows.{declare_block};

@@ -20,9 +20,9 @@ use Rattle.expr_sem.specs.RecordFields.{name_coded}
 use Rattle.expr_sem.specs.SetElements.{Elements, element_coded, no_elements_yet}
 use Rattle.expr_sem.specs.StandardProcedures.{first_of_two}
 use Rattle.expr_sem.specs.Values.{as_value}
-use Rattle.block_notes.proofs.StandingCalls.{argument_at, call_at, called_at}
-use Rattle.block_notes.proofs.StandingOperands.{as_value_at, element_coded_at, field_at, name_at, one_coded_at, selected_at, target_at, two_coded_at}
-use Rattle.block_notes.proofs.StandingProcedures.{first_of_two_at, one_argument_at, two_arguments_at}
+use Rattle.block_laws.proofs.StandingCalls.{argument_at, call_at, called_at}
+use Rattle.block_laws.proofs.StandingOperands.{as_value_at, element_coded_at, field_at, name_at, one_coded_at, selected_at, target_at, two_coded_at}
+use Rattle.block_laws.proofs.StandingProcedures.{first_of_two_at, one_argument_at, two_arguments_at}
 
 module _ (Here : ℕ → Type 0) where
   -- what stands for an expression where a value is wanted

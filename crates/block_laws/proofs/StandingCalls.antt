@@ -25,7 +25,7 @@ use Rattle.expr_sem.specs.Parts.{Part}
 use Rattle.expr_sem.specs.ProcedureNames.{target_of_procedure}
 use Rattle.expr_sem.specs.StandardProcedures.{is_function, takes_count}
 use Rattle.expr_sem.specs.Values.{as_value}
-use Rattle.block_notes.proofs.StandingOperands.{as_value_at, assigned_at}
+use Rattle.block_laws.proofs.StandingOperands.{as_value_at, assigned_at}
 
 module _ (Here : ℕ → Type 0) where
   -- ** Arguments

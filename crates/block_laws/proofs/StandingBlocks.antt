@@ -23,9 +23,9 @@ use Rattle.m2_base.proofs.StandingItems.{block_at}
 use Rattle.m2_base.proofs.StandingNotes.{Noted, NotesAt, join, none, notes_either, one}
 use Rattle.stmt_sem.specs.BlockCode.{block_diags, body_of, cells_with, run_of, size_by, size_diags, stand_of, too_many_at}
 use Rattle.stmt_sem.specs.Flows.{Run}
-use Rattle.block_notes.proofs.EveryTree.{stream_all}
-use Rattle.block_notes.proofs.StandingClosings.{RowsHere, closing_at, home_rows_here}
-use Rattle.block_notes.proofs.StandingFlows.{statements_at}
+use Rattle.block_laws.proofs.EveryTree.{stream_all}
+use Rattle.block_laws.proofs.StandingClosings.{RowsHere, closing_at, home_rows_here}
+use Rattle.block_laws.proofs.StandingFlows.{statements_at}
 
 module _ (Here : ℕ → Type 0) where
   -- ** The size

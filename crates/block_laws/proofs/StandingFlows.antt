@@ -33,9 +33,9 @@ use Rattle.stmt_sem.specs.Statements.{Stand, arm_flow, arms_flow, by_of, case_fl
 use Rattle.stmt_sem.specs.Tests.{test_code}
 use Rattle.stmt_sem.specs.Withs.{is_record, record_variable}
 use Rattle.m2_base.proofs.StandingTypes.{labels_at}
-use Rattle.block_notes.proofs.StandingOperands.{assigned_at}
-use Rattle.block_notes.proofs.StandingProcedures.{as_variable_at}
-use Rattle.block_notes.proofs.StandingValues.{call_alone_at, designated_at, value_at}
+use Rattle.block_laws.proofs.StandingOperands.{assigned_at}
+use Rattle.block_laws.proofs.StandingProcedures.{as_variable_at}
+use Rattle.block_laws.proofs.StandingValues.{call_alone_at, designated_at, value_at}
 
 -- a WITH stands in the same block
 same_context : (b : Bool) (s t : Stand) → t.context ≡ s.context → (if b then s else t).context ≡ s.context

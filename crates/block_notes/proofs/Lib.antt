@@ -1,9 +1,0 @@
-pub mod EveryTree
-pub mod StandingOperands
-pub mod StandingProcedures
-pub mod StandingCalls
-pub mod StandingValues
-pub mod StandingFlows
-pub mod StandingRows
-pub mod StandingClosings
-pub mod StandingBlocks
