@@ -8,6 +8,8 @@ mod filling;
 #[cfg(test)]
 mod of_dky_search;
 #[cfg(test)]
+mod of_fields;
+#[cfg(test)]
 mod of_threads;
 #[cfg(test)]
 mod opening;

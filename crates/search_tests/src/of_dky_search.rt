@@ -23,7 +23,11 @@ fn row_at(scopes: &mut SeatScopes, ordinal: u32) -> Ask<Option<Row>> {
 }
 
 /// Selects a field of the record whose row has this ordinal in scope 1.
-fn field_at(scopes: &mut SeatScopes, ordinal: u32, name: u32) -> Ask<Option<(u32, Row)>> {
+pub(crate) fn field_at(
+    scopes: &mut SeatScopes,
+    ordinal: u32,
+    name: u32,
+) -> Ask<Option<(u32, Row)>> {
     let _own = scopes.filled();
     scopes.select(Place { scope: 1, ordinal }, name)
 }
