@@ -182,7 +182,9 @@ fn with_label<S: Scopes>(
     Ok(Ask::Known(more))
 }
 
-/// The labels of one arm beside a value of this type, where the labels of earlier arms cover these values.
+/// The labels of one arm, of a CASE or of variants, beside a value of the type `of`, where earlier arms cover
+/// `covered`. By the report they are constants compatible with that type, "and no value must occur more than once"; one
+/// that isn't right is refused at its first token. It waits for names and types.
 pub fn case_labels<S: Scopes>(
     alloc: Global,
     scopes: &mut S,

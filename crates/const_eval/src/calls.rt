@@ -172,7 +172,8 @@ pub(crate) fn value_noted(
     )
 }
 
-/// What a function gives of a value; what is refused is noted.
+/// What ABS, CAP, CHR, ODD or ORD gives of the value `x`, whose first token is `at`, as `abs_of` or one beside it
+/// judges. A fault is noted in the site's text, and then the operand is in error. It waits for the value's type.
 pub fn of_value_noted<S: Scopes>(
     scopes: &mut S,
     site: &Site,
@@ -189,7 +190,8 @@ pub fn of_value_noted<S: Scopes>(
     note(site.around.text, given, notes)
 }
 
-/// What a function gives of a type; what is refused is noted.
+/// What MIN, MAX or SIZE gives of the argument `x`, whose first token is `at`, as `extreme_of` or `size_value` judges
+/// it. A fault is noted in the site's text, and then the operand is in error. It waits for the argument's type.
 pub fn of_type_noted<S: Scopes>(
     scopes: &mut S,
     site: &Site,
@@ -255,7 +257,8 @@ fn val_noted<S: Scopes>(
     note(site.around.text, given, notes)
 }
 
-/// VAL, of a type and an operand that stands for a value.
+/// VAL(T, x): `of` is what is written for T, which must be an ordinal type, and `x`, whose first token is `at`, has
+/// passed `value_wanted`. A fault of T, and then one that `val_of` finds, is noted. It waits for both types.
 pub fn val_of_operand<S: Scopes>(
     scopes: &mut S,
     site: &Site,
@@ -350,7 +353,8 @@ pub(crate) fn call_with<S: Scopes>(
     }
 }
 
-/// A call of an operand with the arguments of a list.
+/// A call, in a constant, of the operand `to`, whose first token is `at`: what a standard function gives of `args`, a
+/// fault noted; any other is no constant, or in error where an argument is. It waits for the arguments' types.
 pub fn call_of<S: Scopes>(
     scopes: &mut S,
     site: &Site,

@@ -53,8 +53,9 @@ fn constant_or_refused(
     }
 }
 
-/// The constant that an expression stands for. There is none where a diagnostic was noted or a used row is in error; and without one a
-/// diagnostic was noted, or a used row has a part in error.
+/// The constant that an expression stands for; what is none is refused at its first token. There is none where a
+/// diagnostic was noted or a used row is in error; and without one a diagnostic was noted, or a used row has a part in
+/// error. It waits for names and types.
 pub fn constant<S: Scopes>(
     scopes: &mut S,
     site: &Site,

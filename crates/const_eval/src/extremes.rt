@@ -58,7 +58,8 @@ fn end_of_type<S: Scopes>(scopes: &mut S, site: &Site, extreme: Extreme, of: Pla
     Ask::Known(end_value(of, extreme, ends))
 }
 
-/// MIN and MAX of an ordinal type.
+/// Judges MIN(T), "the minimum value of type T", or MAX(T), the maximum: a constant of T. `x` stands for T, and `at` is
+/// its first token, where a fault is if it is no ordinal type (`ordinal_type_argument`). It waits for T's row.
 #[tactic(auto, using(type_rules::proofs::Reading::reading, crate::proofs::TypesThere::there))]
 pub fn extreme_of<S: Scopes>(
     scopes: &mut S,
@@ -137,7 +138,8 @@ fn type_size<S: Scopes>(scopes: &mut S, site: &Site, of: Place) -> Ask<Operand>
     Ask::Known(size_constant(size))
 }
 
-/// SIZE: of a type a constant, of a variable a value that isn't constant.
+/// Judges SIZE of `x`, whose first token is `at`: the number of its cells, a CARDINAL, which is constant for a type but
+/// not for a variable. An open array, and what is neither type nor variable, is a fault. It waits for the type's row.
 #[tactic(auto, using(type_rules::proofs::Reading::reading, crate::proofs::TypesThere::there))]
 pub fn size_value<S: Scopes>(
     scopes: &mut S,

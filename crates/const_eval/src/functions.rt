@@ -62,7 +62,8 @@ fn number_argument<S: Scopes>(
     Ask::Known(kept_or_refused(is_number(base), at, x))
 }
 
-/// A string of one character as a CHAR, anything else as it is, by the names of the site.
+/// The same as `char_or_same`, by the names of the site: a string of one character is that CHAR, anything else is as it
+/// is. It asks no scope.
 pub fn char_of_string(site: &Site, x: Operand) -> Operand
     requires { IsNamed site.now.texts.now.names x }
     ensures told { (source : Source) → source.spellings ≡ site.now.texts.now.names → result ≡ spec_char_or_same source x }
@@ -148,7 +149,8 @@ fn ordinal_type<S: Scopes>(
     Ask::Known(type_with_range(at, of, broken, ends))
 }
 
-/// An argument that is an ordinal type.
+/// Judges an argument that must be an ordinal type, as that of MIN: `at` is its first token. What is no type is a
+/// fault, and so is a type that isn't ordinal; one in error is given as it is. It waits for the type's row.
 #[tactic(auto, using(type_rules::proofs::Reading::reading, crate::proofs::TypesThere::there))]
 pub fn ordinal_type_argument<S: Scopes>(
     scopes: &mut S,
@@ -254,7 +256,8 @@ fn number_absolute<S: Scopes>(
     Ask::Known(absolute(at, number_type(number_kind(base)), x))
 }
 
-/// ABS: a number of the argument's base type.
+/// Judges ABS(x), "absolute value", for an `x` whose first token is `at`: a number of the base of its type. What is no
+/// number is a fault, and so is the constant whose absolute value INTEGER hasn't. It waits for the type.
 #[tactic(auto, using(type_rules::proofs::Reading::reading, crate::proofs::TypesThere::there))]
 pub fn abs_of<S: Scopes>(
     scopes: &mut S,
@@ -302,7 +305,8 @@ fn capital_or_refused(at: u32, base: Place, x: Operand) -> Result<Operand, Fault
     }
 }
 
-/// CAP: a CHAR, small letters as capitals.
+/// Judges CAP(ch) for an `x` whose first token is `at`: "if ch is a lower case letter, the corresponding capital
+/// letter", else as it is. A string of one character is a CHAR; what is none is a fault. It waits for the type.
 #[tactic(auto, using(type_rules::proofs::Reading::reading, crate::proofs::TypesThere::there))]
 pub fn cap_of<S: Scopes>(
     scopes: &mut S,
@@ -326,7 +330,8 @@ pub fn cap_of<S: Scopes>(
     Ask::Known(capital_or_refused(at, base, taken))
 }
 
-/// CHR: the CHAR of a number.
+/// Judges CHR(x), "the character with ordinal number x", for an `x` whose first token is `at`: a CHAR, constant where
+/// `x` is. What is no number is a fault, and so is a constant that is no character's. It waits for the type.
 #[tactic(auto, using(type_rules::proofs::Reading::reading, crate::proofs::TypesThere::there))]
 pub fn chr_of<S: Scopes>(
     scopes: &mut S,
@@ -360,7 +365,8 @@ fn oddness(x: Operand) -> Operand
     }
 }
 
-/// ODD: a BOOLEAN.
+/// Judges ODD(x), "x MOD 2 # 0", for an `x` whose first token is `at`: a BOOLEAN, constant where `x` is. What is no
+/// number is a fault. It waits for the type.
 #[tactic(auto, using(type_rules::proofs::Reading::reading, crate::proofs::TypesThere::there))]
 pub fn odd_of<S: Scopes>(
     scopes: &mut S,
@@ -382,7 +388,8 @@ pub fn odd_of<S: Scopes>(
     }
 }
 
-/// ORD: an ordinal value as a CARDINAL.
+/// Judges ORD(x), "ordinal number (of type CARDINAL) of x", for an `x` whose first token is `at`; a string of one
+/// character is a CHAR. What isn't of an ordinal type is a fault, and so is a negative constant. It waits for the type.
 #[tactic(auto, using(type_rules::proofs::Reading::reading, crate::proofs::TypesThere::there))]
 pub fn ord_of<S: Scopes>(
     scopes: &mut S,
@@ -429,7 +436,8 @@ fn val_as<S: Scopes>(
     converted(scopes, site, at, of, x)
 }
 
-/// VAL: an ordinal value as one of this type.
+/// Judges VAL(T, x), "the value with ordinal number x and with type T"; `of` is T, and `at` the first token of `x`.
+/// What isn't ordinal is a fault, as is a constant that T hasn't; of a T in error it is in error. It waits for both.
 #[tactic(auto, using(type_rules::proofs::Reading::reading, crate::proofs::TypesThere::there))]
 pub fn val_of<S: Scopes>(
     scopes: &mut S,

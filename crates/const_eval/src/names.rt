@@ -37,7 +37,8 @@ fn is_open_of_broken<S: Scopes>(scopes: &mut S, around: &Around, of: Place) -> A
     }
 }
 
-/// Whether a type is in error, or an open array of such.
+/// Whether a type is that of parts in error, or an open array of such elements: a variable of it is in error. It waits
+/// for the row of the type, and for that of the elements' type.
 #[tactic(auto, using(type_rules::proofs::Reading::reading))]
 pub fn is_in_error<S: Scopes>(scopes: &mut S, around: &Around, of: Place) -> Ask<bool>
     requires suits { Suits (S.state scopes.old).frame around.now }
@@ -107,7 +108,8 @@ fn variable<S: Scopes>(scopes: &mut S, around: &Around, of: Place) -> Ask<Operan
     }
 }
 
-/// The operand of a row at a place.
+/// What a name stands for that is bound to this row at this place. A constant, a type or a variable is in error where
+/// its type is, and so is every row that no expression can name. It waits for the type's row.
 #[tactic(auto, using(type_rules::proofs::Reading::reading))]
 pub fn operand_of<S: Scopes>(
     scopes: &mut S,
@@ -163,7 +165,8 @@ fn bound_operand<S: Scopes>(
     }
 }
 
-/// What a name stands for in a constant expression.
+/// What a name stands for in a constant; `within` is the scope of the module before its point, if there is one. Its use
+/// is noted, or refused, and in error then; a variable is no constant. It waits for the name and its type.
 pub fn name_operand<S: Scopes>(
     scopes: &mut S,
     site: &Site,

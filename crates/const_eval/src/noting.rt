@@ -27,7 +27,8 @@ fn refuse(text: u32, fault: Fault, notes: &mut Notes) -> Result<(), Memory>
     notes.refuse(text, fault.at, fault.kind)
 }
 
-/// A judgement's operand, where it is known. A fault is noted in this text, and the operand is in error.
+/// Ends a judgement on operands: gives its operand, or notes its fault as a diagnostic in the text of this number, and
+/// then the operand is in error. Where the judgement waits so does the answer, and nothing is noted.
 pub fn note(
     text: u32,
     asked: Ask<Result<Operand, Fault>>,
@@ -49,7 +50,8 @@ pub fn note(
     }
 }
 
-/// A judgement's type, where it is known. A fault is noted in this text, and the type is that of parts in error.
+/// Ends a judgement on a type: gives the type, or notes the fault as a diagnostic in the text of this number, and then
+/// the type is `BROKEN`. Where the judgement waits so does the answer, and nothing is noted.
 pub fn note_type(
     text: u32,
     asked: Ask<Result<Place, Fault>>,

@@ -18,7 +18,8 @@ pub struct Argument {
     pub operand: Operand,
 }
 
-/// Whether an operand takes part in no further check.
+/// Whether an operand takes part in no further check: it is in error, or in a constant expression no constant.
+/// Operators and functions give what is as bad, without a fault.
 pub fn is_bad(operand: Operand) -> bool
     ensures { result ≡ spec_bad operand }
 {
@@ -32,7 +33,8 @@ pub(crate) fn is_procedure(operand: Operand) -> bool
     matches!(operand, Operand::Procedure(..))
 }
 
-/// The value of a constant that isn't a string.
+/// The value of a constant that isn't a string: a number, the ordinal number of a character or of an enumeration's
+/// constant, or the bits of a set. Of any other operand there is none.
 pub fn constant_value(operand: Operand) -> Option<i64>
     ensures { result ≡ constant_of_operand operand }
 {
@@ -77,7 +79,8 @@ fn first_byte(bytes: &[u8]) -> i64
     }
 }
 
-/// A string of one character as a CHAR, anything else as it is.
+/// An operand where a CHAR may stand: a string of one character is the constant of that character, whose code the
+/// unit's names tell (the empty string has code 0); anything else is as it is.
 pub fn char_or_same(names: &Names, operand: Operand) -> Operand
     requires { IsNamed names.now operand }
     ensures told { (source : Source) → source.spellings ≡ names.now → result ≡ spec_char_or_same source operand }

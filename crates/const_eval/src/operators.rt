@@ -80,7 +80,8 @@ fn takes_scalars(operator: Operator, ordinal: bool, pointer: bool) -> bool
     is_relation(operator) && ordinal || is_equality(operator) && pointer
 }
 
-/// What an operator gives that stands before one operand: NOT of a BOOLEAN, or a sign.
+/// Judges NOT or a sign, at the token `operator_at`, before an operand: NOT takes a BOOLEAN, a sign an INTEGER or a
+/// whole constant. Any other type is a fault there, and so is a value out of range. It waits for the operand's type.
 #[tactic(auto, using(type_rules::proofs::Reading::reading, crate::proofs::TypesThere::there))]
 pub fn apply_one<S: Scopes>(
     scopes: &mut S,
@@ -399,7 +400,9 @@ fn operate_by<S: Scopes>(
     }
 }
 
-/// What an operator gives of two operands, with their first tokens.
+/// Judges an operator, at the token `operator_at`, between two operands: a constant where both are. Wrong operands are
+/// a fault there, as is a value out of range; a whole constant that the other type hasn't is one at its own first
+/// token. It waits for both types.
 #[tactic(auto, using(type_rules::proofs::Reading::reading, crate::proofs::TypesThere::there))]
 pub fn operate<S: Scopes>(
     scopes: &mut S,

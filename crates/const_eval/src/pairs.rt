@@ -32,7 +32,8 @@ use type_rules::{
     is_string, operand_type, range_of,
 };
 
-/// Whether a value is in a range, where there is one.
+/// Whether a value is in the range with these ends, which are in it too. Where there is no range, as of a type that
+/// isn't ordinal, every value is.
 pub fn is_within(ends: Option<(i64, i64)>, value: i64) -> bool
     ensures { result ≡ spec_within (option_map (λ ends. range ends.0 ends.1) ends) value }
 {
@@ -49,7 +50,8 @@ fn is_whole(of: Place) -> bool
     of == WHOLE
 }
 
-/// Whether an operand is of an ordinal type; a whole constant counts as one.
+/// Whether an operand is of an ordinal type: INTEGER, CARDINAL, CHAR, an enumeration or a subrange. A whole constant,
+/// which has neither type of numbers yet, counts as one. It waits for the type's row.
 #[tactic(auto, using(type_rules::proofs::Reading::reading, crate::proofs::TypesThere::there))]
 pub fn is_ordinal<S: Scopes>(scopes: &mut S, site: &Site, x: Operand) -> Ask<bool>
     requires suits { SuitsSite (S.state scopes.old).frame site.now }
@@ -118,7 +120,8 @@ pub(crate) fn base_beside(x: &Operand, left: Place, y: &Operand, right: Place) -
     }
 }
 
-/// Two operands as they are taken beside each other, where they are compatible.
+/// Two operands as they are taken beside each other, if they are compatible: a string of one character beside a CHAR is
+/// a CHAR, all else is as it is. It waits for the rows of both types.
 #[tactic(auto, using(type_rules::proofs::Reading::reading, crate::proofs::TypesThere::there))]
 pub fn compatible_pair<S: Scopes>(
     scopes: &mut S,

@@ -61,7 +61,8 @@ fn with_range(of: Place, bits: i64, low: Operand, high: Operand) -> Operand
     }
 }
 
-/// A set with the elements from low to high too.
+/// A set with the elements from `low` to `high` too, both of them the same for one element; none where low is above
+/// high. It is constant where all three are; else it is in error where one of them is, and otherwise no constant.
 #[tactic(auto, using(crate::proofs::Bits::set_default))]
 pub fn with_elements(set: Operand, low: Operand, high: Operand) -> Operand
     requires { IsSmallConstant set }

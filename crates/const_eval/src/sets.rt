@@ -67,7 +67,8 @@ fn named_set_type<S: Scopes>(
     Ask::Known(set_type(at, known!(set_row(scopes, site.around, of))))
 }
 
-/// The type before the brackets of a set, by its operand and that one's first token.
+/// Judges what stands before the brackets of a set, an operand whose first token is `at`: the set type that it names.
+/// What is no type, or no set type, is a fault; what is in error gives `BROKEN`. It waits for the type's row.
 #[tactic(auto, using(type_rules::proofs::Reading::reading, crate::proofs::TypesThere::there))]
 pub fn set_type_of<S: Scopes>(
     scopes: &mut S,
@@ -90,7 +91,8 @@ pub fn set_type_of<S: Scopes>(
     }
 }
 
-/// The base of a set type.
+/// The base of a set type, with which its elements must be compatible; of a type that is no set the type of parts in
+/// error. It waits for the row of what the type stands for.
 #[tactic(auto, using(type_rules::proofs::Reading::reading, crate::proofs::TypesThere::there))]
 pub fn set_base<S: Scopes>(scopes: &mut S, site: &Site, of: Place) -> Ask<Place>
     requires suits { SuitsSite (S.state scopes.old).frame site.now }
@@ -117,7 +119,8 @@ fn empty_set(broken: bool, of: Place) -> Operand
     }
 }
 
-/// The set of a type without elements.
+/// The set of a type without elements, a constant, to which elements are added. It is in error where the type's base
+/// is, and where the type is no set. It waits for the rows of the type and of its base.
 #[tactic(auto, using(type_rules::proofs::Reading::reading, crate::proofs::TypesThere::there))]
 pub fn no_elements<S: Scopes>(scopes: &mut S, site: &Site, of: Place) -> Ask<Operand>
     requires suits { SuitsSite (S.state scopes.old).frame site.now }
@@ -196,7 +199,8 @@ fn taken_element<S: Scopes>(
     }
 }
 
-/// An element as it is taken into a set: compatible with the base, and a constant in the base's range.
+/// Judges an element of a set with this base, or an end of a range, whose first token is `at`: it must be compatible
+/// with the base, and a constant in its range, else that is a fault; in error where the base is. It waits for both.
 #[tactic(auto, using(type_rules::proofs::Reading::reading, crate::proofs::TypesThere::there))]
 pub fn element_of<S: Scopes>(
     scopes: &mut S,

@@ -36,7 +36,8 @@ fn string_length(names: &Names, name: u32) -> u32
     }
 }
 
-/// A string.
+/// What a string in the text stands for, by its number among the unit's names: an operand that has its length too, in
+/// characters. The empty string has one, of code 0.
 pub fn string_constant(site: &Site, name: u32) -> Operand
     requires named { name < length site.now.texts.now.names }
     requires short { length (slice_index_or site.now.texts.now.names name []) < 2 ^ 32 }
@@ -93,7 +94,8 @@ pub fn field_operand<S: Scopes>(
     }
 }
 
-/// An operator before an operand.
+/// An operator, at the token `operator_at`, applied to the one operand behind it: what `apply_one` judges. A fault is
+/// noted in the site's text, and then the result is in error. It waits for the operand's type.
 pub fn applied_one<S: Scopes>(
     scopes: &mut S,
     site: &Site,
@@ -110,7 +112,8 @@ pub fn applied_one<S: Scopes>(
     note(site.around.text, given, notes)
 }
 
-/// An operator between operands.
+/// An operator, at the token `operator_at`, applied to the operands on both sides: what `operate` judges. A fault is
+/// noted in the site's text, and then the result is in error. It waits for both types.
 pub fn operated<S: Scopes>(
     scopes: &mut S,
     site: &Site,
@@ -129,7 +132,8 @@ pub fn operated<S: Scopes>(
     note(site.around.text, given, notes)
 }
 
-/// An operand as it is taken into a set with this base.
+/// An operand, whose first token is `at`, taken as an element into a set with this base: what `element_of` judges. A
+/// fault is noted in the site's text, and then the element is in error. It waits for both types.
 pub fn taken<S: Scopes>(
     scopes: &mut S,
     site: &Site,

@@ -12,7 +12,8 @@ ghost use Rattle.type_rules.specs.Standing.{StopsAtEither, StopsAtType};
 use m2_base::{Around, Ask, Place, RowMeaning, Scopes};
 use type_rules::{BROKEN, same, stand};
 
-/// Whether a type is that of parts in error.
+/// Whether a type is that of parts in error, by what it stands for; of such a type rules have nothing more to say. It
+/// waits for the row of what the type stands for.
 #[tactic(auto, using(type_rules::proofs::Reading::reading, crate::proofs::TypesThere::there))]
 pub fn is_broken<S: Scopes>(scopes: &mut S, around: &Around, of: Place) -> Ask<bool>
     requires suits { Suits (S.state scopes.old).frame around.now }

@@ -9,7 +9,8 @@ ghost use Rattle.const_eval.specs.Sites.{IsOperand};
 use crate::faults::Fault;
 use m2_base::{Diagnostic, Operand};
 
-/// A variable is no constant.
+/// What a name's operand is in a constant expression: a variable is no constant, anything else is as it is. Nothing is
+/// refused yet: what is no constant is refused once, of the whole expression.
 pub fn in_constant(operand: Operand) -> Operand
     ensures told { result ≡ spec_in_constant operand }
     ensures there { (f : Frame) → IsOperand f operand → IsOperand f result }
@@ -20,7 +21,8 @@ pub fn in_constant(operand: Operand) -> Operand
     }
 }
 
-/// Where a value is wanted, a type or a module alone is refused, and a procedure is no constant.
+/// Judges an operand where a value is wanted; `at` is its first token. A type or a module alone is a fault; a
+/// procedure, standard or not, is no constant; anything else is as it is.
 pub fn value_wanted(at: u32, operand: Operand) -> Result<Operand, Fault>
     ensures told { (c : Context) → judged c result ≡ spec_value_wanted c at operand }
     ensures there { (f : Frame) → IsOperand f operand → IfOk result (λ operand. IsOperand f operand) }
@@ -32,7 +34,8 @@ pub fn value_wanted(at: u32, operand: Operand) -> Result<Operand, Fault>
     }
 }
 
-/// A selector on what isn't a module: a type is refused, anything else is no constant.
+/// Judges an index, `^`, or a point behind what is no module, in a constant; `at` is the designator's first token. A
+/// type or a module is a fault there, what is in error stays so, and all else is no constant.
 pub fn selected(at: u32, operand: Operand) -> Result<Operand, Fault>
     ensures told { (c : Context) → judged c result ≡ spec_selected c at operand }
     ensures there { (f : Frame) → IfOk result (λ operand. IsOperand f operand) }
@@ -44,7 +47,8 @@ pub fn selected(at: u32, operand: Operand) -> Result<Operand, Fault>
     }
 }
 
-/// An operand, in error where a part of it is.
+/// An operand with a further part, as an index: in error where the part is, else as it is. So what was refused within
+/// an expression isn't refused once more as a whole that is no constant.
 pub fn spoilt_by(part: Operand, operand: Operand) -> Operand
     ensures told { result ≡ spec_spoilt part operand }
     ensures there { (f : Frame) → IsOperand f operand → IsOperand f result }

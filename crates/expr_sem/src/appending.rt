@@ -14,7 +14,8 @@ use crate::steps::Step;
 use code_form::Instr;
 use m2_base::{Memory, TOO_MANY_CELLS};
 
-/// So many more cells or bytes.
+/// So many temporary cells, or bytes of data, and so many more; each sum above the most that a block may have is
+/// `TOO_MANY_CELLS`. So none is too great for its number, and the block is refused when it ends.
 pub fn capped_sum(count: u32, more: usize) -> u32
     ensures { result ≡ capped (count + more) }
 {
@@ -36,7 +37,8 @@ fn push_step(piece: &mut Piece, step: Step) -> Result<(), Memory>
     Ok(())
 }
 
-/// Appends an instruction that is no call and no return.
+/// Appends to a piece an instruction that is no call and no return, with what the machine's table says that it takes
+/// from the stack and leaves there. Where memory is wanted the piece has at least what it had.
 pub fn push_instr(piece: &mut Piece, instr: Instr) -> Result<(), Memory>
     ensures begins { Begins piece.old piece.new }
     ensures ok { (ws : List OpenWith) → OnOk result (Appended piece.old piece.new ws (plain (instr ∷ []))) }
@@ -162,7 +164,8 @@ fn visit(
     }
 }
 
-/// Appends a fragment's code and data, or a beginning of them.
+/// Appends a fragment, one of `fragments`, to a piece: its steps, its bytes of data, and the temporary cells that it
+/// takes. Where memory is wanted a beginning of it may be there, which the caller takes off again, as `append` does.
 pub fn append_all(
     fragments: &Fragments,
     fragment: Fragment,

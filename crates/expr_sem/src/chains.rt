@@ -7,7 +7,8 @@ use crate::fragments::{Fragment, Fragments};
 use code_form::Instr;
 use m2_base::Memory;
 
-/// An instruction behind a fragment.
+/// Makes a fragment of an earlier one and an instruction behind it, which takes what is on the stack then, as `Load`
+/// takes an address. The instruction is no call and no return. This never waits.
 pub fn instr_behind(
     first: Fragment,
     instr: Instr,
@@ -20,7 +21,8 @@ pub fn instr_behind(
     fragments.then(first, last)
 }
 
-/// Two instructions.
+/// Makes a fragment of two instructions, neither a call nor a return: the address of a cell and `Load`, say, or `Bit`
+/// and `Union`. This never waits.
 pub fn pair(first: Instr, second: Instr, fragments: &mut Fragments) -> Result<Fragment, Memory>
     ensures { IsMade fragments.old.nodes.items fragments.new.nodes.items result (plain (first ∷ second ∷ [])) }
 {

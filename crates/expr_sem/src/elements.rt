@@ -315,7 +315,8 @@ fn open_found<S: Scopes>(
     variable_at(of, open_code(x, value, size, fragments))
 }
 
-/// The cells of a type.
+/// How many cells a variable of a type takes, as `Move` and `New` have it: an array or a record as many as its row
+/// says, anything else one. It waits for the row of what the type stands for.
 #[tactic(auto, using(type_rules::proofs::Reading::reading))]
 pub fn cells_of<S: Scopes>(scopes: &mut S, around: &Around, of: Place) -> Ask<u32>
     requires suits { Suits (S.state scopes.old).frame around.now }

@@ -88,7 +88,8 @@ fn expression<S: Scopes>(
     }
 }
 
-/// An expression where a value is wanted.
+/// What an expression stands for where a value is wanted; a type alone, say, is refused at its first token. The code is
+/// the operand's own, of a variable its address: `value_code` goes on from there. It waits for names and types.
 #[cycle(expressions)]
 pub fn value_of<S: Scopes>(
     scopes: &mut S,
@@ -550,7 +551,8 @@ fn called_with<S: Scopes>(
     called_as(scopes, site, withs, &what, args, fragments, notes)
 }
 
-/// What a designator stands for.
+/// What a designator stands for within the open WITHs: its name, and then what each selector selects of that. The code
+/// of a variable leaves its address, all else has none. It waits for names and types.
 #[cycle(expressions)]
 pub fn designated<S: Scopes>(
     scopes: &mut S,
@@ -682,7 +684,8 @@ fn index<S: Scopes>(
     select_element(scopes, site, first, at, index, x, fragments, notes)
 }
 
-/// A call as a statement.
+/// A call that stands as a statement: its code computes the arguments, calls, and leaves the stack as it was. What
+/// gives a value, or takes another number of arguments, is refused at its first token. It waits for names and types.
 pub fn call_alone<S: Scopes>(
     scopes: &mut S,
     site: &Site,

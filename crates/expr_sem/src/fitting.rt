@@ -104,7 +104,8 @@ pub fn fit_of<S: Scopes>(
     }
 }
 
-/// The code of a value that is to be of a type.
+/// The code that leaves a value which is to be of the type `to`, and behind it a `Check` of that type's range, unless
+/// all values of its own type are in that; a constant, looked at before, has none. It waits for both types.
 pub fn fitted_code<S: Scopes>(
     scopes: &mut S,
     site: &Site,

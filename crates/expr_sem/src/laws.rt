@@ -32,14 +32,16 @@ pub fn operands_are_known()
     ensures designators { (c : Context) (withs : List Place) (d : Designator) → (designated c withs d).value.operand ≡ NotConstant → ⊥ }
 {}
 
-/// What is in error has no code, and so no temporary cells and no data.
+/// A law: an expression or a designator in error has no code, and so takes no temporary cells and no data. What follows
+/// it in its block stands where it would stand without it.
 pub fn errors_have_no_code()
     ensures expressions { (c : Context) (withs : List Place) (e : Expr) → (expression c withs e).value.operand ≡ InError → (expression c withs e).value.code ≡ none }
     ensures values { (c : Context) (withs : List Place) (e : Expr) → (value c withs e).value.operand ≡ InError → (value c withs e).value.code ≡ none }
     ensures designators { (c : Context) (withs : List Place) (d : Designator) → (designated c withs d).value.operand ≡ InError → (designated c withs d).value.code ≡ none }
 {}
 
-/// Wherever it stands, the code of a value, of a variable or of a call alone has at most 64 bytes for each of its tokens.
+/// A law: wherever it stands, the code of a value, of a variable or of a call alone has at most 64 bytes for each token
+/// that its tree is made of (`specs/Tokens`). The law of this name in stmt_sem is on statements and blocks.
 pub fn code_is_short()
     ensures values { (c : Context) (withs : List Place) (e : Expr) → IsShortFor (expr_tokens e) (value_code c (value c withs e).value) }
     ensures variables { (c : Context) (withs : List Place) (d : Designator) → IsShortFor (designator_tokens d) (designated c withs d).value.code }

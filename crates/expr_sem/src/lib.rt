@@ -1,11 +1,49 @@
 //! Which code does an expression become?
 //!
-//! The words are those of Wirth's report and of the machine's instructions (`code_form`). What an expression stands for is
-//! said by the static rules (`m2_base`'s `specs/Statics`); here its code stands beside it. A part of code is a function of
-//! where it stands (`specs/Parts`). `specs/Expressions` goes over the trees; each rule of the language has a file of its
-//! own below it. `value` and `address` append to a piece of a block's code what an expression or a designator becomes, or
-//! wait (the record `Evaluates`, `specs/Evaluations`); statements, which put more code round it, take the functions below
-//! them, which make fragments (the record `Coding`, `specs/Codings`).
+//! The words are those of Wirth's report and of the machine's instructions (`code_form`). What an expression stands for
+//! is said by the static rules (`m2_base`'s `specs/Statics`); here its code stands beside it. A part of code is a
+//! function of where it stands (`specs/Parts`). `specs/Expressions` goes over the trees; each rule of the language has
+//! a file of its own below it. `value` and `address` append to a piece of a block's code what an expression or a
+//! designator becomes, or wait (the record `Evaluates`, `specs/Evaluations`); statements, which put more code round it,
+//! take the functions below them, which make fragments (the record `Coding`, `specs/Codings`).
+//!
+//! These are handed the scopes, which are asked for rows; the site with its names, its block and its text; the open
+//! WITHs, the innermost first; the fragments made so far; and the notes. Where the answer is known the fragments have
+//! the nodes that it is made of, and the notes what is wrong and what each name was found to stand for, in text order.
+//! An answer waits for a name or a type where its row is of a scope before the own one that isn't complete and doesn't
+//! have it yet. Then, and where memory is wanted, fragments and notes may have more than before: the caller lets go of
+//! both, and asks again later.
+//!
+//! # From `y := x + 1` to its instructions
+//!
+//! x and y are INTEGER variables of a module, in its cells 0 and 1, and the statement stands in its body, where each
+//! begins with no fragments. stmt_sem's `assign_statement` goes over the left side first (`assigned`, `variable`):
+//! `designated` finds the row of y, whose address `entry_coded` makes, and `as_variable` lets it pass. The right side
+//! is for `value_of` (`assigned_value`): `designated` gives x, again by its address, and 1 is a constant without code.
+//! `two_coded` asks const_eval's `operated`: beside an INTEGER 1 is an INTEGER, and their sum is a computed one. So
+//! both values are made (`value_code`), and behind them `Add`, of which `side_of` gives the side, 0. In the end
+//! stmt_sem's `assignment` asks whether y takes the sum (`assigned_to`), has it fitted to the type of y
+//! (`fitted_code`), and stores it (`store_code`). The fragments are, in the order in which they are made:
+//!
+//! | Node | Form | What it stands for | Made by |
+//! |---|---|---|---|
+//! | 0 | `One`, of `Global 0 1` | the address of y | `entry_coded` |
+//! | 1 | `One`, of `Global 0 0` | the address of x | `entry_coded` |
+//! | 2 | `One`, of `Load` | | `value_code`, `instr_behind` |
+//! | 3 | `Then(1, 2)` | the value of x | `value_code`, `instr_behind` |
+//! | 4 | `One`, of `Push 1` | the value of 1 | `value_code` |
+//! | 5 | `One`, of `Add 0` | | `two_coded` |
+//! | 6 | `Then(4, 5)` | | `two_coded` |
+//! | 7 | `Then(3, 6)` | the value of x + 1 | `two_coded` |
+//! | 8 | `Then(7, Nothing)` | that value, with no check | `fitted_code` |
+//! | 9 | `One`, of `Store` | | `store_code`, `instr_behind` |
+//! | 10 | `Then(8, 9)` | | `store_code`, `instr_behind` |
+//! | 11 | `Then(0, 10)` | the statement | `store_code` |
+//!
+//! Node 11 is the code of a flow, which is appended to the block's piece (`append_all`): `Global 0 1`, `Global 0 0`,
+//! `Load`, `Push 1`, `Add 0`, `Store`. They have 31 bytes, and leave 1, 2, 2, 3, 2 and 0 operands on the stack. There
+//! is no check, since every INTEGER is one. Were y a CARDINAL, node 8 would be `One`, of `Check 0 4294967295`, node 9
+//! `Then(7, 8)`, and so on: the check would stand before `Store`.
 #![tactic(auto)]
 
 /// The value of a question, or the end of the function where it isn't known yet.

@@ -28,7 +28,8 @@ use const_eval::{Argument, applied_one, char_or_same, operated};
 use m2_base::{Ask, Memory, Notes, Operand, Operator, Place, RowMeaning, Scopes, Site};
 use type_rules::{INTEGER, base_of, operand_type, stand};
 
-/// A result with its code, which a constant doesn't need; anything else is in error.
+/// What a rule on operands has made: its result, as const_eval gave that, with the code that computes it. A constant
+/// goes without the code, since it is pushed where it is wanted, and what is neither computed nor constant is in error.
 pub fn made(operand: Operand, code: Fragment) -> Coded
     ensures told { (nodes : List Node) → coded_in nodes result ≡ spec_made operand (part nodes code) }
     ensures there { (f : Frame) (nodes : List Node) → IsOperand f operand → IsIn nodes code → IsCoded f nodes result }
@@ -76,7 +77,8 @@ fn scalar_instruction(side: u8, op: Operator) -> Instr
     }
 }
 
-/// 0 tells INTEGER, 1 all other types.
+/// The side of `Add`, `Sub`, `Mul`, `Div` and `Mod`, which is their operand, for values of a type: 0 where the base of
+/// that is INTEGER, 1 for any other, as CARDINAL or CHAR. It waits for the type's row.
 #[tactic(auto, using(type_rules::proofs::Reading::reading))]
 pub fn side_of<S: Scopes>(scopes: &mut S, site: &Site, of: Place) -> Ask<u8>
     requires suits { SuitsSite (S.state scopes.old).frame site.now }
@@ -157,7 +159,8 @@ fn decide(
     fragments.then(x, skipped)
 }
 
-/// An operator before one operand.
+/// NOT, plus or minus, at the token `op_at`, before an operand: what const_eval's `applied_one` gives, and unless that
+/// is constant the operand's value and then `Not`, nothing, or `Neg`. It waits for the operand's type.
 pub fn one_coded<S: Scopes>(
     scopes: &mut S,
     site: &Site,
@@ -234,7 +237,9 @@ fn operation_code<S: Scopes>(
     }
 }
 
-/// An operator between two operands, with their first tokens.
+/// An operator, at the token `op_at`, between two operands: what const_eval's `operated` gives, and unless that is
+/// constant the left value, the right one, and the instruction. By the report p OR q means "if p then TRUE, otherwise
+/// q": there, and with AND, a jump skips the right value where the left one decides. It waits for both types.
 pub fn two_coded<S: Scopes>(
     scopes: &mut S,
     site: &Site,

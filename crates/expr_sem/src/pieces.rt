@@ -27,7 +27,8 @@ pub struct With {
     pub cell: u32,
 }
 
-/// Appends a fragment's code and data. Without memory the piece has what it had before.
+/// Appends a fragment, one of `fragments`, to a piece of a block's code, within the open WITHs: its steps, its bytes of
+/// data, and the temporary cells that it takes. Without memory the piece has what it had before, and no more.
 pub fn append(
     fragments: &Fragments,
     fragment: Fragment,

@@ -95,7 +95,8 @@ fn field_coded<S: Scopes>(
     }
 }
 
-/// The number of the first of these WITHs whose record has a field of this name, and the field's row.
+/// The first open WITH whose record has a field of this name, by its number, 0 for the innermost, and the field's row;
+/// None sends the caller to the scopes. It waits for the rows of the records.
 #[tactic(auto, using(type_rules::proofs::Reading::reading))]
 pub fn field_of_withs<S: Scopes>(
     scopes: &mut S,

@@ -10,7 +10,8 @@ ghost use Rattle.expr_sem.specs.declared.fragments.Node.{Node};
 use crate::coded::Coded;
 use m2_base::{Ask, Diagnostic, Memory, Notes, Site};
 
-/// Notes a diagnostic at a token; what is refused is in error.
+/// Notes a diagnostic at the token `at` of the site's text, and gives what then stands for the part that was refused:
+/// an operand in error, which has no code. It never waits.
 pub fn refused(
     site: &Site,
     at: u32,

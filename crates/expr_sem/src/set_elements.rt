@@ -32,7 +32,8 @@ pub struct Elements {
     pub code: Fragment,
 }
 
-/// The base of a set type, and no element yet of such a set.
+/// What a set of the type `of` begins with: the type's base, with which each element must be compatible, and no element
+/// yet. Of a type that is no set, or whose base is in error, the set is in error. It waits for the type and its base.
 #[tactic(auto, using(type_rules::proofs::Reading::reading, const_eval::proofs::TypesThere::there))]
 pub fn set_start<S: Scopes>(scopes: &mut S, site: &Site, of: Place) -> Ask<(Place, Elements)>
     requires suits { SuitsSite (S.state scopes.old).frame site.now }
@@ -66,7 +67,8 @@ fn element_as(x: Coded, operand: Operand) -> Coded
     }
 }
 
-/// An element or a bound, as it is taken into a set with this base.
+/// An element of a set, or an end of a range, whose first token is `at`, as it is taken into a set with this base: what
+/// const_eval's `taken` gives of its operand, with the operand's own code still. It waits for the rows of both types.
 pub fn element_coded<S: Scopes>(
     scopes: &mut S,
     site: &Site,
@@ -117,7 +119,8 @@ fn element_code<S: Scopes>(
     Ok(Ask::Known(code))
 }
 
-/// With one more element.
+/// The elements so far, and one more that `element_coded` took. Behind their code, which leaves the set on the stack,
+/// come the element's value, `Bit` and `Union`, which leave it there too. It waits as the element's `value_code` does.
 #[tactic(auto, using(const_eval::proofs::TypesThere::there))]
 pub fn add_element<S: Scopes>(
     scopes: &mut S,
@@ -191,7 +194,8 @@ fn range_code<S: Scopes>(
     high_code(scopes, site, set, low, y, fragments)
 }
 
-/// With the elements of one more range.
+/// The elements so far, and those from `x` to `y`, which `element_coded` took; none where `x` is above `y`. Behind the
+/// code come both values, `Span` and `Union`, which leave the set on the stack. It waits as `value_code` does.
 #[tactic(auto, using(const_eval::proofs::TypesThere::there))]
 pub fn add_range<S: Scopes>(
     scopes: &mut S,
@@ -221,7 +225,8 @@ fn from_empty(fragments: &mut Fragments, code: Fragment) -> Result<Fragment, Mem
     fragments.then(empty, code)
 }
 
-/// The set of this type that the elements make.
+/// What comes of a set of the type `of` behind its last element: a constant without code where all elements are, else
+/// `Push 0`, the empty set, and the code that adds each; in error where one of them or the base is. It never waits.
 pub fn set_coded(of: Place, es: Elements, fragments: &mut Fragments) -> Result<Ask<Coded>, Memory>
     requires code { IsIn fragments.old.nodes.items es.code }
     ensures { (state : State) (notes : NotesOf) (site : SiteOf) → IsThere state.frame of → AreElements state.frame fragments.old.nodes.items es → Coding state state notes notes fragments.old.nodes.items fragments.new.nodes.items site result IsCoded coded_in (λ c. gives (spec_set of (elements_in fragments.old.nodes.items es))) }

@@ -45,7 +45,8 @@ fn characters_of(texts: &Texts, bytes: &[u8]) -> Result<Vec<u8>, Memory>
     }
 }
 
-/// The characters of the string of this name; an empty string is one character of code 0.
+/// A copy of the characters of the string that has this number among the unit's names, without a 0 behind them. The
+/// empty string has one character, of code 0. Where it fails memory is wanted.
 pub fn characters(site: &Site, name: u32) -> Result<Vec<u8>, Memory>
     requires named { name < length site.now.texts.now.names }
     ensures { IfOk result (λ bytes. (source : Source) → source.spellings ≡ site.now.texts.now.names → bytes.items ≡ spec_characters source name) }
@@ -63,7 +64,8 @@ fn copied(texts: &Texts, bytes: &[u8]) -> Result<Vec<u8>, Memory>
     Ok(copy)
 }
 
-/// Whether a type is an array, open or fixed, or a record: its value is its address.
+/// Whether a type is an array, open or fixed, or a record. Then its value is its address, one cell on the stack, and
+/// `Move` assigns the cells behind it. It waits for the row of what the type stands for.
 #[tactic(auto, using(type_rules::proofs::Reading::reading))]
 pub fn is_structured<S: Scopes>(scopes: &mut S, around: &Around, of: Place) -> Ask<bool>
     requires suits { Suits (S.state scopes.old).frame around.now }
@@ -109,7 +111,9 @@ pub fn string_value(site: &Site, name: u32, fragments: &mut Fragments) -> Result
     fragments.text(bytes)
 }
 
-/// The code of a value.
+/// The code that leaves an operand's value on the stack: `Push` of a constant, the address of a string's characters,
+/// `Proc` of a procedure, a variable's address and `Load`, of an array or a record its address alone; what is computed
+/// has it already. It waits for a variable's type, and for the module's procedure that its definition's heading means.
 pub fn value_code<S: Scopes>(
     scopes: &mut S,
     site: &Site,

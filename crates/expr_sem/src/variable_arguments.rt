@@ -30,7 +30,8 @@ pub enum Wanted {
     Pointer,
 }
 
-/// An argument that must be a variable.
+/// What must be a variable, as the left side of an assignment or an argument of INC. It is given as it is; what is in
+/// error stays so, and anything else is refused at its first token `at`. It never waits.
 pub fn as_variable(site: &Site, at: u32, x: Coded, notes: &mut Notes) -> Result<Ask<Coded>, Memory>
     ensures { (state : State) (nodes : List Node) → IsCoded state.frame nodes x → Coding state state notes.old notes.new nodes nodes site.now result IsCoded coded_in (λ c. spec_variable c at (coded_in nodes x)) }
 {

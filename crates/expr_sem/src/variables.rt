@@ -138,7 +138,8 @@ fn with_address(
     }
 }
 
-/// What a name is bound to, with its address where that is a variable.
+/// What a name stands for that is bound to this entry, a row at its place: its operand, and beside a variable the code
+/// that leaves its address. A name that is bound to nothing is in error. It waits for the row of its type.
 pub fn entry_coded<S: Scopes>(
     scopes: &mut S,
     site: &Site,

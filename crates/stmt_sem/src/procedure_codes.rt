@@ -156,7 +156,8 @@ fn outer_of(around: &Around) -> u32
     }
 }
 
-/// The code of a block that made this. Where an operand or a number is out of its range, it finds no memory.
+/// The code of a block as its object has it, by the piece that its `Body` ended as: the instructions in bytes, the
+/// data, and the numbers beside them. An operand or a number out of its range fails as if memory were wanted.
 #[tactic(auto, using(crate::proofs::ProcedureCodes::bytes_of_steps))]
 pub fn procedure_code(
     alloc: Global,

@@ -39,7 +39,8 @@ struct OneCase {
     covered: Covered,
 }
 
-/// A statement.
+/// A statement where it stands: its code as a flow, for which further fragments and flows are added to `flows`. What is
+/// wrong is noted in text order, and what is in error has no code. It waits where the first of its parts does.
 #[cycle(statements)]
 pub fn statement<S: Scopes>(
     scopes: &mut S,
@@ -122,7 +123,8 @@ fn statements_made<S: Scopes>(
     Ok(Ask::Known(made))
 }
 
-/// Statements one after another.
+/// Statements one after another, from the same stand: one flow of all of theirs, in text order. It waits where the
+/// first of them does, and what was added to `flows` and to the notes is of no use then.
 #[cycle(statements)]
 pub fn statements<S: Scopes>(
     scopes: &mut S,
