@@ -7,6 +7,7 @@ pub mod Elements
 pub mod Folding
 pub mod FunctionArguments
 pub mod Judging
+pub mod Later
 pub mod Operating
 pub mod PartsGiven
 pub mod ReadParts

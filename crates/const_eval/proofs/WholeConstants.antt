@@ -2,7 +2,7 @@
 -- unless a diagnostic was noted.
 use Rattle.std.specs.Prelude.{◌≡◌, ℕ, ◌&&◌, ◌||◌, not, Bool, true, false, if◌then◌else◌, is_none, is_some, nat_abs, ℤ, pos, List, [], ◌∷◌, Option, Some, None}
 use Rattle.std.proofs.Common.{refl, ap, sym, subst, ◌∙◌}
-use Rattle.std.proofs.lemmas.Bool.{or_from}
+use Rattle.std.proofs.lemmas.Bool.{false≢true, or_from, true≢false}
 use Rattle.m2_base.specs.Gives.{Gives, and_then, gives}
 use Rattle.m2_base.specs.Rows.{is_same_place}
 use Rattle.m2_base.specs.Standard.{boolean, cardinal, character, integer, whole}
@@ -119,7 +119,7 @@ module _ (c : Context) (there : HasStandardRows c) where
     where
       go : (b : Bool) → (b && is_integer_or_cardinal t) ≡ true → is_integer_or_cardinal t ≡ true
       go true e = e
-      go false e = absurd cc
+      go false e = absurd (false≢true e)
 
   as_number-good : (at : ℕ) (t : Place) (o : Operand) → IsGood c.scene o → UnlessSpoilt c.scene (IsGood c.scene) (as_number c at t o)
   as_number-good at t (Constant u v) h =
@@ -291,7 +291,7 @@ module _ (c : Context) (there : HasStandardRows c) where
   IsWholeOrdinal t = IsWholeType t × (is_none (range_of c.scene t) ≡ false)
 
   ranged : (a b : Bool) → (not a && b) ≡ false → a ≡ false → b ≡ false
-  ranged true b e h = absurd cc
+  ranged true b e h = absurd (true≢false h)
   ranged false b e h = e
 
   ordinal_type-whole : (at : ℕ) (t : Place) → IsWholeType t → UnlessSpoilt c.scene IsWholeOrdinal (ordinal_type c at t)
@@ -309,7 +309,7 @@ module _ (c : Context) (there : HasStandardRows c) where
 
   end-sound : (t : Place) (end : Range → ℤ) (r : Option Range) → is_none r ≡ false → HasWholeBase c.scene t → IsSound c.scene (end_value c t end r)
   end-sound t end (Some r) e h = h
-  end-sound t end None e h = absurd cc
+  end-sound t end None e h = absurd (true≢false e)
 
   pub min-sound : (at : ℕ) (o : Operand) → IsWholeOperand c.scene o → UnlessSpoilt c.scene (IsSound c.scene) (min_of c at o)
   min-sound at o h = in_turn (ordinal_argument-whole at o h) (λ t k. given (end-sound t (λ r. r.low) (range_of c.scene t) k.1 k.0.1))
@@ -333,7 +333,7 @@ module _ (c : Context) (there : HasStandardRows c) where
   -- a set type stands for itself
   set_stands : (t : Place) (m : RowMeaning) → kind_of c.scene t ≡ m → is_set_kind m ≡ true → stands_for c.scene (stands_for c.scene t) ≡ stands_for c.scene t
   set_stands t (Set base) e s = ap (stands_as c.scene (stands_for c.scene t)) e
-  set_stands t m e s = absurd cc
+  set_stands t m e s = absurd (false≢true s)
 
   pub set_type-whole : (at : ℕ) (o : Operand) → IsWholeOperand c.scene o → UnlessSpoilt c.scene IsWholeSet (set_type_of c at o)
   set_type-whole at (NamedType t) h =
@@ -367,7 +367,7 @@ module _ (c : Context) (there : HasStandardRows c) where
   no_elements-sound t h = go (is_broken c.scene (set_base c t)) h.0
     where
       go : (b : Bool) → b ≡ false → IsSound c.scene (if b then InError else Constant t (pos 0))
-      go true e = absurd cc
+      go true e = absurd (true≢false e)
       go false e = h.1
 
   -- ---- operands, where values are wanted

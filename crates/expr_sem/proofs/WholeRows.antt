@@ -3,7 +3,7 @@ use Rattle.std.specs.Prelude.{◌≡◌, ℕ, zero, suc, ◌-◌, ◌<◌, ◌�
 use Rattle.std.specs.List.{cons_option}
 use Rattle.std.specs.Option.{IsSome}
 use Rattle.std.proofs.Common.{ap, subst, sym, ◌∙◌, refl, inl, inr}
-use Rattle.std.proofs.lemmas.Bool.{or_from}
+use Rattle.std.proofs.lemmas.Bool.{false≢true, or_from}
 use Rattle.std.proofs.lemmas.List.{get_or_past}
 use Rattle.std.proofs.lemmas.Option.{get_or_from_slice_get, slice_get_cases}
 use Rattle.m2_base.specs.Lists.{Each, WhereKept}
@@ -109,14 +109,14 @@ module _ (scene : Scene) (rows : AreWhole scene) where
 
   set_by : (m : RowMeaning) → HasWholeParts scene m → is_set_kind m ≡ true → is_broken scene (set_base_by m) ≡ false
   set_by (Set base) h e = h
-  set_by m h e = absurd cc
+  set_by m h e = absurd (false≢true e)
 
   pub base-whole : (t : Place) → is_set_kind (kind_of scene t) ≡ true → is_broken scene (set_base_by (kind_of scene t)) ≡ false
   base-whole t e = set_by (kind_of scene t) (kind-whole t) e
 
   pointer_by : (m : RowMeaning) → HasWholeParts scene m → is_pointer_type m ≡ true → is_broken scene (target_by scene m) ≡ false
   pointer_by (Pointer p) h e = h
-  pointer_by m h e = absurd cc
+  pointer_by m h e = absurd (false≢true e)
 
   pub target-whole : (t : Place) → is_pointer_type (kind_of scene t) ≡ true → is_broken scene (target_of scene t) ≡ false
   target-whole t e = pointer_by (kind_of scene t) (kind-whole t) e
@@ -124,7 +124,7 @@ module _ (scene : Scene) (rows : AreWhole scene) where
   -- a set type stands for itself
   stands_by : (t : Place) (m : RowMeaning) → kind_of scene t ≡ m → is_set_kind m ≡ true → stands_for scene (stands_for scene t) ≡ stands_for scene t
   stands_by t (Set base) e s = ap (stands_as scene (stands_for scene t)) e
-  stands_by t m e s = absurd cc
+  stands_by t m e s = absurd (false≢true s)
 
   pub stood-base : (t : Place) → is_set_kind (kind_of scene t) ≡ true → is_broken scene (set_base_by (kind_of scene (stands_for scene t))) ≡ false
   stood-base t e =
@@ -162,7 +162,7 @@ module _ (scene : Scene) (rows : AreWhole scene) where
 
   found_by : (own name : ℕ) (m : RowMeaning) → HasWholeParts scene m → is_field_meaning own name m ≡ true → IsWholeField scene m
   found_by own name (Field t o q n) h e = h
-  found_by own name m h e = absurd cc
+  found_by own name m h e = absurd (false≢true e)
 
   found_field : (own name : ℕ) (o : Option Row) → WhereKept o (λ r. IsWholeRow scene r × (is_field own name r ≡ true)) → WhereKept o (λ r. IsWholeField scene (row_meaning r))
   found_field own name None h = tt

@@ -1,4 +1,5 @@
 pub mod Reading
+pub mod Later
 pub mod Counting
 pub mod Divisions
 pub mod Searches

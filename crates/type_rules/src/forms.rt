@@ -77,7 +77,7 @@ fn same_part<S: Scopes>(scopes: &mut S, around: &Around, x: Place, y: Place) -> 
 {
     let left = known!(stands_for(scopes, around, x));
     let right = known!(stands_for(scopes, around, y));
-    Ask::Known(left == BROKEN || right == BROKEN || left == right)
+    Ask::Known(same_places(left, right))
 }
 
 /// What a row says of a parameter of the procedure type whose row has this ordinal.

@@ -3,10 +3,24 @@ use Rattle.m2_base.specs.Gives.{and_then, gives}
 use Rattle.m2_base.specs.Statics.Functions.{end_value}
 use Rattle.m2_base.specs.Statics.Types.{range_of}
 use Rattle.type_rules.specs.Sites.{context_of}
+use Rattle.type_rules.proofs.Reading.{Reads-trans, Waits_read}
 use Rattle.const_eval.specs.Extremes.{end_in}
+use Rattle.const_eval.proofs.Later.{SuitsSite_read}
 use Rattle.const_eval.proofs.TypeArguments.{end_refused}
 use Rattle.const_eval.proofs.Judging.{told_first}
 use Rattle.const_eval.proofs.extremes.extreme_of.Goals as goal
+
+pub end_of_type-requires-clause-suits : goal.end_of_type-requires-clause-suits
+end_of_type-requires-clause-suits g c = SuitsSite_read c.in-Known.ensures.reads c.requires.suits
+
+pub returns-in-DontKnowYet-end_of_type-clause-reads : goal.returns-in-DontKnowYet-end_of_type-clause-reads
+returns-in-DontKnowYet-end_of_type-clause-reads g c = Reads-trans c.in-Known.ensures.reads c.in-DontKnowYet-end_of_type.ensures.reads
+
+pub returns-in-DontKnowYet-end_of_type-clause-waits : goal.returns-in-DontKnowYet-end_of_type-clause-waits
+returns-in-DontKnowYet-end_of_type-clause-waits g c = Waits_read c.in-Known.ensures.reads c.in-DontKnowYet-end_of_type.ensures.waits
+
+pub returns-in-Known-end_of_type-clause-reads : goal.returns-in-Known-end_of_type-clause-reads
+returns-in-Known-end_of_type-clause-reads g c = Reads-trans c.in-Known.ensures.reads c.in-Known-end_of_type.ensures.reads
 
 pub returns-in-Known-end_of_type-clause-told : goal.returns-in-Known-end_of_type-clause-told
 returns-in-Known-end_of_type-clause-told g c made in_hand told =

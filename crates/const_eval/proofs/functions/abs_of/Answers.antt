@@ -4,8 +4,23 @@ use Rattle.m2_base.specs.Statics.Folding.{number_kind, number_type}
 use Rattle.m2_base.specs.Statics.Functions.{absolute}
 use Rattle.m2_base.specs.Statics.Operations.{base_type}
 use Rattle.type_rules.specs.Sites.{context_of}
+use Rattle.type_rules.proofs.Later.{Waits_asked}
+use Rattle.type_rules.proofs.Reading.{Reads-trans}
 use Rattle.const_eval.proofs.Judging.{after_ok, judged_as}
+use Rattle.const_eval.proofs.Later.{IsOperand_given, SuitsSite_read}
 use Rattle.const_eval.proofs.functions.abs_of.Goals as goal
+
+pub number_absolute-requires-clause-suits : goal.number_absolute-requires-clause-suits
+number_absolute-requires-clause-suits g c = SuitsSite_read c.in-Known.ensures.reads c.requires.suits
+
+pub returns-in-Ok-clause-reads : goal.returns-in-Ok-clause-reads
+returns-in-Ok-clause-reads g c = Reads-trans c.in-Known.ensures.reads c.number_absolute.ensures.reads
+
+pub returns-in-Ok-clause-waits : goal.returns-in-Ok-clause-waits
+returns-in-Ok-clause-waits g c = Waits_asked c.number_absolute.result (g.S.Scopes.state c.number_absolute.new.scopes) c.in-Known.ensures.reads c.number_absolute.ensures.waits
+
+pub returns-in-Ok-clause-there : goal.returns-in-Ok-clause-there
+returns-in-Ok-clause-there g c = IsOperand_given c.number_absolute.result c.in-Known.ensures.reads c.number_absolute.ensures.there
 
 pub returns-in-Ok-clause-told : goal.returns-in-Ok-clause-told
 returns-in-Ok-clause-told g c made in_hand told =

@@ -3,8 +3,23 @@ use Rattle.m2_base.specs.Gives.{and_then}
 use Rattle.m2_base.specs.Standard.{character}
 use Rattle.m2_base.specs.Statics.Functions.{converted}
 use Rattle.type_rules.specs.Sites.{context_of}
+use Rattle.type_rules.proofs.Later.{Waits_asked}
+use Rattle.type_rules.proofs.Reading.{Reads-trans}
 use Rattle.const_eval.proofs.Judging.{after_ok, judged_as}
+use Rattle.const_eval.proofs.Later.{IsOperand_given, SuitsSite_read}
 use Rattle.const_eval.proofs.functions.chr_of.Goals as goal
+
+pub converted-requires-clause-suits : goal.converted-requires-clause-suits
+converted-requires-clause-suits g c = SuitsSite_read c.in-Known.ensures.reads c.requires.suits
+
+pub returns-in-Ok-clause-reads : goal.returns-in-Ok-clause-reads
+returns-in-Ok-clause-reads g c = Reads-trans c.in-Known.ensures.reads c.converted.ensures.reads
+
+pub returns-in-Ok-clause-waits : goal.returns-in-Ok-clause-waits
+returns-in-Ok-clause-waits g c = Waits_asked c.converted.result (g.S.Scopes.state c.converted.new.scopes) c.in-Known.ensures.reads c.converted.ensures.waits
+
+pub returns-in-Ok-clause-there : goal.returns-in-Ok-clause-there
+returns-in-Ok-clause-there g c = IsOperand_given c.converted.result c.in-Known.ensures.reads c.converted.ensures.there
 
 pub returns-in-Ok-clause-told : goal.returns-in-Ok-clause-told
 returns-in-Ok-clause-told g c made in_hand told =

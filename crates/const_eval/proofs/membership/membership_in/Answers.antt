@@ -7,10 +7,30 @@ use Rattle.m2_base.specs.Statics.Types.{base_by, base_of}
 use Rattle.type_rules.specs.Scenes.{scene_of}
 use Rattle.type_rules.specs.Sites.{context_of}
 use Rattle.type_rules.proofs.Compatibles.{told_later}
+use Rattle.type_rules.proofs.Reading.{Reads-trans, Waits_read}
 use Rattle.const_eval.proofs.Elements.{in_by, ordinal, within_none, within_some}
+use Rattle.const_eval.proofs.Later.{IsOperand_read, SuitsSite_read}
 use Rattle.const_eval.proofs.Standard.{standard_there}
 use Rattle.const_eval.proofs.TypePairs.{by_row}
 use Rattle.const_eval.proofs.membership.membership_in.Goals as goal
+
+pub ordinal_element-requires-clause-suits : goal.ordinal_element-requires-clause-suits
+ordinal_element-requires-clause-suits g c = SuitsSite_read c.in-Known.ensures.reads c.requires.suits
+
+pub ordinal_element-requires-clause-x : goal.ordinal_element-requires-clause-x
+ordinal_element-requires-clause-x g c = IsOperand_read c.args.x.operand c.in-Known.ensures.reads c.requires.x
+
+pub returns-in-DontKnowYet-ordinal_element-clause-reads : goal.returns-in-DontKnowYet-ordinal_element-clause-reads
+returns-in-DontKnowYet-ordinal_element-clause-reads g c = Reads-trans c.in-Known.ensures.reads c.in-DontKnowYet-ordinal_element.ensures.reads
+
+pub returns-in-DontKnowYet-ordinal_element-clause-waits : goal.returns-in-DontKnowYet-ordinal_element-clause-waits
+returns-in-DontKnowYet-ordinal_element-clause-waits g c = Waits_read c.in-Known.ensures.reads c.in-DontKnowYet-ordinal_element.ensures.waits
+
+pub returns-in-Some-clause-reads : goal.returns-in-Some-clause-reads
+returns-in-Some-clause-reads g c = Reads-trans c.in-Known.ensures.reads c.in-Known-ordinal_element.ensures.reads
+
+pub returns-in-None-clause-reads : goal.returns-in-None-clause-reads
+returns-in-None-clause-reads g c = Reads-trans c.in-Known.ensures.reads c.in-Known-ordinal_element.ensures.reads
 
 pub returns-then-is_broken_place-clause-told : goal.returns-then-is_broken_place-clause-told
 returns-then-is_broken_place-clause-told g c made in_hand told =

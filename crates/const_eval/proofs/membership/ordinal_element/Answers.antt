@@ -7,10 +7,36 @@ use Rattle.m2_base.specs.declared.operands.Operand.TheVariants.{Computed}
 use Rattle.type_rules.specs.Scenes.{scene_of}
 use Rattle.type_rules.specs.Sites.{context_of}
 use Rattle.type_rules.proofs.Compatibles.{told_later}
-use Rattle.type_rules.proofs.Reading.{Reads-trans}
+use Rattle.type_rules.proofs.Later.{IsThere_read, Suits_read}
+use Rattle.type_rules.proofs.Reading.{Reads-trans, Waits_read}
 use Rattle.const_eval.proofs.Elements.{ordinal_none, ordinal_some}
 use Rattle.const_eval.proofs.Judging.{told_first}
+use Rattle.const_eval.proofs.Later.{SuitsSite_read}
 use Rattle.const_eval.proofs.membership.ordinal_element.Goals as goal
+
+pub compatible_with-requires-clause-suits : goal.compatible_with-requires-clause-suits
+compatible_with-requires-clause-suits g c = Suits_read c.in-Known.ensures.reads c.requires.suits.around
+
+pub compatible_with-requires-clause-left : goal.compatible_with-requires-clause-left
+compatible_with-requires-clause-left g c = IsThere_read c.in-Known.ensures.reads c.in-Known.ensures.there
+
+pub compatible_with-requires-clause-right : goal.compatible_with-requires-clause-right
+compatible_with-requires-clause-right g c = IsThere_read c.in-Known.ensures.reads c.requires.whole
+
+pub is_ordinal-requires-clause-suits : goal.is_ordinal-requires-clause-suits
+is_ordinal-requires-clause-suits g c = SuitsSite_read (Reads-trans c.in-Known.ensures.reads c.in-Known-compatible_with.ensures.reads) c.requires.suits
+
+pub returns-in-DontKnowYet-compatible_with-clause-reads : goal.returns-in-DontKnowYet-compatible_with-clause-reads
+returns-in-DontKnowYet-compatible_with-clause-reads g c = Reads-trans c.in-Known.ensures.reads c.in-DontKnowYet-compatible_with.ensures.reads
+
+pub returns-in-DontKnowYet-compatible_with-clause-waits : goal.returns-in-DontKnowYet-compatible_with-clause-waits
+returns-in-DontKnowYet-compatible_with-clause-waits g c = Waits_read c.in-Known.ensures.reads c.in-DontKnowYet-compatible_with.ensures.waits
+
+pub returns-then-not-value-clause-reads : goal.returns-then-not-value-clause-reads
+returns-then-not-value-clause-reads g c = Reads-trans c.in-Known.ensures.reads c.in-Known-compatible_with.ensures.reads
+
+pub returns-in-DontKnowYet-is_ordinal-clause-waits : goal.returns-in-DontKnowYet-is_ordinal-clause-waits
+returns-in-DontKnowYet-is_ordinal-clause-waits g c = Waits_read (Reads-trans c.in-Known.ensures.reads c.in-Known-compatible_with.ensures.reads) c.in-DontKnowYet-is_ordinal.ensures.waits
 
 pub returns-then-not-value-clause-told : goal.returns-then-not-value-clause-told
 returns-then-not-value-clause-told g c made in_hand told whole =

@@ -7,14 +7,37 @@ use Rattle.m2_base.specs.declared.rows.Place.{Place}
 use Rattle.m2_base.specs.declared.rows.RowMeaning.{RowMeaning}
 use Rattle.type_rules.specs.Scenes.{scene_of}
 use Rattle.type_rules.specs.Sites.{context_of}
-use Rattle.type_rules.proofs.Reading.{Reads-trans}
+use Rattle.type_rules.proofs.Later.{Suits_read, Waits_asked}
+use Rattle.type_rules.proofs.Reading.{Reads-trans, Waits_read}
 use Rattle.const_eval.specs.Based.{IsBased}
 use Rattle.const_eval.specs.Structures.{set_row_by}
 use Rattle.const_eval.specs.declared.operators.Based.{Based}
 use Rattle.const_eval.proofs.Judging.{judged_met, told_first}
+use Rattle.const_eval.proofs.Later.{IsOperand_given, SuitsSite_read}
 use Rattle.const_eval.proofs.Refusals.{alike_by, values}
 use Rattle.const_eval.proofs.TypePairs.{alike_types, by_row}
 use Rattle.const_eval.proofs.operators.on_alike.Goals as goal
+
+pub stand-requires-2-clause-suits : goal.stand-requires-2-clause-suits
+stand-requires-2-clause-suits g c = Suits_read c.in-Known.ensures.reads c.requires.suits.around
+
+pub on_values-requires-clause-suits : goal.on_values-requires-clause-suits
+on_values-requires-clause-suits g c = SuitsSite_read (Reads-trans c.in-Known.ensures.reads c.in-Known-stand.ensures.reads) c.requires.suits
+
+pub returns-in-DontKnowYet-stand-clause-reads : goal.returns-in-DontKnowYet-stand-clause-reads
+returns-in-DontKnowYet-stand-clause-reads g c = Reads-trans c.in-Known.ensures.reads c.in-DontKnowYet-stand.ensures.reads
+
+pub returns-in-DontKnowYet-stand-clause-waits : goal.returns-in-DontKnowYet-stand-clause-waits
+returns-in-DontKnowYet-stand-clause-waits g c = Waits_read c.in-Known.ensures.reads c.in-DontKnowYet-stand.ensures.waits
+
+pub returns-then-are_sets_alike-clause-reads : goal.returns-then-are_sets_alike-clause-reads
+returns-then-are_sets_alike-clause-reads g c = Reads-trans c.in-Known.ensures.reads c.in-Known-stand.ensures.reads
+
+pub returns-clause-waits : goal.returns-clause-waits
+returns-clause-waits g c = Waits_asked c.on_values.result (g.S.Scopes.state c.on_values.new.scopes) (Reads-trans c.in-Known.ensures.reads c.in-Known-stand.ensures.reads) c.on_values.ensures.waits
+
+pub returns-clause-there : goal.returns-clause-there
+returns-clause-there g c = IsOperand_given c.on_values.result (Reads-trans c.in-Known.ensures.reads c.in-Known-stand.ensures.reads) c.on_values.ensures.there
 
 pub returns-then-are_sets_alike-clause-told : goal.returns-then-are_sets_alike-clause-told
 returns-then-are_sets_alike-clause-told g c made in_hand told =

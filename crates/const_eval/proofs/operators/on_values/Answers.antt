@@ -3,12 +3,27 @@ use Rattle.m2_base.specs.Statics.Compatible.{is_compatible, taken_beside}
 use Rattle.m2_base.specs.Statics.Operations.{on_compatible}
 use Rattle.type_rules.specs.Sites.{context_of}
 use Rattle.m2_base.specs.States.{Frame}
+use Rattle.type_rules.proofs.Later.{Waits_asked}
+use Rattle.type_rules.proofs.Reading.{Reads-trans}
 use Rattle.const_eval.specs.Based.{IsBased, IsBasedHere}
 use Rattle.const_eval.proofs.Judging.{judged_on}
+use Rattle.const_eval.proofs.Later.{IsOperand_given, SuitsSite_read}
 use Rattle.const_eval.proofs.Refusals.{values, values_at}
 use Rattle.const_eval.proofs.Standard.{standard_there}
 use Rattle.const_eval.proofs.TypesThere.{standard_there as standard_type}
 use Rattle.const_eval.proofs.operators.on_values.Goals as goal
+
+pub on_compatible-requires-clause-suits : goal.on_compatible-requires-clause-suits
+on_compatible-requires-clause-suits g c = SuitsSite_read c.in-Known.ensures.reads c.requires.suits
+
+pub returns-clause-reads : goal.returns-clause-reads
+returns-clause-reads g c = Reads-trans c.in-Known.ensures.reads c.on_compatible.ensures.reads
+
+pub returns-clause-waits : goal.returns-clause-waits
+returns-clause-waits g c = Waits_asked c.on_compatible.result (g.S.Scopes.state c.on_compatible.new.scopes) c.in-Known.ensures.reads c.on_compatible.ensures.waits
+
+pub returns-clause-there : goal.returns-clause-there
+returns-clause-there g c = IsOperand_given c.on_compatible.result c.in-Known.ensures.reads c.on_compatible.ensures.there
 
 pub returns-then-not-value-clause-told : goal.returns-then-not-value-clause-told
 returns-then-not-value-clause-told g c made in_hand told left right =

@@ -6,8 +6,31 @@ use Rattle.m2_base.specs.declared.replies.Ask.TheVariants.{Known}
 use Rattle.type_rules.specs.Scenes.{scene_of}
 use Rattle.type_rules.specs.Sites.{context_of}
 use Rattle.type_rules.proofs.Compatibles.{told_met}
+use Rattle.type_rules.proofs.Later.{IsThere_read, Suits_read}
+use Rattle.type_rules.proofs.Reading.{Reads-trans, Waits_read}
 use Rattle.const_eval.proofs.Besides.{none_where, pair_of, some_where}
 use Rattle.const_eval.proofs.pairs.compatible_pair.Goals as goal
+
+pub compatible_with-requires-clause-suits : goal.compatible_with-requires-clause-suits
+compatible_with-requires-clause-suits g c = Suits_read c.in-Known.ensures.reads c.requires.suits.around
+
+pub compatible_with-requires-clause-left : goal.compatible_with-requires-clause-left
+compatible_with-requires-clause-left g c = IsThere_read c.in-Known.ensures.reads c.in-Known.ensures.there.0
+
+pub compatible_with-requires-clause-right : goal.compatible_with-requires-clause-right
+compatible_with-requires-clause-right g c = IsThere_read c.in-Known.ensures.reads c.in-Known.ensures.there.1
+
+pub returns-in-DontKnowYet-compatible_with-clause-reads : goal.returns-in-DontKnowYet-compatible_with-clause-reads
+returns-in-DontKnowYet-compatible_with-clause-reads g c = Reads-trans c.in-Known.ensures.reads c.in-DontKnowYet-compatible_with.ensures.reads
+
+pub returns-in-DontKnowYet-compatible_with-clause-waits : goal.returns-in-DontKnowYet-compatible_with-clause-waits
+returns-in-DontKnowYet-compatible_with-clause-waits g c = Waits_read c.in-Known.ensures.reads c.in-DontKnowYet-compatible_with.ensures.waits
+
+pub returns-then-not-value-clause-reads : goal.returns-then-not-value-clause-reads
+returns-then-not-value-clause-reads g c = Reads-trans c.in-Known.ensures.reads c.in-Known-compatible_with.ensures.reads
+
+pub returns-clause-reads : goal.returns-clause-reads
+returns-clause-reads g c = Reads-trans c.in-Known.ensures.reads c.in-Known-compatible_with.ensures.reads
 
 pub returns-then-not-value-clause-told : goal.returns-then-not-value-clause-told
 returns-then-not-value-clause-told g c made in_hand told =

@@ -2,8 +2,25 @@ use Rattle.std.proofs.Common.{◌∙◌, ap, pos, if◌then◌else◌}
 use Rattle.m2_base.specs.Statics.Types.{is_broken}
 use Rattle.m2_base.specs.declared.operands.Operand.TheVariants.{Constant, InError}
 use Rattle.type_rules.specs.Scenes.{scene_of}
+use Rattle.type_rules.proofs.Later.{IsThere_read, Suits_read}
+use Rattle.type_rules.proofs.Reading.{Reads-trans, Waits_read}
 use Rattle.const_eval.proofs.Judging.{told_first}
 use Rattle.const_eval.proofs.sets.no_elements.Goals as goal
+
+pub is_broken-requires-clause-suits : goal.is_broken-requires-clause-suits
+is_broken-requires-clause-suits g c = Suits_read c.in-Known.ensures.reads c.requires.suits.around
+
+pub is_broken-requires-clause-there : goal.is_broken-requires-clause-there
+is_broken-requires-clause-there g c = IsThere_read c.in-Known.ensures.reads c.in-Known.ensures.there
+
+pub returns-in-DontKnowYet-is_broken-clause-reads : goal.returns-in-DontKnowYet-is_broken-clause-reads
+returns-in-DontKnowYet-is_broken-clause-reads g c = Reads-trans c.in-Known.ensures.reads c.in-DontKnowYet-is_broken.ensures.reads
+
+pub returns-in-DontKnowYet-is_broken-clause-waits : goal.returns-in-DontKnowYet-is_broken-clause-waits
+returns-in-DontKnowYet-is_broken-clause-waits g c = Waits_read c.in-Known.ensures.reads c.in-DontKnowYet-is_broken.ensures.waits
+
+pub returns-clause-reads : goal.returns-clause-reads
+returns-clause-reads g c = Reads-trans c.in-Known.ensures.reads c.in-Known-is_broken.ensures.reads
 
 pub returns-clause-told : goal.returns-clause-told
 returns-clause-told g c made in_hand told =

@@ -2,9 +2,27 @@ use Rattle.m2_base.specs.Statics.Compatible.{is_compatible}
 use Rattle.m2_base.specs.Statics.Sets.{checked_element}
 use Rattle.m2_base.specs.declared.operands.Operand.TheVariants.{Computed}
 use Rattle.type_rules.specs.Sites.{context_of}
+use Rattle.type_rules.proofs.Later.{IsThere_read, Waits_asked}
+use Rattle.type_rules.proofs.Reading.{Reads-trans}
 use Rattle.const_eval.proofs.Judging.{judged_as}
+use Rattle.const_eval.proofs.Later.{IsOperand_given, SuitsSite_read}
 use Rattle.const_eval.proofs.SetElements.{taken_none, taken_some, taken_where}
 use Rattle.const_eval.proofs.sets.taken_element.Goals as goal
+
+pub checked_element-requires-clause-suits : goal.checked_element-requires-clause-suits
+checked_element-requires-clause-suits g c = SuitsSite_read c.in-Known.ensures.reads c.requires.suits
+
+pub checked_element-requires-clause-base : goal.checked_element-requires-clause-base
+checked_element-requires-clause-base g c = IsThere_read c.in-Known.ensures.reads c.requires.base
+
+pub returns-in-Some-clause-reads : goal.returns-in-Some-clause-reads
+returns-in-Some-clause-reads g c = Reads-trans c.in-Known.ensures.reads c.checked_element.ensures.reads
+
+pub returns-in-Some-clause-waits : goal.returns-in-Some-clause-waits
+returns-in-Some-clause-waits g c = Waits_asked c.checked_element.result (g.S.Scopes.state c.checked_element.new.scopes) c.in-Known.ensures.reads c.checked_element.ensures.waits
+
+pub returns-in-Some-clause-there : goal.returns-in-Some-clause-there
+returns-in-Some-clause-there g c = IsOperand_given c.checked_element.result c.in-Known.ensures.reads c.checked_element.ensures.there
 
 pub returns-in-Some-clause-told : goal.returns-in-Some-clause-told
 returns-in-Some-clause-told g c made in_hand told =

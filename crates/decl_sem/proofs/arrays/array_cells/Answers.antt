@@ -1,5 +1,15 @@
+use Rattle.type_rules.proofs.Reading.{Reads-trans, Waits_read}
 use Rattle.decl_sem.proofs.ArrayCells.{cells_told}
 use Rattle.decl_sem.proofs.arrays.array_cells.Goals as goal
+
+pub returns-in-DontKnowYet-cells_of-clause-reads : goal.returns-in-DontKnowYet-cells_of-clause-reads
+returns-in-DontKnowYet-cells_of-clause-reads g c = Reads-trans c.in-Known.ensures.reads c.in-DontKnowYet-cells_of.ensures.reads
+
+pub returns-in-DontKnowYet-cells_of-clause-waits : goal.returns-in-DontKnowYet-cells_of-clause-waits
+returns-in-DontKnowYet-cells_of-clause-waits g c = Waits_read c.in-Known.ensures.reads c.in-DontKnowYet-cells_of.ensures.waits
+
+pub returns-clause-reads : goal.returns-clause-reads
+returns-clause-reads g c = Reads-trans c.in-Known.ensures.reads c.in-Known-cells_of.ensures.reads
 
 pub returns-clause-told : goal.returns-clause-told
 returns-clause-told g c hand in_hand told same =

@@ -2,10 +2,14 @@ use Rattle.std.specs.Prelude.{None, Some, option_map}
 use Rattle.std.specs.Prelude.{[]}
 use Rattle.std.proofs.Common.{ap, subst, sym}
 use Rattle.m2_base.specs.States.{Frame}
+use Rattle.type_rules.proofs.Reading.{Reads-trans}
 use Rattle.decl_sem.specs.FoundConstants.{IsMember, member_view}
 use Rattle.decl_sem.specs.Pieces.{IsMaking}
 use Rattle.decl_sem.proofs.FoundConstants.{place_passed, taken_at}
 use Rattle.decl_sem.proofs.brought.take_place.Goals as goal
+
+pub returns-clause-reads : goal.returns-clause-reads
+returns-clause-reads g c = Reads-trans c.constant_at.ensures.reads c.take_member.ensures.reads
 
 pub take_member-requires-clause-making : goal.take_member-requires-clause-making
 take_member-requires-clause-making g c = subst (λ (f : Frame). IsMaking f c.args.site.now c.args.made.now []) (sym c.in-Known.ensures.reads.keeps.frame) c.requires.making

@@ -4,10 +4,23 @@ use Rattle.m2_base.specs.Tables.{rows_at}
 use Rattle.type_rules.specs.Scenes.{rows_of}
 use Rattle.type_rules.specs.Sites.{context_of}
 use Rattle.type_rules.proofs.Compatibles.{told_later}
-use Rattle.type_rules.proofs.Reading.{Reads-trans}
+use Rattle.type_rules.proofs.Later.{Suits_read}
+use Rattle.type_rules.proofs.Reading.{Reads-trans, Waits_read}
 use Rattle.decl_sem.specs.Closing.{AreChecked, row_implemented}
 use Rattle.decl_sem.proofs.OwnRows.{AreCheckedTo, all_checked, known_told, row_checked, rows_checked}
 use Rattle.decl_sem.proofs.closing.check_rows.Goals as goal
+
+pub row_before-requires-clause-suits : goal.row_before-requires-clause-suits
+row_before-requires-clause-suits g c = Suits_read c.loop-ordinal.invariant.reads c.requires.suits
+
+pub returns-in-DontKnowYet-clause-reads : goal.returns-in-DontKnowYet-clause-reads
+returns-in-DontKnowYet-clause-reads g c = Reads-trans c.loop-ordinal.invariant.reads c.row_before.ensures.reads
+
+pub returns-in-DontKnowYet-clause-waits : goal.returns-in-DontKnowYet-clause-waits
+returns-in-DontKnowYet-clause-waits g c = Waits_read c.loop-ordinal.invariant.reads c.in-DontKnowYet.ensures.waits
+
+pub returns-in_default-clause-reads : goal.returns-in_default-clause-reads
+returns-in_default-clause-reads g c = Reads-trans c.loop-ordinal.invariant.reads c.row_before.ensures.reads
 
 pub returns-in_default-clause-told : goal.returns-in_default-clause-told
 returns-in_default-clause-told g c =

@@ -2,8 +2,22 @@ use Rattle.std.proofs.Common.{refl, subst}
 use Rattle.m2_base.specs.declared.operands.Operand.{Operand}
 use Rattle.type_rules.specs.Sites.{context_of, source_of}
 use Rattle.type_rules.proofs.Compatibles.{told_later}
+use Rattle.type_rules.proofs.Reading.{Reads-trans, Waits_read}
+use Rattle.const_eval.proofs.Later.{SuitsSite_read}
 use Rattle.decl_sem.specs.Bounds.{IsEndOf}
 use Rattle.decl_sem.proofs.subranges.ends_of.Goals as goal
+
+pub end_of-requires-2-clause-suits : goal.end_of-requires-2-clause-suits
+end_of-requires-2-clause-suits g c = SuitsSite_read c.in-Known.ensures.reads c.requires.suits
+
+pub returns-in-DontKnowYet-end_of-clause-reads : goal.returns-in-DontKnowYet-end_of-clause-reads
+returns-in-DontKnowYet-end_of-clause-reads g c = Reads-trans c.in-Known.ensures.reads c.in-DontKnowYet-end_of.ensures.reads
+
+pub returns-in-DontKnowYet-end_of-clause-waits : goal.returns-in-DontKnowYet-end_of-clause-waits
+returns-in-DontKnowYet-end_of-clause-waits g c = Waits_read c.in-Known.ensures.reads c.in-DontKnowYet-end_of.ensures.waits
+
+pub returns-clause-reads : goal.returns-clause-reads
+returns-clause-reads g c = Reads-trans c.in-Known.ensures.reads c.in-Known-end_of.ensures.reads
 
 pub returns-clause-low : goal.returns-clause-low
 returns-clause-low g c made in_hand told =

@@ -1,10 +1,24 @@
 use Rattle.std.proofs.Common.{◌≡◌, ◌∙◌, ◌&&◌, ◌||◌, false, ap, sym}
 use Rattle.m2_base.specs.Statics.Operands.{is_string as spec_string}
 use Rattle.m2_base.specs.Statics.Types.{is_broken as spec_broken, kind_of}
+use Rattle.type_rules.proofs.Later.{IsThere_read, Suits_read, Waits_asked}
+use Rattle.type_rules.proofs.Reading.{Reads-trans}
 use Rattle.expr_sem.specs.Values.{has_broken_part as spec_broken_part}
 use Rattle.type_rules.specs.Scenes.{scene_of}
 use Rattle.type_rules.proofs.Compatibles.{told_as}
 use Rattle.expr_sem.proofs.takings.is_type_passed_over.Goals as goal
+
+pub has_broken_part-requires-clause-suits : goal.has_broken_part-requires-clause-suits
+has_broken_part-requires-clause-suits g c = Suits_read c.in-Known.ensures.reads c.requires.suits
+
+pub has_broken_part-requires-clause-of : goal.has_broken_part-requires-clause-of
+has_broken_part-requires-clause-of g c = IsThere_read c.in-Known.ensures.reads c.requires.to
+
+pub returns-then-is_string-clause-reads : goal.returns-then-is_string-clause-reads
+returns-then-is_string-clause-reads g c = Reads-trans c.in-Known.ensures.reads c.has_broken_part.ensures.reads
+
+pub returns-then-is_string-clause-waits : goal.returns-then-is_string-clause-waits
+returns-then-is_string-clause-waits g c = Waits_asked c.has_broken_part.result (g.S.Scopes.state c.has_broken_part.new.scopes) c.in-Known.ensures.reads c.has_broken_part.ensures.waits
 
 pub returns-then-is_string-clause-told : goal.returns-then-is_string-clause-told
 returns-then-is_string-clause-told g c =

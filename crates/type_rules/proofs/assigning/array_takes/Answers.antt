@@ -4,7 +4,18 @@ use Rattle.m2_base.specs.Statics.Types.{kind_of}
 use Rattle.type_rules.specs.Assigning.{array_takes}
 use Rattle.type_rules.specs.Scenes.{scene_of}
 use Rattle.type_rules.proofs.Compatibles.{told_as}
+use Rattle.type_rules.proofs.Later.{Suits_read, Waits_asked}
+use Rattle.type_rules.proofs.Reading.{Reads-trans}
 use Rattle.type_rules.proofs.assigning.array_takes.Goals as goal
+
+pub takes_string-requires-clause-suits : goal.takes_string-requires-clause-suits
+takes_string-requires-clause-suits g c = Suits_read c.in-Known.ensures.reads c.requires.suits
+
+pub returns-in-Array-clause-reads : goal.returns-in-Array-clause-reads
+returns-in-Array-clause-reads g c = Reads-trans c.in-Known.ensures.reads c.takes_string.ensures.reads
+
+pub returns-in-Array-clause-waits : goal.returns-in-Array-clause-waits
+returns-in-Array-clause-waits g c = Waits_asked c.takes_string.result (g.S.Scopes.state c.takes_string.new.scopes) c.in-Known.ensures.reads c.takes_string.ensures.waits
 
 pub returns-in-Array-clause-told : goal.returns-in-Array-clause-told
 returns-in-Array-clause-told g c =

@@ -5,7 +5,21 @@ use Rattle.type_rules.specs.Assigning.{takes_closed as spec_takes_closed, takes_
 use Rattle.type_rules.specs.Scenes.{scene_of}
 use Rattle.type_rules.proofs.Compatibles.{told_as}
 use Rattle.type_rules.proofs.Procedures.{takes_if_closed}
+use Rattle.type_rules.proofs.Later.{IsThere_read, Suits_read, Waits_asked}
+use Rattle.type_rules.proofs.Reading.{Reads-trans}
 use Rattle.type_rules.proofs.assigning.takes_closed.Goals as goal
+
+pub takes_value-requires-clause-suits : goal.takes_value-requires-clause-suits
+takes_value-requires-clause-suits g c = Suits_read c.in-Known.ensures.reads c.requires.suits
+
+pub takes_value-requires-clause-to : goal.takes_value-requires-clause-to
+takes_value-requires-clause-to g c = IsThere_read c.in-Known.ensures.reads c.requires.to
+
+pub returns-clause-reads : goal.returns-clause-reads
+returns-clause-reads g c = Reads-trans c.in-Known.ensures.reads c.takes_value.ensures.reads
+
+pub returns-clause-waits : goal.returns-clause-waits
+returns-clause-waits g c = Waits_asked c.takes_value.result (g.S.Scopes.state c.takes_value.new.scopes) c.in-Known.ensures.reads c.takes_value.ensures.waits
 
 pub returns-clause-told : goal.returns-clause-told
 returns-clause-told g c =

@@ -4,7 +4,18 @@ use Rattle.type_rules.specs.Forms.{same_forms}
 use Rattle.type_rules.specs.Scenes.{scene_of}
 use Rattle.type_rules.proofs.Compatibles.{told_as}
 use Rattle.type_rules.proofs.Procedures.{forms_same, none_of, none_to}
+use Rattle.type_rules.proofs.Later.{Suits_read, Waits_asked}
+use Rattle.type_rules.proofs.Reading.{Reads-trans}
 use Rattle.type_rules.proofs.assigning.takes_procedure.Goals as goal
+
+pub same_form-requires-clause-suits : goal.same_form-requires-clause-suits
+same_form-requires-clause-suits g c = Suits_read c.in-Known.ensures.reads c.requires.suits
+
+pub returns-clause-reads : goal.returns-clause-reads
+returns-clause-reads g c = Reads-trans c.in-Known.ensures.reads c.same_form.ensures.reads
+
+pub returns-clause-waits : goal.returns-clause-waits
+returns-clause-waits g c = Waits_asked c.same_form.result (g.S.Scopes.state c.same_form.new.scopes) c.in-Known.ensures.reads c.same_form.ensures.waits
 
 pub returns-in_default-clause-told : goal.returns-in_default-clause-told
 returns-in_default-clause-told g c made in_hand told =

@@ -3,7 +3,21 @@ use Rattle.m2_base.specs.Statics.Operands.{operand_type as spec_type}
 use Rattle.type_rules.specs.Assigning.{takes_other as spec_takes_other, takes_value as spec_takes_value}
 use Rattle.type_rules.specs.Scenes.{scene_of}
 use Rattle.type_rules.proofs.Compatibles.{told_as}
+use Rattle.type_rules.proofs.Later.{IsThere_read, Suits_read, Waits_asked}
+use Rattle.type_rules.proofs.Reading.{Reads-trans}
 use Rattle.type_rules.proofs.assigning.takes_value.Goals as goal
+
+pub takes_other-requires-clause-suits : goal.takes_other-requires-clause-suits
+takes_other-requires-clause-suits g c = Suits_read c.in-Known.ensures.reads c.requires.suits
+
+pub takes_other-requires-clause-to : goal.takes_other-requires-clause-to
+takes_other-requires-clause-to g c = IsThere_read c.in-Known.ensures.reads c.requires.to
+
+pub returns-clause-reads : goal.returns-clause-reads
+returns-clause-reads g c = Reads-trans c.in-Known.ensures.reads c.takes_other.ensures.reads
+
+pub returns-clause-waits : goal.returns-clause-waits
+returns-clause-waits g c = Waits_asked c.takes_other.result (g.S.Scopes.state c.takes_other.new.scopes) c.in-Known.ensures.reads c.takes_other.ensures.waits
 
 pub returns-clause-told : goal.returns-clause-told
 returns-clause-told g c =

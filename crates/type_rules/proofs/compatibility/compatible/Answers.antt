@@ -4,7 +4,24 @@ use Rattle.m2_base.specs.Statics.Operands.{operand_type}
 use Rattle.m2_base.specs.Statics.Types.{base_of}
 use Rattle.type_rules.specs.Scenes.{scene_of}
 use Rattle.type_rules.proofs.Compatibles.{told_met}
+use Rattle.type_rules.proofs.Later.{IsThere_read, Suits_read, Waits_asked}
+use Rattle.type_rules.proofs.Reading.{Reads-trans}
 use Rattle.type_rules.proofs.compatibility.compatible.Goals as goal
+
+pub compatible_with-requires-clause-suits : goal.compatible_with-requires-clause-suits
+compatible_with-requires-clause-suits g c = Suits_read c.in-Known.ensures.reads c.requires.suits
+
+pub compatible_with-requires-clause-left : goal.compatible_with-requires-clause-left
+compatible_with-requires-clause-left g c = IsThere_read c.in-Known.ensures.reads c.in-Known.ensures.there.0
+
+pub compatible_with-requires-clause-right : goal.compatible_with-requires-clause-right
+compatible_with-requires-clause-right g c = IsThere_read c.in-Known.ensures.reads c.in-Known.ensures.there.1
+
+pub returns-clause-reads : goal.returns-clause-reads
+returns-clause-reads g c = Reads-trans c.in-Known.ensures.reads c.compatible_with.ensures.reads
+
+pub returns-clause-waits : goal.returns-clause-waits
+returns-clause-waits g c = Waits_asked c.compatible_with.result (g.S.Scopes.state c.compatible_with.new.scopes) c.in-Known.ensures.reads c.compatible_with.ensures.waits
 
 pub returns-clause-told : goal.returns-clause-told
 returns-clause-told g c =

@@ -1,5 +1,16 @@
 use Rattle.type_rules.proofs.Procedures.{next_told}
+use Rattle.type_rules.proofs.Later.{Suits_read, Waits_asked}
+use Rattle.type_rules.proofs.Reading.{Reads-trans}
 use Rattle.type_rules.proofs.forms.compare_next.Goals as goal
+
+pub compare-requires-clause-suits : goal.compare-requires-clause-suits
+compare-requires-clause-suits g c = Suits_read c.in-Known.ensures.reads c.requires.suits
+
+pub returns-in-Some-Some-clause-reads : goal.returns-in-Some-Some-clause-reads
+returns-in-Some-Some-clause-reads g c = Reads-trans c.in-Known.ensures.reads c.compare.ensures.reads
+
+pub returns-in-Some-Some-clause-waits : goal.returns-in-Some-Some-clause-waits
+returns-in-Some-Some-clause-waits g c = Waits_asked c.compare.result (g.S.Scopes.state c.compare.new.scopes) c.in-Known.ensures.reads c.compare.ensures.waits
 
 pub returns-in-Some-Some-clause-told : goal.returns-in-Some-Some-clause-told
 returns-in-Some-Some-clause-told g c =

@@ -4,7 +4,36 @@ use Rattle.type_rules.specs.Forms.{is_bare, same_forms}
 use Rattle.type_rules.specs.Scenes.{scene_of}
 use Rattle.type_rules.proofs.Compatibles.{told_as}
 use Rattle.type_rules.proofs.Procedures.{both_same, left_bare, none_same, right_bare}
+use Rattle.type_rules.proofs.Later.{Suits_read, Waits_asked}
+use Rattle.type_rules.proofs.Reading.{Reads-trans}
 use Rattle.type_rules.proofs.headings.has_same_form.Goals as goal
+
+pub same_form-requires-clause-suits : goal.same_form-requires-clause-suits
+same_form-requires-clause-suits g c = Suits_read c.in-Known.ensures.reads c.requires.suits
+
+pub is_bare-requires-clause-suits : goal.is_bare-requires-clause-suits
+is_bare-requires-clause-suits g c = Suits_read c.in-Known.ensures.reads c.requires.suits
+
+pub is_bare-requires-in-None-Some-clause-suits : goal.is_bare-requires-in-None-Some-clause-suits
+is_bare-requires-in-None-Some-clause-suits g c = Suits_read c.in-Known.ensures.reads c.requires.suits
+
+pub returns-in-Some-Some-clause-reads : goal.returns-in-Some-Some-clause-reads
+returns-in-Some-Some-clause-reads g c = Reads-trans c.in-Known.ensures.reads c.same_form.ensures.reads
+
+pub returns-in-Some-Some-clause-waits : goal.returns-in-Some-Some-clause-waits
+returns-in-Some-Some-clause-waits g c = Waits_asked c.same_form.result (g.S.Scopes.state c.same_form.new.scopes) c.in-Known.ensures.reads c.same_form.ensures.waits
+
+pub returns-in-Some-None-clause-reads : goal.returns-in-Some-None-clause-reads
+returns-in-Some-None-clause-reads g c = Reads-trans c.in-Known.ensures.reads c.is_bare.ensures.reads
+
+pub returns-in-Some-None-clause-waits : goal.returns-in-Some-None-clause-waits
+returns-in-Some-None-clause-waits g c = Waits_asked c.is_bare.result (g.S.Scopes.state c.is_bare.new.scopes) c.in-Known.ensures.reads c.is_bare.ensures.waits
+
+pub returns-in-None-Some-clause-reads : goal.returns-in-None-Some-clause-reads
+returns-in-None-Some-clause-reads g c = Reads-trans c.in-Known.ensures.reads c.is_bare-in-None-Some.ensures.reads
+
+pub returns-in-None-Some-clause-waits : goal.returns-in-None-Some-clause-waits
+returns-in-None-Some-clause-waits g c = Waits_asked c.is_bare-in-None-Some.result (g.S.Scopes.state c.is_bare-in-None-Some.new.scopes) c.in-Known.ensures.reads c.is_bare-in-None-Some.ensures.waits
 
 pub returns-in-Some-Some-clause-told : goal.returns-in-Some-Some-clause-told
 returns-in-Some-Some-clause-told g c =

@@ -1,6 +1,14 @@
 use Rattle.std.proofs.Common.{◌≡◌, ◌≤◌, ◌^◌, ◌+◌, Some, rules}
 use Rattle.type_rules.proofs.Opaque.{opaque_last, opaque_told}
+use Rattle.type_rules.proofs.Later.{Waits_asked}
+use Rattle.type_rules.proofs.Reading.{Reads-trans}
 use Rattle.type_rules.proofs.standing.opaque_as.Goals as goal
+
+pub returns-clause-reads : goal.returns-clause-reads
+returns-clause-reads g c = Reads-trans c.in-Known.ensures.reads c.declared_as.ensures.reads
+
+pub returns-clause-waits : goal.returns-clause-waits
+returns-clause-waits g c = Waits_asked c.declared_as.result (g.S.Scopes.state c.declared_as.new.scopes) c.in-Known.ensures.reads c.declared_as.ensures.waits
 
 pub returns-clause-told : goal.returns-clause-told
 returns-clause-told g c =
