@@ -1,4 +1,4 @@
--- What imports bring: a block whose stream has no word FROM brings nothing, and there is room for what others bring.
+-- What imports bring: a block whose stream has no word FROM before its BEGIN brings nothing, and there is room for what others bring.
 use Rattle.std.proofs.Common.{◌≡◌, ◌∙◌, ◌⊎◌, inl, inr, ℕ, Bool, true, false, ◌||◌, ◌+◌, ◌≤◌, List, [], ◌∷◌, ◌++◌, refl, sym, ap, length, length-append, map, flat_map, take, drop, arith, Option, Some, None, is_some, if◌then◌else◌}
 use Rattle.std.specs.List.{AllZip, list_any}
 use Rattle.std.proofs.lemmas.Bool.{false≢true}
@@ -26,9 +26,10 @@ use Rattle.m2_base.specs.StreamsOf as trees
 use Rattle.m2_base.specs.Trees.{Decl, Stream, const_decl, proc_decl, type_decl, vars_decl}
 use Rattle.stream_split.specs.Agreement.{SpellsStream, SpellsStreams}
 use Rattle.stream_split.specs.Rooms.{most_brought, most_rows, most_rows_of_scopes}
-use Rattle.stream_split.specs.Sizes.{brought_room, has_from, is_from, room_of, sizes_of}
+use Rattle.stream_split.specs.Sizes.{before_begin, brought_room, has_from, is_from, room_of, sizes_of}
 use Rattle.stream_split.specs.Streams.{StreamOf}
-use Rattle.stream_split.proofs.RowCounts.{rows_are_shapes, stream_rows}
+use Rattle.stream_split.proofs.BeforeBegin.{Stand, definition_stand, main_stand, rows_few}
+use Rattle.stream_split.proofs.RowCounts.{rows_are_shapes, stream_declares}
 
 -- ** One or the other
 
@@ -63,6 +64,12 @@ from_right xs ys e = list_any-append (λ (t : Token). is_from t.kind) xs ys ∙ 
 from_there : {d : Tree Token} → Derives grammar from d → is_some (trees.from_of d) ≡ true → has_from (tokens d) ≡ true
 from_there (of_left (of_then (of_token {t = t} g) (of_token {t = i} h))) e = ap (λ b. b || (is_from i.kind || false)) (from_word t.kind g)
 from_there (of_right of_empty) e = absurd (false≢true e)
+
+-- in the first of two parts before BEGIN
+from_before : {x y : Tree Token} {ts : List Token} → Stand x y ts → has_from (tokens x) ≡ true → has_from (before_begin ts) ≡ true
+from_before {x} {y} p e =
+    let rest : List Token = p.between ++ (tokens y ++ p.behind) in
+    ap has_from p.are ∙ from_right (p.one ∷ p.two ∷ p.three ∷ p.ahead) (tokens x ++ rest) (from_left (tokens x) rest e)
 
 -- ** Which items bring
 
@@ -104,23 +111,13 @@ module_brings imports ds e = by (one_of (bring imports) (bring (map decl_item ds
     by (inl here) = here
     by (inr later) = absurd (false≢true (sym (decls_bring ds) ∙ later))
 
-main_brings : {d : Tree Token} → Derives grammar (main procedure_cut) d → bring (items_of (trees.main_of d [])) ≡ true → has_from (tokens d) ≡ true
-main_brings (of_then {d = m} p (of_then {d = w} q (of_then {d = i} r (of_then {d = s} u (of_then {d = is} {e = rest} h (of_then {d = b} k (of_then {d = x} {e = z} l n))))))) e =
-    let after = tokens is ++ tokens rest in
-    from_right (tokens m) (tokens w ++ (tokens i ++ (tokens s ++ after)))
-    (from_right (tokens w) (tokens i ++ (tokens s ++ after))
-    (from_right (tokens i) (tokens s ++ after)
-    (from_right (tokens s) after (from_left (tokens is) (tokens rest)
-    (imports_bring h (module_brings (flat_map import_items (trees.imports_of is)) (trees.block_of b (tokens (both x z) ++ [])).decls e))))))
+main_brings : {d : Tree Token} → Derives grammar (main procedure_cut) d → bring (items_of (trees.main_of d [])) ≡ true → has_from (before_begin (tokens d)) ≡ true
+main_brings (of_then m (of_then w (of_then i (of_then s (of_then {d = is} h (of_then (of_then {d = ds} {e = b} k (of_then x (of_then y v))) (of_then {d = p} {e = z} l n))))))) e =
+    from_before (main_stand (tokens b) (tokens (both p z)) m w i s h k) (imports_bring h (module_brings (flat_map import_items (trees.imports_of is)) (trees.declarations_of ds) e))
 
-definition_brings : {d : Tree Token} → Derives grammar definition d → bring (items_of (trees.definition_of d [])) ≡ true → has_from (tokens d) ≡ true
-definition_brings (of_then {d = m} p (of_then {d = w} q (of_then {d = i} r (of_then {d = s} u (of_then {d = is} {e = rest} h (of_then x (of_then {d = ds} k (of_then l (of_then n (of_then y z)))))))))) e =
-    let after = tokens is ++ tokens rest in
-    from_right (tokens m) (tokens w ++ (tokens i ++ (tokens s ++ after)))
-    (from_right (tokens w) (tokens i ++ (tokens s ++ after))
-    (from_right (tokens i) (tokens s ++ after)
-    (from_right (tokens s) after (from_left (tokens is) (tokens rest)
-    (imports_bring h (module_brings (flat_map import_items (trees.imports_of is)) (trees.definition_declarations_of ds) e))))))
+definition_brings : {d : Tree Token} → Derives grammar definition d → bring (items_of (trees.definition_of d [])) ≡ true → has_from (before_begin (tokens d)) ≡ true
+definition_brings (of_then m (of_then w (of_then i (of_then s (of_then {d = is} h (of_then x (of_then {d = ds} {e = rest} k (of_then l (of_then n (of_then p z)))))))))) e =
+    from_before (definition_stand (tokens rest) m w i s h x k) (imports_bring h (module_brings (flat_map import_items (trees.imports_of is)) (trees.definition_declarations_of ds) e))
 
 procedure_brings : {d : Tree Token} → Derives grammar procedure_stream d → bring (items_of (trees.procedure_stream_of d [])) ≡ false
 procedure_brings (of_then h (of_then s (of_then {d = b} k (of_then {d = p} {e = z} l n)))) = decls_bring (trees.block_of b (tokens (both p z) ++ [])).decls
@@ -135,19 +132,19 @@ room_by : (kind : StreamKind) (from b : Bool) → (b ≡ true → brought_room k
 room_by kind from true h = let e = h refl in omega (arith, e)
 room_by kind from false h = omega arith
 
-stream_brings : (kind : StreamKind) {d : Tree Token} → Derives grammar (stream kind) d → most_brought (items_of (trees.stream_of kind d [])) ≤ brought_room kind (has_from (tokens d))
-stream_brings streams.Main {d} h = room_by streams.Main (has_from (tokens d)) (bring (items_of (trees.main_of d []))) (λ e. ap (brought_room streams.Main) (main_brings h e))
+stream_brings : (kind : StreamKind) {d : Tree Token} → Derives grammar (stream kind) d → most_brought (items_of (trees.stream_of kind d [])) ≤ brought_room kind (has_from (before_begin (tokens d)))
+stream_brings streams.Main {d} h = room_by streams.Main (has_from (before_begin (tokens d))) (bring (items_of (trees.main_of d []))) (λ e. ap (brought_room streams.Main) (main_brings h e))
 stream_brings streams.Definition {d} h =
-    room_by streams.Definition (has_from (tokens d)) (bring (items_of (trees.definition_of d []))) (λ e. ap (brought_room streams.Definition) (definition_brings h e))
+    room_by streams.Definition (has_from (before_begin (tokens d))) (bring (items_of (trees.definition_of d []))) (λ e. ap (brought_room streams.Definition) (definition_brings h e))
 stream_brings streams.Procedure {d} h =
-    room_by streams.Procedure (has_from (tokens d)) (bring (items_of (trees.procedure_stream_of d []))) (λ e. absurd (false≢true (sym (procedure_brings h) ∙ e)))
+    room_by streams.Procedure (has_from (before_begin (tokens d))) (bring (items_of (trees.procedure_stream_of d []))) (λ e. absurd (false≢true (sym (procedure_brings h) ∙ e)))
 
 -- there is room for what a stream's tree declares and what its imports bring
 pub stream_most : (tree : Stream) (s : StreamOf) → SpellsStream tree s → most_rows tree ≤ room_of s
 stream_most tree s h =
-    let i = stream_rows tree s h in
+    let i = stream_declares tree s h in
     let j = stream_brings s.kind h.sentence.derives in
-    let k = ap (λ (ts : List Token). brought_room s.kind (has_from ts)) h.sentence.spells in
+    let k = ap (λ (ts : List Token). brought_room s.kind (has_from (before_begin ts))) h.sentence.spells in
     let l = ap (λ (t : Stream). most_brought (items_of t)) h.gives in
     omega (arith, i, j, k, l)
 
@@ -162,14 +159,17 @@ scopes_most trees streams h = (omega arith, on trees streams h)
 
 -- a room has few rows more than its stream has tokens
 pub room_over : (s : StreamOf) → room_of s ≤ length s.tokens + MOST_BROUGHT
-room_over s = by s.kind (has_from s.tokens) (length s.tokens)
+room_over s =
+    let rows = rows_few s.tokens in
+    let most = by s.kind (has_from (before_begin s.tokens)) in
+    omega (arith, rows, most)
   where
-    by : (kind : StreamKind) (from : Bool) (n : ℕ) → n + brought_room kind from ≤ n + MOST_BROUGHT
-    by streams.Procedure from n = omega arith
-    by streams.Main true n = omega arith
-    by streams.Main false n = omega arith
-    by streams.Definition true n = omega arith
-    by streams.Definition false n = omega arith
+    by : (kind : StreamKind) (from : Bool) → brought_room kind from ≤ MOST_BROUGHT
+    by streams.Procedure from = omega arith
+    by streams.Main true = omega arith
+    by streams.Main false = omega arith
+    by streams.Definition true = omega arith
+    by streams.Definition false = omega arith
 
 -- ** Rows with those that are brought
 

@@ -31,6 +31,7 @@ pub mod Climbs
 pub mod WholeAgrees
 pub mod Lengths
 pub mod TypeSizes
+pub mod BeforeBegin
 pub mod RowCounts
 pub mod BroughtRows
 pub mod MadeRows

@@ -1,6 +1,7 @@
--- A block declares no more rows than its stream has tokens.
+-- A block declares no more rows than there are tokens before its BEGIN with which a row may come.
 use Rattle.std.proofs.Common.{◌≡◌, ℕ, List, [], ◌∷◌, ◌++◌, refl, ap, length, length-append, ◌≤◌, ◌+◌, arith, map, flat_map, Option}
 use Rattle.std.proofs.lemmas.List.{length-map}
+use Rattle.m2_base.specs.declared.kind.TokenKind.TheVariants as kinds
 use Rattle.m2_base.specs.declared.kind.TokenKind.TheVariants.{Semicolon}
 use Rattle.m2_base.specs.declared.token.Token.{Token}
 use Rattle.m2_base.specs.declared.trees.declarations.StreamKind.{StreamKind}
@@ -20,8 +21,10 @@ use Rattle.ll_grammar.specs.Derivations.{Tree, both, tokens, Derives, of_empty, 
 use Rattle.ll_grammar.specs.Grammar.{many, optional, ◌⨾◌}
 use Rattle.stream_split.specs.Agreement.{SpellsStream}
 use Rattle.stream_split.specs.Rooms.{last_of, rows_of}
+use Rattle.stream_split.specs.Sizes.{before_begin, declared_room}
 use Rattle.stream_split.specs.Streams.{StreamOf}
-use Rattle.stream_split.proofs.TypeSizes.{size, size_is, idents_size, open_size, type_size}
+use Rattle.stream_split.proofs.BeforeBegin.{both_counted, definition_stand, lone_stand, main_stand, procedure_stand, rows_few}
+use Rattle.stream_split.proofs.TypeSizes.{makers, idents_made, name_made, one_made, open_made, type_made}
 
 -- ** How many rows items have
 
@@ -58,38 +61,42 @@ rows_are_shapes tree = let i = rows_are tree in let j = count_is (items_of tree)
 abbrev section_rows : Section → ℕ
 section_rows s = length (open_shapes s.is_open s.of) + length s.names
 
-section_size : {d : Tree Token} → Derives grammar section d → section_rows (trees.section_of d) ≤ size d
-section_size (of_then v (of_then h (of_then (of_token g) (of_then {e = q} o k)))) =
-    let i = idents_size h in
-    let j = open_size o (qual_of q) in
+section_made : {d : Tree Token} → Derives grammar section d → section_rows (trees.section_of d) ≤ makers d
+section_made (of_then v (of_then h (of_then (of_token g) (of_then {e = q} o k)))) =
+    let i = idents_made h in
+    let j = open_made o (qual_of q) in
     omega (arith, i, j)
 
 module _ (shapes : Section → List Shape) (counted : (s : Section) → length (shapes s) ≤ section_rows s) where
-  more_sections_size : {d : Tree Token} → Derives grammar (many (a Semicolon ⨾ section)) d → length (flat_map shapes (trees.more_sections_of d)) ≤ size d
-  more_sections_size of_last = omega arith
-  more_sections_size (of_more {ds = ss} (of_then {e = s} (of_token g) h) k) =
-      let i = section_size h in
+  more_sections_made : {d : Tree Token} → Derives grammar (many (a Semicolon ⨾ section)) d → length (flat_map shapes (trees.more_sections_of d)) ≤ makers d
+  more_sections_made of_last = omega arith
+  more_sections_made (of_more {ds = ss} (of_then {e = s} (of_token g) h) k) =
+      let i = section_made h in
       let c = counted (trees.section_of s) in
-      let j = more_sections_size k in
+      let j = more_sections_made k in
       let l = length-append (shapes (trees.section_of s)) (flat_map shapes (trees.more_sections_of ss)) in
       omega (arith, i, c, j, l)
 
-  sections_size : {d : Tree Token} → Derives grammar (optional (rules.list section Semicolon)) d → length (flat_map shapes (trees.sections_of d)) ≤ size d
-  sections_size (of_left (of_then {d = s} {e = ss} h k)) =
-      let i = section_size h in
+  sections_made : {d : Tree Token} → Derives grammar (optional (rules.list section Semicolon)) d → length (flat_map shapes (trees.sections_of d)) ≤ makers d
+  sections_made (of_left (of_then {d = s} {e = ss} h k)) =
+      let i = section_made h in
       let c = counted (trees.section_of s) in
-      let j = more_sections_size k in
+      let j = more_sections_made k in
       let l = length-append (shapes (trees.section_of s)) (flat_map shapes (trees.more_sections_of ss)) in
       omega (arith, i, c, j, l)
-  sections_size (of_right of_empty) = omega arith
+  sections_made (of_right of_empty) = omega arith
 
-  parameters_size : {d : Tree Token} → Derives grammar parameters d → length (flat_map shapes (trees.parameters_of d).0) ≤ size d
-  parameters_size (of_left (of_then (of_token g) (of_then h (of_then (of_token z) k)))) = let i = sections_size h in omega (arith, i)
-  parameters_size (of_right of_empty) = omega arith
+  parameters_made : {d : Tree Token} → Derives grammar parameters d → length (flat_map shapes (trees.parameters_of d).0) ≤ makers d
+  parameters_made (of_left (of_then (of_token g) (of_then h (of_then (of_token z) k)))) = let i = sections_made h in omega (arith, i)
+  parameters_made (of_right of_empty) = omega arith
 
   -- PROCEDURE and the name are two further tokens
-  heading_size : {d : Tree Token} → Derives grammar heading d → length (flat_map shapes (trees.heading_of d).sections) + 2 ≤ size d
-  heading_size (of_then (of_token g) (of_then (of_token h) k)) = let i = parameters_size k in omega (arith, i)
+  heading_made : {d : Tree Token} → Derives grammar heading d → length (flat_map shapes (trees.heading_of d).sections) + 2 ≤ makers d
+  heading_made (of_then (of_token {t = p} g) (of_then (of_token {t = n} h) k)) =
+      let i = parameters_made k in
+      let word = one_made kinds.Procedure refl p.kind g in
+      let name = name_made n.kind h in
+      omega (arith, i, word, name)
 
 own_counted : (s : Section) → length (own_section_shapes s) ≤ section_rows s
 own_counted s =
@@ -103,9 +110,9 @@ outer_counted s =
     let m = length-map s.names (λ i. nameless param_kind i.at) in
     omega (arith, l, m)
 
-procedure_size : {d : Tree Token} → Derives grammar heading d → (stream : ℕ) → length (item_shapes (proc_item (trees.heading_of d) stream)) ≤ size d
-procedure_size {d} h stream =
-    let i = heading_size section_shapes outer_counted h in
+procedure_made : {d : Tree Token} → Derives grammar heading d → (stream : ℕ) → length (item_shapes (proc_item (trees.heading_of d) stream)) ≤ makers d
+procedure_made {d} h stream =
+    let i = heading_made section_shapes outer_counted h in
     let l = length-append (flat_map section_shapes (trees.heading_of d).sections) (nameless proc_type_kind (trees.heading_of d).name.at ∷ named proc_kind (trees.heading_of d).name ∷ []) in
     omega (arith, i, l)
 
@@ -118,67 +125,70 @@ declared_append : (xs ys : List Decl) → declared (xs ++ ys) ≡ declared xs + 
 declared_append [] ys = omega arith
 declared_append (x ∷ xs) ys = let i = declared_append xs ys in omega (arith, i)
 
-constants_size : {d : Tree Token} → Derives grammar (many constant) d → declared (trees.constants_of d) ≤ size d
-constants_size of_last = omega arith
-constants_size (of_more (of_then (of_token g) (of_then (of_token e) (of_then h (of_token s)))) k) = let i = constants_size k in omega (arith, i)
+constants_made : {d : Tree Token} → Derives grammar (many constant) d → declared (trees.constants_of d) ≤ makers d
+constants_made of_last = omega arith
+constants_made (of_more (of_then (of_token {t = t} g) (of_then (of_token e) (of_then h (of_token s)))) k) = let i = constants_made k in let n = name_made t.kind g in omega (arith, i, n)
 
-types_size : {d : Tree Token} → Derives grammar (many type_declaration) d → declared (trees.type_declarations_of d) ≤ size d
-types_size of_last = omega arith
-types_size (of_more (of_then (of_token {t = i} g) (of_then (of_token e) (of_then {d = t} h (of_token s)))) k) =
-    let j = type_size h in
-    let r = types_size k in
+types_made : {d : Tree Token} → Derives grammar (many type_declaration) d → declared (trees.type_declarations_of d) ≤ makers d
+types_made of_last = omega arith
+types_made (of_more (of_then (of_token {t = i} g) (of_then (of_token e) (of_then {d = t} h (of_token s)))) k) =
+    let j = type_made h in
+    let r = types_made k in
+    let n = name_made i.kind g in
     let l = length-append (type_shapes (type_of t)) (named type_name_kind (ident_of_token i) ∷ []) in
-    omega (arith, j, r, l)
+    omega (arith, j, r, n, l)
 
-defined_types_size : {d : Tree Token} → Derives grammar (many defined_type) d → declared (trees.defined_types_of d) ≤ size d
-defined_types_size of_last = omega arith
-defined_types_size (of_more (of_then (of_token {t = i} g) (of_then (of_left (of_then {e = t} (of_token e) h)) (of_token s))) k) =
-    let j = type_size h in
-    let r = defined_types_size k in
+defined_types_made : {d : Tree Token} → Derives grammar (many defined_type) d → declared (trees.defined_types_of d) ≤ makers d
+defined_types_made of_last = omega arith
+defined_types_made (of_more (of_then (of_token {t = i} g) (of_then (of_left (of_then {e = t} (of_token e) h)) (of_token s))) k) =
+    let j = type_made h in
+    let r = defined_types_made k in
+    let n = name_made i.kind g in
     let l = length-append (type_shapes (type_of t)) (named type_name_kind (ident_of_token i) ∷ []) in
-    omega (arith, j, r, l)
-defined_types_size (of_more (of_then (of_token g) (of_then (of_right of_empty) (of_token s))) k) = let r = defined_types_size k in omega (arith, r)
+    omega (arith, j, r, n, l)
+defined_types_made (of_more (of_then (of_token {t = i} g) (of_then (of_right of_empty) (of_token {t = t} s))) k) =
+    let r = defined_types_made k in
+    let n = name_made i.kind g in
+    let o = one_made Semicolon refl t.kind s in
+    omega (arith, r, n, o)
 
-variables_size : {d : Tree Token} → Derives grammar (many variables) d → declared (trees.all_variables_of d) ≤ size d
-variables_size of_last = omega arith
-variables_size (of_more (of_then {d = is} h (of_then (of_token g) (of_then {d = t} j (of_token s)))) k) =
-    let i = idents_size h in
-    let m = type_size j in
-    let r = variables_size k in
+variables_made : {d : Tree Token} → Derives grammar (many variables) d → declared (trees.all_variables_of d) ≤ makers d
+variables_made of_last = omega arith
+variables_made (of_more (of_then {d = is} h (of_then (of_token g) (of_then {d = t} j (of_token s)))) k) =
+    let i = idents_made h in
+    let m = type_made j in
+    let r = variables_made k in
     let l = length-append (type_shapes (type_of t)) (map (named var_kind) (idents_of is)) in
     let n = length-map (idents_of is) (named var_kind) in
     omega (arith, i, m, r, l, n)
 
-declaration_size : {d : Tree Token} → Derives grammar (declaration procedure_cut) d → declared (trees.declaration_of d) ≤ size d
-declaration_size (of_left (of_then (of_token g) h)) = let i = constants_size h in omega (arith, i)
-declaration_size (of_right (of_left (of_then (of_token g) h))) = let i = types_size h in omega (arith, i)
-declaration_size (of_right (of_right (of_left (of_then (of_token g) h)))) = let i = variables_size h in omega (arith, i)
-declaration_size (of_right (of_right (of_right (of_then h (of_then (of_token g) (of_token {t = c} k)))))) = let i = procedure_size h c.value in omega (arith, i)
+declaration_made : {d : Tree Token} → Derives grammar (declaration procedure_cut) d → declared (trees.declaration_of d) ≤ makers d
+declaration_made (of_left (of_then (of_token g) h)) = let i = constants_made h in omega (arith, i)
+declaration_made (of_right (of_left (of_then (of_token g) h))) = let i = types_made h in omega (arith, i)
+declaration_made (of_right (of_right (of_left (of_then (of_token g) h)))) = let i = variables_made h in omega (arith, i)
+declaration_made (of_right (of_right (of_right (of_then h (of_then (of_token g) (of_token {t = c} k)))))) = let i = procedure_made h c.value in omega (arith, i)
 
-declarations_size : {d : Tree Token} → Derives grammar (many (declaration procedure_cut)) d → declared (trees.declarations_of d) ≤ size d
-declarations_size of_last = omega arith
-declarations_size (of_more {d = d} {ds = ds} h k) =
-    let i = declaration_size h in
-    let j = declarations_size k in
+declarations_made : {d : Tree Token} → Derives grammar (many (declaration procedure_cut)) d → declared (trees.declarations_of d) ≤ makers d
+declarations_made of_last = omega arith
+declarations_made (of_more {d = d} {ds = ds} h k) =
+    let i = declaration_made h in
+    let j = declarations_made k in
     let l = declared_append (trees.declaration_of d) (trees.declarations_of ds) in
     omega (arith, i, j, l)
 
-definition_size : {d : Tree Token} → Derives grammar definition_declaration d → declared (trees.definition_declaration_of d) ≤ size d
-definition_size (of_left (of_then (of_token g) h)) = let i = constants_size h in omega (arith, i)
-definition_size (of_right (of_left (of_then (of_token g) h))) = let i = defined_types_size h in omega (arith, i)
-definition_size (of_right (of_right (of_left (of_then (of_token g) h)))) = let i = variables_size h in omega (arith, i)
-definition_size (of_right (of_right (of_right (of_then h (of_token g))))) = let i = procedure_size h 0 in omega (arith, i)
+definition_made : {d : Tree Token} → Derives grammar definition_declaration d → declared (trees.definition_declaration_of d) ≤ makers d
+definition_made (of_left (of_then (of_token g) h)) = let i = constants_made h in omega (arith, i)
+definition_made (of_right (of_left (of_then (of_token g) h))) = let i = defined_types_made h in omega (arith, i)
+definition_made (of_right (of_right (of_left (of_then (of_token g) h)))) = let i = variables_made h in omega (arith, i)
+definition_made (of_right (of_right (of_right (of_then h (of_token g))))) = let i = procedure_made h 0 in omega (arith, i)
 
-definitions_size : {d : Tree Token} → Derives grammar (many definition_declaration) d → declared (trees.definition_declarations_of d) ≤ size d
-definitions_size of_last = omega arith
-definitions_size (of_more {d = d} {ds = ds} h k) =
-    let i = definition_size h in
-    let j = definitions_size k in
+definitions_made : {d : Tree Token} → Derives grammar (many definition_declaration) d → declared (trees.definition_declarations_of d) ≤ makers d
+definitions_made of_last = omega arith
+definitions_made (of_more {d = d} {ds = ds} h k) =
+    let i = definition_made h in
+    let j = definitions_made k in
     let l = declared_append (trees.definition_declaration_of d) (trees.definition_declarations_of ds) in
     omega (arith, i, j, l)
-
-block_size : {d : Tree Token} → Derives grammar (block procedure_cut) d → (w : List Token) → declared (trees.block_of d w).decls ≤ size d
-block_size (of_then h (of_then b (of_then e i))) w = let j = declarations_size h in omega (arith, j)
 
 -- ** Imports
 
@@ -186,49 +196,66 @@ names_count : (from : Option Ident) (names : List Ident) → count (map (λ n. i
 names_count from [] = refl
 names_count from (n ∷ names) = let i = names_count from names in omega (arith, i)
 
-imports_size : {d : Tree Token} → Derives grammar (many imported) d → count (flat_map import_items (trees.imports_of d)) ≤ size d
-imports_size of_last = omega arith
-imports_size (of_more {ds = is} (of_then {d = from} f (of_then (of_token g) (of_then {d = names} h (of_token s)))) k) =
-    let i = idents_size h in
-    let j = imports_size k in
+imports_made : {d : Tree Token} → Derives grammar (many imported) d → count (flat_map import_items (trees.imports_of d)) ≤ makers d
+imports_made of_last = omega arith
+imports_made (of_more {ds = is} (of_then {d = from} f (of_then (of_token g) (of_then {d = names} h (of_token s)))) k) =
+    let i = idents_made h in
+    let j = imports_made k in
     let n = names_count (trees.from_of from) (idents_of names) in
     let l = count_append (map (λ n. import_item (trees.from_of from) n) (idents_of names)) (flat_map import_items (trees.imports_of is)) in
     omega (arith, i, j, n, l)
 
 -- ** Streams
 
-main_size : {d : Tree Token} → Derives grammar (main procedure_cut) d → rows_of (trees.main_of d []) ≤ size d
-main_size {d} (of_then m (of_then w (of_then i (of_then s (of_then {d = is} h (of_then {d = b} k (of_then {d = p} {e = z} l n))))))) =
+-- before its BEGIN a stream has as many tokens with which rows may come
+abbrev Within : Stream → Tree Token → Type 0
+Within tree d = rows_of tree ≤ declared_room (before_begin (tokens d))
+
+main_made : {d : Tree Token} → Derives grammar (main procedure_cut) d → Within (trees.main_of d []) d
+main_made {d} (of_then m (of_then w (of_then i (of_then s (of_then {d = is} h (of_then (of_then {d = ds} {e = b} k (of_then x (of_then y v))) (of_then {d = p} {e = z} l n))))))) =
     let e = rows_are (trees.main_of d []) in
-    let f = imports_size h in
-    let g = block_size k (tokens (both p z) ++ []) in
-    let c = count_append (flat_map import_items (trees.imports_of is)) (map decl_item (trees.block_of b (tokens (both p z) ++ [])).decls) in
-    omega (arith, e, f, g, c)
+    let f = imports_made h in
+    let g = declarations_made k in
+    let c = count_append (flat_map import_items (trees.imports_of is)) (map decl_item (trees.declarations_of ds)) in
+    let r = both_counted (main_stand (tokens b) (tokens (both p z)) m w i s h k) in
+    omega (arith, e, f, g, c, r)
 
-definition_rows_size : {d : Tree Token} → Derives grammar definition d → rows_of (trees.definition_of d []) ≤ size d
-definition_rows_size {d} (of_then m (of_then w (of_then i (of_then s (of_then {d = is} h (of_then x (of_then {d = ds} k (of_then l (of_then n (of_then p z)))))))))) =
+definition_rows_made : {d : Tree Token} → Derives grammar definition d → Within (trees.definition_of d []) d
+definition_rows_made {d} (of_then m (of_then w (of_then i (of_then s (of_then {d = is} h (of_then x (of_then {d = ds} {e = rest} k (of_then l (of_then n (of_then p z)))))))))) =
     let e = rows_are (trees.definition_of d []) in
-    let f = imports_size h in
-    let g = definitions_size k in
+    let f = imports_made h in
+    let g = definitions_made k in
     let c = count_append (flat_map import_items (trees.imports_of is)) (map decl_item (trees.definition_declarations_of ds)) in
-    omega (arith, e, f, g, c)
+    let r = both_counted (definition_stand (tokens rest) m w i s h x k) in
+    omega (arith, e, f, g, c, r)
 
-procedure_rows_size : {d : Tree Token} → Derives grammar procedure_stream d → rows_of (trees.procedure_stream_of d []) ≤ size d
-procedure_rows_size {d} (of_then h (of_then s (of_then {d = b} k (of_then {d = p} {e = z} l n)))) =
+procedure_rows_made : {d : Tree Token} → Derives grammar procedure_stream d → Within (trees.procedure_stream_of d []) d
+procedure_rows_made {d} (of_then (of_then (of_token {t = word} w) (of_then (of_token {t = name} i) (of_left (of_then (of_token {t = opens} o) (of_then h (of_then (of_token {t = closes} c) j)))))) (of_then s (of_then (of_then {d = ds} {e = b} k (of_then x (of_then y v))) (of_then {d = p} {e = z} l n)))) =
     let e = rows_are (trees.procedure_stream_of d []) in
-    let f = heading_size own_section_shapes own_counted h in
-    let g = block_size k (tokens (both p z) ++ []) in
-    omega (arith, e, f, g)
+    let f = sections_made own_section_shapes own_counted h in
+    let g = declarations_made k in
+    let r = both_counted (procedure_stand (tokens b) (tokens (both p z)) (of_then (of_token {t = word} w) (of_then (of_token {t = name} i) (of_left (of_then (of_token {t = opens} o) (of_then h (of_then (of_token {t = closes} c) j)))))) s k) in
+    omega (arith, e, f, g, r)
+procedure_rows_made {d} (of_then (of_then (of_token {t = word} w) (of_then (of_token {t = name} i) (of_right of_empty))) (of_then s (of_then (of_then {d = ds} {e = b} k (of_then x (of_then y v))) (of_then {d = p} {e = z} l n)))) =
+    let e = rows_are (trees.procedure_stream_of d []) in
+    let g = declarations_made k in
+    let r = both_counted (lone_stand (tokens b) (tokens (both p z)) (of_then (of_token {t = word} w) (of_then (of_token {t = name} i) (of_right of_empty))) s k) in
+    omega (arith, e, g, r)
 
-stream_size : (kind : StreamKind) {d : Tree Token} → Derives grammar (stream kind) d → rows_of (trees.stream_of kind d []) ≤ size d
-stream_size streams.Main h = main_size h
-stream_size streams.Definition h = definition_rows_size h
-stream_size streams.Procedure h = procedure_rows_size h
+stream_made : (kind : StreamKind) {d : Tree Token} → Derives grammar (stream kind) d → Within (trees.stream_of kind d []) d
+stream_made streams.Main h = main_made h
+stream_made streams.Definition h = definition_rows_made h
+stream_made streams.Procedure h = procedure_rows_made h
+
+pub stream_declares : (tree : Stream) (s : StreamOf) → SpellsStream tree s → rows_of tree ≤ declared_room (before_begin s.tokens)
+stream_declares tree s h =
+    let i = stream_made s.kind h.sentence.derives in
+    let k = ap (λ (ts : List Token). declared_room (before_begin ts)) h.sentence.spells in
+    let l = ap rows_of h.gives in
+    omega (arith, i, k, l)
 
 pub stream_rows : (tree : Stream) (s : StreamOf) → SpellsStream tree s → rows_of tree ≤ length s.tokens
 stream_rows tree s h =
-    let i = stream_size s.kind h.sentence.derives in
-    let j = size_is h.sentence.tree in
-    let k = ap length h.sentence.spells in
-    let l = ap rows_of h.gives in
-    omega (arith, i, j, k, l)
+    let i = stream_declares tree s h in
+    let j = rows_few s.tokens in
+    omega (arith, i, j)
