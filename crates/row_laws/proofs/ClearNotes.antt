@@ -1,6 +1,6 @@
 -- What names and types by name give in a clear scene, where they have no diagnostic; and how what is given without diagnostics
 -- goes together.
-use Rattle.std.specs.Prelude.{◌≡◌, ◌≢◌, ℕ, Bool, true, false, if◌then◌else◌, drop, nat_lt, List, [], ◌∷◌, ◌++◌, Option, Some, None}
+use Rattle.std.specs.Prelude.{◌≡◌, ◌≢◌, ℕ, Bool, true, if◌then◌else◌, drop, nat_lt, List, [], ◌∷◌, ◌++◌, Option, Some, None}
 use Rattle.std.proofs.Common.{subst, sym, ◌∙◌, refl}
 use Rattle.m2_base.specs.Gives.{Gives, gives}
 use Rattle.m2_base.specs.Lists.{WhereKept}
@@ -24,15 +24,8 @@ use Rattle.m2_base.specs.declared.notes.Diag.{Diag}
 use Rattle.m2_base.proofs.SceneLaws.{with-none, with-twice}
 use Rattle.m2_base.proofs.SoundTypes.{either}
 use Rattle.row_laws.specs.Clear.{IsNamedTarget, LeadsOn, HasClear, IsClear, IsClearRow, IsNamable, IsTarget}
+use Rattle.row_laws.proofs.Choices.{either_by}
 use Rattle.row_laws.proofs.ClearRows.{Found, IsClearScene, behind_clear, clear_with, found_row, have_clear, place_clear, standard_target}
-
--- of two values one, by what the test says
-pub either_by : {A : Type 0} (P : A → Type 0) (b : Bool) (x y : A) → (b ≡ true → P x) → (b ≡ false → P y) → P (if b then x else y)
-either_by P true x y h k = h refl
-either_by P false x y h k = k refl
-
-pub where_false : {A : Type 0} (P : A → Type 0) (b : Bool) (x y : A) → b ≡ false → P y → P (if b then x else y)
-where_false P b x y e h = subst (λ t. P (if t then x else y)) (sym e) h
 
 pub front_none : {A : Type 0} (xs ys : List A) → xs ++ ys ≡ [] → xs ≡ []
 front_none [] ys e = refl

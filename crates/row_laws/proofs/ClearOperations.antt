@@ -29,7 +29,8 @@ use Rattle.m2_base.proofs.SoundTypes.{either}
 use Rattle.m2_base.proofs.TypeLaws.{same_place-is}
 use Rattle.row_laws.specs.Clear.{HasClear, IsClear}
 use Rattle.row_laws.proofs.ClearRows.{HaveClear, IsClearScene, have_clear, not_broken, place_clear, stands_clear}
-use Rattle.row_laws.proofs.ClearNotes.{GivesFine, either_by, fine_either, given, join, refused, where_false}
+use Rattle.row_laws.proofs.Choices.{either_by, where_false}
+use Rattle.row_laws.proofs.ClearNotes.{GivesFine, fine_either, given, join, refused}
 
 -- ** Operands
 

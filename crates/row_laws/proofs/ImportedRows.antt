@@ -209,6 +209,17 @@ laid_small i o k [] (r ∷ rows) room h = absurd h
 laid_small i o k (n ∷ ns) [] room h = absurd h
 laid_small i o k (n ∷ ns) (r ∷ rows) room h = let e = h.1 in (omega (arith, e, room), laid_small i (o + 1) k ns rows (omega (arith, room)) h.3)
 
+-- an item's context is as sound
+pub ready-item : {names : ℕ} {xs : List Row} (c : Context) (i : ℕ) → Ready names c xs → Ready names (at_item c i) xs
+ready-item c i h =
+    let sound = h.sound in
+    record {
+      sound = record { scene = sound.scene; source = sound.source; few_names = sound.few_names; layout = sound.layout };
+      before = h.before;
+      ok = h.ok;
+      room = h.room;
+    }
+
 -- the context behind an item is sound too
 pub ready-next : {names : ℕ} (c : Context) (x : Item) (kind : StreamKind) (i cell : ℕ) (ys : List Row) → Ready names c ((declare (at_item c i) kind x cell).rows ++ ys)
     → Ready names (brought_in (with_rows c (declare (at_item c i) kind x cell).rows) (declare (at_item c i) kind x cell).value.brought) ys

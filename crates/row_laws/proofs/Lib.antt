@@ -1,3 +1,4 @@
+pub mod Choices
 pub mod Numbers
 pub mod Settled
 pub mod Agreeing
@@ -8,6 +9,7 @@ pub mod ClosedTypes
 pub mod ImportedRows
 pub mod AgreeingItems
 pub mod Scenes
+pub mod TypeShapes
 pub mod Placing
 pub mod PlacingItems
 pub mod Fitting
