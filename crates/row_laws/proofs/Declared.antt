@@ -3,7 +3,7 @@ use Rattle.std.specs.Prelude.{◌≡◌, ℕ, ◌+◌, ◌^◌, ◌<◌, ◌≤�
 use Rattle.std.proofs.Common.{ap, subst, sym, ◌∙◌, refl, inl, inr, arith}
 use Rattle.std.proofs.lemmas.List.{append-nil, append_assoc, length-append}
 use Rattle.m2_base.specs.Lists.{Each, IsIn}
-use Rattle.m2_base.specs.Rows.{row_of, row_meaning, place_of, number_of}
+use Rattle.m2_base.specs.Rows.{row_meaning, place_of, number_of}
 use Rattle.m2_base.specs.declared.outputs.HeadingNote.{HeadingNote}
 use Rattle.m2_base.specs.declared.rows.Place.{Place}
 use Rattle.m2_base.specs.declared.rows.Row.{Row}
@@ -35,6 +35,7 @@ use Rattle.m2_base.proofs.SoundTypes.{either}
 use Rattle.row_laws.specs.Procedures.{HasNumber, IsDeclared}
 use Rattle.row_laws.proofs.Numbers.{AllAgree}
 use Rattle.row_laws.proofs.Agreeing.{Ready, agree-left, agree-right, ready-left, ready-right, ready-then}
+use Rattle.row_laws.proofs.Choices.{named_each}
 use Rattle.row_laws.proofs.ImportedRows.{alias_shapes, import_aliases, own_shaped, ready-item, ready-next}
 use Rattle.row_laws.proofs.Closed.{IsClosed, closed_with}
 use Rattle.row_laws.proofs.PlainShapes.{IsNoProcedure, no_procedures}
@@ -115,11 +116,6 @@ plain_declared Q kind b items front more rows m none h step =
       in_step = subst (λ o. IsInStep kind (front ++ heading_list o) (rows ++ m.rows)) (sym none) (same_step kind front rows m.rows h step);
     }
 
-named_each : (P : RowMeaning → Type 0) (c : Context) (name at : ℕ) (m : RowMeaning) → ((n : ℕ) → P (row_meaning (row_of n at m))) → Each (λ r. P (row_meaning r)) (makes_named c name at m).rows
-named_each P c name at m h =
-    either (λ (x : Makes Place). Each (λ r. P (row_meaning r)) x.rows) (is_standard name) _ _ (h 0, tt)
-    (either (λ (x : Makes Place). Each (λ r. P (row_meaning r)) x.rows) (has_name c.scene.tables c.scene.block.scope name) _ _ (h 0, tt) (h name, tt))
-
 -- a procedure's row with a name or without one is one row of a procedure
 named_count : (c : Context) (name at : ℕ) (t : Place) (k s : ℕ) → length (filter is_proc (makes_named c name at (Proc t k s)).rows) ≡ 1
 named_count c name at t k s =
@@ -186,7 +182,7 @@ module _ (names : ℕ) (final : Scene) where
       subst (IsRawType final h) (sym (place_of-number_of t.value small)) (subst (λ s. IsRawType final h (next_of s)) (sym (with-none d.scene)) raw) in
       let none = shaped_none _ made.rows (sections_of h.sections c own) (sections_kinds IsNoProcedure no_procedures h.sections) in
       let none_type = result_none e h.name.at r (parameter_count h.sections) start in
-      let row : Each P p.rows = named_each (IsDeclared Q kind c.scene.block notes items) f h.name.name h.name.at (Proc t.value number (proc_scope kind stream))
+      let row : Each P p.rows = named_each P f h.name.name h.name.at (Proc t.value number (proc_scope kind stream))
       (λ n. (h, stream, is_in, refl, number_is c kind h stream front more step, ap (λ (q : Place). q.scope) (place_of-number_of t.value small), typed)) in
       let rows = made.rows ++ (t.rows ++ (p.rows ++ [])) in
       let count : length (filter is_proc (rows ++ [])) ≡ 1 =

@@ -1,4 +1,5 @@
 pub mod Choices
+pub mod Members
 pub mod Numbers
 pub mod Settled
 pub mod Agreeing

@@ -9,14 +9,12 @@ use Rattle.m2_base.specs.declared.rows.Row.{Row}
 use Rattle.m2_base.specs.declared.rows.RowMeaning.{RowMeaning}
 use Rattle.m2_base.specs.declared.rows.RowMeaning.TheVariants.{Array, Record, Var}
 use Rattle.m2_base.specs.declared.trees.Ident.{Ident}
-use Rattle.m2_base.specs.Standard.{is_standard}
 use Rattle.m2_base.specs.Trees.{TypeExpr, Section}
 use Rattle.m2_base.specs.Statics.Cells.{capped, most_cells}
 use Rattle.m2_base.specs.Statics.Contexts.{Context, Scene}
 use Rattle.m2_base.specs.Statics.Effects.{ParamCopy, open_copy, own_copy}
 use Rattle.m2_base.specs.Statics.FormedRows.{IsFilled}
 use Rattle.m2_base.specs.Statics.HeadingRows.{Placing, placing, open_copies, parameter_row, parameter_rows, own_section_rows, own_sections_rows}
-use Rattle.m2_base.specs.Statics.Lookup.{has_name}
 use Rattle.m2_base.specs.Statics.Makes.{Makes, make_then, makes, with_rows, makes_named}
 use Rattle.m2_base.specs.Statics.NameRows.{var_rows}
 use Rattle.m2_base.specs.Statics.ProcedureRows.{section_cells, parameter_cells}
@@ -29,10 +27,10 @@ use Rattle.m2_base.proofs.EachLaws.{each_append, each_then}
 use Rattle.m2_base.proofs.ShapeLaws.{open_of}
 use Rattle.m2_base.proofs.Sound.{Sound, row_ok}
 use Rattle.m2_base.proofs.SoundParts.{capped-most}
-use Rattle.m2_base.proofs.SoundTypes.{either, kind_fits}
+use Rattle.m2_base.proofs.SoundTypes.{kind_fits}
 use Rattle.row_laws.specs.RowRanges.{IsBelow, IsCopyBelow, IsCopyInRange}
 use Rattle.row_laws.proofs.Agreeing.{Ready, ready-left, ready-right, ready-then}
-use Rattle.row_laws.proofs.Choices.{either_by}
+use Rattle.row_laws.proofs.Choices.{either_by, named_each}
 use Rattle.row_laws.proofs.TypeShapes.{HaveKinds, OfTypes, kind_of_meaning, open_kinds, shaped_means, type_kinds}
 
 -- ** Sizes
@@ -94,20 +92,7 @@ abbrev pub IsOther : ℕ → Type 0
 IsOther k = (k == var_kind) ≡ false
 
 pub others : OfTypes IsOther
-others = record {
-  const_kind = refl;
-  field_kind = refl;
-  param_kind = refl;
-  enum_kind = refl;
-  subrange_kind = refl;
-  array_kind = refl;
-  open_array_kind = refl;
-  record_kind = refl;
-  set_kind = refl;
-  pointer_kind = refl;
-  proc_type_kind = refl;
-  opaque_kind = refl;
-}
+others = record { const_kind = refl; field_kind = refl; param_kind = refl; enum_kind = refl; subrange_kind = refl; array_kind = refl; open_array_kind = refl; record_kind = refl; set_kind = refl; pointer_kind = refl; proc_type_kind = refl; opaque_kind = refl }
 
 other_placed : (cells : ℕ) (m : RowMeaning) → IsOther (kind_of_meaning m) → IsPlaced cells m
 other_placed cells (Var t mode o) h = absurd (cc)
@@ -124,9 +109,7 @@ type_placed cells t c rows h = shaped_placed cells (type_shapes t) rows h (type_
 
 -- a row with a name or without one
 named_placed : (cells : ℕ) (c : Context) (name at : ℕ) (m : RowMeaning) → ((n : ℕ) → IsPlaced cells (row_meaning (row_of n at m))) → ArePlaced cells (makes_named c name at m).rows
-named_placed cells c name at m h =
-    either (λ (x : Makes Place). ArePlaced cells x.rows) (is_standard name) _ _ (h 0, tt)
-    (either (λ (x : Makes Place). ArePlaced cells x.rows) (has_name c.scene.tables c.scene.block.scope name) _ _ (h 0, tt) (h name, tt))
+named_placed cells c name at m h = named_each (λ (r : Row). IsPlaced cells (row_meaning r)) c name at m h
 
 -- cells after this one, and rows that are placed below them
 pub record Cells (cell next : ℕ) (rows : List Row) : Type 0 where
@@ -141,6 +124,14 @@ after_cells cell size h = omega (arith, h)
 -- a cell before the cells after it, unless they are too many
 before_cells : (cell size end : ℕ) → 1 ≤ size → capped (cell + size) ≤ end → end ≤ most_cells → cell < end
 before_cells cell size end some h few = omega (arith, some, h, few)
+
+-- the cells in which the parameters of a section arrive
+pub section_size : (s : Section) → section_cells s ≡ (if s.is_open then 2 else 1) * length s.names
+section_size s = by_test s.is_open
+  where
+    by_test : (b : Bool) → (if b then 2 * length s.names else length s.names) ≡ (if b then 2 else 1) * length s.names
+    by_test true = refl
+    by_test false = omega arith
 
 module _ (names : ℕ) where
   pub vars_placed : (idents : List Ident) (c : Context) (t : Place) (cell : ℕ) → Ready names c (var_rows c t cell idents).rows → cell ≤ most_cells + 1
@@ -287,13 +278,6 @@ module _ (names : ℕ) where
         placed = each_append (λ (r : Row). IsPlaced end (row_meaning r)) m.rows _ (placed-more m.value.own end m.rows y first.placed) rest.placed;
       }
 
-  section_count : (s : Section) → section_cells s ≡ cells_of_one s * length s.names
-  section_count s = by_test s.is_open
-    where
-      by_test : (b : Bool) → (if b then 2 * length s.names else length s.names) ≡ (if b then 2 else 1) * length s.names
-      by_test true = refl
-      by_test false = omega arith
-
   own_section_placed : (s : Section) (c : Context) (f : Placing) (left : ℕ) → Ready names c (own_section_rows c f s).rows → Left f (section_cells s + left)
       → Parameters f (own_section_rows c f s).value left (own_section_rows c f s).rows
   own_section_placed s c f left ready h =
@@ -301,7 +285,7 @@ module _ (names : ℕ) where
       let elem = (type_of_qual c s.of).value in
       let typ = open_array_row d s.of.first.at s.is_open elem in
       let e = with_rows d typ.rows in
-      let rest = parameters_placed s.names e s elem typ.value f left (ready-right typ.rows _ (ready-then ready)) (subst (λ n. Left f (n + left)) (section_count s) h) in
+      let rest = parameters_placed s.names e s elem typ.value f left (ready-right typ.rows _ (ready-then ready)) (subst (λ n. Left f (n + left)) (section_size s) h) in
       let end = (parameter_rows e s elem typ.value f s.names).value.own in
       record {
         next = rest.next;

@@ -1,5 +1,5 @@
 -- The rows of a block that imports nothing are of plain kinds: only a procedure's own name makes a row of a procedure, only an import one of a module or an alias.
-use Rattle.std.specs.Prelude.{◌≡◌, ℕ, ◌+◌, ◌==◌, false, List, [], ◌∷◌, ◌++◌, map, flat_map, Option, Some, None}
+use Rattle.std.specs.Prelude.{◌≡◌, ℕ, ◌+◌, ◌==◌, false, List, [], ◌∷◌, ◌++◌, map, flat_map, Option, Some, None, ◌||◌}
 use Rattle.std.proofs.Common.{subst, sym, refl}
 use Rattle.m2_base.specs.Lists.{Each}
 use Rattle.m2_base.specs.Rows.{row_meaning, const_kind, proc_kind, module_kind, alias_kind, field_kind, param_kind, enum_kind, subrange_kind, array_kind, open_array_kind, record_kind, set_kind, pointer_kind, proc_type_kind, opaque_kind}
@@ -28,20 +28,7 @@ abbrev pub IsNoProcedure : ℕ → Type 0
 IsNoProcedure k = (k == proc_kind) ≡ false
 
 pub no_procedures : OfTypes IsNoProcedure
-no_procedures = record {
-  const_kind = refl;
-  field_kind = refl;
-  param_kind = refl;
-  enum_kind = refl;
-  subrange_kind = refl;
-  array_kind = refl;
-  open_array_kind = refl;
-  record_kind = refl;
-  set_kind = refl;
-  pointer_kind = refl;
-  proc_type_kind = refl;
-  opaque_kind = refl;
-}
+no_procedures = record { const_kind = refl; field_kind = refl; param_kind = refl; enum_kind = refl; subrange_kind = refl; array_kind = refl; open_array_kind = refl; record_kind = refl; set_kind = refl; pointer_kind = refl; proc_type_kind = refl; opaque_kind = refl }
 
 -- ** Rows that lead nowhere
 
@@ -51,31 +38,18 @@ LeadsNowhere m = LeadsTo (λ s. ⊥) m
 
 -- the kind is no module's and no alias's
 abbrev pub IsOwn : ℕ → Type 0
-IsOwn k = ((k == module_kind) ≡ false) × ((k == alias_kind) ≡ false)
+IsOwn k = (k == module_kind || k == alias_kind) ≡ false
 
 -- no shape is a module's or an alias's
 abbrev pub AreOwn : List Shape → Type 0
 AreOwn shapes = HaveKinds IsOwn shapes
 
 types_own : OfTypes IsOwn
-types_own = record {
-  const_kind = (refl, refl);
-  field_kind = (refl, refl);
-  param_kind = (refl, refl);
-  enum_kind = (refl, refl);
-  subrange_kind = (refl, refl);
-  array_kind = (refl, refl);
-  open_array_kind = (refl, refl);
-  record_kind = (refl, refl);
-  set_kind = (refl, refl);
-  pointer_kind = (refl, refl);
-  proc_type_kind = (refl, refl);
-  opaque_kind = (refl, refl);
-}
+types_own = record { const_kind = refl; field_kind = refl; param_kind = refl; enum_kind = refl; subrange_kind = refl; array_kind = refl; open_array_kind = refl; record_kind = refl; set_kind = refl; pointer_kind = refl; proc_type_kind = refl; opaque_kind = refl }
 
 own_leads : (m : RowMeaning) → IsOwn (kind_of_meaning m) → LeadsNowhere m
-own_leads (Module s) h = let e = h.0 in absurd (cc)
-own_leads (Alias p) h = let e = h.1 in absurd (cc)
+own_leads (Module s) h = absurd (cc)
+own_leads (Alias p) h = absurd (cc)
 own_leads m h = tt
 
 -- the item is no import
@@ -85,11 +59,11 @@ IsOwnItem other = Unit {0}
 
 item_own : (x : Item) → IsOwnItem x → AreOwn (item_shapes x)
 item_own (import_item from i) k = absurd k
-item_own (heading_item h) k = item_kinds IsOwn types_own (heading_item h) (refl, refl)
-item_own (const_item i e) k = item_kinds IsOwn types_own (const_item i e) (refl, refl)
-item_own (type_item i t) k = item_kinds IsOwn types_own (type_item i t) (refl, refl)
-item_own (vars_item idents t) k = item_kinds IsOwn types_own (vars_item idents t) (refl, refl)
-item_own (proc_item h stream) k = item_kinds IsOwn types_own (proc_item h stream) (refl, refl)
+item_own (heading_item h) k = item_kinds IsOwn types_own (heading_item h) refl
+item_own (const_item i e) k = item_kinds IsOwn types_own (const_item i e) refl
+item_own (type_item i t) k = item_kinds IsOwn types_own (type_item i t) refl
+item_own (vars_item idents t) k = item_kinds IsOwn types_own (vars_item idents t) refl
+item_own (proc_item h stream) k = item_kinds IsOwn types_own (proc_item h stream) refl
 
 own_decl : (d : Decl) → IsOwnItem (decl_item d)
 own_decl (const_decl name value) = tt
@@ -110,7 +84,7 @@ own_items (Some h) ds = (tt, own_decls ds)
 
 shaped_leads : (shapes : List Shape) (rows : List Row) → AreShaped shapes rows → AreOwn shapes → Each (λ r. LeadsNowhere (row_meaning r)) rows
 shaped_leads shapes rows is h =
-    each_then (λ (r : Row). IsOwn (kind_of_meaning (row_meaning r))) (λ (r : Row). LeadsNowhere (row_meaning r)) rows (λ r. own_leads (row_meaning r)) (shaped_means IsOwn (refl, refl) shapes rows is h)
+    each_then (λ (r : Row). IsOwn (kind_of_meaning (row_meaning r))) (λ (r : Row). LeadsNowhere (row_meaning r)) rows (λ r. own_leads (row_meaning r)) (shaped_means IsOwn refl shapes rows is h)
 
 -- what isn't an import makes the rows of its syntax and no others
 own_shaped : (x : Item) (c : Context) (kind : StreamKind) (cell : ℕ) → IsOwnItem x → AreShaped (item_shapes x) (declare c kind x cell).rows
