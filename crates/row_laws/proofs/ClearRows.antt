@@ -21,7 +21,7 @@ use Rattle.m2_base.proofs.SceneLaws.{IsOpen, open-with, own_of, own-with}
 use Rattle.m2_base.proofs.SoundTypes.{either}
 use Rattle.m2_base.proofs.StandardLaws.{standard_between}
 use Rattle.row_laws.proofs.Joined.{front_or_back}
-use Rattle.row_laws.proofs.Members.{each_at}
+use Rattle.row_laws.proofs.Members.{each_at, each_index}
 use Rattle.row_laws.proofs.Settled.{other_rows, rows_stay}
 
 -- ** Types that aren't in error
@@ -211,11 +211,6 @@ standard_each tables = ((tt, tt, λ h. absurd (h refl)), ((tt, tt, λ h. absurd 
 pub standard_clear : AreClear (standard_rows ∷ [])
 standard_clear zero o r e = each_at (IsClearRow (standard_rows ∷ [])) standard_rows (standard_each (standard_rows ∷ [])) o r e
 standard_clear (suc s) o r e = absurd (cc)
-
-each_index : {A : Type 0} (P : A → Type 0) (xs : List A) (d : A) → Each P xs → (k : ℕ) → k < length xs → P (slice_index_or xs k d)
-each_index P [] d h k l = absurd (omega (arith, l))
-each_index P (x ∷ xs) d h zero l = h.0
-each_index P (x ∷ xs) d h (suc k) l = each_index P xs d h.1 k (omega (arith, l))
 
 -- the rows of the standard names lead to something
 named_each : Each (λ (r : Row). IsTarget (row_meaning r)) (named_rows 1 standard_meanings)

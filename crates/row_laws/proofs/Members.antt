@@ -1,6 +1,6 @@
 -- What holds of each element of a list, and of one that is there.
-use Rattle.std.specs.Prelude.{◌≡◌, ℕ, zero, suc, List, [], ◌∷◌, slice_get, Some, drop, take}
-use Rattle.std.proofs.Common.{inl, inr, refl, subst, sym}
+use Rattle.std.specs.Prelude.{◌≡◌, ℕ, zero, suc, List, [], ◌∷◌, slice_get, Some, drop, take, length, slice_index_or, ◌<◌}
+use Rattle.std.proofs.Common.{inl, inr, refl, subst, sym, arith}
 use Rattle.m2_base.specs.Lists.{Each, IsIn}
 use Rattle.m2_base.proofs.NoRepeats.{some_is}
 
@@ -8,6 +8,11 @@ pub each_at : {A : Type 0} (P : A → Type 0) (xs : List A) → Each P xs → (k
 each_at P [] h k x e = absurd (cc)
 each_at P (y ∷ xs) h zero x e = subst P (some_is y x e) h.0
 each_at P (y ∷ xs) h (suc k) x e = each_at P xs h.1 k x e
+
+pub each_index : {A : Type 0} (P : A → Type 0) (xs : List A) (d : A) → Each P xs → (k : ℕ) → k < length xs → P (slice_index_or xs k d)
+each_index P [] d h k l = absurd (omega (arith, l))
+each_index P (x ∷ xs) d h zero l = h.0
+each_index P (x ∷ xs) d h (suc k) l = each_index P xs d h.1 k (omega (arith, l))
 
 pub each_in : {A : Type 0} (P : A → Type 0) (xs : List A) (x : A) → Each P xs → IsIn x xs → P x
 each_in P [] x h k = absurd k

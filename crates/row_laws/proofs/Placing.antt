@@ -65,7 +65,7 @@ ArePlaced cells rows = Each (λ r. IsPlaced cells (row_meaning r)) rows
 abbrev pub IsCopyPlaced : (cells : ℕ) → ParamCopy → Type 0
 IsCopyPlaced cells c = IsCopyInRange c × (cells ≤ most_cells → IsCopyBelow cells c)
 
-below_more : (a b : ℕ) (m : RowMeaning) → a ≤ b → IsBelow a m → IsBelow b m
+pub below_more : (a b : ℕ) (m : RowMeaning) → a ≤ b → IsBelow a m → IsBelow b m
 below_more a b (Var t Open o) h k = omega (arith, h, k)
 below_more a b (Var t Plain o) h k = omega (arith, h, k)
 below_more a b (Var t ByAddress o) h k = omega (arith, h, k)

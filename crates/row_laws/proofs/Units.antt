@@ -630,6 +630,13 @@ pub each_block_then : (P Q : List (List Row) → BlockTree → Type 0) (source :
 each_block_then P Q source [] before f h = tt
 each_block_then P Q source (b ∷ blocks) before f h = (f before b h.0, each_block_then P Q source blocks (before ++ (declare_block source before b).rows ∷ []) f h.1)
 
+-- what follows with what holds of the blocks themselves
+pub each_block_with : (P Q : List (List Row) → BlockTree → Type 0) (R : BlockTree → Type 0) → ((before : List (List Row)) (b : BlockTree) → P before b → R b → Q before b)
+    → (source : Source) (before : List (List Row)) (blocks : List BlockTree) → EachBlock P source before blocks → Each R blocks → EachBlock Q source before blocks
+each_block_with P Q R f source before [] g h = tt
+each_block_with P Q R f source before (b ∷ blocks) g h =
+    (f before b g.0 h.0, each_block_with P Q R f source (before ++ (declare_block source before b).rows ∷ []) blocks g.1 h.1)
+
 pub unit_in_range : (names : List (List ℕ)) (u : UnitTrees) → IsSoundUnit names u → EachBlock (λ before b. BlockInRange u.source before (unit_rows u) b) u.source (standard_rows ∷ []) (blocks_of u)
 unit_in_range names u is = each_block_then _ (λ before b. BlockInRange u.source before (unit_rows u) b) u.source (blocks_of u) (standard_rows ∷ []) (λ ts b h. h.0) (unit_holds names u is)
 
