@@ -1,7 +1,7 @@
 -- The blocks of a unit by their scopes: what holds of each, its rows, and what is made of it.
 use Rattle.std.specs.Prelude.{◌≡◌, refl, ℕ, zero, suc, ◌+◌, ◌-◌, ◌<◌, ◌≤◌, List, [], ◌∷◌, ◌++◌, drop, length, slice_get, take, Some}
 use Rattle.std.proofs.Common.{ap, subst, sym, ◌∙◌, inl, inr, arith}
-use Rattle.std.proofs.lemmas.List.{length-append, get_or_append_left, get_or_at}
+use Rattle.std.proofs.lemmas.List.{length-append, get_or_at}
 use Rattle.m2_base.specs.Lists.{IsIn}
 use Rattle.m2_base.specs.Standard.{standard_rows}
 use Rattle.m2_base.specs.Statics.BlockRows.{declare_block}
@@ -13,11 +13,10 @@ use Rattle.m2_base.specs.Tables.{rows_at}
 use Rattle.m2_base.specs.declared.rows.Row.{Row}
 use Rattle.row_laws.specs.RowRanges.{EachBlock}
 use Rattle.block_laws.specs.Worlds.{of_blocks, over_blocks}
+use Rattle.m2_base.proofs.NoRepeats.{some_is}
+use Rattle.row_laws.proofs.MadeBy.{stays}
 
 -- ** Lists
-
-one_is : {A : Type 0} (x y : A) → Some x ≡ Some y → x ≡ y
-one_is x y e = cc
 
 pub at_drop : {A : Type 0} (n : ℕ) (xs : List A) (i : ℕ) → slice_get (drop n xs) i ≡ slice_get xs (n + i)
 at_drop zero xs i = ap (slice_get xs) (omega arith)
@@ -57,22 +56,14 @@ before_at source before (b ∷ blocks) (suc i) = before_at source (before ++ (de
 each_at : (P : List (List Row) → BlockTree → Type 0) (source : Source) (before : List (List Row)) (blocks : List BlockTree) → EachBlock P source before blocks → (i : ℕ) (b : BlockTree) → slice_get blocks i ≡ Some b
     → P (before_at source before blocks i) b
 each_at P source before [] h i b e = absurd cc
-each_at P source before (c ∷ blocks) h zero b e = subst (P before) (one_is c b e) h.0
+each_at P source before (c ∷ blocks) h zero b e = subst (P before) (some_is c b e) h.0
 each_at P source before (c ∷ blocks) h (suc i) b e = each_at P source (before ++ (declare_block source before c).rows ∷ []) blocks h.1 i b e
 
 over_at : {A : Type 0} (f : List (List Row) → BlockTree → A) (source : Source) (before : List (List Row)) (blocks : List BlockTree) (i : ℕ) (b : BlockTree) → slice_get blocks i ≡ Some b
     → slice_get (over_blocks f source before blocks) i ≡ Some (f (before_at source before blocks i) b)
 over_at f source before [] i b e = absurd cc
-over_at f source before (c ∷ blocks) zero b e = ap (λ (x : BlockTree). Some (f before x)) (one_is c b e)
+over_at f source before (c ∷ blocks) zero b e = ap (λ (x : BlockTree). Some (f before x)) (some_is c b e)
 over_at f source before (c ∷ blocks) (suc i) b e = over_at f source (before ++ (declare_block source before c).rows ∷ []) blocks i b e
-
--- the finished scopes before a block stay
-stays : (source : Source) (blocks : List BlockTree) (before : List (List Row)) (q : ℕ) → q < length before → rows_at (rows_from source before blocks) q ≡ rows_at before q
-stays source [] before q h = refl
-stays source (b ∷ blocks) before q h =
-    let made = (declare_block source before b).rows in
-    let next = length-append before (made ∷ []) in
-    stays source blocks (before ++ made ∷ []) q (omega (arith, next, h)) ∙ get_or_append_left before (made ∷ []) [] q h
 
 made_at : (source : Source) (before : List (List Row)) (blocks : List BlockTree) (i : ℕ) (b : BlockTree) → slice_get blocks i ≡ Some b
     → rows_at (rows_from source before blocks) (length before + i) ≡ (declare_block source (before_at source before blocks i) b).rows
@@ -81,7 +72,7 @@ made_at source before (c ∷ blocks) zero b e =
     let made = (declare_block source before c).rows in
     let next = length-append before (made ∷ []) in
     stays source blocks (before ++ made ∷ []) (length before + 0) (omega (arith, next))
-    ∙ get_or_at before made [] [] (length before + 0) (omega arith) ∙ ap (λ (x : BlockTree). (declare_block source before x).rows) (one_is c b e)
+    ∙ get_or_at before made [] [] (length before + 0) (omega arith) ∙ ap (λ (x : BlockTree). (declare_block source before x).rows) (some_is c b e)
 made_at source before (c ∷ blocks) (suc i) b e =
     let made = (declare_block source before c).rows in
     let next = length-append before (made ∷ []) in
@@ -90,7 +81,7 @@ made_at source before (c ∷ blocks) (suc i) b e =
 
 pub scope_at : (n : ℕ) (blocks : List BlockTree) → AreConsecutive n blocks → (i : ℕ) (b : BlockTree) → slice_get blocks i ≡ Some b → b.block.scope ≡ n + i
 scope_at n [] h i b e = absurd cc
-scope_at n (c ∷ blocks) h zero b e = sym (ap (λ (x : BlockTree). x.block.scope) (one_is c b e)) ∙ h.0 ∙ omega arith
+scope_at n (c ∷ blocks) h zero b e = sym (ap (λ (x : BlockTree). x.block.scope) (some_is c b e)) ∙ h.0 ∙ omega arith
 scope_at n (c ∷ blocks) h (suc i) b e = scope_at (n + 1) blocks h.1 i b e ∙ omega arith
 
 -- a block's number among these
@@ -105,7 +96,7 @@ place_of (c ∷ blocks) b (inr h) = let r = place_of blocks b h in record { numb
 
 pub in_at : (blocks : List BlockTree) (i : ℕ) (b : BlockTree) → slice_get blocks i ≡ Some b → IsIn b blocks
 in_at [] i b e = absurd cc
-in_at (c ∷ blocks) zero b e = inl (sym (one_is c b e))
+in_at (c ∷ blocks) zero b e = inl (sym (some_is c b e))
 in_at (c ∷ blocks) (suc i) b e = inr (in_at blocks i b e)
 
 -- ** Blocks of a unit by their scopes

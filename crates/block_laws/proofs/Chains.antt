@@ -8,6 +8,7 @@ use Rattle.m2_base.specs.Lists.{Each, IsIn, WhereKept}
 use Rattle.m2_base.specs.Statics.Blocks.{BlockTree, UnitTrees, blocks_of, blocks_of_main, declares, definition_blocks, encloser, home_of, main_block, main_blocks, procedure_block, with_own}
 use Rattle.m2_base.specs.Statics.Contexts.{Block, DefinitionModule}
 use Rattle.m2_base.specs.Trees.{Stream}
+use Rattle.row_laws.proofs.Joined.{in_left, in_right}
 
 -- ** Levels
 
@@ -78,21 +79,13 @@ record StandsBelow (u : UnitTrees) (blocks : List BlockTree) (s : ℕ) (b : Bloc
   own : b.block.own ≡ u.own
   stands : Stands u blocks b.block
 
-in_left : {A : Type 0} (x : A) (xs ys : List A) → IsIn x xs → IsIn x (xs ++ ys)
-in_left x [] ys h = absurd h
-in_left x (z ∷ xs) ys (inl e) = inl e
-in_left x (z ∷ xs) ys (inr h) = inr (in_left x xs ys h)
-
-in_right : {A : Type 0} (x : A) (xs ys : List A) → IsIn x ys → IsIn x (xs ++ ys)
-in_right x [] ys h = h
-in_right x (z ∷ xs) ys h = inr (in_right x xs ys h)
-
-stands_more : (u : UnitTrees) (blocks more : List BlockTree) (b : Block) → Stands u blocks b → Stands u (blocks ++ more) b
-stands_more u blocks more b (inl h) = inl h
-stands_more u blocks more b (inr h) =
+-- what stands among some blocks stands among all of which those are
+stands_among : (u : UnitTrees) (blocks all : List BlockTree) (b : Block) → ((x : BlockTree) → IsIn x blocks → IsIn x all) → Stands u blocks b → Stands u all b
+stands_among u blocks all b more (inl h) = inl h
+stands_among u blocks all b more (inr h) =
     inr (record {
       outer = h.outer;
-      there = in_left h.outer blocks more h.there;
+      there = more h.outer h.there;
       behind = h.behind;
       lower = h.lower;
       home = h.home;
@@ -100,6 +93,9 @@ stands_more u blocks more b (inr h) =
       own = h.own;
       chain = h.chain;
     })
+
+stands_more : (u : UnitTrees) (blocks more : List BlockTree) (b : Block) → Stands u blocks b → Stands u (blocks ++ more) b
+stands_more u blocks more b h = stands_among u blocks (blocks ++ more) b (λ x i. in_left x blocks more i) h
 
 later : (u : UnitTrees) (blocks more : List BlockTree) (s : ℕ) (b : BlockTree) → StandsBelow u blocks s b → StandsBelow u (blocks ++ more) (s + 1) b
 later u blocks more s b h = record {
@@ -170,20 +166,6 @@ definitions_low P home s [] trees h = tt
 definitions_low P home s (d ∷ ds) [] h = tt
 definitions_low P home s (d ∷ ds) (tree ∷ trees) h = (λ k. absurd (omega (arith, h, k)), definitions_low P home (s + 1) ds trees (omega (arith, h)))
 
-stands_right : (u : UnitTrees) (more blocks : List BlockTree) (b : Block) → Stands u blocks b → Stands u (more ++ blocks) b
-stands_right u more blocks b (inl h) = inl h
-stands_right u more blocks b (inr h) =
-    inr (record {
-      outer = h.outer;
-      there = in_right h.outer more blocks h.there;
-      behind = h.behind;
-      lower = h.lower;
-      home = h.home;
-      level = h.level;
-      own = h.own;
-      chain = h.chain;
-    })
-
 -- each block of the main text stands among the blocks
 pub blocks_stand : (u : UnitTrees) → Each (λ b. home_of u ≤ b.block.scope → Stands u (blocks_of u) b.block) (blocks_of u)
 unfolding blocks_of
@@ -193,4 +175,4 @@ blocks_stand u =
     each_append (λ (b : BlockTree). home_of u ≤ b.block.scope → Stands u (first ++ main) b.block) first main
     (definitions_low (λ (b : BlockTree). Stands u (first ++ main) b.block) (home_of u) 1 u.source.definitions u.definitions (omega arith))
     (each_then (λ (b : BlockTree). home_of u ≤ b.block.scope → Stands u main b.block) (λ (b : BlockTree). home_of u ≤ b.block.scope → Stands u (first ++ main) b.block) main
-    (λ b k l. stands_right u first main b.block (k l)) (of_main_stand u u.main))
+    (λ b k l. stands_among u main (first ++ main) b.block (λ x i. in_right x first main i) (k l)) (of_main_stand u u.main))

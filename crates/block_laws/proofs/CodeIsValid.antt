@@ -15,8 +15,9 @@ use Rattle.m2_base.specs.Statics.UnitRows.{unit_rows}
 use Rattle.m2_base.specs.Units.{UnitTexts}
 use Rattle.m2_base.specs.declared.rows.Row.{Row}
 use Rattle.row_laws.specs.RowRanges.{EachBlock, IsSoundUnit}
-use Rattle.row_laws.proofs.ClearNotes.{front_none}
+use Rattle.row_laws.proofs.Joined.{none_left}
 use Rattle.row_laws.proofs.ClearUnits.{unit_headings}
+use Rattle.row_laws.proofs.Members.{each_in}
 use Rattle.row_laws.proofs.TextBlocks.{blocks_read, trees_read}
 use Rattle.row_laws.proofs.Units.{each_block_then}
 use Rattle.stmt_sem.specs.BlockCode.{block_code, block_diags, body_of, run_of, size_diags}
@@ -28,7 +29,6 @@ use Rattle.block_laws.specs.Sight.{IsInSight, Sees}
 use Rattle.block_laws.specs.Worlds.{unit_world}
 use Rattle.block_laws.proofs.BlocksAt.{unit_all}
 use Rattle.block_laws.proofs.Implemented.{implements}
-use Rattle.block_laws.proofs.Links.{in_each}
 use Rattle.block_laws.proofs.MainBlocks.{blocks-see}
 use Rattle.block_laws.proofs.NamedHeadings.{headings-named}
 use Rattle.block_laws.proofs.UnitWorlds.{IsClear}
@@ -46,7 +46,7 @@ declared-none source before all b e =
     let d = declare_block source before b in
     let body = body_of c b in
     let size = size_diags c b b.tree.kind d.value (run_of b d.value body.value) in
-    front_none d.diags (closing_diags c b.tree) (front_none (d.diags ++ closing_diags c b.tree) body.diags (front_none (d.diags ++ closing_diags c b.tree ++ body.diags) size e))
+    (none_left d.diags (closing_diags c b.tree) (none_left (d.diags ++ closing_diags c b.tree) body.diags (none_left (d.diags ++ closing_diags c b.tree ++ body.diags) size e).0).0).0
 
 pub code-valid : (names : List (List ℕ)) (texts : UnitTexts) (u : UnitTrees) → IsSoundUnit names u → AreRead texts u → Each (λ b. AreReadStatements names b.tree.body) (blocks_of u) → Each (λ b. Each (IsReadItem names) (items_of b.tree)) (blocks_of u)
     → Each (λ b. block_tokens b.tree ≤ 1048576) (blocks_of u) → EachBlock (λ before b. block_diags u.source before (unit_rows u) b ≡ []) u.source (standard_rows ∷ []) (blocks_of u)
@@ -60,5 +60,5 @@ code-valid names texts u sound told read items few none =
     each-of (λ (b : BlockTree). Sees (IsInSight b.block) (complete_context u.source (unit_rows u) b.block).scene) u.source (standard_rows ∷ []) (blocks_of u) (blocks-see names u sound (trees_read texts u told)) in
     unit_all u sound.scopes (λ before b. home_of u ≤ b.block.scope → IsValidCode (unit_world u) (b.block.scope - home_of u) (procedure_of (block_code u.source before (unit_rows u) b)))
     (λ b i behind. block-valid-in-unit names u is read (implements names u is headings b i behind (headings-named names u is items b i behind)) b i behind
-    (in_each (λ (c : BlockTree). Sees (IsInSight c.block) (complete_context u.source (unit_rows u) c.block).scene) (blocks_of u) b sight i)
-    (in_each (λ (c : BlockTree). block_tokens c.tree ≤ 1048576) (blocks_of u) b few i))
+    (each_in (λ (c : BlockTree). Sees (IsInSight c.block) (complete_context u.source (unit_rows u) c.block).scene) (blocks_of u) b sight i)
+    (each_in (λ (c : BlockTree). block_tokens c.tree ≤ 1048576) (blocks_of u) b few i))

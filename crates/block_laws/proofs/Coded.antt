@@ -45,9 +45,10 @@ use Rattle.m2_base.specs.declared.operands.Operand.TheVariants.{Computed, Consta
 use Rattle.m2_base.specs.declared.trees.operators.Operator.TheVariants.{Plus, Minus, Times, Slash, Div, Mod, And, Or, Not, Equal, Unequal, Less, Greater, LessEqual, GreaterEqual}
 use Rattle.row_laws.specs.RowRanges.{HasOperands, IsIndexRange, RowsInRange}
 use Rattle.block_laws.specs.Sight.{Sees, value_instr}
-use Rattle.block_laws.proofs.Values.{HasValues, IsProcedure, by_test, kind_operands, range_values, size_is}
+use Rattle.block_laws.proofs.Values.{HasValues, IsProcedure, kind_operands, range_values, size_is}
 use Rattle.block_laws.proofs.Results.{abs-values, apply-values, beside-values, cap-values, char-values, chr-values, element-values, max-values, min-values, odd-values, operate-values, ord-values, size-values, val-values, with_elements-values}
 use Rattle.block_laws.proofs.Parts.{Leaves, Right, names_nothing, none-right, one-right, skip-right, steps-right, text-right, then-right}
+use Rattle.row_laws.proofs.Choices.{either_by}
 
 -- what is known where a block's code is made
 pub record Setting (q : Step → Type 0) (seen : ℕ → Type 0) (cells bytes : ℕ) (c : Context) : Type 0 where
@@ -148,7 +149,7 @@ module _ (q : Step → Type 0) (seen : ℕ → Type 0) (cells bytes : ℕ) (c : 
   value_go at (ModuleName s) code high h f g = error-w
   value_go at (StandardProcedure k) code high h f g = error-w
   value_go at (Procedure name t k s) code high h f g =
-      by_test WG (level_of c.scene.block t.scope == 0) (gives (put (Procedure name t k s) code high)) (refuse c at not_a_procedure_value in_error)
+      either_by WG (level_of c.scene.block t.scope == 0) (gives (put (Procedure name t k s) code high)) (refuse c at not_a_procedure_value in_error)
       (λ e. ((h, e), (f, g))) (λ e. error-w)
   value_go at (Constant t v) code high h f g = (h, (f, g))
   value_go at (StringConstant m l) code high h f g = (h, (f, g))
@@ -353,7 +354,7 @@ module _ (q : Step → Type 0) (seen : ℕ → Type 0) (cells bytes : ℕ) (c : 
 
   high_kind : (at : ℕ) (x : Coded) (m : RowMeaning) → HasOperands c.scene m → X x → WG (high_of c at x m)
   high_kind at x (Array i t s) h g =
-      by_test WG (is_broken c.scene i) (gives in_error) (gives (coded (Computed cardinal) (high_code c.scene x (Array i t s)))) (λ e. error-w)
+      either_by WG (is_broken c.scene i) (gives in_error) (gives (coded (Computed cardinal) (high_code c.scene x (Array i t s)))) (λ e. error-w)
       (λ e. computed-w cardinal (high_code c.scene x (Array i t s))
       (all (Push (high_of_range (range_of c.scene i)) ∷ []) (push _ (high-value (range_of c.scene i) (h.2 e)), tt)))
   high_kind at x (OpenArray t) h g = computed-w cardinal x.high g.1.1

@@ -1,5 +1,5 @@
 -- What names and selectors make is right, and so are arguments and calls.
-use Rattle.std.specs.Prelude.{◌≡◌, refl, ℕ, zero, suc, ◌+◌, ◌-◌, ◌^◌, ◌<◌, ◌≤◌, ◌==◌, ◌&&◌, ◌||◌, not, Bool, true, false, ◌⊎◌, if◌then◌else◌, is_some, pos, List, [], ◌∷◌, length, map, min, drop, take, find, slice_get, Option, Some, None}
+use Rattle.std.specs.Prelude.{◌≡◌, refl, ℕ, zero, suc, ◌+◌, ◌-◌, ◌^◌, ◌<◌, ◌≤◌, ◌==◌, ◌&&◌, ◌||◌, not, Bool, true, false, ◌⊎◌, if◌then◌else◌, is_some, pos, List, [], ◌∷◌, length, map, min, drop, slice_get, Option, Some, None}
 use Rattle.std.proofs.Common.{ap, subst, sym, arith, inl, inr}
 use Rattle.code_form.specs.Heights.{Step}
 use Rattle.code_form.specs.declared.instr.Instr.{Instr}
@@ -16,6 +16,7 @@ use Rattle.expr_sem.specs.StandardFunctions.{high_code}
 use Rattle.expr_sem.specs.StandardProcedures.{is_function, takes_count}
 use Rattle.expr_sem.specs.Values.{as_value, assigned_to, in_range}
 use Rattle.expr_sem.specs.Variables.{cell_instr, entry_coded, high_of_mode, through, with_address}
+use Rattle.m2_base.proofs.EachLaws.{each_found}
 use Rattle.m2_base.proofs.SoundOperands.{AreValues, natural-value}
 use Rattle.m2_base.proofs.SoundTypes.{either}
 use Rattle.m2_base.specs.Gives.{Gives, and_then, gives}
@@ -47,38 +48,19 @@ use Rattle.m2_base.specs.declared.operands.Operand.TheVariants.{Computed, InErro
 use Rattle.expr_sem.specs.Values.{has_broken_part}
 use Rattle.row_laws.specs.RowRanges.{HasOperands, IsIndexRange}
 use Rattle.block_laws.specs.Sight.{IsDeclared}
-use Rattle.block_laws.proofs.Values.{HasValues, IsEntry, IsProcedure, by_test, entry_operand, member_use, plain_use, range_values, size_is}
+use Rattle.block_laws.proofs.Values.{HasValues, IsEntry, IsProcedure, entry_operand, member_use, plain_use, range_values, size_is}
 use Rattle.block_laws.proofs.Parts.{Right, call-right, copy-right, record-right}
 use Rattle.block_laws.proofs.Coded.{IsWhole, Setting, W, X, all, as_value-w, assigned-w, bare-x, computed-x, error-x, fitted-right, high-none, high_code-right, kind-has, nothing-right, ok, push, single, string-right, thn, value-right, worth-x}
+use Rattle.std.proofs.lemmas.Bool.{both_ways}
+use Rattle.row_laws.proofs.Choices.{either_by}
+use Rattle.row_laws.proofs.Members.{each_drop, each_got, each_take}
 
 -- ** Rows that are found
-
-each-rows : {A : Type 0} (P : A → Type 0) (xs : List A) → ((o : ℕ) (x : A) → slice_get xs o ≡ Some x → P x) → Each P xs
-each-rows P [] h = tt
-each-rows P (x ∷ xs) h = (h 0 x refl, each-rows P xs (λ o y e. h (suc o) y e))
-
-each-drop : {A : Type 0} (P : A → Type 0) (k : ℕ) (xs : List A) → Each P xs → Each P (drop k xs)
-each-drop P zero xs h = h
-each-drop P (suc k) [] h = tt
-each-drop P (suc k) (x ∷ xs) h = each-drop P k xs h.1
-
-each-take : {A : Type 0} (P : A → Type 0) (k : ℕ) (xs : List A) → Each P xs → Each P (take k xs)
-each-take P zero xs h = tt
-each-take P (suc k) [] h = tt
-each-take P (suc k) (x ∷ xs) h = (h.0, each-take P k xs h.1)
-
-find-kept : {A : Type 0} (P : A → Type 0) (test : A → Bool) (xs : List A) → Each P xs → WhereKept (find test xs) P
-find-kept P test [] h = tt
-find-kept P test (x ∷ xs) h = either (λ o. WhereKept o P) (test x) (Some x) (find test xs) h.0 (find-kept P test xs h.1)
 
 over : (a b c : Bool) → b ≡ true → (a || b || c) ≡ true
 over true b c e = refl
 over false true c e = refl
 over false false c e = absurd cc
-
-clash : {A : Type 0} (b : Bool) → b ≡ true → b ≡ false → A
-clash true e f = absurd cc
-clash false e f = absurd cc
 
 module _ (q : Step → Type 0) (seen : ℕ → Type 0) (cells bytes : ℕ) (c : Context) (n from : ℕ) (set : Setting q seen cells bytes c) where
   abbrev R : Part → Type 0
@@ -148,9 +130,9 @@ module _ (q : Step → Type 0) (seen : ℕ → Type 0) (cells bytes : ℕ) (c : 
 
   field_rows : (t : Place) (name : ℕ) (m : RowMeaning) → WhereKept (field_of_by c.scene t name m) (λ r. HasOperands c.scene (row_meaning r))
   field_rows t name (Record first size) =
-      find-kept (λ r. HasOperands c.scene (row_meaning r)) (is_field t.ordinal name) (rows_between c.scene t.scope first t.ordinal)
-      (each-take _ (t.ordinal - first) (drop first (rows_at c.scene.tables t.scope))
-      (each-drop _ first (rows_at c.scene.tables t.scope) (each-rows _ (rows_at c.scene.tables t.scope) (λ o r e. set.rows.rows t.scope o r e))))
+      each_found (λ r. HasOperands c.scene (row_meaning r)) (is_field t.ordinal name) (rows_between c.scene t.scope first t.ordinal)
+      (each_take _ (t.ordinal - first) (drop first (rows_at c.scene.tables t.scope))
+      (each_drop _ first (rows_at c.scene.tables t.scope) (each_got _ (rows_at c.scene.tables t.scope) (λ o r e. set.rows.rows t.scope o r e))))
   field_rows t name m = tt
 
   field-has : (t : Place) (name : ℕ) → WhereKept (field_of c.scene t name) (λ r. HasOperands c.scene (row_meaning r))
@@ -283,7 +265,7 @@ module _ (q : Step → Type 0) (seen : ℕ → Type 0) (cells bytes : ℕ) (c : 
 
   array_argument-r : (want : Place) (at : ℕ) (x : Coded) (m : RowMeaning) → HasOperands c.scene m → CX x → GR (array_argument c want at x m)
   array_argument-r want at x (Array i t s) h g =
-      by_test GR (is_broken c.scene i) (gives None) (alike c want at x (Array i t s) t) (λ e. tt) (λ e. alike-r want at x (Array i t s) t h e g)
+      either_by GR (is_broken c.scene i) (gives None) (alike c want at x (Array i t s) t) (λ e. tt) (λ e. alike-r want at x (Array i t s) t h e g)
   array_argument-r want at x (OpenArray t) h g = alike-r want at x (OpenArray t) t h tt g
   array_argument-r want at x m h g = tt
 
@@ -303,7 +285,7 @@ module _ (q : Step → Type 0) (seen : ℕ → Type 0) (cells bytes : ℕ) (c : 
   mode-r p at x g w =
       either GR (is_open_array c.scene p.typ) (open_argument c (open_element (kind_of c.scene p.typ)) at x x.operand) _
       (open_go (open_element (kind_of c.scene p.typ)) at x x.operand g.0 g)
-      (by_test GR p.by_ref (by_address c p.typ at x) (by_value c p.typ at x) (λ e. address_go p.typ at x.code x.operand g.1.0) (λ e. by_value-r p.typ at x (w e)))
+      (either_by GR p.by_ref (by_address c p.typ at x) (by_value c p.typ at x) (λ e. address_go p.typ at x.code x.operand g.1.0) (λ e. by_value-r p.typ at x (w e)))
 
   checked-r : (p : Parameter) (at : ℕ) (x : Coded) → CX x → (p.by_ref ≡ false → CW x) → GR (checked_mode c p at x)
   checked-r p at x g w =
@@ -312,7 +294,7 @@ module _ (q : Step → Type 0) (seen : ℕ → Type 0) (cells bytes : ℕ) (c : 
 
   pub argument-r : (p : Parameter) (at : ℕ) (x : Coded) → CX x → GR (argument c p at x)
   argument-r p at x g =
-      by_test GR p.by_ref (checked_mode c p at x) (and_then (as_value c at x) (checked_mode c p at)) (λ e. checked-r p at x g (λ f. clash p.by_ref e f))
+      either_by GR p.by_ref (checked_mode c p at x) (and_then (as_value c at x) (checked_mode c p at)) (λ e. checked-r p at x g (λ f. absurd (both_ways p.by_ref f e)))
       (λ e. let v : CW (as_value c at x).value = as_value-w q seen cells bytes c n from set at x g in
       checked-r p at (as_value c at x).value (worth-x q seen cells bytes c n from set (as_value c at x).value v) (λ f. v))
 

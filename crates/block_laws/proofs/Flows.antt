@@ -8,6 +8,7 @@ use Rattle.m2_base.specs.Lists.{Each}
 use Rattle.m2_base.specs.Statics.Cells.{capped}
 use Rattle.stmt_sem.specs.Flows.{Flow, Run, back, choose, counted, exit, for_ever, in_with, jump_size, nothing, straight, until_true, when, while_true, with_cell, ◌⨾◌}
 use Rattle.block_laws.proofs.Parts.{IsKept, IsSpot, Leads, Right, kept-on, leads-then, stays}
+use Rattle.m2_base.proofs.EachLaws.{each_append}
 
 -- q of each step of a flow, where its cells and bytes end in time
 abbrev pub Flows : (q : Step → Type 0) → (cells bytes withs from : ℕ) → Flow → Type 0
@@ -21,10 +22,6 @@ module _ (q : Step → Type 0) (cells bytes withs from : ℕ) (always : (j : ℤ
 
   abbrev F : Flow → Type 0
   F f = Flows q cells bytes withs from f
-
-  append : (a b : List Step) → Each q a → Each q b → Each q (a ++ b)
-  append [] b f g = g
-  append (s ∷ ss) b f g = (f.0, append ss b f.1 g)
 
   two : (a b c : Spot) (xs ys : List ℕ) → Leads withs from a xs b → Leads withs from b ys c → Leads withs from a (xs ++ ys) c
   two a b c xs ys f g = leads-then q cells bytes withs from a b c xs ys f g
@@ -46,7 +43,7 @@ module _ (q : Step → Type 0) (cells bytes withs from : ℕ) (always : (j : ℤ
       let y = g p.next x.0.spot in (
         two at p.next r.next p.bytes r.bytes x.0 y.0,
         λ u v o. let d = y.0.cells in let e = y.0.bytes in
-            append (p.code (o + steps_size (r.code o))) (r.code o) (x.1 (omega (arith, u, d)) (omega (arith, v, e)) (o + steps_size (r.code o))) (y.1 u v o),
+            each_append q (p.code (o + steps_size (r.code o))) (r.code o) (x.1 (omega (arith, u, d)) (omega (arith, v, e)) (o + steps_size (r.code o))) (y.1 u v o),
       )
 
   pub when-flow : (t : Part) (f : Flow) → R t → F f → F (when t f)
@@ -57,7 +54,7 @@ module _ (q : Step → Type 0) (cells bytes withs from : ℕ) (always : (j : ℤ
       let y = k p.next x.0.spot in (
         two at p.next r.next p.bytes r.bytes x.0 y.0,
         λ u v o. let d = y.0.cells in let e = y.0.bytes in
-            append p.code (plain_step (JumpFalse (pos (steps_size (r.code o)))) ∷ r.code o) (x.1 (omega (arith, u, d)) (omega (arith, v, e)))
+            each_append q p.code (plain_step (JumpFalse (pos (steps_size (r.code o)))) ∷ r.code o) (x.1 (omega (arith, u, d)) (omega (arith, v, e)))
             (unless (pos (steps_size (r.code o))), y.1 u v o),
       )
 
@@ -79,8 +76,8 @@ module _ (q : Step → Type 0) (cells bytes withs from : ℕ) (always : (j : ℤ
             let m : ℕ = o + steps_size behind + jump_size in
             let inner : List Step = r.code m in
             let last : List Step = plain_step (Jump (pos (steps_size behind))) ∷ behind in
-            append p.code (plain_step (JumpFalse (pos (steps_size inner + jump_size))) ∷ (inner ++ last)) (x.1 (omega (arith, u, a, d)) (omega (arith, v, b, e)))
-            (unless (pos (steps_size inner + jump_size)), append inner last (y.1 (omega (arith, u, d)) (omega (arith, v, e)) m) (always (pos (steps_size behind)), z.1 u v o)),
+            each_append q p.code (plain_step (JumpFalse (pos (steps_size inner + jump_size))) ∷ (inner ++ last)) (x.1 (omega (arith, u, a, d)) (omega (arith, v, b, e)))
+            (unless (pos (steps_size inner + jump_size)), each_append q inner last (y.1 (omega (arith, u, d)) (omega (arith, v, e)) m) (always (pos (steps_size behind)), z.1 u v o)),
       )
 
   pub while-flow : (t : Part) (f : Flow) → R t → F f → F (while_true t f)
@@ -95,8 +92,8 @@ module _ (q : Step → Type 0) (cells bytes withs from : ℕ) (always : (j : ℤ
             let e = y.0.bytes in
             let inner : List Step = r.code (o + jump_size) in
             let last : List Step = back Jump (steps_size p.code + jump_size + steps_size inner) ∷ [] in
-            append p.code (plain_step (JumpFalse (pos (steps_size inner + jump_size))) ∷ (inner ++ last)) (x.1 (omega (arith, u, d)) (omega (arith, v, e)))
-            (unless (pos (steps_size inner + jump_size)), append inner last (y.1 u v (o + jump_size)) (always _, tt)),
+            each_append q p.code (plain_step (JumpFalse (pos (steps_size inner + jump_size))) ∷ (inner ++ last)) (x.1 (omega (arith, u, d)) (omega (arith, v, e)))
+            (unless (pos (steps_size inner + jump_size)), each_append q inner last (y.1 u v (o + jump_size)) (always _, tt)),
       )
 
   pub until-flow : (f : Flow) (t : Part) → F f → R t → F (until_true f t)
@@ -111,7 +108,7 @@ module _ (q : Step → Type 0) (cells bytes withs from : ℕ) (always : (j : ℤ
             let e = x.0.bytes in
             let m : ℕ = o + steps_size p.code + jump_size in
             let last : List Step = back JumpFalse (steps_size (r.code m) + steps_size p.code) ∷ [] in
-            append (r.code m) (p.code ++ last) (y.1 (omega (arith, u, d)) (omega (arith, v, e)) m) (append p.code last (x.1 u v) (unless _, tt)),
+            each_append q (r.code m) (p.code ++ last) (y.1 (omega (arith, u, d)) (omega (arith, v, e)) m) (each_append q p.code last (x.1 u v) (unless _, tt)),
       )
 
   pub for_ever-flow : (f : Flow) → F f → F (for_ever f)
@@ -119,7 +116,7 @@ module _ (q : Step → Type 0) (cells bytes withs from : ℕ) (always : (j : ℤ
       let r : Run = f at in
       let y = k at h in (
         y.0,
-        λ u v o. append (r.code jump_size) (back Jump (steps_size (r.code jump_size)) ∷ []) (y.1 u v jump_size) (always _, tt),
+        λ u v o. each_append q (r.code jump_size) (back Jump (steps_size (r.code jump_size)) ∷ []) (y.1 u v jump_size) (always _, tt),
       )
 
   pub counted-flow : (first : Part) (f : Flow) (again step : Part) → R first → F f → R again → R step → F (counted first f again step)
@@ -145,11 +142,11 @@ module _ (q : Step → Type 0) (cells bytes withs from : ℕ) (always : (j : ℤ
             let inner : List Step = r.code (o + behind) in
             let last : List Step = back Jump (steps_size inner + steps_size a.code + jump_size + steps_size s.code) ∷ [] in
             let third : List Step = plain_step (JumpFalse (pos (steps_size s.code + jump_size))) ∷ (s.code ++ last) in
-            append p.code (plain_step (JumpFalse (pos (steps_size inner + behind))) ∷ (inner ++ (a.code ++ third)))
+            each_append q p.code (plain_step (JumpFalse (pos (steps_size inner + behind))) ∷ (inner ++ (a.code ++ third)))
             (x.1 (omega (arith, u, c1, c2, c3)) (omega (arith, v, b1, b2, b3))) (
               unless (pos (steps_size inner + behind)),
-              append inner (a.code ++ third) (y.1 (omega (arith, u, c2, c3)) (omega (arith, v, b2, b3)) (o + behind))
-                  (append a.code third (z.1 (omega (arith, u, c3)) (omega (arith, v, b3))) (unless (pos (steps_size s.code + jump_size)), append s.code last (w.1 u v) (always _, tt))),
+              each_append q inner (a.code ++ third) (y.1 (omega (arith, u, c2, c3)) (omega (arith, v, b2, b3)) (o + behind))
+                  (each_append q a.code third (z.1 (omega (arith, u, c3)) (omega (arith, v, b3))) (unless (pos (steps_size s.code + jump_size)), each_append q s.code last (w.1 u v) (always _, tt))),
             ),
       )
 

@@ -2,7 +2,7 @@
 -- diagnostic.
 use Rattle.std.specs.Prelude.{◌≡◌, refl, ℕ, zero, suc, ◌+◌, ◌<◌, ◌≤◌, ◌==◌, ◌&&◌, Bool, true, false, is_some, if◌then◌else◌, List, [], ◌∷◌, ◌++◌, slice_get, unwrap_or, Option, Some, None}
 use Rattle.std.proofs.Common.{ap, subst, sym, ◌∙◌, inl, inr, arith}
-use Rattle.std.proofs.lemmas.Bool.{eq-eqb, eqb-true}
+use Rattle.std.proofs.lemmas.Bool.{eq-eqb, eqb-true, and_parts}
 use Rattle.expr_sem.specs.Calls.{cells_of, cells_of_all, result_cells}
 use Rattle.m2_base.specs.Lists.{Each, IsIn, WhereKept}
 use Rattle.m2_base.specs.Rows.{at_place, row_meaning}
@@ -27,6 +27,8 @@ use Rattle.m2_base.specs.declared.rows.Row.{Row}
 use Rattle.m2_base.specs.declared.rows.RowMeaning.TheVariants.{OpenArray, Proc}
 use Rattle.m2_base.specs.declared.rows.RowMeaning.{RowMeaning}
 use Rattle.m2_base.specs.declared.trees.Ident.{Ident}
+use Rattle.row_laws.proofs.Joined.{none_left}
+use Rattle.row_laws.proofs.Members.{each_in, each_at}
 use Rattle.row_laws.proofs.Whole.{whole-rows}
 use Rattle.row_laws.specs.Procedures.{IsDeclared, IsSeenAs, IsTypeOf}
 use Rattle.stmt_sem.specs.BlockCode.{body_of, run_of, size_diags}
@@ -34,8 +36,6 @@ use Rattle.block_laws.specs.Headings.{HasNamedHeadings, IsNamedProcedure}
 use Rattle.row_laws.specs.Headings.{AreSoundFor, HasSoundHeadings, HasSoundParameters}
 use Rattle.block_laws.proofs.BlocksAt.{unit_made}
 use Rattle.block_laws.proofs.Chains.{Stands, blocks_stand}
-use Rattle.block_laws.proofs.Links.{in_each}
-use Rattle.block_laws.proofs.Lone.{each-at}
 use Rattle.block_laws.proofs.OwnCalls.{same_cells}
 use Rattle.block_laws.proofs.UnitWorlds.{IsClear, declared, earlier, form, made, there, told}
 use Rattle.block_laws.proofs.Values.{named_at}
@@ -79,10 +79,6 @@ fine_row c own (x ∷ rows) o h n r t k s e m named = by_place n e (λ j g f. fi
         (this (x.name == 0) refl (λ g. named (sym (ap (λ (y : Row). y.name) same) ∙ g)) h)
 
 -- from the diagnostics of the module's block
-pub none_left : {A : Type 0} (xs ys : List A) → xs ++ ys ≡ [] → (xs ≡ []) × (ys ≡ [])
-none_left [] ys e = (refl, e)
-none_left (x ∷ xs) ys e = absurd cc
-
 fine_by : (c : Context) (name : Option Ident) (i : Ident) (all : List Implemented) → name ≡ Some i → implementation_diags c name all ≡ [] → Fine c all
 fine_by c None i all e h = absurd cc
 fine_by c (Some j) i all e h = by_missing (diag c j.at not_implemented) (has_missing all) refl h
@@ -131,10 +127,6 @@ entry_place tables s name e h = by_hit (first_named name (rows_at tables s) 0) r
         subst (λ (x : Entry). (n : ℕ) × (x ≡ (at_place s n, x.1)) × (slice_get (rows_at tables s) n ≡ Some x.1)) same (hit.0, refl, there)
 
 -- ** The same form
-
-both_true : (a b : Bool) → (a && b) ≡ true → (a ≡ true) × (b ≡ true)
-both_true true b e = (refl, e)
-both_true false b e = absurd cc
 
 three_true : (a b c : Bool) → (a && b && c) ≡ true → (a ≡ true) × (b ≡ true) × (c ≡ true)
 three_true true true true e = (refl, refl, refl)
@@ -186,14 +178,14 @@ module _ (names : List (List ℕ)) (u : UnitTrees) (is : IsClear names u) (sound
   typed q j n r t k s e m =
       let here : slice_get (made names u is q).rows n ≡ Some r = subst (λ (rs : List Row). slice_get rs n ≡ Some r) (unit_made u is.sound.scopes q j) e in
       let d = subst (IsDeclared (IsSeenAs u q) q.tree.kind q.block (made names u is q).value.headings (items_of q.tree)) m
-      (each-at (λ (y : Row). IsDeclared (IsSeenAs u q) q.tree.kind q.block (made names u is q).value.headings (items_of q.tree) (row_meaning y)) (made names u is q).rows (declared names u is q j) n r here) in
+      (each_at (λ (y : Row). IsDeclared (IsSeenAs u q) q.tree.kind q.block (made names u is q).value.headings (items_of q.tree) (row_meaning y)) (made names u is q).rows (declared names u is q j) n r here) in
       (d.0, d.6)
 
   cells_is : (scene : Scene) (h : Heading) (t : Place) → IsTypeOf scene h t → cells_of_all scene (parameters scene t) ≡ parameter_cells h.sections
   cells_is scene h t k = sym (same_cells scene (parameters scene t)) ∙ k.cells
 
   level_is : (m : BlockTree) → IsIn m (blocks_of u) → m.block.scope ≡ home_of u → m.block.level ≡ 0
-  level_is m j e = by_place (in_each _ (blocks_of u) m (blocks_stand u) j (omega (arith, e)))
+  level_is m j e = by_place (each_in _ (blocks_of u) m (blocks_stand u) j (omega (arith, e)))
     where
       by_place : Stands u (blocks_of u) m.block → m.block.level ≡ 0
       by_place (inl h) = h.level
@@ -232,7 +224,7 @@ module _ (names : List (List ℕ)) (u : UnitTrees) (is : IsClear names u) (sound
       let rows_home : rows_at (scene_of main).tables (home_of u) ≡ rows_at (unit_rows u) (home_of u) = whole-rows (unit_rows u) main.block (home_of u) there_main (omega (arith, at_home)) in
       let all_named : Each (λ (y : Row). IsNamedProcedure y.name (row_meaning y)) (rows_at (unit_rows u) own) =
       subst (λ (o : Option ℕ). WhereKept o (λ q. Each (λ (y : Row). IsNamedProcedure y.name (row_meaning y)) (rows_at (unit_rows u) q))) f named in
-      let has_name : r.name ≡ 0 → ⊥ = subst (IsNamedProcedure r.name) m (each-at (λ (y : Row). IsNamedProcedure y.name (row_meaning y)) (rows_at (unit_rows u) own) all_named n r e) in
+      let has_name : r.name ≡ 0 → ⊥ = subst (IsNamedProcedure r.name) m (each_at (λ (y : Row). IsNamedProcedure y.name (row_meaning y)) (rows_at (unit_rows u) own) all_named n r e) in
       let right = fine_row (complete_context u.source (unit_rows u) main.block) own (rows_at (scene_of main).tables own) 0 (closed main home.1 home.2 own f) n r t k s
       (ap (λ (rs : List Row). slice_get rs n) rows_own ∙ e) m has_name in
       let entry : Option Entry = entry_in (unit_rows u) (home_of u) r.name in
@@ -242,12 +234,12 @@ module _ (names : List (List ℕ)) (u : UnitTrees) (is : IsClear names u) (sound
       let place = entry_place (unit_rows u) (home_of u) r.name found.e found.there in
       let mine = typed definition.0 definition.1 n r t k s (ap (λ (z : ℕ). slice_get (rows_at (unit_rows u) z) n) at_own ∙ e) m in
       let its = typed main home.1 place.0 found.e.1 found.typ found.number found.scope (ap (λ (z : ℕ). slice_get (rows_at (unit_rows u) z) place.0) at_home ∙ place.2) found.means in
-      let form_is = both_true (are_same_parameters (scene_of main) (parameters (scene_of main) t) (parameters (scene_of main) found.typ))
+      let form_is = and_parts (are_same_parameters (scene_of main) (parameters (scene_of main) t) (parameters (scene_of main) found.typ))
       (is_same_result (scene_of main) (result_of_type (scene_of main) t) (result_of_type (scene_of main) found.typ)) found.same in
       let sound_mine = subst (HasSoundParameters (scene_of main)) m
-      (each-at (λ (y : Row). HasSoundParameters (scene_of main) (row_meaning y)) (rows_at (unit_rows u) own) (sounds.0 main home.1 at_home) n r e) in
+      (each_at (λ (y : Row). HasSoundParameters (scene_of main) (row_meaning y)) (rows_at (unit_rows u) own) (sounds.0 main home.1 at_home) n r e) in
       let sound_its = subst (HasSoundParameters (scene_of main)) found.means
-      (each-at (λ (y : Row). HasSoundParameters (scene_of main) (row_meaning y)) (rows_at (unit_rows u) (home_of u)) (sounds.1 main home.1 at_home) place.0 found.e.1 place.2) in
+      (each_at (λ (y : Row). HasSoundParameters (scene_of main) (row_meaning y)) (rows_at (unit_rows u) (home_of u)) (sounds.1 main home.1 at_home) place.0 found.e.1 place.2) in
       let mine_here = mine.1 main home.1 (omega (arith, low, at_own, at_home)) in
       let its_here = its.1 main home.1 (omega arith) in
       let cells : parameter_cells its.0.sections ≡ parameter_cells mine.0.sections =

@@ -9,6 +9,7 @@ pub mod Flows
 pub mod Actions
 pub mod Statements
 pub mod InRange
+pub mod Copies
 pub mod Lone
 pub mod Named
 pub mod LoneUnits

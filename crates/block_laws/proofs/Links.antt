@@ -14,6 +14,7 @@ use Rattle.m2_base.specs.declared.rows.Row.{Row}
 use Rattle.row_laws.specs.RowRanges.{IsBelow}
 use Rattle.stmt_sem.specs.BlockCode.{outer_of as outer_number, params_of, results_of}
 use Rattle.block_laws.proofs.Chains.{IsInner, Stands, blocks_stand, first_behind, first_here, level_by}
+use Rattle.row_laws.proofs.Members.{each_in}
 
 -- the procedure that a world has of a block of the main text, and that its cells are those of the rows
 pub record HasProcedure (w : World) (home : ℕ) (all : List (List Row)) (b : BlockTree) : Type 0 where
@@ -23,11 +24,6 @@ pub record HasProcedure (w : World) (home : ℕ) (all : List (List Row)) (b : Bl
   pub params : p.params ≡ params_of b.tree.heading
   pub result : p.result ≡ results_of b.tree.heading
   pub cells : home < b.block.scope → Each (λ r. IsBelow p.locals (row_meaning r)) (rows_at all b.block.scope)
-
-pub in_each : {A : Type 0} (P : A → Type 0) (xs : List A) (x : A) → Each P xs → IsIn x xs → P x
-in_each P [] x h k = absurd k
-in_each P (y ∷ xs) x h (inl e) = subst P (sym e) h.0
-in_each P (y ∷ xs) x h (inr k) = in_each P xs x h.1 k
 
 pub unequal : (m n : ℕ) → (m ≡ n → ⊥) → (m == n) ≡ false
 unequal m n h = by_test (m == n) refl
@@ -75,7 +71,7 @@ Outwards u n P Q = (o : BlockTree) → IsIn o (blocks_of u) → home_of u ≤ o.
 pub in_module : (u : UnitTrees) (n : ℕ) (b : BlockTree) → IsIn b (blocks_of u) → home_of u ≤ b.block.scope → b.block.scope < n → (s : ℕ) → IsIn s b.block.chain → level_of b.block s ≡ 0
     → (s ≡ home_of u) ⊎ (u.own ≡ Some s)
 in_module u zero b i behind below s h e = absurd (omega (arith, below))
-in_module u (suc n) b i behind below s h e = by_place (λ o j k l x. in_module u n o j k l s x.0 x.1) (in_each _ (blocks_of u) b (blocks_stand u) i behind)
+in_module u (suc n) b i behind below s h e = by_place (λ o j k l x. in_module u n o j k l s x.0 x.1) (each_in _ (blocks_of u) b (blocks_stand u) i behind)
   where
     of_module : (o : Option ℕ) → u.own ≡ o → IsIn s (with_own (home_of u ∷ []) o) → (s ≡ home_of u) ⊎ (u.own ≡ Some s)
     of_module None f (inl same) = inl same
@@ -120,7 +116,7 @@ module _ (u : UnitTrees) (w : World) (all : List (List Row)) (procedures : (b : 
 
   pub reach : (n : ℕ) (b : BlockTree) → IsIn b (blocks_of u) → home_of u ≤ b.block.scope → b.block.scope < n → (s : ℕ) → (level_of b.block s ≡ 0 → ⊥) → Reaches u w b s
   reach zero b i behind below s h = absurd (omega (arith, below))
-  reach (suc n) b i behind below s h = by_place (λ o j k l x. reach n o j k l s x) (in_each _ (blocks_of u) b (blocks_stand u) i behind)
+  reach (suc n) b i behind below s h = by_place (λ o j k l x. reach n o j k l s x) (each_in _ (blocks_of u) b (blocks_stand u) i behind)
     where
       of_inner : Outwards u n (λ o. level_of o.block s ≡ 0 → ⊥) (λ o. Reaches u w o s) → (g : IsInner u (blocks_of u) b.block) (t : Bool) → (b.block.scope == s) ≡ t → Reaches u w b s
       of_inner go g true f =
@@ -140,7 +136,7 @@ module _ (u : UnitTrees) (w : World) (all : List (List Row)) (procedures : (b : 
           let lower = g.lower in
           let same = level_behind u (blocks_of u) b.block g s f in
           let r = go g.outer g.there g.behind (omega (arith, lower, below)) (λ e. h (same ∙ e)) in
-          let first = begins u (blocks_of u) g.outer.block (in_each _ (blocks_of u) g.outer (blocks_stand u) g.there g.behind) in
+          let first = begins u (blocks_of u) g.outer.block (each_in _ (blocks_of u) g.outer (blocks_stand u) g.there g.behind) in
           let out : outer_of w (b.block.scope - home_of u) ≡ g.outer.block.scope - home_of u = outer_at b i behind ∙ outer_is u (blocks_of u) b.block g first in
           let far = r.behind in
           let low = r.before in

@@ -1,5 +1,5 @@
 -- The code of the only block of a unit without procedures and imports is valid: its rows name what is there.
-use Rattle.std.specs.Prelude.{◌≡◌, refl, ℕ, zero, suc, ◌+◌, ◌<◌, ◌≤◌, ◌==◌, ◌||◌, Bool, true, if◌then◌else◌, List, [], ◌∷◌, slice_get, Some}
+use Rattle.std.specs.Prelude.{◌≡◌, refl, ℕ, ◌+◌, ◌<◌, ◌≤◌, ◌==◌, ◌||◌, Bool, true, if◌then◌else◌, List, [], slice_get, Some}
 use Rattle.std.proofs.Common.{ap, subst, sym, arith, ◌∙◌}
 use Rattle.std.proofs.lemmas.Bool.{eq-eqb, lt-ltb}
 use Rattle.code_form.specs.Modules.{Procedure, World}
@@ -18,7 +18,7 @@ use Rattle.m2_base.specs.declared.rows.RowMeaning.{RowMeaning}
 use Rattle.m2_base.specs.Statics.BlockRows.{declare_block}
 use Rattle.m2_base.specs.Statics.Blocks.{BlockTree}
 use Rattle.m2_base.specs.Statics.Contexts.{Context, Scene, Source, level_of}
-use Rattle.m2_base.specs.Statics.Effects.{BlockEffects, ParamCopy}
+use Rattle.m2_base.specs.Statics.Effects.{BlockEffects}
 use Rattle.m2_base.specs.Statics.UnitNotes.{complete_context}
 use Rattle.m2_base.specs.Tables.{rows_at}
 use Rattle.m2_base.specs.declared.trees.declarations.StreamKind.{StreamKind}
@@ -28,18 +28,12 @@ use Rattle.stmt_sem.specs.Tokens.{block_tokens}
 use Rattle.block_laws.specs.Lone.{AreOfLone, IsLone, IsOfLone, lone_world}
 use Rattle.block_laws.specs.Named.{BlockNamesThere, HasCode, procedure_of}
 use Rattle.m2_base.specs.Statics.ReadStatements.{AreReadStatements}
-use Rattle.row_laws.specs.RowRanges.{BlockInRange, IsBelow, IsCopyBelow}
+use Rattle.row_laws.specs.RowRanges.{BlockInRange, IsBelow}
 use Rattle.block_laws.specs.Sight.{IsDeclared, RowsNameThere}
+use Rattle.block_laws.proofs.Copies.{none_copied}
 use Rattle.block_laws.proofs.InRange.{sees-all}
 use Rattle.block_laws.proofs.Named.{block-code-valid}
-
-pub each-at : {A : Type 0} (P : A → Type 0) (xs : List A) → Each P xs → (k : ℕ) (x : A) → slice_get xs k ≡ Some x → P x
-each-at P [] h k x e = absurd cc
-each-at P (y ∷ xs) h zero x e = subst P (one e) h.0
-  where
-    one : Some y ≡ Some x → y ≡ x
-    one f = cc
-each-at P (y ∷ xs) h (suc k) x e = each-at P xs h.1 k x e
+use Rattle.row_laws.proofs.Members.{each_at}
 
 module _ (scene : Scene) (home : scene.block.home ≡ scene.block.scope) (rows : AreOfLone scene) (e : BlockEffects) (below : Each (λ r. IsBelow e.cell (row_meaning r)) (rows_at scene.tables scene.block.scope)) (p : Procedure) where
   abbrev w : World
@@ -51,7 +45,7 @@ module _ (scene : Scene) (home : scene.block.home ≡ scene.block.scope) (rows :
   cell-below : (name : ℕ) (t : Place) (mode : Mode) (o : ℕ) (d : IsDeclared (λ s. Unit {0}) scene name (Var t mode o)) → IsBelow e.cell (Var t mode o)
   cell-below name t mode o d =
       subst (IsBelow e.cell) d.means
-      (each-at (λ r. IsBelow e.cell (row_meaning r)) (rows_at scene.tables scene.block.scope) below d.place.ordinal d.row
+      (each_at (λ r. IsBelow e.cell (row_meaning r)) (rows_at scene.tables scene.block.scope) below d.place.ordinal d.row
       (subst (λ (s : ℕ). slice_get (rows_at scene.tables s) d.place.ordinal ≡ Some d.row) (of-lone name (Var t mode o) d) d.there))
 
   first-below : (t : Place) (mode : Mode) (o : ℕ) → IsBelow e.cell (Var t mode o) → o < e.cell
@@ -79,10 +73,6 @@ module _ (scene : Scene) (home : scene.block.home ≡ scene.block.scope) (rows :
 has-code : (kind : StreamKind) → kind ≡ Main → HasCode kind
 has-code kind e = subst HasCode (sym e) tt
 
-no-copies : (cells : ℕ) (ds : List ParamCopy) → ds ≡ [] → Each (IsCopyBelow cells) ds
-no-copies cells [] e = tt
-no-copies cells (d ∷ ds) e = absurd cc
-
 -- the code of a lone module is valid
 pub lone-valid : (names : List (List ℕ)) (source : Source) (before all : List (List Row)) (b : BlockTree) → IsLone source before all b → BlockInRange source before all b
     → AreReadStatements names b.tree.body → block_tokens b.tree ≤ 1048576 → block_diags source before all b ≡ []
@@ -96,7 +86,7 @@ lone-valid names source before all b lone h read few told =
       name = lone.name;
       named = lone.named;
       there = refl;
-      copies = λ f. no-copies _ e.prologue lone.nothing_copied;
+      copies = λ f. none_copied _ e.prologue lone.nothing_copied;
       rows = λ f. lone-rows c.scene lone.home lone.rows e (lone.cells.variables f) p;
     } in
     block-code-valid (λ s. Unit {0}) names source before all b (lone_world e.cell p) 0 there h read few told

@@ -1,6 +1,6 @@
 -- The code of a unit of one text without procedures is valid.
-use Rattle.std.specs.Prelude.{◌≡◌, refl, ℕ, zero, suc, ◌+◌, ◌≤◌, List, [], ◌∷◌, ◌++◌}
-use Rattle.std.proofs.Common.{ap, subst, sym, ◌∙◌, inl, inr}
+use Rattle.std.specs.Prelude.{◌≡◌, refl, ℕ, zero, suc, ◌≤◌, List, [], ◌∷◌, ◌++◌}
+use Rattle.std.proofs.Common.{ap, subst, sym, inl, inr}
 use Rattle.code_form.specs.Valid.{IsValidCode}
 use Rattle.m2_base.specs.Lists.{Each, IsIn}
 use Rattle.m2_base.specs.Rows.{row_meaning}
@@ -9,18 +9,16 @@ use Rattle.m2_base.specs.declared.rows.Row.{Row}
 use Rattle.m2_base.specs.declared.rows.RowMeaning.{RowMeaning}
 use Rattle.m2_base.specs.declared.rows.RowMeaning.TheVariants.{Proc, Var}
 use Rattle.m2_base.specs.Standard.{standard_rows}
-use Rattle.m2_base.specs.Statics.BlockRows.{declare_block, declare_items}
+use Rattle.m2_base.specs.Statics.BlockRows.{declare_block}
 use Rattle.m2_base.specs.Statics.Blocks.{BlockTree, UnitTrees, blocks_of, definition_blocks, main_block}
-use Rattle.m2_base.specs.Statics.Contexts.{Context, DefinitionModule, Scene, Source}
-use Rattle.m2_base.specs.Statics.Declarations.{declare}
+use Rattle.m2_base.specs.Statics.Contexts.{DefinitionModule, Scene, Source}
 use Rattle.m2_base.specs.Statics.Effects.{BlockEffects}
-use Rattle.m2_base.specs.Statics.Items.{Item, const_item, heading_item, import_item, items_of, proc_item, type_item, vars_item}
+use Rattle.m2_base.specs.Statics.Items.{Item, heading_item, items_of, proc_item}
 use Rattle.m2_base.specs.Statics.UnitNotes.{complete_context}
 use Rattle.m2_base.specs.Statics.UnitRows.{rows_from, unit_rows}
 use Rattle.m2_base.specs.Tables.{rows_at}
 use Rattle.m2_base.specs.Trees.{Heading, Stream}
 use Rattle.m2_base.specs.declared.outputs.HeadingNote.{HeadingNote}
-use Rattle.m2_base.specs.declared.trees.declarations.StreamKind.{StreamKind}
 use Rattle.row_laws.specs.Procedures.{IsDeclared, IsSeenAs, ProceduresAreDeclared}
 use Rattle.row_laws.specs.RowRanges.{BlockInRange, CellsAreThere, EachBlock}
 use Rattle.stmt_sem.specs.BlockCode.{block_code, block_diags}
@@ -28,7 +26,11 @@ use Rattle.stmt_sem.specs.Tokens.{block_tokens}
 use Rattle.block_laws.specs.Lone.{AreOfLone, IsLone, IsLoneTree, IsOfLone, IsPlainItem, lone_unit, lone_world}
 use Rattle.block_laws.specs.Named.{procedure_of}
 use Rattle.m2_base.specs.Statics.ReadStatements.{AreReadStatements}
-use Rattle.block_laws.proofs.Lone.{each-at, lone-valid}
+use Rattle.block_laws.proofs.Copies.{inner_copies}
+use Rattle.block_laws.proofs.Lone.{lone-valid}
+use Rattle.row_laws.proofs.Members.{each_at}
+use Rattle.row_laws.proofs.PlacingItems.{IsInner}
+use Rattle.m2_base.proofs.EachLaws.{each_then}
 
 -- ** Its only block, and its rows
 
@@ -56,24 +58,13 @@ of-only P source tree h = (subst (EachBlock P source (standard_rows ∷ [])) (lo
 
 -- ** Nothing is copied first
 
-no-copy : (c : Context) (kind : StreamKind) (x : Item) (cell : ℕ) → IsPlainItem x → (declare c kind x cell).value.prologue ≡ []
-no-copy c kind (import_item from i) cell h = refl
-no-copy c kind (const_item i value) cell h = refl
-no-copy c kind (type_item i typ) cell h = refl
-no-copy c kind (vars_item names typ) cell h = refl
-no-copy c kind (heading_item h') cell h = absurd h
-no-copy c kind (proc_item h' stream) cell h = absurd h
-
-no-copies : (items : List Item) (c : Context) (kind : StreamKind) (i cell : ℕ) → Each IsPlainItem items → (declare_items c kind i cell items).value.prologue ≡ []
-no-copies [] c kind i cell h = refl
-no-copies (x ∷ items) c kind i cell h = both (no-copy _ kind x cell h.0) (no-copies items _ kind (i + 1) _ h.1)
-  where
-    both : {A : Type 0} {xs ys : List A} → xs ≡ [] → ys ≡ [] → xs ++ ys ≡ []
-    both {A} {xs} {ys} e f = ap (λ (zs : List A). zs ++ ys) e ∙ f
+plain_inner : (x : Item) → IsPlainItem x → IsInner x
+plain_inner (heading_item h) k = absurd k
+plain_inner x k = tt
 
 nothing-copied : (source : Source) (tree : Stream) → Each IsPlainItem (items_of tree) → (declare_block source (standard_rows ∷ []) (lone_block source tree)).value.prologue ≡ []
 unfolding declare_block
-nothing-copied source tree h = no-copies (items_of tree) _ tree.kind 0 _ h
+nothing-copied source tree h = inner_copies (items_of tree) _ tree.kind 0 _ (each_then IsPlainItem IsInner (items_of tree) plain_inner h)
 
 -- ** No row declares a procedure
 
@@ -100,8 +91,8 @@ abbrev scene_over : Source → Stream → List (List Row) → Scene
 scene_over source tree all = (complete_context source all (lone_block source tree).block).scene
 
 of-two : (source : Source) (tree : Stream) (rows : List Row) → Each (λ r. IsOfLone 1 1 (row_meaning r)) rows → AreOfLone (scene_over source tree (standard_rows ∷ rows ∷ []))
-of-two source tree rows h zero o r e = each-at (λ x. IsOfLone 0 1 (row_meaning x)) standard_rows standard-of-lone o r e
-of-two source tree rows h (suc zero) o r e = each-at (λ x. IsOfLone 1 1 (row_meaning x)) rows h o r e
+of-two source tree rows h zero o r e = each_at (λ x. IsOfLone 0 1 (row_meaning x)) standard_rows standard-of-lone o r e
+of-two source tree rows h (suc zero) o r e = each_at (λ x. IsOfLone 1 1 (row_meaning x)) rows h o r e
 of-two source tree rows h (suc (suc s)) o r e = absurd cc
 
 -- ** The whole

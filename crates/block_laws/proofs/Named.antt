@@ -1,7 +1,7 @@
 -- The code of a block without diagnostics is valid where the rows in sight name what is there.
 use Rattle.std.specs.Prelude.{◌≡◌, refl, ℕ, ◌+◌, ◌<◌, ◌≤◌, ◌==◌, ◌||◌, Bool, true, false, nat_le, nat_lt, if◌then◌else◌, List, [], ◌∷◌, ◌++◌, length, map, slice_get, Option, Some, None}
 use Rattle.std.proofs.Common.{subst, sym, arith}
-use Rattle.std.proofs.lemmas.Bool.{lt-ltb, ltb-false}
+use Rattle.std.proofs.lemmas.Bool.{lt-ltb, ltb-false, or_parts}
 use Rattle.code_form.specs.Heights.{Step, step_among}
 use Rattle.code_form.specs.Modules.{Procedure, World}
 use Rattle.code_form.specs.Valid.{IsValidCode, callees_of, has_local, linked, names_what_is_there, when_there}
@@ -40,17 +40,9 @@ use Rattle.block_laws.proofs.Parts.{IsSpot, Leads, Leaves, names_nothing}
 use Rattle.block_laws.proofs.Coded.{Setting}
 use Rattle.block_laws.proofs.InRange.{block-in_range, block-leads, first-is_spot, same_instr}
 use Rattle.block_laws.proofs.Statements.{block-f, copy_instrs}
+use Rattle.row_laws.proofs.Joined.{none_left}
 
 -- ** The size of a block without diagnostics
-
-pub tail-none : {A : Type 0} (xs ys : List A) → xs ++ ys ≡ [] → ys ≡ []
-tail-none [] ys e = e
-tail-none (x ∷ xs) ys e = absurd cc
-
-neither : (a b : Bool) → (a || b) ≡ false → (a ≡ false) × (b ≡ false)
-neither false false e = (refl, refl)
-neither false true e = absurd cc
-neither true b e = absurd cc
 
 -- a diagnostic is told where the block has a name
 not_told : (c : Context) (t : Bool) (name : Option Ident) (i : Ident) → name ≡ Some i → (if t then too_many_at c name else []) ≡ [] → t ≡ false
@@ -60,7 +52,7 @@ not_told c false name i f e = refl
 
 pub small : (c : Context) (b : BlockTree) (cells bytes : ℕ) (i : Ident) → block_name b.tree ≡ Some i → size_by c b cells bytes ≡ [] → (cells ≤ most_cells) × (bytes ≤ most_cells)
 small c b cells bytes i named h =
-    let t = neither (nat_lt most_cells cells) (nat_lt most_cells bytes) (not_told c (nat_lt most_cells cells || nat_lt most_cells bytes) (block_name b.tree) i named h) in
+    let t = or_parts (nat_lt most_cells cells) (nat_lt most_cells bytes) (not_told c (nat_lt most_cells cells || nat_lt most_cells bytes) (block_name b.tree) i named h) in
     (ltb-false most_cells cells t.0, ltb-false most_cells bytes t.1)
 
 -- the cells and the bytes of a block that isn't too large
@@ -197,7 +189,7 @@ block-code-valid seen names source before all b w k n h read few told =
     let at : Spot = first_spot b.tree.kind e in
     let leads : Leads 0 0 at r.bytes r.next = block-leads names source before all b h read in
     let sized : size_diags c b b.tree.kind e r ≡ [] =
-    tail-none ((declare_block source before b).diags ++ closing_diags c b.tree ++ (body_of c b).diags) (size_diags c b b.tree.kind e r) told in
+    (none_left ((declare_block source before b).diags ++ closing_diags c b.tree ++ (body_of c b).diags) (size_diags c b b.tree.kind e r) told).1 in
     let fits : HasRoom e r = room c b b.tree.kind e r n.name n.coded n.named leads.cells sized in
     let counted : length p.bytes ≡ r.next.byte = from-zero 0 (length p.bytes) r.next.byte refl (leads.counted fits.bytes) in
     let rows : RowsNameThere seen w k p c.scene = n.rows fits.own in

@@ -1,11 +1,10 @@
 -- Each procedure that a block without diagnostics declares has a name in its row.
-use Rattle.std.specs.Prelude.{◌≡◌, ◌≢◌, refl, ℕ, ◌+◌, ◌<◌, ◌≤◌, ◌==◌, Bool, true, false, if◌then◌else◌, List, [], ◌∷◌, ◌++◌, flat_map, map, Option, Some, None}
-use Rattle.std.proofs.Common.{ap, subst, sym, ◌∙◌, arith}
-use Rattle.m2_base.proofs.EachLaws.{each_append}
+use Rattle.std.specs.Prelude.{◌≡◌, ◌≢◌, refl, ℕ, ◌+◌, ◌<◌, ◌≤◌, Bool, true, false, if◌then◌else◌, List, [], ◌∷◌, ◌++◌, flat_map, Option, Some, None}
+use Rattle.std.proofs.Common.{subst, sym, arith}
+use Rattle.m2_base.proofs.EachLaws.{each_append, each_then}
 use Rattle.m2_base.proofs.ItemLaws.{item_of, sections_of}
-use Rattle.m2_base.proofs.SoundTypes.{either}
 use Rattle.m2_base.specs.Lists.{Each, IsIn, WhereKept}
-use Rattle.m2_base.specs.Rows.{row_of, row_meaning, basic_of, natural, const_kind, type_name_kind, var_kind, proc_kind, module_kind, alias_kind, field_kind, param_kind, standard_kind, basic_kind, enum_kind, subrange_kind, array_kind, open_array_kind, record_kind, set_kind, pointer_kind, proc_type_kind, opaque_kind}
+use Rattle.m2_base.specs.Rows.{row_of, row_meaning}
 use Rattle.m2_base.specs.Standard.{is_standard}
 use Rattle.m2_base.specs.Statics.BlockRows.{at_item, brought_in, context_of, declare_block, declare_items, first_cell, scene_of}
 use Rattle.m2_base.specs.Statics.Blocks.{BlockTree, UnitTrees, blocks_of, home_of}
@@ -19,26 +18,25 @@ use Rattle.m2_base.specs.Statics.Makes.{makes_named, makes_row, next_place, one_
 use Rattle.m2_base.specs.Statics.ProcedureRows.{parameter_count, proc_number, proc_scope, section_rows, sections_length}
 use Rattle.m2_base.specs.Statics.ProcedureTypes.{result_type}
 use Rattle.m2_base.specs.Statics.ReadTrees.{IsReadItem}
-use Rattle.m2_base.specs.Statics.ShapedRows.{AreShaped, none_of, more_of}
-use Rattle.m2_base.specs.Statics.Shapes.{Shape, array_shapes, arms_shapes, field_shapes, fields_shapes, form_shapes, formal_shapes, open_shapes, own_section_shapes, section_shapes, tag_shapes, type_item_shapes, type_shapes, types_shapes}
+use Rattle.m2_base.specs.Statics.ShapedRows.{AreShaped}
+use Rattle.m2_base.specs.Statics.Shapes.{Shape, section_shapes}
 use Rattle.m2_base.specs.Statics.UnitNotes.{complete_context}
 use Rattle.m2_base.specs.Statics.UnitRows.{unit_rows}
 use Rattle.m2_base.specs.Tables.{rows_at}
-use Rattle.m2_base.specs.Trees.{TypeExpr, type_expr, TypeForm, named_type, enum_type, sub_type, array_type, record_type, set_type, pointer_type, proc_type, TypeExprs, no_types, more_types, FieldList, plain_fields, case_fields, FieldLists, no_fields, more_fields, variant_arm, VariantArms, no_variant_arms, more_variant_arms, Heading, Section}
+use Rattle.m2_base.specs.Trees.{Heading}
 use Rattle.m2_base.specs.declared.notes.Diag.{Diag}
 use Rattle.m2_base.specs.declared.rows.Row.{Row}
 use Rattle.m2_base.specs.declared.rows.RowMeaning.TheVariants.{Proc, ProcType}
 use Rattle.m2_base.specs.declared.rows.RowMeaning.{RowMeaning}
-use Rattle.m2_base.specs.declared.trees.Ident.{Ident}
-use Rattle.m2_base.specs.declared.trees.Qual.{Qual}
 use Rattle.m2_base.specs.declared.trees.declarations.StreamKind.{StreamKind}
-use Rattle.m2_base.specs.declared.trees.types.Formal.{Formal}
 use Rattle.stmt_sem.specs.BlockCode.{body_of, run_of, size_diags}
 use Rattle.row_laws.proofs.ImportedRows.{alias_shapes, import_aliases, own_shaped}
+use Rattle.row_laws.proofs.Joined.{none_left}
+use Rattle.row_laws.proofs.Members.{each_in}
+use Rattle.row_laws.proofs.PlainShapes.{IsNoProcedure, no_procedures}
+use Rattle.row_laws.proofs.TypeShapes.{HaveKinds, item_kinds, kind_of_meaning, sections_kinds, shaped_means}
 use Rattle.block_laws.specs.Headings.{HasNamedHeadings, IsNamedProcedure}
 use Rattle.block_laws.proofs.BlocksAt.{before_of, unit_made}
-use Rattle.block_laws.proofs.Implemented.{none_left}
-use Rattle.block_laws.proofs.Links.{in_each}
 use Rattle.block_laws.proofs.UnitWorlds.{IsClear, earlier, made, told}
 
 -- ** Rows that are no procedure's
@@ -46,101 +44,13 @@ use Rattle.block_laws.proofs.UnitWorlds.{IsClear, earlier, made, told}
 abbrev IsNamedRow : Row → Type 0
 IsNamedRow r = IsNamedProcedure r.name (row_meaning r)
 
-basic_named : (name n : ℕ) → IsNamedProcedure name (basic_of n)
-basic_named name n =
-    either (IsNamedProcedure name) (n == 1) _ _ tt (either (IsNamedProcedure name) (n == 2) _ _ tt (either (IsNamedProcedure name) (n == 3) _ _ tt
-    (either (IsNamedProcedure name) (n == 4) _ _ tt (either (IsNamedProcedure name) (n == 5) _ _ tt (either (IsNamedProcedure name) (n == 6) _ _ tt tt)))))
+other_named : (name : ℕ) (m : RowMeaning) → IsNoProcedure (kind_of_meaning m) → IsNamedProcedure name m
+other_named name (Proc t k s) h = absurd cc
+other_named name m h = tt
 
--- of two values the second, where the test fails
-otherwise : {A : Type 0} (P : A → Type 0) (b : Bool) (x y : A) → b ≡ false → P y → P (if b then x else y)
-otherwise P true x y e h = absurd cc
-otherwise P false x y e h = h
-
-kind_named : (name : ℕ) (r : Row) → (r.kind == proc_kind) ≡ false → IsNamedProcedure name (row_meaning r)
-kind_named name r e =
-    either (IsNamedProcedure name) (r.kind == const_kind) _ _ tt (either (IsNamedProcedure name) (r.kind == type_name_kind) _ _ tt
-    (either (IsNamedProcedure name) (r.kind == var_kind) _ _ tt
-    (otherwise (IsNamedProcedure name) (r.kind == proc_kind) _ _ e (either (IsNamedProcedure name) (r.kind == module_kind) _ _ tt (either (IsNamedProcedure name) (r.kind == alias_kind) _ _ tt
-    (either (IsNamedProcedure name) (r.kind == field_kind) _ _ tt (either (IsNamedProcedure name) (r.kind == param_kind) _ _ tt (either (IsNamedProcedure name) (r.kind == standard_kind) _ _ tt
-    (either (IsNamedProcedure name) (r.kind == basic_kind) _ _ (basic_named name (natural r.a)) (either (IsNamedProcedure name) (r.kind == enum_kind) _ _ tt (either (IsNamedProcedure name) (r.kind == subrange_kind) _ _ tt
-    (either (IsNamedProcedure name) (r.kind == array_kind) _ _ tt (either (IsNamedProcedure name) (r.kind == open_array_kind) _ _ tt (either (IsNamedProcedure name) (r.kind == record_kind) _ _ tt
-    (either (IsNamedProcedure name) (r.kind == set_kind) _ _ tt (either (IsNamedProcedure name) (r.kind == pointer_kind) _ _ tt (either (IsNamedProcedure name) (r.kind == proc_type_kind) _ _ tt
-    (either (IsNamedProcedure name) (r.kind == opaque_kind) _ _ tt tt))))))))))))))))))
-
--- no shape is a procedure's
-abbrev AreOther : List Shape → Type 0
-AreOther shapes = Each (λ (s : Shape). (s.kind == proc_kind) ≡ false) shapes
-
-shaped_named : (shapes : List Shape) (rows : List Row) → AreShaped shapes rows → AreOther shapes → Each IsNamedRow rows
-shaped_named [] [] none_of h = tt
-shaped_named [] (r ∷ rows) is h = elim is [ ]
-shaped_named (s ∷ shapes) [] is h = elim is [ ]
-shaped_named (s ∷ shapes) (r ∷ rows) (more_of is rest) h = (kind_named r.name r (ap (λ (k : ℕ). k == proc_kind) is.kind ∙ h.0), shaped_named shapes rows rest h.1)
-
-others : (xs ys : List Shape) → AreOther xs → AreOther ys → AreOther (xs ++ ys)
-others xs ys h k = each_append (λ (s : Shape). (s.kind == proc_kind) ≡ false) xs ys h k
-
-mapped : {A : Type 0} (f : A → Shape) (xs : List A) → ((x : A) → ((f x).kind == proc_kind) ≡ false) → AreOther (map f xs)
-mapped f [] h = tt
-mapped f (x ∷ xs) h = (h x, mapped f xs h)
-
-open_others : (is_open : Bool) (q : Qual) → AreOther (open_shapes is_open q)
-open_others true q = (refl, tt)
-open_others false q = tt
-
-formals_others : (formals : List Formal) → AreOther (flat_map formal_shapes formals)
-formals_others [] = tt
-formals_others (f ∷ formals) = others (formal_shapes f) _ (others (open_shapes f.is_open f.of) _ (open_others f.is_open f.of) (refl, tt)) (formals_others formals)
-
-array_others : (at : ℕ) (ts : TypeExprs) → AreOther (array_shapes at ts)
-array_others at no_types = tt
-array_others at (more_types t ts) = (refl, array_others at ts)
-
-tag_others : (tag : Option Ident) → AreOther (tag_shapes tag)
-tag_others None = tt
-tag_others (Some i) = (refl, tt)
-
-mutual
-  type_others : (t : TypeExpr) → AreOther (type_shapes t)
-  type_others (type_expr at form) = form_others at form
-
-  form_others : (at : ℕ) (form : TypeForm) → AreOther (form_shapes at form)
-  form_others at (named_type q) = tt
-  form_others at (enum_type idents) = (refl, mapped _ idents (λ i. refl))
-  form_others at (sub_type base low high) = (refl, tt)
-  form_others at (array_type index of) = others (types_shapes index ++ type_shapes of) _ (others (types_shapes index) _ (types_others index) (type_others of)) (array_others at index)
-  form_others at (record_type fields) = others (fields_shapes fields) _ (fields_others fields) (refl, tt)
-  form_others at (set_type of) = others (type_shapes of) _ (type_others of) (refl, tt)
-  form_others at (pointer_type of) = others (type_shapes of) _ (type_others of) (refl, tt)
-  form_others at (proc_type formals result) = others (flat_map formal_shapes formals) _ (formals_others formals) (refl, tt)
-
-  types_others : (ts : TypeExprs) → AreOther (types_shapes ts)
-  types_others no_types = tt
-  types_others (more_types t ts) = others (type_shapes t) _ (type_others t) (types_others ts)
-
-  fields_others : (fs : FieldLists) → AreOther (fields_shapes fs)
-  fields_others no_fields = tt
-  fields_others (more_fields f fs) = others (field_shapes f) _ (field_others f) (fields_others fs)
-
-  field_others : (f : FieldList) → AreOther (field_shapes f)
-  field_others (plain_fields idents t) = others (type_shapes t) _ (type_others t) (mapped _ idents (λ i. refl))
-  field_others (case_fields tag of arms other) = others (tag_shapes tag ++ arms_shapes arms) _ (others (tag_shapes tag) _ (tag_others tag) (arms_others arms)) (fields_others other)
-
-  arms_others : (arms : VariantArms) → AreOther (arms_shapes arms)
-  arms_others no_variant_arms = tt
-  arms_others (more_variant_arms (variant_arm ls fs) arms) = others (fields_shapes fs) _ (fields_others fs) (arms_others arms)
-
-own_sections_others : (sections : List Section) → AreOther (flat_map own_section_shapes sections)
-own_sections_others [] = tt
-own_sections_others (s ∷ sections) = others (own_section_shapes s) _ (others (open_shapes s.is_open s.of) _ (open_others s.is_open s.of) (mapped _ s.names (λ i. refl))) (own_sections_others sections)
-
-sections_others : (sections : List Section) → AreOther (flat_map section_shapes sections)
-sections_others [] = tt
-sections_others (s ∷ sections) = others (section_shapes s) _ (others (open_shapes s.is_open s.of) _ (open_others s.is_open s.of) (mapped _ s.names (λ i. refl))) (sections_others sections)
-
-type_item_others : (i : Ident) (o : Option TypeExpr) → AreOther (type_item_shapes i o)
-type_item_others i None = (refl, tt)
-type_item_others i (Some t) = type_others t
+shaped_named : (shapes : List Shape) (rows : List Row) → AreShaped shapes rows → HaveKinds IsNoProcedure shapes → Each IsNamedRow rows
+shaped_named shapes rows is h =
+    each_then (λ (r : Row). IsNoProcedure (kind_of_meaning (row_meaning r))) IsNamedRow rows (λ r. other_named r.name (row_meaning r)) (shaped_means IsNoProcedure refl shapes rows is h)
 
 -- ** The row of a procedure
 
@@ -162,7 +72,7 @@ rows_append : (xs ys : List Row) → Each IsNamedRow xs → Each IsNamedRow ys �
 rows_append xs ys h k = each_append IsNamedRow xs ys h k
 
 -- what comes last of these parts has no diagnostic
-last_none : (a b c d : List Diag) → a ++ (b ++ (c ++ (d ++ []))) ++ [] ≡ [] → d ≡ []
+pub last_none : (a b c d : List Diag) → a ++ (b ++ (c ++ (d ++ []))) ++ [] ≡ [] → d ≡ []
 last_none a b c d e =
     let rest = (none_left a (b ++ (c ++ (d ++ []))) (none_left (a ++ (b ++ (c ++ (d ++ [])))) [] e).0).1 in
     (none_left d [] (none_left c (d ++ []) (none_left b (c ++ (d ++ [])) rest).1).1).0
@@ -181,7 +91,7 @@ procedure_named names h stream c kind cell read none =
     let quiet : row.diags ≡ [] = last_none sections.diags result.diags typ.diags row.diags none in
     rows_append (sections.rows ++ (typ.rows ++ (row.rows ++ []))) []
     (rows_append sections.rows (typ.rows ++ (row.rows ++ []))
-    (shaped_named (flat_map section_shapes h.sections) sections.rows (sections_of h.sections c (first + sections_length h.sections)) (sections_others h.sections))
+    (shaped_named (flat_map section_shapes h.sections) sections.rows (sections_of h.sections c (first + sections_length h.sections)) (sections_kinds IsNoProcedure no_procedures h.sections))
     (rows_append typ.rows (row.rows ++ []) (typed_row e) (rows_append row.rows [] (named_by f h.name.name h.name.at (Proc typ.value (proc_number c kind stream) (proc_scope kind stream)) (read.0).name.some quiet) tt))) tt
   where
     typed_row : (e : Context) → Each IsNamedRow (makes_row e h.name.at (ProcType (result_type (with_rows c (section_rows c ((next_place c).ordinal + sections_length h.sections) h.sections).rows) h.result).value (parameter_count h.sections) (next_place c).ordinal)).rows
@@ -190,13 +100,13 @@ procedure_named names h stream c kind cell read none =
 -- ** Items
 
 item_named : (names : List (List ℕ)) (x : Item) (c : Context) (kind : StreamKind) (cell : ℕ) → IsReadItem names x → (declare c kind x cell).diags ≡ [] → Each IsNamedRow (declare c kind x cell).rows
-item_named names (heading_item h) c kind cell read none = shaped_named _ _ (item_of (heading_item h) c kind cell) (own_sections_others h.sections)
+item_named names (heading_item h) c kind cell read none = shaped_named _ _ (item_of (heading_item h) c kind cell) (item_kinds IsNoProcedure no_procedures (heading_item h) refl)
 item_named names (import_item None i) c kind cell read none = shaped_named _ _ (item_of (import_item None i) c kind cell) (refl, tt)
 item_named names (import_item (Some m) i) c kind cell read none =
-    shaped_named _ _ (own_shaped _) (alias_shapes (λ (k : ℕ). (k == proc_kind) ≡ false) refl _ (import_aliases m i c kind cell))
+    shaped_named _ _ (own_shaped _) (alias_shapes IsNoProcedure refl _ (import_aliases m i c kind cell))
 item_named names (const_item i e) c kind cell read none = shaped_named _ _ (item_of (const_item i e) c kind cell) (refl, tt)
-item_named names (type_item i t) c kind cell read none = shaped_named _ _ (item_of (type_item i t) c kind cell) (others (type_item_shapes i t) _ (type_item_others i t) (refl, tt))
-item_named names (vars_item idents t) c kind cell read none = shaped_named _ _ (item_of (vars_item idents t) c kind cell) (others (type_shapes t) _ (type_others t) (mapped _ idents (λ i. refl)))
+item_named names (type_item i t) c kind cell read none = shaped_named _ _ (item_of (type_item i t) c kind cell) (item_kinds IsNoProcedure no_procedures (type_item i t) refl)
+item_named names (vars_item idents t) c kind cell read none = shaped_named _ _ (item_of (vars_item idents t) c kind cell) (item_kinds IsNoProcedure no_procedures (vars_item idents t) refl)
 item_named names (proc_item h stream) c kind cell read none = procedure_named names h stream c kind cell read none
 
 items_named : (names : List (List ℕ)) (items : List Item) (c : Context) (kind : StreamKind) (i cell : ℕ) → Each (IsReadItem names) items → (declare_items c kind i cell items).diags ≡ [] → Each IsNamedRow (declare_items c kind i cell items).rows
@@ -227,7 +137,7 @@ headings-named names u is read b i behind = by_own u.own refl
         (none_left (made names u is q).diags (closing_diags c q.tree) (none_left ((made names u is q).diags ++ closing_diags c q.tree) (body_of c q).diags
         (none_left ((made names u is q).diags ++ closing_diags c q.tree ++ (body_of c q).diags) (size_diags c q q.tree.kind (made names u is q).value (run_of q (made names u is q).value (body_of c q).value)) (told names u is q j)).0).0).0 in
         subst (Each IsNamedRow) (sym (unit_made u is.sound.scopes q j))
-        (block_named names u.source (before_of u q) q (in_each (λ (x : BlockTree). Each (IsReadItem names) (items_of x.tree)) (blocks_of u) q read j) quiet)
+        (block_named names u.source (before_of u q) q (each_in (λ (x : BlockTree). Each (IsReadItem names) (items_of x.tree)) (blocks_of u) q read j) quiet)
 
     by_own : (o : Option ℕ) → u.own ≡ o → WhereKept o (λ own. Each IsNamedRow (rows_at (unit_rows u) own))
     by_own None e = tt

@@ -27,8 +27,9 @@ use Rattle.stmt_sem.specs.BlockCode.{params_of, results_of}
 use Rattle.block_laws.specs.Sight.{call_step}
 use Rattle.block_laws.specs.Worlds.{callee_of}
 use Rattle.block_laws.proofs.Chains.{blocks_stand}
-use Rattle.block_laws.proofs.Links.{begins, in_each, unequal}
+use Rattle.block_laws.proofs.Links.{begins, unequal}
 use Rattle.block_laws.proofs.WorldCells.{Furnishes, in_main}
+use Rattle.row_laws.proofs.Members.{each_in}
 
 -- ** What a call takes and leaves
 
@@ -111,7 +112,7 @@ callable u w all notes has b i behind procedures h stream k item number =
     let far : home_of u ≤ q.block.scope = omega (arith, behind, later, scope) in
     let there = has.procedures q found.1 far in
     let home = (in_main u b i behind).home in
-    let first = begins u (blocks_of u) b.block (in_each _ (blocks_of u) b (blocks_stand u) i behind) in
+    let first = begins u (blocks_of u) b.block (each_in _ (blocks_of u) b (blocks_stand u) i behind) in
     let level = is.level in
     let n : q.block.scope - home_of u ≡ k = ap (λ (x : ℕ). x - home_of u) scope ∙ ap (λ (x : ℕ). stream - x) (sym home) ∙ sym number in
     record {

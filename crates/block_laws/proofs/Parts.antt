@@ -23,6 +23,7 @@ use Rattle.m2_base.specs.Statics.Contexts.{Scene, level_of}
 use Rattle.m2_base.specs.Statics.TypeParts.{parameters, result_of_type}
 use Rattle.m2_base.specs.declared.rows.Mode.{Mode}
 use Rattle.block_laws.specs.Sight.{IsDeclared, call_step, value_instr}
+use Rattle.m2_base.proofs.EachLaws.{each_append}
 
 -- ** Where parts stand
 
@@ -86,10 +87,6 @@ module _ (q : Step → Type 0) (cells bytes withs from : ℕ) where
   abbrev R : Part → Type 0
   R p = Right q cells bytes withs from p
 
-  each-append : (a b : List Step) → Each q a → Each q b → Each q (a ++ b)
-  each-append [] b f g = g
-  each-append (s ∷ ss) b f g = (f.0, each-append ss b f.1 g)
-
   pub stays : (at : Spot) → IsSpot withs from at → Leads withs from at [] at
   stays at h = record { spot = h; cells = omega arith; bytes = omega arith; counted = λ e. omega arith }
 
@@ -115,7 +112,7 @@ module _ (q : Step → Type 0) (cells bytes withs from : ℕ) where
       let y = g p.next x.0.spot in (
         leads-then at p.next r.next p.bytes r.bytes x.0 y.0,
         λ u v. let d = y.0.cells in let e = y.0.bytes in
-            each-append p.code r.code (x.1 (omega (arith, u, d)) (omega (arith, v, e))) (y.1 u v),
+            each_append q p.code r.code (x.1 (omega (arith, u, d)) (omega (arith, v, e))) (y.1 u v),
       )
 
   -- steps that are right where they stand

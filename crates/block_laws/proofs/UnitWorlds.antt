@@ -2,7 +2,6 @@
 use Rattle.std.specs.Prelude.{◌≡◌, refl, ℕ, zero, suc, ◌+◌, ◌-◌, ◌<◌, ◌≤◌, ◌⊎◌, Bool, if◌then◌else◌, List, [], ◌∷◌, ◌++◌, drop, length, map, slice_get, slice_index_or, take, Option, Some, None}
 use Rattle.std.proofs.Common.{ap, subst, sym, ◌∙◌, inl, inr, arith}
 use Rattle.std.proofs.lemmas.Bool.{cases_order, le-ltb, lt-ltb}
-use Rattle.std.proofs.lemmas.List.{length-append}
 use Rattle.std.proofs.lemmas.Option.{get_or_from_slice_get, slice_get_cases, slice_get_within}
 use Rattle.code_form.specs.Modules.{Import, World}
 use Rattle.code_form.specs.Valid.{import_of}
@@ -15,20 +14,20 @@ use Rattle.m2_base.specs.Statics.BlockRows.{declare_block}
 use Rattle.m2_base.specs.Statics.Blocks.{BlockTree, UnitTrees, blocks_of, home_of}
 use Rattle.m2_base.specs.Statics.Cells.{most_cells}
 use Rattle.m2_base.specs.Statics.Closing.{closing_diags}
-use Rattle.m2_base.specs.Statics.Contexts.{Context, Source}
+use Rattle.m2_base.specs.Statics.Contexts.{Context}
 use Rattle.m2_base.specs.Statics.Effects.{BlockEffects}
 use Rattle.m2_base.specs.Statics.Items.{items_of}
 use Rattle.m2_base.specs.Statics.Makes.{Makes}
 use Rattle.m2_base.specs.Statics.UnitNotes.{complete_context}
-use Rattle.m2_base.specs.Statics.UnitRows.{rows_from, unit_rows}
+use Rattle.m2_base.specs.Statics.UnitRows.{unit_rows}
 use Rattle.m2_base.specs.Tables.{rows_at}
 use Rattle.m2_base.specs.declared.outputs.HeadingNote.{HeadingNote}
-use Rattle.m2_base.specs.declared.rows.Mode.TheVariants.{ByAddress, Open, Plain}
 use Rattle.m2_base.specs.declared.rows.Row.{Row}
-use Rattle.m2_base.specs.declared.rows.RowMeaning.TheVariants.{Var}
-use Rattle.m2_base.specs.declared.rows.RowMeaning.{RowMeaning}
 use Rattle.m2_base.specs.declared.trees.declarations.StreamKind.{StreamKind}
-use Rattle.row_laws.proofs.Units.{unit_cells, unit_declared, unit_in_range, unit_own_cells, unit_whole}
+use Rattle.row_laws.proofs.Joined.{none_left}
+use Rattle.row_laws.proofs.Members.{each_in}
+use Rattle.row_laws.proofs.Placing.{below_more}
+use Rattle.row_laws.proofs.Units.{unit_cells, unit_declared, unit_in_range, unit_own_cells, unit_whole, long_from}
 use Rattle.row_laws.specs.Procedures.{IsDeclared, IsSeenAs, ProceduresAreDeclared}
 use Rattle.row_laws.specs.RowRanges.{BlockInRange, CellsAreThere, EachBlock, IsBelow, IsSoundUnit, OwnCellsAreThere}
 use Rattle.row_laws.specs.UnitBlocks.{HasItsBlocks, HasItsForm}
@@ -39,8 +38,8 @@ use Rattle.m2_base.specs.Statics.ReadStatements.{AreReadStatements}
 use Rattle.block_laws.specs.Worlds.{callee_of, import_over, of_blocks, unit_world, without_own}
 use Rattle.block_laws.proofs.BlocksAt.{at_before, at_behind, at_drop, at_take, before_of, in_at, scope_at, unit_each, unit_made, unit_over, unit_place}
 use Rattle.block_laws.proofs.InRange.{block-leads}
-use Rattle.block_laws.proofs.Links.{HasProcedure, in_each}
-use Rattle.block_laws.proofs.Named.{HasRoom, room, small, tail-none}
+use Rattle.block_laws.proofs.Links.{HasProcedure}
+use Rattle.block_laws.proofs.Named.{HasRoom, room, small}
 use Rattle.block_laws.proofs.WorldCalls.{AreImplemented, Declares, IsBlockOf}
 use Rattle.block_laws.proofs.WorldCells.{Furnishes, HasImport, in_main}
 
@@ -73,21 +72,8 @@ import_place w (suc m) h = ap (slice_get w.imports) (omega arith)
 
 -- ** Cells
 
-below_more : (c d : ℕ) (m : RowMeaning) → c ≤ d → IsBelow c m → IsBelow d m
-below_more c d (Var t Open o) h k = omega (arith, h, k)
-below_more c d (Var t Plain o) h k = omega (arith, h, k)
-below_more c d (Var t ByAddress o) h k = omega (arith, h, k)
-below_more c d m h k = tt
-
 rows_more : (c d : ℕ) (rows : List Row) → c ≤ d → Each (λ r. IsBelow c (row_meaning r)) rows → Each (λ r. IsBelow d (row_meaning r)) rows
 rows_more c d rows h k = each_then (λ (r : Row). IsBelow c (row_meaning r)) (λ (r : Row). IsBelow d (row_meaning r)) rows (λ r. below_more c d (row_meaning r) h) k
-
-long : (source : Source) (blocks : List BlockTree) (before : List (List Row)) → length (rows_from source before blocks) ≡ length before + length blocks
-long source [] before = omega arith
-long source (b ∷ blocks) before =
-    let f = length-append before ((declare_block source before b).rows ∷ []) in
-    let rest = long source blocks (before ++ (declare_block source before b).rows ∷ []) in
-    omega (arith, f, rest)
 
 -- the notes of the headings of a scope
 abbrev pub notes_of : UnitTrees → ℕ → List HeadingNote
@@ -110,7 +96,7 @@ module _ (names : List (List ℕ)) (u : UnitTrees) (is : IsClear names u) where
   run b = run_of b (made b).value (body_of (context b) b).value
 
   pub form : (b : BlockTree) → IsIn b (blocks_of u) → HasItsForm (home_of u) b
-  form b i = in_each (HasItsForm (home_of u)) (blocks_of u) b is.blocks.forms i
+  form b i = each_in (HasItsForm (home_of u)) (blocks_of u) b is.blocks.forms i
 
   pub ranges : (b : BlockTree) → IsIn b (blocks_of u) → BlockInRange u.source (before_of u b) (unit_rows u) b
   ranges b i = unit_each u is.sound.scopes (λ before c. BlockInRange u.source before (unit_rows u) c) (unit_in_range names u is.sound) b i
@@ -128,7 +114,7 @@ module _ (names : List (List ℕ)) (u : UnitTrees) (is : IsClear names u) where
   declared b i = unit_each u is.sound.scopes (λ before c. ProceduresAreDeclared u c (declare_block u.source before c)) (unit_declared names u is.sound) b i
 
   sized : (b : BlockTree) → IsIn b (blocks_of u) → size_diags (context b) b b.tree.kind (made b).value (run b) ≡ []
-  sized b i = tail-none ((made b).diags ++ closing_diags (context b) b.tree ++ (body_of (context b) b).diags) (size_diags (context b) b b.tree.kind (made b).value (run b)) (told b i)
+  sized b i = (none_left ((made b).diags ++ closing_diags (context b) b.tree ++ (body_of (context b) b).diags) (size_diags (context b) b b.tree.kind (made b).value (run b)) (told b i)).1
 
   pub coded : (b : BlockTree) → IsIn b (blocks_of u) → home_of u ≤ b.block.scope → HasCode b.tree.kind
   coded b i behind = by_order (cases_order b.block.scope (home_of u))
@@ -196,7 +182,7 @@ module _ (names : List (List ℕ)) (u : UnitTrees) (is : IsClear names u) where
   there b i =
       let place = unit_place u is.sound.scopes b i in
       let within = slice_get_within (blocks_of u) (b.block.scope - 1) b place.0 in
-      let all = long u.source (blocks_of u) (standard_rows ∷ []) in
+      let all = long_from u.source (blocks_of u) (standard_rows ∷ []) in
       omega (arith, within, all)
 
   pub declares : AreImplemented u → Declares u (notes_of u)
@@ -216,7 +202,7 @@ module _ (names : List (List ℕ)) (u : UnitTrees) (is : IsClear names u) where
 
   module _ (read : Each (λ b. AreReadStatements names b.tree.body) (blocks_of u)) where
     pub reads : (b : BlockTree) → IsIn b (blocks_of u) → AreReadStatements names b.tree.body
-    reads b i = in_each (λ c. AreReadStatements names c.tree.body) (blocks_of u) b read i
+    reads b i = each_in (λ c. AreReadStatements names c.tree.body) (blocks_of u) b read i
 
     leads : (b : BlockTree) → IsIn b (blocks_of u) → first_cell b.tree.kind (made b).value.cell ≤ (run b).next.cell
     leads b i = (block-leads names u.source (before_of u b) (unit_rows u) b (ranges b i) (reads b i)).cells

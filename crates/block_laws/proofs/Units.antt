@@ -1,15 +1,14 @@
 -- The laws on blocks, over the laws on the rows of units.
-use Rattle.std.specs.Prelude.{◌≡◌, ℕ, ◌≤◌, List, [], ◌∷◌, ◌++◌}
+use Rattle.std.specs.Prelude.{◌≡◌, ℕ, ◌≤◌, List, [], ◌∷◌}
 use Rattle.code_form.specs.Valid.{IsValidCode}
 use Rattle.m2_base.specs.Lists.{Each}
-use Rattle.m2_base.specs.declared.rows.Row.{Row}
 use Rattle.m2_base.specs.Standard.{standard_rows}
 use Rattle.m2_base.specs.Statics.BlockRows.{declare_block}
-use Rattle.m2_base.specs.Statics.Blocks.{BlockTree, UnitTrees, blocks_of, main_block}
+use Rattle.m2_base.specs.Statics.Blocks.{UnitTrees, blocks_of, main_block}
 use Rattle.m2_base.specs.Statics.Contexts.{Source}
 use Rattle.m2_base.specs.Statics.UnitRows.{unit_rows}
 use Rattle.m2_base.specs.Trees.{Stream}
-use Rattle.row_laws.proofs.Units.{unit_cells, unit_declared, unit_in_range}
+use Rattle.row_laws.proofs.Units.{unit_cells, unit_declared, unit_in_range, each_block_with}
 use Rattle.row_laws.specs.RowRanges.{BlockInRange, EachBlock, IsSoundUnit}
 use Rattle.stmt_sem.specs.BlockCode.{block_code, block_diags}
 use Rattle.stmt_sem.specs.Places.{OthersInRange, block_steps}
@@ -20,17 +19,10 @@ use Rattle.m2_base.specs.Statics.ReadStatements.{AreReadStatements}
 use Rattle.block_laws.proofs.InRange.{block-in_range}
 use Rattle.block_laws.proofs.LoneUnits.{lone-unit-valid}
 
--- what follows for each block follows for the blocks
-blocks-follow : (P Q : List (List Row) → BlockTree → Type 0) (R : BlockTree → Type 0) → ((before : List (List Row)) (b : BlockTree) → P before b → R b → Q before b)
-    → (source : Source) (before : List (List Row)) (blocks : List BlockTree) → EachBlock P source before blocks → Each R blocks → EachBlock Q source before blocks
-blocks-follow P Q R f source before [] g h = tt
-blocks-follow P Q R f source before (b ∷ blocks) g h =
-    (f before b g.0 h.0, blocks-follow P Q R f source (before ++ (declare_block source before b).rows ∷ []) blocks g.1 h.1)
-
 pub units-in_range : (names : List (List ℕ)) (u : UnitTrees) → IsSoundUnit names u → Each (λ b. AreReadStatements names b.tree.body) (blocks_of u)
     → EachBlock (λ before b. OthersInRange (block_steps u.source before (unit_rows u) b)) u.source (standard_rows ∷ []) (blocks_of u)
 units-in_range names u sound read =
-    blocks-follow (λ before b. BlockInRange u.source before (unit_rows u) b) (λ before b. OthersInRange (block_steps u.source before (unit_rows u) b))
+    each_block_with (λ before b. BlockInRange u.source before (unit_rows u) b) (λ before b. OthersInRange (block_steps u.source before (unit_rows u) b))
     (λ b. AreReadStatements names b.tree.body) (λ before b h r. block-in_range names u.source before (unit_rows u) b h r) u.source (standard_rows ∷ []) (blocks_of u)
     (unit_in_range names u sound) read
 

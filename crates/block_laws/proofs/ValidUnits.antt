@@ -1,23 +1,18 @@
 -- The code of each block of a unit is valid where no block has a diagnostic.
-use Rattle.std.specs.Prelude.{◌≡◌, refl, ℕ, ◌+◌, ◌-◌, ◌<◌, ◌≤◌, ◌⊎◌, true, List, [], ◌∷◌, ◌++◌, flat_map, map, slice_get, Option, Some, None}
-use Rattle.std.proofs.Common.{ap, subst, sym, ◌∙◌, inl, inr, arith}
+use Rattle.std.specs.Prelude.{◌≡◌, ℕ, ◌+◌, ◌-◌, ◌<◌, ◌≤◌, ◌⊎◌, true, List, slice_get, Some}
+use Rattle.std.proofs.Common.{ap, subst, sym, inl, inr, arith}
 use Rattle.std.proofs.lemmas.Bool.{cases_order}
 use Rattle.code_form.specs.Modules.{Procedure}
 use Rattle.code_form.specs.Valid.{IsValidCode, names_what_is_there}
 use Rattle.expr_sem.specs.Variables.{cell_instr}
-use Rattle.m2_base.proofs.EachLaws.{each_append}
 use Rattle.m2_base.specs.Lists.{Each, IsIn}
-use Rattle.m2_base.specs.Statics.BlockRows.{context_of, declare_block, declare_items, first_cell as cell_before, scene_of}
 use Rattle.m2_base.specs.Statics.Blocks.{BlockTree, UnitTrees, blocks_of, home_of}
 use Rattle.m2_base.specs.Statics.Cells.{most_cells}
-use Rattle.m2_base.specs.Statics.Contexts.{Context, Scene, Source}
-use Rattle.m2_base.specs.Statics.Declarations.{declare}
-use Rattle.m2_base.specs.Statics.Effects.{BlockEffects, ParamCopy}
-use Rattle.m2_base.specs.Statics.Items.{Item, const_item, decl_item, heading_item, heading_items, import_item, import_items, proc_item, type_item, vars_item}
+use Rattle.m2_base.specs.Statics.Contexts.{Scene}
+use Rattle.m2_base.specs.Statics.Effects.{BlockEffects}
 use Rattle.m2_base.specs.Statics.UnitNotes.{complete_context}
 use Rattle.m2_base.specs.Statics.UnitRows.{unit_rows}
 use Rattle.m2_base.specs.Tables.{rows_at}
-use Rattle.m2_base.specs.Trees.{Heading}
 use Rattle.m2_base.specs.declared.rows.Mode.TheVariants.{ByAddress, Open, Plain}
 use Rattle.m2_base.specs.declared.rows.Mode.{Mode}
 use Rattle.m2_base.specs.declared.rows.Place.{Place}
@@ -25,7 +20,6 @@ use Rattle.m2_base.specs.declared.rows.Row.{Row}
 use Rattle.m2_base.specs.declared.rows.RowMeaning.TheVariants.{Proc, Var}
 use Rattle.m2_base.specs.declared.rows.RowMeaning.{RowMeaning}
 use Rattle.m2_base.specs.declared.trees.declarations.StreamKind.{StreamKind}
-use Rattle.row_laws.proofs.PlacingItems.{IsInner, decls_inner, imports_inner}
 use Rattle.row_laws.proofs.Whole.{whole-rows}
 use Rattle.row_laws.specs.RowRanges.{IsBelow, IsCopyBelow}
 use Rattle.stmt_sem.specs.BlockCode.{block_code, first_cell}
@@ -35,46 +29,11 @@ use Rattle.block_laws.specs.Sight.{IsDeclared, IsInSight, RowsNameThere, Sees}
 use Rattle.m2_base.specs.Statics.ReadStatements.{AreReadStatements}
 use Rattle.block_laws.specs.Worlds.{unit_world}
 use Rattle.block_laws.proofs.BlocksAt.{before_of}
+use Rattle.block_laws.proofs.Copies.{none_copied, without_heading}
 use Rattle.block_laws.proofs.Named.{block-code-valid}
 use Rattle.block_laws.proofs.UnitWorlds.{IsClear, cells, coded, declares, form, furnishes, has_procedure, made, notes_of, ranges, reads, told}
 use Rattle.block_laws.proofs.WorldCalls.{AreImplemented, Declares, HasTarget, call-there, sight-low, target-there, value-there}
 use Rattle.block_laws.proofs.WorldCells.{Furnishes, cell-there}
-
--- ** A module copies nothing first
-
-inner_copy : (c : Context) (kind : StreamKind) (x : Item) (cell : ℕ) → IsInner x → (declare c kind x cell).value.prologue ≡ []
-inner_copy c kind (heading_item h') cell h = absurd h
-inner_copy c kind (import_item from i) cell h = refl
-inner_copy c kind (const_item i value) cell h = refl
-inner_copy c kind (type_item i typ) cell h = refl
-inner_copy c kind (vars_item names typ) cell h = refl
-inner_copy c kind (proc_item h' stream) cell h = refl
-
-inner_copies : (items : List Item) (c : Context) (kind : StreamKind) (i cell : ℕ) → Each IsInner items → (declare_items c kind i cell items).value.prologue ≡ []
-inner_copies [] c kind i cell h = refl
-inner_copies (x ∷ items) c kind i cell h = both (inner_copy _ kind x cell h.0) (inner_copies items _ kind (i + 1) _ h.1)
-  where
-    both : {A : Type 0} {xs ys : List A} → xs ≡ [] → ys ≡ [] → xs ++ ys ≡ []
-    both {A} {xs} {ys} e f = ap (λ (zs : List A). zs ++ ys) e ∙ f
-
-without_heading : (source : Source) (tables : List (List Row)) (b : BlockTree) → b.tree.heading ≡ None → (declare_block source tables b).value.prologue ≡ []
-unfolding declare_block
-without_heading source tables b none = by_heading b.tree.heading none
-  where
-    xs : List Item
-    xs = flat_map import_items b.tree.imports
-
-    ys : List Item
-    ys = map decl_item b.tree.decls
-
-    by_heading : (o : Option Heading) → o ≡ None
-        → (declare_items (context_of source tables b) b.tree.kind 0 (cell_before (scene_of tables b.block) b.tree.kind b.block.own) (heading_items o ++ xs ++ ys)).value.prologue ≡ []
-    by_heading None e = inner_copies (xs ++ ys) (context_of source tables b) b.tree.kind 0 _ (each_append IsInner xs ys (imports_inner b.tree.imports) (decls_inner b.tree.decls))
-    by_heading (Some h) e = absurd cc
-
-none_copied : (n : ℕ) (ds : List ParamCopy) → ds ≡ [] → Each (IsCopyBelow n) ds
-none_copied n [] e = tt
-none_copied n (d ∷ ds) e = absurd cc
 
 -- ** Blocks
 

@@ -25,11 +25,6 @@ use Rattle.m2_base.specs.declared.operands.Operand.{Operand}
 use Rattle.row_laws.specs.RowRanges.{HasOperands, RowsInRange}
 use Rattle.block_laws.specs.Sight.{IsDeclared, Sees}
 
--- of two values one, by a test that is known then
-pub by_test : {A : Type 0} (P : A → Type 0) (b : Bool) (x y : A) → (b ≡ true → P x) → (b ≡ false → P y) → P (if b then x else y)
-by_test P true x y h k = h refl
-by_test P false x y h k = k refl
-
 -- ** What is found
 
 -- an entry that is a row of a scope, or none

@@ -2,7 +2,7 @@
 use Rattle.std.specs.Prelude.{◌≡◌, refl, ℕ, ◌<◌, ◌≤◌, ◌⊎◌, Bool, true, false, if◌then◌else◌, List, [], ◌∷◌, slice_get, Option, Some, None}
 use Rattle.std.specs.Option.{IsSome}
 use Rattle.std.proofs.Common.{ap, subst, sym, ◌∙◌, inl, inr, arith}
-use Rattle.std.proofs.lemmas.Bool.{cases_order, eqb-true}
+use Rattle.std.proofs.lemmas.Bool.{cases_order}
 use Rattle.expr_sem.specs.ProcedureNames.{is_own_definition, target, target_by, target_of_entry, target_of_procedure}
 use Rattle.expr_sem.specs.Whole.{AreWhole, HasWholeParts, IsNoAlias, IsWholeName, IsWholeRow, IsWholeType}
 use Rattle.m2_base.specs.Finished.{AreRead}
@@ -31,6 +31,7 @@ use Rattle.row_laws.specs.RowRanges.{EachBlock, IsSoundUnit}
 use Rattle.row_laws.proofs.ClearRows.{HaveClear, have_clear, not_broken, place_clear}
 use Rattle.row_laws.proofs.ClearUnits.{unit_clear, unit_headings}
 use Rattle.row_laws.proofs.Fitting.{IsFit, IsInModule, blocks_fit}
+use Rattle.row_laws.proofs.Members.{each_in, each_at}
 use Rattle.row_laws.proofs.TextBlocks.{blocks_read}
 use Rattle.row_laws.proofs.Units.{each_block_then, unit_whole}
 use Rattle.row_laws.proofs.Whole.{whole-above, whole-rows}
@@ -39,12 +40,10 @@ use Rattle.block_laws.specs.Lone.{IsOfLone}
 use Rattle.block_laws.proofs.BlocksAt.{unit_all, unit_each, unit_made}
 use Rattle.block_laws.proofs.CodeIsValid.{declared-none}
 use Rattle.block_laws.proofs.Implemented.{implements}
-use Rattle.block_laws.proofs.Links.{in_each}
-use Rattle.block_laws.proofs.Lone.{each-at}
 use Rattle.block_laws.proofs.LoneUnits.{standard-of-lone}
 use Rattle.block_laws.proofs.NamedHeadings.{headings-named}
 use Rattle.block_laws.proofs.UnitWorlds.{IsClear, declared, earlier, made, there}
-use Rattle.block_laws.proofs.WorldCalls.{AreImplemented}
+use Rattle.block_laws.proofs.WorldCalls.{AreImplemented, own_scope}
 
 -- ** Rows of a clear scene
 
@@ -83,10 +82,6 @@ module _ (scene : Scene) (clear : HaveClear scene.tables) where
 
 -- ** Headings of the own definition
 
-own_scope : (o : Option ℕ) (s : ℕ) → is_own_definition o s ≡ true → o ≡ Some s
-own_scope None s e = absurd cc
-own_scope (Some q) s e = ap (λ (x : ℕ). Some x) (sym (eqb-true s q e))
-
 module _ (names : List (List ℕ)) (u : UnitTrees) (is : IsClear names u) (b : BlockTree) (i : IsIn b (blocks_of u)) where
   abbrev scene : Scene
   scene = (complete_context u.source (unit_rows u) b.block).scene
@@ -112,19 +107,19 @@ module _ (names : List (List ℕ)) (u : UnitTrees) (is : IsClear names u) (b : B
       by_order (inl same) =
           let standard : rows_at (unit_rows u) s ≡ standard_rows = sym (ap (rows_at (unit_rows u)) same) ∙ (unit_whole names u is.sound).standard in
           absurd (subst (IsOfLone 0 1) m
-          (each-at (λ (x : Row). IsOfLone 0 1 (row_meaning x)) standard_rows standard-of-lone o r (subst (λ (rs : List Row). slice_get rs o ≡ Some r) standard e)))
+          (each_at (λ (x : Row). IsOfLone 0 1 (row_meaning x)) standard_rows standard-of-lone o r (subst (λ (rs : List Row). slice_get rs o ≡ Some r) standard e)))
       by_order (inr (inl positive)) =
           let block = earlier names u is b i s positive low in
           let c : BlockTree = block.0 in
           let here : slice_get (made names u is c).rows o ≡ Some r = subst (λ (rs : List Row). slice_get rs o ≡ Some r) (ap (rows_at (unit_rows u)) (sym block.2) ∙ unit_made u is.sound.scopes c block.1) e in
           let d = subst (IsDeclared (IsSeenAs u c) c.tree.kind c.block (made names u is c).value.headings (items_of c.tree)) m
-          (each-at (λ (y : Row). IsDeclared (IsSeenAs u c) c.tree.kind c.block (made names u is c).value.headings (items_of c.tree) (row_meaning y)) (made names u is c).rows (declared names u is c block.1) o r here) in
+          (each_at (λ (y : Row). IsDeclared (IsSeenAs u c) c.tree.kind c.block (made names u is c).value.headings (items_of c.tree) (row_meaning y)) (made names u is c).rows (declared names u is c block.1) o r here) in
           d.5 ∙ block.2
       by_order (inr (inr less)) = absurd (omega (arith, less))
 
   procedure_there : (home_of u ≤ b.block.scope → AreImplemented u) → (s o : ℕ) (r : Row) → slice_get (rows_at scene.tables s) o ≡ Some r → (t : Place) (k q : ℕ) → row_meaning r ≡ Proc t k q
       → IsSome (target_of_procedure scene r.name t k)
-  procedure_there implemented s o r e t k q m = by_place (in_each (λ (c : BlockTree). IsFit u.own (home_of u) c.block) (blocks_of u) b (blocks_fit u) i).in_module
+  procedure_there implemented s o r e t k q m = by_place (each_in (λ (c : BlockTree). IsFit u.own (home_of u) c.block) (blocks_of u) b (blocks_fit u) i).in_module
     where
       low : s ≤ b.block.scope
       low = low_row s o r e

@@ -1,5 +1,5 @@
 -- The procedures that a block's code names are there, and calls of them take and leave what their types say.
-use Rattle.std.specs.Prelude.{◌≡◌, refl, ℕ, zero, suc, ◌+◌, ◌-◌, ◌<◌, ◌≤◌, ◌==◌, ◌&&◌, ◌||◌, ◌⊎◌, not, Bool, true, false, if◌then◌else◌, List, ◌∷◌, drop, length, slice_get, unwrap_or, Option, Some, None}
+use Rattle.std.specs.Prelude.{◌≡◌, refl, ℕ, zero, suc, ◌+◌, ◌-◌, ◌<◌, ◌≤◌, ◌==◌, ◌&&◌, ◌||◌, ◌⊎◌, not, Bool, true, false, if◌then◌else◌, List, ◌∷◌, drop, length, slice_get, Option, Some, None}
 use Rattle.std.proofs.Common.{ap, subst, sym, ◌∙◌, inl, inr, arith}
 use Rattle.std.proofs.lemmas.Bool.{cases_order, eq-eqb, eqb-true}
 use Rattle.code_form.specs.Heights.{step_among}
@@ -11,6 +11,7 @@ use Rattle.expr_sem.specs.Calls.{call_instr, cells_of_all, links_to, result_cell
 use Rattle.expr_sem.specs.ProcedureNames.{Target, import_number, import_number_beside, import_of_target, is_foreign, is_own, is_own_definition, target, target_by, target_of_entry, target_of_procedure}
 use Rattle.expr_sem.specs.Variables.{links_out}
 use Rattle.m2_base.proofs.ChainLaws.{chains_down}
+use Rattle.m2_base.proofs.NoRepeats.{some_is}
 use Rattle.m2_base.specs.Lists.{Each, IsIn, WhereKept}
 use Rattle.m2_base.specs.Rows.{at_place, row_meaning}
 use Rattle.m2_base.specs.Statics.Blocks.{BlockTree, GoesDown, UnitTrees, blocks_of, home_of}
@@ -28,14 +29,14 @@ use Rattle.m2_base.specs.declared.rows.Row.{Row}
 use Rattle.m2_base.specs.declared.rows.RowMeaning.TheVariants.{Proc}
 use Rattle.m2_base.specs.declared.trees.declarations.StreamKind.{StreamKind}
 use Rattle.m2_base.specs.declared.trees.declarations.StreamKind.TheVariants.{Definition}
+use Rattle.row_laws.proofs.Members.{each_in, each_at}
 use Rattle.row_laws.proofs.Whole.{whole-rows}
 use Rattle.row_laws.specs.Procedures.{HasNumber, IsDeclared, IsSeenAs, IsTypeOf}
 use Rattle.row_laws.specs.UnitBlocks.{HasItsForm, HasItsProcedures}
 use Rattle.block_laws.specs.Lone.{IsOfLone}
 use Rattle.block_laws.specs.Sight.{IsInSight, call_step, value_instr}
 use Rattle.block_laws.proofs.Chains.{blocks_stand}
-use Rattle.block_laws.proofs.Links.{begins, in_each, in_module}
-use Rattle.block_laws.proofs.Lone.{each-at}
+use Rattle.block_laws.proofs.Links.{begins, in_module}
 use Rattle.block_laws.proofs.LoneUnits.{standard-of-lone}
 use Rattle.block_laws.proofs.OwnCalls.{IsCallable, LinksTo, callable, import-heading, import-step, import-value, own-call, own-step, own-value, step_is}
 use Rattle.block_laws.proofs.WorldCells.{Furnishes, in_main, own_is, reached}
@@ -75,12 +76,13 @@ pub record Declares (u : UnitTrees) (notes : ℕ → List HeadingNote) : Type 0 
   pub there : (q : BlockTree) → IsIn q (blocks_of u) → q.block.scope < length (unit_rows u)
   pub implemented : AreImplemented u
 
+pub own_scope : (o : Option ℕ) (s : ℕ) → is_own_definition o s ≡ true → o ≡ Some s
+own_scope None s e = absurd cc
+own_scope (Some q) s e = ap (λ (x : ℕ). Some x) (sym (eqb-true s q e))
+
 either_way : {A : Type 0} (b : Bool) (x y z : A) → b ≡ true → x ≡ z → (if b then x else y) ≡ z
 either_way true x y z e f = f
 either_way false x y z e f = absurd cc
-
-some_is : {A : Type 0} (x y : A) → Some x ≡ Some y → x ≡ y
-some_is {A} x y e = ap (λ (o : Option A). unwrap_or o x) e
 
 module _ (u : UnitTrees) (w : World) (notes : ℕ → List HeadingNote) (has : Furnishes u w (unit_rows u) notes) (known : Declares u notes) (b : BlockTree) (i : IsIn b (blocks_of u)) (behind : home_of u ≤ b.block.scope) (p : Procedure) where
   abbrev scene : Scene
@@ -112,7 +114,7 @@ module _ (u : UnitTrees) (w : World) (notes : ℕ → List HeadingNote) (has : F
       let found = known.before b i s positive low in
       let q : BlockTree = found.0 in
       let d = subst (IsDeclared (IsSeenAs u q) q.tree.kind q.block (notes q.block.scope) (items_of q.tree)) m
-      (each-at (λ (y : Row). IsDeclared (IsSeenAs u q) q.tree.kind q.block (notes q.block.scope) (items_of q.tree) (row_meaning y)) (rows_at (unit_rows u) q.block.scope) (known.rows q found.1) n r
+      (each_at (λ (y : Row). IsDeclared (IsSeenAs u q) q.tree.kind q.block (notes q.block.scope) (items_of q.tree) (row_meaning y)) (rows_at (unit_rows u) q.block.scope) (known.rows q found.1) n r
       (ap (λ (z : ℕ). slice_get (rows_at (unit_rows u) z) n) found.2 ∙ e)) in
       let same = found.2 in
       record {
@@ -133,7 +135,7 @@ module _ (u : UnitTrees) (w : World) (notes : ℕ → List HeadingNote) (has : F
           by_zero : (z : ℕ) → s ≡ z → 0 < z
           by_zero zero f =
               absurd (subst (IsOfLone 0 1) m
-              (each-at (λ (y : Row). IsOfLone 0 1 (row_meaning y)) (rows_at (unit_rows u) 0) (subst (Each (λ (y : Row). IsOfLone 0 1 (row_meaning y))) (sym has.standard) standard-of-lone) n r
+              (each_at (λ (y : Row). IsOfLone 0 1 (row_meaning y)) (rows_at (unit_rows u) 0) (subst (Each (λ (y : Row). IsOfLone 0 1 (row_meaning y))) (sym has.standard) standard-of-lone) n r
               (ap (λ (z : ℕ). slice_get (rows_at (unit_rows u) z) n) (sym f) ∙ e)))
           by_zero (suc z) f = omega arith
 
@@ -185,7 +187,7 @@ module _ (u : UnitTrees) (w : World) (notes : ℕ → List HeadingNote) (has : F
       let same = d.scope in
       let there : home_of u ≤ d.q.block.scope = omega (arith, far, same) in
       let number : k ≡ d.stream - d.q.block.home = numbered d.q d.there d.heading d.stream there d.number in
-      let c0 = callable u w (unit_rows u) notes has d.q d.there there (in_each (HasItsProcedures u) (blocks_of u) d.q known.procedures d.there) d.heading d.stream k d.item number in
+      let c0 = callable u w (unit_rows u) notes has d.q d.there there (each_in (HasItsProcedures u) (blocks_of u) d.q known.procedures d.there) d.heading d.stream k d.item number in
       let c : IsCallable w (home_of u) s d.heading k = subst (λ (z : ℕ). IsCallable w (home_of u) z d.heading k) same c0 in
       let near = not_foreign t k s d.typ far on in
       let calls : call_instr scene (target t k) ≡ Call k (links_to b.block s) =
@@ -203,7 +205,7 @@ module _ (u : UnitTrees) (w : World) (notes : ℕ → List HeadingNote) (has : F
       numbered q j h stream there d = by_order (cases_order q.block.scope (home_of u))
         where
           form : HasItsForm (home_of u) q
-          form = in_each (HasItsForm (home_of u)) (blocks_of u) q known.forms j
+          form = each_in (HasItsForm (home_of u)) (blocks_of u) q known.forms j
 
           by_order : (q.block.scope ≡ home_of u) ⊎ ((q.block.scope < home_of u) ⊎ (home_of u < q.block.scope)) → k ≡ stream - q.block.home
           by_order (inl f) = subst (λ (kind : StreamKind). HasNumber kind q.block (notes q.block.scope) h stream k) (form.module_kind f) d
@@ -241,7 +243,7 @@ module _ (u : UnitTrees) (w : World) (notes : ℕ → List HeadingNote) (has : F
   import-target s n r t k x low other e m =
       let d = says s n r t k x (omega (arith, low, behind)) e m in
       let same = d.scope in
-      let form = in_each (HasItsForm (home_of u)) (blocks_of u) d.q known.forms d.there in
+      let form = each_in (HasItsForm (home_of u)) (blocks_of u) d.q known.forms d.there in
       let defined : HasNumber Definition d.q.block (notes d.q.block.scope) d.heading d.stream k =
       subst (λ (kind : StreamKind). HasNumber kind d.q.block (notes d.q.block.scope) d.heading d.stream k) (form.definition (omega (arith, same, low))) d.number in
       let noted : HasNumber Definition d.q.block (notes s) d.heading d.stream k = subst (λ (z : ℕ). HasNumber Definition d.q.block (notes z) d.heading d.stream k) same defined in
@@ -282,13 +284,13 @@ module _ (u : UnitTrees) (w : World) (notes : ℕ → List HeadingNote) (has : F
   pub sight-low : (s : ℕ) → IsInSight b.block s → s ≤ b.block.scope
   sight-low s (inr h) = let home = (in_main u b i behind).home in omega (arith, h, home, behind)
   sight-low s (inl h) =
-      let first = begins u (blocks_of u) b.block (in_each _ (blocks_of u) b (blocks_stand u) i behind) in
-      let down : Each (λ q. q < b.block.scope) (drop 1 b.block.chain) = in_each GoesDown (blocks_of u) b (chains_down u known.own) i in
+      let first = begins u (blocks_of u) b.block (each_in _ (blocks_of u) b (blocks_stand u) i behind) in
+      let down : Each (λ q. q < b.block.scope) (drop 1 b.block.chain) = each_in GoesDown (blocks_of u) b (chains_down u known.own) i in
       by_chain first.rest (subst (λ (xs : List ℕ). Each (λ q. q < b.block.scope) (drop 1 xs)) first.chain down) (subst (IsIn s) first.chain h)
     where
       by_chain : (rest : List ℕ) → Each (λ q. q < b.block.scope) (drop 1 (b.block.scope ∷ rest)) → IsIn s (b.block.scope ∷ rest) → s ≤ b.block.scope
       by_chain rest d (inl e) = omega (arith, e)
-      by_chain rest d (inr j) = let less : s < b.block.scope = in_each (λ q. q < b.block.scope) rest s d j in omega (arith, less)
+      by_chain rest d (inr j) = let less : s < b.block.scope = each_in (λ q. q < b.block.scope) rest s d j in omega (arith, less)
 
   on-level : (s : ℕ) → IsInSight b.block s → IsOnLevel s
   on-level s (inr h) far e = let home = (in_main u b i behind).home in omega (arith, h, home, far)
@@ -306,10 +308,6 @@ module _ (u : UnitTrees) (w : World) (notes : ℕ → List HeadingNote) (has : F
     pub is : target_of_procedure scene name t k ≡ Some q
     pub called : IsCalled t q
     pub worth : (level_of b.block t.scope == 0) ≡ true → IsWorth q
-
-  definition_is : (o : Option ℕ) (z : ℕ) → is_own_definition o z ≡ true → o ≡ Some z
-  definition_is None z e = absurd cc
-  definition_is (Some q) z e = ap (λ (x : ℕ). Some x) (sym (eqb-true z q e))
 
   entry_here : (name : ℕ) (e : Option Entry) → entry_in (unit_rows u) (home_of u) name ≡ e → entry_in scene.tables scene.block.home name ≡ e
   entry_here name e f =
@@ -345,7 +343,7 @@ module _ (u : UnitTrees) (w : World) (notes : ℕ → List HeadingNote) (has : F
       own_same = (in_main u b i behind).own
 
       by_own : (v : Bool) → is_own_definition b.block.own t.scope ≡ v → HasTarget name t k
-      by_own true g = own-definition s n r t k x name (sym own_same ∙ definition_is b.block.own t.scope g ∙ ap (λ (z : ℕ). Some z) typ) g e m f
+      by_own true g = own-definition s n r t k x name (sym own_same ∙ own_scope b.block.own t.scope g ∙ ap (λ (z : ℕ). Some z) typ) g e m f
       by_own false g =
           let at = other-target s n r t k x (sight-low s sight) (on-level s sight) other e m in
           record {

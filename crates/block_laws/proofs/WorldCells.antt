@@ -19,8 +19,8 @@ use Rattle.row_laws.specs.RowRanges.{IsBelow}
 use Rattle.block_laws.specs.Sight.{IsInSight}
 use Rattle.block_laws.specs.Worlds.{callee_of}
 use Rattle.block_laws.proofs.Chains.{Stands, blocks_stand}
-use Rattle.block_laws.proofs.Links.{HasProcedure, Reaches, in_each, in_module, reach}
-use Rattle.block_laws.proofs.Lone.{each-at}
+use Rattle.block_laws.proofs.Links.{HasProcedure, Reaches, in_module, reach}
+use Rattle.row_laws.proofs.Members.{each_in, each_at}
 
 -- the import that a world has of the definition module with this scope: its cells are those of the rows, its headings the noted ones
 pub record HasImport (w : World) (own : Option ℕ) (all : List (List Row)) (notes : List HeadingNote) (s : ℕ) : Type 0 where
@@ -44,7 +44,7 @@ pub record IsInMain (u : UnitTrees) (b : Block) : Type 0 where
   pub own : b.own ≡ u.own
 
 pub in_main : (u : UnitTrees) (b : BlockTree) → IsIn b (blocks_of u) → home_of u ≤ b.block.scope → IsInMain u b.block
-in_main u b i behind = by_place (in_each _ (blocks_of u) b (blocks_stand u) i behind)
+in_main u b i behind = by_place (each_in _ (blocks_of u) b (blocks_stand u) i behind)
   where
     by_place : Stands u (blocks_of u) b.block → IsInMain u b.block
     by_place (inl h) = record { home = h.home; own = h.own }
@@ -108,7 +108,7 @@ module _ (u : UnitTrees) (w : World) (all : List (List Row)) (notes : ℕ → Li
   cell-there p s n o r sight e fits = by_test (is_own b.block s) refl (level_of b.block s == 0) refl
     where
       below : (cells : ℕ) → Each (λ x. IsBelow cells (row_meaning x)) (rows_at all s) → o < cells
-      below cells h = fits cells (each-at (λ x. IsBelow cells (row_meaning x)) (rows_at all s) h n r e)
+      below cells h = fits cells (each_at (λ x. IsBelow cells (row_meaning x)) (rows_at all s) h n r e)
 
       positive : 0 < s
       positive = by_zero s refl

@@ -18,6 +18,7 @@ use Rattle.block_laws.specs.Worlds.{over_blocks}
 use Rattle.unit_merge.specs.Outputs.{output_diags}
 use Rattle.merge_laws.specs.Outcome.{unit_diags}
 use Rattle.merge_laws.specs.Outputs.{AreNoted, HasNoDiags, noted_in}
+use Rattle.row_laws.proofs.Joined.{none_left}
 
 joined : (outputs : List Output) → flat_map (λ (o : Output). o.diags.items) outputs ≡ flat_map (λ (diags : List Diag). diags) (map (λ (o : Output). o.diags.items) outputs)
 joined [] = refl
@@ -35,10 +36,6 @@ none_in_order (d ∷ ds) e = absurd (by (in_order (d ∷ ds)) (ordered_to (d ∷
     by : (made : List Diag) → IsIn d made → made ≡ [] → ⊥
     by [] i f = i
     by (x ∷ made) i f = cc
-
-none_left : {A : Type 0} (xs ys : List A) → xs ++ ys ≡ [] → (xs ≡ []) × (ys ≡ [])
-none_left [] ys e = (refl, e)
-none_left (x ∷ xs) ys e = absurd cc
 
 none_each : (f : List (List Row) → BlockTree → List Diag) (source : Source) (before : List (List Row)) (blocks : List BlockTree) → flat_map (λ (diags : List Diag). diags) (over_blocks f source before blocks) ≡ []
     → EachBlock (λ ts b. f ts b ≡ []) source before blocks

@@ -26,14 +26,13 @@ use Rattle.m2_base.specs.declared.trees.declarations.StreamKind.TheVariants.{Def
 use Rattle.row_laws.specs.Headings.{HasSoundHeadings}
 use Rattle.row_laws.specs.Procedures.{HasNumber, IsDeclared, IsSeenAs, IsTypeOf}
 use Rattle.row_laws.proofs.ClearUnits.{unit_headings}
+use Rattle.row_laws.proofs.Members.{each_at, each_in}
 use Rattle.row_laws.proofs.Units.{each_block_then}
 use Rattle.stmt_sem.specs.BlockCode.{block_diags}
 use Rattle.block_laws.specs.Worlds.{unit_world}
 use Rattle.block_laws.proofs.BlocksAt.{before_of, unit_made}
 use Rattle.block_laws.proofs.CodeIsValid.{declared-none}
 use Rattle.block_laws.proofs.Implemented.{implements}
-use Rattle.block_laws.proofs.Links.{in_each}
-use Rattle.block_laws.proofs.Lone.{each-at}
 use Rattle.block_laws.proofs.NamedHeadings.{headings-named}
 use Rattle.block_laws.proofs.OwnCalls.{IsCallable, callable, same_cells, same_result}
 use Rattle.block_laws.proofs.UnitWorlds.{IsClear, declared, form, furnishes, made, notes_of, told}
@@ -41,6 +40,7 @@ use Rattle.block_laws.proofs.WorldCalls.{AreImplemented, IsImplemented}
 use Rattle.unit_merge.specs.Objects.{export_in, number_of}
 use Rattle.merge_laws.proofs.Headings.{HasRow, NotesHeadings, NumberedFrom, block_numbered, block_tagged, first_tag, noted, row_tagged, tag_first, tags}
 use Rattle.merge_laws.proofs.OwnCells.{unit_before}
+use Rattle.m2_base.proofs.NoRepeats.{some_is}
 
 -- ** Notes
 
@@ -60,9 +60,6 @@ numbered_at n (x ∷ notes) h e (inr i) =
 first_number : (notes : List HeadingNote) (name : ℕ) → number_of notes name ≡ first_tag (noted notes) name
 first_number [] name = refl
 first_number (h ∷ notes) name = ap (λ (o : Option ℕ). if h.name == name then Some h.number else o) (first_number notes name)
-
-some_is : {A : Type 0} (x y : A) → Some x ≡ Some y → x ≡ y
-some_is {A} x y e = ap (λ (o : Option A). unwrap_or o x) e
 
 -- what an entry of one scope is found by
 entry_first : (tables : List (List Row)) (s name : ℕ) (e : Entry) → entry_in tables s name ≡ Some e → (n : ℕ) × (first_named name (rows_at tables s) 0 ≡ Some (n, e.1))
@@ -137,7 +134,7 @@ module _ (names : List (List ℕ)) (u : UnitTrees) (is : IsClear names u) (read 
   says c q lower n r t k s e m =
       let here : slice_get (made names u is c).rows n ≡ Some r = subst (λ (rs : List Row). slice_get rs n ≡ Some r) (unit_made u is.sound.scopes c q) e in
       let x = subst (IsDeclared (IsSeenAs u c) c.tree.kind c.block (made names u is c).value.headings (items_of c.tree)) m
-      (each-at (λ (y : Row). IsDeclared (IsSeenAs u c) c.tree.kind c.block (made names u is c).value.headings (items_of c.tree) (row_meaning y)) (made names u is c).rows (declared names u is c q) n r here) in
+      (each_at (λ (y : Row). IsDeclared (IsSeenAs u c) c.tree.kind c.block (made names u is c).value.headings (items_of c.tree) (row_meaning y)) (made names u is c).rows (declared names u is c q) n r here) in
       record { heading = x.0; stream = x.1; item = x.2; number = x.4; seen = x.6 b i lower }
 
   -- ** One heading
@@ -171,7 +168,7 @@ module _ (names : List (List ℕ)) (u : UnitTrees) (is : IsClear names u) (read 
 
     call : IsCallable (unit_world u) (home_of u) b.block.scope of_main.heading done.number
     call =
-        callable u (unit_world u) (unit_rows u) (notes_of u) (furnishes names u is read b i behind) b i behind (in_each _ (blocks_of u) b is.blocks.procedures i) of_main.heading of_main.stream done.number of_main.item main_number
+        callable u (unit_world u) (unit_rows u) (notes_of u) (furnishes names u is read b i behind) b i behind (each_in _ (blocks_of u) b is.blocks.procedures i) of_main.heading of_main.stream done.number of_main.item main_number
 
     -- the note of the definition is that of its item
     noted_as : h ≡ record { name = of_own.heading.name.name; number = h.number; params = parameter_cells of_own.heading.sections; result = cells_of_result of_own.heading.result }

@@ -3,7 +3,7 @@ use Rattle.std.specs.Prelude.{◌≡◌, refl, ℕ, suc, ◌+◌, ◌≤◌, ◌
 use Rattle.std.proofs.Common.{ap, subst, sym, ◌∙◌, arith, append_assoc, inl, inr}
 use Rattle.std.proofs.lemmas.List.{append-nil, length-append}
 use Rattle.m2_base.specs.Lists.{Each, IsIn}
-use Rattle.m2_base.specs.Rows.{row_of, row_meaning, basic_of, natural, const_kind, type_name_kind, var_kind, proc_kind, module_kind, alias_kind, field_kind, param_kind, standard_kind, basic_kind, enum_kind, subrange_kind, array_kind, open_array_kind, record_kind, set_kind, pointer_kind, proc_type_kind, opaque_kind}
+use Rattle.m2_base.specs.Rows.{row_of, row_meaning, proc_kind}
 use Rattle.m2_base.specs.Standard.{is_standard}
 use Rattle.m2_base.specs.Statics.BlockRows.{at_item, brought_in, context_of, declare_block, declare_items, first_cell, scene_of}
 use Rattle.m2_base.specs.Statics.Blocks.{BlockTree}
@@ -16,15 +16,14 @@ use Rattle.m2_base.specs.Statics.Lookup.{has_name}
 use Rattle.m2_base.specs.Statics.Makes.{Makes, makes_named, makes_row, next_place, one_row, own_rows, with_rows}
 use Rattle.m2_base.specs.Statics.ProcedureRows.{heading_note, is_proc, is_proc_meaning, parameter_count, proc_number, proc_scope, section_rows, sections_length}
 use Rattle.m2_base.specs.Statics.ProcedureTypes.{result_type}
-use Rattle.m2_base.specs.Statics.ShapedRows.{AreShaped, none_of, more_of}
-use Rattle.m2_base.specs.Statics.Shapes.{Shape, item_shapes, named, section_shapes, type_item_shapes, type_shapes}
+use Rattle.m2_base.specs.Statics.ShapedRows.{AreShaped}
+use Rattle.m2_base.specs.Statics.Shapes.{Shape, item_shapes, named, section_shapes}
 use Rattle.m2_base.specs.Tables.{first_named}
 use Rattle.m2_base.specs.Statics.ImportRows.{alias_row, place_or_broken}
 use Rattle.m2_base.specs.Statics.ImportedConstants.{Member, are_too_many, brought_names, members_of, new_members}
 use Rattle.m2_base.specs.Statics.Layouts.{brought_shape, with_brought}
 use Rattle.m2_base.specs.Statics.Uses.{use_of}
 use Rattle.m2_base.specs.Trees.{Heading}
-use Rattle.m2_base.specs.declared.notes.Diag.{Diag}
 use Rattle.m2_base.specs.declared.outputs.HeadingNote.{HeadingNote}
 use Rattle.m2_base.specs.declared.rows.Place.{Place}
 use Rattle.m2_base.specs.declared.rows.Row.{Row}
@@ -38,7 +37,10 @@ use Rattle.m2_base.proofs.ItemLaws.{item_of, sections_of}
 use Rattle.m2_base.proofs.NoRepeats.{scene_empty, scene_open}
 use Rattle.m2_base.proofs.SceneLaws.{IsOpen, open-with, own-with}
 use Rattle.m2_base.proofs.SoundTypes.{either}
-use Rattle.row_laws.proofs.PlainShapes.{ArePlain, mapped, own_plain, plains, sections_plain, type_item_plain, type_plain}
+use Rattle.row_laws.proofs.Joined.{none_left}
+use Rattle.row_laws.proofs.PlainShapes.{IsNoProcedure, no_procedures}
+use Rattle.row_laws.proofs.TypeShapes.{HaveKinds, MeanKinds, item_kinds, kind_of_meaning, sections_kinds, shaped_means}
+use Rattle.block_laws.proofs.NamedHeadings.{last_none}
 
 -- ** The tags of procedures
 
@@ -65,50 +67,22 @@ noted_append (x ∷ xs) ys = ap (λ ts. (x.name, x.number) ∷ ts) (noted_append
 
 -- ** Rows that are no procedure's
 
-otherwise : {A : Type 0} (P : A → Type 0) (b : Bool) (x y : A) → b ≡ false → P y → P (if b then x else y)
-otherwise P true x y e h = absurd cc
-otherwise P false x y e h = h
+other_untagged : (name : ℕ) (m : RowMeaning) → IsNoProcedure (kind_of_meaning m) → tag_by name m ≡ []
+other_untagged name (Proc t k s) h = absurd cc
+other_untagged name m h = refl
 
-module _ (name : ℕ) where
-  abbrev Untagged : RowMeaning → Type 0
-  Untagged m = tag_by name m ≡ []
-
-  basic_untagged : (n : ℕ) → Untagged (basic_of n)
-  basic_untagged n =
-      either Untagged (n == 1) _ _ refl (either Untagged (n == 2) _ _ refl (either Untagged (n == 3) _ _ refl
-      (either Untagged (n == 4) _ _ refl (either Untagged (n == 5) _ _ refl (either Untagged (n == 6) _ _ refl refl)))))
-
-  kind_untagged : (r : Row) → (r.kind == proc_kind) ≡ false → Untagged (row_meaning r)
-  kind_untagged r e =
-      either Untagged (r.kind == const_kind) _ _ refl (either Untagged (r.kind == type_name_kind) _ _ refl
-      (either Untagged (r.kind == var_kind) _ _ refl
-      (otherwise Untagged (r.kind == proc_kind) _ _ e (either Untagged (r.kind == module_kind) _ _ refl (either Untagged (r.kind == alias_kind) _ _ refl
-      (either Untagged (r.kind == field_kind) _ _ refl (either Untagged (r.kind == param_kind) _ _ refl (either Untagged (r.kind == standard_kind) _ _ refl
-      (either Untagged (r.kind == basic_kind) _ _ (basic_untagged (natural r.a)) (either Untagged (r.kind == enum_kind) _ _ refl (either Untagged (r.kind == subrange_kind) _ _ refl
-      (either Untagged (r.kind == array_kind) _ _ refl (either Untagged (r.kind == open_array_kind) _ _ refl (either Untagged (r.kind == record_kind) _ _ refl
-      (either Untagged (r.kind == set_kind) _ _ refl (either Untagged (r.kind == pointer_kind) _ _ refl (either Untagged (r.kind == proc_type_kind) _ _ refl
-      (either Untagged (r.kind == opaque_kind) _ _ refl refl))))))))))))))))))
+others_untagged : (rows : List Row) → MeanKinds IsNoProcedure rows → tags rows ≡ []
+others_untagged [] h = refl
+others_untagged (r ∷ rows) h = ap (λ ts. ts ++ tags rows) (other_untagged r.name (row_meaning r) h.0) ∙ others_untagged rows h.1
 
 -- no shape is a procedure's
 abbrev AreOther : List Shape → Type 0
-AreOther shapes = Each (λ (s : Shape). (s.kind == proc_kind) ≡ false) shapes
-
-plain_other : (shapes : List Shape) → ArePlain shapes → AreOther shapes
-plain_other [] h = tt
-plain_other (s ∷ shapes) h = (h.0.0, plain_other shapes h.1)
+AreOther shapes = HaveKinds IsNoProcedure shapes
 
 shaped_untagged : (shapes : List Shape) (rows : List Row) → AreShaped shapes rows → AreOther shapes → tags rows ≡ []
-shaped_untagged [] [] none_of h = refl
-shaped_untagged [] (r ∷ rows) is h = elim is [ ]
-shaped_untagged (s ∷ shapes) [] is h = elim is [ ]
-shaped_untagged (s ∷ shapes) (r ∷ rows) (more_of is rest) h =
-    ap (λ ts. ts ++ tags rows) (kind_untagged r.name r (ap (λ (k : ℕ). k == proc_kind) is.kind ∙ h.0)) ∙ shaped_untagged shapes rows rest h.1
+shaped_untagged shapes rows is h = others_untagged rows (shaped_means IsNoProcedure refl shapes rows is h)
 
 -- ** A procedure's row
-
-none_left : {A : Type 0} (xs ys : List A) → xs ++ ys ≡ [] → (xs ≡ []) × (ys ≡ [])
-none_left [] ys e = (refl, e)
-none_left (x ∷ xs) ys e = absurd cc
 
 named_tagged : (c : Context) (name at : ℕ) (t : Place) (k s : ℕ) → (makes_named c name at (Proc t k s)).diags ≡ [] → tags (makes_named c name at (Proc t k s)).rows ≡ (name, k) ∷ []
 named_tagged c name at t k s none = by_tests (is_standard name) (has_name c.scene.tables c.scene.block.scope name) none
@@ -119,12 +93,6 @@ named_tagged c name at t k s none = by_tests (is_standard name) (has_name c.scen
     by_tests true w f = absurd cc
     by_tests false true f = absurd cc
     by_tests false false f = refl
-
--- what comes last of these parts has no diagnostic
-last_none : (a b c d : List Diag) → (a ++ (b ++ (c ++ (d ++ [])))) ++ [] ≡ [] → d ≡ []
-last_none a b c d e =
-    let rest = (none_left a (b ++ (c ++ (d ++ []))) (none_left (a ++ (b ++ (c ++ (d ++ [])))) [] e).0).1 in
-    (none_left d [] (none_left c (d ++ []) (none_left b (c ++ (d ++ [])) rest).1).1).0
 
 type_untagged : (e : Context) (at : ℕ) (r : Option Place) (k first : ℕ) → tags (makes_row e at (ProcType r k first)).rows ≡ []
 type_untagged e at None k first = refl
@@ -146,7 +114,7 @@ procedure_tagged h stream c kind cell none =
     tags_append (sections.rows ++ (typ.rows ++ (row.rows ++ []))) []
     ∙ append-nil (tags (sections.rows ++ (typ.rows ++ (row.rows ++ []))))
     ∙ tags_append sections.rows (typ.rows ++ (row.rows ++ []))
-    ∙ ap (λ ts. ts ++ tags (typ.rows ++ (row.rows ++ []))) (shaped_untagged (flat_map section_shapes h.sections) sections.rows (sections_of h.sections c (first + sections_length h.sections)) (plain_other _ (sections_plain h.sections)))
+    ∙ ap (λ ts. ts ++ tags (typ.rows ++ (row.rows ++ []))) (shaped_untagged (flat_map section_shapes h.sections) sections.rows (sections_of h.sections c (first + sections_length h.sections)) (sections_kinds IsNoProcedure no_procedures h.sections))
     ∙ tags_append typ.rows (row.rows ++ [])
     ∙ ap (λ ts. ts ++ tags (row.rows ++ [])) (type_untagged e h.name.at result.value (parameter_count h.sections) first)
     ∙ tags_append row.rows [] ∙ append-nil (tags row.rows)
@@ -193,14 +161,14 @@ import_other m i c kind cell =
 
 item_tagged : (x : Item) (c : Context) (kind : StreamKind) (cell : ℕ) → NotesHeadings kind → (declare c kind x cell).diags ≡ []
     → tags (declare c kind x cell).rows ≡ noted (heading_list (declare c kind x cell).value.heading)
-item_tagged (heading_item h) c kind cell is none = shaped_untagged _ _ (item_of (heading_item h) c kind cell) (plain_other _ (own_plain h.sections))
+item_tagged (heading_item h) c kind cell is none = shaped_untagged _ _ (item_of (heading_item h) c kind cell) (item_kinds IsNoProcedure no_procedures (heading_item h) refl)
 item_tagged (import_item None i) c kind cell is none = shaped_untagged _ _ (item_of (import_item None i) c kind cell) (refl, tt)
 item_tagged (import_item (Some m) i) c kind cell is none = shaped_untagged _ _ (item_of (import_item (Some m) i) c kind cell) (import_other m i c kind cell)
 item_tagged (const_item i e) c kind cell is none = shaped_untagged _ _ (item_of (const_item i e) c kind cell) (refl, tt)
 item_tagged (type_item i t) c kind cell is none =
-    shaped_untagged _ _ (item_of (type_item i t) c kind cell) (plain_other _ (plains (type_item_shapes i t) _ (type_item_plain i t) ((refl, refl, refl), tt)))
+    shaped_untagged _ _ (item_of (type_item i t) c kind cell) (item_kinds IsNoProcedure no_procedures (type_item i t) refl)
 item_tagged (vars_item idents t) c kind cell is none =
-    shaped_untagged _ _ (item_of (vars_item idents t) c kind cell) (plain_other _ (plains (type_shapes t) _ (type_plain t) (mapped (named var_kind) idents (λ i. (refl, refl, refl)))))
+    shaped_untagged _ _ (item_of (vars_item idents t) c kind cell) (item_kinds IsNoProcedure no_procedures (vars_item idents t) refl)
 item_tagged (proc_item h stream) c kind cell is none =
     procedure_tagged h stream c kind cell none ∙ sym (note_tagged kind h (proc_number c kind stream) is)
 

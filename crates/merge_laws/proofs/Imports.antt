@@ -3,6 +3,7 @@ use Rattle.std.specs.Prelude.{◌≡◌, refl, ℕ, ◌+◌, ◌*◌, ◌^◌, �
 use Rattle.std.specs.List.{AllZip, list_any}
 use Rattle.std.specs.Str.{bytes_eq}
 use Rattle.std.proofs.Common.{ap, subst, sym, ◌∙◌, inl, inr, arith}
+use Rattle.std.proofs.lemmas.Bool.{and_from}
 use Rattle.std.proofs.lemmas.List.{length-append, length-map}
 use Rattle.std.proofs.lemmas.Slice.Eq.{bytes_eq-Decides}
 use Rattle.code_form.specs.Heights.{Callee}
@@ -27,6 +28,7 @@ use Rattle.m2_base.specs.declared.trees.Qual.{Qual}
 use Rattle.m2_base.specs.declared.trees.declarations.StreamKind.{StreamKind}
 use Rattle.m2_base.specs.declared.trees.declarations.StreamKind.TheVariants.{Definition, Main, Procedure}
 use Rattle.m2_base.proofs.EachLaws.{each_append}
+use Rattle.m2_base.proofs.NoRepeats.{some_is}
 use Rattle.block_laws.specs.Worlds.{callee_of, import_over, name_bytes, over_blocks}
 use Rattle.definition_keys.specs.Keys.{Keys}
 use Rattle.object_file.specs.Contents.{KeyedImport}
@@ -35,7 +37,6 @@ use Rattle.object_file.specs.ObjectFormat.{is_identifier, is_new_name}
 use Rattle.unit_merge.specs.Objects.{HasItsNumber, spelled}
 use Rattle.merge_laws.specs.UnitObject.{keyed}
 use Rattle.merge_laws.proofs.Identifiers.{identifier_is}
-use Rattle.merge_laws.proofs.Lists.{both_true}
 
 -- ** The names of imports
 
@@ -54,9 +55,6 @@ keyed_named names source before (b ∷ blocks) (k ∷ ks) (tree ∷ trees) rest 
     let its : b.tree ≡ tree = cc in
     let others : map (λ (x : BlockTree). x.tree) blocks ≡ trees ++ rest = let f = t in cc in
     (ap (λ (x : Stream). name_bytes source x.name) its ∙ sym z.0, keyed_named names source (before ++ (declare_block source before b).rows ∷ []) blocks ks trees rest others z.1)
-
-some_is : (x y : ℕ) → Some x ≡ Some y → x ≡ y
-some_is x y e = cc
 
 module _ (names : List (List ℕ)) where
   -- the names of two modules are equal only where their numbers are
@@ -104,7 +102,7 @@ module _ (names : List (List ℕ)) where
       let identifier : is_identifier i.definition.name ≡ true = ap is_identifier z.0 ∙ identifier_is (spelled names k.0) d.0.spelled in
       let none : list_any (λ (x : KeyedImport). bytes_eq i.definition.name x.definition.name) before ≡ false =
       subst (λ (name : List ℕ). list_any (λ (x : KeyedImport). bytes_eq name x.definition.name) before ≡ false) (sym z.0) (not_among k.0 before bks n.0 zb nb apart.0) in (
-        both_true (is_identifier i.definition.name) (not (list_any (λ (x : KeyedImport). bytes_eq i.definition.name x.definition.name) before)) identifier (ap not none),
+        and_from (is_identifier i.definition.name) (not (list_any (λ (x : KeyedImport). bytes_eq i.definition.name x.definition.name) before)) identifier (ap not none),
         names_are_new (before ++ i ∷ []) (bks ++ k ∷ []) xs ks (zip_more before bks i k zb z.0) z.1 (each_more bks k nb n.0) n.1 d.1 (further ks apart.1 differ.0) differ.1,
       )
     where

@@ -1,5 +1,5 @@
 -- What is made of each block of a unit, and the parts of such lists.
-use Rattle.std.specs.Prelude.{◌≡◌, refl, ℕ, zero, suc, ◌+◌, ◌-◌, Bool, true, false, ◌&&◌, List, [], ◌∷◌, ◌++◌, drop, length, map, slice_get, take, Option, Some, None}
+use Rattle.std.specs.Prelude.{◌≡◌, refl, ℕ, zero, suc, ◌+◌, ◌-◌, Bool, true, ◌&&◌, List, [], ◌∷◌, ◌++◌, drop, length, map, slice_get, take, Option, Some, None}
 use Rattle.std.specs.List.{AllZip, list_all}
 use Rattle.std.proofs.Common.{ap, subst, sym, ◌∙◌, inl, inr, arith}
 use Rattle.m2_base.specs.Lists.{Each, IsIn}
@@ -13,6 +13,7 @@ use Rattle.m2_base.proofs.EachLaws.{each_append}
 use Rattle.block_laws.specs.Worlds.{of_blocks, over_blocks, without_own}
 use Rattle.block_laws.proofs.BlocksAt.{before_at, before_of, in_at, scope_at}
 use Rattle.object_file.specs.FieldsOf.{AllBehind}
+use Rattle.row_laws.proofs.Members.{each_drop, each_take}
 
 -- ** Blocks
 
@@ -53,29 +54,6 @@ unit_from f u scopes j x e =
     }
 
 -- ** Each item
-
-pub each_from : {A : Type 0} (P : A → Type 0) (xs : List A) → ((j : ℕ) (x : A) → slice_get xs j ≡ Some x → P x) → Each P xs
-each_from P [] f = tt
-each_from P (x ∷ xs) f = (f 0 x refl, each_from P xs (λ j y e. f (suc j) y e))
-
-pub each_in : {A : Type 0} (P : A → Type 0) (xs : List A) → ((x : A) → IsIn x xs → P x) → Each P xs
-each_in P [] f = tt
-each_in P (x ∷ xs) f = (f x (inl refl), each_in P xs (λ y i. f y (inr i)))
-
-pub each_with : {A : Type 0} (P : A → Type 0) (x : A) (xs : List A) → Each P xs → IsIn x xs → P x
-each_with P x [] h i = absurd i
-each_with P x (y ∷ xs) h (inl e) = subst P (sym e) h.0
-each_with P x (y ∷ xs) h (inr i) = each_with P x xs h.1 i
-
-pub each_take : {A : Type 0} (P : A → Type 0) (n : ℕ) (xs : List A) → Each P xs → Each P (take n xs)
-each_take P zero xs h = tt
-each_take P (suc n) [] h = tt
-each_take P (suc n) (x ∷ xs) h = (h.0, each_take P n xs h.1)
-
-pub each_drop : {A : Type 0} (P : A → Type 0) (n : ℕ) (xs : List A) → Each P xs → Each P (drop n xs)
-each_drop P zero xs h = h
-each_drop P (suc n) [] h = tt
-each_drop P (suc n) (x ∷ xs) h = each_drop P n xs h.1
 
 pub each_without : {A : Type 0} (P : A → Type 0) (own : Option ℕ) (xs : List A) → Each P xs → Each P (without_own own xs)
 each_without P None xs h = h
@@ -145,7 +123,3 @@ behind_both N Asked P f before (x ∷ xs) h k = (f before x h.0 k.0, behind_both
 pub all_true : {A B : Type 0} (test : B → Bool) (f : A → B) (xs : List A) → ((x : A) → IsIn x xs → test (f x) ≡ true) → list_all test (map f xs) ≡ true
 all_true test f [] h = refl
 all_true test f (x ∷ xs) h = (λ i. h x (inl refl) i && list_all test (map f xs)) ∙ all_true test f xs (λ y i. h y (inr i))
-
-pub both_true : (a b : Bool) → a ≡ true → b ≡ true → (a && b) ≡ true
-both_true true b e f = f
-both_true false b e f = e

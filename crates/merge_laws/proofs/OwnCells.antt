@@ -22,12 +22,12 @@ use Rattle.m2_base.proofs.SoundBlocks.{rows_before}
 use Rattle.row_laws.proofs.Agreeing.{Ready}
 use Rattle.row_laws.proofs.Fitting.{IsFit, IsInModule, blocks_fit}
 use Rattle.row_laws.proofs.MadeBy.{stays}
+use Rattle.row_laws.proofs.Members.{each_in}
 use Rattle.row_laws.proofs.OwnCells.{block_counted}
 use Rattle.row_laws.proofs.Scenes.{block_ready}
 use Rattle.row_laws.proofs.Units.{unit_whole}
 use Rattle.row_laws.proofs.Whole.{Whole, there_scope}
 use Rattle.block_laws.proofs.BlocksAt.{before_at, before_of, unit_made, unit_place}
-use Rattle.block_laws.proofs.Links.{in_each}
 use Rattle.block_laws.proofs.UnitWorlds.{IsClear, form, made}
 use Rattle.merge_laws.proofs.Growing.{first_fits}
 
@@ -73,11 +73,11 @@ module _ (names : List (List ℕ)) (u : UnitTrees) (is : IsClear names u) where
       before_same u.source (standard_rows ∷ []) (blocks_of u) (b.block.scope - 1) b place.0 q (omega (arith, h, positive))
 
   fits : (b : BlockTree) → IsIn b (blocks_of u) → IsFit u.own (home_of u) b.block
-  fits b i = in_each (λ (c : BlockTree). IsFit u.own (home_of u) c.block) (blocks_of u) b (blocks_fit u) i
+  fits b i = each_in (λ (c : BlockTree). IsFit u.own (home_of u) c.block) (blocks_of u) b (blocks_fit u) i
 
   is_ready : (b : BlockTree) → IsIn b (blocks_of u) → IsReady (length names) u.source (before_of u b) b
   is_ready b i =
-      let good = in_each (IsSoundBlock (length names) u.source) (blocks_of u) b is.sound.blocks i in
+      let good = each_in (IsSoundBlock (length names) u.source) (blocks_of u) b is.sound.blocks i in
       let place = unit_place u is.sound.scopes b i in
       let long = unit_before b i in
       record {
@@ -129,7 +129,7 @@ module _ (names : List (List ℕ)) (u : UnitTrees) (is : IsClear names u) where
         by_order (inr (inr more)) = absurd (omega (arith, h, more))
 
     headless : d.tree.heading ≡ None
-    headless = in_each (λ (c : BlockTree). c.block.scope < home_of u → c.tree.heading ≡ None) (blocks_of u) d is.sound.headings j low
+    headless = each_in (λ (c : BlockTree). c.block.scope < home_of u → c.tree.heading ≡ None) (blocks_of u) d is.sound.headings j low
 
     -- its rows count the cells of its variables, wherever its scopes are seen
     counted : (seen : Scene) → ((q : ℕ) → q ≤ d.block.scope → rows_at seen.tables q ≡ rows_at all q) → cells_after seen 0 (rows_at all d.block.scope) ≡ (made names u is d).value.cell

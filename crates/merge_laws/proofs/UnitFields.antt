@@ -2,7 +2,7 @@
 use Rattle.std.specs.Prelude.{◌≡◌, refl, ℕ, zero, suc, ◌+◌, ◌-◌, ◌^◌, ◌<◌, ◌≤◌, ◌⊎◌, ◌==◌, ◌&&◌, ◌||◌, not, nat_le, nat_lt, Bool, true, false, if◌then◌else◌, List, [], ◌∷◌, ◌++◌, drop, length, map, slice_get, slice_index, slice_index_or, take, Option, Some, None}
 use Rattle.std.specs.List.{AllZip, list_all}
 use Rattle.std.proofs.Common.{ap, subst, sym, ◌∙◌, inl, inr, arith}
-use Rattle.std.proofs.lemmas.Bool.{cases_order, eq-eqb, eqb-true, le-leb, lt-ltb}
+use Rattle.std.proofs.lemmas.Bool.{cases_order, eq-eqb, eqb-true, le-leb, lt-ltb, and_from, or_right}
 use Rattle.std.proofs.lemmas.List.{length-append, length-drop, length-map, length-take}
 use Rattle.std.proofs.lemmas.Option.{get_or_from_slice_get, slice_get_cases, slice_get_within}
 use Rattle.std.proofs.lemmas.Slice.Zip.{AllZip-long}
@@ -32,6 +32,8 @@ use Rattle.m2_base.specs.declared.outputs.HeadingNote.{HeadingNote}
 use Rattle.m2_base.specs.declared.rows.Row.{Row}
 use Rattle.m2_base.specs.declared.trees.Qual.{Qual}
 use Rattle.row_laws.specs.RowRanges.{EachBlock}
+use Rattle.row_laws.proofs.Joined.{in_append}
+use Rattle.row_laws.proofs.Members.{each_got, each_in, each_take}
 use Rattle.row_laws.proofs.TextBlocks as texts_blocks
 use Rattle.stream_split.proofs.BlocksAgree.{blocks_agree}
 use Rattle.stream_split.proofs.ReadUnits.{trees_read}
@@ -43,7 +45,7 @@ use Rattle.block_laws.specs.Worlds.{callee_of, import_over, name_bytes, of_block
 use Rattle.block_laws.proofs.BlocksAt.{at_drop, before_of, in_at, scope_at, unit_each, unit_over, unit_place}
 use Rattle.block_laws.proofs.Chains.{Stands, blocks_stand}
 use Rattle.block_laws.proofs.InRange.{block-leads}
-use Rattle.block_laws.proofs.Links.{begins, in_each, unequal}
+use Rattle.block_laws.proofs.Links.{begins, unequal}
 use Rattle.block_laws.proofs.Named.{HasRoom}
 use Rattle.block_laws.proofs.UnitWorlds.{IsClear, earlier, form, has_procedure, has_room, made, ranges, reads}
 use Rattle.block_laws.proofs.WorldCells.{in_main}
@@ -66,9 +68,10 @@ use Rattle.merge_laws.proofs.Exports.{IsExported, exported}
 use Rattle.merge_laws.proofs.Growing.{parameters_fit}
 use Rattle.merge_laws.proofs.Identifiers.{identifier_is}
 use Rattle.merge_laws.proofs.Imports.{block_headings, keyed_named, names_are_new}
-use Rattle.merge_laws.proofs.Lists.{all_true, behind_both, behind_from, both_true, each_from, each_take, each_with, each_without, map_without, over_long, unit_from, zip_without}
+use Rattle.merge_laws.proofs.Lists.{all_true, behind_both, behind_from, each_without, map_without, over_long, unit_from, zip_without}
 use Rattle.merge_laws.proofs.OwnCells.{own_cells_fit}
 use Rattle.merge_laws.proofs.UnitNames.{keys, keys_are_long, keys_are_named, keys_differ, keys_name_trees, keys_of_order, main_is_named, main_name}
+use Rattle.m2_base.proofs.NoRepeats.{some_is}
 
 -- ** Keys
 
@@ -118,15 +121,6 @@ in_dropped x zero xs i = i
 in_dropped x (suc n) [] i = absurd i
 in_dropped x (suc n) (y ∷ xs) i = inr (in_dropped x n xs i)
 
-in_either : (x : ℕ) (xs ys : List ℕ) → IsIn x (xs ++ ys) → IsIn x xs ⊎ IsIn x ys
-in_either x [] ys i = inr i
-in_either x (y ∷ xs) ys (inl e) = inl (inl e)
-in_either x (y ∷ xs) ys (inr i) = by (in_either x xs ys i)
-  where
-    by : IsIn x xs ⊎ IsIn x ys → IsIn x (y ∷ xs) ⊎ IsIn x ys
-    by (inl j) = inl (inr j)
-    by (inr j) = inr j
-
 differ_dropped : (n : ℕ) (xs : List ℕ) → AllDiffer xs → AllDiffer (drop n xs)
 differ_dropped zero xs h = h
 differ_dropped (suc n) [] h = tt
@@ -137,7 +131,7 @@ differ_between : (m n : ℕ) (xs : List ℕ) → m ≤ n → AllDiffer xs → Al
 differ_between zero n xs l h = differ_dropped n xs h
 differ_between (suc m) zero xs l h = absurd (omega (arith, l))
 differ_between (suc m) (suc n) [] l h = tt
-differ_between (suc m) (suc n) (x ∷ xs) l h = (λ i. h.0 (by (in_either x (take m xs) (drop n xs) i)), differ_between m n xs (omega (arith, l)) h.1)
+differ_between (suc m) (suc n) (x ∷ xs) l h = (λ i. h.0 (by (in_append x (take m xs) (drop n xs) i)), differ_between m n xs (omega (arith, l)) h.1)
   where
     by : IsIn x (take m xs) ⊎ IsIn x (drop n xs) → IsIn x xs
     by (inl i) = in_taken x m xs i
@@ -160,9 +154,6 @@ zip_each R P Q f (x ∷ xs) (y ∷ ys) z h = (f x y z.0 h.0, zip_each R P Q f xs
 each_both : {A : Type 0} (P Q : A → Type 0) (xs : List A) → Each P xs → Each Q xs → Each (λ x. P x × Q x) xs
 each_both P Q [] h k = tt
 each_both P Q (x ∷ xs) h k = ((h.0, k.0), each_both P Q xs h.1 k.1)
-
-some_is : {A : Type 0} (x y : A) → Some x ≡ Some y → x ≡ y
-some_is x y e = cc
 
 -- ** Code
 
@@ -331,13 +322,13 @@ module _ (texts : UnitTexts) (unit : IsUnit texts) (front : TextOf → Front) (w
         by (inr (inr l)) = inr l
 
     outer_is : (outer_of b.block < b.block.scope - home_of u) ⊎ ((b.block.scope - home_of u ≡ 0) × (outer_of b.block ≡ 0))
-    outer_is = by (in_each _ (blocks_of u) b (blocks_stand u) i behind)
+    outer_is = by (each_in _ (blocks_of u) b (blocks_stand u) i behind)
       where
         by : Stands u (blocks_of u) b.block → (outer_of b.block < b.block.scope - home_of u) ⊎ ((b.block.scope - home_of u ≡ 0) × (outer_of b.block ≡ 0))
         by (inl h) = inr ((let s = h.scope in omega (arith, s)), ap (λ (t : Bool). if t then 0 else slice_index b.block.chain 1 - b.block.home) (eq-eqb b.block.level 0 h.level))
         by (inr h) =
             let level = h.level in
-            let first = begins u (blocks_of u) h.outer.block (in_each _ (blocks_of u) h.outer (blocks_stand u) h.there h.behind) in
+            let first = begins u (blocks_of u) h.outer.block (each_in _ (blocks_of u) h.outer (blocks_stand u) h.there h.behind) in
             let number : outer_of b.block ≡ h.outer.block.scope - home_of u =
             ap (λ (t : Bool). if t then 0 else slice_index b.block.chain 1 - b.block.home) (unequal b.block.level 0 (λ e. omega (arith, e, level)))
             ∙ ap (λ (xs : List ℕ). slice_index xs 1 - b.block.home) (h.chain ∙ ap (λ (xs : List ℕ). b.block.scope ∷ xs) first.chain) ∙ ap (λ (n : ℕ). h.outer.block.scope - n) h.home in
@@ -380,7 +371,7 @@ module _ (texts : UnitTexts) (unit : IsUnit texts) (front : TextOf → Front) (w
       inside = params_fit;
       locals = room.cells;
       bytes = data_short;
-      code_short = let short = block-in_range u.source (before_of u b) (unit_rows u) b (each_with (λ (c : BlockTree). block_tokens c.tree ≤ 1048576) b (blocks_of u) (blocks_short texts u unit read) i) in omega (arith, short);
+      code_short = let short = block-in_range u.source (before_of u b) (unit_rows u) b (each_in (λ (c : BlockTree). block_tokens c.tree ≤ 1048576) (blocks_of u) b (blocks_short texts u unit read) i) in omega (arith, short);
     }
 
   abbrev procedures : List Procedure
@@ -458,7 +449,7 @@ module _ (texts : UnitTexts) (unit : IsUnit texts) (front : TextOf → Front) (w
   counted : is_count exports (length procedures) ≡ true
   unfolding is_count
   counted =
-      both_true (nat_le 1 (length procedures)) (list_all (λ (e : Export). nat_lt e.0 (length procedures)) exports) (le-leb 1 (length procedures) procedures_some)
+      and_from (nat_le 1 (length procedures)) (list_all (λ (e : Export). nat_lt e.0 (length procedures)) exports) (le-leb 1 (length procedures) procedures_some)
       (all_true (λ (e : Export). nat_lt e.0 (length procedures)) (export_in mine) its
       (λ h i. let x = all_exported h i in lt-ltb (export_in mine h).0 (length procedures) (slice_get_within procedures (export_in mine h).0 x.p x.there)))
 
@@ -466,19 +457,11 @@ module _ (texts : UnitTexts) (unit : IsUnit texts) (front : TextOf → Front) (w
 
   outer_test : (k : ℕ) (p : Procedure) → (p.outer < k) ⊎ ((k ≡ 0) × (p.outer ≡ 0)) → (nat_lt p.outer k || (k == 0 && p.outer == 0)) ≡ true
   outer_test k p (inl l) = ap (λ (t : Bool). t || (k == 0 && p.outer == 0)) (lt-ltb p.outer k l)
-  outer_test k p (inr h) = by (nat_lt p.outer k) (both_true (k == 0) (p.outer == 0) (eq-eqb k 0 h.0) (eq-eqb p.outer 0 h.1))
-    where
-      by : (t : Bool) {x : Bool} → x ≡ true → (t || x) ≡ true
-      by true e = refl
-      by false e = e
+  outer_test k p (inr h) = or_right (nat_lt p.outer k) _ (and_from (k == 0) (p.outer == 0) (eq-eqb k 0 h.0) (eq-eqb p.outer 0 h.1))
 
   zero_test : (k n : ℕ) → (0 < k) ⊎ (n ≡ 0) → (nat_lt 0 k || n == 0) ≡ true
   zero_test k n (inl l) = ap (λ (t : Bool). t || n == 0) (lt-ltb 0 k l)
-  zero_test k n (inr e) = by (nat_lt 0 k) (eq-eqb n 0 e)
-    where
-      by : (t : Bool) {x : Bool} → x ≡ true → (t || x) ≡ true
-      by true e = refl
-      by false e = e
+  zero_test k n (inr e) = or_right (nat_lt 0 k) _ (eq-eqb n 0 e)
 
   module _ (heights : HaveLowHeights u) where
     high_at : (k : ℕ) (p : Procedure) → slice_get procedures k ≡ Some p → p.high < 2 ^ 32
@@ -512,14 +495,14 @@ module _ (texts : UnitTexts) (unit : IsUnit texts) (front : TextOf → Front) (w
             let locals = frame.locals in
             let result = frame.result.0 in
             record {
-              outer = both_true _ _ (outer_test k p frame.outer) (exported_test k p e (λ x. p.outer == 0) (λ h x same. eq-eqb p.outer 0 (sym (ap (λ (q : Procedure). q.outer) same) ∙ x.outer)));
+              outer = and_from _ _ (outer_test k p frame.outer) (exported_test k p e (λ x. p.outer == 0) (λ h x same. eq-eqb p.outer 0 (sym (ap (λ (q : Procedure). q.outer) same) ∙ x.outer)));
               outer_fits = outer_low k p frame.outer (omega (arith, within, few));
-              params = both_true _ _ (zero_test k p.params frame.params) (exported_test k p e (λ x. p.params == x.1) (λ h x same. eq-eqb p.params h.params (sym (ap (λ (q : Procedure). q.params) same) ∙ x.params)));
+              params = and_from _ _ (zero_test k p.params frame.params) (exported_test k p e (λ x. p.params == x.1) (λ h x same. eq-eqb p.params h.params (sym (ap (λ (q : Procedure). q.params) same) ∙ x.params)));
               params_fit = omega (arith, inside, locals);
-              result = both_true _ _ (both_true _ _ (le-leb p.result 1 result) (zero_test k p.result frame.result.1))
+              result = and_from _ _ (and_from _ _ (le-leb p.result 1 result) (zero_test k p.result frame.result.1))
                   (exported_test k p e (λ x. p.result == x.2) (λ h x same. eq-eqb p.result h.result (sym (ap (λ (q : Procedure). q.result) same) ∙ x.result)));
               result_fits = omega (arith, result);
-              locals = both_true _ _ (le-leb p.params p.locals inside) (le-leb p.locals most_cells locals);
+              locals = and_from _ _ (le-leb p.params p.locals inside) (le-leb p.locals most_cells locals);
               locals_fit = omega (arith, locals);
               high = high_at k p e;
               bytes_short = frame.bytes;
@@ -557,7 +540,7 @@ module _ (texts : UnitTexts) (unit : IsUnit texts) (front : TextOf → Front) (w
   fitting : Each IsFitting (definitions_in u)
   fitting =
       each_take IsFitting (length u.definitions) (of_blocks (import_over u.source) u)
-      (each_from IsFitting (of_blocks (import_over u.source) u) (λ j x e.
+      (each_got IsFitting (of_blocks (import_over u.source) u) (λ j x e.
       let m = unit_from (import_over u.source) u is.sound.scopes j x e in
       subst IsFitting (sym m.is) (fits m.block m.there)))
     where
@@ -566,7 +549,7 @@ module _ (texts : UnitTexts) (unit : IsUnit texts) (front : TextOf → Front) (w
           let cell = (ranges names u is b i).effects.cell in
           let headings = block_headings u.source (before_of u b) b in
           let few = headings.few in
-          let rows = (in_each (IsSoundBlock (length names) u.source) (blocks_of u) b is.sound.blocks i).few in
+          let rows = (each_in (IsSoundBlock (length names) u.source) (blocks_of u) b is.sound.blocks i).few in
           let long = length-map (made names u is b).value.headings callee_of in
           (omega (arith, cell), omega (arith, few, rows, long), headings.callees (omega (arith, rows)))
 
@@ -669,7 +652,7 @@ module _ (texts : UnitTexts) (unit : IsUnit texts) (front : TextOf → Front) (w
               let all = length-map (slice_index_or (headings_in u) (s - 1) []) (export_in mine) in
               let same = ap length headings in
               let few = (block_headings u.source (before_of u own.d) own.d).few in
-              let rows = (in_each (IsSoundBlock (length names) u.source) (blocks_of u) own.d is.sound.blocks own.there).few in
+              let rows = (each_in (IsSoundBlock (length names) u.source) (blocks_of u) own.d is.sound.blocks own.there).few in
               omega (arith, all, same, few, rows)
 
       keyed_own : WhereKept u.own (λ s. s - 1 < length ks)

@@ -20,6 +20,8 @@ use Rattle.unit_merge.specs.Objects.{name_in, spelled}
 use Rattle.merge_laws.specs.Texts.{HasFront, IsWhole}
 use Rattle.merge_laws.specs.UnitObject.{module_name}
 use Rattle.merge_laws.proofs.Fronts.{HasName, IsNamedMain, definition_named, main_named}
+use Rattle.m2_base.proofs.NoRepeats.{some_is}
+use Rattle.row_laws.proofs.Members.{each_index}
 
 -- ** Lists
 
@@ -28,18 +30,10 @@ got [] k d h = absurd (omega (arith, h))
 got (x ∷ xs) zero d h = refl
 got (x ∷ xs) (suc k) d h = got xs k d (omega (arith, h))
 
-pub each_got : {A : Type 0} (P : A → Type 0) (xs : List A) (k : ℕ) (d : A) → Each P xs → k < length xs → P (slice_index_or xs k d)
-each_got P [] k d h l = absurd (omega (arith, l))
-each_got P (x ∷ xs) zero d h l = h.0
-each_got P (x ∷ xs) (suc k) d h l = each_got P xs k d h.1 (omega (arith, l))
-
-some_is : {A : Type 0} (x y : A) → Some x ≡ Some y → x ≡ y
-some_is x y e = cc
-
 definition_text : (list : List TextOf) → HasOneMain list → (k : ℕ) → 0 < k → k < length list → (slice_index_or list k no_text).definition ≡ true
 definition_text [] h k p l = absurd h
 definition_text (main ∷ texts) h zero p l = absurd (omega (arith, p))
-definition_text (main ∷ texts) h (suc k) p l = each_got (λ (t : TextOf). t.definition ≡ true) texts k no_text h.1 (omega (arith, l))
+definition_text (main ∷ texts) h (suc k) p l = each_index (λ (t : TextOf). t.definition ≡ true) texts no_text h.1 k (omega (arith, l))
 
 main_text : (list : List TextOf) → HasOneMain list → (0 < length list) × ((slice_index_or list 0 no_text).definition ≡ false)
 main_text [] h = absurd h
@@ -61,15 +55,15 @@ module _ (texts : UnitTexts) (unit : IsUnit texts) (front : TextOf → Front) (w
   by_front : (k : ℕ) → k < length texts.list → (f : grammar.Front) → IsFront (text_at k).definition (text_at k).tokens f → (tree : Stream) → HasName tree f → IsNamedAs (text_at k).name tree
   by_front k low f is tree has =
       let same : front (text_at k) ≡ front_of f =
-      each_got (λ t. (f : grammar.Front) → IsFront t.definition t.tokens f → front t ≡ front_of f) texts.list k no_text whole.fronts low f is in
+      each_index (λ t. (f : grammar.Front) → IsFront t.definition t.tokens f → front t ≡ front_of f) texts.list no_text whole.fronts k low f is in
       let told : (front (text_at k)).name ≡ Some has.name.name = ap (λ (x : Front). x.name) same ∙ ap (option_map (λ (i : Ident). i.name)) has.of_front in
-      record { ident = has.name; named = has.of_tree; same = each_got (λ t. (name : ℕ) → (front t).name ≡ Some name → name ≡ t.name) texts.list k no_text whole.whole.named low has.name.name told }
+      record { ident = has.name; named = has.of_tree; same = each_index (λ t. (name : ℕ) → (front t).name ≡ Some name → name ≡ t.name) texts.list no_text whole.whole.named k low has.name.name told }
 
   pub definition_name : (k : ℕ) → IsDefinition texts.list k → (tree : Stream) → SpellsDefinition (tree ∷ []) (tokens_of texts k) → IsNamedAs (text_at k).name tree
   definition_name k d tree spells =
       let t = text_at k in
       let there : slice_get texts.list k ≡ Some t = got texts.list k no_text d.1 in
-      let told : HasFront t = each_got HasFront texts.list k no_text whole.told d.1 in
+      let told : HasFront t = each_index HasFront texts.list no_text whole.told k d.1 in
       let kind : t.definition ≡ true = definition_text texts.list unit.main k d.0 d.1 in
       by_front k d.1 told.0 told.1 tree
       (definition_named tree t.tokens told.0 (subst (SpellsDefinition (tree ∷ [])) (ap tokens_in there) spells) (subst (λ (b : Bool). IsFront b t.tokens told.0) kind told.1))
@@ -80,7 +74,7 @@ module _ (texts : UnitTexts) (unit : IsUnit texts) (front : TextOf → Front) (w
       let main = main_text texts.list unit.main in
       let t = text_at 0 in
       let there : slice_get texts.list 0 ≡ Some t = got texts.list 0 no_text main.0 in
-      let told : HasFront t = each_got HasFront texts.list 0 no_text whole.told main.0 in
+      let told : HasFront t = each_index HasFront texts.list no_text whole.told 0 main.0 in
       let has = main_named (main_number texts) trees t.tokens told.0 (subst (SpellsMain (main_number texts) trees) (ap tokens_in there) spells) (subst (λ (b : Bool). IsFront b t.tokens told.0) main.1 told.1) in
       by trees told.0 told.1 has ∙ ap (λ (o : Option TextOf). spelled texts.names (name_in o)) (sym there)
     where
@@ -202,7 +196,7 @@ module _ (texts : UnitTexts) (unit : IsUnit texts) (front : TextOf → Front) (w
     where
       named_from : (order : List ℕ) → Each (IsDefinition texts.list) order → Each (IsNamed texts.names) (map (λ k. (text_at k).name) order)
       named_from [] d = tt
-      named_from (k ∷ order) d = ((each_got (IsText texts.names) texts.list k no_text unit.texts d.0.1).named, named_from order d.1)
+      named_from (k ∷ order) d = ((each_index (IsText texts.names) texts.list no_text unit.texts k d.0.1).named, named_from order d.1)
 
       each_of : (ks : Keys) → Each (IsNamed texts.names) (map (λ k. k.0) ks) → Each (λ k. IsNamed texts.names k.0) ks
       each_of [] h = tt
@@ -211,4 +205,4 @@ module _ (texts : UnitTexts) (unit : IsUnit texts) (front : TextOf → Front) (w
   pub main_is_named : IsNamed texts.names (name_in (slice_get texts.list 0))
   main_is_named =
       let low = (main_text texts.list unit.main).0 in
-      subst (λ (o : Option TextOf). IsNamed texts.names (name_in o)) (sym (got texts.list 0 no_text low)) (each_got (IsText texts.names) texts.list 0 no_text unit.texts low).named
+      subst (λ (o : Option TextOf). IsNamed texts.names (name_in o)) (sym (got texts.list 0 no_text low)) (each_index (IsText texts.names) texts.list no_text unit.texts 0 low).named

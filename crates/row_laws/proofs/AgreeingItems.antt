@@ -39,7 +39,7 @@ use Rattle.row_laws.proofs.Numbers.{AllAgree, none_agree}
 use Rattle.row_laws.proofs.Closed.{IsClosed, closed_with}
 use Rattle.row_laws.proofs.ClosedTypes.{IsNoOpen, fresh_at, type_no_open}
 use Rattle.row_laws.proofs.Agreeing.{Ready, ready-left, agree-append, agree-end, agree-then, one_agrees, named_agrees}
-use Rattle.row_laws.proofs.ImportedRows.{import_agrees, ready-next}
+use Rattle.row_laws.proofs.ImportedRows.{import_agrees, ready-item, ready-next}
 use Rattle.row_laws.proofs.AgreeingTypes.{open_agrees, parameter_agrees, result_agrees, type_agrees}
 
 -- ** Constants, variables and parameters
@@ -161,14 +161,7 @@ module _ (names : ℕ) where
       let m = declare a kind x cell in
       let d = brought_in (with_rows c m.rows) m.value.brought in
       let more = declare_items d kind (i + 1) m.value.cell items in
-      let first = ready-left m.rows (more.rows ++ []) ready in
-      let sound = first.sound in
-      let ra : Ready names a m.rows = record {
-        sound = record { scene = sound.scene; source = sound.source; few_names = sound.few_names; layout = sound.layout };
-        before = first.before;
-        ok = first.ok;
-        room = first.room;
-      } in
+      let ra = ready-item c i (ready-left m.rows (more.rows ++ []) ready) in
       let rest = ready-next c x kind i cell (more.rows ++ []) ready in
       let agrees = item_agrees x a kind cell good.0 ra closed in
       agree-append agrees (agree-end (items_agree items d kind (i + 1) m.value.cell good.1 (ready-left more.rows [] rest) (closed_with names a m.rows ra agrees closed)))

@@ -25,7 +25,8 @@ use Rattle.m2_base.specs.declared.operands.Operand.TheVariants.{Constant, InErro
 use Rattle.m2_base.proofs.SoundTypes.{either}
 use Rattle.row_laws.specs.Clear.{HasClear, IsClear, IsTarget}
 use Rattle.row_laws.proofs.ClearRows.{HaveClear, IsClearScene, have_clear, not_broken, place_clear}
-use Rattle.row_laws.proofs.ClearNotes.{GivesFine, IsEntry, given, join, refused, use_fine, where_false}
+use Rattle.row_laws.proofs.Choices.{where_false}
+use Rattle.row_laws.proofs.ClearNotes.{GivesFine, IsEntry, given, join, refused, use_fine}
 use Rattle.row_laws.proofs.ClearOperations.{IsGood, abs_fine, apply_fine, bitset_fine, cap_fine, chr_fine, element_fine, elements_good, max_fine, min_fine, no_elements_good, odd_fine, operate_fine, ord_fine, set_type_fine, size_fine, val_fine}
 
 -- ** Operands

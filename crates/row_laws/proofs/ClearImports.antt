@@ -1,10 +1,10 @@
 -- Imports come before what a block declares: where a type stands each name that the block imports has its row.
 use Rattle.std.specs.Prelude.{◌≡◌, ℕ, suc, ◌+◌, ◌==◌, ◌<◌, ◌≤◌, ◌⊎◌, Bool, true, false, if◌then◌else◌, nat_lt, filter, flat_map, map, length, List, [], ◌∷◌, ◌++◌, slice_get, Option, Some, None}
 use Rattle.std.proofs.Common.{ap, subst, sym, ◌∙◌, refl, inl, inr, arith}
-use Rattle.std.proofs.lemmas.Bool.{eqb-true, le-ltb, lt-ltb}
+use Rattle.std.proofs.lemmas.Bool.{eqb-true, le-ltb, lt-ltb, or_parts}
 use Rattle.std.proofs.lemmas.List.{append-nil, append_assoc, length-append}
 use Rattle.m2_base.specs.Lists.{Each, IsIn}
-use Rattle.m2_base.specs.Rows.{alias_kind}
+use Rattle.m2_base.specs.Rows.{alias_kind, module_kind}
 use Rattle.m2_base.specs.declared.rows.Row.{Row}
 use Rattle.m2_base.specs.declared.sites.Named.{Named}
 use Rattle.m2_base.specs.declared.trees.Ident.{Ident}
@@ -23,27 +23,11 @@ use Rattle.m2_base.proofs.LayoutLaws.{AreShaped-length}
 use Rattle.m2_base.proofs.SceneLaws.{IsOpen, own_of, own-with}
 use Rattle.row_laws.proofs.ClearTargets.{HasImports, IsMade, IsMadeImport, front_stays, made_with}
 use Rattle.row_laws.proofs.ImportedRows.{Splits, laid_items, laid_length, laid_there}
+use Rattle.row_laws.proofs.Joined.{in_append}
+use Rattle.row_laws.proofs.Members.{each_in, each_there}
 use Rattle.row_laws.proofs.PlainShapes.{AreOwn, decl_own}
 
 -- ** Lists
-
-in_parts : {A : Type 0} (x : A) (xs ys : List A) → IsIn x (xs ++ ys) → IsIn x xs ⊎ IsIn x ys
-in_parts x [] ys h = inr h
-in_parts x (z ∷ xs) ys (inl e) = inl (inl e)
-in_parts x (z ∷ xs) ys (inr h) = more (in_parts x xs ys h)
-  where
-    more : IsIn x xs ⊎ IsIn x ys → IsIn x (z ∷ xs) ⊎ IsIn x ys
-    more (inl k) = inl (inr k)
-    more (inr k) = inr k
-
-each_there : {A : Type 0} (P : A → Type 0) (xs : List A) → ((x : A) → IsIn x xs → P x) → Each P xs
-each_there P [] f = tt
-each_there P (x ∷ xs) f = (f x (inl refl), each_there P xs (λ y h. f y (inr h)))
-
-each_of : {A : Type 0} (P : A → Type 0) (xs : List A) → Each P xs → (x : A) → IsIn x xs → P x
-each_of P [] h x k = absurd k
-each_of P (y ∷ xs) h x (inl e) = subst P (sym e) h.0
-each_of P (y ∷ xs) h x (inr k) = each_of P xs h.1 x k
 
 behind : {A : Type 0} (xs ys : List A) (k : ℕ) → slice_get (xs ++ ys) (length xs + k) ≡ slice_get ys k
 behind [] ys k = ap (slice_get ys) (omega arith)
@@ -99,7 +83,7 @@ shapes_declared i o (s ∷ shapes) h = by_test (s.name == 0) (shapes_declared i 
     by_test : (b : Bool) → AreDeclared (names_of_item i (o + 1) shapes)
         → AreDeclared (if b then names_of_item i (o + 1) shapes else record { name = s.name; ordinal = o; kind = s.kind; at = s.at; item = i } ∷ names_of_item i (o + 1) shapes)
     by_test true rest = rest
-    by_test false rest = (h.0.1, rest)
+    by_test false rest = ((or_parts (s.kind == module_kind) (s.kind == alias_kind) h.0).1, rest)
 
 decls_declared : (ds : List Decl) (i o : ℕ) → AreDeclared (names_from i o (map decl_item ds))
 decls_declared [] i o = tt
@@ -173,7 +157,7 @@ all_made c i o ds h =
     by_case : (n : Named) → (n.kind == alias_kind) ≡ true → IsMadeBefore c i n ⊎ IsIn n (names_from i o (map decl_item ds)) → IsMade c.scene (moved c.layout.brought n)
     by_case n e (inl m) = m.1
     by_case n e (inr k) =
-        let no : (n.kind == alias_kind) ≡ false = each_of (λ (x : Named). (x.kind == alias_kind) ≡ false) (names_from i o (map decl_item ds)) (decls_declared ds i o) n k in
+        let no : (n.kind == alias_kind) ≡ false = each_in (λ (x : Named). (x.kind == alias_kind) ≡ false) (names_from i o (map decl_item ds)) n (decls_declared ds i o) k in
         let never : true ≡ false = sym e ∙ no in
         absurd (cc)
 
@@ -250,7 +234,7 @@ waits_with c x items i o m room is h =
 
     by_case : (n : Named) → (n.kind == alias_kind) ≡ true → IsMadeBefore c i n ⊎ IsIn n (names_from i o (x ∷ items)) → IsMadeBefore d (i + 1) n ⊎ IsIn n (names_from (i + 1) (o + length (item_shapes x)) items)
     by_case n e (inl k) = inl (made_before n k)
-    by_case n e (inr k) = by_part n e (in_parts n (names_of_item i o (item_shapes x)) _ k)
+    by_case n e (inr k) = by_part n e (in_append n (names_of_item i o (item_shapes x)) _ k)
 
 -- ** The items of a block
 

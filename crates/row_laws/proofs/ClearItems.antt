@@ -40,7 +40,7 @@ use Rattle.m2_base.proofs.RowLaws.{place_of-number_of}
 use Rattle.m2_base.proofs.SceneLaws.{IsOpen, own_of, own-with, with-none}
 use Rattle.m2_base.proofs.SoundTypes.{either}
 use Rattle.row_laws.specs.Clear.{IsNamedTarget, LeadsOn, HasClear, IsClear, IsNamable}
-use Rattle.row_laws.proofs.ClearRows.{IsClearScene, clear_again, other_rows, target_there}
+use Rattle.row_laws.proofs.ClearRows.{IsClearScene, clear_again, target_there}
 use Rattle.row_laws.proofs.ClearNotes.{IsEntry, MakesFine, chain, done, named_fine, one_row_fine, only, qual_fine, row_fine, use_fine}
 use Rattle.row_laws.proofs.ClearConstants.{IsConstant, constant_fine}
 use Rattle.row_laws.proofs.ClearTypes.{IsAny, looked, open_fine, parameter_fine, result_again, result_fine, type_fine}
@@ -48,6 +48,7 @@ use Rattle.row_laws.proofs.ClearTargets.{HasImports, imports_with}
 use Rattle.row_laws.proofs.ClearImports.{IsFront, Waits, all_made, first_waits, fronts, waits_with}
 use Rattle.row_laws.proofs.ClearBrought.{brought_fine, members_there}
 use Rattle.row_laws.proofs.ImportedRows.{item_splits}
+use Rattle.row_laws.proofs.Settled.{other_rows}
 use Rattle.m2_base.specs.Statics.Layouts.{layout_of}
 use Rattle.m2_base.specs.Statics.Shapes.{item_shapes}
 use Rattle.m2_base.specs.declared.sites.Named.{Named}

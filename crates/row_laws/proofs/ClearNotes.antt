@@ -1,6 +1,6 @@
 -- What names and types by name give in a clear scene, where they have no diagnostic; and how what is given without diagnostics
 -- goes together.
-use Rattle.std.specs.Prelude.{◌≡◌, ◌≢◌, ℕ, Bool, true, false, if◌then◌else◌, drop, nat_lt, List, [], ◌∷◌, ◌++◌, Option, Some, None}
+use Rattle.std.specs.Prelude.{◌≡◌, ◌≢◌, ℕ, Bool, true, if◌then◌else◌, drop, nat_lt, List, [], ◌∷◌, ◌++◌, Option, Some, None}
 use Rattle.std.proofs.Common.{subst, sym, ◌∙◌, refl}
 use Rattle.m2_base.specs.Gives.{Gives, gives}
 use Rattle.m2_base.specs.Lists.{WhereKept}
@@ -24,23 +24,9 @@ use Rattle.m2_base.specs.declared.notes.Diag.{Diag}
 use Rattle.m2_base.proofs.SceneLaws.{with-none, with-twice}
 use Rattle.m2_base.proofs.SoundTypes.{either}
 use Rattle.row_laws.specs.Clear.{IsNamedTarget, LeadsOn, HasClear, IsClear, IsClearRow, IsNamable, IsTarget}
+use Rattle.row_laws.proofs.Choices.{either_by}
 use Rattle.row_laws.proofs.ClearRows.{Found, IsClearScene, behind_clear, clear_with, found_row, have_clear, place_clear, standard_target}
-
--- of two values one, by what the test says
-pub either_by : {A : Type 0} (P : A → Type 0) (b : Bool) (x y : A) → (b ≡ true → P x) → (b ≡ false → P y) → P (if b then x else y)
-either_by P true x y h k = h refl
-either_by P false x y h k = k refl
-
-pub where_false : {A : Type 0} (P : A → Type 0) (b : Bool) (x y : A) → b ≡ false → P y → P (if b then x else y)
-where_false P b x y e h = subst (λ t. P (if t then x else y)) (sym e) h
-
-pub front_none : {A : Type 0} (xs ys : List A) → xs ++ ys ≡ [] → xs ≡ []
-front_none [] ys e = refl
-front_none (x ∷ xs) ys e = absurd (cc)
-
-back_none : {A : Type 0} (xs ys : List A) → xs ++ ys ≡ [] → ys ≡ []
-back_none [] ys e = e
-back_none (x ∷ xs) ys e = absurd (cc)
+use Rattle.row_laws.proofs.Joined.{none_left}
 
 -- ** What is given and made
 
@@ -62,7 +48,7 @@ pub refused : {T : Type 0} {P : T → Type 0} {d : Diag} {ds : List Diag} {v : T
 refused = record { keeps = λ e. absurd (cc) }
 
 pub join : {S T : Type 0} {P : S → Type 0} {Q : T → Type 0} {ds es : List Diag} {v : S} {w : T} → Fine P ds v → (P v → Fine Q es w) → Fine Q (ds ++ es) w
-join {ds = ds} {es = es} h k = record { keeps = λ e. (k (h.keeps (front_none ds es e))).keeps (back_none ds es e) }
+join {ds = ds} {es = es} h k = record { keeps = λ e. (k (h.keeps (none_left ds es e).0)).keeps (none_left ds es e).1 }
 
 pub fine_either : {T : Type 0} {P : T → Type 0} (b : Bool) (x y : Gives T) → GivesFine P x → GivesFine P y → GivesFine P (if b then x else y)
 fine_either {P = P} b x y h k = either (λ g. GivesFine P g) b x y h k
@@ -79,8 +65,8 @@ pub chain : {S T : Type 0} {P : S → Type 0} {Q : T → Type 0} {scene : Scene}
     → Leaves P scene xs ds v → (IsClearScene (scene_with scene xs) → P v → Leaves Q (scene_with scene xs) ys es w) → Leaves Q scene (xs ++ ys) (ds ++ es) w
 chain {scene = scene} {xs = xs} {ys = ys} {ds = ds} {es = es} h k =
     record {
-      clear = λ e. let f = front_none ds es e in subst IsClearScene (with-twice scene xs ys) ((k (h.clear f) (h.value f)).clear (back_none ds es e));
-      value = λ e. let f = front_none ds es e in (k (h.clear f) (h.value f)).value (back_none ds es e);
+      clear = λ e. let f = (none_left ds es e).0 in subst IsClearScene (with-twice scene xs ys) ((k (h.clear f) (h.value f)).clear (none_left ds es e).1);
+      value = λ e. let f = (none_left ds es e).0 in (k (h.clear f) (h.value f)).value (none_left ds es e).1;
     }
 
 -- what makes no rows

@@ -1,7 +1,7 @@
 -- What operators, standard functions and sets give of operands that aren't in error, where they have no diagnostic.
-use Rattle.std.specs.Prelude.{◌≡◌, ℕ, Bool, true, false, not, is_none, ◌&&◌, ◌||◌, is_some, ℤ, pos, nat_abs, slice_index_or, ◌⊎◌, List, Option, Some, None}
+use Rattle.std.specs.Prelude.{◌≡◌, ℕ, true, false, not, is_none, ◌&&◌, ◌||◌, is_some, ℤ, pos, nat_abs, slice_index_or, ◌⊎◌, List, Option, Some, None}
 use Rattle.std.proofs.Common.{ap, subst, sym, ◌∙◌, refl, inl, inr}
-use Rattle.std.proofs.lemmas.Bool.{and_parts, or_cases}
+use Rattle.std.proofs.lemmas.Bool.{and_parts, or_cases, or_from, or_parts}
 use Rattle.m2_base.specs.Gives.{Gives, gives}
 use Rattle.m2_base.specs.Rows.{is_same_place, row_of, row_meaning}
 use Rattle.m2_base.specs.declared.rows.Place.{Place}
@@ -29,7 +29,8 @@ use Rattle.m2_base.proofs.SoundTypes.{either}
 use Rattle.m2_base.proofs.TypeLaws.{same_place-is}
 use Rattle.row_laws.specs.Clear.{HasClear, IsClear}
 use Rattle.row_laws.proofs.ClearRows.{HaveClear, IsClearScene, have_clear, not_broken, place_clear, stands_clear}
-use Rattle.row_laws.proofs.ClearNotes.{GivesFine, either_by, fine_either, given, join, refused, where_false}
+use Rattle.row_laws.proofs.Choices.{either_by, where_false}
+use Rattle.row_laws.proofs.ClearNotes.{GivesFine, fine_either, given, join, refused}
 
 -- ** Operands
 
@@ -85,18 +86,6 @@ number_type_clear kinds.Integer = refl
 number_type_clear kinds.Cardinal = refl
 number_type_clear k = refl
 
--- of two tests that fail neither holds
-neither : (a b : Bool) → a ≡ false → b ≡ false → (a || b) ≡ false
-neither a b e f = ap (λ x. x || b) e ∙ f
-
-left_false : (a b : Bool) → (a || b) ≡ false → a ≡ false
-left_false true b e = absurd (cc)
-left_false false b e = refl
-
-right_false : (a b : Bool) → (a || b) ≡ false → b ≡ false
-right_false true b e = absurd (cc)
-right_false false b e = e
-
 module _ (c : Context) (clear : IsClearScene c.scene) where
   pub types : HaveClear c.scene.tables
   types = have_clear c.scene.tables clear.rows
@@ -114,7 +103,7 @@ module _ (c : Context) (clear : IsClearScene c.scene) where
 
   gives_result_fine : (op_at : ℕ) (k : FoldKind) (op : Operator) (t : Place) (x y : Operand) → IsFor t x → is_bad x ≡ false → is_bad y ≡ false → GivesFine IsGood (gives_result c op_at k op t x y)
   gives_result_fine op_at k op t x y h p q =
-      where_false (λ (g : Gives Operand). GivesFine IsGood g) (is_bad x || is_bad y) _ _ (neither (is_bad x) (is_bad y) p q) (result_fine op_at k op t x (constant_of_operand y) h)
+      where_false (λ (g : Gives Operand). GivesFine IsGood g) (is_bad x || is_bad y) _ _ (or_from (is_bad x) (is_bad y) p q) (result_fine op_at k op t x (constant_of_operand y) h)
 
   number_fine_by : (at : ℕ) (t u : Place) (v : ℤ) → IsClear u → GivesFine IsAble (as_number c at t (Constant u v))
   number_fine_by at t u v h =
@@ -195,7 +184,7 @@ module _ (c : Context) (clear : IsClearScene c.scene) where
   operate_fine op op_at x x_at y y_at h k =
       either_by (λ (g : Gives Operand). GivesFine IsGood g) (is_bad x || is_bad y) (gives (worse x y)) _ (λ e. given (worse_good x y h k))
       (λ e. fine_either (is_procedure x || is_procedure y) _ _ refused
-      (operate_by_fine op op_at x x_at y y_at (h, left_false (is_bad x) (is_bad y) e) (k, right_false (is_bad x) (is_bad y) e)))
+      (operate_by_fine op op_at x x_at y y_at (h, (or_parts (is_bad x) (is_bad y) e).0) (k, (or_parts (is_bad x) (is_bad y) e).1)))
 
   with_sign_fine : (op : Operator) (op_at : ℕ) (t : Place) (r : Range) (o : Operand) → IsClear t → GivesFine IsGood (with_sign c op op_at t r o)
   with_sign_fine op op_at t r (Constant u v) h = folded_fine op_at t (where_in r (signed op v)) h

@@ -2,7 +2,7 @@
 use Rattle.std.specs.Prelude.{◌≡◌, ◌≢◌, ℕ, zero, suc, ◌+◌, ◌-◌, ◌*◌, ◌/◌, ◌%◌, ◌^◌, ◌<◌, ◌≤◌, ◌==◌, Bool, true, false, if◌then◌else◌, ◌⊎◌, List, [], ◌∷◌, ◌++◌, length, map, pos, slice_get, slice_index_or, Option, Some, None, unwrap_or}
 use Rattle.std.proofs.Common.{ap, subst, sym, ◌∙◌, refl, inl, inr, arith}
 use Rattle.std.proofs.lemmas.Bool.{and_from, and_parts, both_ways, cases_order, eq-eqb, eqb-true}
-use Rattle.std.proofs.lemmas.List.{append-nil, get_or_append_left, get_or_past, get_or-append-add, get_or-set_other}
+use Rattle.std.proofs.lemmas.List.{append-nil, get_or_append_left, get_or_past, get_or-append-add}
 use Rattle.std.proofs.lemmas.Option.{get_or_from_slice_get, slice_get_cases}
 use Rattle.m2_base.specs.Lists.{Each, WhereKept}
 use Rattle.m2_base.specs.Rows.{at_place, is_same_place, number_of, place_of, row_of, row_meaning}
@@ -17,10 +17,12 @@ use Rattle.m2_base.specs.Statics.Lookup.{Entry, entry_in}
 use Rattle.m2_base.specs.Statics.Makes.{scene_with}
 use Rattle.m2_base.specs.Statics.Types.{declared_as, is_broken, meaning_at, named_or, opaque_as, stands_as, stands_for, type_named, unless_opaque}
 use Rattle.row_laws.specs.Clear.{AreClear, HasClear, IsClear, IsClearRow, IsNamedTarget, IsTarget, LeadsOn}
-use Rattle.m2_base.proofs.NoRepeats.{some_is}
 use Rattle.m2_base.proofs.SceneLaws.{IsOpen, open-with, own_of, own-with}
 use Rattle.m2_base.proofs.SoundTypes.{either}
 use Rattle.m2_base.proofs.StandardLaws.{standard_between}
+use Rattle.row_laws.proofs.Joined.{front_or_back}
+use Rattle.row_laws.proofs.Members.{each_at, each_index}
+use Rattle.row_laws.proofs.Settled.{other_rows, rows_stay}
 
 -- ** Types that aren't in error
 
@@ -181,27 +183,6 @@ pub same_clear : (old new : List (List Row)) → ((s : ℕ) → rows_at new s �
 same_clear old new same all s o r e =
     row_stays_clear old new (λ q. ([], same q ∙ sym (append-nil (rows_at old q)))) r (all s o r (subst (λ (rs : List Row). slice_get rs o ≡ Some r) (same s) e))
 
-pub other_rows : (scene : Scene) (xs : List Row) (s : ℕ) → (s ≡ scene.block.scope → ⊥) → rows_at (scene_with scene xs).tables s ≡ rows_at scene.tables s
-other_rows scene xs s h = get_or-set_other scene.tables scene.block.scope s (own_of scene ++ xs) [] h
-
-extends_with : (scene : Scene) (xs : List Row) → IsOpen scene → Extends scene.tables (scene_with scene xs).tables
-extends_with scene xs o s = by_order (cases_order s scene.block.scope)
-  where
-    by_order : (s ≡ scene.block.scope) ⊎ ((s < scene.block.scope) ⊎ (scene.block.scope < s)) → (ys : List Row) × (rows_at (scene_with scene xs).tables s ≡ rows_at scene.tables s ++ ys)
-    by_order (inl same) = (xs, subst (λ n. rows_at (scene_with scene xs).tables n ≡ rows_at scene.tables n ++ xs) (sym same) (own-with scene xs o))
-    by_order (inr (inl less)) = ([], other_rows scene xs s (λ e. omega (arith, e, less)) ∙ sym (append-nil (rows_at scene.tables s)))
-    by_order (inr (inr more)) = ([], other_rows scene xs s (λ e. omega (arith, e, more)) ∙ sym (append-nil (rows_at scene.tables s)))
-
-front_or_back : (own xs : List Row) (o : ℕ) (r : Row) → slice_get (own ++ xs) o ≡ Some r → (slice_get own o ≡ Some r) ⊎ ((k : ℕ) × (slice_get xs k ≡ Some r))
-front_or_back [] xs o r e = inr (o, e)
-front_or_back (y ∷ own) xs zero r e = inl e
-front_or_back (y ∷ own) xs (suc o) r e = front_or_back own xs o r e
-
-pub each_at : {A : Type 0} (P : A → Type 0) (xs : List A) → Each P xs → (k : ℕ) (x : A) → slice_get xs k ≡ Some x → P x
-each_at P [] h k x e = absurd (cc)
-each_at P (y ∷ xs) h zero x e = subst P (some_is y x e) h.0
-each_at P (y ∷ xs) h (suc k) x e = each_at P xs h.1 k x e
-
 -- clear rows in a clear scene make a clear scene
 pub clear_with : (scene : Scene) (xs : List Row) → IsClearScene scene → Each (IsClearRow scene.tables) xs → IsClearScene (scene_with scene xs)
 clear_with scene xs clear h =
@@ -209,7 +190,7 @@ clear_with scene xs clear h =
       room = open-with scene xs clear.room;
       positive = clear.positive;
       standard = other_rows scene xs 0 (λ e. let p = clear.positive in omega (arith, e, p)) ∙ clear.standard;
-      rows = λ s o r e. row_stays_clear scene.tables (scene_with scene xs).tables (extends_with scene xs clear.room) r (by_order s o r (cases_order s scene.block.scope) e);
+      rows = λ s o r e. row_stays_clear scene.tables (scene_with scene xs).tables (rows_stay scene xs clear.room) r (by_order s o r (cases_order s scene.block.scope) e);
     }
   where
     by_order : (s o : ℕ) (r : Row) → (s ≡ scene.block.scope) ⊎ ((s < scene.block.scope) ⊎ (scene.block.scope < s)) → slice_get (rows_at (scene_with scene xs).tables s) o ≡ Some r → IsClearRow scene.tables r
@@ -230,11 +211,6 @@ standard_each tables = ((tt, tt, λ h. absurd (h refl)), ((tt, tt, λ h. absurd 
 pub standard_clear : AreClear (standard_rows ∷ [])
 standard_clear zero o r e = each_at (IsClearRow (standard_rows ∷ [])) standard_rows (standard_each (standard_rows ∷ [])) o r e
 standard_clear (suc s) o r e = absurd (cc)
-
-each_index : {A : Type 0} (P : A → Type 0) (xs : List A) (d : A) → Each P xs → (k : ℕ) → k < length xs → P (slice_index_or xs k d)
-each_index P [] d h k l = absurd (omega (arith, l))
-each_index P (x ∷ xs) d h zero l = h.0
-each_index P (x ∷ xs) d h (suc k) l = each_index P xs d h.1 k (omega (arith, l))
 
 -- the rows of the standard names lead to something
 named_each : Each (λ (r : Row). IsTarget (row_meaning r)) (named_rows 1 standard_meanings)

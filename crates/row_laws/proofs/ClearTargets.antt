@@ -24,7 +24,8 @@ use Rattle.m2_base.proofs.SceneLaws.{IsOpen, own_of, own-with}
 use Rattle.m2_base.proofs.TypeLaws.{same_place-is}
 use Rattle.row_laws.specs.Clear.{IsClear, IsTarget, LeadsOn}
 use Rattle.row_laws.proofs.ClearRows.{IsClearScene, behind_clear, never_true, row_of_place}
-use Rattle.row_laws.proofs.ClearNotes.{GivesFine, either_by, given, refused}
+use Rattle.row_laws.proofs.Choices.{either_by}
+use Rattle.row_laws.proofs.ClearNotes.{GivesFine, given, refused}
 
 -- ** What a block imports
 

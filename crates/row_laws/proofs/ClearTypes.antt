@@ -37,7 +37,8 @@ use Rattle.m2_base.specs.declared.operands.Operand.{Operand}
 use Rattle.m2_base.specs.declared.operands.Operand.TheVariants.{Constant, StringConstant}
 use Rattle.row_laws.specs.Clear.{IsClear}
 use Rattle.row_laws.proofs.ClearRows.{HaveClear, IsClearScene, clear_again, have_clear, not_broken}
-use Rattle.row_laws.proofs.ClearNotes.{Fine, GivesFine, MakesFine, chain, done, either_by, fine, fine_either, given, join, named_fine, one_row_fine, only, qual_fine, refused, row_fine, where_false}
+use Rattle.row_laws.proofs.Choices.{either_by, where_false}
+use Rattle.row_laws.proofs.ClearNotes.{Fine, GivesFine, MakesFine, chain, done, fine, fine_either, given, join, named_fine, one_row_fine, only, qual_fine, refused, row_fine}
 use Rattle.row_laws.proofs.AgreeingTypes.{each_reverse}
 use Rattle.row_laws.proofs.ClearTargets.{HasImports, imports_with, name_target_fine}
 use Rattle.row_laws.proofs.ClearConstants.{IsConstant, constant_fine}

@@ -1,5 +1,5 @@
 -- The rows of a unit are clear where its declarations have no diagnostic, and so its headings are sound.
-use Rattle.std.specs.Prelude.{◌≡◌, ℕ, zero, suc, ◌+◌, ◌-◌, ◌^◌, ◌<◌, ◌==◌, ◌⊎◌, Bool, true, false, if◌then◌else◌, drop, filter_map, take, List, [], ◌∷◌, ◌++◌, length, slice_get, Option, Some, None}
+use Rattle.std.specs.Prelude.{◌≡◌, ℕ, zero, suc, ◌+◌, ◌-◌, ◌^◌, ◌<◌, ◌==◌, ◌⊎◌, Bool, true, false, if◌then◌else◌, drop, filter_map, List, [], ◌∷◌, ◌++◌, length, Option, Some, None}
 use Rattle.std.specs.List.{cons_option}
 use Rattle.std.proofs.Common.{ap, subst, sym, ◌∙◌, refl, inl, inr, arith}
 use Rattle.std.proofs.lemmas.Bool.{cases_order}
@@ -30,9 +30,11 @@ use Rattle.m2_base.proofs.SceneLaws.{own-with}
 use Rattle.row_laws.specs.Headings.{AreSoundFor, HasSoundHeadings, HasSoundParameters}
 use Rattle.row_laws.specs.RowRanges.{EachBlock, IsSoundUnit}
 use Rattle.row_laws.specs.Clear.{AreClear, HasClear}
-use Rattle.row_laws.proofs.ClearRows.{HaveClear, IsClearScene, have_clear, not_broken, other_rows, same_clear, standard_clear}
+use Rattle.row_laws.proofs.ClearRows.{HaveClear, IsClearScene, have_clear, not_broken, same_clear, standard_clear}
 use Rattle.row_laws.proofs.ClearItems.{AreFew, HasSpace, items_fine}
 use Rattle.row_laws.proofs.MadeBy.{stays}
+use Rattle.row_laws.proofs.Members.{each_drop, each_got, each_take}
+use Rattle.row_laws.proofs.Settled.{other_rows}
 use Rattle.row_laws.proofs.Units.{long_from}
 use Rattle.row_laws.proofs.Whole.{whole-above, whole-rows, whole_scene}
 
@@ -175,20 +177,6 @@ in_blocks P source (x ∷ blocks) before h b (inr i) = in_blocks P source blocks
 
 -- ** Headings
 
-each_from : {A : Type 0} (P : A → Type 0) (xs : List A) → ((k : ℕ) (x : A) → slice_get xs k ≡ Some x → P x) → Each P xs
-each_from P [] f = tt
-each_from P (x ∷ xs) f = (f 0 x refl, each_from P xs (λ k y e. f (suc k) y e))
-
-each_take : {A : Type 0} (P : A → Type 0) (n : ℕ) (xs : List A) → Each P xs → Each P (take n xs)
-each_take P zero xs h = tt
-each_take P (suc n) [] h = tt
-each_take P (suc n) (x ∷ xs) h = (h.0, each_take P n xs h.1)
-
-each_drop : {A : Type 0} (P : A → Type 0) (n : ℕ) (xs : List A) → Each P xs → Each P (drop n xs)
-each_drop P zero xs h = h
-each_drop P (suc n) [] h = tt
-each_drop P (suc n) (x ∷ xs) h = each_drop P n xs h.1
-
 module _ (scene : Scene) (clear : HaveClear scene.tables) where
   abbrev IsSound : Parameter → Type 0
   IsSound q = is_broken scene q.typ ≡ false
@@ -210,7 +198,7 @@ module _ (scene : Scene) (clear : HaveClear scene.tables) where
   rows_sound own (r ∷ rows) h = more_sound (parameter_of own r) (filter_map (parameter_of own) rows) (parameter_sound own (row_meaning r) h.0) (rows_sound own rows h.1)
 
   scope_rows : (s : ℕ) → Each (λ (r : Row). HasClear (row_meaning r)) (rows_at scene.tables s)
-  scope_rows s = each_from (λ (r : Row). HasClear (row_meaning r)) (rows_at scene.tables s) (clear s)
+  scope_rows s = each_got (λ (r : Row). HasClear (row_meaning r)) (rows_at scene.tables s) (clear s)
 
   between_sound : (own s from upto : ℕ) → Each IsSound (filter_map (parameter_of own) (rows_between scene s from upto))
   between_sound own s from upto =

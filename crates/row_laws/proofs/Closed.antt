@@ -1,11 +1,11 @@
 -- Scenes in which no type's name is an open array's, and what is found in them.
-use Rattle.std.specs.Prelude.{◌≡◌, ℕ, zero, suc, ◌+◌, ◌*◌, ◌^◌, ◌<◌, ◌≤◌, ◌==◌, Bool, true, false, if◌then◌else◌, ◌⊎◌, List, [], ◌∷◌, ◌++◌, drop, length, nat_lt, slice_get, slice_index_or, Option, Some, None, unwrap_or}
+use Rattle.std.specs.Prelude.{◌≡◌, ℕ, suc, ◌+◌, ◌*◌, ◌^◌, ◌<◌, ◌≤◌, ◌==◌, Bool, true, false, if◌then◌else◌, ◌⊎◌, List, [], ◌∷◌, ◌++◌, drop, length, nat_lt, slice_get, slice_index_or, Option, Some, None, unwrap_or}
 use Rattle.std.proofs.Common.{ap, subst, sym, ◌∙◌, refl, inl, inr, arith}
 use Rattle.std.proofs.lemmas.Bool.{cases_order}
 use Rattle.std.proofs.lemmas.List.{get_or_past, get_or-set_other}
 use Rattle.std.proofs.lemmas.Option.{get_or_from_slice_get, slice_get_cases, slice_get_within}
 use Rattle.m2_base.specs.Gives.{Gives, gives}
-use Rattle.m2_base.specs.Lists.{Each, WhereKept}
+use Rattle.m2_base.specs.Lists.{WhereKept}
 use Rattle.m2_base.specs.Rows.{at_place, row_of, row_meaning, Fits, HasSmallOrdinals}
 use Rattle.m2_base.specs.declared.rows.Place.{Place}
 use Rattle.m2_base.specs.declared.rows.Row.{Row}
@@ -23,13 +23,14 @@ use Rattle.m2_base.specs.Statics.Makes.{scene_with}
 use Rattle.m2_base.specs.Statics.TypeNames.{member_of, qualified, type_by, type_of_entry, type_of_qual}
 use Rattle.m2_base.specs.Statics.Types.{meaning_at, unless_opaque, type_named, named_or, declared_as, opaque_as, stands_as}
 use Rattle.m2_base.specs.Statics.Uses.{followed_by, bound, bound_or, stands_later, bound_outside, use_in_item, use_by_item, use_of}
-use Rattle.m2_base.proofs.NoRepeats.{some_is}
 use Rattle.m2_base.proofs.SceneLaws.{own_of, own-with}
 use Rattle.m2_base.proofs.Sound.{Sound}
 use Rattle.m2_base.proofs.SoundTypes.{either}
 use Rattle.row_laws.proofs.Numbers.{Agrees, AllAgree}
 use Rattle.row_laws.proofs.Agreeing.{Ready}
+use Rattle.row_laws.proofs.Joined.{front_or_back}
 use Rattle.row_laws.proofs.Later.{agree_each}
+use Rattle.row_laws.proofs.Members.{each_at}
 use Rattle.row_laws.proofs.Settled.{row_stays}
 
 -- a type's name is no open array's
@@ -145,16 +146,6 @@ named_stays : (names : ℕ) (scene : Scene) (xs : List Row) → Sound names scen
 named_stays names scene xs sound p near (TypeName t) fits small h =
     ap (λ (r : Row). is_open_kind (row_meaning r)) (row_stays scene xs sound t (small, omega (arith, fits, near))) ∙ h
 named_stays names scene xs sound p near m fits small h = tt
-
-front_or_back : (own xs : List Row) (o : ℕ) (r : Row) → slice_get (own ++ xs) o ≡ Some r → (slice_get own o ≡ Some r) ⊎ ((k : ℕ) × (slice_get xs k ≡ Some r))
-front_or_back [] xs o r e = inr (o, e)
-front_or_back (y ∷ own) xs zero r e = inl e
-front_or_back (y ∷ own) xs (suc o) r e = front_or_back own xs o r e
-
-each_at : {A : Type 0} (P : A → Type 0) (xs : List A) → Each P xs → (k : ℕ) (x : A) → slice_get xs k ≡ Some x → P x
-each_at P [] h k x e = absurd (cc)
-each_at P (y ∷ xs) h zero x e = subst P (some_is y x e) h.0
-each_at P (y ∷ xs) h (suc k) x e = each_at P xs h.1 k x e
 
 pub closed_with : (names : ℕ) (c : Context) (rows : List Row) → Ready names c rows → AllAgree c.scene rows → IsClosed c.scene → IsClosed (scene_with c.scene rows)
 closed_with names c rows ready agree closed s o r e = by_order (cases_order s c.scene.block.scope)

@@ -1,9 +1,9 @@
 -- The rows of procedures have the numbers of the procedures that the block declares.
-use Rattle.std.specs.Prelude.{◌≡◌, ℕ, ◌+◌, ◌^◌, ◌<◌, ◌≤◌, ◌==◌, Bool, true, false, if◌then◌else◌, filter, List, [], ◌∷◌, ◌++◌, length, flat_map, slice_get, Option, Some, None}
+use Rattle.std.specs.Prelude.{◌≡◌, ℕ, ◌+◌, ◌^◌, ◌<◌, ◌≤◌, Bool, true, false, if◌then◌else◌, filter, List, [], ◌∷◌, ◌++◌, length, flat_map, slice_get, Option, Some, None}
 use Rattle.std.proofs.Common.{ap, subst, sym, ◌∙◌, refl, inl, inr, arith}
 use Rattle.std.proofs.lemmas.List.{append-nil, append_assoc, length-append}
 use Rattle.m2_base.specs.Lists.{Each, IsIn}
-use Rattle.m2_base.specs.Rows.{row_of, row_meaning, basic_of, natural, const_kind, type_name_kind, var_kind, proc_kind, module_kind, alias_kind, field_kind, param_kind, standard_kind, basic_kind, enum_kind, subrange_kind, array_kind, open_array_kind, record_kind, set_kind, pointer_kind, proc_type_kind, opaque_kind, place_of, number_of}
+use Rattle.m2_base.specs.Rows.{row_meaning, place_of, number_of}
 use Rattle.m2_base.specs.declared.outputs.HeadingNote.{HeadingNote}
 use Rattle.m2_base.specs.declared.rows.Place.{Place}
 use Rattle.m2_base.specs.declared.rows.Row.{Row}
@@ -23,8 +23,8 @@ use Rattle.m2_base.specs.Statics.Lookup.{has_name}
 use Rattle.m2_base.specs.Statics.Makes.{Makes, scene_with, with_rows, next_place, own_rows, makes_row, makes_named}
 use Rattle.m2_base.specs.Statics.ProcedureRows.{heading_note, is_proc, is_proc_meaning, parameter_cells, parameter_count, proc_number, proc_scope, result_cells, section_rows, sections_length}
 use Rattle.m2_base.specs.Statics.ProcedureTypes.{result_type}
-use Rattle.m2_base.specs.Statics.ShapedRows.{AreShaped, none_of, more_of}
-use Rattle.m2_base.specs.Statics.Shapes.{Shape, named, type_shapes, type_item_shapes, section_shapes}
+use Rattle.m2_base.specs.Statics.ShapedRows.{AreShaped}
+use Rattle.m2_base.specs.Statics.Shapes.{Shape, section_shapes}
 use Rattle.m2_base.proofs.EachLaws.{each_append, each_then}
 use Rattle.m2_base.proofs.ItemLaws.{item_of, sections_of}
 use Rattle.m2_base.proofs.NoRepeats.{scene_empty}
@@ -35,10 +35,12 @@ use Rattle.m2_base.proofs.SoundTypes.{either}
 use Rattle.row_laws.specs.Procedures.{HasNumber, IsDeclared}
 use Rattle.row_laws.proofs.Numbers.{AllAgree}
 use Rattle.row_laws.proofs.Agreeing.{Ready, agree-left, agree-right, ready-left, ready-right, ready-then}
-use Rattle.row_laws.proofs.ImportedRows.{alias_shapes, import_aliases, own_shaped, ready-next}
+use Rattle.row_laws.proofs.Choices.{named_each}
+use Rattle.row_laws.proofs.ImportedRows.{alias_shapes, import_aliases, own_shaped, ready-item, ready-next}
 use Rattle.row_laws.proofs.Closed.{IsClosed, closed_with}
-use Rattle.row_laws.proofs.PlainShapes.{ArePlain, IsPlainKind, mapped, otherwise, own_plain, plains, sections_plain, type_item_plain, type_plain}
+use Rattle.row_laws.proofs.PlainShapes.{IsNoProcedure, no_procedures}
 use Rattle.row_laws.proofs.Signatures.{IsRawType, Under, type_made_raw, under-left, under-right}
+use Rattle.row_laws.proofs.TypeShapes.{HaveKinds, item_kinds, kind_of_meaning, sections_kinds, shaped_means}
 
 -- ** Rows of other kinds
 
@@ -46,34 +48,13 @@ use Rattle.row_laws.proofs.Signatures.{IsRawType, Under, type_made_raw, under-le
 abbrev IsNone : RowMeaning → Type 0
 IsNone m = is_proc_meaning m ≡ false
 
-basic_none : (n : ℕ) → IsNone (basic_of n)
-basic_none n =
-    either IsNone (n == 1) _ _ refl (either IsNone (n == 2) _ _ refl (either IsNone (n == 3) _ _ refl
-    (either IsNone (n == 4) _ _ refl (either IsNone (n == 5) _ _ refl (either IsNone (n == 6) _ _ refl refl)))))
+other_none : (m : RowMeaning) → IsNoProcedure (kind_of_meaning m) → IsNone m
+other_none (Proc t k s) h = absurd (cc)
+other_none m h = refl
 
-kind_none : (r : Row) → (r.kind == proc_kind) ≡ false → IsNone (row_meaning r)
-kind_none r e =
-    either IsNone (r.kind == const_kind) _ _ refl (either IsNone (r.kind == type_name_kind) _ _ refl
-    (either IsNone (r.kind == var_kind) _ _ refl
-    (otherwise IsNone (r.kind == proc_kind) _ _ e (either IsNone (r.kind == module_kind) _ _ refl (either IsNone (r.kind == alias_kind) _ _ refl
-    (either IsNone (r.kind == field_kind) _ _ refl (either IsNone (r.kind == param_kind) _ _ refl (either IsNone (r.kind == standard_kind) _ _ refl
-    (either IsNone (r.kind == basic_kind) _ _ (basic_none (natural r.a)) (either IsNone (r.kind == enum_kind) _ _ refl (either IsNone (r.kind == subrange_kind) _ _ refl
-    (either IsNone (r.kind == array_kind) _ _ refl (either IsNone (r.kind == open_array_kind) _ _ refl (either IsNone (r.kind == record_kind) _ _ refl
-    (either IsNone (r.kind == set_kind) _ _ refl (either IsNone (r.kind == pointer_kind) _ _ refl (either IsNone (r.kind == proc_type_kind) _ _ refl
-    (either IsNone (r.kind == opaque_kind) _ _ refl refl))))))))))))))))))
-
--- no shape is a procedure's
-abbrev AreNoProcs : List Shape → Type 0
-AreNoProcs shapes = Each (λ (s : Shape). (s.kind == proc_kind) ≡ false) shapes
-
-no_procs : (shapes : List Shape) → ArePlain shapes → AreNoProcs shapes
-no_procs shapes h = each_then (λ (s : Shape). IsPlainKind s.kind) (λ (s : Shape). (s.kind == proc_kind) ≡ false) shapes (λ s k. k.0) h
-
-shaped_none : (shapes : List Shape) (rows : List Row) → AreShaped shapes rows → AreNoProcs shapes → Each (λ r. IsNone (row_meaning r)) rows
-shaped_none [] [] none_of h = tt
-shaped_none [] (r ∷ rows) is h = elim is [ ]
-shaped_none (s ∷ shapes) [] is h = elim is [ ]
-shaped_none (s ∷ shapes) (r ∷ rows) (more_of is rest) h = (kind_none r (ap (λ k. k == proc_kind) is.kind ∙ h.0), shaped_none shapes rows rest h.1)
+shaped_none : (shapes : List Shape) (rows : List Row) → AreShaped shapes rows → HaveKinds IsNoProcedure shapes → Each (λ r. IsNone (row_meaning r)) rows
+shaped_none shapes rows is h =
+    each_then (λ (r : Row). IsNoProcedure (kind_of_meaning (row_meaning r))) (λ (r : Row). IsNone (row_meaning r)) rows (λ r. other_none (row_meaning r)) (shaped_means IsNoProcedure refl shapes rows is h)
 
 -- ** What isn't a procedure's is declared so
 
@@ -134,11 +115,6 @@ plain_declared Q kind b items front more rows m none h step =
       declared = nones_declared Q kind b (front ++ (heading_list m.value.heading ++ more)) items m.rows h;
       in_step = subst (λ o. IsInStep kind (front ++ heading_list o) (rows ++ m.rows)) (sym none) (same_step kind front rows m.rows h step);
     }
-
-named_each : (P : RowMeaning → Type 0) (c : Context) (name at : ℕ) (m : RowMeaning) → ((n : ℕ) → P (row_meaning (row_of n at m))) → Each (λ r. P (row_meaning r)) (makes_named c name at m).rows
-named_each P c name at m h =
-    either (λ (x : Makes Place). Each (λ r. P (row_meaning r)) x.rows) (is_standard name) _ _ (h 0, tt)
-    (either (λ (x : Makes Place). Each (λ r. P (row_meaning r)) x.rows) (has_name c.scene.tables c.scene.block.scope name) _ _ (h 0, tt) (h name, tt))
 
 -- a procedure's row with a name or without one is one row of a procedure
 named_count : (c : Context) (name at : ℕ) (t : Place) (k s : ℕ) → length (filter is_proc (makes_named c name at (Proc t k s)).rows) ≡ 1
@@ -204,9 +180,9 @@ module _ (names : ℕ) (final : Scene) where
       let raw = type_made_raw names final h c back left (under-left (made.rows ++ (t.rows ++ back)) [] under) closed (sections_count h.sections) in
       let typed : IsRawType final h (place_of (number_of t.value)) =
       subst (IsRawType final h) (sym (place_of-number_of t.value small)) (subst (λ s. IsRawType final h (next_of s)) (sym (with-none d.scene)) raw) in
-      let none = shaped_none _ made.rows (sections_of h.sections c own) (no_procs _ (sections_plain h.sections)) in
+      let none = shaped_none _ made.rows (sections_of h.sections c own) (sections_kinds IsNoProcedure no_procedures h.sections) in
       let none_type = result_none e h.name.at r (parameter_count h.sections) start in
-      let row : Each P p.rows = named_each (IsDeclared Q kind c.scene.block notes items) f h.name.name h.name.at (Proc t.value number (proc_scope kind stream))
+      let row : Each P p.rows = named_each P f h.name.name h.name.at (Proc t.value number (proc_scope kind stream))
       (λ n. (h, stream, is_in, refl, number_is c kind h stream front more step, ap (λ (q : Place). q.scope) (place_of-number_of t.value small), typed)) in
       let rows = made.rows ++ (t.rows ++ (p.rows ++ [])) in
       let count : length (filter is_proc (rows ++ [])) ≡ 1 =
@@ -227,17 +203,17 @@ module _ (names : ℕ) (final : Scene) where
   item_declared : (x : Item) (c : Context) (kind : StreamKind) (cell : ℕ) (items : List Item) (front more : List HeadingNote) → IsIn x items
       → Ready names c (declare c kind x cell).rows → Under c.scene (declare c kind x cell).rows final → IsClosed c.scene → IsInStep kind front (own_rows c) → Declared Q kind c.scene.block items front more (own_rows c) (declare c kind x cell)
   item_declared (heading_item h) c kind cell items front more is_in ready under closed step =
-      plain_declared Q kind c.scene.block items front more (own_rows c) _ refl (shaped_none _ _ (item_of (heading_item h) c kind cell) (no_procs _ (own_plain h.sections))) step
+      plain_declared Q kind c.scene.block items front more (own_rows c) _ refl (shaped_none _ _ (item_of (heading_item h) c kind cell) (item_kinds IsNoProcedure no_procedures (heading_item h) refl)) step
   item_declared (import_item None i) c kind cell items front more is_in ready under closed step =
       plain_declared Q kind c.scene.block items front more (own_rows c) _ refl (shaped_none _ _ (item_of (import_item None i) c kind cell) (refl, tt)) step
   item_declared (import_item (Some m) i) c kind cell items front more is_in ready under closed step =
-      plain_declared Q kind c.scene.block items front more (own_rows c) _ refl (shaped_none _ _ (own_shaped _) (alias_shapes (λ (k : ℕ). (k == proc_kind) ≡ false) refl _ (import_aliases m i c kind cell))) step
+      plain_declared Q kind c.scene.block items front more (own_rows c) _ refl (shaped_none _ _ (own_shaped _) (alias_shapes IsNoProcedure refl _ (import_aliases m i c kind cell))) step
   item_declared (const_item i e) c kind cell items front more is_in ready under closed step =
       plain_declared Q kind c.scene.block items front more (own_rows c) _ refl (shaped_none _ _ (item_of (const_item i e) c kind cell) (refl, tt)) step
   item_declared (type_item i t) c kind cell items front more is_in ready under closed step =
-      plain_declared Q kind c.scene.block items front more (own_rows c) _ refl (shaped_none _ _ (item_of (type_item i t) c kind cell) (no_procs _ (plains (type_item_shapes i t) _ (type_item_plain i t) ((refl, refl, refl), tt)))) step
+      plain_declared Q kind c.scene.block items front more (own_rows c) _ refl (shaped_none _ _ (item_of (type_item i t) c kind cell) (item_kinds IsNoProcedure no_procedures (type_item i t) refl)) step
   item_declared (vars_item idents t) c kind cell items front more is_in ready under closed step =
-      plain_declared Q kind c.scene.block items front more (own_rows c) _ refl (shaped_none _ _ (item_of (vars_item idents t) c kind cell) (no_procs _ (plains (type_shapes t) _ (type_plain t) (mapped (named var_kind) idents (λ i. (refl, refl, refl)))))) step
+      plain_declared Q kind c.scene.block items front more (own_rows c) _ refl (shaped_none _ _ (item_of (vars_item idents t) c kind cell) (item_kinds IsNoProcedure no_procedures (vars_item idents t) refl)) step
   item_declared (proc_item h stream) c kind cell items front more is_in ready under closed step = proc_declared h stream c kind cell items front more is_in ready under closed step
 
   items_declared : (xs : List Item) (c : Context) (kind : StreamKind) (i cell : ℕ) (items : List Item) (front : List HeadingNote) → ((x : Item) → IsIn x xs → IsIn x items)
@@ -249,21 +225,14 @@ module _ (names : ℕ) (final : Scene) where
       let m = declare a kind x cell in
       let d = brought_in (with_rows c m.rows) m.value.brought in
       let more = declare_items d kind (i + 1) m.value.cell xs in
-      let left = ready-left m.rows (more.rows ++ []) ready in
-      let sound = left.sound in
-      let ra : Ready names a m.rows = record {
-        sound = record { scene = sound.scene; source = sound.source; few_names = sound.few_names; layout = sound.layout };
-        before = left.before;
-        ok = left.ok;
-        room = left.room;
-      } in
+      let ra = ready-item c i (ready-left m.rows (more.rows ++ []) ready) in
       let first = item_declared x a kind cell items front more.value.headings (within x (inl refl)) ra (under-left m.rows (more.rows ++ []) under) closed step in
       let behind = ready-left more.rows [] (ready-next c x kind i cell (more.rows ++ []) ready) in
       let next : List HeadingNote = front ++ heading_list m.value.heading in
       let rest = items_declared xs d kind (i + 1) m.value.cell items next (λ y h. within y (inr h)) behind
       (under-left more.rows [] (under-right m.rows (more.rows ++ []) under)) (agree-left more.rows [] (agree-right m.rows (more.rows ++ []) agree))
       (closed_with names a m.rows ra (agree-left m.rows (more.rows ++ []) agree) closed)
-      (subst (IsInStep kind next) (sym (own-with c.scene m.rows sound.scene.room)) first.in_step) in
+      (subst (IsInStep kind next) (sym (own-with c.scene m.rows ready.sound.scene.room)) first.in_step) in
       let notes = front ++ (heading_list m.value.heading ++ more.value.headings) in
       let P : Row → Type 0 = λ (r : Row). IsDeclared Q kind c.scene.block notes items (row_meaning r) in
       each_append P m.rows (more.rows ++ []) first.declared

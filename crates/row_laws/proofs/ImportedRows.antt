@@ -10,7 +10,6 @@ use Rattle.m2_base.specs.declared.rows.RowMeaning.TheVariants.{Alias}
 use Rattle.m2_base.specs.declared.sites.Named.{Named}
 use Rattle.m2_base.specs.declared.trees.Ident.{Ident}
 use Rattle.m2_base.specs.declared.trees.declarations.StreamKind.{StreamKind}
-use Rattle.m2_base.specs.Standard.{is_standard}
 use Rattle.m2_base.specs.Statics.BlockRows.{at_item, brought_in}
 use Rattle.m2_base.specs.Statics.Contexts.{Context, Scene, scope_of_module}
 use Rattle.m2_base.specs.Statics.Declarations.{declare}
@@ -18,7 +17,7 @@ use Rattle.m2_base.specs.Statics.Effects.{Effect}
 use Rattle.m2_base.specs.Statics.ImportRows.{alias_by, alias_row, place_or_broken}
 use Rattle.m2_base.specs.Statics.ImportedConstants.{Member, are_too_many, brought_by, brought_names, brought_row, members_of, new_members}
 use Rattle.m2_base.specs.Statics.Items.{Item, const_item, heading_item, import_item, proc_item, type_item, vars_item}
-use Rattle.m2_base.specs.Statics.Lookup.{entry_named, has_name}
+use Rattle.m2_base.specs.Statics.Lookup.{entry_named}
 use Rattle.m2_base.specs.Statics.Makes.{Makes, makes_named, own_rows, scene_with, with_rows}
 use Rattle.m2_base.specs.Statics.ShapedRows.{AreShaped, more_of, none_of}
 use Rattle.m2_base.specs.Statics.Shapes.{Shape, item_shapes, named}
@@ -31,6 +30,7 @@ use Rattle.m2_base.proofs.ShapeLaws.{named_of, one_of}
 use Rattle.m2_base.proofs.SoundBrought.{extended_ok}
 use Rattle.m2_base.proofs.SoundTypes.{either}
 use Rattle.row_laws.proofs.Agreeing.{Ready, agree-append, agree-end, agree-then, named_agrees, one_agrees, ready-left, ready-right}
+use Rattle.row_laws.proofs.Choices.{named_each}
 use Rattle.row_laws.proofs.Numbers.{AllAgree, more_agree, none_agree}
 
 -- ** Rows of aliases
@@ -39,9 +39,7 @@ abbrev pub IsAliasRow : Row → Type 0
 IsAliasRow r = r.kind ≡ alias_kind
 
 named_aliases : (c : Context) (name at : ℕ) (p : Place) → Each IsAliasRow (makes_named c name at (Alias p)).rows
-named_aliases c name at p =
-    either (λ (x : Makes Place). Each IsAliasRow x.rows) (is_standard name) _ _ (refl, tt)
-    (either (λ (x : Makes Place). Each IsAliasRow x.rows) (has_name c.scene.tables c.scene.block.scope name) _ _ (refl, tt) (refl, tt))
+named_aliases c name at p = named_each IsAliasRow c name at (Alias p) (λ n. refl)
 
 own_aliases : (c : Context) (i : Ident) (p : Place) (o : Option Named) → Each IsAliasRow (alias_by c i p o).rows
 own_aliases c i p None = named_aliases c i.name i.at p
@@ -208,6 +206,17 @@ laid_small i o k [] [] room h = tt
 laid_small i o k [] (r ∷ rows) room h = absurd h
 laid_small i o k (n ∷ ns) [] room h = absurd h
 laid_small i o k (n ∷ ns) (r ∷ rows) room h = let e = h.1 in (omega (arith, e, room), laid_small i (o + 1) k ns rows (omega (arith, room)) h.3)
+
+-- an item's context is as sound
+pub ready-item : {names : ℕ} {xs : List Row} (c : Context) (i : ℕ) → Ready names c xs → Ready names (at_item c i) xs
+ready-item c i h =
+    let sound = h.sound in
+    record {
+      sound = record { scene = sound.scene; source = sound.source; few_names = sound.few_names; layout = sound.layout };
+      before = h.before;
+      ok = h.ok;
+      room = h.room;
+    }
 
 -- the context behind an item is sound too
 pub ready-next : {names : ℕ} (c : Context) (x : Item) (kind : StreamKind) (i cell : ℕ) (ys : List Row) → Ready names c ((declare (at_item c i) kind x cell).rows ++ ys)

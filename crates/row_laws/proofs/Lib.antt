@@ -1,3 +1,5 @@
+pub mod Choices
+pub mod Members
 pub mod Numbers
 pub mod Settled
 pub mod Agreeing
@@ -8,6 +10,7 @@ pub mod ClosedTypes
 pub mod ImportedRows
 pub mod AgreeingItems
 pub mod Scenes
+pub mod TypeShapes
 pub mod Placing
 pub mod PlacingItems
 pub mod Fitting

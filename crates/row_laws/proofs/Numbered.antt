@@ -2,7 +2,7 @@
 use Rattle.std.specs.Prelude.{◌≡◌, ℕ, suc, ◌<◌, ◌≤◌, ◌==◌, ◌&&◌, ◌||◌, ◌⊎◌, Bool, true, false, List, [], ◌∷◌, ◌++◌}
 use Rattle.std.specs.List.{list_any}
 use Rattle.std.proofs.Common.{ap, subst, sym, ◌∙◌, refl, inl, inr, arith}
-use Rattle.std.proofs.lemmas.Bool.{false≢true}
+use Rattle.std.proofs.lemmas.Bool.{false≢true, and_parts, or_from}
 use Rattle.ll_grammar.specs.Derivations.{Tree, nothing, leaf, both, left, right, last, more, inner, part, Derives, of_empty, of_token, of_then, of_left, of_right, of_last, of_more, of_deep, of_sub}
 use Rattle.ll_grammar.specs.Grammar.{Rule, empty, token, then as followed, or, many, deep, sub}
 use Rattle.m2_base.specs.Grammar.{grammar, block as block_rule, constant, declaration, heading, type_declaration, variables}
@@ -26,17 +26,13 @@ is_plain (many r) = is_plain r
 is_plain (deep n) = true
 is_plain sub = false
 
-both_are : (a b : Bool) → (a && b) ≡ true → (a ≡ true) × (b ≡ true)
-both_are true b h = (refl, h)
-both_are false b h = absurd (false≢true h)
-
 plain_after : {r : Rule} {x : Tree Token} → Derives grammar r x → is_plain r ≡ true → (c : ℕ) → blocks_after c x ≡ c
 plain_after of_empty h c = refl
 plain_after (of_token g) h c = refl
 plain_after (of_then {r} {s} {d = x} {e = y} g k) h c =
-    let e = both_are (is_plain r) (is_plain s) h in ap (λ z. blocks_after z y) (plain_after g e.0 c) ∙ plain_after k e.1 c
-plain_after (of_left {r} {s} g) h c = plain_after g (both_are (is_plain r) (is_plain s) h).0 c
-plain_after (of_right {r} {s} g) h c = plain_after g (both_are (is_plain r) (is_plain s) h).1 c
+    let e = and_parts (is_plain r) (is_plain s) h in ap (λ z. blocks_after z y) (plain_after g e.0 c) ∙ plain_after k e.1 c
+plain_after (of_left {r} {s} g) h c = plain_after g (and_parts (is_plain r) (is_plain s) h).0 c
+plain_after (of_right {r} {s} g) h c = plain_after g (and_parts (is_plain r) (is_plain s) h).1 c
 plain_after of_last h c = refl
 plain_after (of_more {d = x} {ds = y} g k) h c = ap (λ z. blocks_after z y) (plain_after g h c) ∙ plain_after k h c
 plain_after (of_deep g) h c = refl
@@ -87,9 +83,6 @@ Has h s c (inner x) = ⊥
 Has h s c (part (both g x)) = (h ≡ heading_of g) × (s ≡ c)
 Has h s c (part x) = ⊥
 
-both_false : (a b : Bool) → a ≡ false → b ≡ false → (a || b) ≡ false
-both_false a b e f = ap (λ z. z || b) e ∙ f
-
 or_false : (b : Bool) → (b || false) ≡ b
 or_false true = refl
 or_false false = refl
@@ -104,11 +97,11 @@ plain_has : {r : Rule} {x : Tree Token} → Derives grammar r x → is_plain r �
 plain_has of_empty h s c = refl
 plain_has (of_token g) h s c = refl
 plain_has (of_then {r} {s = q} {d = x} g k) h s c =
-    let e = both_are (is_plain r) (is_plain q) h in both_false _ _ (plain_has g e.0 s c) (plain_has k e.1 s (blocks_after c x))
-plain_has (of_left {r} {s = q} g) h s c = plain_has g (both_are (is_plain r) (is_plain q) h).0 s c
-plain_has (of_right {r} {s = q} g) h s c = plain_has g (both_are (is_plain r) (is_plain q) h).1 s c
+    let e = and_parts (is_plain r) (is_plain q) h in or_from _ _ (plain_has g e.0 s c) (plain_has k e.1 s (blocks_after c x))
+plain_has (of_left {r} {s = q} g) h s c = plain_has g (and_parts (is_plain r) (is_plain q) h).0 s c
+plain_has (of_right {r} {s = q} g) h s c = plain_has g (and_parts (is_plain r) (is_plain q) h).1 s c
 plain_has of_last h s c = refl
-plain_has (of_more {d = x} g k) h s c = both_false _ _ (plain_has g h s c) (plain_has k h s (blocks_after c x))
+plain_has (of_more {d = x} g k) h s c = or_from _ _ (plain_has g h s c) (plain_has k h s (blocks_after c x))
 plain_has (of_deep g) h s c = refl
 plain_has (of_sub g) h s c = absurd (false≢true h)
 
@@ -116,11 +109,11 @@ plain_has (of_sub g) h s c = absurd (false≢true h)
 pub has_low : {r : Rule} {x : Tree Token} → Derives grammar r x → (s c : ℕ) → s < c → has s c x ≡ false
 has_low of_empty s c h = refl
 has_low (of_token g) s c h = refl
-has_low (of_then {d = x} g k) s c h = let i = later g c in both_false _ _ (has_low g s c h) (has_low k s (blocks_after c x) (omega (arith, h, i)))
+has_low (of_then {d = x} g k) s c h = let i = later g c in or_from _ _ (has_low g s c h) (has_low k s (blocks_after c x) (omega (arith, h, i)))
 has_low (of_left g) s c h = has_low g s c h
 has_low (of_right g) s c h = has_low g s c h
 has_low of_last s c h = refl
-has_low (of_more {d = x} g k) s c h = let i = later g c in both_false _ _ (has_low g s c h) (has_low k s (blocks_after c x) (omega (arith, h, i)))
+has_low (of_more {d = x} g k) s c h = let i = later g c in or_from _ _ (has_low g s c h) (has_low k s (blocks_after c x) (omega (arith, h, i)))
 has_low (of_deep g) s c h = refl
 has_low (of_sub g) s c h = unequal_low c s h
 
@@ -128,12 +121,12 @@ pub has_high : {r : Rule} {x : Tree Token} → Derives grammar r x → (s c : �
 has_high of_empty s c h = refl
 has_high (of_token g) s c h = refl
 has_high (of_then {d = x} g k) s c h =
-    let j = later k (blocks_after c x) in both_false _ _ (has_high g s c (omega (arith, h, j))) (has_high k s (blocks_after c x) h)
+    let j = later k (blocks_after c x) in or_from _ _ (has_high g s c (omega (arith, h, j))) (has_high k s (blocks_after c x) h)
 has_high (of_left g) s c h = has_high g s c h
 has_high (of_right g) s c h = has_high g s c h
 has_high of_last s c h = refl
 has_high (of_more {d = x} g k) s c h =
-    let j = later k (blocks_after c x) in both_false _ _ (has_high g s c (omega (arith, h, j))) (has_high k s (blocks_after c x) h)
+    let j = later k (blocks_after c x) in or_from _ _ (has_high g s c (omega (arith, h, j))) (has_high k s (blocks_after c x) h)
 has_high (of_deep g) s c h = refl
 has_high (of_sub (of_then gh (of_then (of_token {t} gs) (of_then {d = b} gb (of_token {t = l} gl))))) s c h =
     let e = after_procedure gh b t l c in let i = later gb (suc c) in unequal c s (omega (arith, h, e, i))
@@ -192,7 +185,7 @@ declarations_declare (of_more {d} {ds} g k) s c =
 
 pub block_declares : {b : Tree Token} → Derives grammar (block_rule sub) b → (s c : ℕ) (w : List Token) → list_any (declares s) (block_from c b w).decls ≡ has s c b
 block_declares (of_then {d = ds} gd (of_then {d = b} gb (of_then (of_token ge) (of_token gi)))) s c w =
-    declarations_declare gd s c ∙ sym (or_false (has s c ds)) ∙ ap (λ z. has s c ds || z) (sym (both_false _ _ (plain_has gb refl s (blocks_after c ds)) refl))
+    declarations_declare gd s c ∙ sym (or_false (has s c ds)) ∙ ap (λ z. has s c ds || z) (sym (or_from _ _ (plain_has gb refl s (blocks_after c ds)) refl))
 
 declaration_has : {d : Tree Token} → Derives grammar (declaration sub) d → (h : Heading) (s c : ℕ) → IsIn (proc_decl h s) (declaration_from c d) → Has h s c d
 declaration_has (of_left (of_then (of_token g) k)) h s c i = absurd (others_in h s _ (constants_other k) i)

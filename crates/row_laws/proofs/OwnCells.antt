@@ -1,9 +1,9 @@
 -- The cells of an own definition's variables are those that its rows count.
-use Rattle.std.specs.Prelude.{◌≡◌, ℕ, ◌+◌, ◌^◌, ◌<◌, ◌==◌, false, List, [], ◌∷◌, ◌++◌, map, flat_map, Option, Some, None}
+use Rattle.std.specs.Prelude.{◌≡◌, ℕ, ◌+◌, ◌^◌, ◌<◌, List, [], ◌∷◌, ◌++◌, map, flat_map, Option, Some, None}
 use Rattle.std.proofs.Common.{ap, subst, sym, ◌∙◌, refl}
 use Rattle.std.proofs.lemmas.List.{append-nil}
 use Rattle.m2_base.specs.Lists.{Each}
-use Rattle.m2_base.specs.Rows.{row_meaning, number_of, place_of, var_kind}
+use Rattle.m2_base.specs.Rows.{row_meaning, number_of, place_of}
 use Rattle.m2_base.specs.declared.rows.Mode.TheVariants.{Plain}
 use Rattle.m2_base.specs.declared.rows.Place.{Place}
 use Rattle.m2_base.specs.declared.rows.Row.{Row}
@@ -23,8 +23,8 @@ use Rattle.m2_base.specs.Statics.Items.{Item, heading_item, import_item, const_i
 use Rattle.m2_base.specs.Statics.Lookup.{has_name}
 use Rattle.m2_base.specs.Statics.Makes.{Makes, scene_with, with_rows, makes_named}
 use Rattle.m2_base.specs.Statics.NameRows.{var_rows}
-use Rattle.m2_base.specs.Statics.ShapedRows.{AreShaped, none_of, more_of}
-use Rattle.m2_base.specs.Statics.Shapes.{Shape, type_item_shapes, section_shapes, type_shapes}
+use Rattle.m2_base.specs.Statics.ShapedRows.{AreShaped}
+use Rattle.m2_base.specs.Statics.Shapes.{Shape, type_shapes}
 use Rattle.m2_base.specs.Statics.SoundTrees.{IsSoundItem}
 use Rattle.m2_base.specs.Statics.TypeRows.{type_rows}
 use Rattle.m2_base.specs.Statics.Types.{meaning_at, opaque_as, size_by, size_of, stands_as, stands_for}
@@ -37,24 +37,24 @@ use Rattle.m2_base.proofs.Sound.{IsThere, there-with, sound-with}
 use Rattle.m2_base.proofs.SoundRows.{type_made}
 use Rattle.m2_base.proofs.SoundTypes.{either}
 use Rattle.row_laws.proofs.Agreeing.{Ready, ready-left, ready-right}
-use Rattle.row_laws.proofs.ImportedRows.{alias_shapes, import_aliases, own_shaped, ready-next}
-use Rattle.row_laws.proofs.Placing.{AreOther, IsOther, kind_other, others, type_others}
-use Rattle.row_laws.proofs.PlacingItems.{IsInner, decls_inner, imports_inner, sections_others, type_item_others}
+use Rattle.row_laws.proofs.ImportedRows.{alias_shapes, import_aliases, own_shaped, ready-item, ready-next}
+use Rattle.row_laws.proofs.Placing.{IsOther, others}
+use Rattle.row_laws.proofs.PlacingItems.{IsInner, decls_inner, imports_inner}
 use Rattle.row_laws.proofs.Settled.{row_stays}
+use Rattle.row_laws.proofs.TypeShapes.{HaveKinds, MeanKinds, item_kinds, kind_of_meaning, shaped_means, type_kinds}
 
 -- ** Rows that count no cells
 
-other_counted : (scene : Scene) (cell : ℕ) (m : RowMeaning) → IsOther m → cell_after scene cell m ≡ cell
-other_counted scene cell (Var t mode o) h = absurd h
+other_counted : (scene : Scene) (cell : ℕ) (m : RowMeaning) → IsOther (kind_of_meaning m) → cell_after scene cell m ≡ cell
+other_counted scene cell (Var t mode o) h = absurd (cc)
 other_counted scene cell m h = refl
 
-shaped_counted : (scene : Scene) (cell : ℕ) (shapes : List Shape) (rows : List Row) → AreShaped shapes rows → AreOther shapes → cells_after scene cell rows ≡ cell
-shaped_counted scene cell [] [] none_of h = refl
-shaped_counted scene cell [] (r ∷ rows) is h = elim is [ ]
-shaped_counted scene cell (s ∷ shapes) [] is h = elim is [ ]
-shaped_counted scene cell (s ∷ shapes) (r ∷ rows) (more_of is rest) h =
-    ap (λ n. cells_after scene n rows) (other_counted scene cell (row_meaning r) (kind_other r (ap (λ k. k == var_kind) is.kind ∙ h.0)))
-    ∙ shaped_counted scene cell shapes rows rest h.1
+others_counted : (scene : Scene) (cell : ℕ) (rows : List Row) → MeanKinds IsOther rows → cells_after scene cell rows ≡ cell
+others_counted scene cell [] h = refl
+others_counted scene cell (r ∷ rows) h = ap (λ n. cells_after scene n rows) (other_counted scene cell (row_meaning r) h.0) ∙ others_counted scene cell rows h.1
+
+shaped_counted : (scene : Scene) (cell : ℕ) (shapes : List Shape) (rows : List Row) → AreShaped shapes rows → HaveKinds IsOther shapes → cells_after scene cell rows ≡ cell
+shaped_counted scene cell shapes rows is h = others_counted scene cell rows (shaped_means IsOther refl shapes rows is h)
 
 counted_append : (scene : Scene) (cell : ℕ) (xs ys : List Row) → cells_after scene cell (xs ++ ys) ≡ cells_after scene (cells_after scene cell xs) ys
 counted_append scene cell [] ys = refl
@@ -117,10 +117,10 @@ module _ (names : ℕ) (scene : Scene) where
       → Sees scene (scene_with c.scene (declare c kind x cell).rows) → cells_after scene cell (declare c kind x cell).rows ≡ (declare c kind x cell).value.cell
   item_counted (heading_item h) c kind cell inner good ready own sees = absurd inner
   item_counted (import_item None i) c kind cell inner good ready own sees = shaped_counted scene cell _ _ (item_of (import_item None i) c kind cell) (refl, tt)
-  item_counted (import_item (Some m) i) c kind cell inner good ready own sees = shaped_counted scene cell _ _ (own_shaped _) (alias_shapes (λ (k : ℕ). (k == var_kind) ≡ false) refl _ (import_aliases m i c kind cell))
+  item_counted (import_item (Some m) i) c kind cell inner good ready own sees = shaped_counted scene cell _ _ (own_shaped _) (alias_shapes IsOther refl _ (import_aliases m i c kind cell))
   item_counted (const_item i e) c kind cell inner good ready own sees = shaped_counted scene cell _ _ (item_of (const_item i e) c kind cell) (refl, tt)
   item_counted (type_item i t) c kind cell inner good ready own sees =
-      shaped_counted scene cell _ _ (item_of (type_item i t) c kind cell) (others (type_item_shapes i t) _ (type_item_others i t) (refl, tt))
+      shaped_counted scene cell _ _ (item_of (type_item i t) c kind cell) (item_kinds IsOther others (type_item i t) refl)
   item_counted (vars_item idents t) c kind cell inner good ready own sees =
       let made = type_rows c t in
       let d = with_rows c made.rows in
@@ -132,10 +132,10 @@ module _ (names : ℕ) (scene : Scene) where
       let first = type_made names t c left.sound good.1 left.room in
       ap (cells_after scene cell) all
       ∙ counted_append scene cell made.rows vars.rows
-      ∙ ap (λ n. cells_after scene n vars.rows) (shaped_counted scene cell (type_shapes t) made.rows (type_of t c) (type_others t))
+      ∙ ap (λ n. cells_after scene n vars.rows) (shaped_counted scene cell (type_shapes t) made.rows (type_of t c) (type_kinds IsOther others t))
       ∙ vars_counted idents d made.value cell (ready-right made.rows vars.rows rc) own first.there (sees_right c made.rows vars.rows seen)
   item_counted (proc_item h stream) c kind cell inner good ready own sees =
-      shaped_counted scene cell _ _ (item_of (proc_item h stream) c kind cell) (others (flat_map section_shapes h.sections) _ (sections_others h.sections) (refl, (refl, tt)))
+      shaped_counted scene cell _ _ (item_of (proc_item h stream) c kind cell) (item_kinds IsOther others (proc_item h stream) refl)
 
   items_counted : (items : List Item) (c : Context) (kind : StreamKind) (i cell : ℕ) → Each IsInner items → Each (IsSoundItem names) items → Ready names c (declare_items c kind i cell items).rows → c.scene.block.own ≡ None
       → Sees scene (scene_with c.scene (declare_items c kind i cell items).rows) → cells_after scene cell (declare_items c kind i cell items).rows ≡ (declare_items c kind i cell items).value.cell
@@ -148,14 +148,7 @@ module _ (names : ℕ) (scene : Scene) where
       let same : m.rows ++ (more.rows ++ []) ≡ m.rows ++ more.rows = ap (λ rs. m.rows ++ rs) (append-nil more.rows) in
       let all : Ready names c (m.rows ++ more.rows) = subst (Ready names c) same ready in
       let seen : Sees scene (scene_with c.scene (m.rows ++ more.rows)) = subst (λ (rs : List Row). Sees scene (scene_with c.scene rs)) same sees in
-      let left = ready-left m.rows more.rows all in
-      let sound = left.sound in
-      let ra : Ready names a m.rows = record {
-        sound = record { scene = sound.scene; source = sound.source; few_names = sound.few_names; layout = sound.layout };
-        before = left.before;
-        ok = left.ok;
-        room = left.room;
-      } in
+      let ra = ready-item c i (ready-left m.rows more.rows all) in
       ap (cells_after scene cell) same
       ∙ counted_append scene cell m.rows more.rows
       ∙ ap (λ n. cells_after scene n more.rows) (item_counted x a kind cell inner.0 good.0 ra own (sees_left c m.rows more.rows all seen))

@@ -1,39 +1,37 @@
 -- Variables are placed below the next free cell.
-use Rattle.std.specs.Prelude.{◌≡◌, ℕ, suc, ◌+◌, ◌*◌, ◌^◌, ◌<◌, ◌≤◌, ◌==◌, Bool, true, false, if◌then◌else◌, List, [], ◌∷◌, ◌++◌, length, map, flat_map, Option, Some, None}
-use Rattle.std.proofs.Common.{ap, subst, ◌∙◌, refl, arith}
+use Rattle.std.specs.Prelude.{◌≡◌, ℕ, suc, ◌+◌, ◌*◌, ◌^◌, ◌<◌, ◌≤◌, ◌==◌, Bool, true, false, if◌then◌else◌, List, [], ◌∷◌, ◌++◌, length}
+use Rattle.std.proofs.Common.{ap, subst, refl, arith}
 use Rattle.m2_base.specs.Lists.{Each}
-use Rattle.m2_base.specs.Rows.{row_of, row_meaning, basic_of, natural, Fits, const_kind, type_name_kind, var_kind, proc_kind, module_kind, alias_kind, field_kind, param_kind, standard_kind, basic_kind, enum_kind, subrange_kind, array_kind, open_array_kind, record_kind, set_kind, pointer_kind, proc_type_kind, opaque_kind}
+use Rattle.m2_base.specs.Rows.{row_of, row_meaning, Fits, const_kind, var_kind, field_kind, param_kind, enum_kind, subrange_kind, array_kind, open_array_kind, record_kind, set_kind, pointer_kind, proc_type_kind, opaque_kind}
 use Rattle.m2_base.specs.declared.rows.Mode.TheVariants.{Plain, ByAddress, Open}
 use Rattle.m2_base.specs.declared.rows.Place.{Place}
 use Rattle.m2_base.specs.declared.rows.Row.{Row}
 use Rattle.m2_base.specs.declared.rows.RowMeaning.{RowMeaning}
 use Rattle.m2_base.specs.declared.rows.RowMeaning.TheVariants.{Array, Record, Var}
 use Rattle.m2_base.specs.declared.trees.Ident.{Ident}
-use Rattle.m2_base.specs.Standard.{is_standard}
-use Rattle.m2_base.specs.Trees.{TypeExpr, type_expr, TypeForm, named_type, enum_type, sub_type, array_type, record_type, set_type, pointer_type, proc_type, TypeExprs, no_types, more_types, FieldList, plain_fields, case_fields, FieldLists, no_fields, more_fields, variant_arm, VariantArms, no_variant_arms, more_variant_arms, Section}
-use Rattle.m2_base.specs.declared.trees.types.Formal.{Formal}
-use Rattle.m2_base.specs.declared.trees.Qual.{Qual}
+use Rattle.m2_base.specs.Trees.{TypeExpr, Section}
 use Rattle.m2_base.specs.Statics.Cells.{capped, most_cells}
 use Rattle.m2_base.specs.Statics.Contexts.{Context, Scene}
 use Rattle.m2_base.specs.Statics.Effects.{ParamCopy, open_copy, own_copy}
 use Rattle.m2_base.specs.Statics.FormedRows.{IsFilled}
 use Rattle.m2_base.specs.Statics.HeadingRows.{Placing, placing, open_copies, parameter_row, parameter_rows, own_section_rows, own_sections_rows}
-use Rattle.m2_base.specs.Statics.Lookup.{has_name}
 use Rattle.m2_base.specs.Statics.Makes.{Makes, make_then, makes, with_rows, makes_named}
 use Rattle.m2_base.specs.Statics.NameRows.{var_rows}
 use Rattle.m2_base.specs.Statics.ProcedureRows.{section_cells, parameter_cells}
 use Rattle.m2_base.specs.Statics.ProcedureTypes.{is_structured, open_array_row}
-use Rattle.m2_base.specs.Statics.ShapedRows.{AreShaped, none_of, more_of}
-use Rattle.m2_base.specs.Statics.Shapes.{Shape, type_shapes, form_shapes, types_shapes, fields_shapes, field_shapes, arms_shapes, array_shapes, formal_shapes, open_shapes, tag_shapes}
+use Rattle.m2_base.specs.Statics.ShapedRows.{AreShaped}
+use Rattle.m2_base.specs.Statics.Shapes.{Shape, type_shapes, open_shapes}
 use Rattle.m2_base.specs.Statics.TypeNames.{type_of_qual}
 use Rattle.m2_base.specs.Statics.Types.{kind_of, size_by, size_of, stands_for}
 use Rattle.m2_base.proofs.EachLaws.{each_append, each_then}
 use Rattle.m2_base.proofs.ShapeLaws.{open_of}
 use Rattle.m2_base.proofs.Sound.{Sound, row_ok}
 use Rattle.m2_base.proofs.SoundParts.{capped-most}
-use Rattle.m2_base.proofs.SoundTypes.{either, kind_fits}
+use Rattle.m2_base.proofs.SoundTypes.{kind_fits}
 use Rattle.row_laws.specs.RowRanges.{IsBelow, IsCopyBelow, IsCopyInRange}
 use Rattle.row_laws.proofs.Agreeing.{Ready, ready-left, ready-right, ready-then}
+use Rattle.row_laws.proofs.Choices.{either_by, named_each}
+use Rattle.row_laws.proofs.TypeShapes.{HaveKinds, OfTypes, kind_of_meaning, open_kinds, shaped_means, type_kinds}
 
 -- ** Sizes
 
@@ -67,7 +65,7 @@ ArePlaced cells rows = Each (λ r. IsPlaced cells (row_meaning r)) rows
 abbrev pub IsCopyPlaced : (cells : ℕ) → ParamCopy → Type 0
 IsCopyPlaced cells c = IsCopyInRange c × (cells ≤ most_cells → IsCopyBelow cells c)
 
-below_more : (a b : ℕ) (m : RowMeaning) → a ≤ b → IsBelow a m → IsBelow b m
+pub below_more : (a b : ℕ) (m : RowMeaning) → a ≤ b → IsBelow a m → IsBelow b m
 below_more a b (Var t Open o) h k = omega (arith, h, k)
 below_more a b (Var t Plain o) h k = omega (arith, h, k)
 below_more a b (Var t ByAddress o) h k = omega (arith, h, k)
@@ -89,110 +87,29 @@ copies-more a b cs h k = each_then (IsCopyPlaced a) (IsCopyPlaced b) cs (λ c p.
 
 -- ** Rows of other kinds
 
--- the meaning is no variable's
-abbrev pub IsOther : RowMeaning → Type 0
-IsOther (Var t mode offset) = ⊥
-IsOther other = Unit {0}
+-- the kind is no variable's
+abbrev pub IsOther : ℕ → Type 0
+IsOther k = (k == var_kind) ≡ false
 
-basic_other : (n : ℕ) → IsOther (basic_of n)
-basic_other n =
-    either IsOther (n == 1) _ _ tt (either IsOther (n == 2) _ _ tt (either IsOther (n == 3) _ _ tt
-    (either IsOther (n == 4) _ _ tt (either IsOther (n == 5) _ _ tt (either IsOther (n == 6) _ _ tt tt)))))
+pub others : OfTypes IsOther
+others = record { const_kind = refl; field_kind = refl; param_kind = refl; enum_kind = refl; subrange_kind = refl; array_kind = refl; open_array_kind = refl; record_kind = refl; set_kind = refl; pointer_kind = refl; proc_type_kind = refl; opaque_kind = refl }
 
--- of two values the second, where the test fails
-otherwise : {A : Type 0} (P : A → Type 0) (b : Bool) (x y : A) → b ≡ false → P y → P (if b then x else y)
-otherwise P true x y e h = absurd (cc)
-otherwise P false x y e h = h
-
-pub kind_other : (r : Row) → (r.kind == var_kind) ≡ false → IsOther (row_meaning r)
-kind_other r e =
-    either IsOther (r.kind == const_kind) _ _ tt (either IsOther (r.kind == type_name_kind) _ _ tt
-    (otherwise IsOther (r.kind == var_kind) _ _ e
-    (either IsOther (r.kind == proc_kind) _ _ tt (either IsOther (r.kind == module_kind) _ _ tt (either IsOther (r.kind == alias_kind) _ _ tt
-    (either IsOther (r.kind == field_kind) _ _ tt (either IsOther (r.kind == param_kind) _ _ tt (either IsOther (r.kind == standard_kind) _ _ tt
-    (either IsOther (r.kind == basic_kind) _ _ (basic_other (natural r.a)) (either IsOther (r.kind == enum_kind) _ _ tt (either IsOther (r.kind == subrange_kind) _ _ tt
-    (either IsOther (r.kind == array_kind) _ _ tt (either IsOther (r.kind == open_array_kind) _ _ tt (either IsOther (r.kind == record_kind) _ _ tt
-    (either IsOther (r.kind == set_kind) _ _ tt (either IsOther (r.kind == pointer_kind) _ _ tt (either IsOther (r.kind == proc_type_kind) _ _ tt
-    (either IsOther (r.kind == opaque_kind) _ _ tt tt))))))))))))))))))
-
-other_placed : (cells : ℕ) (m : RowMeaning) → IsOther m → IsPlaced cells m
-other_placed cells (Var t mode o) h = absurd h
+other_placed : (cells : ℕ) (m : RowMeaning) → IsOther (kind_of_meaning m) → IsPlaced cells m
+other_placed cells (Var t mode o) h = absurd (cc)
 other_placed cells m h = tt
 
--- no shape is a variable's
-abbrev pub AreOther : List Shape → Type 0
-AreOther shapes = Each (λ (s : Shape). (s.kind == var_kind) ≡ false) shapes
-
-pub shaped_placed : (cells : ℕ) (shapes : List Shape) (rows : List Row) → AreShaped shapes rows → AreOther shapes → ArePlaced cells rows
-shaped_placed cells [] [] none_of h = tt
-shaped_placed cells [] (r ∷ rows) is h = elim is [ ]
-shaped_placed cells (s ∷ shapes) [] is h = elim is [ ]
-shaped_placed cells (s ∷ shapes) (r ∷ rows) (more_of is rest) h =
-    (other_placed cells (row_meaning r) (kind_other r (ap (λ k. k == var_kind) is.kind ∙ h.0)), shaped_placed cells shapes rows rest h.1)
-
-pub others : (xs ys : List Shape) → AreOther xs → AreOther ys → AreOther (xs ++ ys)
-others xs ys h k = each_append (λ (s : Shape). (s.kind == var_kind) ≡ false) xs ys h k
-
-pub mapped : {A : Type 0} (f : A → Shape) (xs : List A) → ((x : A) → ((f x).kind == var_kind) ≡ false) → AreOther (map f xs)
-mapped f [] h = tt
-mapped f (x ∷ xs) h = (h x, mapped f xs h)
-
-pub open_others : (is_open : Bool) (q : Qual) → AreOther (open_shapes is_open q)
-open_others true q = (refl, tt)
-open_others false q = tt
-
-formals_others : (formals : List Formal) → AreOther (flat_map formal_shapes formals)
-formals_others [] = tt
-formals_others (f ∷ formals) = others (formal_shapes f) _ (others (open_shapes f.is_open f.of) _ (open_others f.is_open f.of) (refl, tt)) (formals_others formals)
-
-array_others : (at : ℕ) (ts : TypeExprs) → AreOther (array_shapes at ts)
-array_others at no_types = tt
-array_others at (more_types t ts) = (refl, array_others at ts)
-
-tag_others : (tag : Option Ident) → AreOther (tag_shapes tag)
-tag_others None = tt
-tag_others (Some i) = (refl, tt)
-
-mutual
-  pub type_others : (t : TypeExpr) → AreOther (type_shapes t)
-  type_others (type_expr at form) = form_others at form
-
-  form_others : (at : ℕ) (form : TypeForm) → AreOther (form_shapes at form)
-  form_others at (named_type q) = tt
-  form_others at (enum_type idents) = (refl, mapped _ idents (λ i. refl))
-  form_others at (sub_type base low high) = (refl, tt)
-  form_others at (array_type index of) = others (types_shapes index ++ type_shapes of) _ (others (types_shapes index) _ (types_others index) (type_others of)) (array_others at index)
-  form_others at (record_type fields) = others (fields_shapes fields) _ (fields_others fields) (refl, tt)
-  form_others at (set_type of) = others (type_shapes of) _ (type_others of) (refl, tt)
-  form_others at (pointer_type of) = others (type_shapes of) _ (type_others of) (refl, tt)
-  form_others at (proc_type formals result) = others (flat_map formal_shapes formals) _ (formals_others formals) (refl, tt)
-
-  types_others : (ts : TypeExprs) → AreOther (types_shapes ts)
-  types_others no_types = tt
-  types_others (more_types t ts) = others (type_shapes t) _ (type_others t) (types_others ts)
-
-  fields_others : (fs : FieldLists) → AreOther (fields_shapes fs)
-  fields_others no_fields = tt
-  fields_others (more_fields f fs) = others (field_shapes f) _ (field_others f) (fields_others fs)
-
-  field_others : (f : FieldList) → AreOther (field_shapes f)
-  field_others (plain_fields idents t) = others (type_shapes t) _ (type_others t) (mapped _ idents (λ i. refl))
-  field_others (case_fields tag of arms other) = others (tag_shapes tag ++ arms_shapes arms) _ (others (tag_shapes tag) _ (tag_others tag) (arms_others arms)) (fields_others other)
-
-  arms_others : (arms : VariantArms) → AreOther (arms_shapes arms)
-  arms_others no_variant_arms = tt
-  arms_others (more_variant_arms (variant_arm ls fs) arms) = others (fields_shapes fs) _ (fields_others fs) (arms_others arms)
+pub shaped_placed : (cells : ℕ) (shapes : List Shape) (rows : List Row) → AreShaped shapes rows → HaveKinds IsOther shapes → ArePlaced cells rows
+shaped_placed cells shapes rows is h =
+    each_then (λ (r : Row). IsOther (kind_of_meaning (row_meaning r))) (λ (r : Row). IsPlaced cells (row_meaning r)) rows (λ r. other_placed cells (row_meaning r)) (shaped_means IsOther refl shapes rows is h)
 
 pub type_placed : (cells : ℕ) (t : TypeExpr) (c : Context) (rows : List Row) → AreShaped (type_shapes t) rows → ArePlaced cells rows
-type_placed cells t c rows h = shaped_placed cells (type_shapes t) rows h (type_others t)
+type_placed cells t c rows h = shaped_placed cells (type_shapes t) rows h (type_kinds IsOther others t)
 
 -- ** Variables
 
 -- a row with a name or without one
 named_placed : (cells : ℕ) (c : Context) (name at : ℕ) (m : RowMeaning) → ((n : ℕ) → IsPlaced cells (row_meaning (row_of n at m))) → ArePlaced cells (makes_named c name at m).rows
-named_placed cells c name at m h =
-    either (λ (x : Makes Place). ArePlaced cells x.rows) (is_standard name) _ _ (h 0, tt)
-    (either (λ (x : Makes Place). ArePlaced cells x.rows) (has_name c.scene.tables c.scene.block.scope name) _ _ (h 0, tt) (h name, tt))
+named_placed cells c name at m h = named_each (λ (r : Row). IsPlaced cells (row_meaning r)) c name at m h
 
 -- cells after this one, and rows that are placed below them
 pub record Cells (cell next : ℕ) (rows : List Row) : Type 0 where
@@ -207,6 +124,14 @@ after_cells cell size h = omega (arith, h)
 -- a cell before the cells after it, unless they are too many
 before_cells : (cell size end : ℕ) → 1 ≤ size → capped (cell + size) ≤ end → end ≤ most_cells → cell < end
 before_cells cell size end some h few = omega (arith, some, h, few)
+
+-- the cells in which the parameters of a section arrive
+pub section_size : (s : Section) → section_cells s ≡ (if s.is_open then 2 else 1) * length s.names
+section_size s = by_test s.is_open
+  where
+    by_test : (b : Bool) → (if b then 2 * length s.names else length s.names) ≡ (if b then 2 else 1) * length s.names
+    by_test true = refl
+    by_test false = omega arith
 
 module _ (names : ℕ) where
   pub vars_placed : (idents : List Ident) (c : Context) (t : Place) (cell : ℕ) → Ready names c (var_rows c t cell idents).rows → cell ≤ most_cells + 1
@@ -247,11 +172,6 @@ module _ (names : ℕ) where
     more : f.own ≤ g.own
     placed : ArePlaced g.own rows
 
-  -- of two values one, by a test that is told
-  either_told : {A : Type 0} (P : A → Type 0) (b : Bool) (x y : A) → (b ≡ true → P x) → (b ≡ false → P y) → P (if b then x else y)
-  either_told P true x y h k = h refl
-  either_told P false x y h k = k refl
-
   after_one : (cell left own : ℕ) → capped (cell + (1 + left)) ≤ own → capped (capped (cell + 1) + left) ≤ own
   after_one cell left own h = omega (arith, h)
 
@@ -271,7 +191,7 @@ module _ (names : ℕ) where
   parameter_placed : (c : Context) (s : Section) (elem t : Place) (f : Placing) (i : Ident) (left : ℕ) → Sound names c.scene → Left f (cells_of_one s + left)
       → Parameters f (parameter_row c s elem t f i).value left (parameter_row c s elem t f i).rows
   parameter_placed c s elem t f i left sound h =
-      either_told P s.is_open _ _ opened (λ e. either_told P s.by_ref _ _ (λ e'. addressed e) (λ e'. either_told P (is_structured c t) _ _ (λ e''. copied e) (λ e''. valued e)))
+      either_by P s.is_open _ _ opened (λ e. either_by P s.by_ref _ _ (λ e'. addressed e) (λ e'. either_by P (is_structured c t) _ _ (λ e''. copied e) (λ e''. valued e)))
     where
       P : Makes Placing → Type 0
       P m = Parameters f m.value left m.rows
@@ -358,13 +278,6 @@ module _ (names : ℕ) where
         placed = each_append (λ (r : Row). IsPlaced end (row_meaning r)) m.rows _ (placed-more m.value.own end m.rows y first.placed) rest.placed;
       }
 
-  section_count : (s : Section) → section_cells s ≡ cells_of_one s * length s.names
-  section_count s = by_test s.is_open
-    where
-      by_test : (b : Bool) → (if b then 2 * length s.names else length s.names) ≡ (if b then 2 else 1) * length s.names
-      by_test true = refl
-      by_test false = omega arith
-
   own_section_placed : (s : Section) (c : Context) (f : Placing) (left : ℕ) → Ready names c (own_section_rows c f s).rows → Left f (section_cells s + left)
       → Parameters f (own_section_rows c f s).value left (own_section_rows c f s).rows
   own_section_placed s c f left ready h =
@@ -372,13 +285,13 @@ module _ (names : ℕ) where
       let elem = (type_of_qual c s.of).value in
       let typ = open_array_row d s.of.first.at s.is_open elem in
       let e = with_rows d typ.rows in
-      let rest = parameters_placed s.names e s elem typ.value f left (ready-right typ.rows _ (ready-then ready)) (subst (λ n. Left f (n + left)) (section_count s) h) in
+      let rest = parameters_placed s.names e s elem typ.value f left (ready-right typ.rows _ (ready-then ready)) (subst (λ n. Left f (n + left)) (section_size s) h) in
       let end = (parameter_rows e s elem typ.value f s.names).value.own in
       record {
         next = rest.next;
         more = rest.more;
         placed = each_append (λ (r : Row). IsPlaced end (row_meaning r)) typ.rows _
-            (shaped_placed end (open_shapes s.is_open s.of) typ.rows (open_of d s.is_open s.of elem) (open_others s.is_open s.of)) rest.placed;
+            (shaped_placed end (open_shapes s.is_open s.of) typ.rows (open_of d s.is_open s.of elem) (open_kinds IsOther others s.is_open s.of)) rest.placed;
       }
 
   own_sections_placed : (sections : List Section) (c : Context) (f : Placing) → Ready names c (own_sections_rows c f sections).rows → Left f (parameter_cells sections)

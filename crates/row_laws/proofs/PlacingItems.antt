@@ -1,13 +1,13 @@
 -- The variables of a block are placed below its next free cell.
-use Rattle.std.specs.Prelude.{◌≡◌, ℕ, ◌+◌, ◌≤◌, ◌==◌, false, List, [], ◌∷◌, ◌++◌, map, flat_map, Option, Some, None}
+use Rattle.std.specs.Prelude.{◌≡◌, ℕ, ◌+◌, ◌≤◌, List, [], ◌∷◌, ◌++◌, map, flat_map, Option, Some, None}
 use Rattle.std.proofs.Common.{ap, subst, sym, ◌∙◌, refl, arith}
 use Rattle.m2_base.proofs.SoundBlocks.{first_cell_most}
 use Rattle.m2_base.specs.Lists.{Each}
-use Rattle.m2_base.specs.Rows.{row_meaning, param_kind, var_kind}
+use Rattle.m2_base.specs.Rows.{row_meaning}
 use Rattle.m2_base.specs.declared.rows.Row.{Row}
 use Rattle.m2_base.specs.declared.trees.Ident.{Ident}
 use Rattle.m2_base.specs.declared.trees.declarations.StreamKind.{StreamKind}
-use Rattle.m2_base.specs.Trees.{Decl, const_decl, type_decl, vars_decl, proc_decl, TypeExpr, Import, Section, Heading}
+use Rattle.m2_base.specs.Trees.{Decl, const_decl, type_decl, vars_decl, proc_decl, Import, Heading}
 use Rattle.m2_base.specs.Statics.BlockRows.{declare_block, declare_items, at_item, brought_in, context_of, scene_of, first_cell}
 use Rattle.m2_base.specs.Statics.Blocks.{BlockTree}
 use Rattle.m2_base.specs.Statics.Cells.{capped, most_cells}
@@ -19,25 +19,16 @@ use Rattle.m2_base.specs.Statics.Items.{Item, heading_item, import_item, const_i
 use Rattle.m2_base.specs.Statics.Makes.{Makes, with_rows}
 use Rattle.m2_base.specs.Statics.NameRows.{var_rows}
 use Rattle.m2_base.specs.Statics.ProcedureRows.{parameter_cells}
-use Rattle.m2_base.specs.Statics.Shapes.{nameless, type_item_shapes, section_shapes, open_shapes}
 use Rattle.m2_base.specs.Statics.TypeRows.{type_rows}
 use Rattle.m2_base.proofs.EachLaws.{each_append}
 use Rattle.m2_base.proofs.ItemLaws.{item_of}
 use Rattle.m2_base.proofs.ShapeLaws.{type_of}
 use Rattle.row_laws.proofs.Agreeing.{Ready, ready-left, ready-right}
-use Rattle.row_laws.proofs.ImportedRows.{alias_shapes, import_aliases, own_shaped, ready-next}
-use Rattle.row_laws.proofs.Placing.{AreOther, ArePlaced, IsPlaced, IsCopyPlaced, Cells, copies-more, mapped, open_others, others, placed-more, sections_placed, shaped_placed, type_others, type_placed, vars_placed}
+use Rattle.row_laws.proofs.ImportedRows.{alias_shapes, import_aliases, own_shaped, ready-item, ready-next}
+use Rattle.row_laws.proofs.Placing.{ArePlaced, Cells, IsCopyPlaced, IsOther, IsPlaced, copies-more, others, placed-more, sections_placed, shaped_placed, type_placed, vars_placed}
+use Rattle.row_laws.proofs.TypeShapes.{item_kinds}
 
 -- ** Items that declare no variables
-
-pub sections_others : (sections : List Section) → AreOther (flat_map section_shapes sections)
-sections_others [] = tt
-sections_others (s ∷ sections) =
-    others (section_shapes s) _ (others (open_shapes s.is_open s.of) _ (open_others s.is_open s.of) (mapped (λ (i : Ident). nameless param_kind i.at) s.names (λ i. refl))) (sections_others sections)
-
-pub type_item_others : (i : Ident) (t : Option TypeExpr) → AreOther (type_item_shapes i t)
-type_item_others i None = (refl, tt)
-type_item_others i (Some t) = type_others t
 
 -- the item isn't the heading of the block itself
 abbrev pub IsInner : Item → Type 0
@@ -81,7 +72,7 @@ module _ (names : ℕ) where
   item_placed (import_item None i) c kind cell good ready small =
       record { cells = record { more = omega arith; few = small; placed = shaped_placed cell _ _ (item_of (import_item None i) c kind cell) (refl, tt) }; none = refl }
   item_placed (import_item (Some m) i) c kind cell good ready small =
-      record { cells = record { more = omega arith; few = small; placed = shaped_placed cell _ _ (own_shaped _) (alias_shapes (λ (k : ℕ). (k == var_kind) ≡ false) refl _ (import_aliases m i c kind cell)) }; none = refl }
+      record { cells = record { more = omega arith; few = small; placed = shaped_placed cell _ _ (own_shaped _) (alias_shapes IsOther refl _ (import_aliases m i c kind cell)) }; none = refl }
   item_placed (const_item i e) c kind cell good ready small =
       record { cells = record { more = omega arith; few = small; placed = shaped_placed cell _ _ (item_of (const_item i e) c kind cell) (refl, tt) }; none = refl }
   item_placed (type_item i t) c kind cell good ready small =
@@ -89,7 +80,7 @@ module _ (names : ℕ) where
         cells = record {
           more = omega arith;
           few = small;
-          placed = shaped_placed cell _ _ (item_of (type_item i t) c kind cell) (others (type_item_shapes i t) _ (type_item_others i t) (refl, tt));
+          placed = shaped_placed cell _ _ (item_of (type_item i t) c kind cell) (item_kinds IsOther others (type_item i t) refl);
         };
         none = refl;
       }
@@ -113,7 +104,7 @@ module _ (names : ℕ) where
         cells = record {
           more = omega arith;
           few = small;
-          placed = shaped_placed cell _ _ (item_of (proc_item h stream) c kind cell) (others (flat_map section_shapes h.sections) _ (sections_others h.sections) (refl, (refl, tt)));
+          placed = shaped_placed cell _ _ (item_of (proc_item h stream) c kind cell) (item_kinds IsOther others (proc_item h stream) refl);
         };
         none = refl;
       }
@@ -126,14 +117,7 @@ module _ (names : ℕ) where
       let m = declare a kind x cell in
       let d = brought_in (with_rows c m.rows) m.value.brought in
       let more = declare_items d kind (i + 1) m.value.cell items in
-      let left = ready-left m.rows (more.rows ++ []) ready in
-      let sound = left.sound in
-      let ra : Ready names a m.rows = record {
-        sound = record { scene = sound.scene; source = sound.source; few_names = sound.few_names; layout = sound.layout };
-        before = left.before;
-        ok = left.ok;
-        room = left.room;
-      } in
+      let ra = ready-item c i (ready-left m.rows (more.rows ++ []) ready) in
       let first = item_placed x a kind cell good.0 ra small in
       let rest = items_placed items d kind (i + 1) m.value.cell good.1 (ready-left more.rows [] (ready-next c x kind i cell (more.rows ++ []) ready)) first.cells.few in
       let up = first.cells.more in
@@ -161,14 +145,7 @@ module _ (names : ℕ) where
       let sections = own_sections_rows a (placing 0 (capped (parameter_cells h.sections)) []) h.sections in
       let d = brought_in (with_rows c m.rows) m.value.brought in
       let more = declare_items d kind 1 m.value.cell (xs ++ ys) in
-      let left = ready-left m.rows (more.rows ++ []) ready in
-      let sound = left.sound in
-      let ra : Ready names a m.rows = record {
-        sound = record { scene = sound.scene; source = sound.source; few_names = sound.few_names; layout = sound.layout };
-        before = left.before;
-        ok = left.ok;
-        room = left.room;
-      } in
+      let ra = ready-item c 0 (ready-left m.rows (more.rows ++ []) ready) in
       let first = sections_placed names h.sections a (ready-left sections.rows [] ra) in
       let rest = items_placed (xs ++ ys) d kind 1 m.value.cell good (ready-left more.rows [] (ready-next c (heading_item h) kind 0 cell (more.rows ++ []) ready)) first.few in
       let further = rest.cells.more in

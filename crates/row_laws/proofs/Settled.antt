@@ -132,11 +132,11 @@ entry_stays s name rows more xs same e h = by_hit (first_named name rows 0) refl
     by_hit None p q = absurd (cc)
     by_hit (Some hit) p q = ap (λ all. found_or s (first_named name all 0) None) same ∙ ap (λ o. found_or s o None) (named_stays name rows xs 0 hit p) ∙ q
 
-other_rows : (scene : Scene) (xs : List Row) (s : ℕ) → (s ≡ scene.block.scope → ⊥) → rows_at (scene_with scene xs).tables s ≡ rows_at scene.tables s
+pub other_rows : (scene : Scene) (xs : List Row) (s : ℕ) → (s ≡ scene.block.scope → ⊥) → rows_at (scene_with scene xs).tables s ≡ rows_at scene.tables s
 other_rows scene xs s h = get_or-set_other scene.tables scene.block.scope s (own_of scene ++ xs) [] h
 
 -- the rows of any scope, or more of them
-rows_stay : (scene : Scene) (xs : List Row) → IsOpen scene → (s : ℕ) → (ys : List Row) × (rows_at (scene_with scene xs).tables s ≡ rows_at scene.tables s ++ ys)
+pub rows_stay : (scene : Scene) (xs : List Row) → IsOpen scene → (s : ℕ) → (ys : List Row) × (rows_at (scene_with scene xs).tables s ≡ rows_at scene.tables s ++ ys)
 rows_stay scene xs o s = by_order (cases_order s scene.block.scope)
   where
     by_order : (s ≡ scene.block.scope) ⊎ ((s < scene.block.scope) ⊎ (scene.block.scope < s)) → (ys : List Row) × (rows_at (scene_with scene xs).tables s ≡ rows_at scene.tables s ++ ys)

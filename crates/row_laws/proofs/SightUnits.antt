@@ -1,5 +1,5 @@
 -- Modules and aliases lead to scopes in sight, in every block of a unit.
-use Rattle.std.specs.Prelude.{◌≡◌, ℕ, zero, suc, ◌+◌, ◌^◌, ◌<◌, ◌≤◌, ◌⊎◌, List, [], ◌∷◌, ◌++◌, length, slice_get, Some}
+use Rattle.std.specs.Prelude.{◌≡◌, ℕ, ◌+◌, ◌^◌, ◌<◌, ◌≤◌, ◌⊎◌, List, [], ◌∷◌, ◌++◌, length, slice_get, Some}
 use Rattle.std.proofs.Common.{subst, sym, inl, inr, arith}
 use Rattle.std.proofs.lemmas.Bool.{cases_order}
 use Rattle.std.proofs.lemmas.List.{length-append}
@@ -16,20 +16,15 @@ use Rattle.m2_base.specs.Statics.Contexts.{Block, Source}
 use Rattle.m2_base.specs.Statics.FormedRows.{AreConsecutive}
 use Rattle.m2_base.specs.Statics.UnitNotes.{complete_context}
 use Rattle.m2_base.specs.Statics.UnitRows.{unit_rows}
-use Rattle.m2_base.proofs.NoRepeats.{some_is}
 use Rattle.row_laws.specs.RowRanges.{EachBlock, IsSoundUnit}
 use Rattle.row_laws.specs.Sight.{IsInSight, LeadsInSight, LeadsTo}
 use Rattle.row_laws.specs.TextTrees.{AreOfTexts, HasTree}
 use Rattle.row_laws.proofs.Chains.{IsAtHome, IsChained, blocks_chained}
 use Rattle.row_laws.proofs.MadeBy.{MadeBy, made_by}
+use Rattle.row_laws.proofs.Members.{each_at}
 use Rattle.row_laws.proofs.PlainShapes.{LeadsNowhere, nothing_leads}
 use Rattle.row_laws.proofs.Units.{long_from, unit_whole}
 use Rattle.row_laws.proofs.Whole.{Whole, whole-above, whole-rows, whole_scene}
-
-each_at : {A : Type 0} (P : A → Type 0) (xs : List A) → Each P xs → (k : ℕ) (x : A) → slice_get xs k ≡ Some x → P x
-each_at P [] h k x e = absurd (cc)
-each_at P (y ∷ xs) h zero x e = subst P (some_is y x e) h.0
-each_at P (y ∷ xs) h (suc k) x e = each_at P xs h.1 k x e
 
 -- what leads nowhere leads in sight
 nowhere_in_sight : (P : ℕ → Type 0) (m : RowMeaning) → LeadsNowhere m → LeadsTo P m

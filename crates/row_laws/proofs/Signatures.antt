@@ -24,7 +24,7 @@ use Rattle.m2_base.specs.Statics.ProcedureRows.{param_rows, section_rows, sectio
 use Rattle.m2_base.specs.Statics.ProcedureTypes.{is_structured, open_array_row, parameter_type, result_type}
 use Rattle.m2_base.specs.Statics.Shapes.{section_shapes}
 use Rattle.m2_base.specs.Statics.TypeNames.{type_of_qual}
-use Rattle.m2_base.specs.Statics.TypeParts.{Parameter, parameter_of, parameters, parameters_by, result_of_type, rows_between}
+use Rattle.m2_base.specs.Statics.TypeParts.{Parameter, parameter_of, parameters, parameters_by, rows_between}
 use Rattle.m2_base.specs.Statics.TypeParts as parts
 use Rattle.m2_base.specs.Statics.Types.{kind_of, meaning_at, stands_as, stands_for}
 use Rattle.m2_base.proofs.EachLaws.{each_append}
@@ -41,6 +41,7 @@ use Rattle.row_laws.proofs.AgreeingItems.{params_agree}
 use Rattle.row_laws.proofs.AgreeingTypes.{parameter_agrees}
 use Rattle.row_laws.proofs.Closed.{IsClosed, closed_with, kind_closed, qual_closed}
 use Rattle.row_laws.proofs.ClosedTypes.{fresh_at}
+use Rattle.row_laws.proofs.Placing.{section_size}
 use Rattle.row_laws.proofs.Settled.{row_stays}
 
 -- ** Rows in a scene with more of them
@@ -108,13 +109,6 @@ params_typed final own t by_ref h size e (i ∷ idents) c =
 open_none : (c : Context) (own at : ℕ) (is_open : Bool) (t : Place) → filter_map (parameter_of own) (open_array_row c at is_open t).rows ≡ []
 open_none c own at true t = refl
 open_none c own at false t = refl
-
-section_size : (s : Section) → section_cells s ≡ (if s.is_open then 2 else 1) * length s.names
-section_size s = by_test s.is_open
-  where
-    by_test : (b : Bool) → (if b then 2 * length s.names else length s.names) ≡ (if b then 2 else 1) * length s.names
-    by_test true = refl
-    by_test false = omega arith
 
 -- the type of a parameter is an open array's exactly where the section is
 type_open : (names : ℕ) (c : Context) (final : Scene) (is_open : Bool) (q : Qual) → Ready names c (parameter_type c is_open q).rows → Under c.scene (parameter_type c is_open q).rows final → IsClosed c.scene

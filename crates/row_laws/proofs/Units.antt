@@ -5,7 +5,7 @@ use Rattle.std.proofs.lemmas.Bool.{cases_order}
 use Rattle.std.proofs.lemmas.List.{length-append, get_or-set_other, get_or_append_left, get_or_at, get_or_past}
 use Rattle.std.proofs.lemmas.Option.{get_or_from_slice_get, slice_get_within, slice_get_cases}
 use Rattle.m2_base.proofs.SoundBlocks.{rows_above, rows_before}
-use Rattle.m2_base.specs.Lists.{Each, IsIn, WhereKept}
+use Rattle.m2_base.specs.Lists.{Each, WhereKept}
 use Rattle.m2_base.specs.Trees.{Heading}
 use Rattle.m2_base.specs.declared.outputs.HeadingNote.{HeadingNote}
 use Rattle.m2_base.specs.declared.trees.declarations.StreamKind.{StreamKind}
@@ -37,7 +37,7 @@ use Rattle.m2_base.specs.Statics.UnitRows.{rows_from, unit_rows}
 use Rattle.m2_base.proofs.ChainLaws.{chains_down}
 use Rattle.m2_base.proofs.EachLaws.{each_then}
 use Rattle.m2_base.proofs.LayoutLaws.{block_counted as rows_counted, block_few}
-use Rattle.m2_base.proofs.NoRepeats.{scene_empty, some_is}
+use Rattle.m2_base.proofs.NoRepeats.{scene_empty}
 use Rattle.m2_base.proofs.SceneLaws.{own_of, own-with}
 use Rattle.m2_base.proofs.Sound.{Sound, sound-with}
 use Rattle.m2_base.proofs.SoundUnits.{unit_right}
@@ -51,16 +51,13 @@ use Rattle.row_laws.proofs.Fitting.{IsFit, IsInModule, blocks_fit}
 use Rattle.row_laws.proofs.Closed.{IsClosed, IsNamed, agrees_named}
 use Rattle.row_laws.proofs.HeadingResults.{result_same}
 use Rattle.row_laws.proofs.Later.{agree_each, agrees_later}
+use Rattle.row_laws.proofs.MadeBy.{stays}
+use Rattle.row_laws.proofs.Members.{each_at, each_in}
 use Rattle.row_laws.proofs.OwnCells.{block_counted}
 use Rattle.row_laws.proofs.Placing.{ArePlaced, IsCopyPlaced, IsPlaced, placed_more}
 use Rattle.row_laws.proofs.PlacingItems.{Placed, block_more, block_placed}
 use Rattle.row_laws.proofs.Scenes.{block_agrees, block_ready}
 use Rattle.row_laws.proofs.Whole.{HasOffset, Whole, later_whole, operands, there_scope, whole-above, whole-length, whole-rows, whole_scene}
-
-each_at : {A : Type 0} (P : A → Type 0) (xs : List A) → Each P xs → (k : ℕ) (x : A) → slice_get xs k ≡ Some x → P x
-each_at P [] h k x e = absurd (cc)
-each_at P (y ∷ xs) h zero x e = subst P (some_is y x e) h.0
-each_at P (y ∷ xs) h (suc k) x e = each_at P xs h.1 k x e
 
 -- ** The rows of one block
 
@@ -596,13 +593,6 @@ long_from source (b ∷ blocks) before =
     let rest = long_from source blocks (before ++ (declare_block source before b).rows ∷ []) in
     omega (arith, f, rest)
 
-first_stays : (source : Source) (blocks : List BlockTree) (before : List (List Row)) → 0 < length before → rows_at (rows_from source before blocks) 0 ≡ rows_at before 0
-first_stays source [] before some = refl
-first_stays source (b ∷ blocks) before some =
-    let made = (declare_block source before b).rows in
-    let next = length-append before (made ∷ []) in
-    first_stays source blocks (before ++ made ∷ []) (omega (arith, next, some)) ∙ get_or_append_left before (made ∷ []) [] 0 some
-
 standard_few : (s : ℕ) → length (rows_at (standard_rows ∷ []) s) < 2 ^ 31
 standard_few zero = omega arith
 standard_few (suc s) = omega arith
@@ -614,7 +604,7 @@ unit_whole names u is =
       some = is.some;
       few_names = is.few;
       text = is.text;
-      standard = first_stays u.source (blocks_of u) (standard_rows ∷ []) (omega arith);
+      standard = stays u.source (blocks_of u) (standard_rows ∷ []) 0 (omega arith);
       right = unit_right names u is.standard is.some is.few is.text is.scopes is.blocks;
       short = let e = long_from u.source (blocks_of u) (standard_rows ∷ []) in let n = is.count in omega (arith, e, n);
       few = few_from (length names) u.source (blocks_of u) (standard_rows ∷ []) is.blocks standard_few;
@@ -628,11 +618,6 @@ unfolding unit_rows
 unit_holds names u is =
     all_blocks (length names) u.source u.own (home_of u) (unit_rows u) (unit_whole names u is) (blocks_of u) refl is.scopes is.blocks (blocks_fit u) is.headings
 
-each_in : {A : Type 0} (P : A → Type 0) (xs : List A) (x : A) → Each P xs → IsIn x xs → P x
-each_in P [] x h k = absurd k
-each_in P (y ∷ xs) x h (inl e) = subst P (sym e) h.0
-each_in P (y ∷ xs) x h (inr k) = each_in P xs x h.1 k
-
 unit_seen : (names : List (List ℕ)) (u : UnitTrees) (is : IsSoundUnit names u)
     → (let whole = unit_whole names u is in
     EachBlock (AreSeen (length names) u.source u.own (home_of u) (unit_rows u) whole) u.source (standard_rows ∷ []) (blocks_of u) × Each (λ b. Suits (length names) u.source u.own (home_of u) (unit_rows u) whole b.block) (blocks_of u))
@@ -644,6 +629,13 @@ pub each_block_then : (P Q : List (List Row) → BlockTree → Type 0) (source :
     → EachBlock P source before blocks → EachBlock Q source before blocks
 each_block_then P Q source [] before f h = tt
 each_block_then P Q source (b ∷ blocks) before f h = (f before b h.0, each_block_then P Q source blocks (before ++ (declare_block source before b).rows ∷ []) f h.1)
+
+-- what follows with what holds of the blocks themselves
+pub each_block_with : (P Q : List (List Row) → BlockTree → Type 0) (R : BlockTree → Type 0) → ((before : List (List Row)) (b : BlockTree) → P before b → R b → Q before b)
+    → (source : Source) (before : List (List Row)) (blocks : List BlockTree) → EachBlock P source before blocks → Each R blocks → EachBlock Q source before blocks
+each_block_with P Q R f source before [] g h = tt
+each_block_with P Q R f source before (b ∷ blocks) g h =
+    (f before b g.0 h.0, each_block_with P Q R f source (before ++ (declare_block source before b).rows ∷ []) blocks g.1 h.1)
 
 pub unit_in_range : (names : List (List ℕ)) (u : UnitTrees) → IsSoundUnit names u → EachBlock (λ before b. BlockInRange u.source before (unit_rows u) b) u.source (standard_rows ∷ []) (blocks_of u)
 unit_in_range names u is = each_block_then _ (λ before b. BlockInRange u.source before (unit_rows u) b) u.source (blocks_of u) (standard_rows ∷ []) (λ ts b h. h.0) (unit_holds names u is)
