@@ -7,7 +7,7 @@ use Rattle.code_form.specs.declared.instr.Instr.TheVariants.{Local, Store}
 use Rattle.expr_sem.specs.Coded.{Coded}
 use Rattle.expr_sem.specs.Expressions.{call_alone}
 use Rattle.expr_sem.specs.Parts.{Part, plain, ◌⨟◌}
-use Rattle.stmt_sem.specs.Assignments.{assignment, code_unless_bad}
+use Rattle.stmt_sem.specs.Assignments.{code_unless_bad}
 use Rattle.stmt_sem.specs.Cases.{selector_type, selector_value}
 use Rattle.stmt_sem.specs.Flows.{Flow, straight, with_cell, ◌⨾◌}
 use Rattle.stmt_sem.specs.Statements.{Stand, cases_flow, else_flow, else_of, flow_of, form_flow, statement_flow, value_at, variable, within}
@@ -18,14 +18,6 @@ abbrev pub form_of : Stand → StmtForm → Gives Flow
 form_of s form = form_flow s 0 form
 
 -- ---- parts of code
-
--- a value to this variable
-abbrev pub assigned_value : Stand → (to : Coded) → Expr → Gives Part
-assigned_value s to e = and_then (value_at s e) (assignment s.context to (expr_at e))
-
--- an assignment
-abbrev pub assigned : Stand → Designator → Expr → Gives Part
-assigned s d e = and_then (variable s d) (λ to. assigned_value s to e)
 
 -- a call
 abbrev pub called : Stand → Designator → Exprs → Gives Part

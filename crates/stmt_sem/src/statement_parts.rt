@@ -1,4 +1,4 @@
-//! Parts of code that statements have of their own: assignments, calls, tests, selectors and the variables of WITHs.
+//! Parts of code that statements have of their own: variables, calls, tests, selectors and the variables of WITHs.
 ghost use Rattle.std.specs.Prelude.{map, option_map};
 ghost use Rattle.m2_base.specs.Statics.ReadTrees.{AreReadExprs, IsReadDesignator, IsReadExpr};
 ghost use Rattle.m2_base.specs.Trees.{exprs};
@@ -8,11 +8,11 @@ ghost use Rattle.expr_sem.specs.Fragments.{part};
 ghost use Rattle.type_rules.specs.Sites.{SuitsSite};
 ghost use Rattle.m2_base.specs.Statics.ReadStatements.{IsReadExprOption};
 ghost use Rattle.stmt_sem.specs.Stands.{IsStand, stand_in};
-ghost use Rattle.stmt_sem.specs.StatementParts.{assigned as spec_assigned, assigned_value as spec_value, called as spec_called, record_of as spec_record, selector as spec_selector, typed_selector as spec_typed};
+ghost use Rattle.stmt_sem.specs.StatementParts.{called as spec_called, record_of as spec_record, selector as spec_selector, typed_selector as spec_typed};
 ghost use Rattle.stmt_sem.specs.Statements.{return_of, test as spec_test, variable as spec_variable};
 ghost use Rattle.stmt_sem.specs.Taken.{IsSelector, selector_in};
 
-use crate::assignments::{assignment, code_unless_bad};
+use crate::assignments::code_unless_bad;
 use crate::cases::{selector_type, selector_value};
 use crate::returns::{return_alone, return_value};
 use crate::stands::Stand;
@@ -22,7 +22,7 @@ use expr_sem::{Coded, Fragment, Fragments, as_variable, call_alone, designated, 
 use m2_base::{Ask, Designator, Expr, Memory, Notes, Place, Scopes, Site};
 
 /// A variable.
-fn variable<S: Scopes>(
+pub fn variable<S: Scopes>(
     scopes: &mut S,
     site: &Site,
     stand: &Stand,
@@ -55,46 +55,6 @@ pub fn test<S: Scopes>(
 {
     let x = analysed!(value_of(scopes, site, stand.withs, e, fragments, notes));
     test_code(scopes, site, e.at, x, fragments, notes)
-}
-
-/// A value to this variable.
-fn assigned_value<S: Scopes>(
-    scopes: &mut S,
-    site: &Site,
-    stand: &Stand,
-    to: Coded,
-    e: &Expr,
-    fragments: &mut Fragments,
-    notes: &mut Notes,
-) -> Result<Ask<Fragment>, Memory>
-    requires suits { SuitsSite (S.state scopes.old).frame site.now }
-    requires stand { IsStand (S.state scopes.old).frame stand.now }
-    requires to { IsCoded (S.state scopes.old).frame fragments.old.nodes.items to }
-    requires e { IsReadExpr site.now.texts.now.names (expr_view e.now) }
-    ensures { Coding (S.state scopes.old) (S.state scopes.new) notes.old notes.new fragments.old.nodes.items fragments.new.nodes.items site.now result IsFragment part (λ c. spec_value (stand_in c stand.now) (coded_in fragments.old.nodes.items to) (expr_view e.now)) }
-{
-    let x = analysed!(value_of(scopes, site, stand.withs, e, fragments, notes));
-    assignment(scopes, site, to, e.at, x, fragments, notes)
-}
-
-/// An assignment.
-pub fn assigned<S: Scopes>(
-    scopes: &mut S,
-    site: &Site,
-    stand: &Stand,
-    of: &Designator,
-    e: &Expr,
-    fragments: &mut Fragments,
-    notes: &mut Notes,
-) -> Result<Ask<Fragment>, Memory>
-    requires suits { SuitsSite (S.state scopes.old).frame site.now }
-    requires stand { IsStand (S.state scopes.old).frame stand.now }
-    requires of { IsReadDesignator site.now.texts.now.names (designator_view of.now) }
-    requires e { IsReadExpr site.now.texts.now.names (expr_view e.now) }
-    ensures { Coding (S.state scopes.old) (S.state scopes.new) notes.old notes.new fragments.old.nodes.items fragments.new.nodes.items site.now result IsFragment part (λ c. spec_assigned (stand_in c stand.now) (designator_view of.now) (expr_view e.now)) }
-{
-    let to = analysed!(variable(scopes, site, stand, of, fragments, notes));
-    assigned_value(scopes, site, stand, to, e, fragments, notes)
 }
 
 /// A call.
