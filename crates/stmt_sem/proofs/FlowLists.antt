@@ -6,8 +6,11 @@ use Rattle.std.specs.Option.{IfSome}
 use Rattle.m2_base.specs.Lists.{Each}
 use Rattle.m2_base.specs.States.{Frame}
 use Rattle.code_form.specs.declared.instr.Instr.TheVariants.{Load, Local, Store}
+use Rattle.const_eval.specs.Sites.{IsOperand}
+use Rattle.expr_sem.specs.Codings.{IsCoded, coded_in, high_in}
 use Rattle.expr_sem.specs.Fragments.{IsIn, part}
 use Rattle.expr_sem.specs.Parts.{Part, plain, ◌⨟◌}
+use Rattle.expr_sem.specs.declared.coded.Coded.{Coded}
 use Rattle.expr_sem.specs.declared.fragments.Fragment.{Fragment}
 use Rattle.expr_sem.specs.declared.fragments.Fragment.TheVariants.{Nothing, Node as NodeOf}
 use Rattle.expr_sem.specs.declared.fragments.Node.{Node}
@@ -18,7 +21,6 @@ use Rattle.stmt_sem.specs.FlowNodes.{AreSound, CellFlow, Grows, IsAmong, IsCodeO
 use Rattle.stmt_sem.specs.Flows as flow
 use Rattle.stmt_sem.specs.Flows.{nothing, straight, ◌⨾◌}
 use Rattle.stmt_sem.specs.Stated.{IsArm, arm_in, arms_in, block_in, onto}
-use Rattle.stmt_sem.specs.LoopParts.{option_in}
 use Rattle.stmt_sem.specs.Statements.{arm_before}
 use Rattle.stmt_sem.specs.declared.flows.Arm.{Arm}
 use Rattle.stmt_sem.specs.declared.flows.Code.{Code}
@@ -40,15 +42,25 @@ in_before xs ys (NodeOf k) h = let l = length-append xs ys in omega (arith, h, l
 pub in_later : {from to : Flows} → Grows from to → (f : Fragment) → IsIn from.fragments.nodes.items f → IsIn to.fragments.nodes.items f
 in_later {from} {to} g f h = subst (λ ns. IsIn ns f) g.fragments.joined (in_before from.fragments.nodes.items g.fragments.rest f h)
 
--- so is one that may be missing
-pub some_later : {from to : Flows} → Grows from to → (o : Option Fragment) → IfSome o (λ f. IsIn from.fragments.nodes.items f) → IfSome o (λ f. IsIn to.fragments.nodes.items f)
-some_later g None h = tt
-some_later g (Some f) h = in_later g f h
+high_later : {from to : Flows} → Grows from to → (o : Option Fragment) → IfSome o (λ f. IsIn from.fragments.nodes.items f) → high_in to.fragments.nodes.items o ≡ high_in from.fragments.nodes.items o
+high_later g None h = refl
+high_later g (Some f) h = part_later g f h
 
-pub option_later : {from to : Flows} → Grows from to → (o : Option Fragment) → IfSome o (λ f. IsIn from.fragments.nodes.items f) → option_in to.fragments.nodes.items o ≡ option_in from.fragments.nodes.items o
-option_later g None h = refl
-option_later g (Some f) h = ap (λ (p : Part). Some p) (part_later g f h)
+high_there : {from to : Flows} → Grows from to → (o : Option Fragment) → IfSome o (λ f. IsIn from.fragments.nodes.items f) → IfSome o (λ f. IsIn to.fragments.nodes.items f)
+high_there g None h = tt
+high_there g (Some f) h = in_later g f h
 
+-- an operand with its code is the same later
+pub coded_later : {f : Frame} {from to : Flows} → Grows from to → (x : Coded) → IsCoded f from.fragments.nodes.items x → coded_in to.fragments.nodes.items x ≡ coded_in from.fragments.nodes.items x
+coded_later {f} {from} {to} g x h =
+    ap (λ (p : Part). record { operand = x.operand; code = p; high = high_in to.fragments.nodes.items x.high }) (part_later g x.code h.code)
+    ∙ ap (λ (p : Part). record { operand = x.operand; code = part from.fragments.nodes.items x.code; high = p }) (high_later g x.high h.high)
+
+-- and may still stand
+pub stays_coded : {f e : Frame} {from to : Flows} → e ≡ f → Grows from to → (x : Coded) → IsCoded f from.fragments.nodes.items x → IsCoded e to.fragments.nodes.items x
+stays_coded same g x h = record { operand = subst (λ (k : Frame). IsOperand k x.operand) (sym same) h.operand; code = in_later g x.code h.code; high = high_there g x.high h.high }
+
+-- so is code of a statement's own
 pub code_later : {from to : Flows} → Grows from to → (c : Code) → IsCodeOf from.fragments.nodes.items c → (t : ℕ) → code_by to.fragments.nodes.items c t ≡ code_by from.fragments.nodes.items c t
 code_later g (Fixed f) h t = part_later g f h
 code_later g (Stored f) h t = ap (λ (p : Part). plain (Local 0 t ∷ []) ⨟ p ⨟ plain (Store ∷ [])) (part_later g f h)

@@ -7,7 +7,6 @@ pub mod StatementLengths
 pub mod BlockLengths
 pub mod LengthLaw
 pub mod ActionCases
-pub mod LoopFlows
 pub mod LoopCases
 pub mod FlowsKept
 pub mod FlowsPushed
@@ -26,6 +25,7 @@ pub mod StatementFolds
 pub mod FlowLists
 pub mod StatementReads
 pub mod FlowsMade
+pub mod FlowsBehind
 pub mod CaseLists
 pub mod StatementGiven
 pub mod Walked

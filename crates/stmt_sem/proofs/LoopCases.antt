@@ -1,24 +1,39 @@
--- Cases of the variable of a FOR, of its step and of its parts.
-use Rattle.std.proofs.Common.{◌≡◌, ◌∙◌, ℕ, List, Option, Some, None, ap, sym, refl, option_map}
-use Rattle.std.specs.Prelude.{is_some}
-use Rattle.std.specs.Option.{IfSome}
-use Rattle.m2_base.specs.Gives.{gives}
+-- Cases of the variable of a FOR, of its step and of what it makes.
+use Rattle.std.proofs.Common.{◌≡◌, ◌∙◌, ℕ, ℤ, Bool, true, false, not, if◌then◌else◌, List, Option, Some, None, Result, Ok, ap, sym, refl, option_map}
+use Rattle.std.specs.Prelude.{is_some, ◌&&◌}
+use Rattle.m2_base.specs.Gives.{Gives, and_then, gives}
+use Rattle.m2_base.specs.States.{Frame, State}
+use Rattle.m2_base.specs.Statics.Constants.{constant_of}
 use Rattle.m2_base.specs.Statics.Contexts.{Context, Scene}
 use Rattle.m2_base.specs.Statics.Lookup.{Entry}
+use Rattle.m2_base.specs.Trees.{expr_at}
+use Rattle.m2_base.specs.Views.{expr_view}
+use Rattle.m2_base.specs.declared.memory.Memory.{Memory}
+use Rattle.m2_base.specs.declared.notes.Notes.{Notes}
+use Rattle.m2_base.specs.declared.operands.Operand.{Operand}
+use Rattle.m2_base.specs.declared.replies.Ask.{Ask}
+use Rattle.m2_base.specs.declared.replies.Ask.TheVariants.{Known}
 use Rattle.m2_base.specs.declared.rows.Place.{Place}
 use Rattle.m2_base.specs.declared.rows.Row.{Row}
-use Rattle.expr_sem.specs.Fragments.{Grows, IsIn, part}
+use Rattle.m2_base.specs.declared.sites.Site.{Site}
+use Rattle.m2_base.specs.declared.trees.expressions.Expr.{Expr}
+use Rattle.const_eval.specs.Analyses.{Analysed}
+use Rattle.const_eval.proofs.Analysing.{and_then_assoc}
+use Rattle.const_eval.proofs.ReadParts.{at_seen}
 use Rattle.expr_sem.specs.Parts.{Part, with_record}
 use Rattle.expr_sem.specs.RecordFields.{with_field, field_coded}
 use Rattle.expr_sem.specs.Selections.{with_number}
-use Rattle.expr_sem.specs.declared.fragments.Fragment.{Fragment}
-use Rattle.expr_sem.specs.declared.fragments.Node.{Node}
-use Rattle.expr_sem.proofs.Selecting.{with_field_numbered}
-use Rattle.expr_sem.proofs.Sequencing.{in_later, part_later}
-use Rattle.stmt_sem.specs.LoopParts.{option_in, parts_in}
 use Rattle.expr_sem.specs.Coded.{Coded, in_error}
-use Rattle.stmt_sem.specs.Counting.{controls}
-use Rattle.stmt_sem.specs.declared.counting.LoopParts.{LoopParts as PartsMade}
+use Rattle.expr_sem.specs.Codings.{Coding}
+use Rattle.expr_sem.specs.declared.fragments.Node.{Node}
+use Rattle.expr_sem.proofs.Operating.{coding_after, described, of_analysed}
+use Rattle.expr_sem.proofs.Selecting.{with_field_numbered}
+use Rattle.stmt_sem.specs.Counting.{by_constant, controls, for_more, for_test, has_code, or_one}
+use Rattle.stmt_sem.specs.Flows.{Flow, counted}
+use Rattle.stmt_sem.specs.Plain.{IsStep, itself}
+use Rattle.stmt_sem.specs.Stands.{stand_in}
+use Rattle.stmt_sem.specs.Statements.{by_of}
+use Rattle.stmt_sem.specs.declared.stands.Stand.{Stand}
 
 some_mapped : {A B : Type 0} (f : A → B) (o : Option A) → is_some o ≡ is_some (option_map f o)
 some_mapped f None = refl
@@ -36,20 +51,44 @@ pub no_entry : (c : Context) (at : ℕ) (e : Option Entry) → ((x : Entry) → 
 no_entry c at None h = refl
 no_entry c at (Some x) h = absurd (h x refl)
 
--- a fragment that may be missing is the same among more of them
-pub option_later : {from to : List Node} → Grows from to → (o : Option Fragment) → IfSome o (λ k. IsIn from k) → option_in to o ≡ option_in from o
-option_later g None h = refl
-option_later g (Some k) h = ap (λ (p : Part). Some p) (part_later g k h)
+-- ---- the step
 
-pub option_there : {from to : List Node} → Grows from to → (o : Option Fragment) → IfSome o (λ k. IsIn from k) → IfSome o (λ k. IsIn to k)
-option_there g None h = tt
-option_there g (Some k) h = in_later g k h
+-- by its constant
+abbrev pub step_by : Context → (at : ℕ) → Option Operand → Gives ℤ
+step_by c at o = and_then (by_constant c at o) (λ n. gives (or_one n))
 
--- the parts of a FOR, each of which was made at its time
-pub parts_are : (ks : List Node) (p : PartsMade) {first step : Part} {last variable : Option Part} → part ks p.first ≡ first → option_in ks p.last ≡ last → option_in ks p.variable ≡ variable → part ks p.step ≡ step
-    → parts_in ks p ≡ record { first = first; last = last; variable = variable; step = step }
-parts_are ks p {first} {step} {last} {variable} a b d e =
-    ap (λ (q : Part). record { first = q; last = option_in ks p.last; variable = option_in ks p.variable; step = part ks p.step }) a
-    ∙ ap (λ (q : Option Part). record { first = first; last = q; variable = option_in ks p.variable; step = part ks p.step }) b
-    ∙ ap (λ (q : Option Part). record { first = first; last = last; variable = q; step = part ks p.step }) d
-    ∙ ap (λ (q : Part). record { first = first; last = last; variable = variable; step = q }) e
+-- by its expression
+abbrev pub step_of : Context → Stand → Option Expr → Gives ℤ
+step_of c s by = and_then (by_of (stand_in c s) (option_map expr_view by)) (λ n. gives (or_one n))
+
+-- 1 where there is none
+pub no_step : {A : Type 0} (o : Option A) → ((x : A) → o ≡ Some x → ⊥) → None ≡ o
+no_step None h = refl
+no_step (Some x) h = absurd (h x refl)
+
+-- its constant is found first
+pub step_found : {a b d : State} {x y z : Notes} {site : Site} {P : Frame → Option Operand → Type 0} {o : Option Operand} (ns : List Node) (s : Stand) (by : Option Expr) (e : Expr) (answer : Result (Ask ℤ) Memory) → Some e ≡ by
+    → Analysed a b x y site (Ok (Known o)) P (λ c. constant_of c (expr_view e)) → Coding b d y z ns ns site answer IsStep itself (λ c. step_by c e.at o) → Coding a d x z ns ns site answer IsStep itself (λ c. step_of c s by)
+step_found {o = o} ns s by e answer is found p =
+    described answer (coding_after (λ c. constant_of c (expr_view e)) (λ v c. step_by c e.at v) answer (of_analysed ns (Ok (Known o)) found) p)
+    (λ c. ap (λ (at : ℕ). and_then (constant_of c (expr_view e)) (step_by c at)) (sym (at_seen e))
+    ∙ sym (and_then_assoc (constant_of c (expr_view e)) (by_constant c (expr_at (expr_view e))) (λ n. gives (or_one n)))
+    ∙ ap (step_of c s) is)
+
+-- ---- the code
+
+-- the body as often as the comparisons with this cell say; once where the variable is in error
+abbrev pub turns : (cell : ℕ) → (variable : Coded) → (by : ℤ) → (step : Part) → Flow → Flow
+turns t x by step body = if has_code x then counted (for_test t x by) body (for_more t x by) step else body
+
+-- what has code where neither of two is in error
+
+module _ {A : Type 0} (made none : A) where
+  pub first_bad : (a b : Bool) → true ≡ a → none ≡ (if not a && not b then made else none)
+  first_bad a b e = ap (λ (v : Bool). if not v && not b then made else none) e
+
+  pub second_bad : (a b : Bool) → false ≡ a → true ≡ b → none ≡ (if not a && not b then made else none)
+  second_bad a b d e = ap (λ (v : Bool). if not false && not v then made else none) e ∙ ap (λ (v : Bool). if not v && not b then made else none) d
+
+  pub none_bad : (a b : Bool) → false ≡ a → false ≡ b → made ≡ (if not a && not b then made else none)
+  none_bad a b d e = ap (λ (v : Bool). if not false && not v then made else none) e ∙ ap (λ (v : Bool). if not v && not b then made else none) d

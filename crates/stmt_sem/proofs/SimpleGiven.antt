@@ -6,7 +6,7 @@ use Rattle.m2_base.specs.Gives.{Gives, and_then, gives}
 use Rattle.m2_base.specs.Lists.{IsPrefixOf}
 use Rattle.m2_base.specs.States.{Frame, State}
 use Rattle.m2_base.specs.Statics.Contexts.{Context, refuse}
-use Rattle.m2_base.specs.Trees.{Designator, Expr, Exprs, assign_form, call_statement, expr_at}
+use Rattle.m2_base.specs.Trees.{Designator, Exprs, call_statement}
 use Rattle.m2_base.specs.declared.memory.Memory.{Memory}
 use Rattle.m2_base.specs.declared.notes.Diag.{Diag}
 use Rattle.m2_base.specs.declared.notes.Notes.{Notes}
@@ -15,16 +15,15 @@ use Rattle.m2_base.specs.declared.replies.Ask.TheVariants.{Known}
 use Rattle.m2_base.specs.declared.sites.Site.{Site}
 use Rattle.m2_base.proofs.Kept.{Adds-refl, IsPrefixOf-refl, Works-notes, Works-refl}
 use Rattle.const_eval.proofs.Analysing.{and_then_assoc}
-use Rattle.const_eval.proofs.Folding.{and_then_same}
 use Rattle.expr_sem.specs.Expressions.{call_alone}
 use Rattle.expr_sem.specs.Fragments.{IsMade}
 use Rattle.expr_sem.specs.Parts.{Part}
-use Rattle.stmt_sem.specs.Assignments.{assignment, code_unless_bad}
+use Rattle.stmt_sem.specs.Assignments.{code_unless_bad}
 use Rattle.stmt_sem.specs.FlowNodes.{flow_in}
 use Rattle.stmt_sem.specs.Flowings.{Flowing, IsFlow}
 use Rattle.stmt_sem.specs.Flows.{nothing, straight}
-use Rattle.stmt_sem.specs.StatementParts.{assigned, assigned_value, called, form_of}
-use Rattle.stmt_sem.specs.Statements.{Stand, value_at, variable}
+use Rattle.stmt_sem.specs.StatementParts.{called, form_of}
+use Rattle.stmt_sem.specs.Statements.{Stand}
 use Rattle.stmt_sem.specs.declared.flows.Flow.TheVariants.{Nothing}
 use Rattle.stmt_sem.specs.declared.flows.Flows.{Flows}
 use Rattle.stmt_sem.proofs.FlowsKept.{Grows-refl, grown}
@@ -32,13 +31,6 @@ use Rattle.stmt_sem.proofs.FlowsKept.{Grows-refl, grown}
 -- ---- what they make of their code
 
 module _ (s : Stand) where
-  pub assign_given : (d : Designator) (e : Expr) → and_then (assigned s d e) (λ p. gives (straight p)) ≡ form_of s (assign_form d e)
-  assign_given d e =
-      let to = variable s d in
-      let last = λ (p : Part). gives (straight p) in
-      and_then_assoc to (λ v. assigned_value s v e) last
-      ∙ and_then_same to (λ v. and_then (assigned_value s v e) last) (λ v. and_then (value_at s e) (λ x. and_then (assignment s.context v (expr_at e) x) last)) (and_then_assoc (value_at s e) (assignment s.context to.value (expr_at e)) last)
-
   pub call_given : (d : Designator) (args : Exprs) → and_then (called s d args) (λ p. gives (straight p)) ≡ form_of s (call_statement d args)
   call_given d args = and_then_assoc (call_alone s.context s.withs d args) (λ x. gives (code_unless_bad x)) (λ p. gives (straight p))
 

@@ -4,7 +4,7 @@ use Rattle.std.proofs.lemmas.Bool.Decides.{nat_tests}
 use Rattle.std.proofs.Common.{◌≡◌, ◌∙◌, ◌∷◌, [], ℕ, ℤ, Bool, true, false, if◌then◌else◌, eqb, length, List, Option, Some, None, map, ap, sym, refl, arith}
 use Rattle.std.specs.declared.alloc.Global.{Global}
 use Rattle.std.specs.declared.vec.Vec.{Vec}
-use Rattle.m2_base.specs.Gives.{and_then, gives}
+use Rattle.m2_base.specs.Gives.{Gives, and_then, gives}
 use Rattle.m2_base.specs.Lists.{Each}
 use Rattle.m2_base.specs.States.{Frame}
 use Rattle.m2_base.specs.Statics.Operands.{is_bad, operand_type}
@@ -27,20 +27,16 @@ use Rattle.stmt_sem.specs.Counting.{bound_value, control_variable, or_one}
 use Rattle.stmt_sem.specs.FlowNodes.{AreSound, Grows, IsAmong, choice_among, flow_in, flows_in}
 use Rattle.stmt_sem.specs.Flows as flow
 use Rattle.stmt_sem.specs.Flows.{for_ever, in_with, nothing, straight, until_true, while_true, with_cell, ◌⨾◌}
-use Rattle.stmt_sem.specs.LoopParts.{AreParts, LoopParts, last_to, loop_flow, loop_parts, option_in, parts_in, turns}
-use Rattle.stmt_sem.specs.declared.counting.LoopParts.{LoopParts as PartsMade}
 use Rattle.stmt_sem.specs.Stated.{IsArm, arm_in, arms_in, cases_in, other_in}
-use Rattle.stmt_sem.specs.StatementParts.{bound, case_of, for_by, for_from, for_parts, for_to, form_of, otherwise, parts_by, record_of, selector, stored_before, typed_selector, with_body}
+use Rattle.stmt_sem.specs.StatementParts.{case_of, form_of, otherwise, record_of, selector, stored_before, typed_selector, with_body}
 use Rattle.stmt_sem.specs.Statements.{Stand, arm_before, arms_flow, by_of, else_of, flow_of, flow_or_nothing, for_flow, form_flow, statement_flow, value_at, variable}
-use Rattle.stmt_sem.specs.Taken.{turns_in}
 use Rattle.stmt_sem.specs.Withs.{record_variable}
 use Rattle.stmt_sem.specs.declared.flows.Arm.{Arm}
 use Rattle.stmt_sem.specs.declared.flows.Code.TheVariants.{Fixed}
 use Rattle.stmt_sem.specs.declared.flows.Flow.{Flow}
 use Rattle.stmt_sem.specs.declared.flows.Flows.{Flows}
-use Rattle.stmt_sem.proofs.FlowLists.{arms_in_later, in_later, option_later, part_later}
+use Rattle.stmt_sem.proofs.FlowLists.{arms_in_later, in_later, part_later}
 use Rattle.stmt_sem.proofs.FlowsKept.{flow_later}
-use Rattle.stmt_sem.proofs.LoopFlows.{loop_is}
 use Rattle.stmt_sem.proofs.StatementFolds.{otherwise_given}
 
 -- ---- forms
@@ -76,46 +72,31 @@ module _ (s : Stand) where
   good_with x body e =
       ap (λ (bad : Bool). and_then (flow_of (if bad then s else record s { withs = operand_type x.operand ∷ s.withs }) body) (λ b. gives (with_cell (λ t. straight (if bad then none else (plain (Local 0 t ∷ []) ⨟ x.code ⨟ plain (Store ∷ []))) ⨾ (if bad then b else in_with t b))))) (sym e)
 
-  -- FOR, behind its values
-  for_last : (x first last : Coded) (by : Option Expr) (body : Statements) → and_then (for_by s x first last by) (λ p. and_then (flow_of s body) (λ b. gives (loop_flow p.0 p.1 b)))
-      ≡ and_then (by_of s by) (λ step. and_then (flow_of s body) (λ b. gives (for_flow s.context x first last (or_one step) b)))
-  for_last x first last by body =
-      let step = by_of s by in
-      let b = flow_of s body in
-      and_then_assoc step (λ n. gives (parts_by s x first last n)) (λ p. and_then b (λ f. gives (loop_flow p.0 p.1 f)))
-      ∙ and_then_same step (λ n. and_then b (λ f. gives (loop_flow (loop_parts s.context x first last (or_one n)) (or_one n) f))) (λ n. and_then b (λ f. gives (for_flow s.context x first last (or_one n) f)))
-      (and_then_same b (λ f. gives (loop_flow (loop_parts s.context x first last (or_one step.value)) (or_one step.value) f)) (λ f. gives (for_flow s.context x first last (or_one step.value) f))
-      (ap (λ (f : flow.Flow). gives f) (sym (loop_is s.context x first last (or_one step.value) b.value))))
+  -- FOR, behind its variable
+  for_values : (x : Coded) (first last : Expr) (f g : Coded → Coded → Gives flow.Flow) → ((from upto : Coded) → f from upto ≡ g from upto)
+      → and_then (and_then (value_at s first) (bound_value s.context x (expr_at first))) (λ from. and_then (and_then (value_at s last) (bound_value s.context x (expr_at last))) (f from))
+      ≡ and_then (value_at s first) (λ v. and_then (bound_value s.context x (expr_at first) v) (λ from. and_then (value_at s last) (λ w. and_then (bound_value s.context x (expr_at last) w) (g from))))
+  for_values x first last f g e =
+      let from = and_then (value_at s first) (bound_value s.context x (expr_at first)) in
+      let upto = and_then (value_at s last) (bound_value s.context x (expr_at last)) in
+      and_then_same from (λ v. and_then upto (f v)) (λ v. and_then (value_at s last) (λ w. and_then (bound_value s.context x (expr_at last) w) (g v)))
+      (and_then_same upto (f from.value) (g from.value) (e from.value upto.value) ∙ and_then_assoc (value_at s last) (bound_value s.context x (expr_at last)) (g from.value))
+      ∙ and_then_assoc (value_at s first) (bound_value s.context x (expr_at first)) (λ v. and_then (value_at s last) (λ w. and_then (bound_value s.context x (expr_at last) w) (g v)))
 
-  for_upto : (x first : Coded) (last : Expr) (by : Option Expr) (body : Statements) → and_then (for_to s x first last by) (λ p. and_then (flow_of s body) (λ b. gives (loop_flow p.0 p.1 b)))
-      ≡ and_then (value_at s last) (λ l. and_then (bound_value s.context x (expr_at last) l) (λ upto. and_then (by_of s by) (λ step. and_then (flow_of s body) (λ b. gives (for_flow s.context x first upto (or_one step) b)))))
-  for_upto x first last by body =
-      let l = value_at s last in
-      let whole = λ (p : LoopParts × ℤ). and_then (flow_of s body) (λ b. gives (loop_flow p.0 p.1 b)) in
-      let given = λ (upto : Coded). and_then (by_of s by) (λ step. and_then (flow_of s body) (λ b. gives (for_flow s.context x first upto (or_one step) b))) in
-      let upto = bound s x last in
-      and_then_assoc upto (λ v. for_by s x first v by) whole
-      ∙ and_then_same upto (λ v. and_then (for_by s x first v by) whole) given (for_last x first upto.value by body)
-      ∙ and_then_assoc l (bound_value s.context x (expr_at last)) given
+  -- FOR with this step
+  abbrev for_by : Statements → (variable first last : Coded) → (by : ℤ) → Gives flow.Flow
+  for_by body x first last by = and_then (flow_of s body) (λ b. gives (for_flow s.context x first last by b))
 
-  for_first : (x : Coded) (first last : Expr) (by : Option Expr) (body : Statements) → and_then (for_from s x first last by) (λ p. and_then (flow_of s body) (λ b. gives (loop_flow p.0 p.1 b)))
-      ≡ and_then (value_at s first) (λ f. and_then (bound_value s.context x (expr_at first) f) (λ from. and_then (value_at s last) (λ l. and_then (bound_value s.context x (expr_at last) l) (λ upto. and_then (by_of s by) (λ step. and_then (flow_of s body) (λ b. gives (for_flow s.context x from upto (or_one step) b)))))))
-  for_first x first last by body =
-      let f = value_at s first in
-      let whole = λ (p : LoopParts × ℤ). and_then (flow_of s body) (λ b. gives (loop_flow p.0 p.1 b)) in
-      let given = λ (from : Coded). and_then (value_at s last) (λ l. and_then (bound_value s.context x (expr_at last) l) (λ upto. and_then (by_of s by) (λ step. and_then (flow_of s body) (λ b. gives (for_flow s.context x from upto (or_one step) b))))) in
-      let from = bound s x first in
-      and_then_assoc from (λ v. for_to s x v last by) whole
-      ∙ and_then_same from (λ v. and_then (for_to s x v last by) whole) given (for_upto x from.value last by body)
-      ∙ and_then_assoc f (bound_value s.context x (expr_at first)) given
-
-  pub for_given : (i : Ident) (first last : Expr) (by : Option Expr) (body : Statements) → and_then (for_parts s i first last by) (λ p. and_then (flow_of s body) (λ b. gives (loop_flow p.0 p.1 b))) ≡ form_of s (for_form i first last by body)
+  pub for_given : (i : Ident) (first last : Expr) (by : Option Expr) (body : Statements)
+      → and_then (control_variable s.context s.withs i) (λ x. and_then (and_then (value_at s first) (bound_value s.context x (expr_at first))) (λ from. and_then (and_then (value_at s last) (bound_value s.context x (expr_at last))) (λ upto.
+      and_then (and_then (by_of s by) (λ n. gives (or_one n))) (λ n. and_then (flow_of s body) (λ b. gives (for_flow s.context x from upto n b)))))) ≡ form_of s (for_form i first last by body)
   for_given i first last by body =
       let x = control_variable s.context s.withs i in
-      let whole = λ (p : LoopParts × ℤ). and_then (flow_of s body) (λ b. gives (loop_flow p.0 p.1 b)) in
-      and_then_assoc x (λ v. for_from s v first last by) whole
-      ∙ and_then_same x (λ v. and_then (for_from s v first last by) whole)
-      (λ v. and_then (value_at s first) (λ f. and_then (bound_value s.context v (expr_at first) f) (λ from. and_then (value_at s last) (λ l. and_then (bound_value s.context v (expr_at last) l) (λ upto. and_then (by_of s by) (λ step. and_then (flow_of s body) (λ b. gives (for_flow s.context v from upto (or_one step) b)))))))) (for_first x.value first last by body)
+      let stepped = λ (v from upto : Coded). and_then (and_then (by_of s by) (λ n. gives (or_one n))) (for_by body v from upto) in
+      let turned = λ (v from upto : Coded). and_then (by_of s by) (λ step. for_by body v from upto (or_one step)) in
+      and_then_same x (λ v. and_then (and_then (value_at s first) (bound_value s.context v (expr_at first))) (λ from. and_then (and_then (value_at s last) (bound_value s.context v (expr_at last))) (stepped v from)))
+      (λ v. and_then (value_at s first) (λ f. and_then (bound_value s.context v (expr_at first) f) (λ from. and_then (value_at s last) (λ l. and_then (bound_value s.context v (expr_at last) l) (turned v from)))))
+      (for_values x.value first last (stepped x.value) (turned x.value) (λ from upto. and_then_assoc (by_of s by) (λ n. gives (or_one n)) (for_by body x.value from upto)))
 
   -- ELSE without statements
   pub no_else : {X : Type 0} (view : X → plain.Statement) (xs : List X) → eqb (length xs) 0 ≡ true → gives None ≡ otherwise s (statements (map view xs))
@@ -157,27 +138,6 @@ pub until_same : (fs : Flows) {from : Flows} (g : Grows from fs) (code : Fragmen
     → (cell : ℕ) → until_true (flow_in fs body cell) (part fs.fragments.nodes.items code) ≡ until_true u m
 until_same fs g code body s there u m eu em cell =
     ap (λ (f : flow.Flow). until_true f (part fs.fragments.nodes.items code)) (flow_later s g body there cell ∙ eu cell) ∙ ap (λ (p : Part). until_true u p) (em cell)
-
-parts_later : {from to : Flows} → Grows from to → (f : Frame) (p : PartsMade) → AreParts f from.fragments.nodes.items p → parts_in to.fragments.nodes.items p ≡ parts_in from.fragments.nodes.items p
-parts_later {from} {to} g f p h =
-    let ns = from.fragments.nodes.items in
-    let ms = to.fragments.nodes.items in
-    ap (λ (k : Part). record { first = k; last = option_in ms p.last; variable = option_in ms p.variable; step = part ms p.step }) (part_later g p.first h.first)
-    ∙ ap (λ (k : Option Part). record { first = part ns p.first; last = k; variable = option_in ms p.variable; step = part ms p.step }) (option_later g p.last h.last)
-    ∙ ap (λ (k : Option Part). record { first = part ns p.first; last = option_in ns p.last; variable = k; step = part ms p.step }) (option_later g p.variable h.variable)
-    ∙ ap (λ (k : Part). record { first = part ns p.first; last = option_in ns p.last; variable = option_in ns p.variable; step = k }) (part_later g p.step h.step)
-
--- a FOR of its parts and its body
-pub for_same : {from to : Flows} → Grows from to → (f : Frame) (x : PartsMade × ℤ) (by : ℤ) (body : Flow) → by ≡ x.1 → AreParts f from.fragments.nodes.items x.0 → (u : LoopParts × ℤ) (m : flow.Flow) → ((cell : ℕ) → turns_in from.fragments.nodes.items x ≡ u) → ((cell : ℕ) → flow_in to body cell ≡ m)
-    → (cell : ℕ) → (straight (part to.fragments.nodes.items x.0.first) ⨾ with_cell (λ t. straight (last_to t (option_in to.fragments.nodes.items x.0.last)) ⨾ turns t by (part to.fragments.nodes.items x.0.step) (option_in to.fragments.nodes.items x.0.variable) (flow_in to body t)))
-    ≡ loop_flow u.0 u.1 m
-for_same {from} {to} g f x by body same h u m eu em cell =
-    let ms = to.fragments.nodes.items in
-    let p = x.0 in
-    ap (λ (k : ℕ → flow.Flow). straight (part ms p.first) ⨾ with_cell (λ t. straight (last_to t (option_in ms p.last)) ⨾ turns t by (part ms p.step) (option_in ms p.variable) (k t))) (fun_ext em)
-    ∙ ap (λ (q : LoopParts). loop_flow q by m) (parts_later g f p h)
-    ∙ ap (λ (v : ℤ). loop_flow (parts_in from.fragments.nodes.items p) v m) same
-    ∙ ap (λ (q : LoopParts × ℤ). loop_flow q.0 q.1 m) (eu cell)
 
 -- the statements in a WITH of a record
 pub with_same : {from to : Flows} → Grows from to → (code : Fragment) (body : Flow) → IsIn from.fragments.nodes.items code → (m : flow.Flow) → ((cell : ℕ) → flow_in to body cell ≡ m)

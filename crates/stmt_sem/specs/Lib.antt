@@ -11,7 +11,6 @@ pub mod Heights
 pub mod Tokens
 pub mod Lengths
 pub mod Plain
-pub mod LoopParts
 pub mod FlowNodes
 pub mod Flowings
 pub mod FlowSizes

@@ -1,5 +1,5 @@
--- What an analysis gives beside code: types, and numbers that may be missing.
-use Rattle.std.specs.Prelude.{ℤ, List, Option}
+-- What an analysis gives beside code: types and numbers.
+use Rattle.std.specs.Prelude.{ℤ, List}
 use Rattle.m2_base.specs.States.{Frame}
 use Rattle.m2_base.specs.declared.rows.Place.{Place}
 use Rattle.type_rules.specs.Scenes.{IsThere}
@@ -13,6 +13,6 @@ itself ns v = v
 abbrev pub IsType : Frame → List Node → Place → Type 0
 IsType f ns t = IsThere f t
 
--- any number, or none
-abbrev pub IsStep : Frame → List Node → Option ℤ → Type 0
+-- any number
+abbrev pub IsStep : Frame → List Node → ℤ → Type 0
 IsStep f ns by = Unit {0}

@@ -1,19 +1,16 @@
 -- Parts of statements, as the walk over the trees goes through them.
-use Rattle.std.specs.Prelude.{ℕ, ℤ, [], ◌∷◌, Option}
+use Rattle.std.specs.Prelude.{ℕ, [], ◌∷◌, Option}
 use Rattle.m2_base.specs.Gives.{Gives, and_then, gives}
 use Rattle.m2_base.specs.declared.rows.Place.{Place}
-use Rattle.m2_base.specs.declared.trees.Ident.{Ident}
 use Rattle.m2_base.specs.Trees.{CaseArms, CaseElse, Designator, Expr, Exprs, Statements, StmtForm, designator_at, expr_at, more_statements, no_statements}
 use Rattle.code_form.specs.declared.instr.Instr.TheVariants.{Local, Store}
 use Rattle.expr_sem.specs.Coded.{Coded}
 use Rattle.expr_sem.specs.Expressions.{call_alone}
 use Rattle.expr_sem.specs.Parts.{Part, plain, ◌⨟◌}
-use Rattle.stmt_sem.specs.Assignments.{assignment, code_unless_bad}
+use Rattle.stmt_sem.specs.Assignments.{code_unless_bad}
 use Rattle.stmt_sem.specs.Cases.{selector_type, selector_value}
-use Rattle.stmt_sem.specs.Counting.{bound_value, control_variable, or_one}
 use Rattle.stmt_sem.specs.Flows.{Flow, straight, with_cell, ◌⨾◌}
-use Rattle.stmt_sem.specs.LoopParts.{LoopParts, loop_parts}
-use Rattle.stmt_sem.specs.Statements.{Stand, by_of, cases_flow, else_flow, else_of, flow_of, form_flow, statement_flow, value_at, variable, within}
+use Rattle.stmt_sem.specs.Statements.{Stand, cases_flow, else_flow, else_of, flow_of, form_flow, statement_flow, value_at, variable, within}
 use Rattle.stmt_sem.specs.Withs.{in_with_of, record_variable, with_code}
 
 -- what a form of statement makes of whose first token nothing depends
@@ -21,14 +18,6 @@ abbrev pub form_of : Stand → StmtForm → Gives Flow
 form_of s form = form_flow s 0 form
 
 -- ---- parts of code
-
--- a value to this variable
-abbrev pub assigned_value : Stand → (to : Coded) → Expr → Gives Part
-assigned_value s to e = and_then (value_at s e) (assignment s.context to (expr_at e))
-
--- an assignment
-abbrev pub assigned : Stand → Designator → Expr → Gives Part
-assigned s d e = and_then (variable s d) (λ to. assigned_value s to e)
 
 -- a call
 abbrev pub called : Stand → Designator → Exprs → Gives Part
@@ -69,29 +58,3 @@ with_body s x body = and_then (flow_of (within s x) body) (λ b. gives (with_cel
 abbrev pub statements_onto : Stand → (before : Flow → Flow) → Statements → Gives (Flow → Flow)
 statements_onto s before no_statements = gives before
 statements_onto s before (more_statements st ss) = and_then (statement_flow s st) (λ a. statements_onto s (λ rest. before (a ⨾ rest)) ss)
-
--- ---- FOR
-
--- its first or its last value
-abbrev pub bound : Stand → (variable : Coded) → Expr → Gives Coded
-bound s x e = and_then (value_at s e) (bound_value s.context x (expr_at e))
-
--- its parts, with this step
-abbrev pub parts_by : Stand → (variable first last : Coded) → Option ℤ → LoopParts × ℤ
-parts_by s x first last by = (loop_parts s.context x first last (or_one by), or_one by)
-
--- behind its last value
-abbrev pub for_by : Stand → (variable first last : Coded) → Option Expr → Gives (LoopParts × ℤ)
-for_by s x first last by = and_then (by_of s by) (λ step. gives (parts_by s x first last step))
-
--- behind its first value
-abbrev pub for_to : Stand → (variable first : Coded) → (last : Expr) → Option Expr → Gives (LoopParts × ℤ)
-for_to s x first last by = and_then (bound s x last) (λ l. for_by s x first l by)
-
--- behind its variable
-abbrev pub for_from : Stand → (variable : Coded) → (first last : Expr) → Option Expr → Gives (LoopParts × ℤ)
-for_from s x first last by = and_then (bound s x first) (λ f. for_to s x f last by)
-
--- its parts, and its step
-abbrev pub for_parts : Stand → Ident → (first last : Expr) → Option Expr → Gives (LoopParts × ℤ)
-for_parts s i first last by = and_then (control_variable s.context s.withs i) (λ x. for_from s x first last by)

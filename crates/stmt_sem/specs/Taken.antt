@@ -1,14 +1,19 @@
--- What statements take of their expressions, as the definitions see it.
-use Rattle.std.specs.Prelude.{ℤ, List}
+-- What statements take of their parts, as the definitions see it.
+use Rattle.std.specs.Prelude.{◌≡◌, ℕ, List}
 use Rattle.m2_base.specs.States.{Frame}
 use Rattle.m2_base.specs.declared.rows.Place.{Place}
-use Rattle.type_rules.specs.Scenes.{IsThere}
+use Rattle.m2_base.specs.declared.sites.Site.{Site}
+use Rattle.type_rules.specs.Scenes.{IsThere, WhereTold}
+use Rattle.type_rules.specs.Sites.{AreOfSite}
 use Rattle.expr_sem.specs.Fragments.{IsIn, part}
 use Rattle.expr_sem.specs.Parts.{Part}
 use Rattle.expr_sem.specs.declared.fragments.Fragment.{Fragment}
 use Rattle.expr_sem.specs.declared.fragments.Node.{Node}
-use Rattle.stmt_sem.specs.LoopParts.{AreParts, LoopParts, parts_in}
-use Rattle.stmt_sem.specs.declared.counting.LoopParts.{LoopParts as PartsMade}
+use Rattle.stmt_sem.specs.FlowNodes.{IsCodeOf, flow_in}
+use Rattle.stmt_sem.specs.Flows as flow
+use Rattle.stmt_sem.specs.declared.flows.Code.{Code}
+use Rattle.stmt_sem.specs.declared.flows.Flow.{Flow}
+use Rattle.stmt_sem.specs.declared.flows.Flows.{Flows}
 
 -- the value of a selector, and its type
 abbrev pub selector_in : List Node → Fragment × Place → Part × Place
@@ -17,9 +22,10 @@ selector_in ns x = (part ns x.0, x.1)
 abbrev pub IsSelector : Frame → List Node → Fragment × Place → Type 0
 IsSelector f ns x = IsIn ns x.0 × IsThere f x.1
 
--- the parts of a FOR, and its step
-abbrev pub turns_in : List Node → PartsMade × ℤ → LoopParts × ℤ
-turns_in ns x = (parts_in ns x.0, x.1)
+-- code of a statement's own, among these fragments
+abbrev pub IsCellCode : Frame → List Node → Code → Type 0
+IsCellCode f ns x = IsCodeOf ns x
 
-abbrev pub AreTurns : Frame → List Node → PartsMade × ℤ → Type 0
-AreTurns f ns x = AreParts f ns x.0
+-- where the texts are told, a flow stands for this code, whatever the cell is
+abbrev pub StandsFor : Frame → Site → Flows → Flow → flow.Flow → Type 0
+StandsFor f s fs x code = WhereTold f (λ made. AreOfSite s made → (cell : ℕ) → flow_in fs x cell ≡ code)

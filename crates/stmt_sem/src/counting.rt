@@ -1,79 +1,74 @@
-//! The values of a FOR, and the parts of its code.
-ghost use Rattle.std.specs.Prelude.{◌≡◌, ◌∷◌, ◌&&◌, [], List, None, Some, not, if◌then◌else◌};
-ghost use Rattle.std.specs.Option.{IfSome};
-ghost use Rattle.m2_base.specs.Gives.{gives};
-ghost use Rattle.m2_base.specs.States.{State, Waits};
+//! FOR: its values, and its code.
+ghost use Rattle.std.specs.Prelude.{◌≡◌, ◌∷◌, [], List, option_map, if◌then◌else◌};
+ghost use Rattle.m2_base.specs.Gives.{and_then, gives};
 ghost use Rattle.m2_base.specs.Statics.Compatible.{is_number_type as spec_number};
-ghost use Rattle.m2_base.specs.Statics.Contexts.{refuse};
-ghost use Rattle.m2_base.specs.Statics.Diagnostics.{out_of_range, wrong_operands};
-ghost use Rattle.m2_base.specs.Statics.Operands.{is_bad as spec_bad};
-ghost use Rattle.m2_base.specs.Statics.Types.{base_of as spec_base};
+ghost use Rattle.m2_base.specs.Statics.ReadStatements.{IsReadExprOption};
+ghost use Rattle.m2_base.specs.Statics.ReadTrees.{IsReadExpr};
+ghost use Rattle.m2_base.specs.Trees.{expr_at};
+ghost use Rattle.m2_base.specs.Views.{expr_view};
 ghost use Rattle.m2_base.specs.declared.notes.Notes.{Notes as NotesOf};
-ghost use Rattle.m2_base.specs.declared.operands.Operand.TheVariants as operands;
 ghost use Rattle.code_form.specs.declared.instr.Instr.TheVariants as instrs;
-ghost use Rattle.const_eval.specs.Sites.{IsOperand};
 ghost use Rattle.expr_sem.specs.Codings.{Coding, IsCoded, IsFragment, coded_in};
-ghost use Rattle.expr_sem.specs.Fitting.{fitted_code as spec_fitted};
 ghost use Rattle.expr_sem.specs.Fragments.{IsIn, IsMade, part};
 ghost use Rattle.expr_sem.specs.Parts.{plain, ◌⨟◌};
 ghost use Rattle.expr_sem.specs.declared.fragments.Node.{Node};
-ghost use Rattle.type_rules.specs.Asks.{Reads, WhereKnown, WhereWaiting};
-ghost use Rattle.type_rules.specs.Scenes.{IsThere, Suits, WhereTold, scene_of};
 ghost use Rattle.type_rules.specs.Sites.{SuitsSite};
-ghost use Rattle.stmt_sem.specs.Counting.{bound_value as spec_bound, by_constant as spec_by, comparison as spec_comparison, for_first as spec_first, for_step as spec_step, is_zero, or_one as spec_or_one};
-ghost use Rattle.stmt_sem.specs.LoopParts.{AreEnds, AreParts, IsOptionIn, ends_in, last_value as spec_last, loop_parts as spec_parts, option_in, parts_in, variable_code as spec_variable_code};
+ghost use Rattle.stmt_sem.specs.Counting.{bound_value, comparison as spec_comparison, for_first as spec_first, for_last as spec_last, for_more, for_step as spec_step, for_test, has_code, or_one};
+ghost use Rattle.stmt_sem.specs.FlowNodes.{AreSound, IsAmong, IsFlowMade, code_by, flow_in};
+ghost use Rattle.stmt_sem.specs.Flowings.{Flowing, IsFlow};
+ghost use Rattle.stmt_sem.specs.Flows as flow;
+ghost use Rattle.stmt_sem.specs.Flows.{counted as spec_counted};
 ghost use Rattle.stmt_sem.specs.Plain.{IsStep, itself};
+ghost use Rattle.stmt_sem.specs.Stands.{IsStand, stand_in};
+ghost use Rattle.stmt_sem.specs.Statements.{by_of, for_flow, value_at};
+ghost use Rattle.stmt_sem.specs.Taken.{IsCellCode, StandsFor};
+ghost use Rattle.stmt_sem.specs.declared.stands.Stand.{Stand as StandOf};
 
 use crate::assignments::store_code;
+use crate::flow_parts::{self, behind, celled};
+use crate::flows::{Code, Flow, Flows};
 use crate::refusals::refused_step;
+use crate::stands::Stand;
 use code_form::Instr;
-use const_eval::is_bad;
+use const_eval::{constant, is_bad};
 use expr_sem::{
     Coded, Fragment, Fragments, answered, assigned_to, fitted_code, instr_behind, pair, side_of,
+    value_of,
 };
-use m2_base::{Around, Ask, Diagnostic, Memory, Notes, Operand, Place, Scopes, Site};
+use m2_base::{Ask, Diagnostic, Expr, Memory, Notes, Operand, Place, Scopes, Site};
 use type_rules::{WHOLE, base_of, is_integer_or_cardinal, operand_type};
 
-/// The parts of the code of a FOR that are known before its temporary cell is. What is in error is missing.
-#[derive(Clone, Copy, Debug, PartialEq, Eq)]
-pub struct LoopParts {
-    /// The first value goes to the variable.
-    pub first: Fragment,
-    /// The last value, fitted to the variable's type.
-    pub last: Option<Fragment>,
-    /// The address of the variable.
-    pub variable: Option<Fragment>,
-    /// The variable takes its next value.
-    pub step: Fragment,
+/// What a FOR counts: its variable from the first value to the last, and its step. What is in error has no code.
+#[derive(Clone, Copy)]
+pub struct Count {
+    pub variable: Coded,
+    pub first: Coded,
+    pub last: Coded,
+    pub by: i64,
 }
 
-/// The first or the last value, which is assignable to the variable. `at` is its first token.
-pub fn bound_value<S: Scopes>(
+/// The first or the last value, which is assignable to the variable `x`.
+pub fn check_bound<S: Scopes>(
     scopes: &mut S,
     site: &Site,
+    stand: &Stand,
     x: Coded,
-    at: u32,
-    v: Coded,
+    e: &Expr,
+    fragments: &mut Fragments,
     notes: &mut Notes,
 ) -> Result<Ask<Coded>, Memory>
     requires suits { SuitsSite (S.state scopes.old).frame site.now }
-    requires x { IsOperand (S.state scopes.old).frame x.operand }
-    requires v { IsOperand (S.state scopes.old).frame v.operand }
-    ensures { (nodes : List Node) → IsCoded (S.state scopes.old).frame nodes v → Coding (S.state scopes.old) (S.state scopes.new) notes.old notes.new nodes nodes site.now result IsCoded coded_in (λ c. spec_bound c (coded_in nodes x) at (coded_in nodes v)) }
+    requires stand { IsStand (S.state scopes.old).frame stand.now }
+    requires x { IsCoded (S.state scopes.old).frame fragments.old.nodes.items x }
+    requires e { IsReadExpr site.now.texts.now.names (expr_view e.now) }
+    ensures { Coding (S.state scopes.old) (S.state scopes.new) notes.old notes.new fragments.old.nodes.items fragments.new.nodes.items site.now result IsCoded coded_in (λ c. and_then (value_at (stand_in c stand.now) (expr_view e.now)) (bound_value c (coded_in fragments.old.nodes.items x) (expr_at (expr_view e.now)))) }
 {
+    let v = analysed!(value_of(scopes, site, stand.withs, e, fragments, notes));
     if is_bad(x.operand) {
         return Ok(Ask::Known(Coded::in_error()));
     }
-    let refusal = Diagnostic::NotAssignable;
-    assigned_to(
-        scopes,
-        site,
-        operand_type(&x.operand),
-        at,
-        refusal,
-        v,
-        notes,
-    )
+    let of = operand_type(&x.operand);
+    assigned_to(scopes, site, of, e.at, Diagnostic::NotAssignable, v, notes)
 }
 
 /// Whether a base is INTEGER or CARDINAL, or the type of whole constants.
@@ -83,136 +78,45 @@ fn is_number(base: Place) -> bool
     is_integer_or_cardinal(base) || base == WHOLE
 }
 
-/// Whether a type is one of numbers.
-#[tactic(auto, using(type_rules::proofs::Reading::reading))]
-fn has_numbers<S: Scopes>(scopes: &mut S, around: &Around, of: Place) -> Ask<bool>
-    requires suits { Suits (S.state scopes.old).frame around.now }
-    requires of { IsThere (S.state scopes.old).frame of }
-    ensures reads { Reads (S.state scopes.old) (S.state scopes.new) }
-    ensures waits { WhereWaiting result (λ head. Waits (S.state scopes.old) (S.state scopes.new) head) }
-    ensures told { WhereTold (S.state scopes.old).frame (λ made.
-        WhereKnown result (λ holds. holds ≡ spec_number (spec_base (scene_of (S.state scopes.old).frame made around.now) of))) }
-{
-    let base = known!(base_of(scopes, around, of));
-    Ask::Known(is_number(base))
-}
-
-/// Whether a step leads nowhere.
-fn is_nothing(value: i64) -> bool
-    ensures { result ≡ is_zero value }
-{
-    value == 0
-}
-
-/// A step other than 0.
-fn step_or_refused(
-    site: &Site,
-    at: u32,
-    value: i64,
-    notes: &mut Notes,
-) -> Result<Ask<Option<i64>>, Memory>
-    ensures { (state : State) (nodes : List Node) → Coding state state notes.old notes.new nodes nodes site.now result IsStep itself (λ c. if is_zero value then refuse c at out_of_range None else gives (Some value)) }
-{
-    if is_nothing(value) {
-        refused_step(site, at, Diagnostic::OutOfRange, notes)
-    } else {
-        Ok(Ask::Known(Some(value)))
-    }
-}
-
-/// A step that is a number, or what is refused otherwise.
-fn number_or_refused(
-    site: &Site,
-    at: u32,
-    holds: bool,
-    value: i64,
-    notes: &mut Notes,
-) -> Result<Ask<Option<i64>>, Memory>
-    ensures { (state : State) (nodes : List Node) → Coding state state notes.old notes.new nodes nodes site.now result IsStep itself (λ c. if not holds then refuse c at wrong_operands None else if is_zero value then refuse c at out_of_range None else gives (Some value)) }
-{
-    if holds {
-        step_or_refused(site, at, value, notes)
-    } else {
-        refused_step(site, at, Diagnostic::WrongOperands, notes)
-    }
-}
-
-/// A step that is this constant.
-fn step_of_type<S: Scopes>(
+/// The step, which is a number other than 0. It is 1 where there is none or it is in error.
+pub fn check_step<S: Scopes>(
     scopes: &mut S,
     site: &Site,
-    at: u32,
-    of: Place,
-    value: i64,
+    by: &Option<Expr>,
     notes: &mut Notes,
-) -> Result<Ask<Option<i64>>, Memory>
+) -> Result<Ask<i64>, Memory>
     requires suits { SuitsSite (S.state scopes.old).frame site.now }
-    requires of { IsThere (S.state scopes.old).frame of }
-    ensures { (nodes : List Node) → Coding (S.state scopes.old) (S.state scopes.new) notes.old notes.new nodes nodes site.now result IsStep itself (λ c. spec_by c at (Some (operands.Constant of value))) }
+    requires by { IsReadExprOption site.now.texts.now.names (option_map expr_view by.now) }
+    ensures { (stand : StandOf) (nodes : List Node) → Coding (S.state scopes.old) (S.state scopes.new) notes.old notes.new nodes nodes site.now result IsStep itself (λ c. and_then (by_of (stand_in c stand) (option_map expr_view by.now)) (λ step. gives (or_one step))) }
 {
-    let holds = asked!(has_numbers(scopes, site.around, of));
-    number_or_refused(site, at, holds, value, notes)
-}
-
-/// A step that is this constant operand.
-fn step_of<S: Scopes>(
-    scopes: &mut S,
-    site: &Site,
-    at: u32,
-    operand: Operand,
-    notes: &mut Notes,
-) -> Result<Ask<Option<i64>>, Memory>
-    requires suits { SuitsSite (S.state scopes.old).frame site.now }
-    requires operand { IsOperand (S.state scopes.old).frame operand }
-    ensures { (nodes : List Node) → Coding (S.state scopes.old) (S.state scopes.new) notes.old notes.new nodes nodes site.now result IsStep itself (λ c. spec_by c at (Some operand)) }
-{
-    match operand {
-        Operand::Constant(of, value) => step_of_type(scopes, site, at, of, value, notes),
-        _ => refused_step(site, at, Diagnostic::WrongOperands, notes),
+    let Some(e) = by else {
+        return Ok(Ask::Known(1));
+    };
+    let Some(operand) = analysed!(constant(scopes, site, e, notes)) else {
+        return Ok(Ask::Known(1));
+    };
+    let Operand::Constant(of, value) = operand else {
+        return refused_step(site, e.at, Diagnostic::WrongOperands, notes);
+    };
+    let base = asked!(base_of(scopes, site.around, of));
+    if !is_number(base) {
+        return refused_step(site, e.at, Diagnostic::WrongOperands, notes);
     }
-}
-
-/// BY is a number other than 0. `at` is its first token.
-pub fn by_constant<S: Scopes>(
-    scopes: &mut S,
-    site: &Site,
-    at: u32,
-    constant: Option<Operand>,
-    notes: &mut Notes,
-) -> Result<Ask<Option<i64>>, Memory>
-    requires suits { SuitsSite (S.state scopes.old).frame site.now }
-    requires constant { IfSome constant (λ operand. IsOperand (S.state scopes.old).frame operand) }
-    ensures { (nodes : List Node) → Coding (S.state scopes.old) (S.state scopes.new) notes.old notes.new nodes nodes site.now result IsStep itself (λ c. spec_by c at constant) }
-{
-    match constant {
-        Some(operand) => step_of(scopes, site, at, operand, notes),
-        None => Ok(Ask::Known(None)),
+    if value == 0 {
+        return refused_step(site, e.at, Diagnostic::OutOfRange, notes);
     }
-}
-
-/// The step, 1 where there is none or it is in error.
-pub fn or_one(by: Option<i64>) -> i64
-    ensures { result ≡ spec_or_one by }
-{
-    by.unwrap_or(1)
+    Ok(Ask::Known(value))
 }
 
 /// A step upwards ends behind the last value, one downwards before it.
-pub fn comparison(by: i64) -> Instr
+fn comparison(by: i64) -> Instr
     ensures { result ≡ spec_comparison by }
 {
     if by < 0 { Instr::Ge } else { Instr::Le }
 }
 
-/// Neither of two operands is in error.
-fn have_code(x: Operand, v: Operand) -> bool
-    ensures { result ≡ (not (spec_bad x) && not (spec_bad v)) }
-{
-    !is_bad(x) && !is_bad(v)
-}
-
 /// The first value goes to the variable.
-fn for_first<S: Scopes>(
+fn emit_first<S: Scopes>(
     scopes: &mut S,
     site: &Site,
     x: Coded,
@@ -224,67 +128,35 @@ fn for_first<S: Scopes>(
     requires first { IsCoded (S.state scopes.old).frame fragments.old.nodes.items first }
     ensures { (notes : NotesOf) → Coding (S.state scopes.old) (S.state scopes.new) notes notes fragments.old.nodes.items fragments.new.nodes.items site.now result IsFragment part (λ c. gives (spec_first c (coded_in fragments.old.nodes.items x) (coded_in fragments.old.nodes.items first))) }
 {
-    if have_code(x.operand, first.operand) {
-        return store_code(scopes, site, x, first, fragments);
+    if is_bad(x.operand) || is_bad(first.operand) {
+        return Ok(Ask::Known(Fragment::Nothing));
     }
-    Ok(Ask::Known(Fragment::Nothing))
+    store_code(scopes, site, x, first, fragments)
 }
 
-/// The last value, fitted to this type.
-fn fitted_last<S: Scopes>(
-    scopes: &mut S,
-    site: &Site,
-    of: Place,
-    last: Coded,
-    fragments: &mut Fragments,
-) -> Result<Ask<Option<Fragment>>, Memory>
-    requires suits { SuitsSite (S.state scopes.old).frame site.now }
-    requires of { IsThere (S.state scopes.old).frame of }
-    requires last { IsCoded (S.state scopes.old).frame fragments.old.nodes.items last }
-    ensures { (notes : NotesOf) → Coding (S.state scopes.old) (S.state scopes.new) notes notes fragments.old.nodes.items fragments.new.nodes.items site.now result IsOptionIn option_in (λ c. gives (Some (spec_fitted c of (coded_in fragments.old.nodes.items last)))) }
-{
-    let value = analysed!(fitted_code(scopes, site, of, last, fragments));
-    Ok(Ask::Known(Some(value)))
-}
-
-/// The last value, fitted to the variable's type.
-fn last_value<S: Scopes>(
+/// The last value goes to the cell of the statement.
+fn emit_last<S: Scopes>(
     scopes: &mut S,
     site: &Site,
     x: Coded,
     last: Coded,
     fragments: &mut Fragments,
-) -> Result<Ask<Option<Fragment>>, Memory>
+) -> Result<Ask<Code>, Memory>
     requires suits { SuitsSite (S.state scopes.old).frame site.now }
-    requires x { IsOperand (S.state scopes.old).frame x.operand }
+    requires x { IsCoded (S.state scopes.old).frame fragments.old.nodes.items x }
     requires last { IsCoded (S.state scopes.old).frame fragments.old.nodes.items last }
-    ensures { (notes : NotesOf) → Coding (S.state scopes.old) (S.state scopes.new) notes notes fragments.old.nodes.items fragments.new.nodes.items site.now result IsOptionIn option_in (λ c. gives (spec_last c (coded_in fragments.old.nodes.items x) (coded_in fragments.old.nodes.items last))) }
+    ensures { (notes : NotesOf) → Coding (S.state scopes.old) (S.state scopes.new) notes notes fragments.old.nodes.items fragments.new.nodes.items site.now result IsCellCode code_by (λ c. gives (λ t. spec_last c t (coded_in fragments.old.nodes.items x) (coded_in fragments.old.nodes.items last))) }
 {
-    if have_code(x.operand, last.operand) {
-        return fitted_last(scopes, site, operand_type(&x.operand), last, fragments);
+    if is_bad(x.operand) || is_bad(last.operand) {
+        return Ok(Ask::Known(Code::Fixed(Fragment::Nothing)));
     }
-    Ok(Ask::Known(None))
+    let of = operand_type(&x.operand);
+    let value = analysed!(fitted_code(scopes, site, of, last, fragments));
+    Ok(Ask::Known(Code::Stored(value)))
 }
 
-/// A number of this side is added to what stands above its variable's address, and stored.
-fn added(by: i64, side: u8, fragments: &mut Fragments) -> Result<Fragment, Memory>
-    ensures { IsMade fragments.old.nodes.items fragments.new.nodes.items result (plain (instrs.Push by ∷ instrs.Add side ∷ instrs.Store ∷ [])) }
-{
-    let sum = pair(Instr::Push(by), Instr::Add(side), fragments)?;
-    instr_behind(sum, Instr::Store, fragments)
-}
-
-/// The variable whose address is on the stack takes its next value.
-fn next_value(by: i64, side: u8, fragments: &mut Fragments) -> Result<Fragment, Memory>
-    ensures { IsMade fragments.old.nodes.items fragments.new.nodes.items result (plain (instrs.Dup ∷ instrs.Load ∷ instrs.Push by ∷ instrs.Add side ∷ instrs.Store ∷ [])) }
-{
-    let loaded = pair(Instr::Dup, Instr::Load, fragments)?;
-    let sum = added(by, side, fragments)?;
-    fragments.then(loaded, sum)
-}
-
-/// The variable at this address takes its next value.
-fn stepped(
+/// The variable at this address takes its next value, of numbers of this side.
+fn add_step(
     variable: Fragment,
     by: i64,
     side: u8,
@@ -293,12 +165,15 @@ fn stepped(
     requires { IsIn fragments.old.nodes.items variable }
     ensures { IsMade fragments.old.nodes.items fragments.new.nodes.items result (part fragments.old.nodes.items variable ⨟ plain (instrs.Dup ∷ instrs.Load ∷ instrs.Push by ∷ instrs.Add side ∷ instrs.Store ∷ [])) }
 {
-    let next = next_value(by, side, fragments)?;
+    let loaded = pair(Instr::Dup, Instr::Load, fragments)?;
+    let sum = pair(Instr::Push(by), Instr::Add(side), fragments)?;
+    let stored = instr_behind(sum, Instr::Store, fragments)?;
+    let next = fragments.then(loaded, stored)?;
     fragments.then(variable, next)
 }
 
-/// A step of the variable.
-fn for_step<S: Scopes>(
+/// The variable takes its next value.
+fn emit_step<S: Scopes>(
     scopes: &mut S,
     site: &Site,
     x: Coded,
@@ -310,63 +185,54 @@ fn for_step<S: Scopes>(
     ensures { (notes : NotesOf) → Coding (S.state scopes.old) (S.state scopes.new) notes notes fragments.old.nodes.items fragments.new.nodes.items site.now result IsFragment part (λ c. gives (spec_step c.scene (coded_in fragments.old.nodes.items x) by)) }
 {
     let side = asked!(side_of(scopes, site, operand_type(&x.operand)));
-    answered(stepped(x.code, by, side, fragments))
+    answered(add_step(x.code, by, side, fragments))
 }
 
-/// The code of the variable, unless it is in error.
-fn variable_code(x: Coded) -> Option<Fragment>
-    ensures told { (nodes : List Node) → option_in nodes result ≡ spec_variable_code (coded_in nodes x) }
-    ensures there { (nodes : List Node) → IsIn nodes x.code → IfSome result (λ code. IsIn nodes code) }
+/// The body as often as the variable is within its bounds; once where the variable is in error.
+fn emit_turns(
+    x: Coded,
+    by: i64,
+    step: Fragment,
+    body: Flow,
+    flows: &mut Flows,
+) -> Result<Flow, Memory>
+    requires x { IsIn flows.old.fragments.nodes.items x.code }
+    requires step { IsIn flows.old.fragments.nodes.items step }
+    requires body { IsAmong flows.old body }
+    ensures { IsFlowMade flows.old flows.new result (λ t. if has_code (coded_in flows.old.fragments.nodes.items x) then spec_counted (for_test t (coded_in flows.old.fragments.nodes.items x) by) (flow_in flows.old body t) (for_more t (coded_in flows.old.fragments.nodes.items x) by) (part flows.old.fragments.nodes.items step) else flow_in flows.old body t) }
 {
     if is_bad(x.operand) {
-        None
-    } else {
-        Some(x.code)
+        return Ok(body);
     }
+    let first = Code::Compared(x.code, comparison(by));
+    let again = Code::Compared(x.code, Instr::More(by));
+    flows.counted(first, body, again, step)
 }
 
-/// The first value's way to the variable, and the last value.
-fn loop_ends<S: Scopes>(
+/// The code of a FOR that counts so, with this body.
+pub fn emit_for<S: Scopes>(
     scopes: &mut S,
     site: &Site,
-    x: Coded,
-    first: Coded,
-    last: Coded,
-    fragments: &mut Fragments,
-) -> Result<Ask<(Fragment, Option<Fragment>)>, Memory>
+    count: &Count,
+    body: Flow,
+    flows: &mut Flows,
+) -> Result<Ask<Flow>, Memory>
     requires suits { SuitsSite (S.state scopes.old).frame site.now }
-    requires x { IsCoded (S.state scopes.old).frame fragments.old.nodes.items x }
-    requires first { IsCoded (S.state scopes.old).frame fragments.old.nodes.items first }
-    requires last { IsCoded (S.state scopes.old).frame fragments.old.nodes.items last }
-    ensures { (notes : NotesOf) → Coding (S.state scopes.old) (S.state scopes.new) notes notes fragments.old.nodes.items fragments.new.nodes.items site.now result AreEnds ends_in (λ c. gives (spec_first c (coded_in fragments.old.nodes.items x) (coded_in fragments.old.nodes.items first), spec_last c (coded_in fragments.old.nodes.items x) (coded_in fragments.old.nodes.items last))) }
+    requires sound { AreSound flows.old }
+    requires variable { IsCoded (S.state scopes.old).frame flows.old.fragments.nodes.items count.now.variable }
+    requires first { IsCoded (S.state scopes.old).frame flows.old.fragments.nodes.items count.now.first }
+    requires last { IsCoded (S.state scopes.old).frame flows.old.fragments.nodes.items count.now.last }
+    requires body { IsAmong flows.old body }
+    ensures { (notes : NotesOf) (within : flow.Flow) → StandsFor (S.state scopes.old).frame site.now flows.old body within
+        → Flowing (S.state scopes.old) (S.state scopes.new) notes notes flows.old flows.new site.now result IsFlow flow_in (λ c. gives (for_flow c (coded_in flows.old.fragments.nodes.items count.now.variable) (coded_in flows.old.fragments.nodes.items count.now.first) (coded_in flows.old.fragments.nodes.items count.now.last) count.now.by within)) }
 {
-    let start = analysed!(for_first(scopes, site, x, first, fragments));
-    let end = analysed!(last_value(scopes, site, x, last, fragments));
-    Ok(Ask::Known((start, end)))
-}
-
-/// The parts of the code of a FOR, with this step.
-pub fn loop_parts<S: Scopes>(
-    scopes: &mut S,
-    site: &Site,
-    x: Coded,
-    first: Coded,
-    last: Coded,
-    by: i64,
-    fragments: &mut Fragments,
-) -> Result<Ask<LoopParts>, Memory>
-    requires suits { SuitsSite (S.state scopes.old).frame site.now }
-    requires x { IsCoded (S.state scopes.old).frame fragments.old.nodes.items x }
-    requires first { IsCoded (S.state scopes.old).frame fragments.old.nodes.items first }
-    requires last { IsCoded (S.state scopes.old).frame fragments.old.nodes.items last }
-    ensures { (notes : NotesOf) → Coding (S.state scopes.old) (S.state scopes.new) notes notes fragments.old.nodes.items fragments.new.nodes.items site.now result AreParts parts_in (λ c. gives (spec_parts c (coded_in fragments.old.nodes.items x) (coded_in fragments.old.nodes.items first) (coded_in fragments.old.nodes.items last) by)) }
-{
-    let (first, last) = analysed!(loop_ends(scopes, site, x, first, last, fragments));
-    let step = analysed!(for_step(scopes, site, x, by, fragments));
-    Ok(Ask::Known(LoopParts {
-        first,
-        last,
-        variable: variable_code(x),
-        step,
-    }))
+    let x = count.variable;
+    let fragments = &mut flows.fragments;
+    let first = analysed!(emit_first(scopes, site, x, count.first, fragments));
+    let last = analysed!(emit_last(scopes, site, x, count.last, fragments));
+    let step = analysed!(emit_step(scopes, site, x, count.by, fragments));
+    let turns = emit_turns(x, count.by, step, body, flows)?;
+    let counted = celled(last, turns, flows)?;
+    let start = flows.straight(Code::Fixed(first))?;
+    flow_parts::answered(behind(start, counted, flows))
 }

@@ -1,18 +1,14 @@
 //! Flows of whole statements, put together of several.
 ghost use Rattle.std.specs.Prelude.{◌≡◌, ◌∷◌, Some, length, IfOk};
-ghost use Rattle.std.specs.Option.{IfSome};
 ghost use Rattle.m2_base.specs.Lists.{Each};
 ghost use Rattle.expr_sem.specs.Codings.{with_types};
 ghost use Rattle.expr_sem.specs.Fragments.{IsIn, part};
 ghost use Rattle.stmt_sem.specs.FlowNodes.{AreSound, IsAmong, IsArmOf, IsCodeOf, IsFlowMade, choice_among, code_by, flow_in, flows_in};
 ghost use Rattle.stmt_sem.specs.Flows.{in_with as spec_in_with, straight as spec_straight, with_cell as spec_with_cell, ◌⨾◌};
-ghost use Rattle.stmt_sem.specs.LoopParts.{last_to, option_in, turns as spec_turns};
 ghost use Rattle.stmt_sem.specs.Stated.{answer_of};
 ghost use Rattle.stmt_sem.specs.StatementParts.{stored_before as spec_stored};
 
-use crate::counting::{LoopParts, comparison};
 use crate::flows::{Arm, Code, Flow, Flows};
-use code_form::Instr;
 use expr_sem::{Fragment, With};
 use m2_base::{Ask, Memory, Place};
 
@@ -27,7 +23,7 @@ pub fn answered(made: Result<Flow, Memory>) -> Result<Ask<Flow>, Memory>
 }
 
 /// One flow behind another.
-fn behind(first: Flow, second: Flow, flows: &mut Flows) -> Result<Flow, Memory>
+pub fn behind(first: Flow, second: Flow, flows: &mut Flows) -> Result<Flow, Memory>
     requires first { IsAmong flows.old first }
     requires second { IsAmong flows.old second }
     ensures { IsFlowMade flows.old flows.new result (λ t. flow_in flows.old first t ⨾ flow_in flows.old second t) }
@@ -39,7 +35,7 @@ fn behind(first: Flow, second: Flow, flows: &mut Flows) -> Result<Flow, Memory>
 }
 
 /// Code that may use a cell, and a flow behind it, in a statement that has this cell of its own.
-fn celled(code: Code, rest: Flow, flows: &mut Flows) -> Result<Flow, Memory>
+pub fn celled(code: Code, rest: Flow, flows: &mut Flows) -> Result<Flow, Memory>
     requires sound { AreSound flows.old }
     requires code { IsCodeOf flows.old.fragments.nodes.items code }
     requires rest { IsAmong flows.old rest }
@@ -76,58 +72,6 @@ pub fn with_made(address: Fragment, body: Flow, flows: &mut Flows) -> Result<Flo
 {
     let inner = flows.in_with(body)?;
     celled(Code::Stored(address), inner, flows)
-}
-
-/// The body of a FOR as often as its variable is within its bounds; once where the variable is in error.
-fn turns(
-    variable: Option<Fragment>,
-    step: Fragment,
-    by: i64,
-    body: Flow,
-    flows: &mut Flows,
-) -> Result<Flow, Memory>
-    requires variable { IfSome variable (λ f. IsIn flows.old.fragments.nodes.items f) }
-    requires step { IsIn flows.old.fragments.nodes.items step }
-    requires body { IsAmong flows.old body }
-    ensures { IsFlowMade flows.old flows.new result (λ t. spec_turns t by (part flows.old.fragments.nodes.items step) (option_in flows.old.fragments.nodes.items variable) (flow_in flows.old body t)) }
-{
-    match variable {
-        None => Ok(body),
-        Some(address) => {
-            let first = Code::Compared(address, comparison(by));
-            let again = Code::Compared(address, Instr::More(by));
-            flows.counted(first, body, again, step)
-        }
-    }
-}
-
-/// The last value of a FOR in a cell of its own, and then a flow.
-fn last_before(last: Option<Fragment>, rest: Flow, flows: &mut Flows) -> Result<Flow, Memory>
-    requires sound { AreSound flows.old }
-    requires last { IfSome last (λ f. IsIn flows.old.fragments.nodes.items f) }
-    requires rest { IsAmong flows.old rest }
-    ensures { IsFlowMade flows.old flows.new result (λ u. spec_with_cell (λ t. spec_straight (last_to t (option_in flows.old.fragments.nodes.items last)) ⨾ flow_in flows.old rest t)) }
-{
-    match last {
-        None => flows.with_cell(rest),
-        Some(value) => celled(Code::Stored(value), rest, flows),
-    }
-}
-
-/// A FOR with these parts and this body.
-pub fn for_made(parts: LoopParts, by: i64, body: Flow, flows: &mut Flows) -> Result<Flow, Memory>
-    requires sound { AreSound flows.old }
-    requires first { IsIn flows.old.fragments.nodes.items parts.first }
-    requires last { IfSome parts.last (λ f. IsIn flows.old.fragments.nodes.items f) }
-    requires variable { IfSome parts.variable (λ f. IsIn flows.old.fragments.nodes.items f) }
-    requires step { IsIn flows.old.fragments.nodes.items parts.step }
-    requires body { IsAmong flows.old body }
-    ensures { IsFlowMade flows.old flows.new result (λ t. spec_straight (part flows.old.fragments.nodes.items parts.first) ⨾ spec_with_cell (λ u. spec_straight (last_to u (option_in flows.old.fragments.nodes.items parts.last)) ⨾ spec_turns u by (part flows.old.fragments.nodes.items parts.step) (option_in flows.old.fragments.nodes.items parts.variable) (flow_in flows.old body u))) }
-{
-    let rest = turns(parts.variable, parts.step, by, body, flows)?;
-    let counted = last_before(parts.last, rest, flows)?;
-    let first = flows.straight(Code::Fixed(parts.first))?;
-    behind(first, counted, flows)
 }
 
 /// The open WITHs, and one more within them. Its cell isn't known yet.

@@ -1,5 +1,5 @@
 //! What of a statement is refused, as a diagnostic at a token.
-ghost use Rattle.std.specs.Prelude.{◌≡◌, List, None, IfOk, OnErr};
+ghost use Rattle.std.specs.Prelude.{◌≡◌, List, IfOk, OnErr, pos};
 ghost use Rattle.m2_base.specs.Diagnostics.{code_of};
 ghost use Rattle.m2_base.specs.Noting.{IsRefused};
 ghost use Rattle.m2_base.specs.Standard.{broken};
@@ -51,15 +51,15 @@ pub fn refused_type(
     Ok(Ask::Known(BROKEN))
 }
 
-/// Notes a diagnostic at a token; there is no step.
+/// Notes a diagnostic at a token; the step is 1.
 pub fn refused_step(
     site: &Site,
     at: u32,
     refusal: Diagnostic,
     notes: &mut Notes,
-) -> Result<Ask<Option<i64>>, Memory>
-    ensures { (state : State) (nodes : List Node) → Coding state state notes.old notes.new nodes nodes site.now result IsStep itself (λ c. spec_refuse c at (code_of refusal) None) }
+) -> Result<Ask<i64>, Memory>
+    ensures { (state : State) (nodes : List Node) → Coding state state notes.old notes.new nodes nodes site.now result IsStep itself (λ c. spec_refuse c at (code_of refusal) (pos 1)) }
 {
     noted(site, at, refusal, notes)?;
-    Ok(Ask::Known(None))
+    Ok(Ask::Known(1))
 }

@@ -17,12 +17,14 @@ ghost use Rattle.stmt_sem.specs.StatementParts.{form_of};
 ghost use Rattle.stmt_sem.specs.Stands.{IsStand, stand_in};
 ghost use Rattle.stmt_sem.specs.Statements.{exit_of, form_flow};
 
+use crate::assignments::assignment;
 use crate::cases::no_case;
 use crate::flow_parts::answered;
 use crate::flows::{Code, Flow, Flows};
 use crate::refusals::noted;
 use crate::stands::Stand;
-use crate::statement_parts::{assigned, called, returned};
+use crate::statement_parts::{called, returned, variable};
+use expr_sem::value_of;
 use m2_base::{Ask, Designator, Diagnostic, Expr, Memory, Notes, Scopes, Site};
 
 /// An assignment.
@@ -43,7 +45,9 @@ pub fn assign_statement<S: Scopes>(
     ensures { Flowing (S.state scopes.old) (S.state scopes.new) notes.old notes.new flows.old flows.new site.now result IsFlow flow_in (λ c. form_of (stand_in c stand.now) (assign_form (designator_view to.now) (expr_view value.now))) }
 {
     let fragments = &mut flows.fragments;
-    let code = analysed!(assigned(scopes, site, stand, to, value, fragments, notes));
+    let x = analysed!(variable(scopes, site, stand, to, fragments, notes));
+    let v = analysed!(value_of(scopes, site, stand.withs, value, fragments, notes));
+    let code = analysed!(assignment(scopes, site, x, value.at, v, fragments, notes));
     answered(flows.straight(Code::Fixed(code)))
 }
 

@@ -16,13 +16,15 @@ ghost use Rattle.stmt_sem.specs.Stated.{AreArms, AreFlows, IsArm, IsCase, IsOthe
 ghost use Rattle.stmt_sem.specs.StatementParts.{case_of as spec_case, form_of, otherwise as spec_otherwise, statements_onto, with_body as spec_with};
 ghost use Rattle.stmt_sem.specs.Statements.{arm_flow, arms_flow, case_flow, cases_flow, else_flow, flow_of, statement_flow};
 
-use crate::flow_parts::{answered, case_made, for_made, opened, with_made};
+use crate::control_variables::control_variable;
+use crate::counting::{Count, check_bound, check_step, emit_for};
+use crate::flow_parts::{answered, case_made, opened, with_made};
 use crate::flows::{Arm, Code, Flow, Flows};
 use crate::simple_statements::{
     assign_statement, called_statement, exit_statement, no_case_else, return_statement,
 };
 use crate::stands::Stand;
-use crate::statement_parts::{Limits, for_parts, record_of, selector, test};
+use crate::statement_parts::{record_of, selector, test};
 use case_labels::{Covered, case_labels};
 use const_eval::is_bad;
 use expr_sem::{Coded, Fragment};
@@ -37,6 +39,14 @@ use type_rules::operand_type;
 struct OneCase {
     arm: Arm,
     covered: Covered,
+}
+
+/// What a FOR has between its variable and its statements.
+#[derive(Clone, Copy)]
+struct Limits<'a> {
+    first: &'a Expr,
+    last: &'a Expr,
+    by: &'a Option<Expr>,
 }
 
 /// A statement where it stands: its code as a flow, for which further fragments and flows are added to `flows`. What is
@@ -479,9 +489,19 @@ fn for_statement<S: Scopes>(
     ensures { Flowing (S.state scopes.old) (S.state scopes.new) notes.old notes.new flows.old flows.new site.now result IsFlow flow_in (λ c. form_of (stand_in c stand.now) (for_form name (expr_view limits.now.first.now) (expr_view limits.now.last.now) (option_map expr_view limits.now.by.now) (spec_list (map statement_view body.now)))) }
 {
     let fragments = &mut flows.fragments;
-    let (parts, by) = analysed!(for_parts(scopes, site, stand, name, limits, fragments, notes));
+    let withs = stand.withs;
+    let x = analysed!(control_variable(scopes, site, withs, name, fragments, notes));
+    let first = analysed!(check_bound(scopes, site, stand, x, limits.first, fragments, notes));
+    let last = analysed!(check_bound(scopes, site, stand, x, limits.last, fragments, notes));
+    let by = analysed!(check_step(scopes, site, limits.by, notes));
     let inner = analysed!(statements(scopes, site, stand, body, flows, notes));
-    answered(for_made(parts, by, inner, flows))
+    let count = Count {
+        variable: x,
+        first,
+        last,
+        by,
+    };
+    emit_for(scopes, site, &count, inner, flows)
 }
 
 /// The statements in a WITH of this record.

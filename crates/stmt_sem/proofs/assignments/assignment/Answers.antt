@@ -1,14 +1,20 @@
-use Rattle.std.proofs.Common.{◌∙◌, Bool, Ok, ap, sym, refl, if◌then◌else◌}
+use Rattle.std.proofs.Common.{◌∙◌, Bool, Ok, ap, sym, subst, refl, if◌then◌else◌}
 use Rattle.m2_base.specs.Gives.{and_then, gives}
+use Rattle.m2_base.specs.States.{Frame}
+use Rattle.m2_base.specs.Statics.Contexts.{Context}
 use Rattle.m2_base.specs.Statics.Diagnostics.{not_assignable}
 use Rattle.m2_base.specs.Statics.Operands.{operand_type}
 use Rattle.m2_base.specs.declared.replies.Ask.TheVariants.{Known}
-use Rattle.expr_sem.specs.Codings.{IsFragment, coded_in}
+use Rattle.m2_base.specs.declared.rows.Place.{Place}
+use Rattle.const_eval.proofs.TypesThere.{type_there}
+use Rattle.type_rules.specs.Scenes.{IsThere}
+use Rattle.expr_sem.specs.Codings.{IsCoded, IsFragment, coded_in}
 use Rattle.expr_sem.specs.Fragments.{part}
 use Rattle.expr_sem.specs.Parts.{none}
 use Rattle.expr_sem.specs.Values.{assigned_to}
 use Rattle.expr_sem.specs.declared.fragments.Fragment.TheVariants.{Nothing}
-use Rattle.expr_sem.proofs.Operating.{described, value_alone}
+use Rattle.expr_sem.proofs.Onwards.{coded_after, holds_after, suits_after}
+use Rattle.expr_sem.proofs.Operating.{coding_after, described, unknown, unmade, value_alone}
 use Rattle.stmt_sem.specs.Assignments.{store_code}
 use Rattle.stmt_sem.proofs.assignments.assignment.Goals as goal
 
@@ -17,6 +23,31 @@ returns-then-is_bad g c =
     described (Ok (Known Nothing)) (value_alone _ c.args.notes.now c.args.fragments.now.nodes.items c.args.site.now Nothing IsFragment part (λ k. none) tt (λ k. refl))
     (λ k. ap (λ (b : Bool). if b then gives none else and_then (assigned_to k (operand_type c.args.to.operand) c.args.at not_assignable (coded_in c.args.fragments.now.nodes.items c.args.x)) (λ v. gives (store_code k (coded_in c.args.fragments.now.nodes.items c.args.to) v))) (sym c.if-is_bad.true ∙ c.is_bad.ensures))
 
+pub assigned_to-requires-clause-to : goal.assigned_to-requires-clause-to
+assigned_to-requires-clause-to g c =
+    subst (λ (t : Place). IsThere (g.S.Scopes.state c.args.scopes.now).frame t) (sym c.operand_type-of.ensures) (type_there c.requires.suits.around c.args.to.operand c.requires.to.operand)
+
+pub returns-in-DontKnowYet : goal.returns-in-DontKnowYet
+returns-in-DontKnowYet g c = unknown (rw c.in-DontKnowYet.is at c.in-Ok.ensures c.args.fragments.now.nodes.items c.requires.x)
+
+pub returns-in-Err : goal.returns-in-Err
+returns-in-Err g c = unmade (c.in-Err.ensures c.args.fragments.now.nodes.items c.requires.x) _
+
+pub store_code-requires-clause-suits : goal.store_code-requires-clause-suits
+store_code-requires-clause-suits g c = suits_after (rw c.in-Known.is at c.in-Ok.ensures c.args.fragments.now.nodes.items c.requires.x) c.requires.suits
+
+pub store_code-requires-clause-to : goal.store_code-requires-clause-to
+store_code-requires-clause-to g c = coded_after (rw c.in-Known.is at c.in-Ok.ensures c.args.fragments.now.nodes.items c.requires.x) c.args.to c.requires.to
+
+pub store_code-requires-clause-x : goal.store_code-requires-clause-x
+store_code-requires-clause-x g c = holds_after (rw c.in-Known.is at c.in-Ok.ensures c.args.fragments.now.nodes.items c.requires.x) (λ (f : Frame). IsCoded f c.args.fragments.now.nodes.items c.in-Known.value) (rw c.in-Known.is at c.in-Ok.ensures c.args.fragments.now.nodes.items c.requires.x).there
+
 pub returns : goal.returns
 returns g c =
-    described c.assigned.result c.assigned.ensures (λ k. ap (λ (b : Bool). if b then gives none else and_then (assigned_to k (operand_type c.args.to.operand) c.args.at not_assignable (coded_in c.args.fragments.now.nodes.items c.args.x)) (λ v. gives (store_code k (coded_in c.args.fragments.now.nodes.items c.args.to) v))) (sym c.if-is_bad.false ∙ c.is_bad.ensures))
+    let ns = c.args.fragments.now.nodes.items in
+    let to = coded_in ns c.args.to in
+    let taken = λ (k : Context). assigned_to k (operand_type c.args.to.operand) c.args.at not_assignable (coded_in ns c.args.x) in
+    described c.store_code.result
+    (coding_after taken (λ v k. gives (store_code k to v)) c.store_code.result
+    (described _ (rw c.in-Known.is at c.in-Ok.ensures ns c.requires.x) (λ k. ap (λ (t : Place). assigned_to k t c.args.at not_assignable (coded_in ns c.args.x)) c.operand_type-of.ensures)) (c.store_code.ensures c.assigned_to.new.notes))
+    (λ k. ap (λ (b : Bool). if b then gives none else and_then (taken k) (λ v. gives (store_code k to v))) (sym c.if-is_bad.false ∙ c.is_bad.ensures))

@@ -1,25 +1,90 @@
-use Rattle.std.proofs.Common.{ap, refl}
+use Rattle.std.proofs.Common.{◌∙◌, ℕ, ap, sym}
+use Rattle.m2_base.specs.Gives.{and_then, gives}
+use Rattle.m2_base.specs.Trees.{expr_at}
 use Rattle.m2_base.specs.Views.{designator_view, expr_view}
+use Rattle.m2_base.proofs.Kept.{Works-trans}
+use Rattle.const_eval.proofs.ReadParts.{at_seen}
+use Rattle.expr_sem.specs.Coded as code
+use Rattle.expr_sem.specs.Codings.{coded_in, with_types}
+use Rattle.expr_sem.specs.Expressions.{value}
+use Rattle.expr_sem.proofs.Onwards.{coded_after, suits_after}
+use Rattle.expr_sem.proofs.Operating.{coded_later}
+use Rattle.expr_sem.proofs.Walking.{stands_after}
+use Rattle.stmt_sem.specs.Assignments.{assignment}
 use Rattle.stmt_sem.specs.Flows.{straight}
-use Rattle.stmt_sem.specs.StatementParts.{assigned}
 use Rattle.stmt_sem.specs.Stands.{stand_in}
+use Rattle.stmt_sem.specs.Stated.{answer_of}
+use Rattle.stmt_sem.specs.Statements.{variable}
 use Rattle.stmt_sem.specs.declared.flows.Flows.{Flows}
-use Rattle.stmt_sem.proofs.Flowed.{by_answer, described, made_after, of_coding, unknown, unmade}
-use Rattle.stmt_sem.proofs.SimpleGiven.{assign_given}
+use Rattle.stmt_sem.proofs.Flowed.{by_answer, described, flowing_after, made_after, unknown, unknown_after, unmade, unmade_after}
+use Rattle.stmt_sem.proofs.FlowsBehind.{unknown_behind, unmade_behind}
+use Rattle.stmt_sem.proofs.FlowsKept.{Grows-trans}
+use Rattle.stmt_sem.proofs.Walked.{of_code}
 use Rattle.stmt_sem.proofs.simple_statements.assign_statement.Goals as goal
 
 pub returns-in-DontKnowYet : goal.returns-in-DontKnowYet
-returns-in-DontKnowYet g c = unknown (of_coding {from = c.args.flows.now} {to = record { fragments = c.assigned.new.fragments; nodes = c.args.flows.now.nodes }} _ (rw c.in-DontKnowYet.is at c.in-Ok.ensures) refl)
+returns-in-DontKnowYet g c = unknown (of_code c.args.flows.now c.variable.new.fragments _ (rw c.in-DontKnowYet.is at c.in-Ok.ensures))
 
 pub returns-in-Err : goal.returns-in-Err
-returns-in-Err g c = unmade (of_coding {from = c.args.flows.now} {to = record { fragments = c.assigned.new.fragments; nodes = c.args.flows.now.nodes }} _ c.in-Err.ensures refl) _
+returns-in-Err g c = unmade (of_code c.args.flows.now c.variable.new.fragments _ c.in-Err.ensures) _
+
+pub value_of-requires-clause-suits : goal.value_of-requires-clause-suits
+value_of-requires-clause-suits g c = suits_after (rw c.in-Known.is at c.in-Ok.ensures) c.requires.suits
+
+pub returns-in-DontKnowYet-asked : goal.returns-in-DontKnowYet-asked
+returns-in-DontKnowYet-asked g c =
+    let fs1 : Flows = record { fragments = c.variable.new.fragments; nodes = c.args.flows.now.nodes } in
+    unknown_after (of_code c.args.flows.now c.variable.new.fragments _ (rw c.in-Known.is at c.in-Ok.ensures)) (of_code fs1 c.value_of.new.fragments _ (rw c.in-DontKnowYet-asked.is at c.in-Ok-value_of.ensures))
+
+pub returns-in-Err-value_of : goal.returns-in-Err-value_of
+returns-in-Err-value_of g c =
+    let fs1 : Flows = record { fragments = c.variable.new.fragments; nodes = c.args.flows.now.nodes } in
+    unmade_after (of_code c.args.flows.now c.variable.new.fragments _ (rw c.in-Known.is at c.in-Ok.ensures)) (of_code fs1 c.value_of.new.fragments _ c.in-Err-value_of.ensures) _
+
+pub assignment-requires-clause-suits : goal.assignment-requires-clause-suits
+assignment-requires-clause-suits g c = suits_after (rw c.in-Known-asked.is at c.in-Ok-value_of.ensures) (suits_after (rw c.in-Known.is at c.in-Ok.ensures) c.requires.suits)
+
+pub assignment-requires-clause-to : goal.assignment-requires-clause-to
+assignment-requires-clause-to g c = coded_after (rw c.in-Known-asked.is at c.in-Ok-value_of.ensures) c.in-Known.value (stands_after (rw c.in-Known.is at c.in-Ok.ensures))
+
+pub assignment-requires-clause-x : goal.assignment-requires-clause-x
+assignment-requires-clause-x g c = stands_after (rw c.in-Known-asked.is at c.in-Ok-value_of.ensures)
+
+pub returns-in-DontKnowYet-asked-2 : goal.returns-in-DontKnowYet-asked-2
+returns-in-DontKnowYet-asked-2 g c =
+    let fs1 : Flows = record { fragments = c.variable.new.fragments; nodes = c.args.flows.now.nodes } in
+    let fs2 : Flows = record { fragments = c.value_of.new.fragments; nodes = c.args.flows.now.nodes } in
+    let one = of_code c.args.flows.now c.variable.new.fragments _ (rw c.in-Known.is at c.in-Ok.ensures) in
+    let two = of_code fs1 c.value_of.new.fragments _ (rw c.in-Known-asked.is at c.in-Ok-value_of.ensures) in
+    unknown_behind (Works-trans one.works two.works) (Grows-trans one.grows two.grows) (of_code fs2 c.assignment.new.fragments _ (rw c.in-DontKnowYet-asked-2.is at c.in-Ok-assignment.ensures))
+
+pub returns-in-Err-assignment : goal.returns-in-Err-assignment
+returns-in-Err-assignment g c =
+    let fs1 : Flows = record { fragments = c.variable.new.fragments; nodes = c.args.flows.now.nodes } in
+    let fs2 : Flows = record { fragments = c.value_of.new.fragments; nodes = c.args.flows.now.nodes } in
+    let one = of_code c.args.flows.now c.variable.new.fragments _ (rw c.in-Known.is at c.in-Ok.ensures) in
+    let two = of_code fs1 c.value_of.new.fragments _ (rw c.in-Known-asked.is at c.in-Ok-value_of.ensures) in
+    unmade_behind (Works-trans one.works two.works) (Grows-trans one.grows two.grows) (of_code fs2 c.assignment.new.fragments _ c.in-Err-assignment.ensures) _
 
 pub returns : goal.returns
 returns g c =
     let s = c.args.stand.now in
     let d = designator_view c.args.to.now in
-    let e = expr_view c.args.value.now in
-    let to : Flows = record { fragments = c.assigned.new.fragments; nodes = c.args.flows.now.nodes } in
-    let one = of_coding {from = c.args.flows.now} {to = to} _ (rw c.in-Known.is at c.in-Ok.ensures) refl in
+    let e = c.args.value.now in
+    let at = expr_at (expr_view e) in
+    let ws = with_types s.withs.now in
+    let fs1 : Flows = record { fragments = c.variable.new.fragments; nodes = c.args.flows.now.nodes } in
+    let fs2 : Flows = record { fragments = c.value_of.new.fragments; nodes = c.args.flows.now.nodes } in
+    let to = coded_in c.variable.new.fragments.nodes.items c.in-Known.value in
+    let x = coded_in c.value_of.new.fragments.nodes.items c.in-Known-asked.value in
+    let first = rw c.in-Known.is at c.in-Ok.ensures in
+    let second = rw c.in-Known-asked.is at c.in-Ok-value_of.ensures in
+    let one = of_code c.args.flows.now c.variable.new.fragments _ first in
+    let two = of_code fs1 c.value_of.new.fragments _ second in
+    let three = described _ (of_code fs2 c.assignment.new.fragments _ (rw c.in-Known-asked-2.is at c.in-Ok-assignment.ensures))
+    (λ k. ap (λ (u : code.Coded). assignment k u e.at x) (coded_later second.grows c.in-Known.value first.there) ∙ ap (λ (n : ℕ). assignment k to n x) (sym (at_seen e))) in
+    let r = answer_of c.straight.result in
     by_answer c.straight.result c.answered.result c.answered.ensures
-    (described _ (made_after (λ k. assigned (stand_in k s) d e) (λ p. straight p) c.straight.result one c.straight.ensures.made (λ p same cell. ap straight (same cell))) (λ k. assign_given (stand_in k s) d e))
+    (flowing_after (λ k. variable (stand_in k s) d) (λ u k. and_then (value k ws (expr_view e)) (λ v. and_then (assignment k u at v) (λ p. gives (straight p)))) r one
+    (flowing_after (λ k. value k ws (expr_view e)) (λ v k. and_then (assignment k to at v) (λ p. gives (straight p))) r two
+    (made_after (λ k. assignment k to at x) (λ p. straight p) c.straight.result three c.straight.ensures.made (λ p same cell. ap straight (same cell)))))

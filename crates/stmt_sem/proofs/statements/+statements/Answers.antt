@@ -1,14 +1,14 @@
-use Rattle.std.proofs.Common.{◌∙◌, ◌≡◌, ◌++◌, ◌∷◌, [], ℕ, List, None, Ok, Err, Option, Some, ap, arith, map, of_z, refl, rules, sym, to_z, w64}
+use Rattle.std.proofs.Common.{◌∙◌, ◌≡◌, ◌++◌, ◌∷◌, [], ℕ, ℤ, List, None, Ok, Err, Option, Some, ap, arith, map, of_z, refl, rules, sym, to_z, w64}
 use Rattle.std.proofs.Math.Path.{fun_ext}
 use Rattle.std.specs.Prelude.{option_map}
 use Rattle.std.specs.declared.alloc.Global.{Global}
 use Rattle.std.specs.declared.vec.Vec.{Vec}
 use denote.Param.Weighed.{most}
-use Rattle.m2_base.specs.Gives.{Gives}
+use Rattle.m2_base.specs.Gives.{Gives, and_then, gives}
 use Rattle.m2_base.specs.Statics.CaseLabels.{labels_of}
 use Rattle.m2_base.specs.Statics.Contexts.{Context}
 use Rattle.m2_base.specs.Statics.Operands.{operand_type}
-use Rattle.m2_base.specs.Trees.{case_arms, if_arms, labels, statements}
+use Rattle.m2_base.specs.Trees.{Expr, case_arms, expr_at, if_arms, labels, statements}
 use Rattle.m2_base.specs.Views.{case_arm_view, case_else_seen, designator_view, expr_view, if_arm_view, label_view, statement_view, stmt_form_view}
 use Rattle.m2_base.specs.declared.replies.Ask.TheVariants.{DontKnowYet, Known}
 use Rattle.m2_base.specs.declared.rows.Place.{Place}
@@ -16,29 +16,36 @@ use Rattle.m2_base.specs.declared.trees.statements.CaseArm.{CaseArm, out-CaseArm
 use Rattle.m2_base.specs.declared.trees.statements.IfArm.{out-IfArm, size-IfArm}
 use Rattle.m2_base.specs.declared.trees.statements.Statement.{Statement, size-Statement}
 use Rattle.m2_base.proofs.Seen.{assign_seen, case_arm_seen, case_seen, empty_seen, exit_seen, for_seen, if_arm_seen, if_seen, invoke_seen, loop_seen, repeat_seen, return_seen, while_seen, with_seen}
+use Rattle.m2_base.proofs.Kept.{Works-trans}
 use Rattle.const_eval.proofs.Folding.{folded}
 use Rattle.const_eval.proofs.Sizes.{item_small}
 use Rattle.const_eval.proofs.TypesThere.{type_there}
+use Rattle.expr_sem.specs.Coded as coded
 use Rattle.expr_sem.specs.Codings.{coded_in, with_types}
+use Rattle.expr_sem.specs.Expressions.{value}
+use Rattle.expr_sem.proofs.Onwards.{coded_after}
+use Rattle.expr_sem.proofs.Operating.{coded_later}
+use Rattle.expr_sem.proofs.Sequencing.{Grows-trans as Grows-joined}
 use Rattle.expr_sem.specs.Fragments.{part}
 use Rattle.stmt_sem.specs.Flowings.{IsFlow}
 use Rattle.stmt_sem.specs.FlowNodes.{flow_in}
+use Rattle.stmt_sem.specs.Counting.{bound_value, control_variable, or_one}
 use Rattle.stmt_sem.specs.Flows as flow
 use Rattle.stmt_sem.specs.Flows.{for_ever, in_with, nothing, until_true, while_true, with_cell}
-use Rattle.stmt_sem.specs.LoopParts.{loop_flow}
 use Rattle.stmt_sem.specs.Stands.{stand_in}
 use Rattle.stmt_sem.specs.Stated.{AreArms, AreFlows, IsOther, arms_in, block_in, other_in}
-use Rattle.stmt_sem.specs.StatementParts.{case_of, for_parts, otherwise, record_of, selector, statements_onto, stored_before, with_body}
-use Rattle.stmt_sem.specs.Statements.{Arm, arm_before, arm_flow, arm_of, arms_flow, case_flow, cases_flow, else_flow, else_of, flow_of, flow_or_nothing, in_loop, statement_flow, test}
+use Rattle.stmt_sem.specs.StatementParts.{case_of, otherwise, record_of, selector, statements_onto, stored_before, with_body}
+use Rattle.stmt_sem.specs.Statements.{Arm, arm_before, arm_flow, arm_of, arms_flow, by_of, case_flow, cases_flow, else_flow, else_of, flow_of, flow_or_nothing, for_flow, in_loop, statement_flow, test}
 use Rattle.stmt_sem.specs.declared.flows.Code.TheVariants.{Fixed, Labels}
 use Rattle.stmt_sem.specs.declared.flows.Flow.TheVariants.{Nothing}
 use Rattle.stmt_sem.specs.declared.flows.Flows.{Flows}
 use Rattle.stmt_sem.proofs.CaseLists.{AreSoFar, arm_given, cases_more, none_so_far, of_labels, so_far_in}
-use Rattle.stmt_sem.proofs.FlowLists.{arms_kept, arms_more, arms_there, block_more, block_onto, block_there, in_later, some_later}
+use Rattle.stmt_sem.proofs.FlowLists.{arms_kept, arms_more, arms_there, block_more, block_onto, block_there, coded_later as coded_kept, in_later, stays_coded}
 use Rattle.stmt_sem.proofs.Flowed.{by_answer, described, flowing_after, made_after, made_after_both, one_more, sound_after, stand_after, stands_after, step, suits_after, unknown, unknown_after, unmade, unmade_after, value_after, value_after_both, value_alone, whole}
+use Rattle.stmt_sem.proofs.FlowsBehind.{stands_for, unknown_behind, unmade_behind}
 use Rattle.stmt_sem.proofs.FlowsKept.{Grows-refl, Grows-trans, among_later}
 use Rattle.stmt_sem.proofs.StatementFolds.{arms_folded, behind_arm, behind_case, behind_flow, cases_folded, onto_folded, statements_given}
-use Rattle.stmt_sem.proofs.StatementGiven.{arm_same, bad_with, case_given, case_same, choice_same, for_given, for_same, good_with, if_given, no_else, some_else, statement_given, until_same, while_same, with_given, with_same}
+use Rattle.stmt_sem.proofs.StatementGiven.{arm_same, bad_with, case_given, case_same, choice_same, for_given, good_with, if_given, no_else, some_else, statement_given, until_same, while_same, with_given, with_same}
 use Rattle.stmt_sem.proofs.StatementReads.{case_arm_read, case_arm_smaller, case_smaller, else_smaller, for_smaller, form_read, if_arm_read, if_arm_smaller, if_smaller, loop_smaller, read_case_arm, read_if_arm, read_statement, repeat_smaller, rest_size, rest_smaller, while_smaller, with_smaller}
 use Rattle.stmt_sem.proofs.Walked.{full_by_both, more_open, no_arms_in, no_arms_there, none_in, none_there, of_code, there_after, wanted_first}
 use Rattle.stmt_sem.proofs.statements.+statements.Goals as goal
@@ -436,54 +443,236 @@ repeat_statement-returns g t c =
     (made_after_both (λ k. flow_of (stand_in k c.args.stand.now) (statements (map statement_view c.args.body.now))) (λ b k. test (stand_in k c.args.stand.now) (expr_view c.args.holds.now)) (λ b p. until_true b p) c.until_true.result one two c.until_true.ensures.made (until_same after two.grows c.in-Known-asked.value c.in-Known.value (sound_after one c.requires.sound) one.there))
 
 pub for_statement-returns-in-DontKnowYet : goal.for_statement-returns-in-DontKnowYet
-for_statement-returns-in-DontKnowYet g t c = unknown (of_code c.args.flows.now c.for_parts.new.fragments _ (rw c.in-DontKnowYet.is at c.in-Ok.ensures))
+for_statement-returns-in-DontKnowYet g t c =
+    unknown (of_code c.args.flows.now c.control_variable.new.fragments _ (rw c.in-DontKnowYet.is at c.in-Ok.ensures))
 
 pub for_statement-returns-in-Err : goal.for_statement-returns-in-Err
-for_statement-returns-in-Err g t c = unmade (of_code c.args.flows.now c.for_parts.new.fragments _ c.in-Err.ensures) _
+for_statement-returns-in-Err g t c =
+    unmade (of_code c.args.flows.now c.control_variable.new.fragments _ c.in-Err.ensures) _
 
-pub for_statement-statements-requires : goal.for_statement-statements-requires
-for_statement-statements-requires g t c κs within =
-    (omega (arith, c.decreases), (within, (suits_after (of_code c.args.flows.now c.for_parts.new.fragments _ (rw c.in-Known.is at c.in-Ok.ensures)) c.requires.suits, (c.requires.item, (stand_after (of_code c.args.flows.now c.for_parts.new.fragments _ (rw c.in-Known.is at c.in-Ok.ensures)) c.args.stand.now c.requires.stand, (sound_after (of_code c.args.flows.now c.for_parts.new.fragments _ (rw c.in-Known.is at c.in-Ok.ensures)) c.requires.sound, (c.requires.read)))))))
+pub for_statement-check_bound-requires-clause-suits : goal.for_statement-check_bound-requires-clause-suits
+for_statement-check_bound-requires-clause-suits g t c =
+    suits_after (of_code c.args.flows.now c.control_variable.new.fragments _ (rw c.in-Known.is at c.in-Ok.ensures)) c.requires.suits
+
+pub for_statement-check_bound-requires-clause-stand : goal.for_statement-check_bound-requires-clause-stand
+for_statement-check_bound-requires-clause-stand g t c =
+    stand_after (of_code c.args.flows.now c.control_variable.new.fragments _ (rw c.in-Known.is at c.in-Ok.ensures)) c.args.stand.now c.requires.stand
+
+pub for_statement-check_bound-requires-clause-x : goal.for_statement-check_bound-requires-clause-x
+for_statement-check_bound-requires-clause-x g t c =
+    stands_after (of_code c.args.flows.now c.control_variable.new.fragments _ (rw c.in-Known.is at c.in-Ok.ensures))
 
 pub for_statement-returns-in-DontKnowYet-asked : goal.for_statement-returns-in-DontKnowYet-asked
 for_statement-returns-in-DontKnowYet-asked g t c =
-    unknown_after (of_code c.args.flows.now c.for_parts.new.fragments _ (rw c.in-Known.is at c.in-Ok.ensures)) (rw c.in-DontKnowYet-asked.is at c.in-Ok-statements.ensures)
+    let one = of_code c.args.flows.now c.control_variable.new.fragments _ (rw c.in-Known.is at c.in-Ok.ensures) in
+    let fs1 : Flows = record { fragments = c.control_variable.new.fragments; nodes = c.args.flows.now.nodes } in
+    unknown_after one (of_code fs1 c.check_bound.new.fragments _ (rw c.in-DontKnowYet-asked.is at c.in-Ok-check_bound.ensures))
+
+pub for_statement-returns-in-Err-check_bound : goal.for_statement-returns-in-Err-check_bound
+for_statement-returns-in-Err-check_bound g t c =
+    let one = of_code c.args.flows.now c.control_variable.new.fragments _ (rw c.in-Known.is at c.in-Ok.ensures) in
+    let fs1 : Flows = record { fragments = c.control_variable.new.fragments; nodes = c.args.flows.now.nodes } in
+    unmade_after one (of_code fs1 c.check_bound.new.fragments _ c.in-Err-check_bound.ensures) _
+
+pub for_statement-check_bound-requires-2-clause-suits : goal.for_statement-check_bound-requires-2-clause-suits
+for_statement-check_bound-requires-2-clause-suits g t c =
+    let one = of_code c.args.flows.now c.control_variable.new.fragments _ (rw c.in-Known.is at c.in-Ok.ensures) in
+    let fs1 : Flows = record { fragments = c.control_variable.new.fragments; nodes = c.args.flows.now.nodes } in
+    let two = of_code fs1 c.check_bound.new.fragments _ (rw c.in-Known-asked.is at c.in-Ok-check_bound.ensures) in
+    suits_after two (suits_after one c.requires.suits)
+
+pub for_statement-check_bound-requires-2-clause-stand : goal.for_statement-check_bound-requires-2-clause-stand
+for_statement-check_bound-requires-2-clause-stand g t c =
+    let one = of_code c.args.flows.now c.control_variable.new.fragments _ (rw c.in-Known.is at c.in-Ok.ensures) in
+    let fs1 : Flows = record { fragments = c.control_variable.new.fragments; nodes = c.args.flows.now.nodes } in
+    let two = of_code fs1 c.check_bound.new.fragments _ (rw c.in-Known-asked.is at c.in-Ok-check_bound.ensures) in
+    stand_after two c.args.stand.now (stand_after one c.args.stand.now c.requires.stand)
+
+pub for_statement-check_bound-requires-2-clause-x : goal.for_statement-check_bound-requires-2-clause-x
+for_statement-check_bound-requires-2-clause-x g t c =
+    let one = of_code c.args.flows.now c.control_variable.new.fragments _ (rw c.in-Known.is at c.in-Ok.ensures) in
+    coded_after (rw c.in-Known-asked.is at c.in-Ok-check_bound.ensures) c.in-Known.value (stands_after one)
+
+pub for_statement-returns-in-DontKnowYet-asked-2 : goal.for_statement-returns-in-DontKnowYet-asked-2
+for_statement-returns-in-DontKnowYet-asked-2 g t c =
+    let one = of_code c.args.flows.now c.control_variable.new.fragments _ (rw c.in-Known.is at c.in-Ok.ensures) in
+    let fs1 : Flows = record { fragments = c.control_variable.new.fragments; nodes = c.args.flows.now.nodes } in
+    let two = of_code fs1 c.check_bound.new.fragments _ (rw c.in-Known-asked.is at c.in-Ok-check_bound.ensures) in
+    let fs2 : Flows = record { fragments = c.check_bound.new.fragments; nodes = c.args.flows.now.nodes } in
+    unknown_behind (Works-trans one.works two.works) (Grows-trans one.grows two.grows) (of_code fs2 c.check_bound-2.new.fragments _ (rw c.in-DontKnowYet-asked-2.is at c.in-Ok-check_bound-2.ensures))
+
+pub for_statement-returns-in-Err-check_bound-2 : goal.for_statement-returns-in-Err-check_bound-2
+for_statement-returns-in-Err-check_bound-2 g t c =
+    let one = of_code c.args.flows.now c.control_variable.new.fragments _ (rw c.in-Known.is at c.in-Ok.ensures) in
+    let fs1 : Flows = record { fragments = c.control_variable.new.fragments; nodes = c.args.flows.now.nodes } in
+    let two = of_code fs1 c.check_bound.new.fragments _ (rw c.in-Known-asked.is at c.in-Ok-check_bound.ensures) in
+    let fs2 : Flows = record { fragments = c.check_bound.new.fragments; nodes = c.args.flows.now.nodes } in
+    unmade_behind (Works-trans one.works two.works) (Grows-trans one.grows two.grows) (of_code fs2 c.check_bound-2.new.fragments _ c.in-Err-check_bound-2.ensures) _
+
+pub for_statement-check_step-requires-clause-suits : goal.for_statement-check_step-requires-clause-suits
+for_statement-check_step-requires-clause-suits g t c =
+    let one = of_code c.args.flows.now c.control_variable.new.fragments _ (rw c.in-Known.is at c.in-Ok.ensures) in
+    let fs1 : Flows = record { fragments = c.control_variable.new.fragments; nodes = c.args.flows.now.nodes } in
+    let two = of_code fs1 c.check_bound.new.fragments _ (rw c.in-Known-asked.is at c.in-Ok-check_bound.ensures) in
+    let fs2 : Flows = record { fragments = c.check_bound.new.fragments; nodes = c.args.flows.now.nodes } in
+    let three = of_code fs2 c.check_bound-2.new.fragments _ (rw c.in-Known-asked-2.is at c.in-Ok-check_bound-2.ensures) in
+    suits_after three (suits_after two (suits_after one c.requires.suits))
+
+pub for_statement-returns-in-DontKnowYet-asked-3 : goal.for_statement-returns-in-DontKnowYet-asked-3
+for_statement-returns-in-DontKnowYet-asked-3 g t c =
+    let one = of_code c.args.flows.now c.control_variable.new.fragments _ (rw c.in-Known.is at c.in-Ok.ensures) in
+    let fs1 : Flows = record { fragments = c.control_variable.new.fragments; nodes = c.args.flows.now.nodes } in
+    let two = of_code fs1 c.check_bound.new.fragments _ (rw c.in-Known-asked.is at c.in-Ok-check_bound.ensures) in
+    let fs2 : Flows = record { fragments = c.check_bound.new.fragments; nodes = c.args.flows.now.nodes } in
+    let three = of_code fs2 c.check_bound-2.new.fragments _ (rw c.in-Known-asked-2.is at c.in-Ok-check_bound-2.ensures) in
+    let fs3 : Flows = record { fragments = c.check_bound-2.new.fragments; nodes = c.args.flows.now.nodes } in
+    unknown_behind (Works-trans one.works (Works-trans two.works three.works)) (Grows-trans one.grows (Grows-trans two.grows three.grows)) (of_code fs3 c.check_bound-2.new.fragments _ (rw c.in-DontKnowYet-asked-3.is at c.in-Ok-check_step.ensures c.args.stand.now c.check_bound-2.new.fragments.nodes.items))
+
+pub for_statement-returns-in-Err-check_step : goal.for_statement-returns-in-Err-check_step
+for_statement-returns-in-Err-check_step g t c =
+    let one = of_code c.args.flows.now c.control_variable.new.fragments _ (rw c.in-Known.is at c.in-Ok.ensures) in
+    let fs1 : Flows = record { fragments = c.control_variable.new.fragments; nodes = c.args.flows.now.nodes } in
+    let two = of_code fs1 c.check_bound.new.fragments _ (rw c.in-Known-asked.is at c.in-Ok-check_bound.ensures) in
+    let fs2 : Flows = record { fragments = c.check_bound.new.fragments; nodes = c.args.flows.now.nodes } in
+    let three = of_code fs2 c.check_bound-2.new.fragments _ (rw c.in-Known-asked-2.is at c.in-Ok-check_bound-2.ensures) in
+    let fs3 : Flows = record { fragments = c.check_bound-2.new.fragments; nodes = c.args.flows.now.nodes } in
+    unmade_behind (Works-trans one.works (Works-trans two.works three.works)) (Grows-trans one.grows (Grows-trans two.grows three.grows)) (of_code fs3 c.check_bound-2.new.fragments _ (c.in-Err-check_step.ensures c.args.stand.now c.check_bound-2.new.fragments.nodes.items)) _
+
+pub for_statement-statements-requires : goal.for_statement-statements-requires
+for_statement-statements-requires g t c κs within =
+    let one = of_code c.args.flows.now c.control_variable.new.fragments _ (rw c.in-Known.is at c.in-Ok.ensures) in
+    let fs1 : Flows = record { fragments = c.control_variable.new.fragments; nodes = c.args.flows.now.nodes } in
+    let two = of_code fs1 c.check_bound.new.fragments _ (rw c.in-Known-asked.is at c.in-Ok-check_bound.ensures) in
+    let fs2 : Flows = record { fragments = c.check_bound.new.fragments; nodes = c.args.flows.now.nodes } in
+    let three = of_code fs2 c.check_bound-2.new.fragments _ (rw c.in-Known-asked-2.is at c.in-Ok-check_bound-2.ensures) in
+    let fs3 : Flows = record { fragments = c.check_bound-2.new.fragments; nodes = c.args.flows.now.nodes } in
+    let four = of_code fs3 c.check_bound-2.new.fragments _ (rw c.in-Known-asked-3.is at c.in-Ok-check_step.ensures c.args.stand.now c.check_bound-2.new.fragments.nodes.items) in
+    (omega (arith, c.decreases), (within, (suits_after four (suits_after three (suits_after two (suits_after one c.requires.suits))), (c.requires.item, (stand_after four c.args.stand.now (stand_after three c.args.stand.now (stand_after two c.args.stand.now (stand_after one c.args.stand.now c.requires.stand))), (sound_after four (sound_after three (sound_after two (sound_after one c.requires.sound))), (c.requires.read)))))))
+
+pub for_statement-returns-in-DontKnowYet-asked-4 : goal.for_statement-returns-in-DontKnowYet-asked-4
+for_statement-returns-in-DontKnowYet-asked-4 g t c =
+    let one = of_code c.args.flows.now c.control_variable.new.fragments _ (rw c.in-Known.is at c.in-Ok.ensures) in
+    let fs1 : Flows = record { fragments = c.control_variable.new.fragments; nodes = c.args.flows.now.nodes } in
+    let two = of_code fs1 c.check_bound.new.fragments _ (rw c.in-Known-asked.is at c.in-Ok-check_bound.ensures) in
+    let fs2 : Flows = record { fragments = c.check_bound.new.fragments; nodes = c.args.flows.now.nodes } in
+    let three = of_code fs2 c.check_bound-2.new.fragments _ (rw c.in-Known-asked-2.is at c.in-Ok-check_bound-2.ensures) in
+    let fs3 : Flows = record { fragments = c.check_bound-2.new.fragments; nodes = c.args.flows.now.nodes } in
+    let four = of_code fs3 c.check_bound-2.new.fragments _ (rw c.in-Known-asked-3.is at c.in-Ok-check_step.ensures c.args.stand.now c.check_bound-2.new.fragments.nodes.items) in
+    unknown_behind (Works-trans one.works (Works-trans two.works (Works-trans three.works four.works))) (Grows-trans one.grows (Grows-trans two.grows (Grows-trans three.grows four.grows))) (rw c.in-DontKnowYet-asked-4.is at c.in-Ok-statements.ensures)
 
 pub for_statement-returns-in-Err-statements : goal.for_statement-returns-in-Err-statements
 for_statement-returns-in-Err-statements g t c =
-    unmade_after (of_code c.args.flows.now c.for_parts.new.fragments _ (rw c.in-Known.is at c.in-Ok.ensures)) c.in-Err-statements.ensures _
+    let one = of_code c.args.flows.now c.control_variable.new.fragments _ (rw c.in-Known.is at c.in-Ok.ensures) in
+    let fs1 : Flows = record { fragments = c.control_variable.new.fragments; nodes = c.args.flows.now.nodes } in
+    let two = of_code fs1 c.check_bound.new.fragments _ (rw c.in-Known-asked.is at c.in-Ok-check_bound.ensures) in
+    let fs2 : Flows = record { fragments = c.check_bound.new.fragments; nodes = c.args.flows.now.nodes } in
+    let three = of_code fs2 c.check_bound-2.new.fragments _ (rw c.in-Known-asked-2.is at c.in-Ok-check_bound-2.ensures) in
+    let fs3 : Flows = record { fragments = c.check_bound-2.new.fragments; nodes = c.args.flows.now.nodes } in
+    let four = of_code fs3 c.check_bound-2.new.fragments _ (rw c.in-Known-asked-3.is at c.in-Ok-check_step.ensures c.args.stand.now c.check_bound-2.new.fragments.nodes.items) in
+    unmade_behind (Works-trans one.works (Works-trans two.works (Works-trans three.works four.works))) (Grows-trans one.grows (Grows-trans two.grows (Grows-trans three.grows four.grows))) c.in-Err-statements.ensures _
 
-pub for_statement-for_made-requires-clause-sound : goal.for_statement-for_made-requires-clause-sound
-for_statement-for_made-requires-clause-sound g t c =
-    sound_after (rw c.in-Known-asked.is at c.in-Ok-statements.ensures) (sound_after (of_code c.args.flows.now c.for_parts.new.fragments _ (rw c.in-Known.is at c.in-Ok.ensures)) c.requires.sound)
+pub for_statement-emit_for-requires-clause-suits : goal.for_statement-emit_for-requires-clause-suits
+for_statement-emit_for-requires-clause-suits g t c =
+    let one = of_code c.args.flows.now c.control_variable.new.fragments _ (rw c.in-Known.is at c.in-Ok.ensures) in
+    let fs1 : Flows = record { fragments = c.control_variable.new.fragments; nodes = c.args.flows.now.nodes } in
+    let two = of_code fs1 c.check_bound.new.fragments _ (rw c.in-Known-asked.is at c.in-Ok-check_bound.ensures) in
+    let fs2 : Flows = record { fragments = c.check_bound.new.fragments; nodes = c.args.flows.now.nodes } in
+    let three = of_code fs2 c.check_bound-2.new.fragments _ (rw c.in-Known-asked-2.is at c.in-Ok-check_bound-2.ensures) in
+    let fs3 : Flows = record { fragments = c.check_bound-2.new.fragments; nodes = c.args.flows.now.nodes } in
+    let four = of_code fs3 c.check_bound-2.new.fragments _ (rw c.in-Known-asked-3.is at c.in-Ok-check_step.ensures c.args.stand.now c.check_bound-2.new.fragments.nodes.items) in
+    let five = rw c.in-Known-asked-4.is at c.in-Ok-statements.ensures in
+    suits_after five (suits_after four (suits_after three (suits_after two (suits_after one c.requires.suits))))
 
-pub for_statement-for_made-requires-clause-first : goal.for_statement-for_made-requires-clause-first
-for_statement-for_made-requires-clause-first g t c =
-    in_later (rw c.in-Known-asked.is at c.in-Ok-statements.ensures).grows c.in-Known.value.0.first (of_code c.args.flows.now c.for_parts.new.fragments _ (rw c.in-Known.is at c.in-Ok.ensures)).there.first
+pub for_statement-emit_for-requires-clause-sound : goal.for_statement-emit_for-requires-clause-sound
+for_statement-emit_for-requires-clause-sound g t c =
+    let one = of_code c.args.flows.now c.control_variable.new.fragments _ (rw c.in-Known.is at c.in-Ok.ensures) in
+    let fs1 : Flows = record { fragments = c.control_variable.new.fragments; nodes = c.args.flows.now.nodes } in
+    let two = of_code fs1 c.check_bound.new.fragments _ (rw c.in-Known-asked.is at c.in-Ok-check_bound.ensures) in
+    let fs2 : Flows = record { fragments = c.check_bound.new.fragments; nodes = c.args.flows.now.nodes } in
+    let three = of_code fs2 c.check_bound-2.new.fragments _ (rw c.in-Known-asked-2.is at c.in-Ok-check_bound-2.ensures) in
+    let fs3 : Flows = record { fragments = c.check_bound-2.new.fragments; nodes = c.args.flows.now.nodes } in
+    let four = of_code fs3 c.check_bound-2.new.fragments _ (rw c.in-Known-asked-3.is at c.in-Ok-check_step.ensures c.args.stand.now c.check_bound-2.new.fragments.nodes.items) in
+    let five = rw c.in-Known-asked-4.is at c.in-Ok-statements.ensures in
+    sound_after five (sound_after four (sound_after three (sound_after two (sound_after one c.requires.sound))))
 
-pub for_statement-for_made-requires-clause-last : goal.for_statement-for_made-requires-clause-last
-for_statement-for_made-requires-clause-last g t c =
-    some_later (rw c.in-Known-asked.is at c.in-Ok-statements.ensures).grows c.in-Known.value.0.last (of_code c.args.flows.now c.for_parts.new.fragments _ (rw c.in-Known.is at c.in-Ok.ensures)).there.last
+pub for_statement-emit_for-requires-clause-variable : goal.for_statement-emit_for-requires-clause-variable
+for_statement-emit_for-requires-clause-variable g t c =
+    let one = of_code c.args.flows.now c.control_variable.new.fragments _ (rw c.in-Known.is at c.in-Ok.ensures) in
+    let five = rw c.in-Known-asked-4.is at c.in-Ok-statements.ensures in
+    let x = coded_after (rw c.in-Known-asked.is at c.in-Ok-check_bound.ensures) c.in-Known.value (stands_after one) in
+    let y = coded_after (rw c.in-Known-asked-2.is at c.in-Ok-check_bound-2.ensures) c.in-Known.value x in
+    let z = coded_after (rw c.in-Known-asked-3.is at c.in-Ok-check_step.ensures c.args.stand.now c.check_bound-2.new.fragments.nodes.items) c.in-Known.value y in
+    stays_coded five.works.keeps.frame five.grows c.in-Known.value z
 
-pub for_statement-for_made-requires-clause-variable : goal.for_statement-for_made-requires-clause-variable
-for_statement-for_made-requires-clause-variable g t c =
-    some_later (rw c.in-Known-asked.is at c.in-Ok-statements.ensures).grows c.in-Known.value.0.variable (of_code c.args.flows.now c.for_parts.new.fragments _ (rw c.in-Known.is at c.in-Ok.ensures)).there.variable
+pub for_statement-emit_for-requires-clause-first : goal.for_statement-emit_for-requires-clause-first
+for_statement-emit_for-requires-clause-first g t c =
+    let fs1 : Flows = record { fragments = c.control_variable.new.fragments; nodes = c.args.flows.now.nodes } in
+    let two = of_code fs1 c.check_bound.new.fragments _ (rw c.in-Known-asked.is at c.in-Ok-check_bound.ensures) in
+    let five = rw c.in-Known-asked-4.is at c.in-Ok-statements.ensures in
+    let y = coded_after (rw c.in-Known-asked-2.is at c.in-Ok-check_bound-2.ensures) c.in-Known-asked.value (stands_after two) in
+    let z = coded_after (rw c.in-Known-asked-3.is at c.in-Ok-check_step.ensures c.args.stand.now c.check_bound-2.new.fragments.nodes.items) c.in-Known-asked.value y in
+    stays_coded five.works.keeps.frame five.grows c.in-Known-asked.value z
 
-pub for_statement-for_made-requires-clause-step : goal.for_statement-for_made-requires-clause-step
-for_statement-for_made-requires-clause-step g t c =
-    in_later (rw c.in-Known-asked.is at c.in-Ok-statements.ensures).grows c.in-Known.value.0.step (of_code c.args.flows.now c.for_parts.new.fragments _ (rw c.in-Known.is at c.in-Ok.ensures)).there.step
+pub for_statement-emit_for-requires-clause-last : goal.for_statement-emit_for-requires-clause-last
+for_statement-emit_for-requires-clause-last g t c =
+    let fs2 : Flows = record { fragments = c.check_bound.new.fragments; nodes = c.args.flows.now.nodes } in
+    let three = of_code fs2 c.check_bound-2.new.fragments _ (rw c.in-Known-asked-2.is at c.in-Ok-check_bound-2.ensures) in
+    let five = rw c.in-Known-asked-4.is at c.in-Ok-statements.ensures in
+    let z = coded_after (rw c.in-Known-asked-3.is at c.in-Ok-check_step.ensures c.args.stand.now c.check_bound-2.new.fragments.nodes.items) c.in-Known-asked-2.value (stands_after three) in
+    stays_coded five.works.keeps.frame five.grows c.in-Known-asked-2.value z
 
-pub for_statement-for_made-requires-clause-body : goal.for_statement-for_made-requires-clause-body
-for_statement-for_made-requires-clause-body g t c = (rw c.in-Known-asked.is at c.in-Ok-statements.ensures).there
+pub for_statement-emit_for-requires-clause-body : goal.for_statement-emit_for-requires-clause-body
+for_statement-emit_for-requires-clause-body g t c =
+    (rw c.in-Known-asked-4.is at c.in-Ok-statements.ensures).there
 
 pub for_statement-returns : goal.for_statement-returns
 for_statement-returns g t c =
-    let one = (of_code c.args.flows.now c.for_parts.new.fragments _ (rw c.in-Known.is at c.in-Ok.ensures)) in
-    let two = (rw c.in-Known-asked.is at c.in-Ok-statements.ensures) in
-    let by : to_z w64 (of_z w64 c.in-Known.value.1) ≡ c.in-Known.value.1 = search rules in
-    by_answer c.for_made.result c.answered.result c.answered.ensures
-    (described _ (made_after_both (λ k. for_parts (stand_in k c.args.stand.now) c.args.name (expr_view c.args.limits.now.first.now) (expr_view c.args.limits.now.last.now) (option_map expr_view c.args.limits.now.by.now)) (λ p k. flow_of (stand_in k c.args.stand.now) (statements (map statement_view c.args.body.now))) (λ p b. loop_flow p.0 p.1 b) c.for_made.result one two c.for_made.ensures (for_same two.grows (g.S.Scopes.state c.args.scopes.now).frame c.in-Known.value _ c.in-Known-asked.value by one.there))
-    (λ k. for_given (stand_in k c.args.stand.now) c.args.name (expr_view c.args.limits.now.first.now) (expr_view c.args.limits.now.last.now) (option_map expr_view c.args.limits.now.by.now) (statements (map statement_view c.args.body.now))))
+    let s = c.args.stand.now in
+    let h = c.args.limits.now in
+    let ws = with_types s.withs.now in
+    let first = expr_view h.first.now in
+    let last = expr_view h.last.now in
+    let by = option_map expr_view h.by.now in
+    let body = statements (map statement_view c.args.body.now) in
+    let one = of_code c.args.flows.now c.control_variable.new.fragments _ (rw c.in-Known.is at c.in-Ok.ensures) in
+    let fs1 : Flows = record { fragments = c.control_variable.new.fragments; nodes = c.args.flows.now.nodes } in
+    let two = of_code fs1 c.check_bound.new.fragments _ (rw c.in-Known-asked.is at c.in-Ok-check_bound.ensures) in
+    let fs2 : Flows = record { fragments = c.check_bound.new.fragments; nodes = c.args.flows.now.nodes } in
+    let three = of_code fs2 c.check_bound-2.new.fragments _ (rw c.in-Known-asked-2.is at c.in-Ok-check_bound-2.ensures) in
+    let fs3 : Flows = record { fragments = c.check_bound-2.new.fragments; nodes = c.args.flows.now.nodes } in
+    let four = of_code fs3 c.check_bound-2.new.fragments _ (rw c.in-Known-asked-3.is at c.in-Ok-check_step.ensures c.args.stand.now c.check_bound-2.new.fragments.nodes.items) in
+    let five = rw c.in-Known-asked-4.is at c.in-Ok-statements.ensures in
+    let n1 = c.control_variable.new.fragments.nodes.items in
+    let n2 = c.check_bound.new.fragments.nodes.items in
+    let n3 = c.check_bound-2.new.fragments.nodes.items in
+    let ms = c.statements.new.flows.fragments.nodes.items in
+    let v = c.in-Known.value in
+    let x = coded_in n1 v in
+    let low = coded_in n2 c.in-Known-asked.value in
+    let high = coded_in n3 c.in-Known-asked-2.value in
+    let step = c.in-Known-asked-3.value in
+    let same : to_z w64 (of_z w64 step) ≡ step = search rules in
+    let bound = λ (k : Context) (z : coded.Coded) (e : Expr). and_then (value k ws e) (bound_value k z (expr_at e)) in
+    let stepped = λ (k : Context). and_then (by_of (stand_in k s) by) (λ n. gives (or_one n)) in
+    let turned = λ (k : Context) (z from upto : coded.Coded) (n : ℤ). and_then (flow_of (stand_in k s) body) (λ b. gives (for_flow k z from upto n b)) in
+    let r = c.emit_for.result in
+    let f = flow_in c.statements.new.flows c.in-Known-asked-4.value 0 in
+    let second = rw c.in-Known-asked.is at c.in-Ok-check_bound.ensures in
+    let third = rw c.in-Known-asked-2.is at c.in-Ok-check_bound-2.ensures in
+    let v3 = coded_after third v (coded_after second v (stands_after one)) in
+    let low3 = coded_after third c.in-Known-asked.value (stands_after two) in
+    described r (flowing_after (λ k. control_variable k ws c.args.name) (λ z k. and_then (bound k z first) (λ from. and_then (bound k z last) (λ upto. and_then (stepped k) (turned k z from upto)))) r one
+    (flowing_after (λ k. bound k x first) (λ from k. and_then (bound k x last) (λ upto. and_then (stepped k) (turned k x from upto))) r two
+    (flowing_after (λ k. bound k x last) (λ upto k. and_then (stepped k) (turned k x low upto)) r
+    (described _ three (λ k. ap (λ (z : coded.Coded). bound k z last) (coded_later (rw c.in-Known-asked.is at c.in-Ok-check_bound.ensures).grows v one.there)))
+    (flowing_after stepped (λ n k. turned k x low high n) r four
+    (flowing_after (λ k. flow_of (stand_in k s) body) (λ b k. gives (for_flow k x low high step b)) r five
+    (described r (c.emit_for.ensures c.statements.new.notes f (stands_for five))
+    (λ k. ap (λ (n : ℤ). gives (for_flow k (coded_in ms v) (coded_in ms c.in-Known-asked.value) (coded_in ms c.in-Known-asked-2.value) n f)) same
+    ∙ ap (λ (z : coded.Coded). gives (for_flow k z (coded_in ms c.in-Known-asked.value) (coded_in ms c.in-Known-asked-2.value) step f)) (coded_kept five.grows v v3 ∙ coded_later (Grows-joined second.grows third.grows) v one.there)
+    ∙ ap (λ (z : coded.Coded). gives (for_flow k x z (coded_in ms c.in-Known-asked-2.value) step f)) (coded_kept five.grows c.in-Known-asked.value low3 ∙ coded_later third.grows c.in-Known-asked.value second.there)
+    ∙ ap (λ (z : coded.Coded). gives (for_flow k x low z step f)) (coded_kept five.grows c.in-Known-asked-2.value third.there))))))))
+    (λ k. for_given (stand_in k s) c.args.name first last by body)
 
 pub in_record-returns-in_err-withs : goal.in_record-returns-in_err-withs
 in_record-returns-in_err-withs g t c =
