@@ -22,3 +22,12 @@ returns-in_default g c =
           (other_operator (context_of f made s) op c.args.operator_at x.operand x.at y.operand y.at c.in_default.not-And c.in_default.not-Or c.in_default.not-In) in_hand told;
       there = c.on_alike.ensures.there;
     }
+
+pub returns-in-And-clause-told : goal.returns-in-And-clause-told
+returns-in-And-clause-told g c = rw c.in-And.is (rw c.in-And.is at c.logical.ensures.told)
+
+pub returns-in-Or-clause-told : goal.returns-in-Or-clause-told
+returns-in-Or-clause-told g c = rw c.in-Or.is (rw c.in-Or.is at c.logical-in-Or.ensures.told)
+
+pub returns-in-In-clause-told : goal.returns-in-In-clause-told
+returns-in-In-clause-told g c = rw c.in-In.is c.membership.ensures.told
