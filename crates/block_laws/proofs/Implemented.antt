@@ -28,6 +28,7 @@ use Rattle.m2_base.specs.declared.rows.RowMeaning.TheVariants.{OpenArray, Proc}
 use Rattle.m2_base.specs.declared.rows.RowMeaning.{RowMeaning}
 use Rattle.m2_base.specs.declared.trees.Ident.{Ident}
 use Rattle.row_laws.proofs.Joined.{none_left}
+use Rattle.row_laws.proofs.Lookups.{named_at}
 use Rattle.row_laws.proofs.Members.{each_in, each_at}
 use Rattle.row_laws.proofs.Whole.{whole-rows}
 use Rattle.row_laws.specs.Procedures.{IsDeclared, IsSeenAs, IsTypeOf}
@@ -38,7 +39,6 @@ use Rattle.block_laws.proofs.BlocksAt.{unit_made}
 use Rattle.block_laws.proofs.Chains.{Stands, blocks_stand}
 use Rattle.block_laws.proofs.OwnCalls.{same_cells}
 use Rattle.block_laws.proofs.UnitWorlds.{IsClear, declared, earlier, form, made, there, told}
-use Rattle.block_laws.proofs.Values.{named_at}
 use Rattle.block_laws.proofs.WorldCalls.{AreImplemented}
 use Rattle.block_laws.proofs.WorldCells.{in_main}
 

@@ -1,5 +1,5 @@
 -- What is found in rows that are in range, and the constants that operators and functions give, have values in range.
-use Rattle.std.specs.Prelude.{◌≡◌, ℕ, suc, ◌+◌, ◌-◌, ◌^◌, ◌<◌, ◌≤◌, ◌==◌, Bool, true, false, if◌then◌else◌, ◌⊎◌, nat_lt, List, [], ◌∷◌, length, drop, slice_get, slice_index_or, Option, Some, None, unwrap_or}
+use Rattle.std.specs.Prelude.{◌≡◌, ℕ, ◌-◌, ◌^◌, ◌<◌, ◌≤◌, ◌⊎◌, nat_lt, List, [], ◌∷◌, length, drop, slice_get, slice_index_or, Option, Some, None}
 use Rattle.std.proofs.Common.{ap, subst, sym, ◌∙◌, refl, inl, inr, arith}
 use Rattle.std.proofs.lemmas.List.{get_or_past}
 use Rattle.std.proofs.lemmas.Option.{get_or_from_slice_get, slice_get_cases}
@@ -24,24 +24,13 @@ use Rattle.m2_base.specs.declared.operands.Operand.TheVariants.{Constant, InErro
 use Rattle.m2_base.specs.declared.operands.Operand.{Operand}
 use Rattle.row_laws.specs.RowRanges.{HasOperands, RowsInRange}
 use Rattle.block_laws.specs.Sight.{IsDeclared, Sees}
+use Rattle.row_laws.proofs.Lookups.{named_at}
 
 -- ** What is found
 
 -- an entry that is a row of a scope, or none
 abbrev pub IsEntry : (seen : ℕ → Type 0) → Scene → Entry → Type 0
 IsEntry seen scene e = (row_meaning e.1 ≡ Broken) ⊎ (seen e.0.scope × (slice_get (rows_at scene.tables e.0.scope) e.0.ordinal ≡ Some e.1))
-
-pub named_at : (name : ℕ) (xs : List Row) (k : ℕ) (hit : ℕ × Row) → first_named name xs k ≡ Some hit → (j : ℕ) × (hit.0 ≡ k + j) × (slice_get xs j ≡ Some hit.1)
-named_at name [] k hit e = absurd (cc)
-named_at name (r ∷ xs) k hit e = by_name (r.name == name) (named_at name xs (k + 1) hit) e
-  where
-    by_name : (b : Bool) → (first_named name xs (k + 1) ≡ Some hit → (j : ℕ) × (hit.0 ≡ k + 1 + j) × (slice_get xs j ≡ Some hit.1))
-        → (if b then Some (k, r) else first_named name xs (k + 1)) ≡ Some hit → (j : ℕ) × (hit.0 ≡ k + j) × (slice_get (r ∷ xs) j ≡ Some hit.1)
-    by_name true rest h =
-        let e' : (k, r) ≡ hit = ap (λ (o : Option (ℕ × Row)). unwrap_or o (k, r)) h in
-        let f : k ≡ hit.0 = ap (λ (x : ℕ × Row). x.0) e' in
-        (0, omega (arith, f), ap (λ (x : ℕ × Row). Some x.1) e')
-    by_name false rest h = let found = rest h in (suc found.0, omega (arith, found.1), found.2)
 
 module _ (seen : ℕ → Type 0) (scene : Scene) where
   pub found_entry : (chain : List ℕ) (name : ℕ) → ((s : ℕ) → IsIn s chain → seen s) → WhereKept (lookup scene.tables chain name) (IsEntry seen scene)

@@ -247,7 +247,7 @@ module _ (u : UnitTrees) (w : World) (notes : ℕ → List HeadingNote) (has : F
       let defined : HasNumber Definition d.q.block (notes d.q.block.scope) d.heading d.stream k =
       subst (λ (kind : StreamKind). HasNumber kind d.q.block (notes d.q.block.scope) d.heading d.stream k) (form.definition (omega (arith, same, low))) d.number in
       let noted : HasNumber Definition d.q.block (notes s) d.heading d.stream k = subst (λ (z : ℕ). HasNumber Definition d.q.block (notes z) d.heading d.stream k) same defined in
-      let positive = positive_at d.q d.there in
+      let positive = known.positive d.q d.there in
       let it = has.imports s (subst (λ (z : ℕ). 0 < z) same positive) low other in
       let number : ℕ = import_number_beside u.own s in
       let there = foreign t k s d.typ low other in
@@ -263,9 +263,6 @@ module _ (u : UnitTrees) (w : World) (notes : ℕ → List HeadingNote) (has : F
         ),
         subst (λ (z : ℕ). names_what_is_there w (b.block.scope - home_of u) p (ProcValue z k) ≡ true) (sym import) (import-value w number k it.positive heading),
       )
-    where
-      positive_at : (q : BlockTree) → IsIn q (blocks_of u) → 0 < q.block.scope
-      positive_at q j = known.positive q j
 
   -- ** Targets
 

@@ -8,7 +8,7 @@ use Rattle.m2_base.specs.Statics.Cells.{capped, most_cells}
 use Rattle.m2_base.specs.Statics.Contexts.{Context, Scene, Source}
 use Rattle.m2_base.specs.Statics.Declarations.{declare}
 use Rattle.m2_base.specs.Statics.HeadingRows.{Placing, own_section_rows, own_sections_rows, parameter_row, parameter_rows, placing}
-use Rattle.m2_base.specs.Statics.Items.{Item, const_item, decl_item, heading_item, heading_items, import_item, import_items, proc_item, type_item, vars_item}
+use Rattle.m2_base.specs.Statics.Items.{Item, const_item, decl_item, heading_item, heading_items, import_item, import_items, proc_item, type_item, vars_item, items_of}
 use Rattle.m2_base.specs.Statics.Makes.{Makes, makes_named, with_rows}
 use Rattle.m2_base.specs.Statics.NameRows.{var_rows}
 use Rattle.m2_base.specs.Statics.ProcedureRows.{parameter_cells}
@@ -27,9 +27,8 @@ use Rattle.m2_base.specs.declared.rows.RowMeaning.TheVariants.{Var}
 use Rattle.m2_base.specs.declared.trees.Ident.{Ident}
 use Rattle.m2_base.specs.declared.trees.declarations.StreamKind.{StreamKind}
 use Rattle.m2_base.specs.declared.trees.declarations.StreamKind.TheVariants.{Definition, Main, Procedure}
-use Rattle.m2_base.proofs.EachLaws.{each_append}
 use Rattle.m2_base.proofs.SoundTypes.{either}
-use Rattle.row_laws.proofs.PlacingItems.{IsInner, decls_inner, imports_inner}
+use Rattle.row_laws.proofs.PlacingItems.{IsInner, behind_inner, items_inner}
 
 -- cells after others, none of them more than one too many
 abbrev Grows : (from to : ℕ) → Type 0
@@ -126,7 +125,7 @@ parameters_fit source tables b h headed few = by b.tree.heading headed few
         let a = at_item c 0 in
         let m = declare a b.tree.kind (heading_item g) cell in
         let own : Grows (capped (parameter_cells g.sections)) m.value.cell = sections_grow g.sections a (placing 0 (capped (parameter_cells g.sections)) []) (omega arith) in
-        let rest = items_grow (xs ++ ys) (with_rows c m.rows) b.tree.kind 1 m.value.cell (each_append IsInner xs ys (imports_inner b.tree.imports) (decls_inner b.tree.decls)) own.1 in
+        let rest = items_grow (xs ++ ys) (with_rows c m.rows) b.tree.kind 1 m.value.cell (behind_inner b.tree) own.1 in
         let up = own.0 in
         let further = rest.0 in
         let cells = ap (λ (x : Heading). parameter_cells x.sections) same in
@@ -144,26 +143,19 @@ cells_most scene cell (r ∷ rows) h = cells_most scene (cell_after scene cell (
 pub first_fits : (source : Source) (tables : List (List Row)) (b : BlockTree) (own : ℕ) → b.tree.kind ≡ Main → b.tree.heading ≡ None → b.block.own ≡ Some own
     → cells_after (scene_of tables b.block) 0 (rows_at (scene_of tables b.block).tables own) ≤ (declare_block source tables b).value.cell
 unfolding declare_block
-first_fits source tables b own main headless has = by b.tree.heading headless b.tree.kind main b.block.own has
+first_fits source tables b own main headless has = by b.tree.kind main b.block.own has
   where
     c : Context
     c = context_of source tables b
 
-    xs : List Item
-    xs = flat_map import_items b.tree.imports
-
-    ys : List Item
-    ys = map decl_item b.tree.decls
-
-    by : (o : Option Heading) → o ≡ None → (k : StreamKind) → k ≡ Main → (p : Option ℕ) → p ≡ Some own
-        → cells_after (scene_of tables b.block) 0 (rows_at (scene_of tables b.block).tables own) ≤ (declare_items c k 0 (first_cell (scene_of tables b.block) k p) (heading_items o ++ xs ++ ys)).value.cell
-    by (Some h) e k f p g = absurd cc
-    by None e Definition f p g = absurd cc
-    by None e Procedure f p g = absurd cc
-    by None e Main f None g = absurd cc
-    by None e Main f (Some q) g =
+    by : (k : StreamKind) → k ≡ Main → (p : Option ℕ) → p ≡ Some own
+        → cells_after (scene_of tables b.block) 0 (rows_at (scene_of tables b.block).tables own) ≤ (declare_items c k 0 (first_cell (scene_of tables b.block) k p) (items_of b.tree)).value.cell
+    by Definition f p g = absurd cc
+    by Procedure f p g = absurd cc
+    by Main f None g = absurd cc
+    by Main f (Some q) g =
         let same : q ≡ own = cc in
         let scene = scene_of tables b.block in
         let first = cells_after scene 0 (rows_at scene.tables q) in
-        let up = (items_grow (xs ++ ys) c Main 0 first (each_append IsInner xs ys (imports_inner b.tree.imports) (decls_inner b.tree.decls)) (cells_most scene 0 (rows_at scene.tables q) (omega arith))).0 in
-        subst (λ (n : ℕ). cells_after scene 0 (rows_at scene.tables n) ≤ (declare_items c Main 0 first (xs ++ ys)).value.cell) same up
+        let up = (items_grow (items_of b.tree) c Main 0 first (items_inner b.tree headless) (cells_most scene 0 (rows_at scene.tables q) (omega arith))).0 in
+        subst (λ (n : ℕ). cells_after scene 0 (rows_at scene.tables n) ≤ (declare_items c Main 0 first (items_of b.tree)).value.cell) same up

@@ -128,7 +128,7 @@ sections_bound (s ∷ sections) =
     let all = length-append (section_shapes s) (flat_map section_shapes sections) in
     omega (arith, first, rest, all)
 
-result_bound : (r : Option Qual) → result_cells r ≤ 1
+pub result_bound : (r : Option Qual) → result_cells r ≤ 1
 result_bound None = omega arith
 result_bound (Some q) = omega arith
 

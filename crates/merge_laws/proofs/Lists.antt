@@ -14,6 +14,7 @@ use Rattle.block_laws.specs.Worlds.{of_blocks, over_blocks, without_own}
 use Rattle.block_laws.proofs.BlocksAt.{before_at, before_of, in_at, scope_at}
 use Rattle.object_file.specs.FieldsOf.{AllBehind}
 use Rattle.row_laws.proofs.Members.{each_drop, each_take}
+use Rattle.std.proofs.lemmas.List.{drop-map, map-append, take-map}
 
 -- ** Blocks
 
@@ -85,23 +86,9 @@ pub zip_without : {A B : Type 0} (R : A → B → Type 0) (own : Option ℕ) (xs
 zip_without R None xs ys h = h
 zip_without R (Some s) xs ys h = zip_append R (take (s - 1) xs) (drop s xs) (take (s - 1) ys) (drop s ys) (zip_take R (s - 1) xs ys h) (zip_drop R s xs ys h)
 
-map_take : {A B : Type 0} (f : A → B) (n : ℕ) (xs : List A) → map f (take n xs) ≡ take n (map f xs)
-map_take f zero xs = refl
-map_take f (suc n) [] = refl
-map_take f (suc n) (x ∷ xs) = ap (λ ys. f x ∷ ys) (map_take f n xs)
-
-map_drop : {A B : Type 0} (f : A → B) (n : ℕ) (xs : List A) → map f (drop n xs) ≡ drop n (map f xs)
-map_drop f zero xs = refl
-map_drop f (suc n) [] = refl
-map_drop f (suc n) (x ∷ xs) = map_drop f n xs
-
-map_append : {A B : Type 0} (f : A → B) (xs ys : List A) → map f (xs ++ ys) ≡ map f xs ++ map f ys
-map_append f [] ys = refl
-map_append f (x ∷ xs) ys = ap (λ zs. f x ∷ zs) (map_append f xs ys)
-
 pub map_without : {A B : Type 0} (f : A → B) (own : Option ℕ) (xs : List A) → map f (without_own own xs) ≡ without_own own (map f xs)
 map_without f None xs = refl
-map_without f (Some s) xs = map_append f (take (s - 1) xs) (drop s xs) ∙ (λ i. map_take f (s - 1) xs i ++ map_drop f s xs i)
+map_without f (Some s) xs = map-append f (take (s - 1) xs) (drop s xs) ∙ (λ i. sym (take-map f (s - 1) xs) i ++ sym (drop-map f s xs) i)
 
 -- ** Items behind others
 

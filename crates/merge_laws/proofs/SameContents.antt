@@ -63,9 +63,6 @@ imports_are names source before (b ∷ blocks) (k ∷ ks) (o ∷ outputs) (tree 
 
 -- ** Procedures
 
-map_drop : {A B : Type 0} (f : A → B) (n : ℕ) (xs : List A) → map f (drop n xs) ≡ drop n (map f xs)
-map_drop f n xs = sym (drop-map f n xs)
-
 map_over : {A B : Type 0} (g : A → B) (f : List (List Row) → BlockTree → A) (source : Source) (before : List (List Row)) (blocks : List BlockTree) → map g (over_blocks f source before blocks) ≡ over_blocks (λ ts b. g (f ts b)) source before blocks
 map_over g f source before [] = refl
 map_over g f source before (b ∷ blocks) = ap (λ xs. g (f before b) ∷ xs) (map_over g f source (before ++ (declare_block source before b).rows ∷ []) blocks)
@@ -77,7 +74,7 @@ viewed (o ∷ outputs) = ap (λ ps. procedure_of o.code ∷ ps) (viewed outputs)
 -- the procedures of a unit's world are those of its codes
 pub codes_are : (u : UnitTrees) → map named.procedure_of (codes_in u) ≡ (unit_world u).procedures
 codes_are u =
-    map_drop named.procedure_of (length u.definitions) (of_blocks (λ before b. block_code u.source before (unit_rows u) b) u)
+    sym (drop-map named.procedure_of (length u.definitions) (of_blocks (λ before b. block_code u.source before (unit_rows u) b) u))
     ∙ ap (drop (length u.definitions)) (map_over named.procedure_of (λ before b. block_code u.source before (unit_rows u) b) u.source (standard_rows ∷ []) (blocks_of u))
 
 -- ** The whole

@@ -20,7 +20,6 @@ use Rattle.m2_base.specs.Statics.Cells.{most_cells}
 use Rattle.m2_base.specs.Statics.Contexts.{Source}
 use Rattle.m2_base.specs.Statics.FormedRows.{IsImportedBefore, IsSoundBlock}
 use Rattle.m2_base.specs.Statics.Items.{items_of}
-use Rattle.m2_base.specs.Statics.ProcedureRows.{result_cells}
 use Rattle.m2_base.specs.Statics.ReadStatements.{AreReadStatements}
 use Rattle.m2_base.specs.Statics.ReadTrees.{IsReadItem}
 use Rattle.m2_base.specs.Statics.UnitNotes.{complete_context}
@@ -30,7 +29,6 @@ use Rattle.m2_base.specs.Units.{AllDiffer, Front, IsNamed, IsUnit, TextOf, UnitT
 use Rattle.m2_base.specs.WholeTexts.{SpellsDefinition}
 use Rattle.m2_base.specs.declared.outputs.HeadingNote.{HeadingNote}
 use Rattle.m2_base.specs.declared.rows.Row.{Row}
-use Rattle.m2_base.specs.declared.trees.Qual.{Qual}
 use Rattle.row_laws.specs.RowRanges.{EachBlock}
 use Rattle.row_laws.proofs.Joined.{in_append}
 use Rattle.row_laws.proofs.Members.{each_got, each_in, each_take}
@@ -67,7 +65,7 @@ use Rattle.merge_laws.specs.UnitObject.{definitions_in, keyed, module_name, unit
 use Rattle.merge_laws.proofs.Exports.{IsExported, exported}
 use Rattle.merge_laws.proofs.Growing.{parameters_fit}
 use Rattle.merge_laws.proofs.Identifiers.{identifier_is}
-use Rattle.merge_laws.proofs.Imports.{block_headings, keyed_named, names_are_new}
+use Rattle.merge_laws.proofs.Imports.{block_headings, keyed_named, names_are_new, result_bound}
 use Rattle.merge_laws.proofs.Lists.{all_true, behind_both, behind_from, each_without, map_without, over_long, unit_from, zip_without}
 use Rattle.merge_laws.proofs.OwnCells.{own_cells_fit}
 use Rattle.merge_laws.proofs.UnitNames.{keys, keys_are_long, keys_are_named, keys_differ, keys_name_trees, keys_of_order, main_is_named, main_name}
@@ -303,11 +301,7 @@ module _ (texts : UnitTexts) (unit : IsUnit texts) (front : TextOf → Front) (w
 
   results_few : (h : Option Heading) → results_of h ≤ 1
   results_few None = omega arith
-  results_few (Some h) = by h.result
-    where
-      by : (r : Option Qual) → result_cells r ≤ 1
-      by None = omega arith
-      by (Some q) = omega arith
+  results_few (Some h) = result_bound h.result
 
   module _ (b : BlockTree) (i : IsIn b (blocks_of u)) (behind : home_of u ≤ b.block.scope) where
     room : HasRoom (made names u is b).value (run_of b (made names u is b).value (body_of (complete_context u.source (unit_rows u) b.block) b).value)

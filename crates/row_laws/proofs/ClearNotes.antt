@@ -25,8 +25,9 @@ use Rattle.m2_base.proofs.SceneLaws.{with-none, with-twice}
 use Rattle.m2_base.proofs.SoundTypes.{either}
 use Rattle.row_laws.specs.Clear.{IsNamedTarget, LeadsOn, HasClear, IsClear, IsClearRow, IsNamable, IsTarget}
 use Rattle.row_laws.proofs.Choices.{either_by}
-use Rattle.row_laws.proofs.ClearRows.{Found, IsClearScene, behind_clear, clear_with, found_row, have_clear, place_clear, standard_target}
+use Rattle.row_laws.proofs.ClearRows.{IsClearScene, behind_clear, clear_with, have_clear, place_clear, standard_target}
 use Rattle.row_laws.proofs.Joined.{none_left}
+use Rattle.row_laws.proofs.Lookups.{Found, found_row}
 
 -- ** What is given and made
 

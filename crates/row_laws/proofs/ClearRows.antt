@@ -1,9 +1,9 @@
 -- Scenes in which no row has a type in error, and what is found in them.
-use Rattle.std.specs.Prelude.{◌≡◌, ◌≢◌, ℕ, zero, suc, ◌+◌, ◌-◌, ◌*◌, ◌/◌, ◌%◌, ◌^◌, ◌<◌, ◌≤◌, ◌==◌, Bool, true, false, if◌then◌else◌, ◌⊎◌, List, [], ◌∷◌, ◌++◌, length, map, pos, slice_get, slice_index_or, Option, Some, None, unwrap_or}
+use Rattle.std.specs.Prelude.{◌≡◌, ◌≢◌, ℕ, zero, suc, ◌+◌, ◌-◌, ◌*◌, ◌/◌, ◌%◌, ◌^◌, ◌<◌, ◌≤◌, ◌==◌, true, false, ◌⊎◌, List, [], ◌∷◌, ◌++◌, length, map, pos, slice_get, slice_index_or, Option, Some, None}
 use Rattle.std.proofs.Common.{ap, subst, sym, ◌∙◌, refl, inl, inr, arith}
-use Rattle.std.proofs.lemmas.Bool.{and_from, and_parts, both_ways, cases_order, eq-eqb, eqb-true}
+use Rattle.std.proofs.lemmas.Bool.{and_from, and_parts, both_ways, cases_order, eq-eqb, eqb-true, false_from_ne_true}
 use Rattle.std.proofs.lemmas.List.{append-nil, get_or_append_left, get_or_past, get_or-append-add}
-use Rattle.std.proofs.lemmas.Option.{get_or_from_slice_get, slice_get_cases}
+use Rattle.std.proofs.lemmas.Option.{slice_get_cases}
 use Rattle.m2_base.specs.Lists.{Each, WhereKept}
 use Rattle.m2_base.specs.Rows.{at_place, is_same_place, number_of, place_of, row_of, row_meaning}
 use Rattle.m2_base.specs.declared.rows.Place.{Place}
@@ -11,7 +11,7 @@ use Rattle.m2_base.specs.declared.rows.Row.{Row}
 use Rattle.m2_base.specs.declared.rows.RowMeaning.{RowMeaning}
 use Rattle.m2_base.specs.declared.rows.RowMeaning.TheVariants.{Alias, Broken, Cardinal, Character, Enum, Integer, Nil, Opaque, ProcType, Set, Subrange, Text, TypeName, Whole}
 use Rattle.m2_base.specs.Standard.{bit_range, broken, cardinal, is_standard, named_rows, standard_meanings, standard_rows}
-use Rattle.m2_base.specs.Tables.{first_named, found_or, lookup, rows_at}
+use Rattle.m2_base.specs.Tables.{rows_at}
 use Rattle.m2_base.specs.Statics.Contexts.{Scene, row_at}
 use Rattle.m2_base.specs.Statics.Lookup.{Entry, entry_in}
 use Rattle.m2_base.specs.Statics.Makes.{scene_with}
@@ -21,14 +21,11 @@ use Rattle.m2_base.proofs.SceneLaws.{IsOpen, open-with, own_of, own-with}
 use Rattle.m2_base.proofs.SoundTypes.{either}
 use Rattle.m2_base.proofs.StandardLaws.{standard_between}
 use Rattle.row_laws.proofs.Joined.{front_or_back}
+use Rattle.row_laws.proofs.Lookups.{row_of_place, Found, found_row}
 use Rattle.row_laws.proofs.Members.{each_at, each_index}
 use Rattle.row_laws.proofs.Settled.{other_rows, rows_stay}
 
 -- ** Types that aren't in error
-
-pub never_true : (b : Bool) → (b ≡ true → ⊥) → b ≡ false
-never_true true h = absurd (h refl)
-never_true false h = refl
 
 -- a number names the place of parts in error only if it is that place's
 low_number : (n s o : ℕ) → n ≡ s * 2 ^ 32 + o → n / 2 ^ 32 ≡ 0 → n % 2 ^ 32 ≡ 10 → (s ≡ 0) × (o ≡ 10)
@@ -38,7 +35,7 @@ low_number n s o e h k = (omega (arith, e, h, k), omega (arith, e, h, k))
 pub clear_again : (t : Place) → IsClear t → IsClear (place_of (number_of t))
 clear_again t h =
     let n = t.scope * 2 ^ 32 + t.ordinal in
-    never_true (is_same_place (place_of (number_of t)) broken) (λ e.
+    false_from_ne_true (is_same_place (place_of (number_of t)) broken) (λ e.
     let parts = and_parts (n / 2 ^ 32 == 0) (n % 2 ^ 32 == 10) e in
     let is = low_number n t.scope t.ordinal refl (eqb-true (n / 2 ^ 32) 0 parts.0) (eqb-true (n % 2 ^ 32) 10 parts.1) in
     both_ways (is_same_place t broken) h (and_from _ _ (eq-eqb t.scope 0 is.0) (eq-eqb t.ordinal 10 is.1)))
@@ -46,7 +43,7 @@ clear_again t h =
 -- a place of another scope than the standard one
 pub behind_clear : (s o : ℕ) → 0 < s → IsClear (at_place s o)
 behind_clear s o h =
-    never_true (is_same_place (at_place s o) broken) (λ e. let zero_is = eqb-true s 0 (and_parts (s == 0) (o == 10) e).0 in omega (arith, h, zero_is))
+    false_from_ne_true (is_same_place (at_place s o) broken) (λ e. let zero_is = eqb-true s 0 (and_parts (s == 0) (o == 10) e).0 in omega (arith, h, zero_is))
 
 -- ** Clear rows
 
@@ -60,53 +57,6 @@ pub record IsClearScene (scene : Scene) : Type 0 where
   pub positive : 0 < scene.block.scope
   pub standard : rows_at scene.tables 0 ≡ standard_rows
   pub rows : AreClear scene.tables
-
--- ** What is found
-
-named_at : (name : ℕ) (xs : List Row) (k : ℕ) (hit : ℕ × Row) → first_named name xs k ≡ Some hit → (j : ℕ) × (hit.0 ≡ k + j) × (slice_get xs j ≡ Some hit.1) × (hit.1.name ≡ name)
-named_at name [] k hit e = absurd (cc)
-named_at name (r ∷ xs) k hit e = by_test (r.name == name) refl (named_at name xs (k + 1) hit) e
-  where
-    by_test : (b : Bool) → (r.name == name) ≡ b → (first_named name xs (k + 1) ≡ Some hit → (j : ℕ) × (hit.0 ≡ k + 1 + j) × (slice_get xs j ≡ Some hit.1) × (hit.1.name ≡ name))
-        → (if b then Some (k, r) else first_named name xs (k + 1)) ≡ Some hit → (j : ℕ) × (hit.0 ≡ k + j) × (slice_get (r ∷ xs) j ≡ Some hit.1) × (hit.1.name ≡ name)
-    by_test true t rest h =
-        let e' : (k, r) ≡ hit = ap (λ (o : Option (ℕ × Row)). unwrap_or o (k, r)) h in
-        let f : k ≡ hit.0 = ap (λ (x : ℕ × Row). x.0) e' in
-        (0, omega (arith, f), ap (λ (x : ℕ × Row). Some x.1) e', ap (λ (x : ℕ × Row). x.1.name) (sym e') ∙ eqb-true r.name name t)
-    by_test false t rest h = let found = rest h in (suc found.0, (let f = found.1 in omega (arith, f)), found.2, found.3)
-
--- an entry whose row has P and the name, and stands at its place
-pub record Found (P : Row → Type 0) (tables : List (List Row)) (name : ℕ) (e : Entry) : Type 0 where
-  pub holds : P e.1
-  pub named : e.1.name ≡ name
-  pub stands : row_at tables e.0 ≡ e.1
-
-module _ (P : Row → Type 0) (tables : List (List Row)) (all : (s o : ℕ) (r : Row) → slice_get (rows_at tables s) o ≡ Some r → P r) where
-  pub found_row : (chain : List ℕ) (name : ℕ) → WhereKept (lookup tables chain name) (Found P tables name)
-  found_row [] name = tt
-  found_row (s ∷ chain) name = by_hit (first_named name (rows_at tables s) 0) refl (found_row chain name)
-    where
-      by_hit : (o : Option (ℕ × Row)) → first_named name (rows_at tables s) 0 ≡ o → WhereKept (lookup tables chain name) (Found P tables name)
-          → WhereKept (found_or s o (lookup tables chain name)) (Found P tables name)
-      by_hit None e rest = rest
-      by_hit (Some hit) e rest =
-          let at = named_at name (rows_at tables s) 0 hit e in
-          let same : hit.0 ≡ at.0 = let h = at.1 in omega (arith, h) in
-          record {
-            holds = all s at.0 hit.1 at.2;
-            named = at.3;
-            stands = ap (λ n. slice_index_or (rows_at tables s) n (row_of 0 0 Broken)) same ∙ get_or_from_slice_get (rows_at tables s) at.0 hit.1 (row_of 0 0 Broken) at.2;
-          }
-
-  -- the row at a place, also where it is missing
-  pub row_of_place : P (row_of 0 0 Broken) → (p : Place) → P (row_at tables p)
-  row_of_place none p = by_case ((slice_get_cases (rows_at tables p.scope) p.ordinal).1)
-    where
-      by_case : ((x : Row) × (p.ordinal < length (rows_at tables p.scope)) × (slice_get (rows_at tables p.scope) p.ordinal ≡ Some x) × (slice_index_or (rows_at tables p.scope) p.ordinal x ≡ x))
-          ⊎ ((length (rows_at tables p.scope) ≤ p.ordinal) × (slice_get (rows_at tables p.scope) p.ordinal ≡ None))
-          → P (row_at tables p)
-      by_case (inl h) = subst P (sym (get_or_from_slice_get (rows_at tables p.scope) p.ordinal h.0 (row_of 0 0 Broken) h.2)) (all p.scope p.ordinal h.0 h.2)
-      by_case (inr h) = subst P (sym (get_or_past (rows_at tables p.scope) p.ordinal (row_of 0 0 Broken) h.0)) none
 
 pub have_clear : (tables : List (List Row)) → AreClear tables → HaveClear tables
 have_clear tables all s o r e = (all s o r e).0

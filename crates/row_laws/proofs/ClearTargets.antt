@@ -2,6 +2,7 @@
 -- it imports is there.
 use Rattle.std.specs.Prelude.{◌≡◌, ℕ, zero, suc, ◌==◌, true, List, [], ◌∷◌, ◌++◌, slice_get, slice_index_or, Option, Some, None, option_map}
 use Rattle.std.proofs.Common.{ap, subst, sym, ◌∙◌, refl}
+use Rattle.std.proofs.lemmas.Bool.{false_from_ne_true}
 use Rattle.std.proofs.lemmas.Option.{get_or_from_slice_get}
 use Rattle.m2_base.specs.Gives.{Gives, gives}
 use Rattle.m2_base.specs.Lists.{Each, WhereKept}
@@ -23,9 +24,10 @@ use Rattle.m2_base.proofs.EachLaws.{each_found, each_then}
 use Rattle.m2_base.proofs.SceneLaws.{IsOpen, own_of, own-with}
 use Rattle.m2_base.proofs.TypeLaws.{same_place-is}
 use Rattle.row_laws.specs.Clear.{IsClear, IsTarget, LeadsOn}
-use Rattle.row_laws.proofs.ClearRows.{IsClearScene, behind_clear, never_true, row_of_place}
+use Rattle.row_laws.proofs.ClearRows.{IsClearScene, behind_clear}
 use Rattle.row_laws.proofs.Choices.{either_by}
 use Rattle.row_laws.proofs.ClearNotes.{GivesFine, given, refused}
+use Rattle.row_laws.proofs.Lookups.{row_of_place}
 
 -- ** What a block imports
 
@@ -82,7 +84,7 @@ module _ (c : Context) (clear : IsClearScene c.scene) where
   -- the row of parts in error is no type's name
   named_clear : (p : Place) (t : Place) → row_meaning (row_at c.scene.tables p) ≡ TypeName t → IsClear p
   named_clear p t e =
-      never_true (is_same_place p broken) (λ b.
+      false_from_ne_true (is_same_place p broken) (λ b.
       let meaning : row_meaning (row_at c.scene.tables p) ≡ Broken =
       ap (λ (q : Place). row_meaning (row_at c.scene.tables q)) (same_place-is p broken b) ∙ ap (λ (rows : List Row). row_meaning (slice_index_or rows 10 (row_of 0 0 Broken))) clear.standard in
       let none : TypeName t ≡ Broken = sym e ∙ meaning in

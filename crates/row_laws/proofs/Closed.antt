@@ -1,9 +1,9 @@
 -- Scenes in which no type's name is an open array's, and what is found in them.
-use Rattle.std.specs.Prelude.{◌≡◌, ℕ, suc, ◌+◌, ◌*◌, ◌^◌, ◌<◌, ◌≤◌, ◌==◌, Bool, true, false, if◌then◌else◌, ◌⊎◌, List, [], ◌∷◌, ◌++◌, drop, length, nat_lt, slice_get, slice_index_or, Option, Some, None, unwrap_or}
-use Rattle.std.proofs.Common.{ap, subst, sym, ◌∙◌, refl, inl, inr, arith}
+use Rattle.std.specs.Prelude.{◌≡◌, ℕ, ◌+◌, ◌*◌, ◌^◌, ◌<◌, ◌≤◌, ◌==◌, false, ◌⊎◌, List, [], ◌∷◌, ◌++◌, drop, length, nat_lt, slice_get, slice_index_or, Option, Some, None}
+use Rattle.std.proofs.Common.{ap, subst, ◌∙◌, refl, inl, inr, arith}
 use Rattle.std.proofs.lemmas.Bool.{cases_order}
-use Rattle.std.proofs.lemmas.List.{get_or_past, get_or-set_other}
-use Rattle.std.proofs.lemmas.Option.{get_or_from_slice_get, slice_get_cases, slice_get_within}
+use Rattle.std.proofs.lemmas.List.{get_or-set_other}
+use Rattle.std.proofs.lemmas.Option.{slice_get_within}
 use Rattle.m2_base.specs.Gives.{Gives, gives}
 use Rattle.m2_base.specs.Lists.{WhereKept}
 use Rattle.m2_base.specs.Rows.{at_place, row_of, row_meaning, Fits, HasSmallOrdinals}
@@ -15,7 +15,7 @@ use Rattle.m2_base.specs.declared.sites.Named.{Named}
 use Rattle.m2_base.specs.declared.trees.Ident.{Ident}
 use Rattle.m2_base.specs.declared.trees.Qual.{Qual}
 use Rattle.m2_base.specs.Standard.{is_standard, standard_place, broken}
-use Rattle.m2_base.specs.Tables.{first_named, found_or, lookup, rows_at}
+use Rattle.m2_base.specs.Tables.{lookup, rows_at}
 use Rattle.m2_base.specs.Statics.Assignable.{is_open_array, is_open_kind}
 use Rattle.m2_base.specs.Statics.Contexts.{Context, Scene, row_at}
 use Rattle.m2_base.specs.Statics.Lookup.{Entry, entry_at, entry_in, first_entry}
@@ -30,7 +30,8 @@ use Rattle.row_laws.proofs.Numbers.{Agrees, AllAgree}
 use Rattle.row_laws.proofs.Agreeing.{Ready}
 use Rattle.row_laws.proofs.Joined.{front_or_back}
 use Rattle.row_laws.proofs.Later.{agree_each}
-use Rattle.row_laws.proofs.Members.{each_at}
+use Rattle.row_laws.proofs.Lookups.{Found, found_row, row_of_place}
+use Rattle.row_laws.proofs.Members.{each_at, kept_then}
 use Rattle.row_laws.proofs.Settled.{row_stays}
 
 -- a type's name is no open array's
@@ -51,34 +52,13 @@ agrees_named scene m h = tt
 
 -- ** What is found
 
-named_at : (name : ℕ) (xs : List Row) (k : ℕ) (hit : ℕ × Row) → first_named name xs k ≡ Some hit → (j : ℕ) × (slice_get xs j ≡ Some hit.1)
-named_at name [] k hit e = absurd (cc)
-named_at name (r ∷ xs) k hit e = by_test (r.name == name) (named_at name xs (k + 1) hit) e
-  where
-    by_test : (b : Bool) → (first_named name xs (k + 1) ≡ Some hit → (j : ℕ) × (slice_get xs j ≡ Some hit.1))
-        → (if b then Some (k, r) else first_named name xs (k + 1)) ≡ Some hit → (j : ℕ) × (slice_get (r ∷ xs) j ≡ Some hit.1)
-    by_test true rest h = (0, ap (λ (x : ℕ × Row). Some x.1) (ap (λ (o : Option (ℕ × Row)). unwrap_or o (k, r)) h))
-    by_test false rest h = let found = rest h in (suc found.0, found.1)
-
 found_closed : (scene : Scene) → IsClosed scene → (chain : List ℕ) (name : ℕ) → WhereKept (lookup scene.tables chain name) (IsClosedEntry scene)
-found_closed scene closed [] name = tt
-found_closed scene closed (s ∷ chain) name = by_hit (first_named name (rows_at scene.tables s) 0) refl (found_closed scene closed chain name)
-  where
-    by_hit : (o : Option (ℕ × Row)) → first_named name (rows_at scene.tables s) 0 ≡ o → WhereKept (lookup scene.tables chain name) (IsClosedEntry scene)
-        → WhereKept (found_or s o (lookup scene.tables chain name)) (IsClosedEntry scene)
-    by_hit None e rest = rest
-    by_hit (Some hit) e rest = let at = named_at name (rows_at scene.tables s) 0 hit e in closed s at.0 hit.1 at.1
+found_closed scene closed chain name =
+    let P : Row → Type 0 = λ (r : Row). IsNamed scene (row_meaning r) in
+    kept_then (Found P scene.tables name) (IsClosedEntry scene) (lookup scene.tables chain name) (λ e f. f.holds) (found_row P scene.tables closed chain name)
 
 row_closed : (scene : Scene) → IsClosed scene → (p : Place) → IsNamed scene (row_meaning (row_at scene.tables p))
-row_closed scene closed p = by_case ((slice_get_cases (rows_at scene.tables p.scope) p.ordinal).1)
-  where
-    by_case : ((x : Row) × (p.ordinal < length (rows_at scene.tables p.scope)) × (slice_get (rows_at scene.tables p.scope) p.ordinal ≡ Some x) × (slice_index_or (rows_at scene.tables p.scope) p.ordinal x ≡ x))
-        ⊎ ((length (rows_at scene.tables p.scope) ≤ p.ordinal) × (slice_get (rows_at scene.tables p.scope) p.ordinal ≡ None))
-        → IsNamed scene (row_meaning (row_at scene.tables p))
-    by_case (inl h) =
-        subst (λ (r : Row). IsNamed scene (row_meaning r)) (sym (get_or_from_slice_get (rows_at scene.tables p.scope) p.ordinal h.0 (row_of 0 0 Broken) h.2))
-        (closed p.scope p.ordinal h.0 h.2)
-    by_case (inr h) = subst (λ (r : Row). IsNamed scene (row_meaning r)) (sym (get_or_past (rows_at scene.tables p.scope) p.ordinal (row_of 0 0 Broken) h.0)) tt
+row_closed scene closed p = row_of_place (λ r. IsNamed scene (row_meaning r)) scene.tables closed tt p
 
 followed_closed : (scene : Scene) → IsClosed scene → (e : Entry) (m : RowMeaning) → IsClosedEntry scene e → IsClosedEntry scene (followed_by scene e m)
 followed_closed scene closed e (Alias p) h = row_closed scene closed p

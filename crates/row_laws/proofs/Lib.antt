@@ -1,5 +1,6 @@
 pub mod Choices
 pub mod Members
+pub mod Lookups
 pub mod Numbers
 pub mod Settled
 pub mod Agreeing

@@ -1,7 +1,7 @@
 -- What holds of each element of a list, and of one that is there.
-use Rattle.std.specs.Prelude.{◌≡◌, ℕ, zero, suc, List, [], ◌∷◌, slice_get, Some, drop, take, length, slice_index_or, ◌<◌}
+use Rattle.std.specs.Prelude.{◌≡◌, ℕ, zero, suc, List, [], ◌∷◌, slice_get, Some, drop, take, length, slice_index_or, ◌<◌, None, Option}
 use Rattle.std.proofs.Common.{inl, inr, refl, subst, sym, arith}
-use Rattle.m2_base.specs.Lists.{Each, IsIn}
+use Rattle.m2_base.specs.Lists.{Each, IsIn, WhereKept}
 use Rattle.m2_base.proofs.NoRepeats.{some_is}
 
 pub each_at : {A : Type 0} (P : A → Type 0) (xs : List A) → Each P xs → (k : ℕ) (x : A) → slice_get xs k ≡ Some x → P x
@@ -38,3 +38,8 @@ pub each_drop : {A : Type 0} (P : A → Type 0) (n : ℕ) (xs : List A) → Each
 each_drop P zero xs h = h
 each_drop P (suc n) [] h = tt
 each_drop P (suc n) (x ∷ xs) h = each_drop P n xs h.1
+
+-- of what is there, if there is something
+pub kept_then : {A : Type 0} (P Q : A → Type 0) (o : Option A) → ((x : A) → P x → Q x) → WhereKept o P → WhereKept o Q
+kept_then P Q None f h = tt
+kept_then P Q (Some x) f h = f x h

@@ -1,5 +1,5 @@
 -- The cells of an own definition's variables are those that its rows count.
-use Rattle.std.specs.Prelude.{◌≡◌, ℕ, ◌+◌, ◌^◌, ◌<◌, List, [], ◌∷◌, ◌++◌, map, flat_map, Option, Some, None}
+use Rattle.std.specs.Prelude.{◌≡◌, ℕ, ◌+◌, ◌^◌, ◌<◌, List, [], ◌∷◌, ◌++◌, Option, Some, None}
 use Rattle.std.proofs.Common.{ap, subst, sym, ◌∙◌, refl}
 use Rattle.std.proofs.lemmas.List.{append-nil}
 use Rattle.m2_base.specs.Lists.{Each}
@@ -13,13 +13,12 @@ use Rattle.m2_base.specs.declared.trees.Ident.{Ident}
 use Rattle.m2_base.specs.declared.trees.declarations.StreamKind.{StreamKind}
 use Rattle.m2_base.specs.declared.trees.declarations.StreamKind.TheVariants.{Main, Definition, Procedure}
 use Rattle.m2_base.specs.Standard.{is_standard}
-use Rattle.m2_base.specs.Trees.{Heading}
 use Rattle.m2_base.specs.Statics.BlockRows.{cell_after, cells_after, declare_block, declare_items, at_item, brought_in, context_of, scene_of, first_cell}
 use Rattle.m2_base.specs.Statics.Blocks.{BlockTree}
 use Rattle.m2_base.specs.Statics.Cells.{capped}
 use Rattle.m2_base.specs.Statics.Contexts.{Context, Scene, Source}
 use Rattle.m2_base.specs.Statics.Declarations.{declare}
-use Rattle.m2_base.specs.Statics.Items.{Item, heading_item, import_item, const_item, type_item, vars_item, proc_item, heading_items, import_items, decl_item, items_of}
+use Rattle.m2_base.specs.Statics.Items.{Item, heading_item, import_item, const_item, type_item, vars_item, proc_item, items_of}
 use Rattle.m2_base.specs.Statics.Lookup.{has_name}
 use Rattle.m2_base.specs.Statics.Makes.{Makes, scene_with, with_rows, makes_named}
 use Rattle.m2_base.specs.Statics.NameRows.{var_rows}
@@ -28,7 +27,6 @@ use Rattle.m2_base.specs.Statics.Shapes.{Shape, type_shapes}
 use Rattle.m2_base.specs.Statics.SoundTrees.{IsSoundItem}
 use Rattle.m2_base.specs.Statics.TypeRows.{type_rows}
 use Rattle.m2_base.specs.Statics.Types.{meaning_at, opaque_as, size_by, size_of, stands_as, stands_for}
-use Rattle.m2_base.proofs.EachLaws.{each_append}
 use Rattle.m2_base.proofs.ItemLaws.{item_of}
 use Rattle.m2_base.proofs.RowLaws.{place_of-number_of}
 use Rattle.m2_base.proofs.SceneLaws.{with-twice}
@@ -39,7 +37,7 @@ use Rattle.m2_base.proofs.SoundTypes.{either}
 use Rattle.row_laws.proofs.Agreeing.{Ready, ready-left, ready-right}
 use Rattle.row_laws.proofs.ImportedRows.{alias_shapes, import_aliases, own_shaped, ready-item, ready-next}
 use Rattle.row_laws.proofs.Placing.{IsOther, others}
-use Rattle.row_laws.proofs.PlacingItems.{IsInner, decls_inner, imports_inner}
+use Rattle.row_laws.proofs.PlacingItems.{IsInner, items_inner}
 use Rattle.row_laws.proofs.Settled.{row_stays}
 use Rattle.row_laws.proofs.TypeShapes.{HaveKinds, MeanKinds, item_kinds, kind_of_meaning, shaped_means, type_kinds}
 
@@ -166,24 +164,8 @@ module _ (names : ℕ) (scene : Scene) where
       → b.block.own ≡ None → b.tree.heading ≡ None → Sees scene (scene_with (scene_of tables b.block) (declare_block source tables b).rows)
       → cells_after scene 0 (declare_block source tables b).rows ≡ (declare_block source tables b).value.cell
   unfolding declare_block
-  block_counted source tables b good ready own none sees = by_heading b.tree.heading none good ready sees
-    where
-      c : Context
-      c = context_of source tables b
-
-      cell : ℕ
-      cell = first_cell (scene_of tables b.block) b.tree.kind b.block.own
-
-      xs : List Item
-      xs = flat_map import_items b.tree.imports
-
-      ys : List Item
-      ys = map decl_item b.tree.decls
-
-      by_heading : (o : Option Heading) → o ≡ None → Each (IsSoundItem names) (heading_items o ++ xs ++ ys) → Ready names c (declare_items c b.tree.kind 0 cell (heading_items o ++ xs ++ ys)).rows
-          → Sees scene (scene_with c.scene (declare_items c b.tree.kind 0 cell (heading_items o ++ xs ++ ys)).rows)
-          → cells_after scene 0 (declare_items c b.tree.kind 0 cell (heading_items o ++ xs ++ ys)).rows ≡ (declare_items c b.tree.kind 0 cell (heading_items o ++ xs ++ ys)).value.cell
-      by_heading None e g r s =
-          ap (λ n. cells_after scene n (declare_items c b.tree.kind 0 cell (xs ++ ys)).rows) (sym (first_is (scene_of tables b.block) b.tree.kind b.block.own own))
-          ∙ items_counted (xs ++ ys) c b.tree.kind 0 cell (each_append IsInner xs ys (imports_inner b.tree.imports) (decls_inner b.tree.decls)) g r own s
-      by_heading (Some h) e g r s = absurd (cc)
+  block_counted source tables b good ready own none sees =
+      let c = context_of source tables b in
+      let cell = first_cell (scene_of tables b.block) b.tree.kind b.block.own in
+      ap (λ n. cells_after scene n (declare_items c b.tree.kind 0 cell (items_of b.tree)).rows) (sym (first_is (scene_of tables b.block) b.tree.kind b.block.own own))
+      ∙ items_counted (items_of b.tree) c b.tree.kind 0 cell (items_inner b.tree none) good ready own sees

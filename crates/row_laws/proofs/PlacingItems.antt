@@ -7,7 +7,7 @@ use Rattle.m2_base.specs.Rows.{row_meaning}
 use Rattle.m2_base.specs.declared.rows.Row.{Row}
 use Rattle.m2_base.specs.declared.trees.Ident.{Ident}
 use Rattle.m2_base.specs.declared.trees.declarations.StreamKind.{StreamKind}
-use Rattle.m2_base.specs.Trees.{Decl, const_decl, type_decl, vars_decl, proc_decl, Import, Heading}
+use Rattle.m2_base.specs.Trees.{Decl, const_decl, type_decl, vars_decl, proc_decl, Import, Heading, Stream}
 use Rattle.m2_base.specs.Statics.BlockRows.{declare_block, declare_items, at_item, brought_in, context_of, scene_of, first_cell}
 use Rattle.m2_base.specs.Statics.Blocks.{BlockTree}
 use Rattle.m2_base.specs.Statics.Cells.{capped, most_cells}
@@ -15,7 +15,7 @@ use Rattle.m2_base.specs.Statics.Contexts.{Context, Source}
 use Rattle.m2_base.specs.Statics.Declarations.{declare}
 use Rattle.m2_base.specs.Statics.Effects.{Effect, BlockEffects}
 use Rattle.m2_base.specs.Statics.HeadingRows.{placing, own_sections_rows}
-use Rattle.m2_base.specs.Statics.Items.{Item, heading_item, import_item, const_item, type_item, vars_item, proc_item, heading_items, import_items, decl_item}
+use Rattle.m2_base.specs.Statics.Items.{Item, heading_item, import_item, const_item, type_item, vars_item, proc_item, heading_items, import_items, decl_item, items_of}
 use Rattle.m2_base.specs.Statics.Makes.{Makes, with_rows}
 use Rattle.m2_base.specs.Statics.NameRows.{var_rows}
 use Rattle.m2_base.specs.Statics.ProcedureRows.{parameter_cells}
@@ -35,7 +35,7 @@ abbrev pub IsInner : Item → Type 0
 IsInner (heading_item h) = ⊥
 IsInner other = Unit {0}
 
-pub imports_inner : (imports : List Import) → Each IsInner (flat_map import_items imports)
+imports_inner : (imports : List Import) → Each IsInner (flat_map import_items imports)
 imports_inner [] = tt
 imports_inner (i ∷ imports) = each_append IsInner (import_items i) _ (names_inner i.names) (imports_inner imports)
   where
@@ -43,12 +43,19 @@ imports_inner (i ∷ imports) = each_append IsInner (import_items i) _ (names_in
     names_inner [] = tt
     names_inner (n ∷ names) = (tt, names_inner names)
 
-pub decls_inner : (decls : List Decl) → Each IsInner (map decl_item decls)
+decls_inner : (decls : List Decl) → Each IsInner (map decl_item decls)
 decls_inner [] = tt
 decls_inner (const_decl i e ∷ decls) = (tt, decls_inner decls)
 decls_inner (type_decl i t ∷ decls) = (tt, decls_inner decls)
 decls_inner (vars_decl is t ∷ decls) = (tt, decls_inner decls)
 decls_inner (proc_decl h s ∷ decls) = (tt, decls_inner decls)
+
+-- no item behind the heading is one
+pub behind_inner : (tree : Stream) → Each IsInner (flat_map import_items tree.imports ++ map decl_item tree.decls)
+behind_inner tree = each_append IsInner (flat_map import_items tree.imports) _ (imports_inner tree.imports) (decls_inner tree.decls)
+
+pub items_inner : (tree : Stream) → tree.heading ≡ None → Each IsInner (items_of tree)
+items_inner tree none = subst (λ (o : Option Heading). Each IsInner (heading_items o ++ flat_map import_items tree.imports ++ map decl_item tree.decls)) (sym none) (behind_inner tree)
 
 -- what an item makes: its rows are placed, and nothing is copied
 record ItemPlaced (cell : ℕ) (m : Makes Effect) : Type 0 where
@@ -165,28 +172,12 @@ module _ (names : ℕ) where
   block_placed source tables b ready =
       all_placed b.tree.heading (flat_map import_items b.tree.imports) (map decl_item b.tree.decls) (context_of source tables b) b.tree.kind
       (first_cell (scene_of tables b.block) b.tree.kind b.block.own)
-      (each_append IsInner (flat_map import_items b.tree.imports) _ (imports_inner b.tree.imports) (decls_inner b.tree.decls)) ready (first_cell_most (scene_of tables b.block) b.tree.kind b.block.own)
+      (behind_inner b.tree) ready (first_cell_most (scene_of tables b.block) b.tree.kind b.block.own)
 
   -- a block without a heading has its first cell's cells too
   pub block_more : (source : Source) (tables : List (List Row)) (b : BlockTree) → Ready names (context_of source tables b) (declare_block source tables b).rows → b.tree.heading ≡ None
       → first_cell (scene_of tables b.block) b.tree.kind b.block.own ≤ (declare_block source tables b).value.cell
   unfolding declare_block
   block_more source tables b ready none =
-      by_heading b.tree.heading none ready
-    where
-      c : Context
-      c = context_of source tables b
-
-      cell : ℕ
-      cell = first_cell (scene_of tables b.block) b.tree.kind b.block.own
-
-      xs : List Item
-      xs = flat_map import_items b.tree.imports
-
-      ys : List Item
-      ys = map decl_item b.tree.decls
-
-      by_heading : (o : Option Heading) → o ≡ None → Ready names c (declare_items c b.tree.kind 0 cell (heading_items o ++ xs ++ ys)).rows → cell ≤ (declare_items c b.tree.kind 0 cell (heading_items o ++ xs ++ ys)).value.cell
-      by_heading None e r =
-          (items_placed (xs ++ ys) c b.tree.kind 0 cell (each_append IsInner xs ys (imports_inner b.tree.imports) (decls_inner b.tree.decls)) r (first_cell_most (scene_of tables b.block) b.tree.kind b.block.own)).cells.more
-      by_heading (Some h) e r = absurd (cc)
+      (items_placed (items_of b.tree) (context_of source tables b) b.tree.kind 0 (first_cell (scene_of tables b.block) b.tree.kind b.block.own) (items_inner b.tree none) ready
+      (first_cell_most (scene_of tables b.block) b.tree.kind b.block.own)).cells.more
