@@ -527,9 +527,19 @@ for_statement-statements-requires g t c κs within =
     let fourth = rw c.in-Known-asked-3.is at c.in-Ok-check_step.ensures c.args.stand.now c.check_bound-2.new.fragments.nodes.items in
     let upto : Flows = record { fragments = c.check_bound-2.new.fragments; nodes = c.args.flows.now.nodes } in
     let grows = grown {from = c.args.flows.now} {to = upto} (Grows-joined first.grows (Grows-joined second.grows third.grows)) refl in
-    let s = c.args.stand.now in
-    (omega (arith, c.decreases), (within, (onwards.suits_after fourth (onwards.suits_after third (onwards.suits_after second (onwards.suits_after first c.requires.suits))), (c.requires.item,
-    (stand_on fourth s (stand_on third s (stand_on second s (stand_on first s c.requires.stand))), (grows.sound c.requires.sound, (c.requires.read)))))))
+    let s = c.args.stand.now in (
+      omega (arith, c.decreases),
+      (
+        within,
+        (
+          onwards.suits_after fourth (onwards.suits_after third (onwards.suits_after second (onwards.suits_after first c.requires.suits))),
+          (
+            c.requires.item,
+            (stand_on fourth s (stand_on third s (stand_on second s (stand_on first s c.requires.stand))), (grows.sound c.requires.sound, (c.requires.read))),
+          ),
+        ),
+      ),
+    )
 
 pub for_statement-returns-in-DontKnowYet-asked-4 : goal.for_statement-returns-in-DontKnowYet-asked-4
 for_statement-returns-in-DontKnowYet-asked-4 g t c =
