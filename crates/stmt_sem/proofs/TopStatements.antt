@@ -1,5 +1,5 @@
 -- One statement of a body, in a piece of its own.
-use Rattle.std.proofs.Common.{◌≡◌, ◌∙◌, ◌++◌, ◌∷◌, [], ◌<◌, false, ℕ, zero, suc, List, length, map, get_or, Option, Some, None, Result, Ok, Err, ap, sym, subst, arith}
+use Rattle.std.proofs.Common.{◌≡◌, ◌∙◌, ◌++◌, ◌∷◌, [], ◌<◌, ℕ, zero, suc, List, length, map, get_or, Option, Some, None, Result, Ok, Err, ap, sym, subst, arith}
 use Rattle.std.proofs.lemmas.Bool.{false≢true}
 use Rattle.std.specs.Prelude.{IsErr}
 use Rattle.std.specs.Option.{IfSome}

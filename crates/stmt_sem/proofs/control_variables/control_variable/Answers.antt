@@ -1,4 +1,4 @@
-use Rattle.std.proofs.Common.{◌∙◌, Bool, Option, Some, None, Ok, Err, ap, sym, subst, if◌then◌else◌}
+use Rattle.std.proofs.Common.{◌∙◌, Bool, Option, Some, None, Ok, Err, ap, sym, if◌then◌else◌}
 use Rattle.std.specs.Option.{IfSome}
 use Rattle.m2_base.specs.Gives.{and_then, gives}
 use Rattle.m2_base.specs.States.{Frame}

@@ -1,4 +1,4 @@
-use Rattle.std.proofs.Common.{◌≡◌, ◌∙◌, ℕ, ℤ, ap, rules, of_z, to_z, w64}
+use Rattle.std.proofs.Common.{◌≡◌, ◌∙◌, ℕ, ℤ, ap, refl, rules, of_z, to_z, w64}
 use Rattle.std.proofs.Math.Path.{fun_ext}
 use Rattle.m2_base.specs.Gives.{and_then, gives}
 use Rattle.m2_base.proofs.Kept.{Works-trans}
@@ -16,8 +16,8 @@ use Rattle.stmt_sem.specs.FlowNodes.{CellFlow, IsFlowMade, code_by, flow_in}
 use Rattle.stmt_sem.specs.Flows.{straight, with_cell, ◌⨾◌}
 use Rattle.stmt_sem.specs.Stated.{answer_of}
 use Rattle.stmt_sem.specs.declared.flows.Flows.{Flows}
-use Rattle.stmt_sem.proofs.Flowed.{by_answer, described, flowing_after, made_after_both, sound_after, unknown, unknown_after, unmade, unmade_after}
-use Rattle.stmt_sem.proofs.FlowsBehind.{described_told, full_behind, unknown_behind, unmade_behind}
+use Rattle.stmt_sem.proofs.Flowed.{by_answer, described, flowing_after, made_after_both, sound_after, unknown, unmade}
+use Rattle.stmt_sem.proofs.FlowsBehind.{code_unknown, code_unmade, described_told, full_behind}
 use Rattle.stmt_sem.proofs.FlowLists as flows
 use Rattle.stmt_sem.proofs.FlowLists.{code_later, code_there}
 use Rattle.stmt_sem.proofs.FlowsKept as kept
@@ -44,88 +44,87 @@ emit_last-requires-clause-last g c = coded_after (rw c.in-Known.is at c.in-Ok.en
 
 pub returns-in-DontKnowYet-asked : goal.returns-in-DontKnowYet-asked
 returns-in-DontKnowYet-asked g c notes within stands =
-    let fs1 : Flows = record { fragments = c.emit_first.new.fragments; nodes = c.args.flows.now.nodes } in
-    unknown_after (of_code c.args.flows.now c.emit_first.new.fragments _ (rw c.in-Known.is at c.in-Ok.ensures notes)) (of_code fs1 c.emit_last.new.fragments _ (rw c.in-DontKnowYet-asked.is at c.in-Ok-emit_last.ensures notes))
+    let first = rw c.in-Known.is at c.in-Ok.ensures notes in
+    code_unknown c.args.flows.now c.emit_last.new.fragments first.works first.grows (rw c.in-DontKnowYet-asked.is at c.in-Ok-emit_last.ensures notes)
 
 pub returns-in-Err-emit_last : goal.returns-in-Err-emit_last
 returns-in-Err-emit_last g c notes within stands =
-    let fs1 : Flows = record { fragments = c.emit_first.new.fragments; nodes = c.args.flows.now.nodes } in
-    unmade_after (of_code c.args.flows.now c.emit_first.new.fragments _ (rw c.in-Known.is at c.in-Ok.ensures notes)) (of_code fs1 c.emit_last.new.fragments _ (c.in-Err-emit_last.ensures notes)) _
+    let first = rw c.in-Known.is at c.in-Ok.ensures notes in
+    code_unmade c.args.flows.now c.emit_last.new.fragments first.works first.grows (c.in-Err-emit_last.ensures notes) _
 
 pub emit_step-requires-clause-suits : goal.emit_step-requires-clause-suits
 emit_step-requires-clause-suits g c =
     let none = no_notes c.args.flows.now.fragments in
-    suits_after (rw c.in-Known-asked.is at c.in-Ok-emit_last.ensures none) (suits_after (rw c.in-Known.is at c.in-Ok.ensures none) c.requires.suits)
+    let first = rw c.in-Known.is at c.in-Ok.ensures none in
+    let second = rw c.in-Known-asked.is at c.in-Ok-emit_last.ensures none in
+    suits_after second (suits_after first c.requires.suits)
 
 pub emit_step-requires-clause-x : goal.emit_step-requires-clause-x
 emit_step-requires-clause-x g c =
     let none = no_notes c.args.flows.now.fragments in
-    let x = c.args.count.now.variable in
-    coded_after (rw c.in-Known-asked.is at c.in-Ok-emit_last.ensures none) x (coded_after (rw c.in-Known.is at c.in-Ok.ensures none) x c.requires.variable)
+    let first = rw c.in-Known.is at c.in-Ok.ensures none in
+    let second = rw c.in-Known-asked.is at c.in-Ok-emit_last.ensures none in
+    coded_after second c.args.count.now.variable (coded_after first c.args.count.now.variable c.requires.variable)
 
 pub returns-in-DontKnowYet-asked-2 : goal.returns-in-DontKnowYet-asked-2
 returns-in-DontKnowYet-asked-2 g c notes within stands =
-    let fs1 : Flows = record { fragments = c.emit_first.new.fragments; nodes = c.args.flows.now.nodes } in
-    let fs2 : Flows = record { fragments = c.emit_last.new.fragments; nodes = c.args.flows.now.nodes } in
-    let one = of_code c.args.flows.now c.emit_first.new.fragments _ (rw c.in-Known.is at c.in-Ok.ensures notes) in
-    let two = of_code fs1 c.emit_last.new.fragments _ (rw c.in-Known-asked.is at c.in-Ok-emit_last.ensures notes) in
-    unknown_behind (Works-trans one.works two.works) (kept.Grows-trans one.grows two.grows) (of_code fs2 c.emit_step.new.fragments _ (rw c.in-DontKnowYet-asked-2.is at c.in-Ok-emit_step.ensures notes))
+    let first = rw c.in-Known.is at c.in-Ok.ensures notes in
+    let second = rw c.in-Known-asked.is at c.in-Ok-emit_last.ensures notes in
+    code_unknown c.args.flows.now c.emit_step.new.fragments (Works-trans first.works second.works) (Grows-trans first.grows second.grows) (rw c.in-DontKnowYet-asked-2.is at c.in-Ok-emit_step.ensures notes)
 
 pub returns-in-Err-emit_step : goal.returns-in-Err-emit_step
 returns-in-Err-emit_step g c notes within stands =
-    let fs1 : Flows = record { fragments = c.emit_first.new.fragments; nodes = c.args.flows.now.nodes } in
-    let fs2 : Flows = record { fragments = c.emit_last.new.fragments; nodes = c.args.flows.now.nodes } in
-    let one = of_code c.args.flows.now c.emit_first.new.fragments _ (rw c.in-Known.is at c.in-Ok.ensures notes) in
-    let two = of_code fs1 c.emit_last.new.fragments _ (rw c.in-Known-asked.is at c.in-Ok-emit_last.ensures notes) in
-    unmade_behind (Works-trans one.works two.works) (kept.Grows-trans one.grows two.grows) (of_code fs2 c.emit_step.new.fragments _ (c.in-Err-emit_step.ensures notes)) _
+    let first = rw c.in-Known.is at c.in-Ok.ensures notes in
+    let second = rw c.in-Known-asked.is at c.in-Ok-emit_last.ensures notes in
+    code_unmade c.args.flows.now c.emit_step.new.fragments (Works-trans first.works second.works) (Grows-trans first.grows second.grows) (c.in-Err-emit_step.ensures notes) _
 
 pub emit_turns-requires-clause-x : goal.emit_turns-requires-clause-x
 emit_turns-requires-clause-x g c =
     let none = no_notes c.args.flows.now.fragments in
-    let x = c.args.count.now.variable in
-    let one = coded_after (rw c.in-Known.is at c.in-Ok.ensures none) x c.requires.variable in
-    let two = coded_after (rw c.in-Known-asked.is at c.in-Ok-emit_last.ensures none) x one in
-    (coded_after (rw c.in-Known-asked-2.is at c.in-Ok-emit_step.ensures none) x two).code
+    let first = rw c.in-Known.is at c.in-Ok.ensures none in
+    let second = rw c.in-Known-asked.is at c.in-Ok-emit_last.ensures none in
+    let third = rw c.in-Known-asked-2.is at c.in-Ok-emit_step.ensures none in
+    (coded_after third c.args.count.now.variable (coded_after second c.args.count.now.variable (coded_after first c.args.count.now.variable c.requires.variable))).code
 
 pub emit_turns-requires-clause-step : goal.emit_turns-requires-clause-step
-emit_turns-requires-clause-step g c = (rw c.in-Known-asked-2.is at c.in-Ok-emit_step.ensures (no_notes c.args.flows.now.fragments)).there
+emit_turns-requires-clause-step g c =
+    (rw c.in-Known-asked-2.is at c.in-Ok-emit_step.ensures (no_notes c.args.flows.now.fragments)).there
 
 pub returns-in_err-turns : goal.returns-in_err-turns
 returns-in_err-turns g c notes within stands =
-    let fs1 : Flows = record { fragments = c.emit_first.new.fragments; nodes = c.args.flows.now.nodes } in
-    let fs2 : Flows = record { fragments = c.emit_last.new.fragments; nodes = c.args.flows.now.nodes } in
-    let one = of_code c.args.flows.now c.emit_first.new.fragments _ (rw c.in-Known.is at c.in-Ok.ensures notes) in
-    let two = of_code fs1 c.emit_last.new.fragments _ (rw c.in-Known-asked.is at c.in-Ok-emit_last.ensures notes) in
-    let three = of_code fs2 c.emit_step.new.fragments _ (rw c.in-Known-asked-2.is at c.in-Ok-emit_step.ensures notes) in
-    full_behind c.from_residual.result c.from_residual.ensures.0 (Works-trans one.works (Works-trans two.works three.works))
-    (kept.Grows-trans one.grows (kept.Grows-trans two.grows (kept.Grows-trans three.grows c.in_err-turns.ensures.grows)))
+    let first = rw c.in-Known.is at c.in-Ok.ensures notes in
+    let second = rw c.in-Known-asked.is at c.in-Ok-emit_last.ensures notes in
+    let third = rw c.in-Known-asked-2.is at c.in-Ok-emit_step.ensures notes in
+    let upto : Flows = record { fragments = c.emit_step.new.fragments; nodes = c.args.flows.now.nodes } in
+    let grows = kept.grown {from = c.args.flows.now} {to = upto} (Grows-trans first.grows (Grows-trans second.grows third.grows)) refl in
+    full_behind c.from_residual.result c.from_residual.ensures.0 (Works-trans first.works (Works-trans second.works third.works)) (kept.Grows-trans grows c.in_err-turns.ensures.grows)
 
 pub celled-requires-clause-sound : goal.celled-requires-clause-sound
 celled-requires-clause-sound g c =
     let none = no_notes c.args.flows.now.fragments in
-    let fs1 : Flows = record { fragments = c.emit_first.new.fragments; nodes = c.args.flows.now.nodes } in
-    let fs2 : Flows = record { fragments = c.emit_last.new.fragments; nodes = c.args.flows.now.nodes } in
-    let one = of_code c.args.flows.now c.emit_first.new.fragments _ (rw c.in-Known.is at c.in-Ok.ensures none) in
-    let two = of_code fs1 c.emit_last.new.fragments _ (rw c.in-Known-asked.is at c.in-Ok-emit_last.ensures none) in
-    let three = of_code fs2 c.emit_step.new.fragments _ (rw c.in-Known-asked-2.is at c.in-Ok-emit_step.ensures none) in
-    c.in_ok-turns.ensures.grows.sound (sound_after three (sound_after two (sound_after one c.requires.sound)))
+    let first = rw c.in-Known.is at c.in-Ok.ensures none in
+    let second = rw c.in-Known-asked.is at c.in-Ok-emit_last.ensures none in
+    let third = rw c.in-Known-asked-2.is at c.in-Ok-emit_step.ensures none in
+    let upto : Flows = record { fragments = c.emit_step.new.fragments; nodes = c.args.flows.now.nodes } in
+    let grows = kept.grown {from = c.args.flows.now} {to = upto} (Grows-trans first.grows (Grows-trans second.grows third.grows)) refl in
+    c.in_ok-turns.ensures.grows.sound (grows.sound c.requires.sound)
 
 pub celled-requires-clause-code : goal.celled-requires-clause-code
 celled-requires-clause-code g c =
     let none = no_notes c.args.flows.now.fragments in
-    let fs2 : Flows = record { fragments = c.emit_last.new.fragments; nodes = c.args.flows.now.nodes } in
-    let three = of_code fs2 c.emit_step.new.fragments _ (rw c.in-Known-asked-2.is at c.in-Ok-emit_step.ensures none) in
-    code_there (kept.Grows-trans three.grows c.in_ok-turns.ensures.grows) c.in-Known-asked.value (rw c.in-Known-asked.is at c.in-Ok-emit_last.ensures none).there
+    let third = rw c.in-Known-asked-2.is at c.in-Ok-emit_step.ensures none in
+    let before : Flows = record { fragments = c.emit_last.new.fragments; nodes = c.args.flows.now.nodes } in
+    let upto : Flows = record { fragments = c.emit_step.new.fragments; nodes = c.args.flows.now.nodes } in
+    code_there (kept.Grows-trans (kept.grown {from = before} {to = upto} third.grows refl) c.in_ok-turns.ensures.grows) c.in-Known-asked.value (rw c.in-Known-asked.is at c.in-Ok-emit_last.ensures none).there
 
 pub returns-in_err-counted : goal.returns-in_err-counted
 returns-in_err-counted g c notes within stands =
-    let fs1 : Flows = record { fragments = c.emit_first.new.fragments; nodes = c.args.flows.now.nodes } in
-    let fs2 : Flows = record { fragments = c.emit_last.new.fragments; nodes = c.args.flows.now.nodes } in
-    let one = of_code c.args.flows.now c.emit_first.new.fragments _ (rw c.in-Known.is at c.in-Ok.ensures notes) in
-    let two = of_code fs1 c.emit_last.new.fragments _ (rw c.in-Known-asked.is at c.in-Ok-emit_last.ensures notes) in
-    let three = of_code fs2 c.emit_step.new.fragments _ (rw c.in-Known-asked-2.is at c.in-Ok-emit_step.ensures notes) in
-    full_behind c.from_residual-in_err-counted.result c.from_residual-in_err-counted.ensures.0 (Works-trans one.works (Works-trans two.works three.works))
-    (kept.Grows-trans one.grows (kept.Grows-trans two.grows (kept.Grows-trans three.grows (kept.Grows-trans c.in_ok-turns.ensures.grows c.in_err-counted.ensures.grows))))
+    let first = rw c.in-Known.is at c.in-Ok.ensures notes in
+    let second = rw c.in-Known-asked.is at c.in-Ok-emit_last.ensures notes in
+    let third = rw c.in-Known-asked-2.is at c.in-Ok-emit_step.ensures notes in
+    let upto : Flows = record { fragments = c.emit_step.new.fragments; nodes = c.args.flows.now.nodes } in
+    let grows = kept.grown {from = c.args.flows.now} {to = upto} (Grows-trans first.grows (Grows-trans second.grows third.grows)) refl in
+    full_behind c.from_residual-in_err-counted.result c.from_residual-in_err-counted.ensures.0 (Works-trans first.works (Works-trans second.works third.works)) (kept.Grows-trans grows (kept.Grows-trans c.in_ok-turns.ensures.grows c.in_err-counted.ensures.grows))
 
 pub straight-requires : goal.straight-requires
 straight-requires g c =
@@ -136,13 +135,13 @@ straight-requires g c =
 
 pub returns-in_err-start : goal.returns-in_err-start
 returns-in_err-start g c notes within stands =
-    let fs1 : Flows = record { fragments = c.emit_first.new.fragments; nodes = c.args.flows.now.nodes } in
-    let fs2 : Flows = record { fragments = c.emit_last.new.fragments; nodes = c.args.flows.now.nodes } in
-    let one = of_code c.args.flows.now c.emit_first.new.fragments _ (rw c.in-Known.is at c.in-Ok.ensures notes) in
-    let two = of_code fs1 c.emit_last.new.fragments _ (rw c.in-Known-asked.is at c.in-Ok-emit_last.ensures notes) in
-    let three = of_code fs2 c.emit_step.new.fragments _ (rw c.in-Known-asked-2.is at c.in-Ok-emit_step.ensures notes) in
-    full_behind c.from_residual-in_err-start.result c.from_residual-in_err-start.ensures.0 (Works-trans one.works (Works-trans two.works three.works))
-    (kept.Grows-trans one.grows (kept.Grows-trans two.grows (kept.Grows-trans three.grows (kept.Grows-trans c.in_ok-turns.ensures.grows (kept.Grows-trans c.in_ok-counted.ensures.grows c.in_err-start.ensures.made.grows)))))
+    let first = rw c.in-Known.is at c.in-Ok.ensures notes in
+    let second = rw c.in-Known-asked.is at c.in-Ok-emit_last.ensures notes in
+    let third = rw c.in-Known-asked-2.is at c.in-Ok-emit_step.ensures notes in
+    let upto : Flows = record { fragments = c.emit_step.new.fragments; nodes = c.args.flows.now.nodes } in
+    let grows = kept.grown {from = c.args.flows.now} {to = upto} (Grows-trans first.grows (Grows-trans second.grows third.grows)) refl in
+    full_behind c.from_residual-in_err-start.result c.from_residual-in_err-start.ensures.0 (Works-trans first.works (Works-trans second.works third.works))
+    (kept.Grows-trans grows (kept.Grows-trans c.in_ok-turns.ensures.grows (kept.Grows-trans c.in_ok-counted.ensures.grows c.in_err-start.ensures.made.grows)))
 
 pub returns : goal.returns
 returns g c notes within stands =

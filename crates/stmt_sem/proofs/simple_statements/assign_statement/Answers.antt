@@ -9,6 +9,7 @@ use Rattle.expr_sem.specs.Codings.{coded_in, with_types}
 use Rattle.expr_sem.specs.Expressions.{value}
 use Rattle.expr_sem.proofs.Onwards.{coded_after, suits_after}
 use Rattle.expr_sem.proofs.Operating.{coded_later}
+use Rattle.expr_sem.proofs.Sequencing.{Grows-trans}
 use Rattle.expr_sem.proofs.Walking.{stands_after}
 use Rattle.stmt_sem.specs.Assignments.{assignment}
 use Rattle.stmt_sem.specs.Flows.{straight}
@@ -16,9 +17,8 @@ use Rattle.stmt_sem.specs.Stands.{stand_in}
 use Rattle.stmt_sem.specs.Stated.{answer_of}
 use Rattle.stmt_sem.specs.Statements.{variable}
 use Rattle.stmt_sem.specs.declared.flows.Flows.{Flows}
-use Rattle.stmt_sem.proofs.Flowed.{by_answer, described, flowing_after, made_after, unknown, unknown_after, unmade, unmade_after}
-use Rattle.stmt_sem.proofs.FlowsBehind.{unknown_behind, unmade_behind}
-use Rattle.stmt_sem.proofs.FlowsKept.{Grows-trans}
+use Rattle.stmt_sem.proofs.Flowed.{by_answer, described, flowing_after, made_after, unknown, unmade}
+use Rattle.stmt_sem.proofs.FlowsBehind.{code_unknown, code_unmade}
 use Rattle.stmt_sem.proofs.Walked.{of_code}
 use Rattle.stmt_sem.proofs.simple_statements.assign_statement.Goals as goal
 
@@ -33,13 +33,13 @@ value_of-requires-clause-suits g c = suits_after (rw c.in-Known.is at c.in-Ok.en
 
 pub returns-in-DontKnowYet-asked : goal.returns-in-DontKnowYet-asked
 returns-in-DontKnowYet-asked g c =
-    let fs1 : Flows = record { fragments = c.variable.new.fragments; nodes = c.args.flows.now.nodes } in
-    unknown_after (of_code c.args.flows.now c.variable.new.fragments _ (rw c.in-Known.is at c.in-Ok.ensures)) (of_code fs1 c.value_of.new.fragments _ (rw c.in-DontKnowYet-asked.is at c.in-Ok-value_of.ensures))
+    let first = rw c.in-Known.is at c.in-Ok.ensures in
+    code_unknown c.args.flows.now c.value_of.new.fragments first.works first.grows (rw c.in-DontKnowYet-asked.is at c.in-Ok-value_of.ensures)
 
 pub returns-in-Err-value_of : goal.returns-in-Err-value_of
 returns-in-Err-value_of g c =
-    let fs1 : Flows = record { fragments = c.variable.new.fragments; nodes = c.args.flows.now.nodes } in
-    unmade_after (of_code c.args.flows.now c.variable.new.fragments _ (rw c.in-Known.is at c.in-Ok.ensures)) (of_code fs1 c.value_of.new.fragments _ c.in-Err-value_of.ensures) _
+    let first = rw c.in-Known.is at c.in-Ok.ensures in
+    code_unmade c.args.flows.now c.value_of.new.fragments first.works first.grows c.in-Err-value_of.ensures _
 
 pub assignment-requires-clause-suits : goal.assignment-requires-clause-suits
 assignment-requires-clause-suits g c = suits_after (rw c.in-Known-asked.is at c.in-Ok-value_of.ensures) (suits_after (rw c.in-Known.is at c.in-Ok.ensures) c.requires.suits)
@@ -52,19 +52,15 @@ assignment-requires-clause-x g c = stands_after (rw c.in-Known-asked.is at c.in-
 
 pub returns-in-DontKnowYet-asked-2 : goal.returns-in-DontKnowYet-asked-2
 returns-in-DontKnowYet-asked-2 g c =
-    let fs1 : Flows = record { fragments = c.variable.new.fragments; nodes = c.args.flows.now.nodes } in
-    let fs2 : Flows = record { fragments = c.value_of.new.fragments; nodes = c.args.flows.now.nodes } in
-    let one = of_code c.args.flows.now c.variable.new.fragments _ (rw c.in-Known.is at c.in-Ok.ensures) in
-    let two = of_code fs1 c.value_of.new.fragments _ (rw c.in-Known-asked.is at c.in-Ok-value_of.ensures) in
-    unknown_behind (Works-trans one.works two.works) (Grows-trans one.grows two.grows) (of_code fs2 c.assignment.new.fragments _ (rw c.in-DontKnowYet-asked-2.is at c.in-Ok-assignment.ensures))
+    let first = rw c.in-Known.is at c.in-Ok.ensures in
+    let second = rw c.in-Known-asked.is at c.in-Ok-value_of.ensures in
+    code_unknown c.args.flows.now c.assignment.new.fragments (Works-trans first.works second.works) (Grows-trans first.grows second.grows) (rw c.in-DontKnowYet-asked-2.is at c.in-Ok-assignment.ensures)
 
 pub returns-in-Err-assignment : goal.returns-in-Err-assignment
 returns-in-Err-assignment g c =
-    let fs1 : Flows = record { fragments = c.variable.new.fragments; nodes = c.args.flows.now.nodes } in
-    let fs2 : Flows = record { fragments = c.value_of.new.fragments; nodes = c.args.flows.now.nodes } in
-    let one = of_code c.args.flows.now c.variable.new.fragments _ (rw c.in-Known.is at c.in-Ok.ensures) in
-    let two = of_code fs1 c.value_of.new.fragments _ (rw c.in-Known-asked.is at c.in-Ok-value_of.ensures) in
-    unmade_behind (Works-trans one.works two.works) (Grows-trans one.grows two.grows) (of_code fs2 c.assignment.new.fragments _ c.in-Err-assignment.ensures) _
+    let first = rw c.in-Known.is at c.in-Ok.ensures in
+    let second = rw c.in-Known-asked.is at c.in-Ok-value_of.ensures in
+    code_unmade c.args.flows.now c.assignment.new.fragments (Works-trans first.works second.works) (Grows-trans first.grows second.grows) c.in-Err-assignment.ensures _
 
 pub returns : goal.returns
 returns g c =

@@ -23,9 +23,11 @@ use Rattle.const_eval.proofs.TypesThere.{type_there}
 use Rattle.expr_sem.specs.Coded as coded
 use Rattle.expr_sem.specs.Codings.{coded_in, with_types}
 use Rattle.expr_sem.specs.Expressions.{value}
+use Rattle.expr_sem.proofs.Onwards as onwards
 use Rattle.expr_sem.proofs.Onwards.{coded_after}
 use Rattle.expr_sem.proofs.Operating.{coded_later}
 use Rattle.expr_sem.proofs.Sequencing.{Grows-trans as Grows-joined}
+use Rattle.expr_sem.proofs.Walking as walking
 use Rattle.expr_sem.specs.Fragments.{part}
 use Rattle.stmt_sem.specs.Flowings.{IsFlow}
 use Rattle.stmt_sem.specs.FlowNodes.{flow_in}
@@ -42,8 +44,8 @@ use Rattle.stmt_sem.specs.declared.flows.Flows.{Flows}
 use Rattle.stmt_sem.proofs.CaseLists.{AreSoFar, arm_given, cases_more, none_so_far, of_labels, so_far_in}
 use Rattle.stmt_sem.proofs.FlowLists.{arms_kept, arms_more, arms_there, block_more, block_onto, block_there, coded_later as coded_kept, in_later, stays_coded}
 use Rattle.stmt_sem.proofs.Flowed.{by_answer, described, flowing_after, made_after, made_after_both, one_more, sound_after, stand_after, stands_after, step, suits_after, unknown, unknown_after, unmade, unmade_after, value_after, value_after_both, value_alone, whole}
-use Rattle.stmt_sem.proofs.FlowsBehind.{stands_for, unknown_behind, unmade_behind}
-use Rattle.stmt_sem.proofs.FlowsKept.{Grows-refl, Grows-trans, among_later}
+use Rattle.stmt_sem.proofs.FlowsBehind.{code_unknown, code_unmade, stand_on, stands_for, unknown_behind, unmade_behind}
+use Rattle.stmt_sem.proofs.FlowsKept.{Grows-refl, Grows-trans, among_later, grown}
 use Rattle.stmt_sem.proofs.StatementFolds.{arms_folded, behind_arm, behind_case, behind_flow, cases_folded, onto_folded, statements_given}
 use Rattle.stmt_sem.proofs.StatementGiven.{arm_same, bad_with, case_given, case_same, choice_same, for_given, good_with, if_given, no_else, some_else, statement_given, until_same, while_same, with_given, with_same}
 use Rattle.stmt_sem.proofs.StatementReads.{case_arm_read, case_arm_smaller, case_smaller, else_smaller, for_smaller, form_read, if_arm_read, if_arm_smaller, if_smaller, loop_smaller, read_case_arm, read_if_arm, read_statement, repeat_smaller, rest_size, rest_smaller, while_smaller, with_smaller}
@@ -464,162 +466,144 @@ for_statement-check_bound-requires-clause-x g t c =
 
 pub for_statement-returns-in-DontKnowYet-asked : goal.for_statement-returns-in-DontKnowYet-asked
 for_statement-returns-in-DontKnowYet-asked g t c =
-    let one = of_code c.args.flows.now c.control_variable.new.fragments _ (rw c.in-Known.is at c.in-Ok.ensures) in
-    let fs1 : Flows = record { fragments = c.control_variable.new.fragments; nodes = c.args.flows.now.nodes } in
-    unknown_after one (of_code fs1 c.check_bound.new.fragments _ (rw c.in-DontKnowYet-asked.is at c.in-Ok-check_bound.ensures))
+    let first = rw c.in-Known.is at c.in-Ok.ensures in
+    code_unknown c.args.flows.now c.check_bound.new.fragments first.works first.grows (rw c.in-DontKnowYet-asked.is at c.in-Ok-check_bound.ensures)
 
 pub for_statement-returns-in-Err-check_bound : goal.for_statement-returns-in-Err-check_bound
 for_statement-returns-in-Err-check_bound g t c =
-    let one = of_code c.args.flows.now c.control_variable.new.fragments _ (rw c.in-Known.is at c.in-Ok.ensures) in
-    let fs1 : Flows = record { fragments = c.control_variable.new.fragments; nodes = c.args.flows.now.nodes } in
-    unmade_after one (of_code fs1 c.check_bound.new.fragments _ c.in-Err-check_bound.ensures) _
+    let first = rw c.in-Known.is at c.in-Ok.ensures in
+    code_unmade c.args.flows.now c.check_bound.new.fragments first.works first.grows c.in-Err-check_bound.ensures _
 
 pub for_statement-check_bound-requires-2-clause-suits : goal.for_statement-check_bound-requires-2-clause-suits
 for_statement-check_bound-requires-2-clause-suits g t c =
-    let one = of_code c.args.flows.now c.control_variable.new.fragments _ (rw c.in-Known.is at c.in-Ok.ensures) in
-    let fs1 : Flows = record { fragments = c.control_variable.new.fragments; nodes = c.args.flows.now.nodes } in
-    let two = of_code fs1 c.check_bound.new.fragments _ (rw c.in-Known-asked.is at c.in-Ok-check_bound.ensures) in
-    suits_after two (suits_after one c.requires.suits)
+    onwards.suits_after (rw c.in-Known-asked.is at c.in-Ok-check_bound.ensures) (onwards.suits_after (rw c.in-Known.is at c.in-Ok.ensures) c.requires.suits)
 
 pub for_statement-check_bound-requires-2-clause-stand : goal.for_statement-check_bound-requires-2-clause-stand
 for_statement-check_bound-requires-2-clause-stand g t c =
-    let one = of_code c.args.flows.now c.control_variable.new.fragments _ (rw c.in-Known.is at c.in-Ok.ensures) in
-    let fs1 : Flows = record { fragments = c.control_variable.new.fragments; nodes = c.args.flows.now.nodes } in
-    let two = of_code fs1 c.check_bound.new.fragments _ (rw c.in-Known-asked.is at c.in-Ok-check_bound.ensures) in
-    stand_after two c.args.stand.now (stand_after one c.args.stand.now c.requires.stand)
+    stand_on (rw c.in-Known-asked.is at c.in-Ok-check_bound.ensures) c.args.stand.now (stand_on (rw c.in-Known.is at c.in-Ok.ensures) c.args.stand.now c.requires.stand)
 
 pub for_statement-check_bound-requires-2-clause-x : goal.for_statement-check_bound-requires-2-clause-x
 for_statement-check_bound-requires-2-clause-x g t c =
-    let one = of_code c.args.flows.now c.control_variable.new.fragments _ (rw c.in-Known.is at c.in-Ok.ensures) in
-    coded_after (rw c.in-Known-asked.is at c.in-Ok-check_bound.ensures) c.in-Known.value (stands_after one)
+    onwards.coded_after (rw c.in-Known-asked.is at c.in-Ok-check_bound.ensures) c.in-Known.value (walking.stands_after (rw c.in-Known.is at c.in-Ok.ensures))
 
 pub for_statement-returns-in-DontKnowYet-asked-2 : goal.for_statement-returns-in-DontKnowYet-asked-2
 for_statement-returns-in-DontKnowYet-asked-2 g t c =
-    let one = of_code c.args.flows.now c.control_variable.new.fragments _ (rw c.in-Known.is at c.in-Ok.ensures) in
-    let fs1 : Flows = record { fragments = c.control_variable.new.fragments; nodes = c.args.flows.now.nodes } in
-    let two = of_code fs1 c.check_bound.new.fragments _ (rw c.in-Known-asked.is at c.in-Ok-check_bound.ensures) in
-    let fs2 : Flows = record { fragments = c.check_bound.new.fragments; nodes = c.args.flows.now.nodes } in
-    unknown_behind (Works-trans one.works two.works) (Grows-trans one.grows two.grows) (of_code fs2 c.check_bound-2.new.fragments _ (rw c.in-DontKnowYet-asked-2.is at c.in-Ok-check_bound-2.ensures))
+    let first = rw c.in-Known.is at c.in-Ok.ensures in
+    let second = rw c.in-Known-asked.is at c.in-Ok-check_bound.ensures in
+    code_unknown c.args.flows.now c.check_bound-2.new.fragments (Works-trans first.works second.works) (Grows-joined first.grows second.grows) (rw c.in-DontKnowYet-asked-2.is at c.in-Ok-check_bound-2.ensures)
 
 pub for_statement-returns-in-Err-check_bound-2 : goal.for_statement-returns-in-Err-check_bound-2
 for_statement-returns-in-Err-check_bound-2 g t c =
-    let one = of_code c.args.flows.now c.control_variable.new.fragments _ (rw c.in-Known.is at c.in-Ok.ensures) in
-    let fs1 : Flows = record { fragments = c.control_variable.new.fragments; nodes = c.args.flows.now.nodes } in
-    let two = of_code fs1 c.check_bound.new.fragments _ (rw c.in-Known-asked.is at c.in-Ok-check_bound.ensures) in
-    let fs2 : Flows = record { fragments = c.check_bound.new.fragments; nodes = c.args.flows.now.nodes } in
-    unmade_behind (Works-trans one.works two.works) (Grows-trans one.grows two.grows) (of_code fs2 c.check_bound-2.new.fragments _ c.in-Err-check_bound-2.ensures) _
+    let first = rw c.in-Known.is at c.in-Ok.ensures in
+    let second = rw c.in-Known-asked.is at c.in-Ok-check_bound.ensures in
+    code_unmade c.args.flows.now c.check_bound-2.new.fragments (Works-trans first.works second.works) (Grows-joined first.grows second.grows) c.in-Err-check_bound-2.ensures _
 
 pub for_statement-check_step-requires-clause-suits : goal.for_statement-check_step-requires-clause-suits
 for_statement-check_step-requires-clause-suits g t c =
-    let one = of_code c.args.flows.now c.control_variable.new.fragments _ (rw c.in-Known.is at c.in-Ok.ensures) in
-    let fs1 : Flows = record { fragments = c.control_variable.new.fragments; nodes = c.args.flows.now.nodes } in
-    let two = of_code fs1 c.check_bound.new.fragments _ (rw c.in-Known-asked.is at c.in-Ok-check_bound.ensures) in
-    let fs2 : Flows = record { fragments = c.check_bound.new.fragments; nodes = c.args.flows.now.nodes } in
-    let three = of_code fs2 c.check_bound-2.new.fragments _ (rw c.in-Known-asked-2.is at c.in-Ok-check_bound-2.ensures) in
-    suits_after three (suits_after two (suits_after one c.requires.suits))
+    let first = rw c.in-Known.is at c.in-Ok.ensures in
+    let second = rw c.in-Known-asked.is at c.in-Ok-check_bound.ensures in
+    let third = rw c.in-Known-asked-2.is at c.in-Ok-check_bound-2.ensures in
+    onwards.suits_after third (onwards.suits_after second (onwards.suits_after first c.requires.suits))
 
 pub for_statement-returns-in-DontKnowYet-asked-3 : goal.for_statement-returns-in-DontKnowYet-asked-3
 for_statement-returns-in-DontKnowYet-asked-3 g t c =
-    let one = of_code c.args.flows.now c.control_variable.new.fragments _ (rw c.in-Known.is at c.in-Ok.ensures) in
-    let fs1 : Flows = record { fragments = c.control_variable.new.fragments; nodes = c.args.flows.now.nodes } in
-    let two = of_code fs1 c.check_bound.new.fragments _ (rw c.in-Known-asked.is at c.in-Ok-check_bound.ensures) in
-    let fs2 : Flows = record { fragments = c.check_bound.new.fragments; nodes = c.args.flows.now.nodes } in
-    let three = of_code fs2 c.check_bound-2.new.fragments _ (rw c.in-Known-asked-2.is at c.in-Ok-check_bound-2.ensures) in
-    let fs3 : Flows = record { fragments = c.check_bound-2.new.fragments; nodes = c.args.flows.now.nodes } in
-    unknown_behind (Works-trans one.works (Works-trans two.works three.works)) (Grows-trans one.grows (Grows-trans two.grows three.grows)) (of_code fs3 c.check_bound-2.new.fragments _ (rw c.in-DontKnowYet-asked-3.is at c.in-Ok-check_step.ensures c.args.stand.now c.check_bound-2.new.fragments.nodes.items))
+    let first = rw c.in-Known.is at c.in-Ok.ensures in
+    let second = rw c.in-Known-asked.is at c.in-Ok-check_bound.ensures in
+    let third = rw c.in-Known-asked-2.is at c.in-Ok-check_bound-2.ensures in
+    code_unknown c.args.flows.now c.check_bound-2.new.fragments (Works-trans first.works (Works-trans second.works third.works)) (Grows-joined first.grows (Grows-joined second.grows third.grows)) (rw c.in-DontKnowYet-asked-3.is at c.in-Ok-check_step.ensures c.args.stand.now c.check_bound-2.new.fragments.nodes.items)
 
 pub for_statement-returns-in-Err-check_step : goal.for_statement-returns-in-Err-check_step
 for_statement-returns-in-Err-check_step g t c =
-    let one = of_code c.args.flows.now c.control_variable.new.fragments _ (rw c.in-Known.is at c.in-Ok.ensures) in
-    let fs1 : Flows = record { fragments = c.control_variable.new.fragments; nodes = c.args.flows.now.nodes } in
-    let two = of_code fs1 c.check_bound.new.fragments _ (rw c.in-Known-asked.is at c.in-Ok-check_bound.ensures) in
-    let fs2 : Flows = record { fragments = c.check_bound.new.fragments; nodes = c.args.flows.now.nodes } in
-    let three = of_code fs2 c.check_bound-2.new.fragments _ (rw c.in-Known-asked-2.is at c.in-Ok-check_bound-2.ensures) in
-    let fs3 : Flows = record { fragments = c.check_bound-2.new.fragments; nodes = c.args.flows.now.nodes } in
-    unmade_behind (Works-trans one.works (Works-trans two.works three.works)) (Grows-trans one.grows (Grows-trans two.grows three.grows)) (of_code fs3 c.check_bound-2.new.fragments _ (c.in-Err-check_step.ensures c.args.stand.now c.check_bound-2.new.fragments.nodes.items)) _
+    let first = rw c.in-Known.is at c.in-Ok.ensures in
+    let second = rw c.in-Known-asked.is at c.in-Ok-check_bound.ensures in
+    let third = rw c.in-Known-asked-2.is at c.in-Ok-check_bound-2.ensures in
+    code_unmade c.args.flows.now c.check_bound-2.new.fragments (Works-trans first.works (Works-trans second.works third.works)) (Grows-joined first.grows (Grows-joined second.grows third.grows)) (c.in-Err-check_step.ensures c.args.stand.now c.check_bound-2.new.fragments.nodes.items) _
 
 pub for_statement-statements-requires : goal.for_statement-statements-requires
 for_statement-statements-requires g t c κs within =
-    let one = of_code c.args.flows.now c.control_variable.new.fragments _ (rw c.in-Known.is at c.in-Ok.ensures) in
-    let fs1 : Flows = record { fragments = c.control_variable.new.fragments; nodes = c.args.flows.now.nodes } in
-    let two = of_code fs1 c.check_bound.new.fragments _ (rw c.in-Known-asked.is at c.in-Ok-check_bound.ensures) in
-    let fs2 : Flows = record { fragments = c.check_bound.new.fragments; nodes = c.args.flows.now.nodes } in
-    let three = of_code fs2 c.check_bound-2.new.fragments _ (rw c.in-Known-asked-2.is at c.in-Ok-check_bound-2.ensures) in
-    let fs3 : Flows = record { fragments = c.check_bound-2.new.fragments; nodes = c.args.flows.now.nodes } in
-    let four = of_code fs3 c.check_bound-2.new.fragments _ (rw c.in-Known-asked-3.is at c.in-Ok-check_step.ensures c.args.stand.now c.check_bound-2.new.fragments.nodes.items) in
-    (omega (arith, c.decreases), (within, (suits_after four (suits_after three (suits_after two (suits_after one c.requires.suits))), (c.requires.item, (stand_after four c.args.stand.now (stand_after three c.args.stand.now (stand_after two c.args.stand.now (stand_after one c.args.stand.now c.requires.stand))), (sound_after four (sound_after three (sound_after two (sound_after one c.requires.sound))), (c.requires.read)))))))
+    let first = rw c.in-Known.is at c.in-Ok.ensures in
+    let second = rw c.in-Known-asked.is at c.in-Ok-check_bound.ensures in
+    let third = rw c.in-Known-asked-2.is at c.in-Ok-check_bound-2.ensures in
+    let fourth = rw c.in-Known-asked-3.is at c.in-Ok-check_step.ensures c.args.stand.now c.check_bound-2.new.fragments.nodes.items in
+    let upto : Flows = record { fragments = c.check_bound-2.new.fragments; nodes = c.args.flows.now.nodes } in
+    let grows = grown {from = c.args.flows.now} {to = upto} (Grows-joined first.grows (Grows-joined second.grows third.grows)) refl in
+    let s = c.args.stand.now in (
+      omega (arith, c.decreases),
+      (
+        within,
+        (
+          onwards.suits_after fourth (onwards.suits_after third (onwards.suits_after second (onwards.suits_after first c.requires.suits))),
+          (
+            c.requires.item,
+            (stand_on fourth s (stand_on third s (stand_on second s (stand_on first s c.requires.stand))), (grows.sound c.requires.sound, (c.requires.read))),
+          ),
+        ),
+      ),
+    )
 
 pub for_statement-returns-in-DontKnowYet-asked-4 : goal.for_statement-returns-in-DontKnowYet-asked-4
 for_statement-returns-in-DontKnowYet-asked-4 g t c =
-    let one = of_code c.args.flows.now c.control_variable.new.fragments _ (rw c.in-Known.is at c.in-Ok.ensures) in
-    let fs1 : Flows = record { fragments = c.control_variable.new.fragments; nodes = c.args.flows.now.nodes } in
-    let two = of_code fs1 c.check_bound.new.fragments _ (rw c.in-Known-asked.is at c.in-Ok-check_bound.ensures) in
-    let fs2 : Flows = record { fragments = c.check_bound.new.fragments; nodes = c.args.flows.now.nodes } in
-    let three = of_code fs2 c.check_bound-2.new.fragments _ (rw c.in-Known-asked-2.is at c.in-Ok-check_bound-2.ensures) in
-    let fs3 : Flows = record { fragments = c.check_bound-2.new.fragments; nodes = c.args.flows.now.nodes } in
-    let four = of_code fs3 c.check_bound-2.new.fragments _ (rw c.in-Known-asked-3.is at c.in-Ok-check_step.ensures c.args.stand.now c.check_bound-2.new.fragments.nodes.items) in
-    unknown_behind (Works-trans one.works (Works-trans two.works (Works-trans three.works four.works))) (Grows-trans one.grows (Grows-trans two.grows (Grows-trans three.grows four.grows))) (rw c.in-DontKnowYet-asked-4.is at c.in-Ok-statements.ensures)
+    let first = rw c.in-Known.is at c.in-Ok.ensures in
+    let second = rw c.in-Known-asked.is at c.in-Ok-check_bound.ensures in
+    let third = rw c.in-Known-asked-2.is at c.in-Ok-check_bound-2.ensures in
+    let fourth = rw c.in-Known-asked-3.is at c.in-Ok-check_step.ensures c.args.stand.now c.check_bound-2.new.fragments.nodes.items in
+    let upto : Flows = record { fragments = c.check_bound-2.new.fragments; nodes = c.args.flows.now.nodes } in
+    let grows = grown {from = c.args.flows.now} {to = upto} (Grows-joined first.grows (Grows-joined second.grows third.grows)) refl in
+    unknown_behind (Works-trans first.works (Works-trans second.works (Works-trans third.works fourth.works))) grows (rw c.in-DontKnowYet-asked-4.is at c.in-Ok-statements.ensures)
 
 pub for_statement-returns-in-Err-statements : goal.for_statement-returns-in-Err-statements
 for_statement-returns-in-Err-statements g t c =
-    let one = of_code c.args.flows.now c.control_variable.new.fragments _ (rw c.in-Known.is at c.in-Ok.ensures) in
-    let fs1 : Flows = record { fragments = c.control_variable.new.fragments; nodes = c.args.flows.now.nodes } in
-    let two = of_code fs1 c.check_bound.new.fragments _ (rw c.in-Known-asked.is at c.in-Ok-check_bound.ensures) in
-    let fs2 : Flows = record { fragments = c.check_bound.new.fragments; nodes = c.args.flows.now.nodes } in
-    let three = of_code fs2 c.check_bound-2.new.fragments _ (rw c.in-Known-asked-2.is at c.in-Ok-check_bound-2.ensures) in
-    let fs3 : Flows = record { fragments = c.check_bound-2.new.fragments; nodes = c.args.flows.now.nodes } in
-    let four = of_code fs3 c.check_bound-2.new.fragments _ (rw c.in-Known-asked-3.is at c.in-Ok-check_step.ensures c.args.stand.now c.check_bound-2.new.fragments.nodes.items) in
-    unmade_behind (Works-trans one.works (Works-trans two.works (Works-trans three.works four.works))) (Grows-trans one.grows (Grows-trans two.grows (Grows-trans three.grows four.grows))) c.in-Err-statements.ensures _
+    let first = rw c.in-Known.is at c.in-Ok.ensures in
+    let second = rw c.in-Known-asked.is at c.in-Ok-check_bound.ensures in
+    let third = rw c.in-Known-asked-2.is at c.in-Ok-check_bound-2.ensures in
+    let fourth = rw c.in-Known-asked-3.is at c.in-Ok-check_step.ensures c.args.stand.now c.check_bound-2.new.fragments.nodes.items in
+    let upto : Flows = record { fragments = c.check_bound-2.new.fragments; nodes = c.args.flows.now.nodes } in
+    let grows = grown {from = c.args.flows.now} {to = upto} (Grows-joined first.grows (Grows-joined second.grows third.grows)) refl in
+    unmade_behind (Works-trans first.works (Works-trans second.works (Works-trans third.works fourth.works))) grows c.in-Err-statements.ensures _
 
 pub for_statement-emit_for-requires-clause-suits : goal.for_statement-emit_for-requires-clause-suits
 for_statement-emit_for-requires-clause-suits g t c =
-    let one = of_code c.args.flows.now c.control_variable.new.fragments _ (rw c.in-Known.is at c.in-Ok.ensures) in
-    let fs1 : Flows = record { fragments = c.control_variable.new.fragments; nodes = c.args.flows.now.nodes } in
-    let two = of_code fs1 c.check_bound.new.fragments _ (rw c.in-Known-asked.is at c.in-Ok-check_bound.ensures) in
-    let fs2 : Flows = record { fragments = c.check_bound.new.fragments; nodes = c.args.flows.now.nodes } in
-    let three = of_code fs2 c.check_bound-2.new.fragments _ (rw c.in-Known-asked-2.is at c.in-Ok-check_bound-2.ensures) in
-    let fs3 : Flows = record { fragments = c.check_bound-2.new.fragments; nodes = c.args.flows.now.nodes } in
-    let four = of_code fs3 c.check_bound-2.new.fragments _ (rw c.in-Known-asked-3.is at c.in-Ok-check_step.ensures c.args.stand.now c.check_bound-2.new.fragments.nodes.items) in
+    let first = rw c.in-Known.is at c.in-Ok.ensures in
+    let second = rw c.in-Known-asked.is at c.in-Ok-check_bound.ensures in
+    let third = rw c.in-Known-asked-2.is at c.in-Ok-check_bound-2.ensures in
+    let fourth = rw c.in-Known-asked-3.is at c.in-Ok-check_step.ensures c.args.stand.now c.check_bound-2.new.fragments.nodes.items in
     let five = rw c.in-Known-asked-4.is at c.in-Ok-statements.ensures in
-    suits_after five (suits_after four (suits_after three (suits_after two (suits_after one c.requires.suits))))
+    suits_after five (onwards.suits_after fourth (onwards.suits_after third (onwards.suits_after second (onwards.suits_after first c.requires.suits))))
 
 pub for_statement-emit_for-requires-clause-sound : goal.for_statement-emit_for-requires-clause-sound
 for_statement-emit_for-requires-clause-sound g t c =
-    let one = of_code c.args.flows.now c.control_variable.new.fragments _ (rw c.in-Known.is at c.in-Ok.ensures) in
-    let fs1 : Flows = record { fragments = c.control_variable.new.fragments; nodes = c.args.flows.now.nodes } in
-    let two = of_code fs1 c.check_bound.new.fragments _ (rw c.in-Known-asked.is at c.in-Ok-check_bound.ensures) in
-    let fs2 : Flows = record { fragments = c.check_bound.new.fragments; nodes = c.args.flows.now.nodes } in
-    let three = of_code fs2 c.check_bound-2.new.fragments _ (rw c.in-Known-asked-2.is at c.in-Ok-check_bound-2.ensures) in
-    let fs3 : Flows = record { fragments = c.check_bound-2.new.fragments; nodes = c.args.flows.now.nodes } in
-    let four = of_code fs3 c.check_bound-2.new.fragments _ (rw c.in-Known-asked-3.is at c.in-Ok-check_step.ensures c.args.stand.now c.check_bound-2.new.fragments.nodes.items) in
+    let first = rw c.in-Known.is at c.in-Ok.ensures in
+    let second = rw c.in-Known-asked.is at c.in-Ok-check_bound.ensures in
+    let third = rw c.in-Known-asked-2.is at c.in-Ok-check_bound-2.ensures in
     let five = rw c.in-Known-asked-4.is at c.in-Ok-statements.ensures in
-    sound_after five (sound_after four (sound_after three (sound_after two (sound_after one c.requires.sound))))
+    let upto : Flows = record { fragments = c.check_bound-2.new.fragments; nodes = c.args.flows.now.nodes } in
+    let grows = grown {from = c.args.flows.now} {to = upto} (Grows-joined first.grows (Grows-joined second.grows third.grows)) refl in
+    sound_after five (grows.sound c.requires.sound)
 
 pub for_statement-emit_for-requires-clause-variable : goal.for_statement-emit_for-requires-clause-variable
 for_statement-emit_for-requires-clause-variable g t c =
-    let one = of_code c.args.flows.now c.control_variable.new.fragments _ (rw c.in-Known.is at c.in-Ok.ensures) in
+    let first = rw c.in-Known.is at c.in-Ok.ensures in
+    let second = rw c.in-Known-asked.is at c.in-Ok-check_bound.ensures in
+    let third = rw c.in-Known-asked-2.is at c.in-Ok-check_bound-2.ensures in
+    let fourth = rw c.in-Known-asked-3.is at c.in-Ok-check_step.ensures c.args.stand.now c.check_bound-2.new.fragments.nodes.items in
     let five = rw c.in-Known-asked-4.is at c.in-Ok-statements.ensures in
-    let x = coded_after (rw c.in-Known-asked.is at c.in-Ok-check_bound.ensures) c.in-Known.value (stands_after one) in
-    let y = coded_after (rw c.in-Known-asked-2.is at c.in-Ok-check_bound-2.ensures) c.in-Known.value x in
-    let z = coded_after (rw c.in-Known-asked-3.is at c.in-Ok-check_step.ensures c.args.stand.now c.check_bound-2.new.fragments.nodes.items) c.in-Known.value y in
-    stays_coded five.works.keeps.frame five.grows c.in-Known.value z
+    let x = onwards.coded_after second c.in-Known.value (walking.stands_after first) in
+    stays_coded five.works.keeps.frame five.grows c.in-Known.value (onwards.coded_after fourth c.in-Known.value (onwards.coded_after third c.in-Known.value x))
 
 pub for_statement-emit_for-requires-clause-first : goal.for_statement-emit_for-requires-clause-first
 for_statement-emit_for-requires-clause-first g t c =
-    let fs1 : Flows = record { fragments = c.control_variable.new.fragments; nodes = c.args.flows.now.nodes } in
-    let two = of_code fs1 c.check_bound.new.fragments _ (rw c.in-Known-asked.is at c.in-Ok-check_bound.ensures) in
+    let second = rw c.in-Known-asked.is at c.in-Ok-check_bound.ensures in
+    let third = rw c.in-Known-asked-2.is at c.in-Ok-check_bound-2.ensures in
+    let fourth = rw c.in-Known-asked-3.is at c.in-Ok-check_step.ensures c.args.stand.now c.check_bound-2.new.fragments.nodes.items in
     let five = rw c.in-Known-asked-4.is at c.in-Ok-statements.ensures in
-    let y = coded_after (rw c.in-Known-asked-2.is at c.in-Ok-check_bound-2.ensures) c.in-Known-asked.value (stands_after two) in
-    let z = coded_after (rw c.in-Known-asked-3.is at c.in-Ok-check_step.ensures c.args.stand.now c.check_bound-2.new.fragments.nodes.items) c.in-Known-asked.value y in
-    stays_coded five.works.keeps.frame five.grows c.in-Known-asked.value z
+    stays_coded five.works.keeps.frame five.grows c.in-Known-asked.value (onwards.coded_after fourth c.in-Known-asked.value (onwards.coded_after third c.in-Known-asked.value (walking.stands_after second)))
 
 pub for_statement-emit_for-requires-clause-last : goal.for_statement-emit_for-requires-clause-last
 for_statement-emit_for-requires-clause-last g t c =
-    let fs2 : Flows = record { fragments = c.check_bound.new.fragments; nodes = c.args.flows.now.nodes } in
-    let three = of_code fs2 c.check_bound-2.new.fragments _ (rw c.in-Known-asked-2.is at c.in-Ok-check_bound-2.ensures) in
+    let third = rw c.in-Known-asked-2.is at c.in-Ok-check_bound-2.ensures in
+    let fourth = rw c.in-Known-asked-3.is at c.in-Ok-check_step.ensures c.args.stand.now c.check_bound-2.new.fragments.nodes.items in
     let five = rw c.in-Known-asked-4.is at c.in-Ok-statements.ensures in
-    let z = coded_after (rw c.in-Known-asked-3.is at c.in-Ok-check_step.ensures c.args.stand.now c.check_bound-2.new.fragments.nodes.items) c.in-Known-asked-2.value (stands_after three) in
-    stays_coded five.works.keeps.frame five.grows c.in-Known-asked-2.value z
+    stays_coded five.works.keeps.frame five.grows c.in-Known-asked-2.value (onwards.coded_after fourth c.in-Known-asked-2.value (walking.stands_after third))
 
 pub for_statement-emit_for-requires-clause-body : goal.for_statement-emit_for-requires-clause-body
 for_statement-emit_for-requires-clause-body g t c =
