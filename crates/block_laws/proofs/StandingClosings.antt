@@ -11,7 +11,7 @@ use Rattle.m2_base.specs.declared.rows.RowMeaning.TheVariants.{Proc, TypeName}
 use Rattle.m2_base.specs.Rows.{row_meaning}
 use Rattle.m2_base.specs.Statics.BlockRows.{declare_block}
 use Rattle.m2_base.specs.Statics.Blocks.{BlockTree}
-use Rattle.m2_base.specs.Statics.Closing.{Implemented, all_implemented, block_name, closing_diags, differing, differs_at, has_missing, implementation_diags, implemented, implements_heading, implements_type, is_implemented, is_missing, is_opaque_before, name_diags, own_diags, procedure_implements, type_implemented}
+use Rattle.m2_base.specs.Statics.Closing.{Implemented, all_implemented, block_name, closing_diags, differing, differs_at, has_missing, implementation_diags, implemented, implements_heading, implements_type, is_implemented, is_missing, is_opaque_before, own_diags, procedure_implements, type_implemented}
 use Rattle.m2_base.specs.Statics.Contexts.{Context, Scene, Source, diag}
 use Rattle.m2_base.specs.Statics.Diagnostics.{not_implemented}
 use Rattle.m2_base.specs.Statics.Lookup.{Entry, entry_in}

@@ -17,7 +17,7 @@ use Rattle.m2_base.specs.Statics.Makes.{Makes, makes_named, makes_row, next_plac
 use Rattle.m2_base.specs.Statics.ProcedureRows.{heading_note, is_proc, is_proc_meaning, parameter_count, proc_number, proc_scope, section_rows, sections_length}
 use Rattle.m2_base.specs.Statics.ProcedureTypes.{result_type}
 use Rattle.m2_base.specs.Statics.ShapedRows.{AreShaped}
-use Rattle.m2_base.specs.Statics.Shapes.{Shape, item_shapes, named, section_shapes}
+use Rattle.m2_base.specs.Statics.Shapes.{Shape, item_shapes, section_shapes}
 use Rattle.m2_base.specs.Tables.{first_named}
 use Rattle.m2_base.specs.Statics.ImportRows.{alias_row, place_or_broken}
 use Rattle.m2_base.specs.Statics.ImportedConstants.{Member, are_too_many, brought_names, members_of, new_members}

@@ -2,7 +2,7 @@
 use Rattle.std.specs.Prelude.{◌≡◌, ℕ, ◌+◌, ◌==◌, false, List, [], ◌∷◌, ◌++◌, map, flat_map, Option, Some, None, ◌||◌}
 use Rattle.std.proofs.Common.{subst, sym, refl}
 use Rattle.m2_base.specs.Lists.{Each}
-use Rattle.m2_base.specs.Rows.{row_meaning, const_kind, proc_kind, module_kind, alias_kind, field_kind, param_kind, enum_kind, subrange_kind, array_kind, open_array_kind, record_kind, set_kind, pointer_kind, proc_type_kind, opaque_kind}
+use Rattle.m2_base.specs.Rows.{row_meaning, proc_kind, module_kind, alias_kind}
 use Rattle.m2_base.specs.declared.rows.Row.{Row}
 use Rattle.m2_base.specs.declared.rows.RowMeaning.{RowMeaning}
 use Rattle.m2_base.specs.declared.trees.declarations.StreamKind.{StreamKind}
