@@ -1,7 +1,7 @@
 -- What operators, standard functions and sets give of operands that aren't in error, where they have no diagnostic.
 use Rattle.std.specs.Prelude.{◌≡◌, ℕ, true, false, not, is_none, ◌&&◌, ◌||◌, is_some, ℤ, pos, nat_abs, slice_index_or, ◌⊎◌, List, Option, Some, None}
 use Rattle.std.proofs.Common.{ap, subst, sym, ◌∙◌, refl, inl, inr}
-use Rattle.std.proofs.lemmas.Bool.{and_parts, or_cases, or_from, or_parts}
+use Rattle.std.proofs.lemmas.Bool.{and_parts, false≢true, or_cases, or_from, or_parts, true≢false}
 use Rattle.m2_base.specs.Gives.{Gives, gives}
 use Rattle.m2_base.specs.Rows.{is_same_place, row_of, row_meaning}
 use Rattle.m2_base.specs.declared.rows.Place.{Place}
@@ -285,7 +285,7 @@ module _ (c : Context) (clear : IsClearScene c.scene) where
       join (ordinal_type_argument_fine t_at t h) (λ h'. join (ordinal_argument_fine at o k) (λ k'. val_as_fine at typ x h'.0 k'))
 
   end_good : (t : Place) (end : Range → ℤ) (o : Option Range) → IsClear t → is_none o ≡ false → IsGood (end_value c t end o)
-  end_good t end None h e = absurd (cc)
+  end_good t end None h e = absurd (true≢false e)
   end_good t end (Some r) h e = h
 
   pub min_fine : (at : ℕ) (o : Operand) → IsGood o → GivesFine IsGood (min_of c at o)
@@ -312,7 +312,7 @@ module _ (c : Context) (clear : IsClearScene c.scene) where
   base_by u (Set base) e s h =
       let kind : kind_of c.scene u ≡ Set base = ap (meaning_at c.scene) (ap (stands_as c.scene u) e) ∙ e in
       subst IsClear (sym (ap set_base_by kind)) h
-  base_by u m e s h = absurd (cc)
+  base_by u m e s h = absurd (false≢true s)
 
   base_clear : (u : Place) → is_set_kind (meaning_at c.scene u) ≡ true → IsClear (set_base c u)
   base_clear u s = base_by u (meaning_at c.scene u) refl s (place_clear c.scene.tables types u)

@@ -233,3 +233,162 @@ append_inner-returns-in-Node-clause-ok t c =
     let there : k < length fs.nodes.items = subst (λ (f : Flow). IsBefore (length fs.nodes.items) f) c.in-Node.is c.requires.there in
     subst (λ (f : Flow). OnOk r (Appended a e ws (part_at c.args.out (flow_in fs f c.args.cell)))) (sym c.in-Node.is)
     (subst (λ (f : FlowOf). OnOk r (Appended a e ws (part_at c.args.out f))) (sym (node_flow fs c.requires.sound k c.index-node.result.now there c.index-node.ensures c.args.cell)) c.append_form.ensures.ok)
+
+pub append_last_body-returns-in_err-forward-clause-begins : goal.append_last_body-returns-in_err-forward-clause-begins
+append_last_body-returns-in_err-forward-clause-begins t c = Begins-refl c.args.piece.now
+
+pub append_last_body-returns-in_err-push_instr-clause-begins : goal.append_last_body-returns-in_err-push_instr-clause-begins
+append_last_body-returns-in_err-push_instr-clause-begins t c = c.push_instr.ensures.begins
+
+pub append_last_body-returns-clause-begins : goal.append_last_body-returns-clause-begins
+append_last_body-returns-clause-begins t c = Begins-trans c.push_instr.ensures.begins c.append_inner.ensures.begins
+
+pub append_body-returns-in_err-size-clause-begins : goal.append_body-returns-in_err-size-clause-begins
+append_body-returns-in_err-size-clause-begins t c = Begins-refl c.args.piece.now
+
+pub append_body-returns-in_err-forward-clause-begins : goal.append_body-returns-in_err-forward-clause-begins
+append_body-returns-in_err-forward-clause-begins t c = Begins-refl c.args.piece.now
+
+pub append_body-returns-in_err-push_instr-clause-begins : goal.append_body-returns-in_err-push_instr-clause-begins
+append_body-returns-in_err-push_instr-clause-begins t c = c.push_instr.ensures.begins
+
+pub append_body-returns-in_err-sum-clause-begins : goal.append_body-returns-in_err-sum-clause-begins
+append_body-returns-in_err-sum-clause-begins t c = c.push_instr.ensures.begins
+
+pub append_body-returns-in_err-append_inner-clause-begins : goal.append_body-returns-in_err-append_inner-clause-begins
+append_body-returns-in_err-append_inner-clause-begins t c = Begins-trans c.push_instr.ensures.begins c.append_inner.ensures.begins
+
+pub append_body-returns-in_err-forward-2-clause-begins : goal.append_body-returns-in_err-forward-2-clause-begins
+append_body-returns-in_err-forward-2-clause-begins t c = Begins-trans c.push_instr.ensures.begins c.append_inner.ensures.begins
+
+pub append_body-returns-clause-begins : goal.append_body-returns-clause-begins
+append_body-returns-clause-begins t c = Begins-trans (Begins-trans c.push_instr.ensures.begins c.append_inner.ensures.begins) c.push_instr-2.ensures.begins
+
+pub append_while-returns-in_err-behind-clause-begins : goal.append_while-returns-in_err-behind-clause-begins
+append_while-returns-in_err-behind-clause-begins t c = Begins-refl c.args.piece.now
+
+pub append_while-returns-in_err-all-clause-begins : goal.append_while-returns-in_err-all-clause-begins
+append_while-returns-in_err-all-clause-begins t c = Begins-refl c.args.piece.now
+
+pub append_while-returns-in_err-append_all-clause-begins : goal.append_while-returns-in_err-append_all-clause-begins
+append_while-returns-in_err-append_all-clause-begins t c = c.append_all.ensures.begins
+
+pub append_while-returns-in_err-forward-clause-begins : goal.append_while-returns-in_err-forward-clause-begins
+append_while-returns-in_err-forward-clause-begins t c = c.append_all.ensures.begins
+
+pub append_while-returns-in_err-push_instr-clause-begins : goal.append_while-returns-in_err-push_instr-clause-begins
+append_while-returns-in_err-push_instr-clause-begins t c = Begins-trans c.append_all.ensures.begins c.push_instr.ensures.begins
+
+pub append_while-returns-in_err-sum-clause-begins : goal.append_while-returns-in_err-sum-clause-begins
+append_while-returns-in_err-sum-clause-begins t c = Begins-trans c.append_all.ensures.begins c.push_instr.ensures.begins
+
+pub append_while-returns-in_err-append_inner-clause-begins : goal.append_while-returns-in_err-append_inner-clause-begins
+append_while-returns-in_err-append_inner-clause-begins t c = Begins-trans (Begins-trans c.append_all.ensures.begins c.push_instr.ensures.begins) c.append_inner.ensures.begins
+
+pub append_while-returns-in_err-backward-clause-begins : goal.append_while-returns-in_err-backward-clause-begins
+append_while-returns-in_err-backward-clause-begins t c = Begins-trans (Begins-trans c.append_all.ensures.begins c.push_instr.ensures.begins) c.append_inner.ensures.begins
+
+pub append_while-returns-clause-begins : goal.append_while-returns-clause-begins
+append_while-returns-clause-begins t c = Begins-trans (Begins-trans (Begins-trans c.append_all.ensures.begins c.push_instr.ensures.begins) c.append_inner.ensures.begins) c.push_instr-2.ensures.begins
+
+pub append_until-returns-in_err-sum-clause-begins : goal.append_until-returns-in_err-sum-clause-begins
+append_until-returns-in_err-sum-clause-begins t c = Begins-refl c.args.piece.now
+
+pub append_until-returns-in_err-behind-clause-begins : goal.append_until-returns-in_err-behind-clause-begins
+append_until-returns-in_err-behind-clause-begins t c = Begins-refl c.args.piece.now
+
+pub append_until-returns-in_err-append_inner-clause-begins : goal.append_until-returns-in_err-append_inner-clause-begins
+append_until-returns-in_err-append_inner-clause-begins t c = c.append_inner.ensures.begins
+
+pub append_until-returns-in_err-append_all-clause-begins : goal.append_until-returns-in_err-append_all-clause-begins
+append_until-returns-in_err-append_all-clause-begins t c = Begins-trans c.append_inner.ensures.begins c.append_all.ensures.begins
+
+pub append_until-returns-in_err-all-clause-begins : goal.append_until-returns-in_err-all-clause-begins
+append_until-returns-in_err-all-clause-begins t c = Begins-trans c.append_inner.ensures.begins c.append_all.ensures.begins
+
+pub append_until-returns-in_err-backward-clause-begins : goal.append_until-returns-in_err-backward-clause-begins
+append_until-returns-in_err-backward-clause-begins t c = Begins-trans c.append_inner.ensures.begins c.append_all.ensures.begins
+
+pub append_until-returns-clause-begins : goal.append_until-returns-clause-begins
+append_until-returns-clause-begins t c = Begins-trans (Begins-trans c.append_inner.ensures.begins c.append_all.ensures.begins) c.push_instr.ensures.begins
+
+pub append_for_ever-returns-in_err-append_inner-clause-begins : goal.append_for_ever-returns-in_err-append_inner-clause-begins
+append_for_ever-returns-in_err-append_inner-clause-begins t c = c.append_inner.ensures.begins
+
+pub append_for_ever-returns-in_err-backward-clause-begins : goal.append_for_ever-returns-in_err-backward-clause-begins
+append_for_ever-returns-in_err-backward-clause-begins t c = c.append_inner.ensures.begins
+
+pub append_for_ever-returns-clause-begins : goal.append_for_ever-returns-clause-begins
+append_for_ever-returns-clause-begins t c = Begins-trans c.append_inner.ensures.begins c.push_instr.ensures.begins
+
+pub append_counted-returns-in_err-code_size-clause-begins : goal.append_counted-returns-in_err-code_size-clause-begins
+append_counted-returns-in_err-code_size-clause-begins t c = Begins-refl c.args.piece.now
+
+pub append_counted-returns-in_err-codes-clause-begins : goal.append_counted-returns-in_err-codes-clause-begins
+append_counted-returns-in_err-codes-clause-begins t c = Begins-refl c.args.piece.now
+
+pub append_counted-returns-in_err-behind-clause-begins : goal.append_counted-returns-in_err-behind-clause-begins
+append_counted-returns-in_err-behind-clause-begins t c = Begins-refl c.args.piece.now
+
+pub append_counted-returns-in_err-append_code-clause-begins : goal.append_counted-returns-in_err-append_code-clause-begins
+append_counted-returns-in_err-append_code-clause-begins t c = c.append_code.ensures.begins
+
+pub append_counted-returns-in_err-sum-clause-begins : goal.append_counted-returns-in_err-sum-clause-begins
+append_counted-returns-in_err-sum-clause-begins t c = c.append_code.ensures.begins
+
+pub append_counted-returns-in_err-forward-clause-begins : goal.append_counted-returns-in_err-forward-clause-begins
+append_counted-returns-in_err-forward-clause-begins t c = c.append_code.ensures.begins
+
+pub append_counted-returns-in_err-push_instr-clause-begins : goal.append_counted-returns-in_err-push_instr-clause-begins
+append_counted-returns-in_err-push_instr-clause-begins t c = Begins-trans c.append_code.ensures.begins c.push_instr.ensures.begins
+
+pub append_counted-returns-in_err-sum-2-clause-begins : goal.append_counted-returns-in_err-sum-2-clause-begins
+append_counted-returns-in_err-sum-2-clause-begins t c = Begins-trans c.append_code.ensures.begins c.push_instr.ensures.begins
+
+pub append_counted-returns-in_err-append_inner-clause-begins : goal.append_counted-returns-in_err-append_inner-clause-begins
+append_counted-returns-in_err-append_inner-clause-begins t c = Begins-trans (Begins-trans c.append_code.ensures.begins c.push_instr.ensures.begins) c.append_inner.ensures.begins
+
+pub append_counted-returns-clause-begins : goal.append_counted-returns-clause-begins
+append_counted-returns-clause-begins t c = Begins-trans (Begins-trans (Begins-trans c.append_code.ensures.begins c.push_instr.ensures.begins) c.append_inner.ensures.begins) c.append_again.ensures.begins
+
+pub append_arm-returns-then-left-eq0-clause-begins : goal.append_arm-returns-then-left-eq0-clause-begins
+append_arm-returns-then-left-eq0-clause-begins t c = Begins-trans c.append_code.ensures.begins c.append_last_body.ensures.begins
+
+pub append_arm-returns-else-left-eq0-clause-begins : goal.append_arm-returns-else-left-eq0-clause-begins
+append_arm-returns-else-left-eq0-clause-begins t c = Begins-trans c.append_code.ensures.begins c.append_body.ensures.begins
+
+pub append_block-returns-in_err-append_inner-clause-begins : goal.append_block-returns-in_err-append_inner-clause-begins
+append_block-returns-in_err-append_inner-clause-begins t c = Begins-trans c.loop-entry.invariant.begins c.append_inner.ensures.begins
+
+pub append_block-returns-in_err-block_size-clause-begins : goal.append_block-returns-in_err-block_size-clause-begins
+append_block-returns-in_err-block_size-clause-begins t c = Begins-refl c.args.piece.now
+
+pub append_block-returns-in_err-behind-clause-begins : goal.append_block-returns-in_err-behind-clause-begins
+append_block-returns-in_err-behind-clause-begins t c = Begins-refl c.args.piece.now
+
+pub append_choice-returns-in_err-arms_size-clause-begins : goal.append_choice-returns-in_err-arms_size-clause-begins
+append_choice-returns-in_err-arms_size-clause-begins t c = Begins-refl c.args.piece.now
+
+pub append_choice-returns-in_err-other_size-clause-begins : goal.append_choice-returns-in_err-other_size-clause-begins
+append_choice-returns-in_err-other_size-clause-begins t c = Begins-refl c.args.piece.now
+
+pub append_choice-returns-in_err-left-clause-begins : goal.append_choice-returns-in_err-left-clause-begins
+append_choice-returns-in_err-left-clause-begins t c = Begins-refl c.args.piece.now
+
+pub append_choice-returns-in_err-append_arm-clause-begins : goal.append_choice-returns-in_err-append_arm-clause-begins
+append_choice-returns-in_err-append_arm-clause-begins t c = Begins-trans c.loop-arm.invariant.begins c.append_arm.ensures.begins
+
+pub append_choice-returns-in-Some-clause-begins : goal.append_choice-returns-in-Some-clause-begins
+append_choice-returns-in-Some-clause-begins t c = Begins-trans c.loop-arm.invariant.begins c.append_inner.ensures.begins
+
+pub append_form-returns-in_err-forward-in-Exit-clause-begins : goal.append_form-returns-in_err-forward-in-Exit-clause-begins
+append_form-returns-in_err-forward-in-Exit-clause-begins t c = Begins-refl c.args.piece.now
+
+pub append_in_with-returns-in_err-push-clause-begins : goal.append_in_with-returns-in_err-push-clause-begins
+append_in_with-returns-in_err-push-clause-begins t c = Begins-refl c.args.piece.now
+
+pub append_in_with-returns-in_err-extend_from_slice-clause-begins : goal.append_in_with-returns-in_err-extend_from_slice-clause-begins
+append_in_with-returns-in_err-extend_from_slice-clause-begins t c = Begins-refl c.args.piece.now
+
+pub append_inner-returns-in-Nothing-clause-begins : goal.append_inner-returns-in-Nothing-clause-begins
+append_inner-returns-in-Nothing-clause-begins t c = Begins-refl c.args.piece.now

@@ -1,6 +1,7 @@
 use Rattle.std.proofs.Common.{◌≡◌, ◌∙◌, ◌+◌, ℕ, FitsSigned, ap, negsuc, pos, rules, sym, w32}
 use Rattle.std.proofs.lemmas.Int.{to_z-of_z}
 use Rattle.expr_sem.specs.Fragments.{part}
+use Rattle.expr_sem.proofs.PieceParts.{Begins-refl, Begins-trans}
 use Rattle.stmt_sem.specs.FlowNodes.{code_by}
 use Rattle.stmt_sem.specs.FlowSizes.{code_bytes, fragment_bytes, somewhere}
 use Rattle.stmt_sem.proofs.FlowsAppended.{again_on}
@@ -25,3 +26,33 @@ returns-clause-ok c =
     (to_z-of_z w32 c.in_ok-forward.field-0 over ∙ c.in_ok-forward.ensures ∙ ap pos skip)
     (to_z-of_z w32 c.in_ok-backward.field-0 back ∙ c.in_ok-backward.ensures ∙ ap (λ (i : ℕ). negsuc (i + 4)) all)
     c.in_ok-append_code.ensures.ok (c.in_ok-push_instr.ensures.ok ws) c.in_ok-append_all.ensures.ok (c.push_instr-2.ensures.ok ws)
+
+pub returns-in_err-step_size-clause-begins : goal.returns-in_err-step_size-clause-begins
+returns-in_err-step_size-clause-begins c = Begins-refl c.args.piece.now
+
+pub returns-in_err-code_size-clause-begins : goal.returns-in_err-code_size-clause-begins
+returns-in_err-code_size-clause-begins c = Begins-refl c.args.piece.now
+
+pub returns-in_err-sum-clause-begins : goal.returns-in_err-sum-clause-begins
+returns-in_err-sum-clause-begins c = Begins-refl c.args.piece.now
+
+pub returns-in_err-all-clause-begins : goal.returns-in_err-all-clause-begins
+returns-in_err-all-clause-begins c = Begins-refl c.args.piece.now
+
+pub returns-in_err-append_code-clause-begins : goal.returns-in_err-append_code-clause-begins
+returns-in_err-append_code-clause-begins c = c.append_code.ensures.begins
+
+pub returns-in_err-forward-clause-begins : goal.returns-in_err-forward-clause-begins
+returns-in_err-forward-clause-begins c = c.append_code.ensures.begins
+
+pub returns-in_err-push_instr-clause-begins : goal.returns-in_err-push_instr-clause-begins
+returns-in_err-push_instr-clause-begins c = Begins-trans c.append_code.ensures.begins c.push_instr.ensures.begins
+
+pub returns-in_err-append_all-clause-begins : goal.returns-in_err-append_all-clause-begins
+returns-in_err-append_all-clause-begins c = Begins-trans (Begins-trans c.append_code.ensures.begins c.push_instr.ensures.begins) c.append_all.ensures.begins
+
+pub returns-in_err-backward-clause-begins : goal.returns-in_err-backward-clause-begins
+returns-in_err-backward-clause-begins c = Begins-trans (Begins-trans c.append_code.ensures.begins c.push_instr.ensures.begins) c.append_all.ensures.begins
+
+pub returns-clause-begins : goal.returns-clause-begins
+returns-clause-begins c = Begins-trans (Begins-trans (Begins-trans c.append_code.ensures.begins c.push_instr.ensures.begins) c.append_all.ensures.begins) c.push_instr-2.ensures.begins
