@@ -10,13 +10,13 @@ use Rattle.expr_sem.specs.declared.coder.Coder.{Coder}
 use Rattle.expr_sem.specs.declared.fragments.Node.{Node}
 
 -- the fragments made so far
-abbrev pub made : {X : Type 0} → Coder X → List Node
-made c = c.fragments.now.nodes.items
+abbrev pub nodes_of : {X : Type 0} → Coder X → List Node
+nodes_of c = c.fragments.now.nodes.items
 
 -- A coding, from an analysis in progress to what it is afterwards; `state` is what its scopes hold.
 abbrev pub Codes : {X T V : Type 0} → (state : X → State) → (old new : Coder X) → (answer : Result (Ask T) Memory) → (MayStand : Frame → List Node → T → Type 0) → (as_given : List Node → T → V) → (given : Context → Gives V) → Type 0
 Codes state old new answer MayStand as_given given =
-    Coding (state old.scopes.now) (state new.scopes.now) old.notes.now new.notes.now (made old) (made new) old.site.now answer MayStand as_given given
+    Coding (state old.scopes.now) (state new.scopes.now) old.notes.now new.notes.now (nodes_of old) (nodes_of new) old.site.now answer MayStand as_given given
 
 -- It stands where it stood, and works on what it worked on.
 pub record Keeps {X : Type 0} (old new : Coder X) : Type 0 where

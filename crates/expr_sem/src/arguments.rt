@@ -8,7 +8,7 @@ ghost use Rattle.const_eval.specs.Sites.{IsOperand};
 ghost use Rattle.expr_sem.specs.ArgumentCodes.{IsArgument, argument_in, parameter_view};
 ghost use Rattle.expr_sem.specs.Arguments.{alike as spec_alike, argument as spec_argument, array_argument as spec_array_argument, by_address as spec_address, by_value as spec_value, checked_mode as spec_checked, is_variable as spec_variable, open_argument as spec_open, string_copy as spec_copy};
 ghost use Rattle.expr_sem.specs.Coded.{characters as spec_characters};
-ghost use Rattle.expr_sem.specs.Coders.{Codes, Keeps, made};
+ghost use Rattle.expr_sem.specs.Coders.{Codes, Keeps, nodes_of};
 ghost use Rattle.expr_sem.specs.Codings.{Coding, IsCoded, coded_in};
 ghost use Rattle.expr_sem.specs.Fragments.{IsMade};
 ghost use Rattle.expr_sem.specs.Kinds.{IsKindHere};
@@ -19,8 +19,8 @@ ghost use Rattle.type_rules.specs.Scenes.{IsThere};
 ghost use Rattle.type_rules.specs.Sites.{SuitsSite};
 
 use crate::chains::instr_behind;
-use crate::coder::Coder;
 use crate::coded::{Coded, Placed};
+use crate::coder::Coder;
 use crate::fitting::fitted_code;
 use crate::fragments::{Fragment, Fragments};
 use crate::refusals::refused;
@@ -79,12 +79,20 @@ impl<S: Scopes> Coder<'_, '_, S> {
     fn by_value(&mut self, of: Place, x: Placed) -> Result<Ask<Option<Fragment>>, Memory>
         requires suits { SuitsSite (S.state self.old.scopes.now).frame self.old.site.now }
         requires of { IsThere (S.state self.old.scopes.now).frame of }
-        requires x { IsCoded (S.state self.old.scopes.now).frame (made self.old) x.coded }
+        requires x { IsCoded (S.state self.old.scopes.now).frame (nodes_of self.old) x.coded }
         ensures keeps { Keeps self.old self.new }
-        ensures codes { Codes S.state self.old self.new result IsArgument argument_in (λ c. spec_value c of x.at (coded_in (made self.old) x.coded)) }
+        ensures codes { Codes S.state self.old self.new result IsArgument argument_in (λ c. spec_value c of x.at (coded_in (nodes_of self.old) x.coded)) }
     {
         let refusal = Diagnostic::NotAssignable;
-        let taken = analysed!(assigned_to(self.scopes, self.site, of, x.at, refusal, x.coded, self.notes));
+        let taken = analysed!(assigned_to(
+            self.scopes,
+            self.site,
+            of,
+            x.at,
+            refusal,
+            x.coded,
+            self.notes
+        ));
         match taken.operand {
             Operand::InError => Ok(Ask::Known(None)),
             Operand::StringConstant(name, _) => {
@@ -93,7 +101,13 @@ impl<S: Scopes> Coder<'_, '_, S> {
                 Ok(Ask::Known(Some(copy)))
             }
             _ => {
-                let code = analysed!(fitted_code(self.scopes, self.site, of, taken, self.fragments));
+                let code = analysed!(fitted_code(
+                    self.scopes,
+                    self.site,
+                    of,
+                    taken,
+                    self.fragments
+                ));
                 Ok(Ask::Known(Some(code)))
             }
         }
@@ -126,14 +140,20 @@ fn by_address<S: Scopes>(
 impl<S: Scopes> Coder<'_, '_, S> {
     /// An array whose elements are of a type, as the argument of an open array: its address, and the number of its elements
     /// less 1. `kind` is what its type's row says.
-    fn alike(&mut self, want: Place, x: Placed, kind: RowMeaning, element: Place) -> Result<Ask<Option<Fragment>>, Memory>
+    fn alike(
+        &mut self,
+        want: Place,
+        x: Placed,
+        kind: RowMeaning,
+        element: Place,
+    ) -> Result<Ask<Option<Fragment>>, Memory>
         requires suits { SuitsSite (S.state self.old.scopes.now).frame self.old.site.now }
         requires want { IsThere (S.state self.old.scopes.now).frame want }
-        requires x { IsCoded (S.state self.old.scopes.now).frame (made self.old) x.coded }
+        requires x { IsCoded (S.state self.old.scopes.now).frame (nodes_of self.old) x.coded }
         requires kind { IsKindHere (S.state self.old.scopes.now).frame kind }
         requires element { IsThere (S.state self.old.scopes.now).frame element }
         ensures keeps { Keeps self.old self.new }
-        ensures codes { Codes S.state self.old self.new result IsArgument argument_in (λ c. spec_alike c want x.at (coded_in (made self.old) x.coded) kind element) }
+        ensures codes { Codes S.state self.old self.new result IsArgument argument_in (λ c. spec_alike c want x.at (coded_in (nodes_of self.old) x.coded) kind element) }
     {
         if asked!(is_broken(self.scopes, self.site.around, element)) {
             return Ok(Ask::Known(None));
@@ -147,13 +167,18 @@ impl<S: Scopes> Coder<'_, '_, S> {
     }
 
     /// A variable of a type as the argument of an open array.
-    fn array_argument(&mut self, want: Place, x: Placed, of: Place) -> Result<Ask<Option<Fragment>>, Memory>
+    fn array_argument(
+        &mut self,
+        want: Place,
+        x: Placed,
+        of: Place,
+    ) -> Result<Ask<Option<Fragment>>, Memory>
         requires suits { SuitsSite (S.state self.old.scopes.now).frame self.old.site.now }
         requires want { IsThere (S.state self.old.scopes.now).frame want }
-        requires x { IsCoded (S.state self.old.scopes.now).frame (made self.old) x.coded }
+        requires x { IsCoded (S.state self.old.scopes.now).frame (nodes_of self.old) x.coded }
         requires of { IsThere (S.state self.old.scopes.now).frame of }
         ensures keeps { Keeps self.old self.new }
-        ensures codes { Codes S.state self.old self.new result IsArgument argument_in (λ c. spec_array_argument c want x.at (coded_in (made self.old) x.coded) (kind_of c.scene of)) }
+        ensures codes { Codes S.state self.old self.new result IsArgument argument_in (λ c. spec_array_argument c want x.at (coded_in (nodes_of self.old) x.coded) (kind_of c.scene of)) }
     {
         let (place, kind) = asked!(stand(self.scopes, self.site.around, of));
         has_small_ordinal(place);
@@ -164,9 +189,7 @@ impl<S: Scopes> Coder<'_, '_, S> {
                 }
                 self.alike(want, x, kind, element)
             }
-            RowMeaning::OpenArray(element) => {
-                self.alike(want, x, kind, element)
-            }
+            RowMeaning::OpenArray(element) => { self.alike(want, x, kind, element) }
             _ => refuse_argument(self.site, x.at, Diagnostic::WrongArgument, self.notes),
         }
     }
@@ -198,9 +221,9 @@ impl<S: Scopes> Coder<'_, '_, S> {
     fn open_argument(&mut self, want: Place, x: Placed) -> Result<Ask<Option<Fragment>>, Memory>
         requires suits { SuitsSite (S.state self.old.scopes.now).frame self.old.site.now }
         requires want { IsThere (S.state self.old.scopes.now).frame want }
-        requires x { IsCoded (S.state self.old.scopes.now).frame (made self.old) x.coded }
+        requires x { IsCoded (S.state self.old.scopes.now).frame (nodes_of self.old) x.coded }
         ensures keeps { Keeps self.old self.new }
-        ensures codes { Codes S.state self.old self.new result IsArgument argument_in (λ c. spec_open c want x.at (coded_in (made self.old) x.coded) x.coded.operand) }
+        ensures codes { Codes S.state self.old self.new result IsArgument argument_in (λ c. spec_open c want x.at (coded_in (nodes_of self.old) x.coded) x.coded.operand) }
     {
         match x.coded.operand {
             Operand::StringConstant(name, length) => {
@@ -219,9 +242,9 @@ impl<S: Scopes> Coder<'_, '_, S> {
     fn pass_argument(&mut self, p: Parameter, x: Placed) -> Result<Ask<Option<Fragment>>, Memory>
         requires suits { SuitsSite (S.state self.old.scopes.now).frame self.old.site.now }
         requires p { IsThere (S.state self.old.scopes.now).frame p.of }
-        requires x { IsCoded (S.state self.old.scopes.now).frame (made self.old) x.coded }
+        requires x { IsCoded (S.state self.old.scopes.now).frame (nodes_of self.old) x.coded }
         ensures keeps { Keeps self.old self.new }
-        ensures codes { Codes S.state self.old self.new result IsArgument argument_in (λ c. spec_checked c (parameter_view p) x.at (coded_in (made self.old) x.coded)) }
+        ensures codes { Codes S.state self.old self.new result IsArgument argument_in (λ c. spec_checked c (parameter_view p) x.at (coded_in (nodes_of self.old) x.coded)) }
     {
         if is_bad(x.coded.operand) {
             return Ok(Ask::Known(None));
@@ -235,9 +258,7 @@ impl<S: Scopes> Coder<'_, '_, S> {
         let (place, kind) = asked!(stand(self.scopes, self.site.around, p.of));
         has_small_ordinal(place);
         match kind {
-            RowMeaning::OpenArray(element) => {
-                self.open_argument(element, x)
-            }
+            RowMeaning::OpenArray(element) => { self.open_argument(element, x) }
             _ => {
                 if p.by_ref {
                     by_address(self.scopes, self.site, p.of, x, self.notes)
@@ -249,12 +270,17 @@ impl<S: Scopes> Coder<'_, '_, S> {
     }
 
     /// The code of an argument beside its parameter, where neither is in error.
-    pub fn argument(&mut self, p: Parameter, at: u32, x: Coded) -> Result<Ask<Option<Fragment>>, Memory>
+    pub fn argument(
+        &mut self,
+        p: Parameter,
+        at: u32,
+        x: Coded,
+    ) -> Result<Ask<Option<Fragment>>, Memory>
         requires suits { SuitsSite (S.state self.old.scopes.now).frame self.old.site.now }
         requires p { IsThere (S.state self.old.scopes.now).frame p.of }
-        requires x { IsCoded (S.state self.old.scopes.now).frame (made self.old) x }
+        requires x { IsCoded (S.state self.old.scopes.now).frame (nodes_of self.old) x }
         ensures keeps { Keeps self.old self.new }
-        ensures codes { Codes S.state self.old self.new result IsArgument argument_in (λ c. spec_argument c (parameter_view p) at (coded_in (made self.old) x)) }
+        ensures codes { Codes S.state self.old self.new result IsArgument argument_in (λ c. spec_argument c (parameter_view p) at (coded_in (nodes_of self.old) x)) }
     {
         if p.by_ref {
             let variable = Placed { at, coded: x };
@@ -281,6 +307,12 @@ pub fn argument<S: Scopes>(
     requires x { IsCoded (S.state scopes.old).frame fragments.old.nodes.items x }
     ensures { Coding (S.state scopes.old) (S.state scopes.new) notes.old notes.new fragments.old.nodes.items fragments.new.nodes.items site.now result IsArgument argument_in (λ c. spec_argument c (parameter_view p) at (coded_in fragments.old.nodes.items x)) }
 {
-    let mut coder = Coder { scopes, site, withs: &[], fragments, notes };
+    let mut coder = Coder {
+        scopes,
+        site,
+        withs: &[],
+        fragments,
+        notes,
+    };
     coder.argument(p, at, x)
 }

@@ -16,7 +16,7 @@ ghost use Rattle.code_form.specs.declared.instr.Instr.TheVariants.{IndexOpen, Lo
 ghost use Rattle.type_rules.specs.Asks.{Reads, WhereKnown, WhereWaiting};
 ghost use Rattle.type_rules.specs.Scenes.{IsThere, Suits, WhereTold, scene_of};
 ghost use Rattle.type_rules.specs.Sites.{SuitsSite};
-ghost use Rattle.expr_sem.specs.Coders.{Codes, Keeps, made};
+ghost use Rattle.expr_sem.specs.Coders.{Codes, Keeps, nodes_of};
 ghost use Rattle.expr_sem.specs.Coded.{coded, value_code as spec_value};
 ghost use Rattle.expr_sem.specs.Codings.{Coding, IsCoded, coded_in, high_in};
 ghost use Rattle.expr_sem.specs.Elements.{element_of_array as spec_of_array, element_of_open as spec_of_open, index_instr as spec_index, of_array as spec_array, of_pointer as spec_pointer, select_element as spec_element, select_target as spec_target};
@@ -25,10 +25,10 @@ ghost use Rattle.expr_sem.specs.Parts.{plain, ◌⨟◌};
 ghost use Rattle.expr_sem.specs.Selections.{pointed as spec_pointed};
 ghost use Rattle.expr_sem.specs.Values.{assigned_to as spec_assigned};
 
-use crate::coder::Coder;
 use crate::addressed::variable_at;
 use crate::chains::{applied, pair};
 use crate::coded::{Coded, Placed};
+use crate::coder::Coder;
 use crate::fragments::{Fragment, Fragments};
 use crate::refusals::refused;
 use crate::values::{assigned_to, value_code};
@@ -92,9 +92,9 @@ impl<S: Scopes> Coder<'_, '_, S> {
     fn of_pointer(&mut self, at: u32, of: Place, code: Fragment) -> Result<Ask<Coded>, Memory>
         requires suits { SuitsSite (S.state self.old.scopes.now).frame self.old.site.now }
         requires of { IsThere (S.state self.old.scopes.now).frame of }
-        requires code { IsIn (made self.old) code }
+        requires code { IsIn (nodes_of self.old) code }
         ensures keeps { Keeps self.old self.new }
-        ensures codes { Codes S.state self.old self.new result IsCoded coded_in (λ c. spec_pointer c at (part (made self.old) code) of (kind_of c.scene of)) }
+        ensures codes { Codes S.state self.old self.new result IsCoded coded_in (λ c. spec_pointer c at (part (nodes_of self.old) code) of (kind_of c.scene of)) }
     {
         if self.site.item.is_some() {
             return Err(Memory);
@@ -109,9 +109,9 @@ impl<S: Scopes> Coder<'_, '_, S> {
     /// What a pointer points to. `first` is the designator's first token, `at` the arrow.
     pub fn select_target(&mut self, first: u32, at: u32, x: Coded) -> Result<Ask<Coded>, Memory>
         requires suits { SuitsSite (S.state self.old.scopes.now).frame self.old.site.now }
-        requires x { IsCoded (S.state self.old.scopes.now).frame (made self.old) x }
+        requires x { IsCoded (S.state self.old.scopes.now).frame (nodes_of self.old) x }
         ensures keeps { Keeps self.old self.new }
-        ensures codes { Codes S.state self.old self.new result IsCoded coded_in (λ c. spec_target c first at (coded_in (made self.old) x)) }
+        ensures codes { Codes S.state self.old self.new result IsCoded coded_in (λ c. spec_target c first at (coded_in (nodes_of self.old) x)) }
     {
         match x.operand {
             Operand::Variable(of) => self.of_pointer(at, of, x.code),
@@ -191,27 +191,39 @@ fn extent<S: Scopes>(
 
 impl<S: Scopes> Coder<'_, '_, S> {
     /// The element of an array that this instruction finds, by its index.
-    fn element_found(&mut self, of: Place, index: Coded, code: Fragment, find: Instr) -> Result<Ask<Coded>, Memory>
+    fn element_found(
+        &mut self,
+        of: Place,
+        index: Coded,
+        code: Fragment,
+        find: Instr,
+    ) -> Result<Ask<Coded>, Memory>
         requires suits { SuitsSite (S.state self.old.scopes.now).frame self.old.site.now }
         requires of { IsThere (S.state self.old.scopes.now).frame of }
-        requires index { IsCoded (S.state self.old.scopes.now).frame (made self.old) index }
-        requires code { IsIn (made self.old) code }
+        requires index { IsCoded (S.state self.old.scopes.now).frame (nodes_of self.old) index }
+        requires code { IsIn (nodes_of self.old) code }
         ensures keeps { Keeps self.old self.new }
-        ensures codes { Codes S.state self.old self.new result IsCoded coded_in (λ c. gives (coded (Variable of) (part (made self.old) code ⨟ spec_value c (coded_in (made self.old) index) ⨟ plain (find ∷ [])))) }
+        ensures codes { Codes S.state self.old self.new result IsCoded coded_in (λ c. gives (coded (Variable of) (part (nodes_of self.old) code ⨟ spec_value c (coded_in (nodes_of self.old) index) ⨟ plain (find ∷ [])))) }
     {
         let value = analysed!(value_code(self.scopes, self.site, index, self.fragments));
         variable_at(of, applied(self.fragments, code, value, find))
     }
 
     /// The element of an array of these indices.
-    fn array_indexed(&mut self, indices: Place, of: Place, index: Coded, code: Fragment) -> Result<Ask<Coded>, Memory>
+    fn array_indexed(
+        &mut self,
+        indices: Place,
+        of: Place,
+        index: Coded,
+        code: Fragment,
+    ) -> Result<Ask<Coded>, Memory>
         requires suits { SuitsSite (S.state self.old.scopes.now).frame self.old.site.now }
         requires indices { IsThere (S.state self.old.scopes.now).frame indices }
         requires of { IsThere (S.state self.old.scopes.now).frame of }
-        requires index { IsCoded (S.state self.old.scopes.now).frame (made self.old) index }
-        requires code { IsIn (made self.old) code }
+        requires index { IsCoded (S.state self.old.scopes.now).frame (nodes_of self.old) index }
+        requires code { IsIn (nodes_of self.old) code }
         ensures keeps { Keeps self.old self.new }
-        ensures codes { Codes S.state self.old self.new result IsCoded coded_in (λ c. gives (coded (Variable of) (part (made self.old) code ⨟ spec_value c (coded_in (made self.old) index) ⨟ plain (spec_index (spec_range c.scene indices) (spec_size c.scene of) ∷ [])))) }
+        ensures codes { Codes S.state self.old self.new result IsCoded coded_in (λ c. gives (coded (Variable of) (part (nodes_of self.old) code ⨟ spec_value c (coded_in (nodes_of self.old) index) ⨟ plain (spec_index (spec_range c.scene indices) (spec_size c.scene of) ∷ [])))) }
     {
         let found = asked!(extent(self.scopes, self.site.around, indices, of));
         match index_instr(found.0, found.1) {
@@ -221,14 +233,20 @@ impl<S: Scopes> Coder<'_, '_, S> {
     }
 
     /// The element of an array, by its index, unless one of them is in error.
-    fn element_of_array(&mut self, indices: Place, of: Place, index: Coded, x: Coded) -> Result<Ask<Coded>, Memory>
+    fn element_of_array(
+        &mut self,
+        indices: Place,
+        of: Place,
+        index: Coded,
+        x: Coded,
+    ) -> Result<Ask<Coded>, Memory>
         requires suits { SuitsSite (S.state self.old.scopes.now).frame self.old.site.now }
         requires indices { IsThere (S.state self.old.scopes.now).frame indices }
         requires of { IsThere (S.state self.old.scopes.now).frame of }
-        requires index { IsCoded (S.state self.old.scopes.now).frame (made self.old) index }
-        requires x { IsCoded (S.state self.old.scopes.now).frame (made self.old) x }
+        requires index { IsCoded (S.state self.old.scopes.now).frame (nodes_of self.old) index }
+        requires x { IsCoded (S.state self.old.scopes.now).frame (nodes_of self.old) x }
         ensures keeps { Keeps self.old self.new }
-        ensures codes { Codes S.state self.old self.new result IsCoded coded_in (λ c. spec_of_array c (coded_in (made self.old) x) indices of (coded_in (made self.old) index)) }
+        ensures codes { Codes S.state self.old self.new result IsCoded coded_in (λ c. spec_of_array c (coded_in (nodes_of self.old) x) indices of (coded_in (nodes_of self.old) index)) }
     {
         if asked!(is_spoilt(self.scopes, self.site.around, index.operand, of)) {
             return Ok(Ask::Known(Coded::in_error()));
@@ -268,13 +286,19 @@ fn open_code(
 
 impl<S: Scopes> Coder<'_, '_, S> {
     /// The element of an open array whose elements have this size.
-    fn open_found(&mut self, of: Place, size: u32, index: Coded, x: Coded) -> Result<Ask<Coded>, Memory>
+    fn open_found(
+        &mut self,
+        of: Place,
+        size: u32,
+        index: Coded,
+        x: Coded,
+    ) -> Result<Ask<Coded>, Memory>
         requires suits { SuitsSite (S.state self.old.scopes.now).frame self.old.site.now }
         requires of { IsThere (S.state self.old.scopes.now).frame of }
-        requires index { IsCoded (S.state self.old.scopes.now).frame (made self.old) index }
-        requires x { IsCoded (S.state self.old.scopes.now).frame (made self.old) x }
+        requires index { IsCoded (S.state self.old.scopes.now).frame (nodes_of self.old) index }
+        requires x { IsCoded (S.state self.old.scopes.now).frame (nodes_of self.old) x }
         ensures keeps { Keeps self.old self.new }
-        ensures codes { Codes S.state self.old self.new result IsCoded coded_in (λ c. gives (coded (Variable of) (part (made self.old) x.code ⨟ high_in (made self.old) x.high ⨟ spec_value c (coded_in (made self.old) index) ⨟ plain (IndexOpen size ∷ [])))) }
+        ensures codes { Codes S.state self.old self.new result IsCoded coded_in (λ c. gives (coded (Variable of) (part (nodes_of self.old) x.code ⨟ high_in (nodes_of self.old) x.high ⨟ spec_value c (coded_in (nodes_of self.old) index) ⨟ plain (IndexOpen size ∷ [])))) }
     {
         let value = analysed!(value_code(self.scopes, self.site, index, self.fragments));
         variable_at(of, open_code(x, value, size, self.fragments))
@@ -300,10 +324,10 @@ impl<S: Scopes> Coder<'_, '_, S> {
     fn open_indexed(&mut self, of: Place, index: Coded, x: Coded) -> Result<Ask<Coded>, Memory>
         requires suits { SuitsSite (S.state self.old.scopes.now).frame self.old.site.now }
         requires of { IsThere (S.state self.old.scopes.now).frame of }
-        requires index { IsCoded (S.state self.old.scopes.now).frame (made self.old) index }
-        requires x { IsCoded (S.state self.old.scopes.now).frame (made self.old) x }
+        requires index { IsCoded (S.state self.old.scopes.now).frame (nodes_of self.old) index }
+        requires x { IsCoded (S.state self.old.scopes.now).frame (nodes_of self.old) x }
         ensures keeps { Keeps self.old self.new }
-        ensures codes { Codes S.state self.old self.new result IsCoded coded_in (λ c. gives (coded (Variable of) (part (made self.old) x.code ⨟ high_in (made self.old) x.high ⨟ spec_value c (coded_in (made self.old) index) ⨟ plain (IndexOpen (spec_size c.scene of) ∷ [])))) }
+        ensures codes { Codes S.state self.old self.new result IsCoded coded_in (λ c. gives (coded (Variable of) (part (nodes_of self.old) x.code ⨟ high_in (nodes_of self.old) x.high ⨟ spec_value c (coded_in (nodes_of self.old) index) ⨟ plain (IndexOpen (spec_size c.scene of) ∷ [])))) }
     {
         let size = asked!(cells_of(self.scopes, self.site.around, of));
         self.open_found(of, size, index, x)
@@ -313,10 +337,10 @@ impl<S: Scopes> Coder<'_, '_, S> {
     fn element_of_open(&mut self, of: Place, index: Coded, x: Coded) -> Result<Ask<Coded>, Memory>
         requires suits { SuitsSite (S.state self.old.scopes.now).frame self.old.site.now }
         requires of { IsThere (S.state self.old.scopes.now).frame of }
-        requires index { IsCoded (S.state self.old.scopes.now).frame (made self.old) index }
-        requires x { IsCoded (S.state self.old.scopes.now).frame (made self.old) x }
+        requires index { IsCoded (S.state self.old.scopes.now).frame (nodes_of self.old) index }
+        requires x { IsCoded (S.state self.old.scopes.now).frame (nodes_of self.old) x }
         ensures keeps { Keeps self.old self.new }
-        ensures codes { Codes S.state self.old self.new result IsCoded coded_in (λ c. spec_of_open c (coded_in (made self.old) x) of (coded_in (made self.old) index)) }
+        ensures codes { Codes S.state self.old self.new result IsCoded coded_in (λ c. spec_of_open c (coded_in (nodes_of self.old) x) of (coded_in (nodes_of self.old) index)) }
     {
         if asked!(is_spoilt(self.scopes, self.site.around, index.operand, of)) {
             return Ok(Ask::Known(Coded::in_error()));
@@ -325,14 +349,20 @@ impl<S: Scopes> Coder<'_, '_, S> {
     }
 
     /// The element of an array by an index that its index type takes.
-    fn array_element(&mut self, indices: Place, of: Place, index: Placed, x: Coded) -> Result<Ask<Coded>, Memory>
+    fn array_element(
+        &mut self,
+        indices: Place,
+        of: Place,
+        index: Placed,
+        x: Coded,
+    ) -> Result<Ask<Coded>, Memory>
         requires suits { SuitsSite (S.state self.old.scopes.now).frame self.old.site.now }
         requires indices { IsThere (S.state self.old.scopes.now).frame indices }
         requires of { IsThere (S.state self.old.scopes.now).frame of }
-        requires index { IsCoded (S.state self.old.scopes.now).frame (made self.old) index.coded }
-        requires x { IsCoded (S.state self.old.scopes.now).frame (made self.old) x }
+        requires index { IsCoded (S.state self.old.scopes.now).frame (nodes_of self.old) index.coded }
+        requires x { IsCoded (S.state self.old.scopes.now).frame (nodes_of self.old) x }
         ensures keeps { Keeps self.old self.new }
-        ensures codes { Codes S.state self.old self.new result IsCoded coded_in (λ c. and_then (spec_assigned c indices index.at not_assignable (coded_in (made self.old) index.coded)) (spec_of_array c (coded_in (made self.old) x) indices of)) }
+        ensures codes { Codes S.state self.old self.new result IsCoded coded_in (λ c. and_then (spec_assigned c indices index.at not_assignable (coded_in (nodes_of self.old) index.coded)) (spec_of_array c (coded_in (nodes_of self.old) x) indices of)) }
     {
         let refusal = Diagnostic::NotAssignable;
         let taken = analysed!(assigned_to(
@@ -352,10 +382,10 @@ impl<S: Scopes> Coder<'_, '_, S> {
     fn open_element(&mut self, of: Place, index: Placed, x: Coded) -> Result<Ask<Coded>, Memory>
         requires suits { SuitsSite (S.state self.old.scopes.now).frame self.old.site.now }
         requires of { IsThere (S.state self.old.scopes.now).frame of }
-        requires index { IsCoded (S.state self.old.scopes.now).frame (made self.old) index.coded }
-        requires x { IsCoded (S.state self.old.scopes.now).frame (made self.old) x }
+        requires index { IsCoded (S.state self.old.scopes.now).frame (nodes_of self.old) index.coded }
+        requires x { IsCoded (S.state self.old.scopes.now).frame (nodes_of self.old) x }
         ensures keeps { Keeps self.old self.new }
-        ensures codes { Codes S.state self.old self.new result IsCoded coded_in (λ c. and_then (spec_assigned c cardinal index.at not_assignable (coded_in (made self.old) index.coded)) (spec_of_open c (coded_in (made self.old) x) of)) }
+        ensures codes { Codes S.state self.old self.new result IsCoded coded_in (λ c. and_then (spec_assigned c cardinal index.at not_assignable (coded_in (nodes_of self.old) index.coded)) (spec_of_open c (coded_in (nodes_of self.old) x) of)) }
     {
         let refusal = Diagnostic::NotAssignable;
         let taken = analysed!(assigned_to(
@@ -371,33 +401,43 @@ impl<S: Scopes> Coder<'_, '_, S> {
     }
 
     /// The element of a variable of this type, by its index.
-    fn of_array(&mut self, at: u32, of: Place, index: Placed, x: Coded) -> Result<Ask<Coded>, Memory>
+    fn of_array(
+        &mut self,
+        at: u32,
+        of: Place,
+        index: Placed,
+        x: Coded,
+    ) -> Result<Ask<Coded>, Memory>
         requires suits { SuitsSite (S.state self.old.scopes.now).frame self.old.site.now }
         requires of { IsThere (S.state self.old.scopes.now).frame of }
-        requires index { IsCoded (S.state self.old.scopes.now).frame (made self.old) index.coded }
-        requires x { IsCoded (S.state self.old.scopes.now).frame (made self.old) x }
+        requires index { IsCoded (S.state self.old.scopes.now).frame (nodes_of self.old) index.coded }
+        requires x { IsCoded (S.state self.old.scopes.now).frame (nodes_of self.old) x }
         ensures keeps { Keeps self.old self.new }
-        ensures codes { Codes S.state self.old self.new result IsCoded coded_in (λ c. spec_array c at (coded_in (made self.old) x) index.at (coded_in (made self.old) index.coded) (kind_of c.scene of)) }
+        ensures codes { Codes S.state self.old self.new result IsCoded coded_in (λ c. spec_array c at (coded_in (nodes_of self.old) x) index.at (coded_in (nodes_of self.old) index.coded) (kind_of c.scene of)) }
     {
         let (_, meaning) = asked!(stand(self.scopes, self.site.around, of));
         match meaning {
             RowMeaning::Array(indices, elements, _) => {
                 self.array_element(indices, elements, index, x)
             }
-            RowMeaning::OpenArray(elements) => {
-                self.open_element(elements, index, x)
-            }
+            RowMeaning::OpenArray(elements) => { self.open_element(elements, index, x) }
             _ => refused(self.site, at, Diagnostic::NotAnArray, self.notes),
         }
     }
 
     /// The element of an array by one index. `first` is the designator's first token, `at` the bracket.
-    pub fn select_element(&mut self, first: u32, at: u32, index: Placed, x: Coded) -> Result<Ask<Coded>, Memory>
+    pub fn select_element(
+        &mut self,
+        first: u32,
+        at: u32,
+        index: Placed,
+        x: Coded,
+    ) -> Result<Ask<Coded>, Memory>
         requires suits { SuitsSite (S.state self.old.scopes.now).frame self.old.site.now }
-        requires index { IsCoded (S.state self.old.scopes.now).frame (made self.old) index.coded }
-        requires x { IsCoded (S.state self.old.scopes.now).frame (made self.old) x }
+        requires index { IsCoded (S.state self.old.scopes.now).frame (nodes_of self.old) index.coded }
+        requires x { IsCoded (S.state self.old.scopes.now).frame (nodes_of self.old) x }
         ensures keeps { Keeps self.old self.new }
-        ensures codes { Codes S.state self.old self.new result IsCoded coded_in (λ c. spec_element c first at index.at (coded_in (made self.old) index.coded) (coded_in (made self.old) x)) }
+        ensures codes { Codes S.state self.old self.new result IsCoded coded_in (λ c. spec_element c first at index.at (coded_in (nodes_of self.old) index.coded) (coded_in (nodes_of self.old) x)) }
     {
         match x.operand {
             Operand::Variable(of) => self.of_array(at, of, index, x),
@@ -422,7 +462,13 @@ pub fn select_target<S: Scopes>(
     requires x { IsCoded (S.state scopes.old).frame fragments.old.nodes.items x }
     ensures { Coding (S.state scopes.old) (S.state scopes.new) notes.old notes.new fragments.old.nodes.items fragments.new.nodes.items site.now result IsCoded coded_in (λ c. spec_target c first at (coded_in fragments.old.nodes.items x)) }
 {
-    let mut coder = Coder { scopes, site, withs: &[], fragments, notes };
+    let mut coder = Coder {
+        scopes,
+        site,
+        withs: &[],
+        fragments,
+        notes,
+    };
     coder.select_target(first, at, x)
 }
 
@@ -442,6 +488,12 @@ pub fn select_element<S: Scopes>(
     requires x { IsCoded (S.state scopes.old).frame fragments.old.nodes.items x }
     ensures { Coding (S.state scopes.old) (S.state scopes.new) notes.old notes.new fragments.old.nodes.items fragments.new.nodes.items site.now result IsCoded coded_in (λ c. spec_element c first at index.at (coded_in fragments.old.nodes.items index.coded) (coded_in fragments.old.nodes.items x)) }
 {
-    let mut coder = Coder { scopes, site, withs: &[], fragments, notes };
+    let mut coder = Coder {
+        scopes,
+        site,
+        withs: &[],
+        fragments,
+        notes,
+    };
     coder.select_element(first, at, index, x)
 }

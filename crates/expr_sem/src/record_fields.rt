@@ -13,6 +13,7 @@ ghost use Rattle.m2_base.specs.declared.operands.Operand.TheVariants.{Variable};
 ghost use Rattle.type_rules.specs.Asks.{Reads, WhereKnown, WhereWaiting};
 ghost use Rattle.type_rules.specs.Scenes.{IsThere, Suits, WhereTold, scene_of};
 ghost use Rattle.type_rules.specs.Sites.{SuitsSite};
+ghost use Rattle.expr_sem.specs.Coders.{Codes, Keeps, nodes_of};
 ghost use Rattle.expr_sem.specs.Coded.{coded, in_error as spec_in_error};
 ghost use Rattle.expr_sem.specs.Codings.{Coding, IsCoded, coded_in, with_types};
 ghost use Rattle.expr_sem.specs.Fragments.{IsIn, IsMade, part};
@@ -23,6 +24,7 @@ ghost use Rattle.expr_sem.specs.Variables.{entry_coded as spec_entry};
 
 use crate::addressed::variable_at;
 use crate::coded::Coded;
+use crate::coder::Coder;
 use crate::fragments::{Fragment, Fragments};
 use crate::pieces::With;
 use crate::refusals::refused;
@@ -163,22 +165,97 @@ fn field_of_with<S: Scopes>(
     }
 }
 
-/// What a name is bound to where it is used.
-fn name_used<S: Scopes>(
-    scopes: &mut S,
-    site: &Site,
-    within: Option<u32>,
-    ident: Ident,
-    fragments: &mut Fragments,
-    notes: &mut Notes,
-) -> Result<Ask<Coded>, Memory>
-    requires suits { SuitsSite (S.state scopes.old).frame site.now }
-    requires within { IfSome within (λ scope. scope < fills_of (S.state scopes.old)) }
-    requires named { ident.name ≢ 0 }
-    ensures { Coding (S.state scopes.old) (S.state scopes.new) notes.old notes.new fragments.old.nodes.items fragments.new.nodes.items site.now result IsCoded coded_in (λ c. and_then (use_of c within ident.name ident.at) (λ e. gives (spec_entry c e))) }
-{
-    let entry = analysed!(use_name(scopes, site, within, ident.name, ident.at, notes));
-    entry_coded(scopes, site, entry, fragments)
+impl<S: Scopes> Coder<'_, '_, S> {
+    /// What a name is bound to where it is used.
+    fn name_used(&mut self, within: Option<u32>, ident: Ident) -> Result<Ask<Coded>, Memory>
+        requires suits { SuitsSite (S.state self.old.scopes.now).frame self.old.site.now }
+        requires within { IfSome within (λ scope. scope < fills_of (S.state self.old.scopes.now)) }
+        requires named { ident.name ≢ 0 }
+        ensures keeps { Keeps self.old self.new }
+        ensures codes { Codes S.state self.old self.new result IsCoded coded_in (λ c. and_then (use_of c within ident.name ident.at) (λ e. gives (spec_entry c e))) }
+    {
+        let entry = analysed!(use_name(
+            self.scopes,
+            self.site,
+            within,
+            ident.name,
+            ident.at,
+            self.notes
+        ));
+        entry_coded(self.scopes, self.site, entry, self.fragments)
+    }
+
+    /// A name where a designator begins: a field of an open WITH's record, the innermost first, or what the name is bound to.
+    pub fn name_coded(&mut self, ident: Ident) -> Result<Ask<Coded>, Memory>
+        requires suits { SuitsSite (S.state self.old.scopes.now).frame self.old.site.now }
+        requires withs { Each (λ w. IsThere (S.state self.old.scopes.now).frame w.of) self.old.withs.now }
+        requires named { ident.name ≢ 0 }
+        ensures keeps { Keeps self.old self.new }
+        ensures codes { Codes S.state self.old self.new result IsCoded coded_in (λ c. spec_name c (with_types self.old.withs.now) ident) }
+    {
+        match asked!(field_of_withs(self.scopes, self.site.around, self.withs, ident.name)) {
+            Some(found) => field_of_with(self.scopes, self.site, found.0, found.1, self.fragments),
+            None => self.name_used(None, ident),
+        }
+    }
+
+    /// The field of a name in a record of this type, whose address this code gives.
+    fn found_field(&mut self, of: Place, ident: Ident, code: Fragment) -> Result<Ask<Coded>, Memory>
+        requires suits { SuitsSite (S.state self.old.scopes.now).frame self.old.site.now }
+        requires of { IsThere (S.state self.old.scopes.now).frame of }
+        requires code { IsIn (nodes_of self.old) code }
+        ensures keeps { Keeps self.old self.new }
+        ensures codes { Codes S.state self.old self.new result IsCoded coded_in (λ c. spec_found c (part (nodes_of self.old) code) ident (spec_field_of c.scene of ident.name)) }
+    {
+        match asked!(field_of(self.scopes, self.site.around, of, ident.name)) {
+            Some(field) => field_coded(self.scopes, self.site, field, code, self.fragments),
+            None => refused(self.site, ident.at, Diagnostic::NoSuchField, self.notes),
+        }
+    }
+
+    /// The field of a variable of this type, whose address this code gives.
+    fn of_record(
+        &mut self,
+        at: u32,
+        of: Place,
+        ident: Ident,
+        code: Fragment,
+    ) -> Result<Ask<Coded>, Memory>
+        requires suits { SuitsSite (S.state self.old.scopes.now).frame self.old.site.now }
+        requires of { IsThere (S.state self.old.scopes.now).frame of }
+        requires code { IsIn (nodes_of self.old) code }
+        ensures keeps { Keeps self.old self.new }
+        ensures codes { Codes S.state self.old self.new result IsCoded coded_in (λ c. spec_of_record c at (part (nodes_of self.old) code) ident of (kind_of c.scene of)) }
+    {
+        let (_, meaning) = asked!(stand(self.scopes, self.site.around, of));
+        match meaning {
+            RowMeaning::Record(..) => self.found_field(of, ident, code),
+            _ => refused(self.site, at, Diagnostic::NotARecord, self.notes),
+        }
+    }
+
+    /// What a name behind a point selects. `first` is the designator's first token, `at` the point.
+    pub fn select_field(
+        &mut self,
+        first: u32,
+        at: u32,
+        ident: Ident,
+        x: Coded,
+    ) -> Result<Ask<Coded>, Memory>
+        requires suits { SuitsSite (S.state self.old.scopes.now).frame self.old.site.now }
+        requires x { IsCoded (S.state self.old.scopes.now).frame (nodes_of self.old) x }
+        requires named { ident.name ≢ 0 }
+        ensures keeps { Keeps self.old self.new }
+        ensures codes { Codes S.state self.old self.new result IsCoded coded_in (λ c. spec_field c first at ident (coded_in (nodes_of self.old) x)) }
+    {
+        match x.operand {
+            Operand::ModuleName(scope) => { self.name_used(Some(scope), ident) }
+            Operand::Variable(of) => { self.of_record(at, of, ident, x.code) }
+            Operand::InError => Ok(Ask::Known(Coded::in_error())),
+            Operand::NotConstant => Ok(Ask::Known(Coded::in_error())),
+            _ => refused(self.site, first, Diagnostic::NotAVariable, self.notes),
+        }
+    }
 }
 
 /// A name where a designator begins: a field of an open WITH's record, the innermost first, or what the name is bound to.
@@ -195,54 +272,14 @@ pub fn name_coded<S: Scopes>(
     requires named { ident.name ≢ 0 }
     ensures { Coding (S.state scopes.old) (S.state scopes.new) notes.old notes.new fragments.old.nodes.items fragments.new.nodes.items site.now result IsCoded coded_in (λ c. spec_name c (with_types withs.now) ident) }
 {
-    match asked!(field_of_withs(scopes, site.around, withs, ident.name)) {
-        Some(found) => field_of_with(scopes, site, found.0, found.1, fragments),
-        None => name_used(scopes, site, None, ident, fragments, notes),
-    }
-}
-
-/// The field of a name in a record of this type, whose address this code gives.
-fn found_field<S: Scopes>(
-    scopes: &mut S,
-    site: &Site,
-    of: Place,
-    ident: Ident,
-    code: Fragment,
-    fragments: &mut Fragments,
-    notes: &mut Notes,
-) -> Result<Ask<Coded>, Memory>
-    requires suits { SuitsSite (S.state scopes.old).frame site.now }
-    requires of { IsThere (S.state scopes.old).frame of }
-    requires code { IsIn fragments.old.nodes.items code }
-    ensures { Coding (S.state scopes.old) (S.state scopes.new) notes.old notes.new fragments.old.nodes.items fragments.new.nodes.items site.now result IsCoded coded_in (λ c. spec_found c (part fragments.old.nodes.items code) ident (spec_field_of c.scene of ident.name)) }
-{
-    match asked!(field_of(scopes, site.around, of, ident.name)) {
-        Some(field) => field_coded(scopes, site, field, code, fragments),
-        None => refused(site, ident.at, Diagnostic::NoSuchField, notes),
-    }
-}
-
-/// The field of a variable of this type, whose address this code gives.
-fn of_record<S: Scopes>(
-    scopes: &mut S,
-    site: &Site,
-    at: u32,
-    of: Place,
-    ident: Ident,
-    code: Fragment,
-    fragments: &mut Fragments,
-    notes: &mut Notes,
-) -> Result<Ask<Coded>, Memory>
-    requires suits { SuitsSite (S.state scopes.old).frame site.now }
-    requires of { IsThere (S.state scopes.old).frame of }
-    requires code { IsIn fragments.old.nodes.items code }
-    ensures { Coding (S.state scopes.old) (S.state scopes.new) notes.old notes.new fragments.old.nodes.items fragments.new.nodes.items site.now result IsCoded coded_in (λ c. spec_of_record c at (part fragments.old.nodes.items code) ident of (kind_of c.scene of)) }
-{
-    let (_, meaning) = asked!(stand(scopes, site.around, of));
-    match meaning {
-        RowMeaning::Record(..) => found_field(scopes, site, of, ident, code, fragments, notes),
-        _ => refused(site, at, Diagnostic::NotARecord, notes),
-    }
+    let mut coder = Coder {
+        scopes,
+        site,
+        withs,
+        fragments,
+        notes,
+    };
+    coder.name_coded(ident)
 }
 
 /// What a name behind a point selects. `first` is the designator's first token, `at` the point.
@@ -261,15 +298,12 @@ pub fn select_field<S: Scopes>(
     requires named { ident.name ≢ 0 }
     ensures { Coding (S.state scopes.old) (S.state scopes.new) notes.old notes.new fragments.old.nodes.items fragments.new.nodes.items site.now result IsCoded coded_in (λ c. spec_field c first at ident (coded_in fragments.old.nodes.items x)) }
 {
-    match x.operand {
-        Operand::ModuleName(scope) => {
-            name_used(scopes, site, Some(scope), ident, fragments, notes)
-        }
-        Operand::Variable(of) => {
-            of_record(scopes, site, at, of, ident, x.code, fragments, notes)
-        }
-        Operand::InError => Ok(Ask::Known(Coded::in_error())),
-        Operand::NotConstant => Ok(Ask::Known(Coded::in_error())),
-        _ => refused(site, first, Diagnostic::NotAVariable, notes),
-    }
+    let mut coder = Coder {
+        scopes,
+        site,
+        withs: &[],
+        fragments,
+        notes,
+    };
+    coder.select_field(first, at, ident, x)
 }

@@ -11,6 +11,7 @@ ghost use Rattle.m2_base.specs.Statics.Sets.{set_base as spec_base};
 ghost use Rattle.m2_base.specs.declared.notes.Notes.{Notes as NotesOf};
 ghost use Rattle.m2_base.specs.declared.operands.Operand.TheVariants as operands;
 ghost use Rattle.const_eval.specs.Sites.{IsOperand};
+ghost use Rattle.expr_sem.specs.Coders.{Codes, Keeps, nodes_of};
 ghost use Rattle.expr_sem.specs.Coded.{in_error, taken};
 ghost use Rattle.expr_sem.specs.Codings.{Coding, IsCoded, coded_in};
 ghost use Rattle.expr_sem.specs.Fitting.{fitted_code as spec_fitted};
@@ -23,6 +24,7 @@ ghost use Rattle.type_rules.specs.Scenes.{IsThere};
 ghost use Rattle.type_rules.specs.Sites.{SuitsSite};
 
 use crate::coded::Coded;
+use crate::coder::Coder;
 use crate::fitting::fitted_code;
 use crate::fragments::Fragments;
 use crate::refusals::refused;
@@ -164,61 +166,50 @@ fn member_change(f: Builtin) -> Change
     }
 }
 
-/// A set with this base, changed by INCL or EXCL by an element.
-fn changed_by<S: Scopes>(
-    scopes: &mut S,
-    site: &Site,
-    f: Builtin,
-    base: Place,
-    x: Coded,
-    e: Coded,
-    fragments: &mut Fragments,
-) -> Result<Ask<Coded>, Memory>
-    requires suits { SuitsSite (S.state scopes.old).frame site.now }
-    requires base { IsThere (S.state scopes.old).frame base }
-    requires x { IsCoded (S.state scopes.old).frame fragments.old.nodes.items x }
-    requires e { IsCoded (S.state scopes.old).frame fragments.old.nodes.items e }
-    ensures { (notes : NotesOf) → Coding (S.state scopes.old) (S.state scopes.new) notes notes fragments.old.nodes.items fragments.new.nodes.items site.now result IsCoded coded_in (λ c. gives (update (coded_in fragments.old.nodes.items x) (spec_fitted c base (coded_in fragments.old.nodes.items e)) (member_instrs f))) }
-{
-    let element = analysed!(fitted_code(scopes, site, base, e, fragments));
-    let code = updated(x.code, element, member_change(f), fragments)?;
-    Ok(Ask::Known(Coded::new(NO_VALUE, code)))
-}
-
-/// INCL or EXCL of a set and an element, neither of which is in error.
-fn included_by<S: Scopes>(
-    scopes: &mut S,
-    site: &Site,
-    f: Builtin,
-    x: Coded,
-    e: Coded,
-    fragments: &mut Fragments,
-) -> Result<Ask<Coded>, Memory>
-    requires suits { SuitsSite (S.state scopes.old).frame site.now }
-    requires x { IsCoded (S.state scopes.old).frame fragments.old.nodes.items x }
-    requires e { IsCoded (S.state scopes.old).frame fragments.old.nodes.items e }
-    ensures { (notes : NotesOf) → Coding (S.state scopes.old) (S.state scopes.new) notes notes fragments.old.nodes.items fragments.new.nodes.items site.now result IsCoded coded_in (λ c. gives (update (coded_in fragments.old.nodes.items x) (spec_fitted c (spec_base c (spec_type x.operand)) (coded_in fragments.old.nodes.items e)) (member_instrs f))) }
-{
-    let base = asked!(set_base(scopes, site, operand_type(&x.operand)));
-    changed_by(scopes, site, f, base, x, e, fragments)
-}
-
-/// INCL or EXCL of a set and an element, unless one of them is in error.
-pub fn included<S: Scopes>(
-    scopes: &mut S,
-    site: &Site,
-    f: Builtin,
-    x: Coded,
-    e: Coded,
-    fragments: &mut Fragments,
-) -> Result<Ask<Coded>, Memory>
-    requires suits { SuitsSite (S.state scopes.old).frame site.now }
-    requires x { IsCoded (S.state scopes.old).frame fragments.old.nodes.items x }
-    requires e { IsCoded (S.state scopes.old).frame fragments.old.nodes.items e }
-    ensures { (notes : NotesOf) → Coding (S.state scopes.old) (S.state scopes.new) notes notes fragments.old.nodes.items fragments.new.nodes.items site.now result IsCoded coded_in (λ c. gives (spec_included c f (coded_in fragments.old.nodes.items x) (coded_in fragments.old.nodes.items e))) }
-{
-    if either_bad(x.operand, e.operand) {
-        return Ok(Ask::Known(Coded::in_error()));
+impl<S: Scopes> Coder<'_, '_, S> {
+    /// A set with this base, changed by INCL or EXCL by an element.
+    fn changed_by(
+        &mut self,
+        f: Builtin,
+        base: Place,
+        x: Coded,
+        e: Coded,
+    ) -> Result<Ask<Coded>, Memory>
+        requires suits { SuitsSite (S.state self.old.scopes.now).frame self.old.site.now }
+        requires base { IsThere (S.state self.old.scopes.now).frame base }
+        requires x { IsCoded (S.state self.old.scopes.now).frame (nodes_of self.old) x }
+        requires e { IsCoded (S.state self.old.scopes.now).frame (nodes_of self.old) e }
+        ensures keeps { Keeps self.old self.new }
+        ensures codes { Codes S.state self.old self.new result IsCoded coded_in (λ c. gives (update (coded_in (nodes_of self.old) x) (spec_fitted c base (coded_in (nodes_of self.old) e)) (member_instrs f))) }
+    {
+        let element = analysed!(fitted_code(self.scopes, self.site, base, e, self.fragments));
+        let code = updated(x.code, element, member_change(f), self.fragments)?;
+        Ok(Ask::Known(Coded::new(NO_VALUE, code)))
     }
-    included_by(scopes, site, f, x, e, fragments)
+
+    /// INCL or EXCL of a set and an element, neither of which is in error.
+    fn included_by(&mut self, f: Builtin, x: Coded, e: Coded) -> Result<Ask<Coded>, Memory>
+        requires suits { SuitsSite (S.state self.old.scopes.now).frame self.old.site.now }
+        requires x { IsCoded (S.state self.old.scopes.now).frame (nodes_of self.old) x }
+        requires e { IsCoded (S.state self.old.scopes.now).frame (nodes_of self.old) e }
+        ensures keeps { Keeps self.old self.new }
+        ensures codes { Codes S.state self.old self.new result IsCoded coded_in (λ c. gives (update (coded_in (nodes_of self.old) x) (spec_fitted c (spec_base c (spec_type x.operand)) (coded_in (nodes_of self.old) e)) (member_instrs f))) }
+    {
+        let base = asked!(set_base(self.scopes, self.site, operand_type(&x.operand)));
+        self.changed_by(f, base, x, e)
+    }
+
+    /// INCL or EXCL of a set and an element, unless one of them is in error.
+    pub fn included(&mut self, f: Builtin, x: Coded, e: Coded) -> Result<Ask<Coded>, Memory>
+        requires suits { SuitsSite (S.state self.old.scopes.now).frame self.old.site.now }
+        requires x { IsCoded (S.state self.old.scopes.now).frame (nodes_of self.old) x }
+        requires e { IsCoded (S.state self.old.scopes.now).frame (nodes_of self.old) e }
+        ensures keeps { Keeps self.old self.new }
+        ensures codes { Codes S.state self.old self.new result IsCoded coded_in (λ c. gives (spec_included c f (coded_in (nodes_of self.old) x) (coded_in (nodes_of self.old) e))) }
+    {
+        if either_bad(x.operand, e.operand) {
+            return Ok(Ask::Known(Coded::in_error()));
+        }
+        self.included_by(f, x, e)
+    }
 }
