@@ -8,7 +8,7 @@ ghost use Rattle.const_eval.specs.Sites.{IsOperand};
 ghost use Rattle.expr_sem.specs.ArgumentCodes.{IsArgument, argument_in, parameter_view};
 ghost use Rattle.expr_sem.specs.Arguments.{alike as spec_alike, argument as spec_argument, array_argument as spec_array_argument, by_address as spec_address, by_value as spec_value, checked_mode as spec_checked, is_variable as spec_variable, open_argument as spec_open, string_copy as spec_copy};
 ghost use Rattle.expr_sem.specs.Coded.{characters as spec_characters};
-ghost use Rattle.expr_sem.specs.Coders.{Codes, Keeps, nodes_of};
+ghost use Rattle.expr_sem.specs.Coders.{Codes, Keeps, SuitsPlace, frame_of, nodes_of};
 ghost use Rattle.expr_sem.specs.Codings.{Coding, IsCoded, coded_in};
 ghost use Rattle.expr_sem.specs.Fragments.{IsMade};
 ghost use Rattle.expr_sem.specs.Kinds.{IsKindHere};
@@ -77,9 +77,9 @@ fn copy_string(
 impl<S: Scopes> Coder<'_, '_, S> {
     /// An argument of a value parameter that is no open array.
     fn by_value(&mut self, of: Place, x: Placed) -> Result<Ask<Option<Fragment>>, Memory>
-        requires suits { SuitsSite (S.state self.old.scopes.now).frame self.old.site.now }
-        requires of { IsThere (S.state self.old.scopes.now).frame of }
-        requires x { IsCoded (S.state self.old.scopes.now).frame (nodes_of self.old) x.coded }
+        requires suits { SuitsPlace S.state self.old }
+        requires of { IsThere (frame_of S.state self.old) of }
+        requires x { IsCoded (frame_of S.state self.old) (nodes_of self.old) x.coded }
         ensures keeps { Keeps self.old self.new }
         ensures codes { Codes S.state self.old self.new result IsArgument argument_in (λ c. spec_value c of x.at (coded_in (nodes_of self.old) x.coded)) }
     {
@@ -147,11 +147,11 @@ impl<S: Scopes> Coder<'_, '_, S> {
         kind: RowMeaning,
         element: Place,
     ) -> Result<Ask<Option<Fragment>>, Memory>
-        requires suits { SuitsSite (S.state self.old.scopes.now).frame self.old.site.now }
-        requires want { IsThere (S.state self.old.scopes.now).frame want }
-        requires x { IsCoded (S.state self.old.scopes.now).frame (nodes_of self.old) x.coded }
-        requires kind { IsKindHere (S.state self.old.scopes.now).frame kind }
-        requires element { IsThere (S.state self.old.scopes.now).frame element }
+        requires suits { SuitsPlace S.state self.old }
+        requires want { IsThere (frame_of S.state self.old) want }
+        requires x { IsCoded (frame_of S.state self.old) (nodes_of self.old) x.coded }
+        requires kind { IsKindHere (frame_of S.state self.old) kind }
+        requires element { IsThere (frame_of S.state self.old) element }
         ensures keeps { Keeps self.old self.new }
         ensures codes { Codes S.state self.old self.new result IsArgument argument_in (λ c. spec_alike c want x.at (coded_in (nodes_of self.old) x.coded) kind element) }
     {
@@ -173,10 +173,10 @@ impl<S: Scopes> Coder<'_, '_, S> {
         x: Placed,
         of: Place,
     ) -> Result<Ask<Option<Fragment>>, Memory>
-        requires suits { SuitsSite (S.state self.old.scopes.now).frame self.old.site.now }
-        requires want { IsThere (S.state self.old.scopes.now).frame want }
-        requires x { IsCoded (S.state self.old.scopes.now).frame (nodes_of self.old) x.coded }
-        requires of { IsThere (S.state self.old.scopes.now).frame of }
+        requires suits { SuitsPlace S.state self.old }
+        requires want { IsThere (frame_of S.state self.old) want }
+        requires x { IsCoded (frame_of S.state self.old) (nodes_of self.old) x.coded }
+        requires of { IsThere (frame_of S.state self.old) of }
         ensures keeps { Keeps self.old self.new }
         ensures codes { Codes S.state self.old self.new result IsArgument argument_in (λ c. spec_array_argument c want x.at (coded_in (nodes_of self.old) x.coded) (kind_of c.scene of)) }
     {
@@ -219,9 +219,9 @@ fn push_string(
 impl<S: Scopes> Coder<'_, '_, S> {
     /// An argument of an open array with elements of a type.
     fn open_argument(&mut self, want: Place, x: Placed) -> Result<Ask<Option<Fragment>>, Memory>
-        requires suits { SuitsSite (S.state self.old.scopes.now).frame self.old.site.now }
-        requires want { IsThere (S.state self.old.scopes.now).frame want }
-        requires x { IsCoded (S.state self.old.scopes.now).frame (nodes_of self.old) x.coded }
+        requires suits { SuitsPlace S.state self.old }
+        requires want { IsThere (frame_of S.state self.old) want }
+        requires x { IsCoded (frame_of S.state self.old) (nodes_of self.old) x.coded }
         ensures keeps { Keeps self.old self.new }
         ensures codes { Codes S.state self.old self.new result IsArgument argument_in (λ c. spec_open c want x.at (coded_in (nodes_of self.old) x.coded) x.coded.operand) }
     {
@@ -240,9 +240,9 @@ impl<S: Scopes> Coder<'_, '_, S> {
 
     /// An argument by its parameter, where neither is in error. A VAR parameter takes a variable alone.
     fn pass_argument(&mut self, p: Parameter, x: Placed) -> Result<Ask<Option<Fragment>>, Memory>
-        requires suits { SuitsSite (S.state self.old.scopes.now).frame self.old.site.now }
-        requires p { IsThere (S.state self.old.scopes.now).frame p.of }
-        requires x { IsCoded (S.state self.old.scopes.now).frame (nodes_of self.old) x.coded }
+        requires suits { SuitsPlace S.state self.old }
+        requires p { IsThere (frame_of S.state self.old) p.of }
+        requires x { IsCoded (frame_of S.state self.old) (nodes_of self.old) x.coded }
         ensures keeps { Keeps self.old self.new }
         ensures codes { Codes S.state self.old self.new result IsArgument argument_in (λ c. spec_checked c (parameter_view p) x.at (coded_in (nodes_of self.old) x.coded)) }
     {
@@ -276,9 +276,9 @@ impl<S: Scopes> Coder<'_, '_, S> {
         at: u32,
         x: Coded,
     ) -> Result<Ask<Option<Fragment>>, Memory>
-        requires suits { SuitsSite (S.state self.old.scopes.now).frame self.old.site.now }
-        requires p { IsThere (S.state self.old.scopes.now).frame p.of }
-        requires x { IsCoded (S.state self.old.scopes.now).frame (nodes_of self.old) x }
+        requires suits { SuitsPlace S.state self.old }
+        requires p { IsThere (frame_of S.state self.old) p.of }
+        requires x { IsCoded (frame_of S.state self.old) (nodes_of self.old) x }
         ensures keeps { Keeps self.old self.new }
         ensures codes { Codes S.state self.old self.new result IsArgument argument_in (λ c. spec_argument c (parameter_view p) at (coded_in (nodes_of self.old) x)) }
     {
@@ -290,29 +290,4 @@ impl<S: Scopes> Coder<'_, '_, S> {
         let value = Placed { at, coded };
         self.pass_argument(p, value)
     }
-}
-
-/// The code of an argument beside its parameter, where neither is in error.
-pub fn argument<S: Scopes>(
-    scopes: &mut S,
-    site: &Site,
-    p: Parameter,
-    at: u32,
-    x: Coded,
-    fragments: &mut Fragments,
-    notes: &mut Notes,
-) -> Result<Ask<Option<Fragment>>, Memory>
-    requires suits { SuitsSite (S.state scopes.old).frame site.now }
-    requires p { IsThere (S.state scopes.old).frame p.of }
-    requires x { IsCoded (S.state scopes.old).frame fragments.old.nodes.items x }
-    ensures { Coding (S.state scopes.old) (S.state scopes.new) notes.old notes.new fragments.old.nodes.items fragments.new.nodes.items site.now result IsArgument argument_in (λ c. spec_argument c (parameter_view p) at (coded_in fragments.old.nodes.items x)) }
-{
-    let mut coder = Coder {
-        scopes,
-        site,
-        withs: &[],
-        fragments,
-        notes,
-    };
-    coder.argument(p, at, x)
 }

@@ -16,7 +16,7 @@ ghost use Rattle.code_form.specs.declared.instr.Instr.TheVariants.{IndexOpen, Lo
 ghost use Rattle.type_rules.specs.Asks.{Reads, WhereKnown, WhereWaiting};
 ghost use Rattle.type_rules.specs.Scenes.{IsThere, Suits, WhereTold, scene_of};
 ghost use Rattle.type_rules.specs.Sites.{SuitsSite};
-ghost use Rattle.expr_sem.specs.Coders.{Codes, Keeps, nodes_of};
+ghost use Rattle.expr_sem.specs.Coders.{Codes, Keeps, SuitsPlace, frame_of, nodes_of};
 ghost use Rattle.expr_sem.specs.Coded.{coded, value_code as spec_value};
 ghost use Rattle.expr_sem.specs.Codings.{Coding, IsCoded, coded_in, high_in};
 ghost use Rattle.expr_sem.specs.Elements.{element_of_array as spec_of_array, element_of_open as spec_of_open, index_instr as spec_index, of_array as spec_array, of_pointer as spec_pointer, select_element as spec_element, select_target as spec_target};
@@ -90,8 +90,8 @@ impl<S: Scopes> Coder<'_, '_, S> {
     /// What a variable of this type points to. A pointer may lead to a type that is declared later: only statements ask for what
     /// it points to, and elsewhere the error is that memory is wanted, which comes about in no module.
     fn of_pointer(&mut self, at: u32, of: Place, code: Fragment) -> Result<Ask<Coded>, Memory>
-        requires suits { SuitsSite (S.state self.old.scopes.now).frame self.old.site.now }
-        requires of { IsThere (S.state self.old.scopes.now).frame of }
+        requires suits { SuitsPlace S.state self.old }
+        requires of { IsThere (frame_of S.state self.old) of }
         requires code { IsIn (nodes_of self.old) code }
         ensures keeps { Keeps self.old self.new }
         ensures codes { Codes S.state self.old self.new result IsCoded coded_in (λ c. spec_pointer c at (part (nodes_of self.old) code) of (kind_of c.scene of)) }
@@ -108,8 +108,8 @@ impl<S: Scopes> Coder<'_, '_, S> {
 
     /// What a pointer points to. `first` is the designator's first token, `at` the arrow.
     pub fn select_target(&mut self, first: u32, at: u32, x: Coded) -> Result<Ask<Coded>, Memory>
-        requires suits { SuitsSite (S.state self.old.scopes.now).frame self.old.site.now }
-        requires x { IsCoded (S.state self.old.scopes.now).frame (nodes_of self.old) x }
+        requires suits { SuitsPlace S.state self.old }
+        requires x { IsCoded (frame_of S.state self.old) (nodes_of self.old) x }
         ensures keeps { Keeps self.old self.new }
         ensures codes { Codes S.state self.old self.new result IsCoded coded_in (λ c. spec_target c first at (coded_in (nodes_of self.old) x)) }
     {
@@ -198,9 +198,9 @@ impl<S: Scopes> Coder<'_, '_, S> {
         code: Fragment,
         find: Instr,
     ) -> Result<Ask<Coded>, Memory>
-        requires suits { SuitsSite (S.state self.old.scopes.now).frame self.old.site.now }
-        requires of { IsThere (S.state self.old.scopes.now).frame of }
-        requires index { IsCoded (S.state self.old.scopes.now).frame (nodes_of self.old) index }
+        requires suits { SuitsPlace S.state self.old }
+        requires of { IsThere (frame_of S.state self.old) of }
+        requires index { IsCoded (frame_of S.state self.old) (nodes_of self.old) index }
         requires code { IsIn (nodes_of self.old) code }
         ensures keeps { Keeps self.old self.new }
         ensures codes { Codes S.state self.old self.new result IsCoded coded_in (λ c. gives (coded (Variable of) (part (nodes_of self.old) code ⨟ spec_value c (coded_in (nodes_of self.old) index) ⨟ plain (find ∷ [])))) }
@@ -217,10 +217,10 @@ impl<S: Scopes> Coder<'_, '_, S> {
         index: Coded,
         code: Fragment,
     ) -> Result<Ask<Coded>, Memory>
-        requires suits { SuitsSite (S.state self.old.scopes.now).frame self.old.site.now }
-        requires indices { IsThere (S.state self.old.scopes.now).frame indices }
-        requires of { IsThere (S.state self.old.scopes.now).frame of }
-        requires index { IsCoded (S.state self.old.scopes.now).frame (nodes_of self.old) index }
+        requires suits { SuitsPlace S.state self.old }
+        requires indices { IsThere (frame_of S.state self.old) indices }
+        requires of { IsThere (frame_of S.state self.old) of }
+        requires index { IsCoded (frame_of S.state self.old) (nodes_of self.old) index }
         requires code { IsIn (nodes_of self.old) code }
         ensures keeps { Keeps self.old self.new }
         ensures codes { Codes S.state self.old self.new result IsCoded coded_in (λ c. gives (coded (Variable of) (part (nodes_of self.old) code ⨟ spec_value c (coded_in (nodes_of self.old) index) ⨟ plain (spec_index (spec_range c.scene indices) (spec_size c.scene of) ∷ [])))) }
@@ -240,11 +240,11 @@ impl<S: Scopes> Coder<'_, '_, S> {
         index: Coded,
         x: Coded,
     ) -> Result<Ask<Coded>, Memory>
-        requires suits { SuitsSite (S.state self.old.scopes.now).frame self.old.site.now }
-        requires indices { IsThere (S.state self.old.scopes.now).frame indices }
-        requires of { IsThere (S.state self.old.scopes.now).frame of }
-        requires index { IsCoded (S.state self.old.scopes.now).frame (nodes_of self.old) index }
-        requires x { IsCoded (S.state self.old.scopes.now).frame (nodes_of self.old) x }
+        requires suits { SuitsPlace S.state self.old }
+        requires indices { IsThere (frame_of S.state self.old) indices }
+        requires of { IsThere (frame_of S.state self.old) of }
+        requires index { IsCoded (frame_of S.state self.old) (nodes_of self.old) index }
+        requires x { IsCoded (frame_of S.state self.old) (nodes_of self.old) x }
         ensures keeps { Keeps self.old self.new }
         ensures codes { Codes S.state self.old self.new result IsCoded coded_in (λ c. spec_of_array c (coded_in (nodes_of self.old) x) indices of (coded_in (nodes_of self.old) index)) }
     {
@@ -293,10 +293,10 @@ impl<S: Scopes> Coder<'_, '_, S> {
         index: Coded,
         x: Coded,
     ) -> Result<Ask<Coded>, Memory>
-        requires suits { SuitsSite (S.state self.old.scopes.now).frame self.old.site.now }
-        requires of { IsThere (S.state self.old.scopes.now).frame of }
-        requires index { IsCoded (S.state self.old.scopes.now).frame (nodes_of self.old) index }
-        requires x { IsCoded (S.state self.old.scopes.now).frame (nodes_of self.old) x }
+        requires suits { SuitsPlace S.state self.old }
+        requires of { IsThere (frame_of S.state self.old) of }
+        requires index { IsCoded (frame_of S.state self.old) (nodes_of self.old) index }
+        requires x { IsCoded (frame_of S.state self.old) (nodes_of self.old) x }
         ensures keeps { Keeps self.old self.new }
         ensures codes { Codes S.state self.old self.new result IsCoded coded_in (λ c. gives (coded (Variable of) (part (nodes_of self.old) x.code ⨟ high_in (nodes_of self.old) x.high ⨟ spec_value c (coded_in (nodes_of self.old) index) ⨟ plain (IndexOpen size ∷ [])))) }
     {
@@ -322,10 +322,10 @@ pub fn cells_of<S: Scopes>(scopes: &mut S, around: &Around, of: Place) -> Ask<u3
 impl<S: Scopes> Coder<'_, '_, S> {
     /// The element of an open array, by its index.
     fn open_indexed(&mut self, of: Place, index: Coded, x: Coded) -> Result<Ask<Coded>, Memory>
-        requires suits { SuitsSite (S.state self.old.scopes.now).frame self.old.site.now }
-        requires of { IsThere (S.state self.old.scopes.now).frame of }
-        requires index { IsCoded (S.state self.old.scopes.now).frame (nodes_of self.old) index }
-        requires x { IsCoded (S.state self.old.scopes.now).frame (nodes_of self.old) x }
+        requires suits { SuitsPlace S.state self.old }
+        requires of { IsThere (frame_of S.state self.old) of }
+        requires index { IsCoded (frame_of S.state self.old) (nodes_of self.old) index }
+        requires x { IsCoded (frame_of S.state self.old) (nodes_of self.old) x }
         ensures keeps { Keeps self.old self.new }
         ensures codes { Codes S.state self.old self.new result IsCoded coded_in (λ c. gives (coded (Variable of) (part (nodes_of self.old) x.code ⨟ high_in (nodes_of self.old) x.high ⨟ spec_value c (coded_in (nodes_of self.old) index) ⨟ plain (IndexOpen (spec_size c.scene of) ∷ [])))) }
     {
@@ -335,10 +335,10 @@ impl<S: Scopes> Coder<'_, '_, S> {
 
     /// The element of an open array, by its index, unless one of them is in error.
     fn element_of_open(&mut self, of: Place, index: Coded, x: Coded) -> Result<Ask<Coded>, Memory>
-        requires suits { SuitsSite (S.state self.old.scopes.now).frame self.old.site.now }
-        requires of { IsThere (S.state self.old.scopes.now).frame of }
-        requires index { IsCoded (S.state self.old.scopes.now).frame (nodes_of self.old) index }
-        requires x { IsCoded (S.state self.old.scopes.now).frame (nodes_of self.old) x }
+        requires suits { SuitsPlace S.state self.old }
+        requires of { IsThere (frame_of S.state self.old) of }
+        requires index { IsCoded (frame_of S.state self.old) (nodes_of self.old) index }
+        requires x { IsCoded (frame_of S.state self.old) (nodes_of self.old) x }
         ensures keeps { Keeps self.old self.new }
         ensures codes { Codes S.state self.old self.new result IsCoded coded_in (λ c. spec_of_open c (coded_in (nodes_of self.old) x) of (coded_in (nodes_of self.old) index)) }
     {
@@ -356,11 +356,11 @@ impl<S: Scopes> Coder<'_, '_, S> {
         index: Placed,
         x: Coded,
     ) -> Result<Ask<Coded>, Memory>
-        requires suits { SuitsSite (S.state self.old.scopes.now).frame self.old.site.now }
-        requires indices { IsThere (S.state self.old.scopes.now).frame indices }
-        requires of { IsThere (S.state self.old.scopes.now).frame of }
-        requires index { IsCoded (S.state self.old.scopes.now).frame (nodes_of self.old) index.coded }
-        requires x { IsCoded (S.state self.old.scopes.now).frame (nodes_of self.old) x }
+        requires suits { SuitsPlace S.state self.old }
+        requires indices { IsThere (frame_of S.state self.old) indices }
+        requires of { IsThere (frame_of S.state self.old) of }
+        requires index { IsCoded (frame_of S.state self.old) (nodes_of self.old) index.coded }
+        requires x { IsCoded (frame_of S.state self.old) (nodes_of self.old) x }
         ensures keeps { Keeps self.old self.new }
         ensures codes { Codes S.state self.old self.new result IsCoded coded_in (λ c. and_then (spec_assigned c indices index.at not_assignable (coded_in (nodes_of self.old) index.coded)) (spec_of_array c (coded_in (nodes_of self.old) x) indices of)) }
     {
@@ -380,10 +380,10 @@ impl<S: Scopes> Coder<'_, '_, S> {
     /// The element of an open array by an index that a CARDINAL takes.
     #[tactic(auto, using(const_eval::proofs::TypesThere::there))]
     fn open_element(&mut self, of: Place, index: Placed, x: Coded) -> Result<Ask<Coded>, Memory>
-        requires suits { SuitsSite (S.state self.old.scopes.now).frame self.old.site.now }
-        requires of { IsThere (S.state self.old.scopes.now).frame of }
-        requires index { IsCoded (S.state self.old.scopes.now).frame (nodes_of self.old) index.coded }
-        requires x { IsCoded (S.state self.old.scopes.now).frame (nodes_of self.old) x }
+        requires suits { SuitsPlace S.state self.old }
+        requires of { IsThere (frame_of S.state self.old) of }
+        requires index { IsCoded (frame_of S.state self.old) (nodes_of self.old) index.coded }
+        requires x { IsCoded (frame_of S.state self.old) (nodes_of self.old) x }
         ensures keeps { Keeps self.old self.new }
         ensures codes { Codes S.state self.old self.new result IsCoded coded_in (λ c. and_then (spec_assigned c cardinal index.at not_assignable (coded_in (nodes_of self.old) index.coded)) (spec_of_open c (coded_in (nodes_of self.old) x) of)) }
     {
@@ -408,10 +408,10 @@ impl<S: Scopes> Coder<'_, '_, S> {
         index: Placed,
         x: Coded,
     ) -> Result<Ask<Coded>, Memory>
-        requires suits { SuitsSite (S.state self.old.scopes.now).frame self.old.site.now }
-        requires of { IsThere (S.state self.old.scopes.now).frame of }
-        requires index { IsCoded (S.state self.old.scopes.now).frame (nodes_of self.old) index.coded }
-        requires x { IsCoded (S.state self.old.scopes.now).frame (nodes_of self.old) x }
+        requires suits { SuitsPlace S.state self.old }
+        requires of { IsThere (frame_of S.state self.old) of }
+        requires index { IsCoded (frame_of S.state self.old) (nodes_of self.old) index.coded }
+        requires x { IsCoded (frame_of S.state self.old) (nodes_of self.old) x }
         ensures keeps { Keeps self.old self.new }
         ensures codes { Codes S.state self.old self.new result IsCoded coded_in (λ c. spec_array c at (coded_in (nodes_of self.old) x) index.at (coded_in (nodes_of self.old) index.coded) (kind_of c.scene of)) }
     {
@@ -433,9 +433,9 @@ impl<S: Scopes> Coder<'_, '_, S> {
         index: Placed,
         x: Coded,
     ) -> Result<Ask<Coded>, Memory>
-        requires suits { SuitsSite (S.state self.old.scopes.now).frame self.old.site.now }
-        requires index { IsCoded (S.state self.old.scopes.now).frame (nodes_of self.old) index.coded }
-        requires x { IsCoded (S.state self.old.scopes.now).frame (nodes_of self.old) x }
+        requires suits { SuitsPlace S.state self.old }
+        requires index { IsCoded (frame_of S.state self.old) (nodes_of self.old) index.coded }
+        requires x { IsCoded (frame_of S.state self.old) (nodes_of self.old) x }
         ensures keeps { Keeps self.old self.new }
         ensures codes { Codes S.state self.old self.new result IsCoded coded_in (λ c. spec_element c first at index.at (coded_in (nodes_of self.old) index.coded) (coded_in (nodes_of self.old) x)) }
     {
@@ -446,54 +446,4 @@ impl<S: Scopes> Coder<'_, '_, S> {
             _ => refused(self.site, first, Diagnostic::NotAVariable, self.notes),
         }
     }
-}
-
-/// What a pointer points to. `first` is the designator's first token, `at` the arrow.
-pub fn select_target<S: Scopes>(
-    scopes: &mut S,
-    site: &Site,
-    first: u32,
-    at: u32,
-    x: Coded,
-    fragments: &mut Fragments,
-    notes: &mut Notes,
-) -> Result<Ask<Coded>, Memory>
-    requires suits { SuitsSite (S.state scopes.old).frame site.now }
-    requires x { IsCoded (S.state scopes.old).frame fragments.old.nodes.items x }
-    ensures { Coding (S.state scopes.old) (S.state scopes.new) notes.old notes.new fragments.old.nodes.items fragments.new.nodes.items site.now result IsCoded coded_in (λ c. spec_target c first at (coded_in fragments.old.nodes.items x)) }
-{
-    let mut coder = Coder {
-        scopes,
-        site,
-        withs: &[],
-        fragments,
-        notes,
-    };
-    coder.select_target(first, at, x)
-}
-
-/// The element of an array by one index. `first` is the designator's first token, `at` the bracket.
-pub fn select_element<S: Scopes>(
-    scopes: &mut S,
-    site: &Site,
-    first: u32,
-    at: u32,
-    index: Placed,
-    x: Coded,
-    fragments: &mut Fragments,
-    notes: &mut Notes,
-) -> Result<Ask<Coded>, Memory>
-    requires suits { SuitsSite (S.state scopes.old).frame site.now }
-    requires index { IsCoded (S.state scopes.old).frame fragments.old.nodes.items index.coded }
-    requires x { IsCoded (S.state scopes.old).frame fragments.old.nodes.items x }
-    ensures { Coding (S.state scopes.old) (S.state scopes.new) notes.old notes.new fragments.old.nodes.items fragments.new.nodes.items site.now result IsCoded coded_in (λ c. spec_element c first at index.at (coded_in fragments.old.nodes.items index.coded) (coded_in fragments.old.nodes.items x)) }
-{
-    let mut coder = Coder {
-        scopes,
-        site,
-        withs: &[],
-        fragments,
-        notes,
-    };
-    coder.select_element(first, at, index, x)
 }

@@ -8,7 +8,7 @@ ghost use Rattle.m2_base.specs.Statics.Operands.{char_or_same as spec_same, oper
 ghost use Rattle.m2_base.specs.Statics.Operations.{is_set_kind};
 ghost use Rattle.m2_base.specs.declared.notes.Notes.{Notes as NotesOf};
 ghost use Rattle.const_eval.specs.Sites.{IsNamed, IsOperand};
-ghost use Rattle.expr_sem.specs.Coders.{Codes, Keeps, nodes_of};
+ghost use Rattle.expr_sem.specs.Coders.{Codes, Keeps, SuitsPlace, frame_of, nodes_of};
 ghost use Rattle.expr_sem.specs.Coded.{value_code as spec_value, with_char as spec_char};
 ghost use Rattle.expr_sem.specs.Codings.{Coding, IsCoded, IsFragment, coded_in};
 ghost use Rattle.expr_sem.specs.Fragments.{IsIn, IsMade, jump_of, part};
@@ -162,8 +162,8 @@ fn decide(
 impl<S: Scopes> Coder<'_, '_, S> {
     /// An operator before one operand.
     pub fn one_coded(&mut self, op: Operator, op_at: u32, x: Coded) -> Result<Ask<Coded>, Memory>
-        requires suits { SuitsSite (S.state self.old.scopes.now).frame self.old.site.now }
-        requires x { IsCoded (S.state self.old.scopes.now).frame (nodes_of self.old) x }
+        requires suits { SuitsPlace S.state self.old }
+        requires x { IsCoded (frame_of S.state self.old) (nodes_of self.old) x }
         ensures keeps { Keeps self.old self.new }
         ensures codes { Codes S.state self.old self.new result IsCoded coded_in (λ c. spec_one c op op_at (coded_in (nodes_of self.old) x)) }
     {
@@ -219,10 +219,10 @@ impl<S: Scopes> Coder<'_, '_, S> {
         x: Coded,
         y: Coded,
     ) -> Result<Ask<Fragment>, Memory>
-        requires suits { SuitsSite (S.state self.old.scopes.now).frame self.old.site.now }
-        requires of { IsThere (S.state self.old.scopes.now).frame of }
-        requires x { IsCoded (S.state self.old.scopes.now).frame (nodes_of self.old) x }
-        requires y { IsCoded (S.state self.old.scopes.now).frame (nodes_of self.old) y }
+        requires suits { SuitsPlace S.state self.old }
+        requires of { IsThere (frame_of S.state self.old) of }
+        requires x { IsCoded (frame_of S.state self.old) (nodes_of self.old) x }
+        requires y { IsCoded (frame_of S.state self.old) (nodes_of self.old) y }
         ensures keeps { Keeps self.old self.new }
         ensures codes { Codes S.state self.old self.new result IsFragment part (λ c. gives (spec_operation c.scene op of (spec_type y.operand) (spec_value c (spec_char c (coded_in (nodes_of self.old) x))) (spec_value c (spec_char c (coded_in (nodes_of self.old) y))))) }
     {
@@ -252,9 +252,9 @@ impl<S: Scopes> Coder<'_, '_, S> {
         x: Placed,
         y: Placed,
     ) -> Result<Ask<Coded>, Memory>
-        requires suits { SuitsSite (S.state self.old.scopes.now).frame self.old.site.now }
-        requires x { IsCoded (S.state self.old.scopes.now).frame (nodes_of self.old) x.coded }
-        requires y { IsCoded (S.state self.old.scopes.now).frame (nodes_of self.old) y.coded }
+        requires suits { SuitsPlace S.state self.old }
+        requires x { IsCoded (frame_of S.state self.old) (nodes_of self.old) x.coded }
+        requires y { IsCoded (frame_of S.state self.old) (nodes_of self.old) y.coded }
         ensures keeps { Keeps self.old self.new }
         ensures codes { Codes S.state self.old self.new result IsCoded coded_in (λ c. spec_two c op op_at x.at (coded_in (nodes_of self.old) x.coded) y.at (coded_in (nodes_of self.old) y.coded)) }
     {

@@ -14,7 +14,7 @@ ghost use Rattle.code_form.specs.declared.instr.Instr.TheVariants as instrs;
 ghost use Rattle.const_eval.specs.Calls.{of_type, of_value as spec_of_value};
 ghost use Rattle.const_eval.specs.Sites.{IsOperand};
 ghost use Rattle.const_eval.specs.declared.calls.TypeFunction.TheVariants as functions;
-ghost use Rattle.expr_sem.specs.Coders.{Codes, Keeps, nodes_of};
+ghost use Rattle.expr_sem.specs.Coders.{Codes, Keeps, SuitsPlace, frame_of, nodes_of};
 ghost use Rattle.expr_sem.specs.Coded.{bare, coded, in_error};
 ghost use Rattle.expr_sem.specs.Codings.{Coding, IsCoded, IsFragment, coded_in, high_in};
 ghost use Rattle.expr_sem.specs.Fragments.{IsIn, part};
@@ -130,10 +130,10 @@ impl<S: Scopes> Coder<'_, '_, S> {
         index: Place,
         kind: RowMeaning,
     ) -> Result<Ask<Coded>, Memory>
-        requires suits { SuitsSite (S.state self.old.scopes.now).frame self.old.site.now }
-        requires x { IsCoded (S.state self.old.scopes.now).frame (nodes_of self.old) x }
-        requires index { IsThere (S.state self.old.scopes.now).frame index }
-        requires kind { IsKindHere (S.state self.old.scopes.now).frame kind }
+        requires suits { SuitsPlace S.state self.old }
+        requires x { IsCoded (frame_of S.state self.old) (nodes_of self.old) x }
+        requires index { IsThere (frame_of S.state self.old) index }
+        requires kind { IsKindHere (frame_of S.state self.old) kind }
         ensures keeps { Keeps self.old self.new }
         ensures codes { Codes S.state self.old self.new result IsCoded coded_in (λ c. if spec_broken c.scene index then gives in_error else gives (coded (operands.Computed cardinal) (spec_high c.scene (coded_in (nodes_of self.old) x) kind))) }
     {
@@ -146,9 +146,9 @@ impl<S: Scopes> Coder<'_, '_, S> {
 
     /// HIGH of a variable, by the meaning of its type.
     fn high_of(&mut self, at: u32, x: Coded, kind: RowMeaning) -> Result<Ask<Coded>, Memory>
-        requires suits { SuitsSite (S.state self.old.scopes.now).frame self.old.site.now }
-        requires x { IsCoded (S.state self.old.scopes.now).frame (nodes_of self.old) x }
-        requires kind { IsKindHere (S.state self.old.scopes.now).frame kind }
+        requires suits { SuitsPlace S.state self.old }
+        requires x { IsCoded (frame_of S.state self.old) (nodes_of self.old) x }
+        requires kind { IsKindHere (frame_of S.state self.old) kind }
         ensures keeps { Keeps self.old self.new }
         ensures codes { Codes S.state self.old self.new result IsCoded coded_in (λ c. spec_high_of c at (coded_in (nodes_of self.old) x) kind) }
     {
@@ -174,8 +174,8 @@ pub fn has_small_ordinal(place: Place)
 impl<S: Scopes> Coder<'_, '_, S> {
     /// HIGH of an argument that was a variable, or is in error.
     fn high_of_variable(&mut self, at: u32, x: Coded) -> Result<Ask<Coded>, Memory>
-        requires suits { SuitsSite (S.state self.old.scopes.now).frame self.old.site.now }
-        requires x { IsCoded (S.state self.old.scopes.now).frame (nodes_of self.old) x }
+        requires suits { SuitsPlace S.state self.old }
+        requires x { IsCoded (frame_of S.state self.old) (nodes_of self.old) x }
         ensures keeps { Keeps self.old self.new }
         ensures codes { Codes S.state self.old self.new result IsCoded coded_in (λ c. spec_high_variable c at (coded_in (nodes_of self.old) x)) }
     {
@@ -189,8 +189,8 @@ impl<S: Scopes> Coder<'_, '_, S> {
 
     /// HIGH.
     fn high(&mut self, at: u32, x: Coded) -> Result<Ask<Coded>, Memory>
-        requires suits { SuitsSite (S.state self.old.scopes.now).frame self.old.site.now }
-        requires x { IsCoded (S.state self.old.scopes.now).frame (nodes_of self.old) x }
+        requires suits { SuitsPlace S.state self.old }
+        requires x { IsCoded (frame_of S.state self.old) (nodes_of self.old) x }
         ensures keeps { Keeps self.old self.new }
         ensures codes { Codes S.state self.old self.new result IsCoded coded_in (λ c. and_then (spec_variable c at (coded_in (nodes_of self.old) x)) (spec_high_variable c at)) }
     {
@@ -243,8 +243,8 @@ fn size_made<S: Scopes>(
 impl<S: Scopes> Coder<'_, '_, S> {
     /// SIZE.
     fn size(&mut self, at: u32, x: Coded) -> Result<Ask<Coded>, Memory>
-        requires suits { SuitsSite (S.state self.old.scopes.now).frame self.old.site.now }
-        requires x { IsCoded (S.state self.old.scopes.now).frame (nodes_of self.old) x }
+        requires suits { SuitsPlace S.state self.old }
+        requires x { IsCoded (frame_of S.state self.old) (nodes_of self.old) x }
         ensures keeps { Keeps self.old self.new }
         ensures codes { Codes S.state self.old self.new result IsCoded coded_in (λ c. and_then (of_type c functions.Size at x.operand) (λ r. gives (spec_made r (spec_size c (coded_in (nodes_of self.old) x))))) }
     {
@@ -265,23 +265,22 @@ fn of_type_coded<S: Scopes>(
     scopes: &mut S,
     site: &Site,
     function: TypeFunction,
-    at: u32,
-    x: Operand,
+    x: Argument,
     notes: &mut Notes,
 ) -> Result<Ask<Coded>, Memory>
     requires suits { SuitsSite (S.state scopes.old).frame site.now }
-    requires x { IsOperand (S.state scopes.old).frame x }
-    ensures { (nodes : List Node) → Coding (S.state scopes.old) (S.state scopes.new) notes.old notes.new nodes nodes site.now result IsCoded coded_in (λ c. and_then (of_type c function at x) (λ r. gives (bare r))) }
+    requires x { IsOperand (S.state scopes.old).frame x.operand }
+    ensures { (nodes : List Node) → Coding (S.state scopes.old) (S.state scopes.new) notes.old notes.new nodes nodes site.now result IsCoded coded_in (λ c. and_then (of_type c function x.at x.operand) (λ r. gives (bare r))) }
 {
-    let given = analysed!(of_type_noted(scopes, site, function, at, x, notes));
+    let given = analysed!(of_type_noted(scopes, site, function, x.at, x.operand, notes));
     Ok(Ask::Known(Coded::bare(given)))
 }
 
 impl<S: Scopes> Coder<'_, '_, S> {
     /// A function of a value, of which a value is wanted.
     fn of_value(&mut self, function: ValueFunction, at: u32, x: Coded) -> Result<Ask<Coded>, Memory>
-        requires suits { SuitsSite (S.state self.old.scopes.now).frame self.old.site.now }
-        requires x { IsCoded (S.state self.old.scopes.now).frame (nodes_of self.old) x }
+        requires suits { SuitsPlace S.state self.old }
+        requires x { IsCoded (frame_of S.state self.old) (nodes_of self.old) x }
         ensures keeps { Keeps self.old self.new }
         ensures codes { Codes S.state self.old self.new result IsCoded coded_in (λ c. spec_on_value c at (coded_in (nodes_of self.old) x) (spec_of_value c function at) (code_of c (rules.Function function))) }
     {
@@ -290,8 +289,8 @@ impl<S: Scopes> Coder<'_, '_, S> {
 
     /// A function of one argument; of other standard procedures nobody asks.
     pub fn function_of_one(&mut self, f: Builtin, at: u32, x: Coded) -> Result<Ask<Coded>, Memory>
-        requires suits { SuitsSite (S.state self.old.scopes.now).frame self.old.site.now }
-        requires x { IsCoded (S.state self.old.scopes.now).frame (nodes_of self.old) x }
+        requires suits { SuitsPlace S.state self.old }
+        requires x { IsCoded (frame_of S.state self.old) (nodes_of self.old) x }
         ensures keeps { Keeps self.old self.new }
         ensures codes { Codes S.state self.old self.new result IsCoded coded_in (λ c. spec_one c f at (coded_in (nodes_of self.old) x)) }
     {
@@ -305,16 +304,20 @@ impl<S: Scopes> Coder<'_, '_, S> {
                 self.scopes,
                 self.site,
                 TypeFunction::Min,
-                at,
-                x.operand,
+                Argument {
+                    at,
+                    operand: x.operand,
+                },
                 self.notes,
             ),
             Builtin::Max => of_type_coded(
                 self.scopes,
                 self.site,
                 TypeFunction::Max,
-                at,
-                x.operand,
+                Argument {
+                    at,
+                    operand: x.operand,
+                },
                 self.notes,
             ),
             Builtin::Size => self.size(at, x),
@@ -325,9 +328,9 @@ impl<S: Scopes> Coder<'_, '_, S> {
 
     /// VAL, of a type and a value.
     pub fn value_of_type(&mut self, of: Placed, x: Placed) -> Result<Ask<Coded>, Memory>
-        requires suits { SuitsSite (S.state self.old.scopes.now).frame self.old.site.now }
-        requires of { IsCoded (S.state self.old.scopes.now).frame (nodes_of self.old) of.coded }
-        requires x { IsCoded (S.state self.old.scopes.now).frame (nodes_of self.old) x.coded }
+        requires suits { SuitsPlace S.state self.old }
+        requires of { IsCoded (frame_of S.state self.old) (nodes_of self.old) of.coded }
+        requires x { IsCoded (frame_of S.state self.old) (nodes_of self.old) x.coded }
         ensures keeps { Keeps self.old self.new }
         ensures codes { Codes S.state self.old self.new result IsCoded coded_in (λ c. spec_value c of.at (coded_in (nodes_of self.old) of.coded) x.at (coded_in (nodes_of self.old) x.coded)) }
     {

@@ -5,7 +5,7 @@ ghost use Rattle.m2_base.specs.States.{State};
 ghost use Rattle.m2_base.specs.declared.notes.Notes.{Notes as NotesOf};
 ghost use Rattle.m2_base.specs.declared.sites.Site.{Site as SiteOf};
 ghost use Rattle.code_form.specs.declared.instr.Instr.TheVariants as instrs;
-ghost use Rattle.expr_sem.specs.Coders.{Codes, Keeps, nodes_of};
+ghost use Rattle.expr_sem.specs.Coders.{Codes, Keeps, SuitsPlace, frame_of, nodes_of};
 ghost use Rattle.expr_sem.specs.Coded.{coded};
 ghost use Rattle.expr_sem.specs.Codings.{Coding, IsCoded, coded_in};
 ghost use Rattle.expr_sem.specs.Parts.{plain};
@@ -73,8 +73,8 @@ pub fn of_no_argument(f: Builtin, fragments: &mut Fragments) -> Result<Ask<Coded
 impl<S: Scopes> Coder<'_, '_, S> {
     /// INC or DEC of a variable by 1.
     fn stepped_by_one(&mut self, f: Builtin, at: u32, x: Coded) -> Result<Ask<Coded>, Memory>
-        requires suits { SuitsSite (S.state self.old.scopes.now).frame self.old.site.now }
-        requires x { IsCoded (S.state self.old.scopes.now).frame (nodes_of self.old) x }
+        requires suits { SuitsPlace S.state self.old }
+        requires x { IsCoded (frame_of S.state self.old) (nodes_of self.old) x }
         ensures keeps { Keeps self.old self.new }
         ensures codes { Codes S.state self.old self.new result IsCoded coded_in (λ c. and_then (ordinal_variable c at (coded_in (nodes_of self.old) x)) (λ v. gives (spec_stepped c f v one))) }
     {
@@ -82,8 +82,7 @@ impl<S: Scopes> Coder<'_, '_, S> {
             self.scopes,
             self.site,
             Wanted::Ordinal,
-            at,
-            x,
+            Placed { at, coded: x },
             self.fragments,
             self.notes
         ));
@@ -93,8 +92,8 @@ impl<S: Scopes> Coder<'_, '_, S> {
 
     /// NEW.
     fn new_argument(&mut self, at: u32, x: Coded) -> Result<Ask<Coded>, Memory>
-        requires suits { SuitsSite (S.state self.old.scopes.now).frame self.old.site.now }
-        requires x { IsCoded (S.state self.old.scopes.now).frame (nodes_of self.old) x }
+        requires suits { SuitsPlace S.state self.old }
+        requires x { IsCoded (frame_of S.state self.old) (nodes_of self.old) x }
         ensures keeps { Keeps self.old self.new }
         ensures codes { Codes S.state self.old self.new result IsCoded coded_in (λ c. and_then (pointer_variable c at (coded_in (nodes_of self.old) x)) (λ v. gives (spec_new c v))) }
     {
@@ -102,8 +101,7 @@ impl<S: Scopes> Coder<'_, '_, S> {
             self.scopes,
             self.site,
             Wanted::Pointer,
-            at,
-            x,
+            Placed { at, coded: x },
             self.fragments,
             self.notes
         ));
@@ -112,8 +110,8 @@ impl<S: Scopes> Coder<'_, '_, S> {
 
     /// DISPOSE.
     fn disposed_argument(&mut self, at: u32, x: Coded) -> Result<Ask<Coded>, Memory>
-        requires suits { SuitsSite (S.state self.old.scopes.now).frame self.old.site.now }
-        requires x { IsCoded (S.state self.old.scopes.now).frame (nodes_of self.old) x }
+        requires suits { SuitsPlace S.state self.old }
+        requires x { IsCoded (frame_of S.state self.old) (nodes_of self.old) x }
         ensures keeps { Keeps self.old self.new }
         ensures codes { Codes S.state self.old self.new result IsCoded coded_in (λ c. and_then (pointer_variable c at (coded_in (nodes_of self.old) x)) (λ v. gives (spec_disposed v))) }
     {
@@ -121,8 +119,7 @@ impl<S: Scopes> Coder<'_, '_, S> {
             self.scopes,
             self.site,
             Wanted::Pointer,
-            at,
-            x,
+            Placed { at, coded: x },
             self.fragments,
             self.notes
         ));
@@ -131,8 +128,8 @@ impl<S: Scopes> Coder<'_, '_, S> {
 
     /// A standard procedure of one argument.
     pub fn of_one_argument(&mut self, f: Builtin, at: u32, x: Coded) -> Result<Ask<Coded>, Memory>
-        requires suits { SuitsSite (S.state self.old.scopes.now).frame self.old.site.now }
-        requires x { IsCoded (S.state self.old.scopes.now).frame (nodes_of self.old) x }
+        requires suits { SuitsPlace S.state self.old }
+        requires x { IsCoded (frame_of S.state self.old) (nodes_of self.old) x }
         ensures keeps { Keeps self.old self.new }
         ensures codes { Codes S.state self.old self.new result IsCoded coded_in (λ c. spec_one c f at (coded_in (nodes_of self.old) x)) }
     {
@@ -147,8 +144,8 @@ impl<S: Scopes> Coder<'_, '_, S> {
 
     /// The first of two arguments, before the second is looked at.
     pub fn first_of_two(&mut self, f: Builtin, at: u32, x: Coded) -> Result<Ask<Coded>, Memory>
-        requires suits { SuitsSite (S.state self.old.scopes.now).frame self.old.site.now }
-        requires x { IsCoded (S.state self.old.scopes.now).frame (nodes_of self.old) x }
+        requires suits { SuitsPlace S.state self.old }
+        requires x { IsCoded (frame_of S.state self.old) (nodes_of self.old) x }
         ensures keeps { Keeps self.old self.new }
         ensures codes { Codes S.state self.old self.new result IsCoded coded_in (λ c. spec_first c f at (coded_in (nodes_of self.old) x)) }
     {
@@ -157,8 +154,7 @@ impl<S: Scopes> Coder<'_, '_, S> {
                 self.scopes,
                 self.site,
                 Wanted::Ordinal,
-                at,
-                x,
+                Placed { at, coded: x },
                 self.fragments,
                 self.notes,
             ),
@@ -166,8 +162,7 @@ impl<S: Scopes> Coder<'_, '_, S> {
                 self.scopes,
                 self.site,
                 Wanted::Ordinal,
-                at,
-                x,
+                Placed { at, coded: x },
                 self.fragments,
                 self.notes,
             ),
@@ -175,8 +170,7 @@ impl<S: Scopes> Coder<'_, '_, S> {
                 self.scopes,
                 self.site,
                 Wanted::Set,
-                at,
-                x,
+                Placed { at, coded: x },
                 self.fragments,
                 self.notes,
             ),
@@ -184,8 +178,7 @@ impl<S: Scopes> Coder<'_, '_, S> {
                 self.scopes,
                 self.site,
                 Wanted::Set,
-                at,
-                x,
+                Placed { at, coded: x },
                 self.fragments,
                 self.notes,
             ),
@@ -195,41 +188,25 @@ impl<S: Scopes> Coder<'_, '_, S> {
 
     /// INC or DEC of a variable by a number.
     fn stepped_by_number(&mut self, f: Builtin, x: Coded, n: Placed) -> Result<Ask<Coded>, Memory>
-        requires suits { SuitsSite (S.state self.old.scopes.now).frame self.old.site.now }
-        requires x { IsCoded (S.state self.old.scopes.now).frame (nodes_of self.old) x }
-        requires n { IsCoded (S.state self.old.scopes.now).frame (nodes_of self.old) n.coded }
+        requires suits { SuitsPlace S.state self.old }
+        requires x { IsCoded (frame_of S.state self.old) (nodes_of self.old) x }
+        requires n { IsCoded (frame_of S.state self.old) (nodes_of self.old) n.coded }
         ensures keeps { Keeps self.old self.new }
         ensures codes { Codes S.state self.old self.new result IsCoded coded_in (λ c. and_then (spec_number c (coded_in (nodes_of self.old) x) n.at (coded_in (nodes_of self.old) n.coded)) (λ v. gives (spec_stepped c f (coded_in (nodes_of self.old) x) v))) }
     {
-        let v = analysed!(step_number(
-            self.scopes,
-            self.site,
-            x,
-            n.at,
-            n.coded,
-            self.fragments,
-            self.notes
-        ));
+        let v = analysed!(step_number(self.scopes, self.site, x, n, self.fragments, self.notes));
         self.stepped(f, x, v)
     }
 
     /// INCL or EXCL of a set and an element.
     fn included_element(&mut self, f: Builtin, x: Coded, e: Placed) -> Result<Ask<Coded>, Memory>
-        requires suits { SuitsSite (S.state self.old.scopes.now).frame self.old.site.now }
-        requires x { IsCoded (S.state self.old.scopes.now).frame (nodes_of self.old) x }
-        requires e { IsCoded (S.state self.old.scopes.now).frame (nodes_of self.old) e.coded }
+        requires suits { SuitsPlace S.state self.old }
+        requires x { IsCoded (frame_of S.state self.old) (nodes_of self.old) x }
+        requires e { IsCoded (frame_of S.state self.old) (nodes_of self.old) e.coded }
         ensures keeps { Keeps self.old self.new }
         ensures codes { Codes S.state self.old self.new result IsCoded coded_in (λ c. and_then (spec_member c (coded_in (nodes_of self.old) x) e.at (coded_in (nodes_of self.old) e.coded)) (λ v. gives (spec_included c f (coded_in (nodes_of self.old) x) v))) }
     {
-        let v = analysed!(set_member(
-            self.scopes,
-            self.site,
-            x,
-            e.at,
-            e.coded,
-            self.fragments,
-            self.notes
-        ));
+        let v = analysed!(set_member(self.scopes, self.site, x, e, self.fragments, self.notes));
         self.included(f, x, v)
     }
 
@@ -240,9 +217,9 @@ impl<S: Scopes> Coder<'_, '_, S> {
         x: Placed,
         y: Placed,
     ) -> Result<Ask<Coded>, Memory>
-        requires suits { SuitsSite (S.state self.old.scopes.now).frame self.old.site.now }
-        requires x { IsCoded (S.state self.old.scopes.now).frame (nodes_of self.old) x.coded }
-        requires y { IsCoded (S.state self.old.scopes.now).frame (nodes_of self.old) y.coded }
+        requires suits { SuitsPlace S.state self.old }
+        requires x { IsCoded (frame_of S.state self.old) (nodes_of self.old) x.coded }
+        requires y { IsCoded (frame_of S.state self.old) (nodes_of self.old) y.coded }
         ensures keeps { Keeps self.old self.new }
         ensures codes { Codes S.state self.old self.new result IsCoded coded_in (λ c. spec_two c f x.at (coded_in (nodes_of self.old) x.coded) y.at (coded_in (nodes_of self.old) y.coded)) }
     {
@@ -255,77 +232,4 @@ impl<S: Scopes> Coder<'_, '_, S> {
             _ => Ok(Ask::Known(Coded::in_error())),
         }
     }
-}
-
-/// A standard procedure of one argument.
-pub fn of_one_argument<S: Scopes>(
-    scopes: &mut S,
-    site: &Site,
-    f: Builtin,
-    at: u32,
-    x: Coded,
-    fragments: &mut Fragments,
-    notes: &mut Notes,
-) -> Result<Ask<Coded>, Memory>
-    requires suits { SuitsSite (S.state scopes.old).frame site.now }
-    requires x { IsCoded (S.state scopes.old).frame fragments.old.nodes.items x }
-    ensures { Coding (S.state scopes.old) (S.state scopes.new) notes.old notes.new fragments.old.nodes.items fragments.new.nodes.items site.now result IsCoded coded_in (λ c. spec_one c f at (coded_in fragments.old.nodes.items x)) }
-{
-    let mut coder = Coder {
-        scopes,
-        site,
-        withs: &[],
-        fragments,
-        notes,
-    };
-    coder.of_one_argument(f, at, x)
-}
-
-/// The first of two arguments, before the second is looked at.
-pub fn first_of_two<S: Scopes>(
-    scopes: &mut S,
-    site: &Site,
-    f: Builtin,
-    at: u32,
-    x: Coded,
-    fragments: &mut Fragments,
-    notes: &mut Notes,
-) -> Result<Ask<Coded>, Memory>
-    requires suits { SuitsSite (S.state scopes.old).frame site.now }
-    requires x { IsCoded (S.state scopes.old).frame fragments.old.nodes.items x }
-    ensures { Coding (S.state scopes.old) (S.state scopes.new) notes.old notes.new fragments.old.nodes.items fragments.new.nodes.items site.now result IsCoded coded_in (λ c. spec_first c f at (coded_in fragments.old.nodes.items x)) }
-{
-    let mut coder = Coder {
-        scopes,
-        site,
-        withs: &[],
-        fragments,
-        notes,
-    };
-    coder.first_of_two(f, at, x)
-}
-
-/// A standard procedure of two arguments, of which the first is as `first_of_two` gives it; of others nobody asks.
-pub fn of_two_arguments<S: Scopes>(
-    scopes: &mut S,
-    site: &Site,
-    f: Builtin,
-    x: Placed,
-    y: Placed,
-    fragments: &mut Fragments,
-    notes: &mut Notes,
-) -> Result<Ask<Coded>, Memory>
-    requires suits { SuitsSite (S.state scopes.old).frame site.now }
-    requires x { IsCoded (S.state scopes.old).frame fragments.old.nodes.items x.coded }
-    requires y { IsCoded (S.state scopes.old).frame fragments.old.nodes.items y.coded }
-    ensures { Coding (S.state scopes.old) (S.state scopes.new) notes.old notes.new fragments.old.nodes.items fragments.new.nodes.items site.now result IsCoded coded_in (λ c. spec_two c f x.at (coded_in fragments.old.nodes.items x.coded) y.at (coded_in fragments.old.nodes.items y.coded)) }
-{
-    let mut coder = Coder {
-        scopes,
-        site,
-        withs: &[],
-        fragments,
-        notes,
-    };
-    coder.of_two_arguments(f, x, y)
 }

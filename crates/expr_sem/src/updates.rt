@@ -6,7 +6,7 @@ ghost use Rattle.m2_base.specs.Statics.Operands.{is_bad as spec_bad, operand_typ
 ghost use Rattle.m2_base.specs.Statics.Ranges.{range};
 ghost use Rattle.m2_base.specs.declared.notes.Notes.{Notes as NotesOf};
 ghost use Rattle.code_form.specs.declared.instr.Instr.TheVariants as instrs;
-ghost use Rattle.expr_sem.specs.Coders.{Codes, Keeps, nodes_of};
+ghost use Rattle.expr_sem.specs.Coders.{Codes, Keeps, SuitsPlace, frame_of, nodes_of};
 ghost use Rattle.expr_sem.specs.Coded.{coded, value_code as spec_value_code};
 ghost use Rattle.expr_sem.specs.Codings.{Coding, IsCoded, coded_in};
 ghost use Rattle.expr_sem.specs.Fitting.{check_of};
@@ -144,8 +144,8 @@ impl<S: Scopes> Coder<'_, '_, S> {
         variable: Fragment,
         number: Fragment,
     ) -> Result<Ask<Coded>, Memory>
-        requires suits { SuitsSite (S.state self.old.scopes.now).frame self.old.site.now }
-        requires of { IsThere (S.state self.old.scopes.now).frame of }
+        requires suits { SuitsPlace S.state self.old }
+        requires of { IsThere (frame_of S.state self.old) of }
         requires variable { IsIn (nodes_of self.old) variable }
         requires number { IsIn (nodes_of self.old) number }
         ensures keeps { Keeps self.old self.new }
@@ -158,9 +158,9 @@ impl<S: Scopes> Coder<'_, '_, S> {
 
     /// INC or DEC of a variable by a number, neither of which is in error.
     fn step_by(&mut self, f: Builtin, x: Coded, n: Coded) -> Result<Ask<Coded>, Memory>
-        requires suits { SuitsSite (S.state self.old.scopes.now).frame self.old.site.now }
-        requires x { IsCoded (S.state self.old.scopes.now).frame (nodes_of self.old) x }
-        requires n { IsCoded (S.state self.old.scopes.now).frame (nodes_of self.old) n }
+        requires suits { SuitsPlace S.state self.old }
+        requires x { IsCoded (frame_of S.state self.old) (nodes_of self.old) x }
+        requires n { IsCoded (frame_of S.state self.old) (nodes_of self.old) n }
         ensures keeps { Keeps self.old self.new }
         ensures codes { Codes S.state self.old self.new result IsCoded coded_in (λ c. gives (update (coded_in (nodes_of self.old) x) (spec_value_code c (coded_in (nodes_of self.old) n)) (spec_step_instrs c.scene f (spec_type x.operand)))) }
     {
@@ -179,9 +179,9 @@ pub fn either_bad(x: Operand, n: Operand) -> bool
 impl<S: Scopes> Coder<'_, '_, S> {
     /// INC or DEC of a variable by a number, unless one of them is in error.
     pub fn stepped(&mut self, f: Builtin, x: Coded, n: Coded) -> Result<Ask<Coded>, Memory>
-        requires suits { SuitsSite (S.state self.old.scopes.now).frame self.old.site.now }
-        requires x { IsCoded (S.state self.old.scopes.now).frame (nodes_of self.old) x }
-        requires n { IsCoded (S.state self.old.scopes.now).frame (nodes_of self.old) n }
+        requires suits { SuitsPlace S.state self.old }
+        requires x { IsCoded (frame_of S.state self.old) (nodes_of self.old) x }
+        requires n { IsCoded (frame_of S.state self.old) (nodes_of self.old) n }
         ensures keeps { Keeps self.old self.new }
         ensures codes { Codes S.state self.old self.new result IsCoded coded_in (λ c. gives (spec_stepped c f (coded_in (nodes_of self.old) x) (coded_in (nodes_of self.old) n))) }
     {

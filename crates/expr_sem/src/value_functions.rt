@@ -7,7 +7,7 @@ ghost use Rattle.m2_base.specs.States.{Frame, Waits};
 ghost use Rattle.m2_base.specs.declared.notes.Notes.{Notes as NotesOf};
 ghost use Rattle.const_eval.specs.Analyses.{Analysed};
 ghost use Rattle.const_eval.specs.Sites.{IsOperand};
-ghost use Rattle.expr_sem.specs.Coders.{Codes, Keeps, nodes_of};
+ghost use Rattle.expr_sem.specs.Coders.{Codes, Keeps, SuitsPlace, frame_of, nodes_of};
 ghost use Rattle.expr_sem.specs.Codings.{Coding, IsCoded, IsFragment, coded_in};
 ghost use Rattle.expr_sem.specs.Fragments.{IsIn, IsMade, part};
 ghost use Rattle.expr_sem.specs.Operators.{made as spec_made};
@@ -78,18 +78,17 @@ fn rule_noted<S: Scopes>(
     scopes: &mut S,
     site: &Site,
     rule: Rule,
-    at: u32,
-    x: Operand,
+    x: Argument,
     notes: &mut Notes,
 ) -> Result<Ask<Operand>, Memory>
     requires suits { SuitsSite (S.state scopes.old).frame site.now }
     requires rule { IsRuleHere (S.state scopes.old).frame rule }
-    requires x { IsOperand (S.state scopes.old).frame x }
-    ensures { Analysed (S.state scopes.old) (S.state scopes.new) notes.old notes.new site.now result IsOperand (λ c. rule_of c rule at x) }
+    requires x { IsOperand (S.state scopes.old).frame x.operand }
+    ensures { Analysed (S.state scopes.old) (S.state scopes.new) notes.old notes.new site.now result IsOperand (λ c. rule_of c rule x.at x.operand) }
 {
     match rule {
-        Rule::Function(function) => of_value_noted(scopes, site, function, at, x, notes),
-        Rule::Val(of) => val_of_operand(scopes, site, of, at, x, notes),
+        Rule::Function(function) => of_value_noted(scopes, site, function, x.at, x.operand, notes),
+        Rule::Val(of) => val_of_operand(scopes, site, of, x.at, x.operand, notes),
     }
 }
 
@@ -198,8 +197,8 @@ fn with_ending(
 impl<S: Scopes> Coder<'_, '_, S> {
     /// A value of a type with the ending of a rule.
     fn ended(&mut self, rule: Rule, of: Place, value: Fragment) -> Result<Ask<Fragment>, Memory>
-        requires suits { SuitsSite (S.state self.old.scopes.now).frame self.old.site.now }
-        requires of { IsThere (S.state self.old.scopes.now).frame of }
+        requires suits { SuitsPlace S.state self.old }
+        requires of { IsThere (frame_of S.state self.old) of }
         requires value { IsIn (nodes_of self.old) value }
         ensures keeps { Keeps self.old self.new }
         ensures codes { Codes S.state self.old self.new result IsFragment part (λ c. gives (part (nodes_of self.old) value ⨟ plain (spec_ending c.scene of rule))) }
@@ -211,8 +210,8 @@ impl<S: Scopes> Coder<'_, '_, S> {
 
     /// The code of a value, and the ending of a rule behind it.
     fn ended_code(&mut self, rule: Rule, v: Coded) -> Result<Ask<Fragment>, Memory>
-        requires suits { SuitsSite (S.state self.old.scopes.now).frame self.old.site.now }
-        requires v { IsCoded (S.state self.old.scopes.now).frame (nodes_of self.old) v }
+        requires suits { SuitsPlace S.state self.old }
+        requires v { IsCoded (frame_of S.state self.old) (nodes_of self.old) v }
         ensures keeps { Keeps self.old self.new }
         ensures codes { Codes S.state self.old self.new result IsFragment part (λ c. gives (code_to c rule (coded_in (nodes_of self.old) v) None)) }
     {
@@ -222,9 +221,9 @@ impl<S: Scopes> Coder<'_, '_, S> {
 
     /// The code of a value under a rule.
     fn rule_code(&mut self, rule: Rule, v: Coded) -> Result<Ask<Fragment>, Memory>
-        requires suits { SuitsSite (S.state self.old.scopes.now).frame self.old.site.now }
-        requires rule { IsRuleHere (S.state self.old.scopes.now).frame rule }
-        requires v { IsCoded (S.state self.old.scopes.now).frame (nodes_of self.old) v }
+        requires suits { SuitsPlace S.state self.old }
+        requires rule { IsRuleHere (frame_of S.state self.old) rule }
+        requires v { IsCoded (frame_of S.state self.old) (nodes_of self.old) v }
         ensures keeps { Keeps self.old self.new }
         ensures codes { Codes S.state self.old self.new result IsFragment part (λ c. gives (code_of c rule (coded_in (nodes_of self.old) v))) }
     {
@@ -236,10 +235,10 @@ impl<S: Scopes> Coder<'_, '_, S> {
 
     /// What a rule gives of a value, with its code.
     fn with_code(&mut self, rule: Rule, given: Operand, v: Coded) -> Result<Ask<Coded>, Memory>
-        requires suits { SuitsSite (S.state self.old.scopes.now).frame self.old.site.now }
-        requires rule { IsRuleHere (S.state self.old.scopes.now).frame rule }
-        requires given { IsOperand (S.state self.old.scopes.now).frame given }
-        requires v { IsCoded (S.state self.old.scopes.now).frame (nodes_of self.old) v }
+        requires suits { SuitsPlace S.state self.old }
+        requires rule { IsRuleHere (frame_of S.state self.old) rule }
+        requires given { IsOperand (frame_of S.state self.old) given }
+        requires v { IsCoded (frame_of S.state self.old) (nodes_of self.old) v }
         ensures keeps { Keeps self.old self.new }
         ensures codes { Codes S.state self.old self.new result IsCoded coded_in (λ c. gives (spec_made given (code_of c rule (coded_in (nodes_of self.old) v)))) }
     {
@@ -249,21 +248,30 @@ impl<S: Scopes> Coder<'_, '_, S> {
 
     /// A rule on what stands for a value.
     fn value_under(&mut self, rule: Rule, at: u32, v: Coded) -> Result<Ask<Coded>, Memory>
-        requires suits { SuitsSite (S.state self.old.scopes.now).frame self.old.site.now }
-        requires rule { IsRuleHere (S.state self.old.scopes.now).frame rule }
-        requires v { IsCoded (S.state self.old.scopes.now).frame (nodes_of self.old) v }
+        requires suits { SuitsPlace S.state self.old }
+        requires rule { IsRuleHere (frame_of S.state self.old) rule }
+        requires v { IsCoded (frame_of S.state self.old) (nodes_of self.old) v }
         ensures keeps { Keeps self.old self.new }
         ensures codes { Codes S.state self.old self.new result IsCoded coded_in (λ c. under c rule at (coded_in (nodes_of self.old) v)) }
     {
-        let given = analysed!(rule_noted(self.scopes, self.site, rule, at, v.operand, self.notes));
+        let given = analysed!(rule_noted(
+            self.scopes,
+            self.site,
+            rule,
+            Argument {
+                at,
+                operand: v.operand
+            },
+            self.notes
+        ));
         self.with_code(rule, given, v)
     }
 
     /// A rule on an argument, of which a value is wanted.
     pub fn on_value(&mut self, rule: Rule, at: u32, x: Coded) -> Result<Ask<Coded>, Memory>
-        requires suits { SuitsSite (S.state self.old.scopes.now).frame self.old.site.now }
-        requires rule { IsRuleHere (S.state self.old.scopes.now).frame rule }
-        requires x { IsCoded (S.state self.old.scopes.now).frame (nodes_of self.old) x }
+        requires suits { SuitsPlace S.state self.old }
+        requires rule { IsRuleHere (frame_of S.state self.old) rule }
+        requires x { IsCoded (frame_of S.state self.old) (nodes_of self.old) x }
         ensures keeps { Keeps self.old self.new }
         ensures codes { Codes S.state self.old self.new result IsCoded coded_in (λ c. spec_on_value c at (coded_in (nodes_of self.old) x) (rule_of c rule at) (code_of c rule)) }
     {

@@ -18,7 +18,7 @@ pub returns-in-Procedure-clause-codes : goal.returns-in-Procedure-clause-codes
 returns-in-Procedure-clause-codes g c =
     let ns = c.args.self.now.fragments.now.nodes.items in
     let call = c.args.call in
-    described c.called_procedure.result (c.called_procedure.ensures ns) (λ k. ap (called_by k call.is_wanted call.at call.count (part ns c.args.x.code)) (sym c.in-Procedure.is))
+    described c.called_procedure.result (c.called_procedure.ensures.codes) (λ k. ap (called_by k call.is_wanted call.at call.count (part ns c.args.x.code)) (sym c.in-Procedure.is))
 
 pub returns-in-Variable-clause-codes : goal.returns-in-Variable-clause-codes
 returns-in-Variable-clause-codes g c =

@@ -17,7 +17,7 @@ returns-in-DontKnowYet-clause-codes g c = question_waits _ _ c.field_of.ensures.
 
 pub returns-in-Some-clause-codes : goal.returns-in-Some-clause-codes
 returns-in-Some-clause-codes g c =
-    after_question c.field_coded.result c.field_of.ensures.reads (c.field_coded.ensures c.args.self.now.notes.now)
+    after_question c.field_coded.result c.field_of.ensures.reads (c.field_coded.ensures.codes)
     (λ made in_hand told. ap (λ r. found_field (context_of (g.S.Scopes.state c.args.self.now.scopes.now).frame made c.args.self.now.site.now) (part c.args.self.now.fragments.now.nodes.items c.args.code) c.args.ident r) (sym c.in-Some.is ∙ c.in-Known.ensures.told made in_hand told))
 
 pub returns-in-None-clause-codes : goal.returns-in-None-clause-codes

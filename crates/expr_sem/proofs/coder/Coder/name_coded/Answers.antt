@@ -10,7 +10,7 @@ returns-in-DontKnowYet-clause-codes g c = question_waits _ _ c.field_of_withs.en
 
 pub returns-in-Some-clause-codes : goal.returns-in-Some-clause-codes
 returns-in-Some-clause-codes g c =
-    after_question c.field_of_with.result c.field_of_withs.ensures.reads (c.field_of_with.ensures c.args.self.now.notes.now)
+    after_question c.field_of_with.result c.field_of_withs.ensures.reads (c.field_of_with.ensures.codes)
     (λ made in_hand told. name_given (context_of (g.S.Scopes.state c.args.self.now.scopes.now).frame made c.args.self.now.site.now) c.args.ident (with_types c.args.self.now.withs.now) (Some c.in-Some.found) (sym c.in-Some.is ∙ c.in-Known.ensures.told made in_hand told))
 
 pub returns-in-None-clause-codes : goal.returns-in-None-clause-codes

@@ -10,22 +10,24 @@ use Rattle.expr_sem.specs.Signatures.{IsSignature}
 use Rattle.expr_sem.proofs.CallCases.{parts_allowed, type_allowed}
 use Rattle.expr_sem.proofs.Making.{after_question, question_failed, question_waits}
 use Rattle.expr_sem.proofs.Selecting.{stays_read}
-use Rattle.expr_sem.proofs.calls.called_procedure.Goals as goal
+use Rattle.expr_sem.proofs.coder.Coder.called_procedure.Goals as goal
 
-pub returns-in-DontKnowYet-asked : goal.returns-in-DontKnowYet-asked
-returns-in-DontKnowYet-asked g c nodes =
+pub returns-in-DontKnowYet-asked-clause-codes : goal.returns-in-DontKnowYet-asked-clause-codes
+returns-in-DontKnowYet-asked-clause-codes g c =
+    let nodes = c.args.self.now.fragments.now.nodes.items in
     let first = c.in-Ok.ensures in
     let second = c.in-Ok-target_of_procedure.ensures in
     question_waits _ nodes (Reads-trans first.reads second.reads) (Waits_read first.reads (rw c.in-DontKnowYet-asked.is at second.waits))
 
-pub returns-in-Err-target_of_procedure : goal.returns-in-Err-target_of_procedure
-returns-in-Err-target_of_procedure g c nodes = question_failed _ nodes (Reads-trans c.in-Ok.ensures.reads c.in-Err-target_of_procedure.ensures.reads) _
+pub returns-in-Err-target_of_procedure-clause-codes : goal.returns-in-Err-target_of_procedure-clause-codes
+returns-in-Err-target_of_procedure-clause-codes g c = let nodes = c.args.self.now.fragments.now.nodes.items in question_failed _ nodes (Reads-trans c.in-Ok.ensures.reads c.in-Err-target_of_procedure.ensures.reads) _
 
-pub returns : goal.returns
-returns g c nodes =
-    let f = (g.S.Scopes.state c.args.scopes.now).frame in
+pub returns-clause-codes : goal.returns-clause-codes
+returns-clause-codes g c =
+    let nodes = c.args.self.now.fragments.now.nodes.items in
+    let f = (g.S.Scopes.state c.args.self.now.scopes.now).frame in
     let mid = (g.S.Scopes.state c.signature_of.new.scopes).frame in
-    let s = c.args.site.now in
+    let s = c.args.self.now.site.now in
     let a = s.around.now in
     let call = c.args.call in
     let ps = map parameter_view c.in-Known.value.params.items in
