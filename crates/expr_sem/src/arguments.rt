@@ -189,7 +189,7 @@ impl<S: Scopes> Coder<'_, '_, S> {
                 }
                 self.alike(want, x, kind, element)
             }
-            RowMeaning::OpenArray(element) => { self.alike(want, x, kind, element) }
+            RowMeaning::OpenArray(element) => self.alike(want, x, kind, element),
             _ => refuse_argument(self.site, x.at, Diagnostic::WrongArgument, self.notes),
         }
     }
@@ -258,7 +258,7 @@ impl<S: Scopes> Coder<'_, '_, S> {
         let (place, kind) = asked!(stand(self.scopes, self.site.around, p.of));
         has_small_ordinal(place);
         match kind {
-            RowMeaning::OpenArray(element) => { self.open_argument(element, x) }
+            RowMeaning::OpenArray(element) => self.open_argument(element, x),
             _ => {
                 if p.by_ref {
                     by_address(self.scopes, self.site, p.of, x, self.notes)

@@ -311,7 +311,7 @@ impl<S: Scopes> Coder<'_, '_, S> {
         ensures codes { Codes S.state self.old self.new result IsCallable called_in (λ c. called_by c call.is_wanted call.at call.count (part (nodes_of self.old) code) (operands.Variable of)) }
     {
         match form_of(self.scopes, self.site.around, of) {
-            Ask::Known(Some(form)) => { self.called_by_form(call, form, code) }
+            Ask::Known(Some(form)) => self.called_by_form(call, form, code),
             Ask::Known(None) => refused_call(
                 self.site,
                 call.at,
@@ -334,7 +334,7 @@ impl<S: Scopes> Coder<'_, '_, S> {
             Operand::Procedure(name, of, number, _) => {
                 self.called_procedure(call, name, of, number)
             }
-            Operand::Variable(of) => { self.called_variable(call, of, x.code) }
+            Operand::Variable(of) => self.called_variable(call, of, x.code),
             Operand::ModuleName(_) => refused_call(
                 self.site,
                 call.at,

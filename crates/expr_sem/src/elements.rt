@@ -420,7 +420,7 @@ impl<S: Scopes> Coder<'_, '_, S> {
             RowMeaning::Array(indices, elements, _) => {
                 self.array_element(indices, elements, index, x)
             }
-            RowMeaning::OpenArray(elements) => { self.open_element(elements, index, x) }
+            RowMeaning::OpenArray(elements) => self.open_element(elements, index, x),
             _ => refused(self.site, at, Diagnostic::NotAnArray, self.notes),
         }
     }

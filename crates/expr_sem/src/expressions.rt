@@ -398,8 +398,8 @@ impl<S: Scopes> Coder<'_, '_, S> {
     {
         match what {
             Callable::Standard(f) => self.standard(*f, args),
-            Callable::Procedure(callee) => { self.procedure(callee, args) }
-            Callable::Lacking(params) => { self.lacking(params, args) }
+            Callable::Procedure(callee) => self.procedure(callee, args),
+            Callable::Lacking(params) => self.lacking(params, args),
             Callable::Nothing => self.looked_at(args),
         }
     }
@@ -465,7 +465,7 @@ impl<S: Scopes> Coder<'_, '_, S> {
         ensures codes { Codes S.state self.old self.new result IsCoded coded_in (λ c. spec_selector c (with_types self.old.withs.now) first (coded_in (nodes_of self.old) x) (selector_view selector.now)) }
     {
         match selector {
-            Selector::Field(ident, at) => { self.select_field(first, *at, *ident, x) }
+            Selector::Field(ident, at) => self.select_field(first, *at, *ident, x),
             Selector::Index(es, at) => self.indexed(first, *at, x, es),
             Selector::Deref(at) => self.select_target(first, *at, x),
         }

@@ -80,7 +80,7 @@ impl<S: Scopes> Coder<'_, '_, S> {
         ensures codes { Codes S.state self.old self.new result IsCoded coded_in (λ c. gives (spec_field_coded c.scene (part (nodes_of self.old) code) field)) }
     {
         match read_row(&field) {
-            RowMeaning::Field(of, offset, _, _) => { self.field_at(of, offset, code) }
+            RowMeaning::Field(of, offset, _, _) => self.field_at(of, offset, code),
             _ => Ok(Ask::Known(Coded::in_error())),
         }
     }
@@ -230,8 +230,8 @@ impl<S: Scopes> Coder<'_, '_, S> {
         ensures codes { Codes S.state self.old self.new result IsCoded coded_in (λ c. spec_field c first at ident (coded_in (nodes_of self.old) x)) }
     {
         match x.operand {
-            Operand::ModuleName(scope) => { self.name_used(Some(scope), ident) }
-            Operand::Variable(of) => { self.of_record(at, of, ident, x.code) }
+            Operand::ModuleName(scope) => self.name_used(Some(scope), ident),
+            Operand::Variable(of) => self.of_record(at, of, ident, x.code),
             Operand::InError => Ok(Ask::Known(Coded::in_error())),
             Operand::NotConstant => Ok(Ask::Known(Coded::in_error())),
             _ => refused(self.site, first, Diagnostic::NotAVariable, self.notes),

@@ -224,10 +224,10 @@ impl<S: Scopes> Coder<'_, '_, S> {
         ensures codes { Codes S.state self.old self.new result IsCoded coded_in (λ c. spec_two c f x.at (coded_in (nodes_of self.old) x.coded) y.at (coded_in (nodes_of self.old) y.coded)) }
     {
         match f {
-            Builtin::Inc => { self.stepped_by_number(Builtin::Inc, x.coded, y) }
-            Builtin::Dec => { self.stepped_by_number(Builtin::Dec, x.coded, y) }
-            Builtin::Incl => { self.included_element(Builtin::Incl, x.coded, y) }
-            Builtin::Excl => { self.included_element(Builtin::Excl, x.coded, y) }
+            Builtin::Inc => self.stepped_by_number(Builtin::Inc, x.coded, y),
+            Builtin::Dec => self.stepped_by_number(Builtin::Dec, x.coded, y),
+            Builtin::Incl => self.included_element(Builtin::Incl, x.coded, y),
+            Builtin::Excl => self.included_element(Builtin::Excl, x.coded, y),
             Builtin::Val => self.value_of_type(x, y),
             _ => Ok(Ask::Known(Coded::in_error())),
         }

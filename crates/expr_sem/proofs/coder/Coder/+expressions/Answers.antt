@@ -27,6 +27,7 @@ use Rattle.expr_sem.specs.Callees.{called_in}
 use Rattle.expr_sem.specs.Calls.{call_coded, called}
 use Rattle.expr_sem.specs.Coded.{bare, in_error}
 use Rattle.expr_sem.specs.Coded as code
+use Rattle.expr_sem.specs.Coders.{nodes_of}
 use Rattle.expr_sem.specs.Codings.{IsCoded, coded_in, with_types}
 use Rattle.expr_sem.specs.Elements.{select_element}
 use Rattle.expr_sem.specs.ExpressionParts.{all_passed, behind_first, called_as, called_with, first_argument, index, member, next_passed, second_argument, range_to, set_of, type_before}
@@ -48,7 +49,7 @@ use Rattle.expr_sem.specs.SetElements.{add_element, add_range, element_coded, no
 use Rattle.expr_sem.specs.Values.{as_value}
 use Rattle.expr_sem.proofs.ExpressionFolds.{indices_folded, labels_folded, looked_folded, nexts_folded, selectors_folded}
 use Rattle.expr_sem.proofs.Onwards.{coded_after, suits_after}
-use Rattle.expr_sem.proofs.Coders.{Keeps-refl, Keeps-trans}
+use Rattle.expr_sem.proofs.Coders.{Keeps-refl, Keeps-trans, at_old}
 use Rattle.expr_sem.proofs.Operating.{coded_later, coding_after, described, described_there, unknown, unknown_after, unmade, unmade_after, value_alone}
 use Rattle.expr_sem.proofs.PartsGiven.{form_given, many_given, next_given, one_given, one_label_given, range_given, typed_set_given}
 use Rattle.expr_sem.proofs.Walking.{elements_after, elements_later, one_more, open_after, stands_after, start_of, started, there_after, whole}
@@ -397,7 +398,7 @@ indexed-index-requires g t c κs within =
 pub indexed-loop-e-preserved : goal.indexed-loop-e-preserved
 indexed-loop-e-preserved g t c = (
   (Keeps-trans c.loop-e.invariant.0 c.index.ensures.keeps),
-  (one_more (λ k o i. index k (with_types c.args.self.now.withs.now) c.args.first c.args.at o (expr_view i)) (coded_in c.args.self.now.fragments.now.nodes.items c.args.x) c.args.es.now c.loop-e.e-index c.e-item.result c.loop-e-test.true c.e-item.is c.loop-e.invariant.1 (rw c.loop-e.invariant.0.withs at (rw c.loop-e.invariant.0.site at (rw c.in-Known.is at c.in-Ok.ensures.codes)))),
+  (one_more (λ k o i. index k (with_types c.args.self.now.withs.now) c.args.first c.args.at o (expr_view i)) (coded_in c.args.self.now.fragments.now.nodes.items c.args.x) c.args.es.now c.loop-e.e-index c.e-item.result c.loop-e-test.true c.e-item.is c.loop-e.invariant.1 (at_old g.S.Scopes.state (λ ws k. index k (with_types ws) c.args.first c.args.at (coded_in (nodes_of c.loop-e.self) c.loop-e.y) (expr_view c.e-item.result)) c.loop-e.invariant.0 (rw c.in-Known.is at c.in-Ok.ensures.codes))),
 )
 
 pub indexed-returns-in-DontKnowYet-clause-codes : goal.indexed-returns-in-DontKnowYet-clause-codes
