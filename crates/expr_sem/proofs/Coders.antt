@@ -19,7 +19,7 @@ Keeps-trans p q =
     record { site = q.site ∙ p.site; withs = q.withs ∙ p.withs; scopes = q.scopes ∙ p.scopes; fragments = q.fragments ∙ p.fragments; notes = q.notes ∙ p.notes }
 
 -- what is said of an analysis at the place where it stood first
-pub at_old : {X T V : Type 0} (state : X → State) {old mid new : Coder X} {answer : Result (Ask T) Memory} {P : Frame → List Node → T → Type 0} {as_p : List Node → T → V} (given : List With → Context → Gives V) → Keeps old mid
+pub at_old : {X T V : Type 0} (state : X → State) {old mid : Coder X} (new : Coder X) {answer : Result (Ask T) Memory} {P : Frame → List Node → T → Type 0} {as_p : List Node → T → V} (given : List With → Context → Gives V) → Keeps old mid
     → Codes state mid new answer P as_p (given mid.withs.now)
     → Coding (state mid.scopes.now) (state new.scopes.now) mid.notes.now new.notes.now (nodes_of mid) (nodes_of new) old.site.now answer P as_p (given old.withs.now)
-at_old state given p q = rw p.withs at (rw p.site at q)
+at_old state new given p q = rw p.withs at (rw p.site at q)

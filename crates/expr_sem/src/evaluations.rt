@@ -135,14 +135,7 @@ pub fn value<S: Scopes>(
     ensures { Evaluates (S.state scopes.old) (S.state scopes.new) notes.old notes.new piece.old piece.new withs.now site.now result (λ c x. spec_code c x) (λ c. spec_value c (with_types withs.now) (expr_view e.now)) }
 {
     let mut fragments = Fragments::new(*piece.steps.allocator());
-    let mut coder = Coder {
-        scopes,
-        site,
-        withs,
-        fragments: &mut fragments,
-        notes,
-    };
-    let made = analysed!(coder.value_made(e));
+    let made = analysed!(value_made(scopes, site, withs, e, &mut fragments, notes));
     appended(&fragments, made, withs, piece)
 }
 
@@ -162,13 +155,54 @@ pub fn address<S: Scopes>(
     ensures { Evaluates (S.state scopes.old) (S.state scopes.new) notes.old notes.new piece.old piece.new withs.now site.now result (λ c x. x.code) (λ c. spec_designated c (with_types withs.now) (designator_view of.now)) }
 {
     let mut fragments = Fragments::new(*piece.steps.allocator());
+    let made = analysed!(address_made(scopes, site, withs, of, &mut fragments, notes));
+    appended(&fragments, made, withs, piece)
+}
+
+/// An expression's operand with the code of its value.
+fn value_made<S: Scopes>(
+    scopes: &mut S,
+    site: &Site,
+    withs: &[With],
+    e: &Expr,
+    fragments: &mut Fragments,
+    notes: &mut Notes,
+) -> Result<Ask<Option<(Operand, Fragment)>>, Memory>
+    requires suits { SuitsSite (S.state scopes.old).frame site.now }
+    requires withs { Each (λ w. IsThere (S.state scopes.old).frame w.of) withs.now }
+    requires read { IsReadExpr site.now.texts.now.names (expr_view e.now) }
+    ensures { Coding (S.state scopes.old) (S.state scopes.new) notes.old notes.new fragments.old.nodes.items fragments.new.nodes.items site.now result IsEvaluated evaluated_in (λ c. evaluation (spec_value c (with_types withs.now) (expr_view e.now)) (λ x. spec_code c x)) }
+{
     let mut coder = Coder {
         scopes,
         site,
         withs,
-        fragments: &mut fragments,
+        fragments,
         notes,
     };
-    let made = analysed!(coder.address_made(of));
-    appended(&fragments, made, withs, piece)
+    coder.value_made(e)
+}
+
+/// What a designator stands for, with its own code.
+fn address_made<S: Scopes>(
+    scopes: &mut S,
+    site: &Site,
+    withs: &[With],
+    of: &Designator,
+    fragments: &mut Fragments,
+    notes: &mut Notes,
+) -> Result<Ask<Option<(Operand, Fragment)>>, Memory>
+    requires suits { SuitsSite (S.state scopes.old).frame site.now }
+    requires withs { Each (λ w. IsThere (S.state scopes.old).frame w.of) withs.now }
+    requires read { IsReadDesignator site.now.texts.now.names (designator_view of.now) }
+    ensures { Coding (S.state scopes.old) (S.state scopes.new) notes.old notes.new fragments.old.nodes.items fragments.new.nodes.items site.now result IsEvaluated evaluated_in (λ c. evaluation (spec_designated c (with_types withs.now) (designator_view of.now)) (λ x. x.code)) }
+{
+    let mut coder = Coder {
+        scopes,
+        site,
+        withs,
+        fragments,
+        notes,
+    };
+    coder.address_made(of)
 }

@@ -398,7 +398,7 @@ indexed-index-requires g t c κs within =
 pub indexed-loop-e-preserved : goal.indexed-loop-e-preserved
 indexed-loop-e-preserved g t c = (
   (Keeps-trans c.loop-e.invariant.0 c.index.ensures.keeps),
-  (one_more (λ k o i. index k (with_types c.args.self.now.withs.now) c.args.first c.args.at o (expr_view i)) (coded_in c.args.self.now.fragments.now.nodes.items c.args.x) c.args.es.now c.loop-e.e-index c.e-item.result c.loop-e-test.true c.e-item.is c.loop-e.invariant.1 (at_old g.S.Scopes.state (λ ws k. index k (with_types ws) c.args.first c.args.at (coded_in (nodes_of c.loop-e.self) c.loop-e.y) (expr_view c.e-item.result)) c.loop-e.invariant.0 (rw c.in-Known.is at c.in-Ok.ensures.codes))),
+  (one_more (λ k o i. index k (with_types c.args.self.now.withs.now) c.args.first c.args.at o (expr_view i)) (coded_in c.args.self.now.fragments.now.nodes.items c.args.x) c.args.es.now c.loop-e.e-index c.e-item.result c.loop-e-test.true c.e-item.is c.loop-e.invariant.1 (at_old g.S.Scopes.state c.index.new.self (λ ws k. index k (with_types ws) c.args.first c.args.at (coded_in (nodes_of c.loop-e.self) c.loop-e.y) (expr_view c.e-item.result)) c.loop-e.invariant.0 (rw c.in-Known.is at c.in-Ok.ensures.codes))),
 )
 
 pub indexed-returns-in-DontKnowYet-clause-codes : goal.indexed-returns-in-DontKnowYet-clause-codes
