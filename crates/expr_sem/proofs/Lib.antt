@@ -10,6 +10,7 @@ pub mod Quiet
 pub mod Law
 pub mod Onwards
 pub mod Following
+pub mod Coders
 pub mod Operating
 pub mod Sequencing
 pub mod Selecting

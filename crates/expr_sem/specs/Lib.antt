@@ -16,6 +16,7 @@ pub mod Expressions
 pub mod Heights
 pub mod Fragments
 pub mod Codings
+pub mod Coders
 pub mod Kinds
 pub mod ValueFunctions
 pub mod Pieces

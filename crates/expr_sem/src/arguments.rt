@@ -8,6 +8,7 @@ ghost use Rattle.const_eval.specs.Sites.{IsOperand};
 ghost use Rattle.expr_sem.specs.ArgumentCodes.{IsArgument, argument_in, parameter_view};
 ghost use Rattle.expr_sem.specs.Arguments.{alike as spec_alike, argument as spec_argument, array_argument as spec_array_argument, by_address as spec_address, by_value as spec_value, checked_mode as spec_checked, is_variable as spec_variable, open_argument as spec_open, string_copy as spec_copy};
 ghost use Rattle.expr_sem.specs.Coded.{characters as spec_characters};
+ghost use Rattle.expr_sem.specs.Coders.{Codes, Keeps, SuitsPlace, frame_of, nodes_of};
 ghost use Rattle.expr_sem.specs.Codings.{Coding, IsCoded, coded_in};
 ghost use Rattle.expr_sem.specs.Fragments.{IsMade};
 ghost use Rattle.expr_sem.specs.Kinds.{IsKindHere};
@@ -19,6 +20,7 @@ ghost use Rattle.type_rules.specs.Sites.{SuitsSite};
 
 use crate::chains::instr_behind;
 use crate::coded::{Coded, Placed};
+use crate::coder::Coder;
 use crate::fitting::fitted_code;
 use crate::fragments::{Fragment, Fragments};
 use crate::refusals::refused;
@@ -72,32 +74,42 @@ fn copy_string(
     fragments.string_copy(size, bytes)
 }
 
-/// An argument of a value parameter that is no open array.
-fn by_value<S: Scopes>(
-    scopes: &mut S,
-    site: &Site,
-    of: Place,
-    x: Placed,
-    fragments: &mut Fragments,
-    notes: &mut Notes,
-) -> Result<Ask<Option<Fragment>>, Memory>
-    requires suits { SuitsSite (S.state scopes.old).frame site.now }
-    requires of { IsThere (S.state scopes.old).frame of }
-    requires x { IsCoded (S.state scopes.old).frame fragments.old.nodes.items x.coded }
-    ensures { Coding (S.state scopes.old) (S.state scopes.new) notes.old notes.new fragments.old.nodes.items fragments.new.nodes.items site.now result IsArgument argument_in (λ c. spec_value c of x.at (coded_in fragments.old.nodes.items x.coded)) }
-{
-    let refusal = Diagnostic::NotAssignable;
-    let taken = analysed!(assigned_to(scopes, site, of, x.at, refusal, x.coded, notes));
-    match taken.operand {
-        Operand::InError => Ok(Ask::Known(None)),
-        Operand::StringConstant(name, _) => {
-            let size = asked!(size_of(scopes, site.around, of));
-            let copy = copy_string(site, name, size as u32, fragments)?;
-            Ok(Ask::Known(Some(copy)))
-        }
-        _ => {
-            let code = analysed!(fitted_code(scopes, site, of, taken, fragments));
-            Ok(Ask::Known(Some(code)))
+impl<S: Scopes> Coder<'_, '_, S> {
+    /// An argument of a value parameter that is no open array.
+    fn by_value(&mut self, of: Place, x: Placed) -> Result<Ask<Option<Fragment>>, Memory>
+        requires suits { SuitsPlace S.state self.old }
+        requires of { IsThere (frame_of S.state self.old) of }
+        requires x { IsCoded (frame_of S.state self.old) (nodes_of self.old) x.coded }
+        ensures keeps { Keeps self.old self.new }
+        ensures codes { Codes S.state self.old self.new result IsArgument argument_in (λ c. spec_value c of x.at (coded_in (nodes_of self.old) x.coded)) }
+    {
+        let refusal = Diagnostic::NotAssignable;
+        let taken = analysed!(assigned_to(
+            self.scopes,
+            self.site,
+            of,
+            x.at,
+            refusal,
+            x.coded,
+            self.notes
+        ));
+        match taken.operand {
+            Operand::InError => Ok(Ask::Known(None)),
+            Operand::StringConstant(name, _) => {
+                let size = asked!(size_of(self.scopes, self.site.around, of));
+                let copy = copy_string(self.site, name, size as u32, self.fragments)?;
+                Ok(Ask::Known(Some(copy)))
+            }
+            _ => {
+                let code = analysed!(fitted_code(
+                    self.scopes,
+                    self.site,
+                    of,
+                    taken,
+                    self.fragments
+                ));
+                Ok(Ask::Known(Some(code)))
+            }
         }
     }
 }
@@ -125,65 +137,61 @@ fn by_address<S: Scopes>(
     }
 }
 
-/// An array whose elements are of a type, as the argument of an open array: its address, and the number of its elements
-/// less 1. `kind` is what its type's row says.
-fn alike<S: Scopes>(
-    scopes: &mut S,
-    site: &Site,
-    want: Place,
-    x: Placed,
-    kind: RowMeaning,
-    element: Place,
-    fragments: &mut Fragments,
-    notes: &mut Notes,
-) -> Result<Ask<Option<Fragment>>, Memory>
-    requires suits { SuitsSite (S.state scopes.old).frame site.now }
-    requires want { IsThere (S.state scopes.old).frame want }
-    requires x { IsCoded (S.state scopes.old).frame fragments.old.nodes.items x.coded }
-    requires kind { IsKindHere (S.state scopes.old).frame kind }
-    requires element { IsThere (S.state scopes.old).frame element }
-    ensures { Coding (S.state scopes.old) (S.state scopes.new) notes.old notes.new fragments.old.nodes.items fragments.new.nodes.items site.now result IsArgument argument_in (λ c. spec_alike c want x.at (coded_in fragments.old.nodes.items x.coded) kind element) }
-{
-    if asked!(is_broken(scopes, site.around, element)) {
-        return Ok(Ask::Known(None));
+impl<S: Scopes> Coder<'_, '_, S> {
+    /// An array whose elements are of a type, as the argument of an open array: its address, and the number of its elements
+    /// less 1. `kind` is what its type's row says.
+    fn alike(
+        &mut self,
+        want: Place,
+        x: Placed,
+        kind: RowMeaning,
+        element: Place,
+    ) -> Result<Ask<Option<Fragment>>, Memory>
+        requires suits { SuitsPlace S.state self.old }
+        requires want { IsThere (frame_of S.state self.old) want }
+        requires x { IsCoded (frame_of S.state self.old) (nodes_of self.old) x.coded }
+        requires kind { IsKindHere (frame_of S.state self.old) kind }
+        requires element { IsThere (frame_of S.state self.old) element }
+        ensures keeps { Keeps self.old self.new }
+        ensures codes { Codes S.state self.old self.new result IsArgument argument_in (λ c. spec_alike c want x.at (coded_in (nodes_of self.old) x.coded) kind element) }
+    {
+        if asked!(is_broken(self.scopes, self.site.around, element)) {
+            return Ok(Ask::Known(None));
+        }
+        if asked!(same(self.scopes, self.site.around, element, want)) {
+            let high = analysed!(high_code(self.scopes, self.site, x.coded, kind, self.fragments));
+            let both = self.fragments.then(x.coded.code, high)?;
+            return Ok(Ask::Known(Some(both)));
+        }
+        refuse_argument(self.site, x.at, Diagnostic::WrongArgument, self.notes)
     }
-    if asked!(same(scopes, site.around, element, want)) {
-        let high = analysed!(high_code(scopes, site, x.coded, kind, fragments));
-        let both = fragments.then(x.coded.code, high)?;
-        return Ok(Ask::Known(Some(both)));
-    }
-    refuse_argument(site, x.at, Diagnostic::WrongArgument, notes)
-}
 
-/// A variable of a type as the argument of an open array.
-fn array_argument<S: Scopes>(
-    scopes: &mut S,
-    site: &Site,
-    want: Place,
-    x: Placed,
-    of: Place,
-    fragments: &mut Fragments,
-    notes: &mut Notes,
-) -> Result<Ask<Option<Fragment>>, Memory>
-    requires suits { SuitsSite (S.state scopes.old).frame site.now }
-    requires want { IsThere (S.state scopes.old).frame want }
-    requires x { IsCoded (S.state scopes.old).frame fragments.old.nodes.items x.coded }
-    requires of { IsThere (S.state scopes.old).frame of }
-    ensures { Coding (S.state scopes.old) (S.state scopes.new) notes.old notes.new fragments.old.nodes.items fragments.new.nodes.items site.now result IsArgument argument_in (λ c. spec_array_argument c want x.at (coded_in fragments.old.nodes.items x.coded) (kind_of c.scene of)) }
-{
-    let (place, kind) = asked!(stand(scopes, site.around, of));
-    has_small_ordinal(place);
-    match kind {
-        RowMeaning::Array(index, element, _) => {
-            if asked!(is_broken(scopes, site.around, index)) {
-                return Ok(Ask::Known(None));
+    /// A variable of a type as the argument of an open array.
+    fn array_argument(
+        &mut self,
+        want: Place,
+        x: Placed,
+        of: Place,
+    ) -> Result<Ask<Option<Fragment>>, Memory>
+        requires suits { SuitsPlace S.state self.old }
+        requires want { IsThere (frame_of S.state self.old) want }
+        requires x { IsCoded (frame_of S.state self.old) (nodes_of self.old) x.coded }
+        requires of { IsThere (frame_of S.state self.old) of }
+        ensures keeps { Keeps self.old self.new }
+        ensures codes { Codes S.state self.old self.new result IsArgument argument_in (λ c. spec_array_argument c want x.at (coded_in (nodes_of self.old) x.coded) (kind_of c.scene of)) }
+    {
+        let (place, kind) = asked!(stand(self.scopes, self.site.around, of));
+        has_small_ordinal(place);
+        match kind {
+            RowMeaning::Array(index, element, _) => {
+                if asked!(is_broken(self.scopes, self.site.around, index)) {
+                    return Ok(Ask::Known(None));
+                }
+                self.alike(want, x, kind, element)
             }
-            alike(scopes, site, want, x, kind, element, fragments, notes)
+            RowMeaning::OpenArray(element) => self.alike(want, x, kind, element),
+            _ => refuse_argument(self.site, x.at, Diagnostic::WrongArgument, self.notes),
         }
-        RowMeaning::OpenArray(element) => {
-            alike(scopes, site, want, x, kind, element, fragments, notes)
-        }
-        _ => refuse_argument(site, x.at, Diagnostic::WrongArgument, notes),
     }
 }
 
@@ -208,92 +216,78 @@ fn push_string(
     instr_behind(address, push_length(size), fragments)
 }
 
-/// An argument of an open array with elements of a type.
-fn open_argument<S: Scopes>(
-    scopes: &mut S,
-    site: &Site,
-    want: Place,
-    x: Placed,
-    fragments: &mut Fragments,
-    notes: &mut Notes,
-) -> Result<Ask<Option<Fragment>>, Memory>
-    requires suits { SuitsSite (S.state scopes.old).frame site.now }
-    requires want { IsThere (S.state scopes.old).frame want }
-    requires x { IsCoded (S.state scopes.old).frame fragments.old.nodes.items x.coded }
-    ensures { Coding (S.state scopes.old) (S.state scopes.new) notes.old notes.new fragments.old.nodes.items fragments.new.nodes.items site.now result IsArgument argument_in (λ c. spec_open c want x.at (coded_in fragments.old.nodes.items x.coded) x.coded.operand) }
-{
-    match x.coded.operand {
-        Operand::StringConstant(name, length) => {
-            if asked!(same(scopes, site.around, want, CHARACTER)) {
-                let code = push_string(site, name, length, fragments)?;
-                return Ok(Ask::Known(Some(code)));
+impl<S: Scopes> Coder<'_, '_, S> {
+    /// An argument of an open array with elements of a type.
+    fn open_argument(&mut self, want: Place, x: Placed) -> Result<Ask<Option<Fragment>>, Memory>
+        requires suits { SuitsPlace S.state self.old }
+        requires want { IsThere (frame_of S.state self.old) want }
+        requires x { IsCoded (frame_of S.state self.old) (nodes_of self.old) x.coded }
+        ensures keeps { Keeps self.old self.new }
+        ensures codes { Codes S.state self.old self.new result IsArgument argument_in (λ c. spec_open c want x.at (coded_in (nodes_of self.old) x.coded) x.coded.operand) }
+    {
+        match x.coded.operand {
+            Operand::StringConstant(name, length) => {
+                if asked!(same(self.scopes, self.site.around, want, CHARACTER)) {
+                    let code = push_string(self.site, name, length, self.fragments)?;
+                    return Ok(Ask::Known(Some(code)));
+                }
+                refuse_argument(self.site, x.at, Diagnostic::WrongArgument, self.notes)
             }
-            refuse_argument(site, x.at, Diagnostic::WrongArgument, notes)
+            Operand::Variable(of) => self.array_argument(want, x, of),
+            _ => refuse_argument(self.site, x.at, Diagnostic::WrongArgument, self.notes),
         }
-        Operand::Variable(of) => array_argument(scopes, site, want, x, of, fragments, notes),
-        _ => refuse_argument(site, x.at, Diagnostic::WrongArgument, notes),
     }
-}
 
-/// An argument by its parameter, where neither is in error. A VAR parameter takes a variable alone.
-fn pass_argument<S: Scopes>(
-    scopes: &mut S,
-    site: &Site,
-    p: Parameter,
-    x: Placed,
-    fragments: &mut Fragments,
-    notes: &mut Notes,
-) -> Result<Ask<Option<Fragment>>, Memory>
-    requires suits { SuitsSite (S.state scopes.old).frame site.now }
-    requires p { IsThere (S.state scopes.old).frame p.of }
-    requires x { IsCoded (S.state scopes.old).frame fragments.old.nodes.items x.coded }
-    ensures { Coding (S.state scopes.old) (S.state scopes.new) notes.old notes.new fragments.old.nodes.items fragments.new.nodes.items site.now result IsArgument argument_in (λ c. spec_checked c (parameter_view p) x.at (coded_in fragments.old.nodes.items x.coded)) }
-{
-    if is_bad(x.coded.operand) {
-        return Ok(Ask::Known(None));
-    }
-    if asked!(is_in_error(scopes, site.around, p.of)) {
-        return Ok(Ask::Known(None));
-    }
-    if p.refuses(x.coded.operand) {
-        return refuse_argument(site, x.at, Diagnostic::NotAVariable, notes);
-    }
-    let (place, kind) = asked!(stand(scopes, site.around, p.of));
-    has_small_ordinal(place);
-    match kind {
-        RowMeaning::OpenArray(element) => {
-            open_argument(scopes, site, element, x, fragments, notes)
+    /// An argument by its parameter, where neither is in error. A VAR parameter takes a variable alone.
+    fn pass_argument(&mut self, p: Parameter, x: Placed) -> Result<Ask<Option<Fragment>>, Memory>
+        requires suits { SuitsPlace S.state self.old }
+        requires p { IsThere (frame_of S.state self.old) p.of }
+        requires x { IsCoded (frame_of S.state self.old) (nodes_of self.old) x.coded }
+        ensures keeps { Keeps self.old self.new }
+        ensures codes { Codes S.state self.old self.new result IsArgument argument_in (λ c. spec_checked c (parameter_view p) x.at (coded_in (nodes_of self.old) x.coded)) }
+    {
+        if is_bad(x.coded.operand) {
+            return Ok(Ask::Known(None));
         }
-        _ => {
-            if p.by_ref {
-                by_address(scopes, site, p.of, x, notes)
-            } else {
-                by_value(scopes, site, p.of, x, fragments, notes)
+        if asked!(is_in_error(self.scopes, self.site.around, p.of)) {
+            return Ok(Ask::Known(None));
+        }
+        if p.refuses(x.coded.operand) {
+            return refuse_argument(self.site, x.at, Diagnostic::NotAVariable, self.notes);
+        }
+        let (place, kind) = asked!(stand(self.scopes, self.site.around, p.of));
+        has_small_ordinal(place);
+        match kind {
+            RowMeaning::OpenArray(element) => self.open_argument(element, x),
+            _ => {
+                if p.by_ref {
+                    by_address(self.scopes, self.site, p.of, x, self.notes)
+                } else {
+                    self.by_value(p.of, x)
+                }
             }
         }
     }
-}
 
-/// The code of an argument beside its parameter, where neither is in error.
-pub fn argument<S: Scopes>(
-    scopes: &mut S,
-    site: &Site,
-    p: Parameter,
-    at: u32,
-    x: Coded,
-    fragments: &mut Fragments,
-    notes: &mut Notes,
-) -> Result<Ask<Option<Fragment>>, Memory>
-    requires suits { SuitsSite (S.state scopes.old).frame site.now }
-    requires p { IsThere (S.state scopes.old).frame p.of }
-    requires x { IsCoded (S.state scopes.old).frame fragments.old.nodes.items x }
-    ensures { Coding (S.state scopes.old) (S.state scopes.new) notes.old notes.new fragments.old.nodes.items fragments.new.nodes.items site.now result IsArgument argument_in (λ c. spec_argument c (parameter_view p) at (coded_in fragments.old.nodes.items x)) }
-{
-    if p.by_ref {
-        let variable = Placed { at, coded: x };
-        return pass_argument(scopes, site, p, variable, fragments, notes);
+    /// The code of an argument beside its parameter, where neither is in error.
+    pub fn argument(
+        &mut self,
+        p: Parameter,
+        at: u32,
+        x: Coded,
+    ) -> Result<Ask<Option<Fragment>>, Memory>
+        requires suits { SuitsPlace S.state self.old }
+        requires p { IsThere (frame_of S.state self.old) p.of }
+        requires x { IsCoded (frame_of S.state self.old) (nodes_of self.old) x }
+        ensures keeps { Keeps self.old self.new }
+        ensures codes { Codes S.state self.old self.new result IsArgument argument_in (λ c. spec_argument c (parameter_view p) at (coded_in (nodes_of self.old) x)) }
+    {
+        if p.by_ref {
+            let variable = Placed { at, coded: x };
+            return self.pass_argument(p, variable);
+        }
+        let coded = analysed!(as_value(self.site, at, x, self.notes));
+        let value = Placed { at, coded };
+        self.pass_argument(p, value)
     }
-    let coded = analysed!(as_value(site, at, x, notes));
-    let value = Placed { at, coded };
-    pass_argument(scopes, site, p, value, fragments, notes)
 }

@@ -10,6 +10,7 @@ ghost use Rattle.m2_base.specs.declared.rows.Row.{Row as RowOf};
 ghost use Rattle.m2_base.specs.declared.sites.Site.{Site as SiteOf};
 ghost use Rattle.code_form.specs.declared.instr.Instr.TheVariants.{Load};
 ghost use Rattle.const_eval.specs.Sites.{IsOperand};
+ghost use Rattle.expr_sem.specs.Coders.{Codes, Keeps, SuitsPlace, frame_of, nodes_of};
 ghost use Rattle.expr_sem.specs.ArgumentCodes.{IsArgument, argument_in, parameter_view};
 ghost use Rattle.expr_sem.specs.Calls.{allowed as spec_allowed, allowed_by_type, call_code as spec_call_code, call_coded as spec_call_coded, call_instr as spec_call_instr, called as spec_called, called_by, is_same_truth as spec_same, links_to as spec_links, no_call, of_target, result_cells as spec_result};
 ghost use Rattle.expr_sem.specs.Callees.{IsCallee, IsCallable, called_in, target_called, value_called, variable_allowed, variable_called};
@@ -30,6 +31,7 @@ use crate::answers::answered;
 use crate::arguments::Parameter;
 use crate::chains::{after_both, instr_behind};
 use crate::coded::Coded;
+use crate::coder::Coder;
 use crate::fragments::{Fragment, Fragments};
 use crate::levels::level_of;
 use crate::procedure_names::{Target, import_of_target, is_foreign, target_of_procedure};
@@ -180,26 +182,27 @@ fn procedure_callable(around: &Around, signature: Signature, target: Option<Targ
     }
 }
 
-/// A call of a procedure, by its name, its type and its number.
-fn called_procedure<S: Scopes>(
-    scopes: &mut S,
-    site: &Site,
-    call: Wording,
-    name: u32,
-    of: Place,
-    number: u32,
-    notes: &mut Notes,
-) -> Result<Ask<Callable>, Memory>
-    requires suits { SuitsSite (S.state scopes.old).frame site.now }
-    requires of { IsThere (S.state scopes.old).frame of }
-    ensures { (nodes : List Node) → Coding (S.state scopes.old) (S.state scopes.new) notes.old notes.new nodes nodes site.now result IsCallable called_in (λ c. allowed_by_type c call.at call.is_wanted call.count of (of_target c.scene of (spec_target c.scene name of number))) }
-{
-    let signature = analysed!(signature_of(scopes, site, of));
-    let target = analysed!(target_of_procedure(scopes, site, name, of, number));
-    let gives_value = signature.gives_value();
-    let is_count = signature.takes(call.count);
-    let what = procedure_callable(site.around, signature, target);
-    allowed(site, call, gives_value, is_count, what, notes)
+impl<S: Scopes> Coder<'_, '_, S> {
+    /// A call of a procedure, by its name, its type and its number.
+    fn called_procedure(
+        &mut self,
+        call: Wording,
+        name: u32,
+        of: Place,
+        number: u32,
+    ) -> Result<Ask<Callable>, Memory>
+        requires suits { SuitsPlace S.state self.old }
+        requires of { IsThere (frame_of S.state self.old) of }
+        ensures keeps { Keeps self.old self.new }
+        ensures codes { Codes S.state self.old self.new result IsCallable called_in (λ c. allowed_by_type c call.at call.is_wanted call.count of (of_target c.scene of (spec_target c.scene name of number))) }
+    {
+        let signature = analysed!(signature_of(self.scopes, self.site, of));
+        let target = analysed!(target_of_procedure(self.scopes, self.site, name, of, number));
+        let gives_value = signature.gives_value();
+        let is_count = signature.takes(call.count);
+        let what = procedure_callable(self.site.around, signature, target);
+        allowed(self.site, call, gives_value, is_count, what, self.notes)
+    }
 }
 
 /// A call of a procedure variable whose arguments have so many cells, by the code of its value.
@@ -251,119 +254,119 @@ fn variable_callable<S: Scopes>(
     loaded_callable(signature, cells, code, fragments)
 }
 
-/// A call of a procedure variable of these parameters and this result.
-fn called_by_signature<S: Scopes>(
-    scopes: &mut S,
-    site: &Site,
-    call: Wording,
-    signature: Signature,
-    code: Fragment,
-    fragments: &mut Fragments,
-    notes: &mut Notes,
-) -> Result<Ask<Callable>, Memory>
-    requires suits { SuitsSite (S.state scopes.old).frame site.now }
-    requires signature { IsSignature (S.state scopes.old).frame signature }
-    requires code { IsIn fragments.old.nodes.items code }
-    ensures { Coding (S.state scopes.old) (S.state scopes.new) notes.old notes.new fragments.old.nodes.items fragments.new.nodes.items site.now result IsCallable called_in (λ c. variable_allowed c call.at call.is_wanted call.count (part fragments.old.nodes.items code) (map parameter_view signature.params.items) signature.result) }
-{
-    let gives_value = signature.gives_value();
-    let is_count = signature.takes(call.count);
-    let what = analysed!(variable_callable(scopes, site, signature, code, fragments));
-    allowed(site, call, gives_value, is_count, what, notes)
-}
-
-/// A call of a procedure variable whose type has this form.
-fn called_by_form<S: Scopes>(
-    scopes: &mut S,
-    site: &Site,
-    call: Wording,
-    form: Form,
-    code: Fragment,
-    fragments: &mut Fragments,
-    notes: &mut Notes,
-) -> Result<Ask<Callable>, Memory>
-    requires suits { SuitsSite (S.state scopes.old).frame site.now }
-    requires form { IsFormHere (S.state scopes.old).frame form }
-    requires code { IsIn fragments.old.nodes.items code }
-    ensures { Coding (S.state scopes.old) (S.state scopes.new) notes.old notes.new fragments.old.nodes.items fragments.new.nodes.items site.now result IsCallable called_in (λ c. variable_allowed c call.at call.is_wanted call.count (part fragments.old.nodes.items code) (parameters_from c.scene form.of form.first) form.result) }
-{
-    let signature = analysed!(signature_by(scopes, site, form));
-    called_by_signature(scopes, site, call, signature, code, fragments, notes)
-}
-
-/// A call of a variable of a type.
-fn called_variable<S: Scopes>(
-    scopes: &mut S,
-    site: &Site,
-    call: Wording,
-    of: Place,
-    code: Fragment,
-    fragments: &mut Fragments,
-    notes: &mut Notes,
-) -> Result<Ask<Callable>, Memory>
-    requires suits { SuitsSite (S.state scopes.old).frame site.now }
-    requires of { IsThere (S.state scopes.old).frame of }
-    requires code { IsIn fragments.old.nodes.items code }
-    ensures { Coding (S.state scopes.old) (S.state scopes.new) notes.old notes.new fragments.old.nodes.items fragments.new.nodes.items site.now result IsCallable called_in (λ c. called_by c call.is_wanted call.at call.count (part fragments.old.nodes.items code) (operands.Variable of)) }
-{
-    match form_of(scopes, site.around, of) {
-        Ask::Known(Some(form)) => {
-            called_by_form(scopes, site, call, form, code, fragments, notes)
-        }
-        Ask::Known(None) => refused_call(site, call.at, Diagnostic::NotAProcedure, notes),
-        Ask::DontKnowYet(head) => Ok(Ask::DontKnowYet(head)),
+impl<S: Scopes> Coder<'_, '_, S> {
+    /// A call of a procedure variable of these parameters and this result.
+    fn called_by_signature(
+        &mut self,
+        call: Wording,
+        signature: Signature,
+        code: Fragment,
+    ) -> Result<Ask<Callable>, Memory>
+        requires suits { SuitsPlace S.state self.old }
+        requires signature { IsSignature (frame_of S.state self.old) signature }
+        requires code { IsIn (nodes_of self.old) code }
+        ensures keeps { Keeps self.old self.new }
+        ensures codes { Codes S.state self.old self.new result IsCallable called_in (λ c. variable_allowed c call.at call.is_wanted call.count (part (nodes_of self.old) code) (map parameter_view signature.params.items) signature.result) }
+    {
+        let gives_value = signature.gives_value();
+        let is_count = signature.takes(call.count);
+        let what = analysed!(variable_callable(
+            self.scopes,
+            self.site,
+            signature,
+            code,
+            self.fragments
+        ));
+        allowed(self.site, call, gives_value, is_count, what, self.notes)
     }
-}
 
-/// What something with its code is as what is called.
-fn called_by_operand<S: Scopes>(
-    scopes: &mut S,
-    site: &Site,
-    call: Wording,
-    x: Coded,
-    fragments: &mut Fragments,
-    notes: &mut Notes,
-) -> Result<Ask<Callable>, Memory>
-    requires suits { SuitsSite (S.state scopes.old).frame site.now }
-    requires x { IsCoded (S.state scopes.old).frame fragments.old.nodes.items x }
-    ensures { Coding (S.state scopes.old) (S.state scopes.new) notes.old notes.new fragments.old.nodes.items fragments.new.nodes.items site.now result IsCallable called_in (λ c. called_by c call.is_wanted call.at call.count (part fragments.old.nodes.items x.code) x.operand) }
-{
-    match x.operand {
-        Operand::StandardProcedure(name) => called_standard(site, call, name, notes),
-        Operand::Procedure(name, of, number, _) => {
-            called_procedure(scopes, site, call, name, of, number, notes)
-        }
-        Operand::Variable(of) => {
-            called_variable(scopes, site, call, of, x.code, fragments, notes)
-        }
-        Operand::ModuleName(_) => refused_call(site, call.at, Diagnostic::NotAVariable, notes),
-        Operand::InError => Ok(Ask::Known(Callable::Nothing)),
-        _ => refused_call(site, call.at, Diagnostic::NotAProcedure, notes),
+    /// A call of a procedure variable whose type has this form.
+    fn called_by_form(
+        &mut self,
+        call: Wording,
+        form: Form,
+        code: Fragment,
+    ) -> Result<Ask<Callable>, Memory>
+        requires suits { SuitsPlace S.state self.old }
+        requires form { IsFormHere (frame_of S.state self.old) form }
+        requires code { IsIn (nodes_of self.old) code }
+        ensures keeps { Keeps self.old self.new }
+        ensures codes { Codes S.state self.old self.new result IsCallable called_in (λ c. variable_allowed c call.at call.is_wanted call.count (part (nodes_of self.old) code) (parameters_from c.scene form.of form.first) form.result) }
+    {
+        let signature = analysed!(signature_by(self.scopes, self.site, form));
+        self.called_by_signature(call, signature, code)
     }
-}
 
-/// What a call with so many arguments calls. `is_wanted` tells whether it stands where a value is wanted; `at` is the
-/// designator's first token.
-pub fn called<S: Scopes>(
-    scopes: &mut S,
-    site: &Site,
-    is_wanted: bool,
-    at: u32,
-    count: usize,
-    x: Coded,
-    fragments: &mut Fragments,
-    notes: &mut Notes,
-) -> Result<Ask<Callable>, Memory>
-    requires suits { SuitsSite (S.state scopes.old).frame site.now }
-    requires x { IsCoded (S.state scopes.old).frame fragments.old.nodes.items x }
-    ensures { Coding (S.state scopes.old) (S.state scopes.new) notes.old notes.new fragments.old.nodes.items fragments.new.nodes.items site.now result IsCallable called_in (λ c. spec_called c is_wanted at count (coded_in fragments.old.nodes.items x)) }
-{
-    let call = Wording {
-        is_wanted,
-        at,
-        count,
-    };
-    called_by_operand(scopes, site, call, x, fragments, notes)
+    /// A call of a variable of a type.
+    fn called_variable(
+        &mut self,
+        call: Wording,
+        of: Place,
+        code: Fragment,
+    ) -> Result<Ask<Callable>, Memory>
+        requires suits { SuitsPlace S.state self.old }
+        requires of { IsThere (frame_of S.state self.old) of }
+        requires code { IsIn (nodes_of self.old) code }
+        ensures keeps { Keeps self.old self.new }
+        ensures codes { Codes S.state self.old self.new result IsCallable called_in (λ c. called_by c call.is_wanted call.at call.count (part (nodes_of self.old) code) (operands.Variable of)) }
+    {
+        match form_of(self.scopes, self.site.around, of) {
+            Ask::Known(Some(form)) => self.called_by_form(call, form, code),
+            Ask::Known(None) => refused_call(
+                self.site,
+                call.at,
+                Diagnostic::NotAProcedure,
+                self.notes,
+            ),
+            Ask::DontKnowYet(head) => Ok(Ask::DontKnowYet(head)),
+        }
+    }
+
+    /// What something with its code is as what is called.
+    fn called_by_operand(&mut self, call: Wording, x: Coded) -> Result<Ask<Callable>, Memory>
+        requires suits { SuitsPlace S.state self.old }
+        requires x { IsCoded (frame_of S.state self.old) (nodes_of self.old) x }
+        ensures keeps { Keeps self.old self.new }
+        ensures codes { Codes S.state self.old self.new result IsCallable called_in (λ c. called_by c call.is_wanted call.at call.count (part (nodes_of self.old) x.code) x.operand) }
+    {
+        match x.operand {
+            Operand::StandardProcedure(name) => called_standard(self.site, call, name, self.notes),
+            Operand::Procedure(name, of, number, _) => {
+                self.called_procedure(call, name, of, number)
+            }
+            Operand::Variable(of) => self.called_variable(call, of, x.code),
+            Operand::ModuleName(_) => refused_call(
+                self.site,
+                call.at,
+                Diagnostic::NotAVariable,
+                self.notes,
+            ),
+            Operand::InError => Ok(Ask::Known(Callable::Nothing)),
+            _ => refused_call(self.site, call.at, Diagnostic::NotAProcedure, self.notes),
+        }
+    }
+
+    /// What a call with so many arguments calls. `is_wanted` tells whether it stands where a value is wanted; `at` is the
+    /// designator's first token.
+    pub fn called(
+        &mut self,
+        is_wanted: bool,
+        at: u32,
+        count: usize,
+        x: Coded,
+    ) -> Result<Ask<Callable>, Memory>
+        requires suits { SuitsPlace S.state self.old }
+        requires x { IsCoded (frame_of S.state self.old) (nodes_of self.old) x }
+        ensures keeps { Keeps self.old self.new }
+        ensures codes { Codes S.state self.old self.new result IsCallable called_in (λ c. spec_called c is_wanted at count (coded_in (nodes_of self.old) x)) }
+    {
+        let call = Wording {
+            is_wanted,
+            at,
+            count,
+        };
+        self.called_by_operand(call, x)
+    }
 }
 
 /// The instruction that calls, with what it takes and leaves. Where it takes more than there are numbers, memory is wanted.
@@ -412,84 +415,78 @@ fn call_code<S: Scopes>(
     answered(call_made(callee, cells, args, fragments))
 }
 
-/// A call that stands for an operand.
-fn call_as<S: Scopes>(
-    scopes: &mut S,
-    site: &Site,
-    callee: &Callee,
-    operand: Operand,
-    args: Fragment,
-    fragments: &mut Fragments,
-) -> Result<Ask<Coded>, Memory>
-    requires suits { SuitsSite (S.state scopes.old).frame site.now }
-    requires callee { IsCallee (S.state scopes.old).frame fragments.old.nodes.items callee.now }
-    requires operand { IsOperand (S.state scopes.old).frame operand }
-    requires args { IsIn fragments.old.nodes.items args }
-    ensures { (notes : NotesOf) → Coding (S.state scopes.old) (S.state scopes.new) notes notes fragments.old.nodes.items fragments.new.nodes.items site.now result IsCoded coded_in (λ c. gives (coded operand (spec_call_code c.scene (map parameter_view callee.now.params.items) (part fragments.old.nodes.items callee.now.before) callee.now.instr callee.now.result callee.now.more (part fragments.old.nodes.items args)))) }
-{
-    let code = analysed!(call_code(scopes, site, callee, args, fragments));
-    Ok(Ask::Known(Coded::new(operand, code)))
-}
+impl<S: Scopes> Coder<'_, '_, S> {
+    /// A call that stands for an operand.
+    fn call_as(
+        &mut self,
+        callee: &Callee,
+        operand: Operand,
+        args: Fragment,
+    ) -> Result<Ask<Coded>, Memory>
+        requires suits { SuitsPlace S.state self.old }
+        requires callee { IsCallee (frame_of S.state self.old) (nodes_of self.old) callee.now }
+        requires operand { IsOperand (frame_of S.state self.old) operand }
+        requires args { IsIn (nodes_of self.old) args }
+        ensures keeps { Keeps self.old self.new }
+        ensures codes { Codes S.state self.old self.new result IsCoded coded_in (λ c. gives (coded operand (spec_call_code c.scene (map parameter_view callee.now.params.items) (part (nodes_of self.old) callee.now.before) callee.now.instr callee.now.result callee.now.more (part (nodes_of self.old) args)))) }
+    {
+        let code = analysed!(call_code(self.scopes, self.site, callee, args, self.fragments));
+        Ok(Ask::Known(Coded::new(operand, code)))
+    }
 
-/// A call that gives a value of a type; where that is in error, so is the call.
-fn call_of_type<S: Scopes>(
-    scopes: &mut S,
-    site: &Site,
-    callee: &Callee,
-    of: Place,
-    args: Fragment,
-    fragments: &mut Fragments,
-) -> Result<Ask<Coded>, Memory>
-    requires suits { SuitsSite (S.state scopes.old).frame site.now }
-    requires callee { IsCallee (S.state scopes.old).frame fragments.old.nodes.items callee.now }
-    requires of { IsThere (S.state scopes.old).frame of }
-    requires args { IsIn fragments.old.nodes.items args }
-    ensures { (notes : NotesOf) → Coding (S.state scopes.old) (S.state scopes.new) notes notes fragments.old.nodes.items fragments.new.nodes.items site.now result IsCoded coded_in (λ c. gives (if spec_broken c.scene of then in_error else coded (operands.Computed of) (spec_call_code c.scene (map parameter_view callee.now.params.items) (part fragments.old.nodes.items callee.now.before) callee.now.instr callee.now.result callee.now.more (part fragments.old.nodes.items args)))) }
-{
-    match is_broken(scopes, site.around, of) {
-        Ask::Known(true) => Ok(Ask::Known(Coded::in_error())),
-        Ask::Known(false) => {
-            let operand = Operand::Computed(of);
-            call_as(scopes, site, callee, operand, args, fragments)
+    /// A call that gives a value of a type; where that is in error, so is the call.
+    fn call_of_type(
+        &mut self,
+        callee: &Callee,
+        of: Place,
+        args: Fragment,
+    ) -> Result<Ask<Coded>, Memory>
+        requires suits { SuitsPlace S.state self.old }
+        requires callee { IsCallee (frame_of S.state self.old) (nodes_of self.old) callee.now }
+        requires of { IsThere (frame_of S.state self.old) of }
+        requires args { IsIn (nodes_of self.old) args }
+        ensures keeps { Keeps self.old self.new }
+        ensures codes { Codes S.state self.old self.new result IsCoded coded_in (λ c. gives (if spec_broken c.scene of then in_error else coded (operands.Computed of) (spec_call_code c.scene (map parameter_view callee.now.params.items) (part (nodes_of self.old) callee.now.before) callee.now.instr callee.now.result callee.now.more (part (nodes_of self.old) args)))) }
+    {
+        match is_broken(self.scopes, self.site.around, of) {
+            Ask::Known(true) => Ok(Ask::Known(Coded::in_error())),
+            Ask::Known(false) => {
+                let operand = Operand::Computed(of);
+                self.call_as(callee, operand, args)
+            }
+            Ask::DontKnowYet(head) => Ok(Ask::DontKnowYet(head)),
         }
-        Ask::DontKnowYet(head) => Ok(Ask::DontKnowYet(head)),
     }
-}
 
-/// The call, with its arguments. It is in error where the result's type is.
-fn call_with<S: Scopes>(
-    scopes: &mut S,
-    site: &Site,
-    callee: &Callee,
-    args: Fragment,
-    fragments: &mut Fragments,
-) -> Result<Ask<Coded>, Memory>
-    requires suits { SuitsSite (S.state scopes.old).frame site.now }
-    requires callee { IsCallee (S.state scopes.old).frame fragments.old.nodes.items callee.now }
-    requires args { IsIn fragments.old.nodes.items args }
-    ensures { (notes : NotesOf) → Coding (S.state scopes.old) (S.state scopes.new) notes notes fragments.old.nodes.items fragments.new.nodes.items site.now result IsCoded coded_in (λ c. gives (spec_call_coded c.scene (map parameter_view callee.now.params.items) (part fragments.old.nodes.items callee.now.before) callee.now.instr callee.now.result callee.now.more (Some (part fragments.old.nodes.items args)))) }
-{
-    match callee.result {
-        Some(of) => call_of_type(scopes, site, callee, of, args, fragments),
-        None => call_as(scopes, site, callee, NO_VALUE, args, fragments),
+    /// The call, with its arguments. It is in error where the result's type is.
+    fn call_with(&mut self, callee: &Callee, args: Fragment) -> Result<Ask<Coded>, Memory>
+        requires suits { SuitsPlace S.state self.old }
+        requires callee { IsCallee (frame_of S.state self.old) (nodes_of self.old) callee.now }
+        requires args { IsIn (nodes_of self.old) args }
+        ensures keeps { Keeps self.old self.new }
+        ensures codes { Codes S.state self.old self.new result IsCoded coded_in (λ c. gives (spec_call_coded c.scene (map parameter_view callee.now.params.items) (part (nodes_of self.old) callee.now.before) callee.now.instr callee.now.result callee.now.more (Some (part (nodes_of self.old) args)))) }
+    {
+        match callee.result {
+            Some(of) => self.call_of_type(callee, of, args),
+            None => self.call_as(callee, NO_VALUE, args),
+        }
     }
-}
 
-/// The call, once its arguments are there. Without one of them it is in error, and so it is where the result's type is.
-pub fn call_coded<S: Scopes>(
-    scopes: &mut S,
-    site: &Site,
-    callee: &Callee,
-    args: Option<Fragment>,
-    fragments: &mut Fragments,
-) -> Result<Ask<Coded>, Memory>
-    requires suits { SuitsSite (S.state scopes.old).frame site.now }
-    requires callee { IsCallee (S.state scopes.old).frame fragments.old.nodes.items callee.now }
-    requires args { IsArgument (S.state scopes.old).frame fragments.old.nodes.items args }
-    ensures { (notes : NotesOf) → Coding (S.state scopes.old) (S.state scopes.new) notes notes fragments.old.nodes.items fragments.new.nodes.items site.now result IsCoded coded_in (λ c. gives (spec_call_coded c.scene (map parameter_view callee.now.params.items) (part fragments.old.nodes.items callee.now.before) callee.now.instr callee.now.result callee.now.more (argument_in fragments.old.nodes.items args))) }
-{
-    match args {
-        Some(args) => call_with(scopes, site, callee, args, fragments),
-        None => Ok(Ask::Known(Coded::in_error())),
+    /// The call, once its arguments are there. Without one of them it is in error, and so it is where the result's type is.
+    pub fn call_coded(
+        &mut self,
+        callee: &Callee,
+        args: Option<Fragment>,
+    ) -> Result<Ask<Coded>, Memory>
+        requires suits { SuitsPlace S.state self.old }
+        requires callee { IsCallee (frame_of S.state self.old) (nodes_of self.old) callee.now }
+        requires args { IsArgument (frame_of S.state self.old) (nodes_of self.old) args }
+        ensures keeps { Keeps self.old self.new }
+        ensures codes { Codes S.state self.old self.new result IsCoded coded_in (λ c. gives (spec_call_coded c.scene (map parameter_view callee.now.params.items) (part (nodes_of self.old) callee.now.before) callee.now.instr callee.now.result callee.now.more (argument_in (nodes_of self.old) args))) }
+    {
+        match args {
+            Some(args) => self.call_with(callee, args),
+            None => Ok(Ask::Known(Coded::in_error())),
+        }
     }
 }

@@ -16,6 +16,7 @@ ghost use Rattle.code_form.specs.declared.instr.Instr.TheVariants.{IndexOpen, Lo
 ghost use Rattle.type_rules.specs.Asks.{Reads, WhereKnown, WhereWaiting};
 ghost use Rattle.type_rules.specs.Scenes.{IsThere, Suits, WhereTold, scene_of};
 ghost use Rattle.type_rules.specs.Sites.{SuitsSite};
+ghost use Rattle.expr_sem.specs.Coders.{Codes, Keeps, SuitsPlace, frame_of, nodes_of};
 ghost use Rattle.expr_sem.specs.Coded.{coded, value_code as spec_value};
 ghost use Rattle.expr_sem.specs.Codings.{Coding, IsCoded, coded_in, high_in};
 ghost use Rattle.expr_sem.specs.Elements.{element_of_array as spec_of_array, element_of_open as spec_of_open, index_instr as spec_index, of_array as spec_array, of_pointer as spec_pointer, select_element as spec_element, select_target as spec_target};
@@ -27,6 +28,7 @@ ghost use Rattle.expr_sem.specs.Values.{assigned_to as spec_assigned};
 use crate::addressed::variable_at;
 use crate::chains::{applied, pair};
 use crate::coded::{Coded, Placed};
+use crate::coder::Coder;
 use crate::fragments::{Fragment, Fragments};
 use crate::refusals::refused;
 use crate::values::{assigned_to, value_code};
@@ -84,51 +86,39 @@ fn pointed<S: Scopes>(
     variable_at(of, target_code(code, fragments))
 }
 
-/// What a variable of this type points to. A pointer may lead to a type that is declared later: only statements ask for what
-/// it points to, and elsewhere the error is that memory is wanted, which comes about in no module.
-fn of_pointer<S: Scopes>(
-    scopes: &mut S,
-    site: &Site,
-    at: u32,
-    of: Place,
-    code: Fragment,
-    fragments: &mut Fragments,
-    notes: &mut Notes,
-) -> Result<Ask<Coded>, Memory>
-    requires suits { SuitsSite (S.state scopes.old).frame site.now }
-    requires of { IsThere (S.state scopes.old).frame of }
-    requires code { IsIn fragments.old.nodes.items code }
-    ensures { Coding (S.state scopes.old) (S.state scopes.new) notes.old notes.new fragments.old.nodes.items fragments.new.nodes.items site.now result IsCoded coded_in (λ c. spec_pointer c at (part fragments.old.nodes.items code) of (kind_of c.scene of)) }
-{
-    if site.item.is_some() {
-        return Err(Memory);
+impl<S: Scopes> Coder<'_, '_, S> {
+    /// What a variable of this type points to. A pointer may lead to a type that is declared later: only statements ask for what
+    /// it points to, and elsewhere the error is that memory is wanted, which comes about in no module.
+    fn of_pointer(&mut self, at: u32, of: Place, code: Fragment) -> Result<Ask<Coded>, Memory>
+        requires suits { SuitsPlace S.state self.old }
+        requires of { IsThere (frame_of S.state self.old) of }
+        requires code { IsIn (nodes_of self.old) code }
+        ensures keeps { Keeps self.old self.new }
+        ensures codes { Codes S.state self.old self.new result IsCoded coded_in (λ c. spec_pointer c at (part (nodes_of self.old) code) of (kind_of c.scene of)) }
+    {
+        if self.site.item.is_some() {
+            return Err(Memory);
+        }
+        let (_, meaning) = asked!(stand(self.scopes, self.site.around, of));
+        match meaning {
+            RowMeaning::Pointer(to) => pointed(self.scopes, self.site, to, code, self.fragments),
+            _ => refused(self.site, at, Diagnostic::NotAPointer, self.notes),
+        }
     }
-    let (_, meaning) = asked!(stand(scopes, site.around, of));
-    match meaning {
-        RowMeaning::Pointer(to) => pointed(scopes, site, to, code, fragments),
-        _ => refused(site, at, Diagnostic::NotAPointer, notes),
-    }
-}
 
-/// What a pointer points to. `first` is the designator's first token, `at` the arrow.
-pub fn select_target<S: Scopes>(
-    scopes: &mut S,
-    site: &Site,
-    first: u32,
-    at: u32,
-    x: Coded,
-    fragments: &mut Fragments,
-    notes: &mut Notes,
-) -> Result<Ask<Coded>, Memory>
-    requires suits { SuitsSite (S.state scopes.old).frame site.now }
-    requires x { IsCoded (S.state scopes.old).frame fragments.old.nodes.items x }
-    ensures { Coding (S.state scopes.old) (S.state scopes.new) notes.old notes.new fragments.old.nodes.items fragments.new.nodes.items site.now result IsCoded coded_in (λ c. spec_target c first at (coded_in fragments.old.nodes.items x)) }
-{
-    match x.operand {
-        Operand::Variable(of) => of_pointer(scopes, site, at, of, x.code, fragments, notes),
-        Operand::InError => Ok(Ask::Known(Coded::in_error())),
-        Operand::NotConstant => Ok(Ask::Known(Coded::in_error())),
-        _ => refused(site, first, Diagnostic::NotAVariable, notes),
+    /// What a pointer points to. `first` is the designator's first token, `at` the arrow.
+    pub fn select_target(&mut self, first: u32, at: u32, x: Coded) -> Result<Ask<Coded>, Memory>
+        requires suits { SuitsPlace S.state self.old }
+        requires x { IsCoded (frame_of S.state self.old) (nodes_of self.old) x }
+        ensures keeps { Keeps self.old self.new }
+        ensures codes { Codes S.state self.old self.new result IsCoded coded_in (λ c. spec_target c first at (coded_in (nodes_of self.old) x)) }
+    {
+        match x.operand {
+            Operand::Variable(of) => self.of_pointer(at, of, x.code),
+            Operand::InError => Ok(Ask::Known(Coded::in_error())),
+            Operand::NotConstant => Ok(Ask::Known(Coded::in_error())),
+            _ => refused(self.site, first, Diagnostic::NotAVariable, self.notes),
+        }
     }
 }
 
@@ -199,71 +189,70 @@ fn extent<S: Scopes>(
     Ask::Known((ends, size))
 }
 
-/// The element of an array that this instruction finds, by its index.
-fn element_found<S: Scopes>(
-    scopes: &mut S,
-    site: &Site,
-    of: Place,
-    index: Coded,
-    code: Fragment,
-    find: Instr,
-    fragments: &mut Fragments,
-) -> Result<Ask<Coded>, Memory>
-    requires suits { SuitsSite (S.state scopes.old).frame site.now }
-    requires of { IsThere (S.state scopes.old).frame of }
-    requires index { IsCoded (S.state scopes.old).frame fragments.old.nodes.items index }
-    requires code { IsIn fragments.old.nodes.items code }
-    ensures { (notes : NotesOf) → Coding (S.state scopes.old) (S.state scopes.new) notes notes fragments.old.nodes.items fragments.new.nodes.items site.now result IsCoded coded_in (λ c. gives (coded (Variable of) (part fragments.old.nodes.items code ⨟ spec_value c (coded_in fragments.old.nodes.items index) ⨟ plain (find ∷ [])))) }
-{
-    let value = analysed!(value_code(scopes, site, index, fragments));
-    variable_at(of, applied(fragments, code, value, find))
-}
-
-/// The element of an array of these indices.
-fn indexed<S: Scopes>(
-    scopes: &mut S,
-    site: &Site,
-    indices: Place,
-    of: Place,
-    index: Coded,
-    code: Fragment,
-    fragments: &mut Fragments,
-) -> Result<Ask<Coded>, Memory>
-    requires suits { SuitsSite (S.state scopes.old).frame site.now }
-    requires indices { IsThere (S.state scopes.old).frame indices }
-    requires of { IsThere (S.state scopes.old).frame of }
-    requires index { IsCoded (S.state scopes.old).frame fragments.old.nodes.items index }
-    requires code { IsIn fragments.old.nodes.items code }
-    ensures { (notes : NotesOf) → Coding (S.state scopes.old) (S.state scopes.new) notes notes fragments.old.nodes.items fragments.new.nodes.items site.now result IsCoded coded_in (λ c. gives (coded (Variable of) (part fragments.old.nodes.items code ⨟ spec_value c (coded_in fragments.old.nodes.items index) ⨟ plain (spec_index (spec_range c.scene indices) (spec_size c.scene of) ∷ [])))) }
-{
-    let found = asked!(extent(scopes, site.around, indices, of));
-    match index_instr(found.0, found.1) {
-        Ok(find) => element_found(scopes, site, of, index, code, find, fragments),
-        Err(memory) => Err(memory),
+impl<S: Scopes> Coder<'_, '_, S> {
+    /// The element of an array that this instruction finds, by its index.
+    fn element_found(
+        &mut self,
+        of: Place,
+        index: Coded,
+        code: Fragment,
+        find: Instr,
+    ) -> Result<Ask<Coded>, Memory>
+        requires suits { SuitsPlace S.state self.old }
+        requires of { IsThere (frame_of S.state self.old) of }
+        requires index { IsCoded (frame_of S.state self.old) (nodes_of self.old) index }
+        requires code { IsIn (nodes_of self.old) code }
+        ensures keeps { Keeps self.old self.new }
+        ensures codes { Codes S.state self.old self.new result IsCoded coded_in (λ c. gives (coded (Variable of) (part (nodes_of self.old) code ⨟ spec_value c (coded_in (nodes_of self.old) index) ⨟ plain (find ∷ [])))) }
+    {
+        let value = analysed!(value_code(self.scopes, self.site, index, self.fragments));
+        variable_at(of, applied(self.fragments, code, value, find))
     }
-}
 
-/// The element of an array, by its index, unless one of them is in error.
-fn element_of_array<S: Scopes>(
-    scopes: &mut S,
-    site: &Site,
-    indices: Place,
-    of: Place,
-    index: Coded,
-    x: Coded,
-    fragments: &mut Fragments,
-) -> Result<Ask<Coded>, Memory>
-    requires suits { SuitsSite (S.state scopes.old).frame site.now }
-    requires indices { IsThere (S.state scopes.old).frame indices }
-    requires of { IsThere (S.state scopes.old).frame of }
-    requires index { IsCoded (S.state scopes.old).frame fragments.old.nodes.items index }
-    requires x { IsCoded (S.state scopes.old).frame fragments.old.nodes.items x }
-    ensures { (notes : NotesOf) → Coding (S.state scopes.old) (S.state scopes.new) notes notes fragments.old.nodes.items fragments.new.nodes.items site.now result IsCoded coded_in (λ c. spec_of_array c (coded_in fragments.old.nodes.items x) indices of (coded_in fragments.old.nodes.items index)) }
-{
-    if asked!(is_spoilt(scopes, site.around, index.operand, of)) {
-        return Ok(Ask::Known(Coded::in_error()));
+    /// The element of an array of these indices.
+    fn array_indexed(
+        &mut self,
+        indices: Place,
+        of: Place,
+        index: Coded,
+        code: Fragment,
+    ) -> Result<Ask<Coded>, Memory>
+        requires suits { SuitsPlace S.state self.old }
+        requires indices { IsThere (frame_of S.state self.old) indices }
+        requires of { IsThere (frame_of S.state self.old) of }
+        requires index { IsCoded (frame_of S.state self.old) (nodes_of self.old) index }
+        requires code { IsIn (nodes_of self.old) code }
+        ensures keeps { Keeps self.old self.new }
+        ensures codes { Codes S.state self.old self.new result IsCoded coded_in (λ c. gives (coded (Variable of) (part (nodes_of self.old) code ⨟ spec_value c (coded_in (nodes_of self.old) index) ⨟ plain (spec_index (spec_range c.scene indices) (spec_size c.scene of) ∷ [])))) }
+    {
+        let found = asked!(extent(self.scopes, self.site.around, indices, of));
+        match index_instr(found.0, found.1) {
+            Ok(find) => self.element_found(of, index, code, find),
+            Err(memory) => Err(memory),
+        }
     }
-    indexed(scopes, site, indices, of, index, x.code, fragments)
+
+    /// The element of an array, by its index, unless one of them is in error.
+    fn element_of_array(
+        &mut self,
+        indices: Place,
+        of: Place,
+        index: Coded,
+        x: Coded,
+    ) -> Result<Ask<Coded>, Memory>
+        requires suits { SuitsPlace S.state self.old }
+        requires indices { IsThere (frame_of S.state self.old) indices }
+        requires of { IsThere (frame_of S.state self.old) of }
+        requires index { IsCoded (frame_of S.state self.old) (nodes_of self.old) index }
+        requires x { IsCoded (frame_of S.state self.old) (nodes_of self.old) x }
+        ensures keeps { Keeps self.old self.new }
+        ensures codes { Codes S.state self.old self.new result IsCoded coded_in (λ c. spec_of_array c (coded_in (nodes_of self.old) x) indices of (coded_in (nodes_of self.old) index)) }
+    {
+        if asked!(is_spoilt(self.scopes, self.site.around, index.operand, of)) {
+            return Ok(Ask::Known(Coded::in_error()));
+        }
+        self.array_indexed(indices, of, index, x.code)
+    }
 }
 
 /// The code of the number of an open array's elements less 1.
@@ -295,24 +284,25 @@ fn open_code(
     fragments.then(x.code, found)
 }
 
-/// The element of an open array whose elements have this size.
-fn open_found<S: Scopes>(
-    scopes: &mut S,
-    site: &Site,
-    of: Place,
-    size: u32,
-    index: Coded,
-    x: Coded,
-    fragments: &mut Fragments,
-) -> Result<Ask<Coded>, Memory>
-    requires suits { SuitsSite (S.state scopes.old).frame site.now }
-    requires of { IsThere (S.state scopes.old).frame of }
-    requires index { IsCoded (S.state scopes.old).frame fragments.old.nodes.items index }
-    requires x { IsCoded (S.state scopes.old).frame fragments.old.nodes.items x }
-    ensures { (notes : NotesOf) → Coding (S.state scopes.old) (S.state scopes.new) notes notes fragments.old.nodes.items fragments.new.nodes.items site.now result IsCoded coded_in (λ c. gives (coded (Variable of) (part fragments.old.nodes.items x.code ⨟ high_in fragments.old.nodes.items x.high ⨟ spec_value c (coded_in fragments.old.nodes.items index) ⨟ plain (IndexOpen size ∷ [])))) }
-{
-    let value = analysed!(value_code(scopes, site, index, fragments));
-    variable_at(of, open_code(x, value, size, fragments))
+impl<S: Scopes> Coder<'_, '_, S> {
+    /// The element of an open array whose elements have this size.
+    fn open_found(
+        &mut self,
+        of: Place,
+        size: u32,
+        index: Coded,
+        x: Coded,
+    ) -> Result<Ask<Coded>, Memory>
+        requires suits { SuitsPlace S.state self.old }
+        requires of { IsThere (frame_of S.state self.old) of }
+        requires index { IsCoded (frame_of S.state self.old) (nodes_of self.old) index }
+        requires x { IsCoded (frame_of S.state self.old) (nodes_of self.old) x }
+        ensures keeps { Keeps self.old self.new }
+        ensures codes { Codes S.state self.old self.new result IsCoded coded_in (λ c. gives (coded (Variable of) (part (nodes_of self.old) x.code ⨟ high_in (nodes_of self.old) x.high ⨟ spec_value c (coded_in (nodes_of self.old) index) ⨟ plain (IndexOpen size ∷ [])))) }
+    {
+        let value = analysed!(value_code(self.scopes, self.site, index, self.fragments));
+        variable_at(of, open_code(x, value, size, self.fragments))
+    }
 }
 
 /// How many cells a variable of a type takes, as `Move` and `New` have it: an array or a record as many as its row
@@ -330,156 +320,131 @@ pub fn cells_of<S: Scopes>(scopes: &mut S, around: &Around, of: Place) -> Ask<u3
     Ask::Known(size as u32)
 }
 
-/// The element of an open array, by its index.
-fn open_indexed<S: Scopes>(
-    scopes: &mut S,
-    site: &Site,
-    of: Place,
-    index: Coded,
-    x: Coded,
-    fragments: &mut Fragments,
-) -> Result<Ask<Coded>, Memory>
-    requires suits { SuitsSite (S.state scopes.old).frame site.now }
-    requires of { IsThere (S.state scopes.old).frame of }
-    requires index { IsCoded (S.state scopes.old).frame fragments.old.nodes.items index }
-    requires x { IsCoded (S.state scopes.old).frame fragments.old.nodes.items x }
-    ensures { (notes : NotesOf) → Coding (S.state scopes.old) (S.state scopes.new) notes notes fragments.old.nodes.items fragments.new.nodes.items site.now result IsCoded coded_in (λ c. gives (coded (Variable of) (part fragments.old.nodes.items x.code ⨟ high_in fragments.old.nodes.items x.high ⨟ spec_value c (coded_in fragments.old.nodes.items index) ⨟ plain (IndexOpen (spec_size c.scene of) ∷ [])))) }
-{
-    let size = asked!(cells_of(scopes, site.around, of));
-    open_found(scopes, site, of, size, index, x, fragments)
-}
-
-/// The element of an open array, by its index, unless one of them is in error.
-fn element_of_open<S: Scopes>(
-    scopes: &mut S,
-    site: &Site,
-    of: Place,
-    index: Coded,
-    x: Coded,
-    fragments: &mut Fragments,
-) -> Result<Ask<Coded>, Memory>
-    requires suits { SuitsSite (S.state scopes.old).frame site.now }
-    requires of { IsThere (S.state scopes.old).frame of }
-    requires index { IsCoded (S.state scopes.old).frame fragments.old.nodes.items index }
-    requires x { IsCoded (S.state scopes.old).frame fragments.old.nodes.items x }
-    ensures { (notes : NotesOf) → Coding (S.state scopes.old) (S.state scopes.new) notes notes fragments.old.nodes.items fragments.new.nodes.items site.now result IsCoded coded_in (λ c. spec_of_open c (coded_in fragments.old.nodes.items x) of (coded_in fragments.old.nodes.items index)) }
-{
-    if asked!(is_spoilt(scopes, site.around, index.operand, of)) {
-        return Ok(Ask::Known(Coded::in_error()));
+impl<S: Scopes> Coder<'_, '_, S> {
+    /// The element of an open array, by its index.
+    fn open_indexed(&mut self, of: Place, index: Coded, x: Coded) -> Result<Ask<Coded>, Memory>
+        requires suits { SuitsPlace S.state self.old }
+        requires of { IsThere (frame_of S.state self.old) of }
+        requires index { IsCoded (frame_of S.state self.old) (nodes_of self.old) index }
+        requires x { IsCoded (frame_of S.state self.old) (nodes_of self.old) x }
+        ensures keeps { Keeps self.old self.new }
+        ensures codes { Codes S.state self.old self.new result IsCoded coded_in (λ c. gives (coded (Variable of) (part (nodes_of self.old) x.code ⨟ high_in (nodes_of self.old) x.high ⨟ spec_value c (coded_in (nodes_of self.old) index) ⨟ plain (IndexOpen (spec_size c.scene of) ∷ [])))) }
+    {
+        let size = asked!(cells_of(self.scopes, self.site.around, of));
+        self.open_found(of, size, index, x)
     }
-    open_indexed(scopes, site, of, index, x, fragments)
-}
 
-/// The element of an array by an index that its index type takes.
-fn array_element<S: Scopes>(
-    scopes: &mut S,
-    site: &Site,
-    indices: Place,
-    of: Place,
-    index: Placed,
-    x: Coded,
-    fragments: &mut Fragments,
-    notes: &mut Notes,
-) -> Result<Ask<Coded>, Memory>
-    requires suits { SuitsSite (S.state scopes.old).frame site.now }
-    requires indices { IsThere (S.state scopes.old).frame indices }
-    requires of { IsThere (S.state scopes.old).frame of }
-    requires index { IsCoded (S.state scopes.old).frame fragments.old.nodes.items index.coded }
-    requires x { IsCoded (S.state scopes.old).frame fragments.old.nodes.items x }
-    ensures { Coding (S.state scopes.old) (S.state scopes.new) notes.old notes.new fragments.old.nodes.items fragments.new.nodes.items site.now result IsCoded coded_in (λ c. and_then (spec_assigned c indices index.at not_assignable (coded_in fragments.old.nodes.items index.coded)) (spec_of_array c (coded_in fragments.old.nodes.items x) indices of)) }
-{
-    let refusal = Diagnostic::NotAssignable;
-    let taken = analysed!(assigned_to(
-        scopes,
-        site,
-        indices,
-        index.at,
-        refusal,
-        index.coded,
-        notes
-    ));
-    element_of_array(scopes, site, indices, of, taken, x, fragments)
-}
-
-/// The element of an open array by an index that a CARDINAL takes.
-#[tactic(auto, using(const_eval::proofs::TypesThere::there))]
-fn open_element<S: Scopes>(
-    scopes: &mut S,
-    site: &Site,
-    of: Place,
-    index: Placed,
-    x: Coded,
-    fragments: &mut Fragments,
-    notes: &mut Notes,
-) -> Result<Ask<Coded>, Memory>
-    requires suits { SuitsSite (S.state scopes.old).frame site.now }
-    requires of { IsThere (S.state scopes.old).frame of }
-    requires index { IsCoded (S.state scopes.old).frame fragments.old.nodes.items index.coded }
-    requires x { IsCoded (S.state scopes.old).frame fragments.old.nodes.items x }
-    ensures { Coding (S.state scopes.old) (S.state scopes.new) notes.old notes.new fragments.old.nodes.items fragments.new.nodes.items site.now result IsCoded coded_in (λ c. and_then (spec_assigned c cardinal index.at not_assignable (coded_in fragments.old.nodes.items index.coded)) (spec_of_open c (coded_in fragments.old.nodes.items x) of)) }
-{
-    let refusal = Diagnostic::NotAssignable;
-    let taken = analysed!(assigned_to(
-        scopes,
-        site,
-        CARDINAL,
-        index.at,
-        refusal,
-        index.coded,
-        notes
-    ));
-    element_of_open(scopes, site, of, taken, x, fragments)
-}
-
-/// The element of a variable of this type, by its index.
-fn of_array<S: Scopes>(
-    scopes: &mut S,
-    site: &Site,
-    at: u32,
-    of: Place,
-    index: Placed,
-    x: Coded,
-    fragments: &mut Fragments,
-    notes: &mut Notes,
-) -> Result<Ask<Coded>, Memory>
-    requires suits { SuitsSite (S.state scopes.old).frame site.now }
-    requires of { IsThere (S.state scopes.old).frame of }
-    requires index { IsCoded (S.state scopes.old).frame fragments.old.nodes.items index.coded }
-    requires x { IsCoded (S.state scopes.old).frame fragments.old.nodes.items x }
-    ensures { Coding (S.state scopes.old) (S.state scopes.new) notes.old notes.new fragments.old.nodes.items fragments.new.nodes.items site.now result IsCoded coded_in (λ c. spec_array c at (coded_in fragments.old.nodes.items x) index.at (coded_in fragments.old.nodes.items index.coded) (kind_of c.scene of)) }
-{
-    let (_, meaning) = asked!(stand(scopes, site.around, of));
-    match meaning {
-        RowMeaning::Array(indices, elements, _) => {
-            array_element(scopes, site, indices, elements, index, x, fragments, notes)
+    /// The element of an open array, by its index, unless one of them is in error.
+    fn element_of_open(&mut self, of: Place, index: Coded, x: Coded) -> Result<Ask<Coded>, Memory>
+        requires suits { SuitsPlace S.state self.old }
+        requires of { IsThere (frame_of S.state self.old) of }
+        requires index { IsCoded (frame_of S.state self.old) (nodes_of self.old) index }
+        requires x { IsCoded (frame_of S.state self.old) (nodes_of self.old) x }
+        ensures keeps { Keeps self.old self.new }
+        ensures codes { Codes S.state self.old self.new result IsCoded coded_in (λ c. spec_of_open c (coded_in (nodes_of self.old) x) of (coded_in (nodes_of self.old) index)) }
+    {
+        if asked!(is_spoilt(self.scopes, self.site.around, index.operand, of)) {
+            return Ok(Ask::Known(Coded::in_error()));
         }
-        RowMeaning::OpenArray(elements) => {
-            open_element(scopes, site, elements, index, x, fragments, notes)
-        }
-        _ => refused(site, at, Diagnostic::NotAnArray, notes),
+        self.open_indexed(of, index, x)
     }
-}
 
-/// The element of an array by one index. `first` is the designator's first token, `at` the bracket.
-pub fn select_element<S: Scopes>(
-    scopes: &mut S,
-    site: &Site,
-    first: u32,
-    at: u32,
-    index: Placed,
-    x: Coded,
-    fragments: &mut Fragments,
-    notes: &mut Notes,
-) -> Result<Ask<Coded>, Memory>
-    requires suits { SuitsSite (S.state scopes.old).frame site.now }
-    requires index { IsCoded (S.state scopes.old).frame fragments.old.nodes.items index.coded }
-    requires x { IsCoded (S.state scopes.old).frame fragments.old.nodes.items x }
-    ensures { Coding (S.state scopes.old) (S.state scopes.new) notes.old notes.new fragments.old.nodes.items fragments.new.nodes.items site.now result IsCoded coded_in (λ c. spec_element c first at index.at (coded_in fragments.old.nodes.items index.coded) (coded_in fragments.old.nodes.items x)) }
-{
-    match x.operand {
-        Operand::Variable(of) => of_array(scopes, site, at, of, index, x, fragments, notes),
-        Operand::InError => Ok(Ask::Known(Coded::in_error())),
-        Operand::NotConstant => Ok(Ask::Known(Coded::in_error())),
-        _ => refused(site, first, Diagnostic::NotAVariable, notes),
+    /// The element of an array by an index that its index type takes.
+    fn array_element(
+        &mut self,
+        indices: Place,
+        of: Place,
+        index: Placed,
+        x: Coded,
+    ) -> Result<Ask<Coded>, Memory>
+        requires suits { SuitsPlace S.state self.old }
+        requires indices { IsThere (frame_of S.state self.old) indices }
+        requires of { IsThere (frame_of S.state self.old) of }
+        requires index { IsCoded (frame_of S.state self.old) (nodes_of self.old) index.coded }
+        requires x { IsCoded (frame_of S.state self.old) (nodes_of self.old) x }
+        ensures keeps { Keeps self.old self.new }
+        ensures codes { Codes S.state self.old self.new result IsCoded coded_in (λ c. and_then (spec_assigned c indices index.at not_assignable (coded_in (nodes_of self.old) index.coded)) (spec_of_array c (coded_in (nodes_of self.old) x) indices of)) }
+    {
+        let refusal = Diagnostic::NotAssignable;
+        let taken = analysed!(assigned_to(
+            self.scopes,
+            self.site,
+            indices,
+            index.at,
+            refusal,
+            index.coded,
+            self.notes
+        ));
+        self.element_of_array(indices, of, taken, x)
+    }
+
+    /// The element of an open array by an index that a CARDINAL takes.
+    #[tactic(auto, using(const_eval::proofs::TypesThere::there))]
+    fn open_element(&mut self, of: Place, index: Placed, x: Coded) -> Result<Ask<Coded>, Memory>
+        requires suits { SuitsPlace S.state self.old }
+        requires of { IsThere (frame_of S.state self.old) of }
+        requires index { IsCoded (frame_of S.state self.old) (nodes_of self.old) index.coded }
+        requires x { IsCoded (frame_of S.state self.old) (nodes_of self.old) x }
+        ensures keeps { Keeps self.old self.new }
+        ensures codes { Codes S.state self.old self.new result IsCoded coded_in (λ c. and_then (spec_assigned c cardinal index.at not_assignable (coded_in (nodes_of self.old) index.coded)) (spec_of_open c (coded_in (nodes_of self.old) x) of)) }
+    {
+        let refusal = Diagnostic::NotAssignable;
+        let taken = analysed!(assigned_to(
+            self.scopes,
+            self.site,
+            CARDINAL,
+            index.at,
+            refusal,
+            index.coded,
+            self.notes
+        ));
+        self.element_of_open(of, taken, x)
+    }
+
+    /// The element of a variable of this type, by its index.
+    fn of_array(
+        &mut self,
+        at: u32,
+        of: Place,
+        index: Placed,
+        x: Coded,
+    ) -> Result<Ask<Coded>, Memory>
+        requires suits { SuitsPlace S.state self.old }
+        requires of { IsThere (frame_of S.state self.old) of }
+        requires index { IsCoded (frame_of S.state self.old) (nodes_of self.old) index.coded }
+        requires x { IsCoded (frame_of S.state self.old) (nodes_of self.old) x }
+        ensures keeps { Keeps self.old self.new }
+        ensures codes { Codes S.state self.old self.new result IsCoded coded_in (λ c. spec_array c at (coded_in (nodes_of self.old) x) index.at (coded_in (nodes_of self.old) index.coded) (kind_of c.scene of)) }
+    {
+        let (_, meaning) = asked!(stand(self.scopes, self.site.around, of));
+        match meaning {
+            RowMeaning::Array(indices, elements, _) => {
+                self.array_element(indices, elements, index, x)
+            }
+            RowMeaning::OpenArray(elements) => self.open_element(elements, index, x),
+            _ => refused(self.site, at, Diagnostic::NotAnArray, self.notes),
+        }
+    }
+
+    /// The element of an array by one index. `first` is the designator's first token, `at` the bracket.
+    pub fn select_element(
+        &mut self,
+        first: u32,
+        at: u32,
+        index: Placed,
+        x: Coded,
+    ) -> Result<Ask<Coded>, Memory>
+        requires suits { SuitsPlace S.state self.old }
+        requires index { IsCoded (frame_of S.state self.old) (nodes_of self.old) index.coded }
+        requires x { IsCoded (frame_of S.state self.old) (nodes_of self.old) x }
+        ensures keeps { Keeps self.old self.new }
+        ensures codes { Codes S.state self.old self.new result IsCoded coded_in (λ c. spec_element c first at index.at (coded_in (nodes_of self.old) index.coded) (coded_in (nodes_of self.old) x)) }
+    {
+        match x.operand {
+            Operand::Variable(of) => self.of_array(at, of, index, x),
+            Operand::InError => Ok(Ask::Known(Coded::in_error())),
+            Operand::NotConstant => Ok(Ask::Known(Coded::in_error())),
+            _ => refused(self.site, first, Diagnostic::NotAVariable, self.notes),
+        }
     }
 }

@@ -8,6 +8,7 @@ ghost use Rattle.m2_base.specs.States.{Frame};
 ghost use Rattle.m2_base.specs.Statics.ReadTrees.{IsReadDesignator, IsReadExpr};
 ghost use Rattle.m2_base.specs.Views.{designator_view, expr_view};
 ghost use Rattle.m2_base.specs.declared.notes.Notes.{Notes as NotesOf};
+ghost use Rattle.expr_sem.specs.Coders.{Codes, Keeps, SeesWiths, SuitsPlace, names_of};
 ghost use Rattle.expr_sem.specs.Coded.{value_code as spec_code};
 ghost use Rattle.expr_sem.specs.Codings.{Coding, IsCoded, coded_in, with_types};
 ghost use Rattle.expr_sem.specs.Evaluations.{Evaluates, IsEvaluated, KeepsPiece, evaluated as spec_evaluated, evaluated_in, evaluation, operand_of};
@@ -19,7 +20,7 @@ ghost use Rattle.type_rules.specs.Scenes.{IsThere};
 ghost use Rattle.type_rules.specs.Sites.{SuitsSite};
 
 use crate::coded::Coded;
-use crate::expressions::{designated, value_of};
+use crate::coder::Coder;
 use crate::fragments::{Fragment, Fragments};
 use crate::pieces::{Piece, With, append};
 use crate::values::value_code;
@@ -68,40 +69,30 @@ fn address_or_none(x: Coded) -> Option<(Operand, Fragment)>
     }
 }
 
-/// An expression's operand with the code of its value.
-fn value_made<S: Scopes>(
-    scopes: &mut S,
-    site: &Site,
-    withs: &[With],
-    e: &Expr,
-    fragments: &mut Fragments,
-    notes: &mut Notes,
-) -> Result<Ask<Option<(Operand, Fragment)>>, Memory>
-    requires suits { SuitsSite (S.state scopes.old).frame site.now }
-    requires withs { Each (λ w. IsThere (S.state scopes.old).frame w.of) withs.now }
-    requires read { IsReadExpr site.now.texts.now.names (expr_view e.now) }
-    ensures { Coding (S.state scopes.old) (S.state scopes.new) notes.old notes.new fragments.old.nodes.items fragments.new.nodes.items site.now result IsEvaluated evaluated_in (λ c. evaluation (spec_value c (with_types withs.now) (expr_view e.now)) (λ x. spec_code c x)) }
-{
-    let x = analysed!(value_of(scopes, site, withs, e, fragments, notes));
-    value_or_none(scopes, site, x, fragments)
-}
+impl<S: Scopes> Coder<'_, '_, S> {
+    /// An expression's operand with the code of its value.
+    fn value_made(&mut self, e: &Expr) -> Result<Ask<Option<(Operand, Fragment)>>, Memory>
+        requires suits { SuitsPlace S.state self.old }
+        requires withs { SeesWiths S.state self.old }
+        requires read { IsReadExpr (names_of self.old) (expr_view e.now) }
+        ensures keeps { Keeps self.old self.new }
+        ensures codes { Codes S.state self.old self.new result IsEvaluated evaluated_in (λ c. evaluation (spec_value c (with_types self.old.withs.now) (expr_view e.now)) (λ x. spec_code c x)) }
+    {
+        let x = analysed!(self.value_of(e));
+        value_or_none(self.scopes, self.site, x, self.fragments)
+    }
 
-/// What a designator stands for, with its own code.
-fn address_made<S: Scopes>(
-    scopes: &mut S,
-    site: &Site,
-    withs: &[With],
-    of: &Designator,
-    fragments: &mut Fragments,
-    notes: &mut Notes,
-) -> Result<Ask<Option<(Operand, Fragment)>>, Memory>
-    requires suits { SuitsSite (S.state scopes.old).frame site.now }
-    requires withs { Each (λ w. IsThere (S.state scopes.old).frame w.of) withs.now }
-    requires read { IsReadDesignator site.now.texts.now.names (designator_view of.now) }
-    ensures { Coding (S.state scopes.old) (S.state scopes.new) notes.old notes.new fragments.old.nodes.items fragments.new.nodes.items site.now result IsEvaluated evaluated_in (λ c. evaluation (spec_designated c (with_types withs.now) (designator_view of.now)) (λ x. x.code)) }
-{
-    let x = analysed!(designated(scopes, site, withs, of, fragments, notes));
-    Ok(Ask::Known(address_or_none(x)))
+    /// What a designator stands for, with its own code.
+    fn address_made(&mut self, of: &Designator) -> Result<Ask<Option<(Operand, Fragment)>>, Memory>
+        requires suits { SuitsPlace S.state self.old }
+        requires withs { SeesWiths S.state self.old }
+        requires read { IsReadDesignator (names_of self.old) (designator_view of.now) }
+        ensures keeps { Keeps self.old self.new }
+        ensures codes { Codes S.state self.old self.new result IsEvaluated evaluated_in (λ c. evaluation (spec_designated c (with_types self.old.withs.now) (designator_view of.now)) (λ x. x.code)) }
+    {
+        let x = analysed!(self.designated(of));
+        Ok(Ask::Known(address_or_none(x)))
+    }
 }
 
 /// The code of an operand is appended to a piece. Without memory the piece has what it had before.
@@ -166,4 +157,52 @@ pub fn address<S: Scopes>(
     let mut fragments = Fragments::new(*piece.steps.allocator());
     let made = analysed!(address_made(scopes, site, withs, of, &mut fragments, notes));
     appended(&fragments, made, withs, piece)
+}
+
+/// An expression's operand with the code of its value.
+fn value_made<S: Scopes>(
+    scopes: &mut S,
+    site: &Site,
+    withs: &[With],
+    e: &Expr,
+    fragments: &mut Fragments,
+    notes: &mut Notes,
+) -> Result<Ask<Option<(Operand, Fragment)>>, Memory>
+    requires suits { SuitsSite (S.state scopes.old).frame site.now }
+    requires withs { Each (λ w. IsThere (S.state scopes.old).frame w.of) withs.now }
+    requires read { IsReadExpr site.now.texts.now.names (expr_view e.now) }
+    ensures { Coding (S.state scopes.old) (S.state scopes.new) notes.old notes.new fragments.old.nodes.items fragments.new.nodes.items site.now result IsEvaluated evaluated_in (λ c. evaluation (spec_value c (with_types withs.now) (expr_view e.now)) (λ x. spec_code c x)) }
+{
+    let mut coder = Coder {
+        scopes,
+        site,
+        withs,
+        fragments,
+        notes,
+    };
+    coder.value_made(e)
+}
+
+/// What a designator stands for, with its own code.
+fn address_made<S: Scopes>(
+    scopes: &mut S,
+    site: &Site,
+    withs: &[With],
+    of: &Designator,
+    fragments: &mut Fragments,
+    notes: &mut Notes,
+) -> Result<Ask<Option<(Operand, Fragment)>>, Memory>
+    requires suits { SuitsSite (S.state scopes.old).frame site.now }
+    requires withs { Each (λ w. IsThere (S.state scopes.old).frame w.of) withs.now }
+    requires read { IsReadDesignator site.now.texts.now.names (designator_view of.now) }
+    ensures { Coding (S.state scopes.old) (S.state scopes.new) notes.old notes.new fragments.old.nodes.items fragments.new.nodes.items site.now result IsEvaluated evaluated_in (λ c. evaluation (spec_designated c (with_types withs.now) (designator_view of.now)) (λ x. x.code)) }
+{
+    let mut coder = Coder {
+        scopes,
+        site,
+        withs,
+        fragments,
+        notes,
+    };
+    coder.address_made(of)
 }

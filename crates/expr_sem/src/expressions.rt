@@ -4,6 +4,7 @@ ghost use Rattle.m2_base.specs.Lists.{Each};
 ghost use Rattle.m2_base.specs.Statics.ReadTrees.{AreReadExprs, AreReadLabels, AreReadNexts, AreReadSelectors, IsReadDesignator, IsReadExpr, IsReadLabel, IsReadNext, IsReadSelector};
 ghost use Rattle.m2_base.specs.Trees.{exprs, labels, nexts, selectors};
 ghost use Rattle.m2_base.specs.Views.{designator_view, expr_view, label_view, next_view, selector_view};
+ghost use Rattle.expr_sem.specs.Coders.{Codes, Keeps, SeesWiths, SuitsPlace, frame_of, names_of, nodes_of};
 ghost use Rattle.expr_sem.specs.ArgumentCodes.{IsArgument, argument_in, parameter_view};
 ghost use Rattle.expr_sem.specs.Callees.{IsCallable, IsCallee, called_in};
 ghost use Rattle.expr_sem.specs.Codings.{Coding, IsCoded, coded_in, with_types};
@@ -15,17 +16,15 @@ ghost use Rattle.type_rules.specs.Scenes.{IsThere};
 ghost use Rattle.type_rules.specs.Sites.{SuitsSite};
 
 use crate::argument_codes::{all_passed, behind_first, joined};
-use crate::arguments::{Parameter, argument};
-use crate::calls::{Callable, Callee, call_coded, called};
+use crate::arguments::Parameter;
+use crate::calls::{Callable, Callee};
 use crate::coded::{Coded, Placed};
-use crate::elements::{select_element, select_target};
+use crate::coder::Coder;
 use crate::fragments::{Fragment, Fragments};
 use crate::leaves::type_noted;
-use crate::operators::{one_coded, two_coded};
 use crate::pieces::With;
-use crate::record_fields::{name_coded, select_field};
 use crate::set_elements::{Elements, add_element, add_range, element_coded, set_coded, set_start};
-use crate::standard_procedures::{first_of_two, of_no_argument, of_one_argument, of_two_arguments};
+use crate::standard_procedures::of_no_argument;
 use crate::values::as_value;
 use const_eval::string_constant;
 use m2_base::{
@@ -34,63 +33,499 @@ use m2_base::{
 };
 use type_rules::{BITSET, CHARACTER, WHOLE};
 
-/// What an expression stands for.
-#[cycle(expressions)]
-fn expression<S: Scopes>(
-    scopes: &mut S,
-    site: &Site,
-    withs: &[With],
-    e: &Expr,
-    fragments: &mut Fragments,
-    notes: &mut Notes,
-) -> Result<Ask<Coded>, Memory>
-    requires suits { SuitsSite (S.state scopes.old).frame site.now }
-    requires withs { Each (λ w. IsThere (S.state scopes.old).frame w.of) withs.now }
-    requires read { IsReadExpr site.now.texts.now.names (expr_view e.now) }
-    ensures { Coding (S.state scopes.old) (S.state scopes.new) notes.old notes.new fragments.old.nodes.items fragments.new.nodes.items site.now result IsCoded coded_in (λ c. spec_expression c (with_types withs.now) (expr_view e.now)) }
-{
-    match &e.form {
-        ExprForm::Number(value) => {
-            Ok(Ask::Known(Coded::bare(Operand::Constant(WHOLE, *value as i64))))
-        }
-        ExprForm::Char(value) => {
-            Ok(Ask::Known(Coded::bare(Operand::Constant(CHARACTER, *value as i64))))
-        }
-        ExprForm::Str(name) => Ok(Ask::Known(Coded::bare(string_constant(site, *name)))),
-        ExprForm::Set { of, items } => match of {
-            None => set_of(scopes, site, withs, BITSET, items, fragments, notes),
-            Some(name) => {
-                let place = analysed!(set_type(scopes, site, withs, name, fragments, notes));
-                set_of(scopes, site, withs, place, items, fragments, notes)
+impl<S: Scopes> Coder<'_, '_, S> {
+    /// What an expression stands for.
+    #[cycle(expressions)]
+    fn expression(&mut self, e: &Expr) -> Result<Ask<Coded>, Memory>
+        requires suits { SuitsPlace S.state self.old }
+        requires withs { SeesWiths S.state self.old }
+        requires read { IsReadExpr (names_of self.old) (expr_view e.now) }
+        ensures keeps { Keeps self.old self.new }
+        ensures codes { Codes S.state self.old self.new result IsCoded coded_in (λ c. spec_expression c (with_types self.old.withs.now) (expr_view e.now)) }
+    {
+        match &e.form {
+            ExprForm::Number(value) => {
+                Ok(Ask::Known(Coded::bare(Operand::Constant(WHOLE, *value as i64))))
             }
-        },
-        ExprForm::Name(name) => designated(scopes, site, withs, name, fragments, notes),
-        ExprForm::Call { to, args } => {
-            let coded = analysed!(designated(scopes, site, withs, to, fragments, notes));
-            let target = Placed {
-                at: to.first.at,
-                coded,
+            ExprForm::Char(value) => {
+                Ok(Ask::Known(Coded::bare(Operand::Constant(CHARACTER, *value as i64))))
+            }
+            ExprForm::Str(name) => Ok(Ask::Known(Coded::bare(string_constant(self.site, *name)))),
+            ExprForm::Set { of, items } => match of {
+                None => self.set_of(BITSET, items),
+                Some(name) => {
+                    let place = analysed!(self.set_type(name));
+                    self.set_of(place, items)
+                }
+            },
+            ExprForm::Name(name) => self.designated(name),
+            ExprForm::Call { to, args } => {
+                let coded = analysed!(self.designated(to));
+                let target = Placed {
+                    at: to.first.at,
+                    coded,
+                };
+                self.called_with(true, target, args)
+            }
+            ExprForm::One { op, op_at, of } => {
+                let x = analysed!(self.value_of(of));
+                self.one_coded(*op, *op_at, x)
+            }
+            ExprForm::Many { first, rest } => {
+                let coded = analysed!(self.value_of(first));
+                let left = Placed {
+                    at: first.at,
+                    coded,
+                };
+                self.continued(left, rest)
+            }
+        }
+    }
+
+    /// What an expression stands for where a value is wanted; a type alone, say, is refused at its first token. The code is
+    /// the operand's own, of a variable its address: `value_code` goes on from there. It waits for names and types.
+    #[cycle(expressions)]
+    pub fn value_of(&mut self, e: &Expr) -> Result<Ask<Coded>, Memory>
+        requires suits { SuitsPlace S.state self.old }
+        requires withs { SeesWiths S.state self.old }
+        requires read { IsReadExpr (names_of self.old) (expr_view e.now) }
+        ensures keeps { Keeps self.old self.new }
+        ensures codes { Codes S.state self.old self.new result IsCoded coded_in (λ c. spec_value c (with_types self.old.withs.now) (expr_view e.now)) }
+    {
+        let x = analysed!(self.expression(e));
+        as_value(self.site, e.at, x, self.notes)
+    }
+
+    /// The operators that follow an operand, from the left.
+    #[cycle(expressions)]
+    fn continued(&mut self, left: Placed, rest: &[Next]) -> Result<Ask<Coded>, Memory>
+        requires suits { SuitsPlace S.state self.old }
+        requires withs { SeesWiths S.state self.old }
+        requires left { IsCoded (frame_of S.state self.old) (nodes_of self.old) left.coded }
+        requires read { AreReadNexts (names_of self.old) (nexts (map next_view rest.now)) }
+        ensures keeps { Keeps self.old self.new }
+        ensures codes { Codes S.state self.old self.new result IsCoded coded_in (λ c. spec_continued c (with_types self.old.withs.now) left.at (coded_in (nodes_of self.old) left.coded) (nexts (map next_view rest.now))) }
+    {
+        let mut x = left.coded;
+        for next in rest.iter() {
+            let before = Placed {
+                at: left.at,
+                coded: x,
             };
-            called_with(scopes, site, withs, true, target, args, fragments, notes)
+            x = analysed!(self.followed(before, next));
         }
-        ExprForm::One { op, op_at, of } => {
-            let x = analysed!(value_of(scopes, site, withs, of, fragments, notes));
-            one_coded(scopes, site, *op, *op_at, x, fragments, notes)
+        Ok(Ask::Known(x))
+    }
+
+    /// An operator and the operand behind it, after the operand before it.
+    #[cycle(expressions)]
+    fn followed(&mut self, left: Placed, next: &Next) -> Result<Ask<Coded>, Memory>
+        requires suits { SuitsPlace S.state self.old }
+        requires withs { SeesWiths S.state self.old }
+        requires left { IsCoded (frame_of S.state self.old) (nodes_of self.old) left.coded }
+        requires read { IsReadNext (names_of self.old) (next_view next.now) }
+        ensures keeps { Keeps self.old self.new }
+        ensures codes { Codes S.state self.old self.new result IsCoded coded_in (λ c. spec_followed c (with_types self.old.withs.now) left.at (coded_in (nodes_of self.old) left.coded) (next_view next.now)) }
+    {
+        let coded = analysed!(self.value_of(&next.right));
+        let right = Placed {
+            at: next.right.at,
+            coded,
+        };
+        self.two_coded(next.op, next.op_at, left, right)
+    }
+
+    /// The type before the brackets of a set.
+    #[cycle(expressions)]
+    fn set_type(&mut self, of: &Designator) -> Result<Ask<Place>, Memory>
+        requires suits { SuitsPlace S.state self.old }
+        requires withs { SeesWiths S.state self.old }
+        requires read { IsReadDesignator (names_of self.old) (designator_view of.now) }
+        ensures keeps { Keeps self.old self.new }
+        ensures codes { Codes S.state self.old self.new result IsPlace place_in (λ c. spec_type c (with_types self.old.withs.now) (designator_view of.now)) }
+    {
+        let x = analysed!(self.designated(of));
+        type_noted(self.scopes, self.site, of.first.at, x.operand, self.notes)
+    }
+
+    /// A set of this type with these elements.
+    #[cycle(expressions)]
+    fn set_of(&mut self, of: Place, items: &[Label]) -> Result<Ask<Coded>, Memory>
+        requires suits { SuitsPlace S.state self.old }
+        requires withs { SeesWiths S.state self.old }
+        requires of { IsThere (frame_of S.state self.old) of }
+        requires read { AreReadLabels (names_of self.old) (labels (map label_view items.now)) }
+        ensures keeps { Keeps self.old self.new }
+        ensures codes { Codes S.state self.old self.new result IsCoded coded_in (λ c. spec_set c (with_types self.old.withs.now) of (labels (map label_view items.now))) }
+    {
+        let (base, none) = match set_start(self.scopes, self.site, of) {
+            Ask::Known(start) => start,
+            Ask::DontKnowYet(head) => return Ok(Ask::DontKnowYet(head)),
+        };
+        let es = analysed!(self.elements(base, none, items));
+        set_coded(of, es, self.fragments)
+    }
+
+    /// The elements of a set, after those that came before.
+    #[cycle(expressions)]
+    fn elements(
+        &mut self,
+        base: Place,
+        es: Elements,
+        items: &[Label],
+    ) -> Result<Ask<Elements>, Memory>
+        requires suits { SuitsPlace S.state self.old }
+        requires withs { SeesWiths S.state self.old }
+        requires base { IsThere (frame_of S.state self.old) base }
+        requires es { AreElements (frame_of S.state self.old) (nodes_of self.old) es }
+        requires read { AreReadLabels (names_of self.old) (labels (map label_view items.now)) }
+        ensures keeps { Keeps self.old self.new }
+        ensures codes { Codes S.state self.old self.new result AreElements elements_in (λ c. spec_elements c (with_types self.old.withs.now) base (elements_in (nodes_of self.old) es) (labels (map label_view items.now))) }
+    {
+        let mut made = es;
+        for label in items.iter() {
+            made = analysed!(self.element(base, made, label));
         }
-        ExprForm::Many { first, rest } => {
-            let coded = analysed!(value_of(scopes, site, withs, first, fragments, notes));
-            let left = Placed {
-                at: first.at,
-                coded,
-            };
-            continued(scopes, site, withs, left, rest, fragments, notes)
+        Ok(Ask::Known(made))
+    }
+
+    /// One further element, or those of a range.
+    #[cycle(expressions)]
+    fn element(&mut self, base: Place, es: Elements, label: &Label) -> Result<Ask<Elements>, Memory>
+        requires suits { SuitsPlace S.state self.old }
+        requires withs { SeesWiths S.state self.old }
+        requires base { IsThere (frame_of S.state self.old) base }
+        requires es { AreElements (frame_of S.state self.old) (nodes_of self.old) es }
+        requires read { IsReadLabel (names_of self.old) (label_view label.now) }
+        ensures keeps { Keeps self.old self.new }
+        ensures codes { Codes S.state self.old self.new result AreElements elements_in (λ c. spec_element c (with_types self.old.withs.now) base (elements_in (nodes_of self.old) es) (label_view label.now)) }
+    {
+        let low = analysed!(self.member(base, &label.low));
+        match &label.high {
+            None => add_element(self.scopes, self.site, es, low, self.fragments),
+            Some(high) => self.range_to(base, es, low, high),
         }
+    }
+
+    /// The elements from a low one to this.
+    #[cycle(expressions)]
+    fn range_to(
+        &mut self,
+        base: Place,
+        es: Elements,
+        low: Coded,
+        high: &Expr,
+    ) -> Result<Ask<Elements>, Memory>
+        requires suits { SuitsPlace S.state self.old }
+        requires withs { SeesWiths S.state self.old }
+        requires base { IsThere (frame_of S.state self.old) base }
+        requires es { AreElements (frame_of S.state self.old) (nodes_of self.old) es }
+        requires low { IsCoded (frame_of S.state self.old) (nodes_of self.old) low }
+        requires read { IsReadExpr (names_of self.old) (expr_view high.now) }
+        ensures keeps { Keeps self.old self.new }
+        ensures codes { Codes S.state self.old self.new result AreElements elements_in (λ c. spec_range c (with_types self.old.withs.now) base (elements_in (nodes_of self.old) es) (coded_in (nodes_of self.old) low) (expr_view high.now)) }
+    {
+        let high = analysed!(self.member(base, high));
+        add_range(self.scopes, self.site, es, low, high, self.fragments)
+    }
+
+    /// An expression as it is taken into a set.
+    #[cycle(expressions)]
+    fn member(&mut self, base: Place, e: &Expr) -> Result<Ask<Coded>, Memory>
+        requires suits { SuitsPlace S.state self.old }
+        requires withs { SeesWiths S.state self.old }
+        requires base { IsThere (frame_of S.state self.old) base }
+        requires read { IsReadExpr (names_of self.old) (expr_view e.now) }
+        ensures keeps { Keeps self.old self.new }
+        ensures codes { Codes S.state self.old self.new result IsCoded coded_in (λ c. spec_member c (with_types self.old.withs.now) base (expr_view e.now)) }
+    {
+        let x = analysed!(self.value_of(e));
+        element_coded(self.scopes, self.site, base, e.at, x, self.notes)
+    }
+
+    /// Arguments of what isn't called, for their own diagnostics.
+    #[cycle(expressions)]
+    fn looked_at(&mut self, args: &[Expr]) -> Result<Ask<Coded>, Memory>
+        requires suits { SuitsPlace S.state self.old }
+        requires withs { SeesWiths S.state self.old }
+        requires read { AreReadExprs (names_of self.old) (exprs (map expr_view args.now)) }
+        ensures keeps { Keeps self.old self.new }
+        ensures codes { Codes S.state self.old self.new result IsCoded coded_in (λ c. spec_looked c (with_types self.old.withs.now) (exprs (map expr_view args.now))) }
+    {
+        for e in args.iter() {
+            let _looked = analysed!(self.expression(e));
+        }
+        Ok(Ask::Known(Coded::in_error()))
+    }
+
+    /// A standard procedure with as many arguments as it takes.
+    #[cycle(expressions)]
+    fn standard(&mut self, f: Builtin, args: &[Expr]) -> Result<Ask<Coded>, Memory>
+        requires suits { SuitsPlace S.state self.old }
+        requires withs { SeesWiths S.state self.old }
+        requires read { AreReadExprs (names_of self.old) (exprs (map expr_view args.now)) }
+        ensures keeps { Keeps self.old self.new }
+        ensures codes { Codes S.state self.old self.new result IsCoded coded_in (λ c. spec_standard c (with_types self.old.withs.now) f (exprs (map expr_view args.now))) }
+    {
+        match args {
+            [] => of_no_argument(f, self.fragments),
+            [e] => {
+                let x = analysed!(self.expression(e));
+                self.of_one_argument(f, e.at, x)
+            }
+            [e, other, ..] => {
+                let coded = analysed!(self.first_argument(f, e));
+                let first = Placed { at: e.at, coded };
+                self.second_argument(f, first, other)
+            }
+        }
+    }
+
+    /// The first of two arguments of a standard procedure.
+    #[cycle(expressions)]
+    fn first_argument(&mut self, f: Builtin, e: &Expr) -> Result<Ask<Coded>, Memory>
+        requires suits { SuitsPlace S.state self.old }
+        requires withs { SeesWiths S.state self.old }
+        requires read { IsReadExpr (names_of self.old) (expr_view e.now) }
+        ensures keeps { Keeps self.old self.new }
+        ensures codes { Codes S.state self.old self.new result IsCoded coded_in (λ c. spec_first c (with_types self.old.withs.now) f (expr_view e.now)) }
+    {
+        let x = analysed!(self.expression(e));
+        self.first_of_two(f, e.at, x)
+    }
+
+    /// A standard procedure, whose first argument is there, with its second.
+    #[cycle(expressions)]
+    fn second_argument(&mut self, f: Builtin, first: Placed, e: &Expr) -> Result<Ask<Coded>, Memory>
+        requires suits { SuitsPlace S.state self.old }
+        requires withs { SeesWiths S.state self.old }
+        requires first { IsCoded (frame_of S.state self.old) (nodes_of self.old) first.coded }
+        requires read { IsReadExpr (names_of self.old) (expr_view e.now) }
+        ensures keeps { Keeps self.old self.new }
+        ensures codes { Codes S.state self.old self.new result IsCoded coded_in (λ c. spec_second c (with_types self.old.withs.now) f first.at (coded_in (nodes_of self.old) first.coded) (expr_view e.now)) }
+    {
+        let coded = analysed!(self.expression(e));
+        let second = Placed { at: e.at, coded };
+        self.of_two_arguments(f, first, second)
+    }
+
+    /// Arguments beside their parameters.
+    #[cycle(expressions)]
+    fn passed(
+        &mut self,
+        params: &[Parameter],
+        args: &[Expr],
+    ) -> Result<Ask<Option<Fragment>>, Memory>
+        requires suits { SuitsPlace S.state self.old }
+        requires withs { SeesWiths S.state self.old }
+        requires params { Each (λ p. IsThere (frame_of S.state self.old) p.of) params.now }
+        requires read { AreReadExprs (names_of self.old) (exprs (map expr_view args.now)) }
+        ensures keeps { Keeps self.old self.new }
+        ensures codes { Codes S.state self.old self.new result IsArgument argument_in (λ c. spec_passed c (with_types self.old.withs.now) (map parameter_view params.now) (exprs (map expr_view args.now))) }
+    {
+        let mut left = params;
+        let mut code = Some(Fragment::Nothing);
+        for e in args.iter() {
+            code = analysed!(self.next_passed(left, code, e));
+            left = behind_first(left);
+        }
+        Ok(Ask::Known(all_passed(left, code)))
+    }
+
+    /// The code of the arguments so far and of a further one, beside the first of these parameters.
+    #[cycle(expressions)]
+    fn next_passed(
+        &mut self,
+        params: &[Parameter],
+        code: Option<Fragment>,
+        e: &Expr,
+    ) -> Result<Ask<Option<Fragment>>, Memory>
+        requires suits { SuitsPlace S.state self.old }
+        requires withs { SeesWiths S.state self.old }
+        requires params { Each (λ p. IsThere (frame_of S.state self.old) p.of) params.now }
+        requires code { IsArgument (frame_of S.state self.old) (nodes_of self.old) code }
+        requires read { IsReadExpr (names_of self.old) (expr_view e.now) }
+        ensures keeps { Keeps self.old self.new }
+        ensures codes { Codes S.state self.old self.new result IsArgument argument_in (λ c. spec_next c (with_types self.old.withs.now) (map parameter_view params.now) (argument_in (nodes_of self.old) code) (expr_view e.now)) }
+    {
+        match params.first() {
+            None => Ok(Ask::Known(None)),
+            Some(p) => {
+                let x = analysed!(self.expression(e));
+                let more = analysed!(self.argument(*p, e.at, x));
+                joined(code, more, self.fragments)
+            }
+        }
+    }
+
+    /// A procedure with these arguments.
+    #[cycle(expressions)]
+    fn procedure(&mut self, callee: &Callee, args: &[Expr]) -> Result<Ask<Coded>, Memory>
+        requires suits { SuitsPlace S.state self.old }
+        requires withs { SeesWiths S.state self.old }
+        requires callee { IsCallee (frame_of S.state self.old) (nodes_of self.old) callee.now }
+        requires read { AreReadExprs (names_of self.old) (exprs (map expr_view args.now)) }
+        ensures keeps { Keeps self.old self.new }
+        ensures codes { Codes S.state self.old self.new result IsCoded coded_in (λ c. spec_procedure c (with_types self.old.withs.now) (map parameter_view callee.now.params.items) (part (nodes_of self.old) callee.now.before) callee.now.instr callee.now.result callee.now.more (exprs (map expr_view args.now))) }
+    {
+        let params = &callee.params;
+        let codes = analysed!(self.passed(params, args));
+        self.call_coded(callee, codes)
+    }
+
+    /// A procedure that the module lacks, with these arguments: it is in error.
+    #[cycle(expressions)]
+    fn lacking(&mut self, params: &[Parameter], args: &[Expr]) -> Result<Ask<Coded>, Memory>
+        requires suits { SuitsPlace S.state self.old }
+        requires withs { SeesWiths S.state self.old }
+        requires params { Each (λ p. IsThere (frame_of S.state self.old) p.of) params.now }
+        requires read { AreReadExprs (names_of self.old) (exprs (map expr_view args.now)) }
+        ensures keeps { Keeps self.old self.new }
+        ensures codes { Codes S.state self.old self.new result IsCoded coded_in (λ c. spec_lacking c (with_types self.old.withs.now) (map parameter_view params.now) (exprs (map expr_view args.now))) }
+    {
+        let _codes = analysed!(self.passed(params, args));
+        Ok(Ask::Known(Coded::in_error()))
+    }
+
+    /// What is called, with these arguments.
+    #[cycle(expressions)]
+    fn called_as(&mut self, what: &Callable, args: &[Expr]) -> Result<Ask<Coded>, Memory>
+        requires suits { SuitsPlace S.state self.old }
+        requires withs { SeesWiths S.state self.old }
+        requires what { IsCallable (frame_of S.state self.old) (nodes_of self.old) what.now }
+        requires read { AreReadExprs (names_of self.old) (exprs (map expr_view args.now)) }
+        ensures keeps { Keeps self.old self.new }
+        ensures codes { Codes S.state self.old self.new result IsCoded coded_in (λ c. spec_called_as c (with_types self.old.withs.now) (exprs (map expr_view args.now)) (called_in (nodes_of self.old) what.now)) }
+    {
+        match what {
+            Callable::Standard(f) => self.standard(*f, args),
+            Callable::Procedure(callee) => self.procedure(callee, args),
+            Callable::Lacking(params) => self.lacking(params, args),
+            Callable::Nothing => self.looked_at(args),
+        }
+    }
+
+    /// Something with these arguments. `is_wanted` tells whether the call stands where a value is wanted; `at` is the first token.
+    #[cycle(expressions)]
+    fn called_with(
+        &mut self,
+        is_wanted: bool,
+        to: Placed,
+        args: &[Expr],
+    ) -> Result<Ask<Coded>, Memory>
+        requires suits { SuitsPlace S.state self.old }
+        requires withs { SeesWiths S.state self.old }
+        requires to { IsCoded (frame_of S.state self.old) (nodes_of self.old) to.coded }
+        requires read { AreReadExprs (names_of self.old) (exprs (map expr_view args.now)) }
+        ensures keeps { Keeps self.old self.new }
+        ensures codes { Codes S.state self.old self.new result IsCoded coded_in (λ c. spec_called_with c (with_types self.old.withs.now) is_wanted to.at (coded_in (nodes_of self.old) to.coded) (exprs (map expr_view args.now))) }
+    {
+        let count = args.len();
+        let what = analysed!(self.called(is_wanted, to.at, count, to.coded));
+        self.called_as(&what, args)
+    }
+
+    /// What a designator stands for within the open WITHs: its name, and then what each selector selects of that. The code
+    /// of a variable leaves its address, all else has none. It waits for names and types.
+    #[cycle(expressions)]
+    pub fn designated(&mut self, of: &Designator) -> Result<Ask<Coded>, Memory>
+        requires suits { SuitsPlace S.state self.old }
+        requires withs { SeesWiths S.state self.old }
+        requires read { IsReadDesignator (names_of self.old) (designator_view of.now) }
+        ensures keeps { Keeps self.old self.new }
+        ensures codes { Codes S.state self.old self.new result IsCoded coded_in (λ c. spec_designated c (with_types self.old.withs.now) (designator_view of.now)) }
+    {
+        let x = analysed!(self.name_coded(of.first));
+        self.selected(of.first.at, x, &of.rest)
+    }
+
+    /// What the selectors select, one after another.
+    #[cycle(expressions)]
+    fn selected(&mut self, first: u32, x: Coded, rest: &[Selector]) -> Result<Ask<Coded>, Memory>
+        requires suits { SuitsPlace S.state self.old }
+        requires withs { SeesWiths S.state self.old }
+        requires x { IsCoded (frame_of S.state self.old) (nodes_of self.old) x }
+        requires read { AreReadSelectors (names_of self.old) (selectors (map selector_view rest.now)) }
+        ensures keeps { Keeps self.old self.new }
+        ensures codes { Codes S.state self.old self.new result IsCoded coded_in (λ c. spec_selected c (with_types self.old.withs.now) first (coded_in (nodes_of self.old) x) (selectors (map selector_view rest.now))) }
+    {
+        let mut y = x;
+        for selector in rest.iter() {
+            y = analysed!(self.select(first, y, selector));
+        }
+        Ok(Ask::Known(y))
+    }
+
+    /// What a selector selects.
+    #[cycle(expressions)]
+    fn select(&mut self, first: u32, x: Coded, selector: &Selector) -> Result<Ask<Coded>, Memory>
+        requires suits { SuitsPlace S.state self.old }
+        requires withs { SeesWiths S.state self.old }
+        requires x { IsCoded (frame_of S.state self.old) (nodes_of self.old) x }
+        requires read { IsReadSelector (names_of self.old) (selector_view selector.now) }
+        ensures keeps { Keeps self.old self.new }
+        ensures codes { Codes S.state self.old self.new result IsCoded coded_in (λ c. spec_selector c (with_types self.old.withs.now) first (coded_in (nodes_of self.old) x) (selector_view selector.now)) }
+    {
+        match selector {
+            Selector::Field(ident, at) => self.select_field(first, *at, *ident, x),
+            Selector::Index(es, at) => self.indexed(first, *at, x, es),
+            Selector::Deref(at) => self.select_target(first, *at, x),
+        }
+    }
+
+    /// The indices between one pair of brackets, that of the outermost array first.
+    #[cycle(expressions)]
+    fn indexed(&mut self, first: u32, at: u32, x: Coded, es: &[Expr]) -> Result<Ask<Coded>, Memory>
+        requires suits { SuitsPlace S.state self.old }
+        requires withs { SeesWiths S.state self.old }
+        requires x { IsCoded (frame_of S.state self.old) (nodes_of self.old) x }
+        requires read { AreReadExprs (names_of self.old) (exprs (map expr_view es.now)) }
+        ensures keeps { Keeps self.old self.new }
+        ensures codes { Codes S.state self.old self.new result IsCoded coded_in (λ c. spec_indexed c (with_types self.old.withs.now) first at (coded_in (nodes_of self.old) x) (exprs (map expr_view es.now))) }
+    {
+        let mut y = x;
+        for e in es.iter() {
+            y = analysed!(self.index(first, at, y, e));
+        }
+        Ok(Ask::Known(y))
+    }
+
+    /// What one index selects.
+    #[cycle(expressions)]
+    fn index(&mut self, first: u32, at: u32, x: Coded, e: &Expr) -> Result<Ask<Coded>, Memory>
+        requires suits { SuitsPlace S.state self.old }
+        requires withs { SeesWiths S.state self.old }
+        requires x { IsCoded (frame_of S.state self.old) (nodes_of self.old) x }
+        requires read { IsReadExpr (names_of self.old) (expr_view e.now) }
+        ensures keeps { Keeps self.old self.new }
+        ensures codes { Codes S.state self.old self.new result IsCoded coded_in (λ c. spec_index c (with_types self.old.withs.now) first at (coded_in (nodes_of self.old) x) (expr_view e.now)) }
+    {
+        let coded = analysed!(self.value_of(e));
+        let index = Placed { at: e.at, coded };
+        self.select_element(first, at, index, x)
+    }
+
+    /// A call that stands as a statement: its code computes the arguments, calls, and leaves the stack as it was. What
+    /// gives a value, or takes another number of arguments, is refused at its first token. It waits for names and types.
+    pub fn call_alone(&mut self, to: &Designator, args: &[Expr]) -> Result<Ask<Coded>, Memory>
+        requires suits { SuitsPlace S.state self.old }
+        requires withs { SeesWiths S.state self.old }
+        requires to { IsReadDesignator (names_of self.old) (designator_view to.now) }
+        requires args { AreReadExprs (names_of self.old) (exprs (map expr_view args.now)) }
+        ensures keeps { Keeps self.old self.new }
+        ensures codes { Codes S.state self.old self.new result IsCoded coded_in (λ c. spec_alone c (with_types self.old.withs.now) (designator_view to.now) (exprs (map expr_view args.now))) }
+    {
+        let coded = analysed!(self.designated(to));
+        let target = Placed {
+            at: to.first.at,
+            coded,
+        };
+        self.called_with(false, target, args)
     }
 }
 
 /// What an expression stands for where a value is wanted; a type alone, say, is refused at its first token. The code is
 /// the operand's own, of a variable its address: `value_code` goes on from there. It waits for names and types.
-#[cycle(expressions)]
 pub fn value_of<S: Scopes>(
     scopes: &mut S,
     site: &Site,
@@ -104,456 +539,18 @@ pub fn value_of<S: Scopes>(
     requires read { IsReadExpr site.now.texts.now.names (expr_view e.now) }
     ensures { Coding (S.state scopes.old) (S.state scopes.new) notes.old notes.new fragments.old.nodes.items fragments.new.nodes.items site.now result IsCoded coded_in (λ c. spec_value c (with_types withs.now) (expr_view e.now)) }
 {
-    let x = analysed!(expression(scopes, site, withs, e, fragments, notes));
-    as_value(site, e.at, x, notes)
-}
-
-/// The operators that follow an operand, from the left.
-#[cycle(expressions)]
-fn continued<S: Scopes>(
-    scopes: &mut S,
-    site: &Site,
-    withs: &[With],
-    left: Placed,
-    rest: &[Next],
-    fragments: &mut Fragments,
-    notes: &mut Notes,
-) -> Result<Ask<Coded>, Memory>
-    requires suits { SuitsSite (S.state scopes.old).frame site.now }
-    requires withs { Each (λ w. IsThere (S.state scopes.old).frame w.of) withs.now }
-    requires left { IsCoded (S.state scopes.old).frame fragments.old.nodes.items left.coded }
-    requires read { AreReadNexts site.now.texts.now.names (nexts (map next_view rest.now)) }
-    ensures { Coding (S.state scopes.old) (S.state scopes.new) notes.old notes.new fragments.old.nodes.items fragments.new.nodes.items site.now result IsCoded coded_in (λ c. spec_continued c (with_types withs.now) left.at (coded_in fragments.old.nodes.items left.coded) (nexts (map next_view rest.now))) }
-{
-    let mut x = left.coded;
-    for next in rest.iter() {
-        let before = Placed {
-            at: left.at,
-            coded: x,
-        };
-        x = analysed!(followed(scopes, site, withs, before, next, fragments, notes));
-    }
-    Ok(Ask::Known(x))
-}
-
-/// An operator and the operand behind it, after the operand before it.
-#[cycle(expressions)]
-fn followed<S: Scopes>(
-    scopes: &mut S,
-    site: &Site,
-    withs: &[With],
-    left: Placed,
-    next: &Next,
-    fragments: &mut Fragments,
-    notes: &mut Notes,
-) -> Result<Ask<Coded>, Memory>
-    requires suits { SuitsSite (S.state scopes.old).frame site.now }
-    requires withs { Each (λ w. IsThere (S.state scopes.old).frame w.of) withs.now }
-    requires left { IsCoded (S.state scopes.old).frame fragments.old.nodes.items left.coded }
-    requires read { IsReadNext site.now.texts.now.names (next_view next.now) }
-    ensures { Coding (S.state scopes.old) (S.state scopes.new) notes.old notes.new fragments.old.nodes.items fragments.new.nodes.items site.now result IsCoded coded_in (λ c. spec_followed c (with_types withs.now) left.at (coded_in fragments.old.nodes.items left.coded) (next_view next.now)) }
-{
-    let coded = analysed!(value_of(scopes, site, withs, &next.right, fragments, notes));
-    let right = Placed {
-        at: next.right.at,
-        coded,
+    let mut coder = Coder {
+        scopes,
+        site,
+        withs,
+        fragments,
+        notes,
     };
-    two_coded(
-        scopes, site, next.op, next.op_at, left, right, fragments, notes,
-    )
-}
-
-/// The type before the brackets of a set.
-#[cycle(expressions)]
-fn set_type<S: Scopes>(
-    scopes: &mut S,
-    site: &Site,
-    withs: &[With],
-    of: &Designator,
-    fragments: &mut Fragments,
-    notes: &mut Notes,
-) -> Result<Ask<Place>, Memory>
-    requires suits { SuitsSite (S.state scopes.old).frame site.now }
-    requires withs { Each (λ w. IsThere (S.state scopes.old).frame w.of) withs.now }
-    requires read { IsReadDesignator site.now.texts.now.names (designator_view of.now) }
-    ensures { Coding (S.state scopes.old) (S.state scopes.new) notes.old notes.new fragments.old.nodes.items fragments.new.nodes.items site.now result IsPlace place_in (λ c. spec_type c (with_types withs.now) (designator_view of.now)) }
-{
-    let x = analysed!(designated(scopes, site, withs, of, fragments, notes));
-    type_noted(scopes, site, of.first.at, x.operand, notes)
-}
-
-/// A set of this type with these elements.
-#[cycle(expressions)]
-fn set_of<S: Scopes>(
-    scopes: &mut S,
-    site: &Site,
-    withs: &[With],
-    of: Place,
-    items: &[Label],
-    fragments: &mut Fragments,
-    notes: &mut Notes,
-) -> Result<Ask<Coded>, Memory>
-    requires suits { SuitsSite (S.state scopes.old).frame site.now }
-    requires withs { Each (λ w. IsThere (S.state scopes.old).frame w.of) withs.now }
-    requires of { IsThere (S.state scopes.old).frame of }
-    requires read { AreReadLabels site.now.texts.now.names (labels (map label_view items.now)) }
-    ensures { Coding (S.state scopes.old) (S.state scopes.new) notes.old notes.new fragments.old.nodes.items fragments.new.nodes.items site.now result IsCoded coded_in (λ c. spec_set c (with_types withs.now) of (labels (map label_view items.now))) }
-{
-    let (base, none) = match set_start(scopes, site, of) {
-        Ask::Known(start) => start,
-        Ask::DontKnowYet(head) => return Ok(Ask::DontKnowYet(head)),
-    };
-    let es = analysed!(elements(scopes, site, withs, base, none, items, fragments, notes));
-    set_coded(of, es, fragments)
-}
-
-/// The elements of a set, after those that came before.
-#[cycle(expressions)]
-fn elements<S: Scopes>(
-    scopes: &mut S,
-    site: &Site,
-    withs: &[With],
-    base: Place,
-    es: Elements,
-    items: &[Label],
-    fragments: &mut Fragments,
-    notes: &mut Notes,
-) -> Result<Ask<Elements>, Memory>
-    requires suits { SuitsSite (S.state scopes.old).frame site.now }
-    requires withs { Each (λ w. IsThere (S.state scopes.old).frame w.of) withs.now }
-    requires base { IsThere (S.state scopes.old).frame base }
-    requires es { AreElements (S.state scopes.old).frame fragments.old.nodes.items es }
-    requires read { AreReadLabels site.now.texts.now.names (labels (map label_view items.now)) }
-    ensures { Coding (S.state scopes.old) (S.state scopes.new) notes.old notes.new fragments.old.nodes.items fragments.new.nodes.items site.now result AreElements elements_in (λ c. spec_elements c (with_types withs.now) base (elements_in fragments.old.nodes.items es) (labels (map label_view items.now))) }
-{
-    let mut made = es;
-    for label in items.iter() {
-        made = analysed!(element(scopes, site, withs, base, made, label, fragments, notes));
-    }
-    Ok(Ask::Known(made))
-}
-
-/// One further element, or those of a range.
-#[cycle(expressions)]
-fn element<S: Scopes>(
-    scopes: &mut S,
-    site: &Site,
-    withs: &[With],
-    base: Place,
-    es: Elements,
-    label: &Label,
-    fragments: &mut Fragments,
-    notes: &mut Notes,
-) -> Result<Ask<Elements>, Memory>
-    requires suits { SuitsSite (S.state scopes.old).frame site.now }
-    requires withs { Each (λ w. IsThere (S.state scopes.old).frame w.of) withs.now }
-    requires base { IsThere (S.state scopes.old).frame base }
-    requires es { AreElements (S.state scopes.old).frame fragments.old.nodes.items es }
-    requires read { IsReadLabel site.now.texts.now.names (label_view label.now) }
-    ensures { Coding (S.state scopes.old) (S.state scopes.new) notes.old notes.new fragments.old.nodes.items fragments.new.nodes.items site.now result AreElements elements_in (λ c. spec_element c (with_types withs.now) base (elements_in fragments.old.nodes.items es) (label_view label.now)) }
-{
-    let low = analysed!(member(scopes, site, withs, base, &label.low, fragments, notes));
-    match &label.high {
-        None => add_element(scopes, site, es, low, fragments),
-        Some(high) => range_to(scopes, site, withs, base, es, low, high, fragments, notes),
-    }
-}
-
-/// The elements from a low one to this.
-#[cycle(expressions)]
-fn range_to<S: Scopes>(
-    scopes: &mut S,
-    site: &Site,
-    withs: &[With],
-    base: Place,
-    es: Elements,
-    low: Coded,
-    high: &Expr,
-    fragments: &mut Fragments,
-    notes: &mut Notes,
-) -> Result<Ask<Elements>, Memory>
-    requires suits { SuitsSite (S.state scopes.old).frame site.now }
-    requires withs { Each (λ w. IsThere (S.state scopes.old).frame w.of) withs.now }
-    requires base { IsThere (S.state scopes.old).frame base }
-    requires es { AreElements (S.state scopes.old).frame fragments.old.nodes.items es }
-    requires low { IsCoded (S.state scopes.old).frame fragments.old.nodes.items low }
-    requires read { IsReadExpr site.now.texts.now.names (expr_view high.now) }
-    ensures { Coding (S.state scopes.old) (S.state scopes.new) notes.old notes.new fragments.old.nodes.items fragments.new.nodes.items site.now result AreElements elements_in (λ c. spec_range c (with_types withs.now) base (elements_in fragments.old.nodes.items es) (coded_in fragments.old.nodes.items low) (expr_view high.now)) }
-{
-    let high = analysed!(member(scopes, site, withs, base, high, fragments, notes));
-    add_range(scopes, site, es, low, high, fragments)
-}
-
-/// An expression as it is taken into a set.
-#[cycle(expressions)]
-fn member<S: Scopes>(
-    scopes: &mut S,
-    site: &Site,
-    withs: &[With],
-    base: Place,
-    e: &Expr,
-    fragments: &mut Fragments,
-    notes: &mut Notes,
-) -> Result<Ask<Coded>, Memory>
-    requires suits { SuitsSite (S.state scopes.old).frame site.now }
-    requires withs { Each (λ w. IsThere (S.state scopes.old).frame w.of) withs.now }
-    requires base { IsThere (S.state scopes.old).frame base }
-    requires read { IsReadExpr site.now.texts.now.names (expr_view e.now) }
-    ensures { Coding (S.state scopes.old) (S.state scopes.new) notes.old notes.new fragments.old.nodes.items fragments.new.nodes.items site.now result IsCoded coded_in (λ c. spec_member c (with_types withs.now) base (expr_view e.now)) }
-{
-    let x = analysed!(value_of(scopes, site, withs, e, fragments, notes));
-    element_coded(scopes, site, base, e.at, x, notes)
-}
-
-/// Arguments of what isn't called, for their own diagnostics.
-#[cycle(expressions)]
-fn looked_at<S: Scopes>(
-    scopes: &mut S,
-    site: &Site,
-    withs: &[With],
-    args: &[Expr],
-    fragments: &mut Fragments,
-    notes: &mut Notes,
-) -> Result<Ask<Coded>, Memory>
-    requires suits { SuitsSite (S.state scopes.old).frame site.now }
-    requires withs { Each (λ w. IsThere (S.state scopes.old).frame w.of) withs.now }
-    requires read { AreReadExprs site.now.texts.now.names (exprs (map expr_view args.now)) }
-    ensures { Coding (S.state scopes.old) (S.state scopes.new) notes.old notes.new fragments.old.nodes.items fragments.new.nodes.items site.now result IsCoded coded_in (λ c. spec_looked c (with_types withs.now) (exprs (map expr_view args.now))) }
-{
-    for e in args.iter() {
-        let _looked = analysed!(expression(scopes, site, withs, e, fragments, notes));
-    }
-    Ok(Ask::Known(Coded::in_error()))
-}
-
-/// A standard procedure with as many arguments as it takes.
-#[cycle(expressions)]
-fn standard<S: Scopes>(
-    scopes: &mut S,
-    site: &Site,
-    withs: &[With],
-    f: Builtin,
-    args: &[Expr],
-    fragments: &mut Fragments,
-    notes: &mut Notes,
-) -> Result<Ask<Coded>, Memory>
-    requires suits { SuitsSite (S.state scopes.old).frame site.now }
-    requires withs { Each (λ w. IsThere (S.state scopes.old).frame w.of) withs.now }
-    requires read { AreReadExprs site.now.texts.now.names (exprs (map expr_view args.now)) }
-    ensures { Coding (S.state scopes.old) (S.state scopes.new) notes.old notes.new fragments.old.nodes.items fragments.new.nodes.items site.now result IsCoded coded_in (λ c. spec_standard c (with_types withs.now) f (exprs (map expr_view args.now))) }
-{
-    match args {
-        [] => of_no_argument(f, fragments),
-        [e] => {
-            let x = analysed!(expression(scopes, site, withs, e, fragments, notes));
-            of_one_argument(scopes, site, f, e.at, x, fragments, notes)
-        }
-        [e, other, ..] => {
-            let coded = analysed!(first_argument(scopes, site, withs, f, e, fragments, notes));
-            let first = Placed { at: e.at, coded };
-            second_argument(scopes, site, withs, f, first, other, fragments, notes)
-        }
-    }
-}
-
-/// The first of two arguments of a standard procedure.
-#[cycle(expressions)]
-fn first_argument<S: Scopes>(
-    scopes: &mut S,
-    site: &Site,
-    withs: &[With],
-    f: Builtin,
-    e: &Expr,
-    fragments: &mut Fragments,
-    notes: &mut Notes,
-) -> Result<Ask<Coded>, Memory>
-    requires suits { SuitsSite (S.state scopes.old).frame site.now }
-    requires withs { Each (λ w. IsThere (S.state scopes.old).frame w.of) withs.now }
-    requires read { IsReadExpr site.now.texts.now.names (expr_view e.now) }
-    ensures { Coding (S.state scopes.old) (S.state scopes.new) notes.old notes.new fragments.old.nodes.items fragments.new.nodes.items site.now result IsCoded coded_in (λ c. spec_first c (with_types withs.now) f (expr_view e.now)) }
-{
-    let x = analysed!(expression(scopes, site, withs, e, fragments, notes));
-    first_of_two(scopes, site, f, e.at, x, fragments, notes)
-}
-
-/// A standard procedure, whose first argument is there, with its second.
-#[cycle(expressions)]
-fn second_argument<S: Scopes>(
-    scopes: &mut S,
-    site: &Site,
-    withs: &[With],
-    f: Builtin,
-    first: Placed,
-    e: &Expr,
-    fragments: &mut Fragments,
-    notes: &mut Notes,
-) -> Result<Ask<Coded>, Memory>
-    requires suits { SuitsSite (S.state scopes.old).frame site.now }
-    requires withs { Each (λ w. IsThere (S.state scopes.old).frame w.of) withs.now }
-    requires first { IsCoded (S.state scopes.old).frame fragments.old.nodes.items first.coded }
-    requires read { IsReadExpr site.now.texts.now.names (expr_view e.now) }
-    ensures { Coding (S.state scopes.old) (S.state scopes.new) notes.old notes.new fragments.old.nodes.items fragments.new.nodes.items site.now result IsCoded coded_in (λ c. spec_second c (with_types withs.now) f first.at (coded_in fragments.old.nodes.items first.coded) (expr_view e.now)) }
-{
-    let coded = analysed!(expression(scopes, site, withs, e, fragments, notes));
-    let second = Placed { at: e.at, coded };
-    of_two_arguments(scopes, site, f, first, second, fragments, notes)
-}
-
-/// Arguments beside their parameters.
-#[cycle(expressions)]
-fn passed<S: Scopes>(
-    scopes: &mut S,
-    site: &Site,
-    withs: &[With],
-    params: &[Parameter],
-    args: &[Expr],
-    fragments: &mut Fragments,
-    notes: &mut Notes,
-) -> Result<Ask<Option<Fragment>>, Memory>
-    requires suits { SuitsSite (S.state scopes.old).frame site.now }
-    requires withs { Each (λ w. IsThere (S.state scopes.old).frame w.of) withs.now }
-    requires params { Each (λ p. IsThere (S.state scopes.old).frame p.of) params.now }
-    requires read { AreReadExprs site.now.texts.now.names (exprs (map expr_view args.now)) }
-    ensures { Coding (S.state scopes.old) (S.state scopes.new) notes.old notes.new fragments.old.nodes.items fragments.new.nodes.items site.now result IsArgument argument_in (λ c. spec_passed c (with_types withs.now) (map parameter_view params.now) (exprs (map expr_view args.now))) }
-{
-    let mut left = params;
-    let mut code = Some(Fragment::Nothing);
-    for e in args.iter() {
-        code = analysed!(next_passed(scopes, site, withs, left, code, e, fragments, notes));
-        left = behind_first(left);
-    }
-    Ok(Ask::Known(all_passed(left, code)))
-}
-
-/// The code of the arguments so far and of a further one, beside the first of these parameters.
-#[cycle(expressions)]
-fn next_passed<S: Scopes>(
-    scopes: &mut S,
-    site: &Site,
-    withs: &[With],
-    params: &[Parameter],
-    code: Option<Fragment>,
-    e: &Expr,
-    fragments: &mut Fragments,
-    notes: &mut Notes,
-) -> Result<Ask<Option<Fragment>>, Memory>
-    requires suits { SuitsSite (S.state scopes.old).frame site.now }
-    requires withs { Each (λ w. IsThere (S.state scopes.old).frame w.of) withs.now }
-    requires params { Each (λ p. IsThere (S.state scopes.old).frame p.of) params.now }
-    requires code { IsArgument (S.state scopes.old).frame fragments.old.nodes.items code }
-    requires read { IsReadExpr site.now.texts.now.names (expr_view e.now) }
-    ensures { Coding (S.state scopes.old) (S.state scopes.new) notes.old notes.new fragments.old.nodes.items fragments.new.nodes.items site.now result IsArgument argument_in (λ c. spec_next c (with_types withs.now) (map parameter_view params.now) (argument_in fragments.old.nodes.items code) (expr_view e.now)) }
-{
-    match params.first() {
-        None => Ok(Ask::Known(None)),
-        Some(p) => {
-            let x = analysed!(expression(scopes, site, withs, e, fragments, notes));
-            let more = analysed!(argument(scopes, site, *p, e.at, x, fragments, notes));
-            joined(code, more, fragments)
-        }
-    }
-}
-
-/// A procedure with these arguments.
-#[cycle(expressions)]
-fn procedure<S: Scopes>(
-    scopes: &mut S,
-    site: &Site,
-    withs: &[With],
-    callee: &Callee,
-    args: &[Expr],
-    fragments: &mut Fragments,
-    notes: &mut Notes,
-) -> Result<Ask<Coded>, Memory>
-    requires suits { SuitsSite (S.state scopes.old).frame site.now }
-    requires withs { Each (λ w. IsThere (S.state scopes.old).frame w.of) withs.now }
-    requires callee { IsCallee (S.state scopes.old).frame fragments.old.nodes.items callee.now }
-    requires read { AreReadExprs site.now.texts.now.names (exprs (map expr_view args.now)) }
-    ensures { Coding (S.state scopes.old) (S.state scopes.new) notes.old notes.new fragments.old.nodes.items fragments.new.nodes.items site.now result IsCoded coded_in (λ c. spec_procedure c (with_types withs.now) (map parameter_view callee.now.params.items) (part fragments.old.nodes.items callee.now.before) callee.now.instr callee.now.result callee.now.more (exprs (map expr_view args.now))) }
-{
-    let params = &callee.params;
-    let codes = analysed!(passed(scopes, site, withs, params, args, fragments, notes));
-    call_coded(scopes, site, callee, codes, fragments)
-}
-
-/// A procedure that the module lacks, with these arguments: it is in error.
-#[cycle(expressions)]
-fn lacking<S: Scopes>(
-    scopes: &mut S,
-    site: &Site,
-    withs: &[With],
-    params: &[Parameter],
-    args: &[Expr],
-    fragments: &mut Fragments,
-    notes: &mut Notes,
-) -> Result<Ask<Coded>, Memory>
-    requires suits { SuitsSite (S.state scopes.old).frame site.now }
-    requires withs { Each (λ w. IsThere (S.state scopes.old).frame w.of) withs.now }
-    requires params { Each (λ p. IsThere (S.state scopes.old).frame p.of) params.now }
-    requires read { AreReadExprs site.now.texts.now.names (exprs (map expr_view args.now)) }
-    ensures { Coding (S.state scopes.old) (S.state scopes.new) notes.old notes.new fragments.old.nodes.items fragments.new.nodes.items site.now result IsCoded coded_in (λ c. spec_lacking c (with_types withs.now) (map parameter_view params.now) (exprs (map expr_view args.now))) }
-{
-    let _codes = analysed!(passed(scopes, site, withs, params, args, fragments, notes));
-    Ok(Ask::Known(Coded::in_error()))
-}
-
-/// What is called, with these arguments.
-#[cycle(expressions)]
-fn called_as<S: Scopes>(
-    scopes: &mut S,
-    site: &Site,
-    withs: &[With],
-    what: &Callable,
-    args: &[Expr],
-    fragments: &mut Fragments,
-    notes: &mut Notes,
-) -> Result<Ask<Coded>, Memory>
-    requires suits { SuitsSite (S.state scopes.old).frame site.now }
-    requires withs { Each (λ w. IsThere (S.state scopes.old).frame w.of) withs.now }
-    requires what { IsCallable (S.state scopes.old).frame fragments.old.nodes.items what.now }
-    requires read { AreReadExprs site.now.texts.now.names (exprs (map expr_view args.now)) }
-    ensures { Coding (S.state scopes.old) (S.state scopes.new) notes.old notes.new fragments.old.nodes.items fragments.new.nodes.items site.now result IsCoded coded_in (λ c. spec_called_as c (with_types withs.now) (exprs (map expr_view args.now)) (called_in fragments.old.nodes.items what.now)) }
-{
-    match what {
-        Callable::Standard(f) => standard(scopes, site, withs, *f, args, fragments, notes),
-        Callable::Procedure(callee) => {
-            procedure(scopes, site, withs, callee, args, fragments, notes)
-        }
-        Callable::Lacking(params) => {
-            lacking(scopes, site, withs, params, args, fragments, notes)
-        }
-        Callable::Nothing => looked_at(scopes, site, withs, args, fragments, notes),
-    }
-}
-
-/// Something with these arguments. `is_wanted` tells whether the call stands where a value is wanted; `at` is the first token.
-#[cycle(expressions)]
-fn called_with<S: Scopes>(
-    scopes: &mut S,
-    site: &Site,
-    withs: &[With],
-    is_wanted: bool,
-    to: Placed,
-    args: &[Expr],
-    fragments: &mut Fragments,
-    notes: &mut Notes,
-) -> Result<Ask<Coded>, Memory>
-    requires suits { SuitsSite (S.state scopes.old).frame site.now }
-    requires withs { Each (λ w. IsThere (S.state scopes.old).frame w.of) withs.now }
-    requires to { IsCoded (S.state scopes.old).frame fragments.old.nodes.items to.coded }
-    requires read { AreReadExprs site.now.texts.now.names (exprs (map expr_view args.now)) }
-    ensures { Coding (S.state scopes.old) (S.state scopes.new) notes.old notes.new fragments.old.nodes.items fragments.new.nodes.items site.now result IsCoded coded_in (λ c. spec_called_with c (with_types withs.now) is_wanted to.at (coded_in fragments.old.nodes.items to.coded) (exprs (map expr_view args.now))) }
-{
-    let count = args.len();
-    let what = analysed!(called(
-        scopes, site, is_wanted, to.at, count, to.coded, fragments, notes
-    ));
-    called_as(scopes, site, withs, &what, args, fragments, notes)
+    coder.value_of(e)
 }
 
 /// What a designator stands for within the open WITHs: its name, and then what each selector selects of that. The code
 /// of a variable leaves its address, all else has none. It waits for names and types.
-#[cycle(expressions)]
 pub fn designated<S: Scopes>(
     scopes: &mut S,
     site: &Site,
@@ -567,121 +564,14 @@ pub fn designated<S: Scopes>(
     requires read { IsReadDesignator site.now.texts.now.names (designator_view of.now) }
     ensures { Coding (S.state scopes.old) (S.state scopes.new) notes.old notes.new fragments.old.nodes.items fragments.new.nodes.items site.now result IsCoded coded_in (λ c. spec_designated c (with_types withs.now) (designator_view of.now)) }
 {
-    let x = analysed!(name_coded(scopes, site, withs, of.first, fragments, notes));
-    selected(
+    let mut coder = Coder {
         scopes,
         site,
         withs,
-        of.first.at,
-        x,
-        &of.rest,
         fragments,
         notes,
-    )
-}
-
-/// What the selectors select, one after another.
-#[cycle(expressions)]
-fn selected<S: Scopes>(
-    scopes: &mut S,
-    site: &Site,
-    withs: &[With],
-    first: u32,
-    x: Coded,
-    rest: &[Selector],
-    fragments: &mut Fragments,
-    notes: &mut Notes,
-) -> Result<Ask<Coded>, Memory>
-    requires suits { SuitsSite (S.state scopes.old).frame site.now }
-    requires withs { Each (λ w. IsThere (S.state scopes.old).frame w.of) withs.now }
-    requires x { IsCoded (S.state scopes.old).frame fragments.old.nodes.items x }
-    requires read { AreReadSelectors site.now.texts.now.names (selectors (map selector_view rest.now)) }
-    ensures { Coding (S.state scopes.old) (S.state scopes.new) notes.old notes.new fragments.old.nodes.items fragments.new.nodes.items site.now result IsCoded coded_in (λ c. spec_selected c (with_types withs.now) first (coded_in fragments.old.nodes.items x) (selectors (map selector_view rest.now))) }
-{
-    let mut y = x;
-    for selector in rest.iter() {
-        y = analysed!(select(scopes, site, withs, first, y, selector, fragments, notes));
-    }
-    Ok(Ask::Known(y))
-}
-
-/// What a selector selects.
-#[cycle(expressions)]
-fn select<S: Scopes>(
-    scopes: &mut S,
-    site: &Site,
-    withs: &[With],
-    first: u32,
-    x: Coded,
-    selector: &Selector,
-    fragments: &mut Fragments,
-    notes: &mut Notes,
-) -> Result<Ask<Coded>, Memory>
-    requires suits { SuitsSite (S.state scopes.old).frame site.now }
-    requires withs { Each (λ w. IsThere (S.state scopes.old).frame w.of) withs.now }
-    requires x { IsCoded (S.state scopes.old).frame fragments.old.nodes.items x }
-    requires read { IsReadSelector site.now.texts.now.names (selector_view selector.now) }
-    ensures { Coding (S.state scopes.old) (S.state scopes.new) notes.old notes.new fragments.old.nodes.items fragments.new.nodes.items site.now result IsCoded coded_in (λ c. spec_selector c (with_types withs.now) first (coded_in fragments.old.nodes.items x) (selector_view selector.now)) }
-{
-    match selector {
-        Selector::Field(ident, at) => {
-            select_field(scopes, site, first, *at, *ident, x, fragments, notes)
-        }
-        Selector::Index(es, at) => indexed(
-            scopes, site, withs, first, *at, x, es, fragments, notes,
-        ),
-        Selector::Deref(at) => select_target(scopes, site, first, *at, x, fragments, notes),
-    }
-}
-
-/// The indices between one pair of brackets, that of the outermost array first.
-#[cycle(expressions)]
-fn indexed<S: Scopes>(
-    scopes: &mut S,
-    site: &Site,
-    withs: &[With],
-    first: u32,
-    at: u32,
-    x: Coded,
-    es: &[Expr],
-    fragments: &mut Fragments,
-    notes: &mut Notes,
-) -> Result<Ask<Coded>, Memory>
-    requires suits { SuitsSite (S.state scopes.old).frame site.now }
-    requires withs { Each (λ w. IsThere (S.state scopes.old).frame w.of) withs.now }
-    requires x { IsCoded (S.state scopes.old).frame fragments.old.nodes.items x }
-    requires read { AreReadExprs site.now.texts.now.names (exprs (map expr_view es.now)) }
-    ensures { Coding (S.state scopes.old) (S.state scopes.new) notes.old notes.new fragments.old.nodes.items fragments.new.nodes.items site.now result IsCoded coded_in (λ c. spec_indexed c (with_types withs.now) first at (coded_in fragments.old.nodes.items x) (exprs (map expr_view es.now))) }
-{
-    let mut y = x;
-    for e in es.iter() {
-        y = analysed!(index(scopes, site, withs, first, at, y, e, fragments, notes));
-    }
-    Ok(Ask::Known(y))
-}
-
-/// What one index selects.
-#[cycle(expressions)]
-fn index<S: Scopes>(
-    scopes: &mut S,
-    site: &Site,
-    withs: &[With],
-    first: u32,
-    at: u32,
-    x: Coded,
-    e: &Expr,
-    fragments: &mut Fragments,
-    notes: &mut Notes,
-) -> Result<Ask<Coded>, Memory>
-    requires suits { SuitsSite (S.state scopes.old).frame site.now }
-    requires withs { Each (λ w. IsThere (S.state scopes.old).frame w.of) withs.now }
-    requires x { IsCoded (S.state scopes.old).frame fragments.old.nodes.items x }
-    requires read { IsReadExpr site.now.texts.now.names (expr_view e.now) }
-    ensures { Coding (S.state scopes.old) (S.state scopes.new) notes.old notes.new fragments.old.nodes.items fragments.new.nodes.items site.now result IsCoded coded_in (λ c. spec_index c (with_types withs.now) first at (coded_in fragments.old.nodes.items x) (expr_view e.now)) }
-{
-    let coded = analysed!(value_of(scopes, site, withs, e, fragments, notes));
-    let index = Placed { at: e.at, coded };
-    select_element(scopes, site, first, at, index, x, fragments, notes)
+    };
+    coder.designated(of)
 }
 
 /// A call that stands as a statement: its code computes the arguments, calls, and leaves the stack as it was. What
@@ -701,10 +591,12 @@ pub fn call_alone<S: Scopes>(
     requires args { AreReadExprs site.now.texts.now.names (exprs (map expr_view args.now)) }
     ensures { Coding (S.state scopes.old) (S.state scopes.new) notes.old notes.new fragments.old.nodes.items fragments.new.nodes.items site.now result IsCoded coded_in (λ c. spec_alone c (with_types withs.now) (designator_view to.now) (exprs (map expr_view args.now))) }
 {
-    let coded = analysed!(designated(scopes, site, withs, to, fragments, notes));
-    let target = Placed {
-        at: to.first.at,
-        coded,
+    let mut coder = Coder {
+        scopes,
+        site,
+        withs,
+        fragments,
+        notes,
     };
-    called_with(scopes, site, withs, false, target, args, fragments, notes)
+    coder.call_alone(to, args)
 }

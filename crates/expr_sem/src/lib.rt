@@ -87,6 +87,7 @@ mod arguments;
 mod calls;
 mod chains;
 mod coded;
+mod coder;
 mod elements;
 mod evaluations;
 mod expressions;

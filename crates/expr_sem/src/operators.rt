@@ -8,6 +8,7 @@ ghost use Rattle.m2_base.specs.Statics.Operands.{char_or_same as spec_same, oper
 ghost use Rattle.m2_base.specs.Statics.Operations.{is_set_kind};
 ghost use Rattle.m2_base.specs.declared.notes.Notes.{Notes as NotesOf};
 ghost use Rattle.const_eval.specs.Sites.{IsNamed, IsOperand};
+ghost use Rattle.expr_sem.specs.Coders.{Codes, Keeps, SuitsPlace, frame_of, nodes_of};
 ghost use Rattle.expr_sem.specs.Coded.{value_code as spec_value, with_char as spec_char};
 ghost use Rattle.expr_sem.specs.Codings.{Coding, IsCoded, IsFragment, coded_in};
 ghost use Rattle.expr_sem.specs.Fragments.{IsIn, IsMade, jump_of, part};
@@ -21,6 +22,7 @@ ghost use Rattle.type_rules.specs.Sites.{SuitsSite, context_of};
 use crate::answers::answered;
 use crate::chains::applied;
 use crate::coded::{Coded, Placed};
+use crate::coder::Coder;
 use crate::fragments::{Connective, Fragment, Fragments};
 use crate::values::value_code;
 use code_form::Instr;
@@ -159,28 +161,30 @@ fn decide(
     fragments.then(x, skipped)
 }
 
-/// NOT, plus or minus, at the token `op_at`, before an operand: what const_eval's `applied_one` gives, and unless that
-/// is constant the operand's value and then `Not`, nothing, or `Neg`. It waits for the operand's type.
-pub fn one_coded<S: Scopes>(
-    scopes: &mut S,
-    site: &Site,
-    op: Operator,
-    op_at: u32,
-    x: Coded,
-    fragments: &mut Fragments,
-    notes: &mut Notes,
-) -> Result<Ask<Coded>, Memory>
-    requires suits { SuitsSite (S.state scopes.old).frame site.now }
-    requires x { IsCoded (S.state scopes.old).frame fragments.old.nodes.items x }
-    ensures { Coding (S.state scopes.old) (S.state scopes.new) notes.old notes.new fragments.old.nodes.items fragments.new.nodes.items site.now result IsCoded coded_in (λ c. spec_one c op op_at (coded_in fragments.old.nodes.items x)) }
-{
-    let given = analysed!(applied_one(scopes, site, op, op_at, x.operand, notes));
-    let Operand::Computed(_) = given else {
-        return Ok(Ask::Known(made(given, Fragment::Nothing)));
-    };
-    let value = analysed!(value_code(scopes, site, x, fragments));
-    let code = signed(fragments, op, value)?;
-    Ok(Ask::Known(made(given, code)))
+impl<S: Scopes> Coder<'_, '_, S> {
+    /// NOT, plus or minus, at the token `op_at`, before an operand: what const_eval's `applied_one` gives, and unless that
+    /// is constant the operand's value and then `Not`, nothing, or `Neg`. It waits for the operand's type.
+    pub fn one_coded(&mut self, op: Operator, op_at: u32, x: Coded) -> Result<Ask<Coded>, Memory>
+        requires suits { SuitsPlace S.state self.old }
+        requires x { IsCoded (frame_of S.state self.old) (nodes_of self.old) x }
+        ensures keeps { Keeps self.old self.new }
+        ensures codes { Codes S.state self.old self.new result IsCoded coded_in (λ c. spec_one c op op_at (coded_in (nodes_of self.old) x)) }
+    {
+        let given = analysed!(applied_one(
+            self.scopes,
+            self.site,
+            op,
+            op_at,
+            x.operand,
+            self.notes
+        ));
+        let Operand::Computed(_) = given else {
+            return Ok(Ask::Known(made(given, Fragment::Nothing)));
+        };
+        let value = analysed!(value_code(self.scopes, self.site, x, self.fragments));
+        let code = signed(self.fragments, op, value)?;
+        Ok(Ask::Known(made(given, code)))
+    }
 }
 
 /// A string of one character as a CHAR, anything else as it is.
@@ -209,32 +213,96 @@ fn char_value<S: Scopes>(
     value_code(scopes, site, x.taken(operand), fragments)
 }
 
-/// The code of an operator between two operands, by its result's type.
-fn operation_code<S: Scopes>(
+impl<S: Scopes> Coder<'_, '_, S> {
+    /// The code of an operator between two operands, by its result's type.
+    fn operation_code(
+        &mut self,
+        op: Operator,
+        of: Place,
+        x: Coded,
+        y: Coded,
+    ) -> Result<Ask<Fragment>, Memory>
+        requires suits { SuitsPlace S.state self.old }
+        requires of { IsThere (frame_of S.state self.old) of }
+        requires x { IsCoded (frame_of S.state self.old) (nodes_of self.old) x }
+        requires y { IsCoded (frame_of S.state self.old) (nodes_of self.old) y }
+        ensures keeps { Keeps self.old self.new }
+        ensures codes { Codes S.state self.old self.new result IsFragment part (λ c. gives (spec_operation c.scene op of (spec_type y.operand) (spec_value c (spec_char c (coded_in (nodes_of self.old) x))) (spec_value c (spec_char c (coded_in (nodes_of self.old) y))))) }
+    {
+        let left = analysed!(char_value(self.scopes, self.site, x, self.fragments));
+        let right = analysed!(char_value(self.scopes, self.site, y, self.fragments));
+        match op {
+            Operator::And => answered(decide(self.fragments, Connective::And, left, right)),
+            Operator::Or => answered(decide(self.fragments, Connective::Or, left, right)),
+            _ => {
+                let instr = asked!(instruction(
+                    self.scopes,
+                    self.site,
+                    op,
+                    of,
+                    operand_type(&y.operand)
+                ));
+                answered(applied(self.fragments, left, right, instr))
+            }
+        }
+    }
+
+    /// An operator, at the token `op_at`, between two operands: what const_eval's `operated` gives, and unless that is
+    /// constant the left value, the right one, and the instruction. By the report p OR q means "if p then TRUE, otherwise
+    /// q": there, and with AND, a jump skips the right value where the left one decides. It waits for both types.
+    pub fn two_coded(
+        &mut self,
+        op: Operator,
+        op_at: u32,
+        x: Placed,
+        y: Placed,
+    ) -> Result<Ask<Coded>, Memory>
+        requires suits { SuitsPlace S.state self.old }
+        requires x { IsCoded (frame_of S.state self.old) (nodes_of self.old) x.coded }
+        requires y { IsCoded (frame_of S.state self.old) (nodes_of self.old) y.coded }
+        ensures keeps { Keeps self.old self.new }
+        ensures codes { Codes S.state self.old self.new result IsCoded coded_in (λ c. spec_two c op op_at x.at (coded_in (nodes_of self.old) x.coded) y.at (coded_in (nodes_of self.old) y.coded)) }
+    {
+        let left = Argument {
+            at: x.at,
+            operand: x.coded.operand,
+        };
+        let right = Argument {
+            at: y.at,
+            operand: y.coded.operand,
+        };
+        let given = analysed!(operated(self.scopes, self.site, op, op_at, left, right, self.notes));
+        let Operand::Computed(of) = given else {
+            return Ok(Ask::Known(made(given, Fragment::Nothing)));
+        };
+        let code = analysed!(self.operation_code(op, of, x.coded, y.coded));
+        Ok(Ask::Known(made(given, code)))
+    }
+}
+
+/// NOT, plus or minus, at the token `op_at`, before an operand: what const_eval's `applied_one` gives, and unless that
+/// is constant the operand's value and then `Not`, nothing, or `Neg`. It waits for the operand's type.
+pub fn one_coded<S: Scopes>(
     scopes: &mut S,
     site: &Site,
     op: Operator,
-    of: Place,
+    op_at: u32,
     x: Coded,
-    y: Coded,
     fragments: &mut Fragments,
-) -> Result<Ask<Fragment>, Memory>
+    notes: &mut Notes,
+) -> Result<Ask<Coded>, Memory>
     requires suits { SuitsSite (S.state scopes.old).frame site.now }
-    requires of { IsThere (S.state scopes.old).frame of }
     requires x { IsCoded (S.state scopes.old).frame fragments.old.nodes.items x }
-    requires y { IsCoded (S.state scopes.old).frame fragments.old.nodes.items y }
-    ensures { (notes : NotesOf) → Coding (S.state scopes.old) (S.state scopes.new) notes notes fragments.old.nodes.items fragments.new.nodes.items site.now result IsFragment part (λ c. gives (spec_operation c.scene op of (spec_type y.operand) (spec_value c (spec_char c (coded_in fragments.old.nodes.items x))) (spec_value c (spec_char c (coded_in fragments.old.nodes.items y))))) }
+    ensures { Coding (S.state scopes.old) (S.state scopes.new) notes.old notes.new fragments.old.nodes.items fragments.new.nodes.items site.now result IsCoded coded_in (λ c. spec_one c op op_at (coded_in fragments.old.nodes.items x)) }
 {
-    let left = analysed!(char_value(scopes, site, x, fragments));
-    let right = analysed!(char_value(scopes, site, y, fragments));
-    match op {
-        Operator::And => answered(decide(fragments, Connective::And, left, right)),
-        Operator::Or => answered(decide(fragments, Connective::Or, left, right)),
-        _ => {
-            let instr = asked!(instruction(scopes, site, op, of, operand_type(&y.operand)));
-            answered(applied(fragments, left, right, instr))
-        }
-    }
+    let mut coder = Coder {
+        scopes,
+        site,
+        withs: &[],
+        fragments,
+        notes,
+    };
+    coder.one_coded(op, op_at, x)
 }
 
 /// An operator, at the token `op_at`, between two operands: what const_eval's `operated` gives, and unless that is
@@ -255,18 +323,12 @@ pub fn two_coded<S: Scopes>(
     requires y { IsCoded (S.state scopes.old).frame fragments.old.nodes.items y.coded }
     ensures { Coding (S.state scopes.old) (S.state scopes.new) notes.old notes.new fragments.old.nodes.items fragments.new.nodes.items site.now result IsCoded coded_in (λ c. spec_two c op op_at x.at (coded_in fragments.old.nodes.items x.coded) y.at (coded_in fragments.old.nodes.items y.coded)) }
 {
-    let left = Argument {
-        at: x.at,
-        operand: x.coded.operand,
+    let mut coder = Coder {
+        scopes,
+        site,
+        withs: &[],
+        fragments,
+        notes,
     };
-    let right = Argument {
-        at: y.at,
-        operand: y.coded.operand,
-    };
-    let given = analysed!(operated(scopes, site, op, op_at, left, right, notes));
-    let Operand::Computed(of) = given else {
-        return Ok(Ask::Known(made(given, Fragment::Nothing)));
-    };
-    let code = analysed!(operation_code(scopes, site, op, of, x.coded, y.coded, fragments));
-    Ok(Ask::Known(made(given, code)))
+    coder.two_coded(op, op_at, x, y)
 }

@@ -13,6 +13,7 @@ ghost use Rattle.m2_base.specs.declared.operands.Operand.TheVariants.{Variable};
 ghost use Rattle.type_rules.specs.Asks.{Reads, WhereKnown, WhereWaiting};
 ghost use Rattle.type_rules.specs.Scenes.{IsThere, Suits, WhereTold, scene_of};
 ghost use Rattle.type_rules.specs.Sites.{SuitsSite};
+ghost use Rattle.expr_sem.specs.Coders.{Codes, Keeps, SeesWiths, SuitsPlace, frame_of, nodes_of};
 ghost use Rattle.expr_sem.specs.Coded.{coded, in_error as spec_in_error};
 ghost use Rattle.expr_sem.specs.Codings.{Coding, IsCoded, coded_in, with_types};
 ghost use Rattle.expr_sem.specs.Fragments.{IsIn, IsMade, part};
@@ -23,6 +24,7 @@ ghost use Rattle.expr_sem.specs.Variables.{entry_coded as spec_entry};
 
 use crate::addressed::variable_at;
 use crate::coded::Coded;
+use crate::coder::Coder;
 use crate::fragments::{Fragment, Fragments};
 use crate::pieces::With;
 use crate::refusals::refused;
@@ -54,44 +56,33 @@ fn code_behind(code: Fragment, offset: u32, fragments: &mut Fragments) -> Result
     fragments.then(code, behind)
 }
 
-/// A field of this type and offset, in the record whose address this code gives; in error where the type is.
-fn field_at<S: Scopes>(
-    scopes: &mut S,
-    site: &Site,
-    of: Place,
-    offset: u32,
-    code: Fragment,
-    fragments: &mut Fragments,
-) -> Result<Ask<Coded>, Memory>
-    requires suits { SuitsSite (S.state scopes.old).frame site.now }
-    requires of { IsThere (S.state scopes.old).frame of }
-    requires code { IsIn fragments.old.nodes.items code }
-    ensures { (notes : NotesOf) → Coding (S.state scopes.old) (S.state scopes.new) notes notes fragments.old.nodes.items fragments.new.nodes.items site.now result IsCoded coded_in (λ c. gives (if spec_broken c.scene of then spec_in_error else coded (Variable of) (part fragments.old.nodes.items code ⨟ spec_offset offset))) }
-{
-    if asked!(is_broken(scopes, site.around, of)) {
-        return Ok(Ask::Known(Coded::in_error()));
-    }
-    variable_at(of, code_behind(code, offset, fragments))
-}
-
-/// The field of this row, in the record whose address this code gives.
-fn field_coded<S: Scopes>(
-    scopes: &mut S,
-    site: &Site,
-    field: Row,
-    code: Fragment,
-    fragments: &mut Fragments,
-) -> Result<Ask<Coded>, Memory>
-    requires suits { SuitsSite (S.state scopes.old).frame site.now }
-    requires field { IsField (S.state scopes.old).frame (row_meaning field) }
-    requires code { IsIn fragments.old.nodes.items code }
-    ensures { (notes : NotesOf) → Coding (S.state scopes.old) (S.state scopes.new) notes notes fragments.old.nodes.items fragments.new.nodes.items site.now result IsCoded coded_in (λ c. gives (spec_field_coded c.scene (part fragments.old.nodes.items code) field)) }
-{
-    match read_row(&field) {
-        RowMeaning::Field(of, offset, _, _) => {
-            field_at(scopes, site, of, offset, code, fragments)
+impl<S: Scopes> Coder<'_, '_, S> {
+    /// A field of this type and offset, in the record whose address this code gives; in error where the type is.
+    fn field_at(&mut self, of: Place, offset: u32, code: Fragment) -> Result<Ask<Coded>, Memory>
+        requires suits { SuitsPlace S.state self.old }
+        requires of { IsThere (frame_of S.state self.old) of }
+        requires code { IsIn (nodes_of self.old) code }
+        ensures keeps { Keeps self.old self.new }
+        ensures codes { Codes S.state self.old self.new result IsCoded coded_in (λ c. gives (if spec_broken c.scene of then spec_in_error else coded (Variable of) (part (nodes_of self.old) code ⨟ spec_offset offset))) }
+    {
+        if asked!(is_broken(self.scopes, self.site.around, of)) {
+            return Ok(Ask::Known(Coded::in_error()));
         }
-        _ => Ok(Ask::Known(Coded::in_error())),
+        variable_at(of, code_behind(code, offset, self.fragments))
+    }
+
+    /// The field of this row, in the record whose address this code gives.
+    fn field_coded(&mut self, field: Row, code: Fragment) -> Result<Ask<Coded>, Memory>
+        requires suits { SuitsPlace S.state self.old }
+        requires field { IsField (frame_of S.state self.old) (row_meaning field) }
+        requires code { IsIn (nodes_of self.old) code }
+        ensures keeps { Keeps self.old self.new }
+        ensures codes { Codes S.state self.old self.new result IsCoded coded_in (λ c. gives (spec_field_coded c.scene (part (nodes_of self.old) code) field)) }
+    {
+        match read_row(&field) {
+            RowMeaning::Field(of, offset, _, _) => self.field_at(of, offset, code),
+            _ => Ok(Ask::Known(Coded::in_error())),
+        }
     }
 }
 
@@ -127,150 +118,124 @@ fn small_number(number: usize) -> Option<u32>
     u32::try_from(number).ok()
 }
 
-/// The field of this row, in the record of the open WITH of this number.
-fn field_of_record<S: Scopes>(
-    scopes: &mut S,
-    site: &Site,
-    number: u32,
-    field: Row,
-    fragments: &mut Fragments,
-) -> Result<Ask<Coded>, Memory>
-    requires suits { SuitsSite (S.state scopes.old).frame site.now }
-    requires field { IsField (S.state scopes.old).frame (row_meaning field) }
-    ensures { (notes : NotesOf) → Coding (S.state scopes.old) (S.state scopes.new) notes notes fragments.old.nodes.items fragments.new.nodes.items site.now result IsCoded coded_in (λ c. gives (spec_field_coded c.scene (spec_record number) field)) }
-{
-    match fragments.with_record(number) {
-        Ok(record) => field_coded(scopes, site, field, record, fragments),
-        Err(memory) => Err(memory),
-    }
-}
-
-/// The field of this row, in the record of the open WITH of this number, which has no more than 32 bits: else the error is
-/// that memory is wanted, which comes about in no module.
-fn field_of_with<S: Scopes>(
-    scopes: &mut S,
-    site: &Site,
-    number: usize,
-    field: Row,
-    fragments: &mut Fragments,
-) -> Result<Ask<Coded>, Memory>
-    requires suits { SuitsSite (S.state scopes.old).frame site.now }
-    requires field { IsField (S.state scopes.old).frame (row_meaning field) }
-    ensures { (notes : NotesOf) → Coding (S.state scopes.old) (S.state scopes.new) notes notes fragments.old.nodes.items fragments.new.nodes.items site.now result IsCoded coded_in (λ c. gives (spec_field_coded c.scene (spec_record number) field)) }
-{
-    match small_number(number) {
-        Some(small) => field_of_record(scopes, site, small, field, fragments),
-        None => Err(Memory),
-    }
-}
-
-/// What a name is bound to where it is used.
-fn name_used<S: Scopes>(
-    scopes: &mut S,
-    site: &Site,
-    within: Option<u32>,
-    ident: Ident,
-    fragments: &mut Fragments,
-    notes: &mut Notes,
-) -> Result<Ask<Coded>, Memory>
-    requires suits { SuitsSite (S.state scopes.old).frame site.now }
-    requires within { IfSome within (λ scope. scope < fills_of (S.state scopes.old)) }
-    requires named { ident.name ≢ 0 }
-    ensures { Coding (S.state scopes.old) (S.state scopes.new) notes.old notes.new fragments.old.nodes.items fragments.new.nodes.items site.now result IsCoded coded_in (λ c. and_then (use_of c within ident.name ident.at) (λ e. gives (spec_entry c e))) }
-{
-    let entry = analysed!(use_name(scopes, site, within, ident.name, ident.at, notes));
-    entry_coded(scopes, site, entry, fragments)
-}
-
-/// A name where a designator begins: a field of an open WITH's record, the innermost first, or what the name is bound to.
-pub fn name_coded<S: Scopes>(
-    scopes: &mut S,
-    site: &Site,
-    withs: &[With],
-    ident: Ident,
-    fragments: &mut Fragments,
-    notes: &mut Notes,
-) -> Result<Ask<Coded>, Memory>
-    requires suits { SuitsSite (S.state scopes.old).frame site.now }
-    requires withs { Each (λ w. IsThere (S.state scopes.old).frame w.of) withs.now }
-    requires named { ident.name ≢ 0 }
-    ensures { Coding (S.state scopes.old) (S.state scopes.new) notes.old notes.new fragments.old.nodes.items fragments.new.nodes.items site.now result IsCoded coded_in (λ c. spec_name c (with_types withs.now) ident) }
-{
-    match asked!(field_of_withs(scopes, site.around, withs, ident.name)) {
-        Some(found) => field_of_with(scopes, site, found.0, found.1, fragments),
-        None => name_used(scopes, site, None, ident, fragments, notes),
-    }
-}
-
-/// The field of a name in a record of this type, whose address this code gives.
-fn found_field<S: Scopes>(
-    scopes: &mut S,
-    site: &Site,
-    of: Place,
-    ident: Ident,
-    code: Fragment,
-    fragments: &mut Fragments,
-    notes: &mut Notes,
-) -> Result<Ask<Coded>, Memory>
-    requires suits { SuitsSite (S.state scopes.old).frame site.now }
-    requires of { IsThere (S.state scopes.old).frame of }
-    requires code { IsIn fragments.old.nodes.items code }
-    ensures { Coding (S.state scopes.old) (S.state scopes.new) notes.old notes.new fragments.old.nodes.items fragments.new.nodes.items site.now result IsCoded coded_in (λ c. spec_found c (part fragments.old.nodes.items code) ident (spec_field_of c.scene of ident.name)) }
-{
-    match asked!(field_of(scopes, site.around, of, ident.name)) {
-        Some(field) => field_coded(scopes, site, field, code, fragments),
-        None => refused(site, ident.at, Diagnostic::NoSuchField, notes),
-    }
-}
-
-/// The field of a variable of this type, whose address this code gives.
-fn of_record<S: Scopes>(
-    scopes: &mut S,
-    site: &Site,
-    at: u32,
-    of: Place,
-    ident: Ident,
-    code: Fragment,
-    fragments: &mut Fragments,
-    notes: &mut Notes,
-) -> Result<Ask<Coded>, Memory>
-    requires suits { SuitsSite (S.state scopes.old).frame site.now }
-    requires of { IsThere (S.state scopes.old).frame of }
-    requires code { IsIn fragments.old.nodes.items code }
-    ensures { Coding (S.state scopes.old) (S.state scopes.new) notes.old notes.new fragments.old.nodes.items fragments.new.nodes.items site.now result IsCoded coded_in (λ c. spec_of_record c at (part fragments.old.nodes.items code) ident of (kind_of c.scene of)) }
-{
-    let (_, meaning) = asked!(stand(scopes, site.around, of));
-    match meaning {
-        RowMeaning::Record(..) => found_field(scopes, site, of, ident, code, fragments, notes),
-        _ => refused(site, at, Diagnostic::NotARecord, notes),
-    }
-}
-
-/// What a name behind a point selects. `first` is the designator's first token, `at` the point.
-pub fn select_field<S: Scopes>(
-    scopes: &mut S,
-    site: &Site,
-    first: u32,
-    at: u32,
-    ident: Ident,
-    x: Coded,
-    fragments: &mut Fragments,
-    notes: &mut Notes,
-) -> Result<Ask<Coded>, Memory>
-    requires suits { SuitsSite (S.state scopes.old).frame site.now }
-    requires x { IsCoded (S.state scopes.old).frame fragments.old.nodes.items x }
-    requires named { ident.name ≢ 0 }
-    ensures { Coding (S.state scopes.old) (S.state scopes.new) notes.old notes.new fragments.old.nodes.items fragments.new.nodes.items site.now result IsCoded coded_in (λ c. spec_field c first at ident (coded_in fragments.old.nodes.items x)) }
-{
-    match x.operand {
-        Operand::ModuleName(scope) => {
-            name_used(scopes, site, Some(scope), ident, fragments, notes)
+impl<S: Scopes> Coder<'_, '_, S> {
+    /// The field of this row, in the record of the open WITH of this number.
+    fn field_of_record(&mut self, number: u32, field: Row) -> Result<Ask<Coded>, Memory>
+        requires suits { SuitsPlace S.state self.old }
+        requires field { IsField (frame_of S.state self.old) (row_meaning field) }
+        ensures keeps { Keeps self.old self.new }
+        ensures codes { Codes S.state self.old self.new result IsCoded coded_in (λ c. gives (spec_field_coded c.scene (spec_record number) field)) }
+    {
+        match self.fragments.with_record(number) {
+            Ok(record) => self.field_coded(field, record),
+            Err(memory) => Err(memory),
         }
-        Operand::Variable(of) => {
-            of_record(scopes, site, at, of, ident, x.code, fragments, notes)
+    }
+
+    /// The field of this row, in the record of the open WITH of this number, which has no more than 32 bits: else the error is
+    /// that memory is wanted, which comes about in no module.
+    fn field_of_with(&mut self, number: usize, field: Row) -> Result<Ask<Coded>, Memory>
+        requires suits { SuitsPlace S.state self.old }
+        requires field { IsField (frame_of S.state self.old) (row_meaning field) }
+        ensures keeps { Keeps self.old self.new }
+        ensures codes { Codes S.state self.old self.new result IsCoded coded_in (λ c. gives (spec_field_coded c.scene (spec_record number) field)) }
+    {
+        match small_number(number) {
+            Some(small) => self.field_of_record(small, field),
+            None => Err(Memory),
         }
-        Operand::InError => Ok(Ask::Known(Coded::in_error())),
-        Operand::NotConstant => Ok(Ask::Known(Coded::in_error())),
-        _ => refused(site, first, Diagnostic::NotAVariable, notes),
+    }
+}
+
+impl<S: Scopes> Coder<'_, '_, S> {
+    /// What a name is bound to where it is used.
+    fn name_used(&mut self, within: Option<u32>, ident: Ident) -> Result<Ask<Coded>, Memory>
+        requires suits { SuitsPlace S.state self.old }
+        requires within { IfSome within (λ scope. scope < fills_of (S.state self.old.scopes.now)) }
+        requires named { ident.name ≢ 0 }
+        ensures keeps { Keeps self.old self.new }
+        ensures codes { Codes S.state self.old self.new result IsCoded coded_in (λ c. and_then (use_of c within ident.name ident.at) (λ e. gives (spec_entry c e))) }
+    {
+        let entry = analysed!(use_name(
+            self.scopes,
+            self.site,
+            within,
+            ident.name,
+            ident.at,
+            self.notes
+        ));
+        entry_coded(self.scopes, self.site, entry, self.fragments)
+    }
+
+    /// A name where a designator begins: a field of an open WITH's record, the innermost first, or what the name is bound to.
+    pub fn name_coded(&mut self, ident: Ident) -> Result<Ask<Coded>, Memory>
+        requires suits { SuitsPlace S.state self.old }
+        requires withs { SeesWiths S.state self.old }
+        requires named { ident.name ≢ 0 }
+        ensures keeps { Keeps self.old self.new }
+        ensures codes { Codes S.state self.old self.new result IsCoded coded_in (λ c. spec_name c (with_types self.old.withs.now) ident) }
+    {
+        match asked!(field_of_withs(self.scopes, self.site.around, self.withs, ident.name)) {
+            Some(found) => self.field_of_with(found.0, found.1),
+            None => self.name_used(None, ident),
+        }
+    }
+
+    /// The field of a name in a record of this type, whose address this code gives.
+    fn found_field(&mut self, of: Place, ident: Ident, code: Fragment) -> Result<Ask<Coded>, Memory>
+        requires suits { SuitsPlace S.state self.old }
+        requires of { IsThere (frame_of S.state self.old) of }
+        requires code { IsIn (nodes_of self.old) code }
+        ensures keeps { Keeps self.old self.new }
+        ensures codes { Codes S.state self.old self.new result IsCoded coded_in (λ c. spec_found c (part (nodes_of self.old) code) ident (spec_field_of c.scene of ident.name)) }
+    {
+        match asked!(field_of(self.scopes, self.site.around, of, ident.name)) {
+            Some(field) => self.field_coded(field, code),
+            None => refused(self.site, ident.at, Diagnostic::NoSuchField, self.notes),
+        }
+    }
+
+    /// The field of a variable of this type, whose address this code gives.
+    fn of_record(
+        &mut self,
+        at: u32,
+        of: Place,
+        ident: Ident,
+        code: Fragment,
+    ) -> Result<Ask<Coded>, Memory>
+        requires suits { SuitsPlace S.state self.old }
+        requires of { IsThere (frame_of S.state self.old) of }
+        requires code { IsIn (nodes_of self.old) code }
+        ensures keeps { Keeps self.old self.new }
+        ensures codes { Codes S.state self.old self.new result IsCoded coded_in (λ c. spec_of_record c at (part (nodes_of self.old) code) ident of (kind_of c.scene of)) }
+    {
+        let (_, meaning) = asked!(stand(self.scopes, self.site.around, of));
+        match meaning {
+            RowMeaning::Record(..) => self.found_field(of, ident, code),
+            _ => refused(self.site, at, Diagnostic::NotARecord, self.notes),
+        }
+    }
+
+    /// What a name behind a point selects. `first` is the designator's first token, `at` the point.
+    pub fn select_field(
+        &mut self,
+        first: u32,
+        at: u32,
+        ident: Ident,
+        x: Coded,
+    ) -> Result<Ask<Coded>, Memory>
+        requires suits { SuitsPlace S.state self.old }
+        requires x { IsCoded (frame_of S.state self.old) (nodes_of self.old) x }
+        requires named { ident.name ≢ 0 }
+        ensures keeps { Keeps self.old self.new }
+        ensures codes { Codes S.state self.old self.new result IsCoded coded_in (λ c. spec_field c first at ident (coded_in (nodes_of self.old) x)) }
+    {
+        match x.operand {
+            Operand::ModuleName(scope) => self.name_used(Some(scope), ident),
+            Operand::Variable(of) => self.of_record(at, of, ident, x.code),
+            Operand::InError => Ok(Ask::Known(Coded::in_error())),
+            Operand::NotConstant => Ok(Ask::Known(Coded::in_error())),
+            _ => refused(self.site, first, Diagnostic::NotAVariable, self.notes),
+        }
     }
 }

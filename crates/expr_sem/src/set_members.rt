@@ -11,6 +11,7 @@ ghost use Rattle.m2_base.specs.Statics.Sets.{set_base as spec_base};
 ghost use Rattle.m2_base.specs.declared.notes.Notes.{Notes as NotesOf};
 ghost use Rattle.m2_base.specs.declared.operands.Operand.TheVariants as operands;
 ghost use Rattle.const_eval.specs.Sites.{IsOperand};
+ghost use Rattle.expr_sem.specs.Coders.{Codes, Keeps, SuitsPlace, frame_of, nodes_of};
 ghost use Rattle.expr_sem.specs.Coded.{in_error, taken};
 ghost use Rattle.expr_sem.specs.Codings.{Coding, IsCoded, coded_in};
 ghost use Rattle.expr_sem.specs.Fitting.{fitted_code as spec_fitted};
@@ -22,7 +23,8 @@ ghost use Rattle.expr_sem.specs.declared.fragments.Node.{Node};
 ghost use Rattle.type_rules.specs.Scenes.{IsThere};
 ghost use Rattle.type_rules.specs.Sites.{SuitsSite};
 
-use crate::coded::Coded;
+use crate::coded::{Coded, Placed};
+use crate::coder::Coder;
 use crate::fitting::fitted_code;
 use crate::fragments::Fragments;
 use crate::refusals::refused;
@@ -37,20 +39,28 @@ use type_rules::operand_type;
 fn member_or_refused<S: Scopes>(
     scopes: &mut S,
     site: &Site,
-    at: u32,
     base: Place,
     pair: Option<(Operand, Operand)>,
-    v: Coded,
+    v: Placed,
     notes: &mut Notes,
 ) -> Result<Ask<Coded>, Memory>
     requires suits { SuitsSite (S.state scopes.old).frame site.now }
     requires base { IsThere (S.state scopes.old).frame base }
     requires pair { IfSome pair (λ pair. IsOperand (S.state scopes.old).frame pair.0) }
-    ensures { (nodes : List Node) → IsCoded (S.state scopes.old).frame nodes v → Coding (S.state scopes.old) (S.state scopes.new) notes.old notes.new nodes nodes site.now result IsCoded coded_in (λ c. member_by c at base (coded_in nodes v) pair) }
+    ensures { (nodes : List Node) → IsCoded (S.state scopes.old).frame nodes v.coded → Coding (S.state scopes.old) (S.state scopes.new) notes.old notes.new nodes nodes site.now result IsCoded coded_in (λ c. member_by c v.at base (coded_in nodes v.coded) pair) }
 {
     match pair {
-        Some((operand, _)) => in_range(scopes, site, at, base, v.taken(operand), notes),
-        None => refused(site, at, Diagnostic::WrongArgument, notes),
+        Some((operand, _)) => in_range(
+            scopes,
+            site,
+            base,
+            Placed {
+                at: v.at,
+                coded: v.coded.taken(operand),
+            },
+            notes,
+        ),
+        None => refused(site, v.at, Diagnostic::WrongArgument, notes),
     }
 }
 
@@ -58,39 +68,37 @@ fn member_or_refused<S: Scopes>(
 fn compatible_member<S: Scopes>(
     scopes: &mut S,
     site: &Site,
-    at: u32,
     base: Place,
-    v: Coded,
+    v: Placed,
     notes: &mut Notes,
 ) -> Result<Ask<Coded>, Memory>
     requires suits { SuitsSite (S.state scopes.old).frame site.now }
     requires base { IsThere (S.state scopes.old).frame base }
-    requires v { IsOperand (S.state scopes.old).frame v.operand }
-    ensures { (nodes : List Node) → IsCoded (S.state scopes.old).frame nodes v → Coding (S.state scopes.old) (S.state scopes.new) notes.old notes.new nodes nodes site.now result IsCoded coded_in (λ c. if is_compatible c.scene v.operand (operands.Computed base) then spec_in_range c at base (taken (taken_into c.source c.scene base v.operand) (coded_in nodes v)) else refuse c at wrong_argument in_error) }
+    requires v { IsOperand (S.state scopes.old).frame v.coded.operand }
+    ensures { (nodes : List Node) → IsCoded (S.state scopes.old).frame nodes v.coded → Coding (S.state scopes.old) (S.state scopes.new) notes.old notes.new nodes nodes site.now result IsCoded coded_in (λ c. if is_compatible c.scene v.coded.operand (operands.Computed base) then spec_in_range c v.at base (taken (taken_into c.source c.scene base v.coded.operand) (coded_in nodes v.coded)) else refuse c v.at wrong_argument in_error) }
 {
-    let pair = asked!(compatible_pair(scopes, site, v.operand, Operand::Computed(base)));
-    member_or_refused(scopes, site, at, base, pair, v, notes)
+    let pair = asked!(compatible_pair(scopes, site, v.coded.operand, Operand::Computed(base)));
+    member_or_refused(scopes, site, base, pair, v, notes)
 }
 
 /// An element for a set with this base: compatible with it, and a constant in its range.
 fn element_of_base<S: Scopes>(
     scopes: &mut S,
     site: &Site,
-    at: u32,
     base: Place,
-    v: Coded,
+    v: Placed,
     notes: &mut Notes,
 ) -> Result<Ask<Coded>, Memory>
     requires suits { SuitsSite (S.state scopes.old).frame site.now }
     requires base { IsThere (S.state scopes.old).frame base }
-    requires v { IsOperand (S.state scopes.old).frame v.operand }
-    ensures { (nodes : List Node) → IsCoded (S.state scopes.old).frame nodes v → Coding (S.state scopes.old) (S.state scopes.new) notes.old notes.new nodes nodes site.now result IsCoded coded_in (λ c. spec_element c at base (coded_in nodes v)) }
+    requires v { IsOperand (S.state scopes.old).frame v.coded.operand }
+    ensures { (nodes : List Node) → IsCoded (S.state scopes.old).frame nodes v.coded → Coding (S.state scopes.old) (S.state scopes.new) notes.old notes.new nodes nodes site.now result IsCoded coded_in (λ c. spec_element c v.at base (coded_in nodes v.coded)) }
 {
     let broken = asked!(is_broken(scopes, site.around, base));
     if broken {
         return Ok(Ask::Known(Coded::in_error()));
     }
-    compatible_member(scopes, site, at, base, v, notes)
+    compatible_member(scopes, site, base, v, notes)
 }
 
 /// An element for a set of this type.
@@ -98,17 +106,16 @@ fn member_of<S: Scopes>(
     scopes: &mut S,
     site: &Site,
     of: Place,
-    at: u32,
-    v: Coded,
+    v: Placed,
     notes: &mut Notes,
 ) -> Result<Ask<Coded>, Memory>
     requires suits { SuitsSite (S.state scopes.old).frame site.now }
     requires of { IsThere (S.state scopes.old).frame of }
-    requires v { IsOperand (S.state scopes.old).frame v.operand }
-    ensures { (nodes : List Node) → IsCoded (S.state scopes.old).frame nodes v → Coding (S.state scopes.old) (S.state scopes.new) notes.old notes.new nodes nodes site.now result IsCoded coded_in (λ c. spec_element c at (spec_base c of) (coded_in nodes v)) }
+    requires v { IsOperand (S.state scopes.old).frame v.coded.operand }
+    ensures { (nodes : List Node) → IsCoded (S.state scopes.old).frame nodes v.coded → Coding (S.state scopes.old) (S.state scopes.new) notes.old notes.new nodes nodes site.now result IsCoded coded_in (λ c. spec_element c v.at (spec_base c of) (coded_in nodes v.coded)) }
 {
     let base = asked!(set_base(scopes, site, of));
-    element_of_base(scopes, site, at, base, v, notes)
+    element_of_base(scopes, site, base, v, notes)
 }
 
 /// An element beside the set of its call, where neither is in error.
@@ -116,19 +123,18 @@ fn member_beside<S: Scopes>(
     scopes: &mut S,
     site: &Site,
     x: Coded,
-    at: u32,
-    v: Coded,
+    v: Placed,
     notes: &mut Notes,
 ) -> Result<Ask<Coded>, Memory>
     requires suits { SuitsSite (S.state scopes.old).frame site.now }
     requires x { IsOperand (S.state scopes.old).frame x.operand }
-    requires v { IsOperand (S.state scopes.old).frame v.operand }
-    ensures { (nodes : List Node) → IsCoded (S.state scopes.old).frame nodes v → Coding (S.state scopes.old) (S.state scopes.new) notes.old notes.new nodes nodes site.now result IsCoded coded_in (λ c. beside (coded_in nodes x) (spec_element c at (spec_base c (spec_type x.operand))) (coded_in nodes v)) }
+    requires v { IsOperand (S.state scopes.old).frame v.coded.operand }
+    ensures { (nodes : List Node) → IsCoded (S.state scopes.old).frame nodes v.coded → Coding (S.state scopes.old) (S.state scopes.new) notes.old notes.new nodes nodes site.now result IsCoded coded_in (λ c. beside (coded_in nodes x) (spec_element c v.at (spec_base c (spec_type x.operand))) (coded_in nodes v.coded)) }
 {
-    if either_bad(x.operand, v.operand) {
+    if either_bad(x.operand, v.coded.operand) {
         return Ok(Ask::Known(Coded::in_error()));
     }
-    member_of(scopes, site, operand_type(&x.operand), at, v, notes)
+    member_of(scopes, site, operand_type(&x.operand), v, notes)
 }
 
 /// The element by which a set is changed.
@@ -136,18 +142,17 @@ pub fn set_member<S: Scopes>(
     scopes: &mut S,
     site: &Site,
     x: Coded,
-    at: u32,
-    e: Coded,
+    e: Placed,
     fragments: &Fragments,
     notes: &mut Notes,
 ) -> Result<Ask<Coded>, Memory>
     requires suits { SuitsSite (S.state scopes.old).frame site.now }
     requires x { IsOperand (S.state scopes.old).frame x.operand }
-    requires e { IsCoded (S.state scopes.old).frame fragments.now.nodes.items e }
-    ensures { Coding (S.state scopes.old) (S.state scopes.new) notes.old notes.new fragments.now.nodes.items fragments.now.nodes.items site.now result IsCoded coded_in (λ c. spec_member c (coded_in fragments.now.nodes.items x) at (coded_in fragments.now.nodes.items e)) }
+    requires e { IsCoded (S.state scopes.old).frame fragments.now.nodes.items e.coded }
+    ensures { Coding (S.state scopes.old) (S.state scopes.new) notes.old notes.new fragments.now.nodes.items fragments.now.nodes.items site.now result IsCoded coded_in (λ c. spec_member c (coded_in fragments.now.nodes.items x) e.at (coded_in fragments.now.nodes.items e.coded)) }
 {
-    let v = analysed!(as_value(site, at, e, notes));
-    member_beside(scopes, site, x, at, v, notes)
+    let v = analysed!(as_value(site, e.at, e.coded, notes));
+    member_beside(scopes, site, x, Placed { at: e.at, coded: v }, notes)
 }
 
 /// The change of INCL, and of EXCL.
@@ -164,61 +169,50 @@ fn member_change(f: Builtin) -> Change
     }
 }
 
-/// A set with this base, changed by INCL or EXCL by an element.
-fn changed_by<S: Scopes>(
-    scopes: &mut S,
-    site: &Site,
-    f: Builtin,
-    base: Place,
-    x: Coded,
-    e: Coded,
-    fragments: &mut Fragments,
-) -> Result<Ask<Coded>, Memory>
-    requires suits { SuitsSite (S.state scopes.old).frame site.now }
-    requires base { IsThere (S.state scopes.old).frame base }
-    requires x { IsCoded (S.state scopes.old).frame fragments.old.nodes.items x }
-    requires e { IsCoded (S.state scopes.old).frame fragments.old.nodes.items e }
-    ensures { (notes : NotesOf) → Coding (S.state scopes.old) (S.state scopes.new) notes notes fragments.old.nodes.items fragments.new.nodes.items site.now result IsCoded coded_in (λ c. gives (update (coded_in fragments.old.nodes.items x) (spec_fitted c base (coded_in fragments.old.nodes.items e)) (member_instrs f))) }
-{
-    let element = analysed!(fitted_code(scopes, site, base, e, fragments));
-    let code = updated(x.code, element, member_change(f), fragments)?;
-    Ok(Ask::Known(Coded::new(NO_VALUE, code)))
-}
-
-/// INCL or EXCL of a set and an element, neither of which is in error.
-fn included_by<S: Scopes>(
-    scopes: &mut S,
-    site: &Site,
-    f: Builtin,
-    x: Coded,
-    e: Coded,
-    fragments: &mut Fragments,
-) -> Result<Ask<Coded>, Memory>
-    requires suits { SuitsSite (S.state scopes.old).frame site.now }
-    requires x { IsCoded (S.state scopes.old).frame fragments.old.nodes.items x }
-    requires e { IsCoded (S.state scopes.old).frame fragments.old.nodes.items e }
-    ensures { (notes : NotesOf) → Coding (S.state scopes.old) (S.state scopes.new) notes notes fragments.old.nodes.items fragments.new.nodes.items site.now result IsCoded coded_in (λ c. gives (update (coded_in fragments.old.nodes.items x) (spec_fitted c (spec_base c (spec_type x.operand)) (coded_in fragments.old.nodes.items e)) (member_instrs f))) }
-{
-    let base = asked!(set_base(scopes, site, operand_type(&x.operand)));
-    changed_by(scopes, site, f, base, x, e, fragments)
-}
-
-/// INCL or EXCL of a set and an element, unless one of them is in error.
-pub fn included<S: Scopes>(
-    scopes: &mut S,
-    site: &Site,
-    f: Builtin,
-    x: Coded,
-    e: Coded,
-    fragments: &mut Fragments,
-) -> Result<Ask<Coded>, Memory>
-    requires suits { SuitsSite (S.state scopes.old).frame site.now }
-    requires x { IsCoded (S.state scopes.old).frame fragments.old.nodes.items x }
-    requires e { IsCoded (S.state scopes.old).frame fragments.old.nodes.items e }
-    ensures { (notes : NotesOf) → Coding (S.state scopes.old) (S.state scopes.new) notes notes fragments.old.nodes.items fragments.new.nodes.items site.now result IsCoded coded_in (λ c. gives (spec_included c f (coded_in fragments.old.nodes.items x) (coded_in fragments.old.nodes.items e))) }
-{
-    if either_bad(x.operand, e.operand) {
-        return Ok(Ask::Known(Coded::in_error()));
+impl<S: Scopes> Coder<'_, '_, S> {
+    /// A set with this base, changed by INCL or EXCL by an element.
+    fn changed_by(
+        &mut self,
+        f: Builtin,
+        base: Place,
+        x: Coded,
+        e: Coded,
+    ) -> Result<Ask<Coded>, Memory>
+        requires suits { SuitsPlace S.state self.old }
+        requires base { IsThere (frame_of S.state self.old) base }
+        requires x { IsCoded (frame_of S.state self.old) (nodes_of self.old) x }
+        requires e { IsCoded (frame_of S.state self.old) (nodes_of self.old) e }
+        ensures keeps { Keeps self.old self.new }
+        ensures codes { Codes S.state self.old self.new result IsCoded coded_in (λ c. gives (update (coded_in (nodes_of self.old) x) (spec_fitted c base (coded_in (nodes_of self.old) e)) (member_instrs f))) }
+    {
+        let element = analysed!(fitted_code(self.scopes, self.site, base, e, self.fragments));
+        let code = updated(x.code, element, member_change(f), self.fragments)?;
+        Ok(Ask::Known(Coded::new(NO_VALUE, code)))
     }
-    included_by(scopes, site, f, x, e, fragments)
+
+    /// INCL or EXCL of a set and an element, neither of which is in error.
+    fn included_by(&mut self, f: Builtin, x: Coded, e: Coded) -> Result<Ask<Coded>, Memory>
+        requires suits { SuitsPlace S.state self.old }
+        requires x { IsCoded (frame_of S.state self.old) (nodes_of self.old) x }
+        requires e { IsCoded (frame_of S.state self.old) (nodes_of self.old) e }
+        ensures keeps { Keeps self.old self.new }
+        ensures codes { Codes S.state self.old self.new result IsCoded coded_in (λ c. gives (update (coded_in (nodes_of self.old) x) (spec_fitted c (spec_base c (spec_type x.operand)) (coded_in (nodes_of self.old) e)) (member_instrs f))) }
+    {
+        let base = asked!(set_base(self.scopes, self.site, operand_type(&x.operand)));
+        self.changed_by(f, base, x, e)
+    }
+
+    /// INCL or EXCL of a set and an element, unless one of them is in error.
+    pub fn included(&mut self, f: Builtin, x: Coded, e: Coded) -> Result<Ask<Coded>, Memory>
+        requires suits { SuitsPlace S.state self.old }
+        requires x { IsCoded (frame_of S.state self.old) (nodes_of self.old) x }
+        requires e { IsCoded (frame_of S.state self.old) (nodes_of self.old) e }
+        ensures keeps { Keeps self.old self.new }
+        ensures codes { Codes S.state self.old self.new result IsCoded coded_in (λ c. gives (spec_included c f (coded_in (nodes_of self.old) x) (coded_in (nodes_of self.old) e))) }
+    {
+        if either_bad(x.operand, e.operand) {
+            return Ok(Ask::Known(Coded::in_error()));
+        }
+        self.included_by(f, x, e)
+    }
 }

@@ -14,6 +14,7 @@ ghost use Rattle.code_form.specs.declared.instr.Instr.TheVariants as instrs;
 ghost use Rattle.const_eval.specs.Calls.{of_type, of_value as spec_of_value};
 ghost use Rattle.const_eval.specs.Sites.{IsOperand};
 ghost use Rattle.const_eval.specs.declared.calls.TypeFunction.TheVariants as functions;
+ghost use Rattle.expr_sem.specs.Coders.{Codes, Keeps, SuitsPlace, frame_of, nodes_of};
 ghost use Rattle.expr_sem.specs.Coded.{bare, coded, in_error};
 ghost use Rattle.expr_sem.specs.Codings.{Coding, IsCoded, IsFragment, coded_in, high_in};
 ghost use Rattle.expr_sem.specs.Fragments.{IsIn, part};
@@ -27,11 +28,12 @@ ghost use Rattle.type_rules.specs.Scenes.{IsThere};
 ghost use Rattle.type_rules.specs.Sites.{SuitsSite};
 
 use crate::coded::{Coded, Placed};
+use crate::coder::Coder;
 use crate::elements::high_or_none;
 use crate::fragments::{Fragment, Fragments};
 use crate::operators::made;
 use crate::refusals::refused;
-use crate::value_functions::{Rule, on_value};
+use crate::value_functions::Rule;
 use crate::variable_arguments::as_variable;
 use code_form::Instr;
 use const_eval::{Argument, TypeFunction, ValueFunction, is_bad, is_broken, of_type_noted};
@@ -120,47 +122,47 @@ fn high_computed<S: Scopes>(
     Ok(Ask::Known(Coded::new(Operand::Computed(CARDINAL), code)))
 }
 
-/// HIGH of an array variable with this index type, unless that is in error.
-fn high_of_array<S: Scopes>(
-    scopes: &mut S,
-    site: &Site,
-    x: Coded,
-    index: Place,
-    kind: RowMeaning,
-    fragments: &mut Fragments,
-) -> Result<Ask<Coded>, Memory>
-    requires suits { SuitsSite (S.state scopes.old).frame site.now }
-    requires x { IsCoded (S.state scopes.old).frame fragments.old.nodes.items x }
-    requires index { IsThere (S.state scopes.old).frame index }
-    requires kind { IsKindHere (S.state scopes.old).frame kind }
-    ensures { (notes : NotesOf) → Coding (S.state scopes.old) (S.state scopes.new) notes notes fragments.old.nodes.items fragments.new.nodes.items site.now result IsCoded coded_in (λ c. if spec_broken c.scene index then gives in_error else gives (coded (operands.Computed cardinal) (spec_high c.scene (coded_in fragments.old.nodes.items x) kind))) }
-{
-    let broken = asked!(is_broken(scopes, site.around, index));
-    if broken {
-        return Ok(Ask::Known(Coded::in_error()));
+impl<S: Scopes> Coder<'_, '_, S> {
+    /// HIGH of an array variable with this index type, unless that is in error.
+    fn high_of_array(
+        &mut self,
+        x: Coded,
+        index: Place,
+        kind: RowMeaning,
+    ) -> Result<Ask<Coded>, Memory>
+        requires suits { SuitsPlace S.state self.old }
+        requires x { IsCoded (frame_of S.state self.old) (nodes_of self.old) x }
+        requires index { IsThere (frame_of S.state self.old) index }
+        requires kind { IsKindHere (frame_of S.state self.old) kind }
+        ensures keeps { Keeps self.old self.new }
+        ensures codes { Codes S.state self.old self.new result IsCoded coded_in (λ c. if spec_broken c.scene index then gives in_error else gives (coded (operands.Computed cardinal) (spec_high c.scene (coded_in (nodes_of self.old) x) kind))) }
+    {
+        let broken = asked!(is_broken(self.scopes, self.site.around, index));
+        if broken {
+            return Ok(Ask::Known(Coded::in_error()));
+        }
+        high_computed(self.scopes, self.site, x, kind, self.fragments)
     }
-    high_computed(scopes, site, x, kind, fragments)
-}
 
-/// HIGH of a variable, by the meaning of its type.
-fn high_of<S: Scopes>(
-    scopes: &mut S,
-    site: &Site,
-    at: u32,
-    x: Coded,
-    kind: RowMeaning,
-    fragments: &mut Fragments,
-    notes: &mut Notes,
-) -> Result<Ask<Coded>, Memory>
-    requires suits { SuitsSite (S.state scopes.old).frame site.now }
-    requires x { IsCoded (S.state scopes.old).frame fragments.old.nodes.items x }
-    requires kind { IsKindHere (S.state scopes.old).frame kind }
-    ensures { Coding (S.state scopes.old) (S.state scopes.new) notes.old notes.new fragments.old.nodes.items fragments.new.nodes.items site.now result IsCoded coded_in (λ c. spec_high_of c at (coded_in fragments.old.nodes.items x) kind) }
-{
-    match kind {
-        RowMeaning::Array(index, _, _) => high_of_array(scopes, site, x, index, kind, fragments),
-        RowMeaning::OpenArray(_) => high_computed(scopes, site, x, kind, fragments),
-        _ => refused(site, at, Diagnostic::WrongArgument, notes),
+    /// HIGH of a variable, by the meaning of its type.
+    fn high_of(&mut self, at: u32, x: Coded, kind: RowMeaning) -> Result<Ask<Coded>, Memory>
+        requires suits { SuitsPlace S.state self.old }
+        requires x { IsCoded (frame_of S.state self.old) (nodes_of self.old) x }
+        requires kind { IsKindHere (frame_of S.state self.old) kind }
+        ensures keeps { Keeps self.old self.new }
+        ensures codes { Codes S.state self.old self.new result IsCoded coded_in (λ c. spec_high_of c at (coded_in (nodes_of self.old) x) kind) }
+    {
+        match kind {
+            RowMeaning::Array(index, _, _) => self.high_of_array(x, index, kind),
+            RowMeaning::OpenArray(_) => high_computed(
+                self.scopes,
+                self.site,
+                x,
+                kind,
+                self.fragments,
+            ),
+            _ => refused(self.site, at, Diagnostic::WrongArgument, self.notes),
+        }
     }
 }
 
@@ -169,42 +171,32 @@ pub fn has_small_ordinal(place: Place)
     ensures { place.ordinal < 2 ^ 32 }
 {}
 
-/// HIGH of an argument that was a variable, or is in error.
-fn high_of_variable<S: Scopes>(
-    scopes: &mut S,
-    site: &Site,
-    at: u32,
-    x: Coded,
-    fragments: &mut Fragments,
-    notes: &mut Notes,
-) -> Result<Ask<Coded>, Memory>
-    requires suits { SuitsSite (S.state scopes.old).frame site.now }
-    requires x { IsCoded (S.state scopes.old).frame fragments.old.nodes.items x }
-    ensures { Coding (S.state scopes.old) (S.state scopes.new) notes.old notes.new fragments.old.nodes.items fragments.new.nodes.items site.now result IsCoded coded_in (λ c. spec_high_variable c at (coded_in fragments.old.nodes.items x)) }
-{
-    if is_bad(x.operand) {
-        return Ok(Ask::Known(Coded::in_error()));
+impl<S: Scopes> Coder<'_, '_, S> {
+    /// HIGH of an argument that was a variable, or is in error.
+    fn high_of_variable(&mut self, at: u32, x: Coded) -> Result<Ask<Coded>, Memory>
+        requires suits { SuitsPlace S.state self.old }
+        requires x { IsCoded (frame_of S.state self.old) (nodes_of self.old) x }
+        ensures keeps { Keeps self.old self.new }
+        ensures codes { Codes S.state self.old self.new result IsCoded coded_in (λ c. spec_high_variable c at (coded_in (nodes_of self.old) x)) }
+    {
+        if is_bad(x.operand) {
+            return Ok(Ask::Known(Coded::in_error()));
+        }
+        let (place, kind) = asked!(stand(self.scopes, self.site.around, operand_type(&x.operand)));
+        has_small_ordinal(place);
+        self.high_of(at, x, kind)
     }
-    let (place, kind) = asked!(stand(scopes, site.around, operand_type(&x.operand)));
-    has_small_ordinal(place);
-    high_of(scopes, site, at, x, kind, fragments, notes)
-}
 
-/// HIGH.
-fn high<S: Scopes>(
-    scopes: &mut S,
-    site: &Site,
-    at: u32,
-    x: Coded,
-    fragments: &mut Fragments,
-    notes: &mut Notes,
-) -> Result<Ask<Coded>, Memory>
-    requires suits { SuitsSite (S.state scopes.old).frame site.now }
-    requires x { IsCoded (S.state scopes.old).frame fragments.old.nodes.items x }
-    ensures { Coding (S.state scopes.old) (S.state scopes.new) notes.old notes.new fragments.old.nodes.items fragments.new.nodes.items site.now result IsCoded coded_in (λ c. and_then (spec_variable c at (coded_in fragments.old.nodes.items x)) (spec_high_variable c at)) }
-{
-    let v = analysed!(as_variable(site, at, x, notes));
-    high_of_variable(scopes, site, at, v, fragments, notes)
+    /// HIGH.
+    fn high(&mut self, at: u32, x: Coded) -> Result<Ask<Coded>, Memory>
+        requires suits { SuitsPlace S.state self.old }
+        requires x { IsCoded (frame_of S.state self.old) (nodes_of self.old) x }
+        ensures keeps { Keeps self.old self.new }
+        ensures codes { Codes S.state self.old self.new result IsCoded coded_in (λ c. and_then (spec_variable c at (coded_in (nodes_of self.old) x)) (spec_high_variable c at)) }
+    {
+        let v = analysed!(as_variable(self.site, at, x, self.notes));
+        self.high_of_variable(at, v)
+    }
 }
 
 /// A size, pushed.
@@ -248,21 +240,24 @@ fn size_made<S: Scopes>(
     Ok(Ask::Known(made(given, code)))
 }
 
-/// SIZE.
-fn size<S: Scopes>(
-    scopes: &mut S,
-    site: &Site,
-    at: u32,
-    x: Coded,
-    fragments: &mut Fragments,
-    notes: &mut Notes,
-) -> Result<Ask<Coded>, Memory>
-    requires suits { SuitsSite (S.state scopes.old).frame site.now }
-    requires x { IsCoded (S.state scopes.old).frame fragments.old.nodes.items x }
-    ensures { Coding (S.state scopes.old) (S.state scopes.new) notes.old notes.new fragments.old.nodes.items fragments.new.nodes.items site.now result IsCoded coded_in (λ c. and_then (of_type c functions.Size at x.operand) (λ r. gives (spec_made r (spec_size c (coded_in fragments.old.nodes.items x))))) }
-{
-    let given = analysed!(of_type_noted(scopes, site, TypeFunction::Size, at, x.operand, notes));
-    size_made(scopes, site, given, x, fragments)
+impl<S: Scopes> Coder<'_, '_, S> {
+    /// SIZE.
+    fn size(&mut self, at: u32, x: Coded) -> Result<Ask<Coded>, Memory>
+        requires suits { SuitsPlace S.state self.old }
+        requires x { IsCoded (frame_of S.state self.old) (nodes_of self.old) x }
+        ensures keeps { Keeps self.old self.new }
+        ensures codes { Codes S.state self.old self.new result IsCoded coded_in (λ c. and_then (of_type c functions.Size at x.operand) (λ r. gives (spec_made r (spec_size c (coded_in (nodes_of self.old) x))))) }
+    {
+        let given = analysed!(of_type_noted(
+            self.scopes,
+            self.site,
+            TypeFunction::Size,
+            at,
+            x.operand,
+            self.notes
+        ));
+        size_made(self.scopes, self.site, given, x, self.fragments)
+    }
 }
 
 /// What MIN or MAX gives of a type, which needs no code.
@@ -270,88 +265,79 @@ fn of_type_coded<S: Scopes>(
     scopes: &mut S,
     site: &Site,
     function: TypeFunction,
-    at: u32,
-    x: Operand,
+    x: Argument,
     notes: &mut Notes,
 ) -> Result<Ask<Coded>, Memory>
     requires suits { SuitsSite (S.state scopes.old).frame site.now }
-    requires x { IsOperand (S.state scopes.old).frame x }
-    ensures { (nodes : List Node) → Coding (S.state scopes.old) (S.state scopes.new) notes.old notes.new nodes nodes site.now result IsCoded coded_in (λ c. and_then (of_type c function at x) (λ r. gives (bare r))) }
+    requires x { IsOperand (S.state scopes.old).frame x.operand }
+    ensures { (nodes : List Node) → Coding (S.state scopes.old) (S.state scopes.new) notes.old notes.new nodes nodes site.now result IsCoded coded_in (λ c. and_then (of_type c function x.at x.operand) (λ r. gives (bare r))) }
 {
-    let given = analysed!(of_type_noted(scopes, site, function, at, x, notes));
+    let given = analysed!(of_type_noted(scopes, site, function, x.at, x.operand, notes));
     Ok(Ask::Known(Coded::bare(given)))
 }
 
-/// A function of a value, of which a value is wanted.
-fn of_value<S: Scopes>(
-    scopes: &mut S,
-    site: &Site,
-    function: ValueFunction,
-    at: u32,
-    x: Coded,
-    fragments: &mut Fragments,
-    notes: &mut Notes,
-) -> Result<Ask<Coded>, Memory>
-    requires suits { SuitsSite (S.state scopes.old).frame site.now }
-    requires x { IsCoded (S.state scopes.old).frame fragments.old.nodes.items x }
-    ensures { Coding (S.state scopes.old) (S.state scopes.new) notes.old notes.new fragments.old.nodes.items fragments.new.nodes.items site.now result IsCoded coded_in (λ c. spec_on_value c at (coded_in fragments.old.nodes.items x) (spec_of_value c function at) (code_of c (rules.Function function))) }
-{
-    on_value(
-        scopes,
-        site,
-        Rule::Function(function),
-        at,
-        x,
-        fragments,
-        notes,
-    )
-}
-
-/// A function of one argument; of other standard procedures nobody asks.
-pub fn function_of_one<S: Scopes>(
-    scopes: &mut S,
-    site: &Site,
-    f: Builtin,
-    at: u32,
-    x: Coded,
-    fragments: &mut Fragments,
-    notes: &mut Notes,
-) -> Result<Ask<Coded>, Memory>
-    requires suits { SuitsSite (S.state scopes.old).frame site.now }
-    requires x { IsCoded (S.state scopes.old).frame fragments.old.nodes.items x }
-    ensures { Coding (S.state scopes.old) (S.state scopes.new) notes.old notes.new fragments.old.nodes.items fragments.new.nodes.items site.now result IsCoded coded_in (λ c. spec_one c f at (coded_in fragments.old.nodes.items x)) }
-{
-    match f {
-        Builtin::Abs => of_value(scopes, site, ValueFunction::Abs, at, x, fragments, notes),
-        Builtin::Cap => of_value(scopes, site, ValueFunction::Cap, at, x, fragments, notes),
-        Builtin::Chr => of_value(scopes, site, ValueFunction::Chr, at, x, fragments, notes),
-        Builtin::Odd => of_value(scopes, site, ValueFunction::Odd, at, x, fragments, notes),
-        Builtin::Ord => of_value(scopes, site, ValueFunction::Ord, at, x, fragments, notes),
-        Builtin::Min => of_type_coded(scopes, site, TypeFunction::Min, at, x.operand, notes),
-        Builtin::Max => of_type_coded(scopes, site, TypeFunction::Max, at, x.operand, notes),
-        Builtin::Size => size(scopes, site, at, x, fragments, notes),
-        Builtin::High => high(scopes, site, at, x, fragments, notes),
-        _ => Ok(Ask::Known(Coded::in_error())),
+impl<S: Scopes> Coder<'_, '_, S> {
+    /// A function of a value, of which a value is wanted.
+    fn of_value(&mut self, function: ValueFunction, at: u32, x: Coded) -> Result<Ask<Coded>, Memory>
+        requires suits { SuitsPlace S.state self.old }
+        requires x { IsCoded (frame_of S.state self.old) (nodes_of self.old) x }
+        ensures keeps { Keeps self.old self.new }
+        ensures codes { Codes S.state self.old self.new result IsCoded coded_in (λ c. spec_on_value c at (coded_in (nodes_of self.old) x) (spec_of_value c function at) (code_of c (rules.Function function))) }
+    {
+        self.on_value(Rule::Function(function), at, x)
     }
-}
 
-/// VAL, of a type and a value.
-pub fn value_of_type<S: Scopes>(
-    scopes: &mut S,
-    site: &Site,
-    of: Placed,
-    x: Placed,
-    fragments: &mut Fragments,
-    notes: &mut Notes,
-) -> Result<Ask<Coded>, Memory>
-    requires suits { SuitsSite (S.state scopes.old).frame site.now }
-    requires of { IsCoded (S.state scopes.old).frame fragments.old.nodes.items of.coded }
-    requires x { IsCoded (S.state scopes.old).frame fragments.old.nodes.items x.coded }
-    ensures { Coding (S.state scopes.old) (S.state scopes.new) notes.old notes.new fragments.old.nodes.items fragments.new.nodes.items site.now result IsCoded coded_in (λ c. spec_value c of.at (coded_in fragments.old.nodes.items of.coded) x.at (coded_in fragments.old.nodes.items x.coded)) }
-{
-    let rule = Rule::Val(Argument {
-        at: of.at,
-        operand: of.coded.operand,
-    });
-    on_value(scopes, site, rule, x.at, x.coded, fragments, notes)
+    /// A function of one argument; of other standard procedures nobody asks.
+    pub fn function_of_one(&mut self, f: Builtin, at: u32, x: Coded) -> Result<Ask<Coded>, Memory>
+        requires suits { SuitsPlace S.state self.old }
+        requires x { IsCoded (frame_of S.state self.old) (nodes_of self.old) x }
+        ensures keeps { Keeps self.old self.new }
+        ensures codes { Codes S.state self.old self.new result IsCoded coded_in (λ c. spec_one c f at (coded_in (nodes_of self.old) x)) }
+    {
+        match f {
+            Builtin::Abs => self.of_value(ValueFunction::Abs, at, x),
+            Builtin::Cap => self.of_value(ValueFunction::Cap, at, x),
+            Builtin::Chr => self.of_value(ValueFunction::Chr, at, x),
+            Builtin::Odd => self.of_value(ValueFunction::Odd, at, x),
+            Builtin::Ord => self.of_value(ValueFunction::Ord, at, x),
+            Builtin::Min => of_type_coded(
+                self.scopes,
+                self.site,
+                TypeFunction::Min,
+                Argument {
+                    at,
+                    operand: x.operand,
+                },
+                self.notes,
+            ),
+            Builtin::Max => of_type_coded(
+                self.scopes,
+                self.site,
+                TypeFunction::Max,
+                Argument {
+                    at,
+                    operand: x.operand,
+                },
+                self.notes,
+            ),
+            Builtin::Size => self.size(at, x),
+            Builtin::High => self.high(at, x),
+            _ => Ok(Ask::Known(Coded::in_error())),
+        }
+    }
+
+    /// VAL, of a type and a value.
+    pub fn value_of_type(&mut self, of: Placed, x: Placed) -> Result<Ask<Coded>, Memory>
+        requires suits { SuitsPlace S.state self.old }
+        requires of { IsCoded (frame_of S.state self.old) (nodes_of self.old) of.coded }
+        requires x { IsCoded (frame_of S.state self.old) (nodes_of self.old) x.coded }
+        ensures keeps { Keeps self.old self.new }
+        ensures codes { Codes S.state self.old self.new result IsCoded coded_in (λ c. spec_value c of.at (coded_in (nodes_of self.old) of.coded) x.at (coded_in (nodes_of self.old) x.coded)) }
+    {
+        let rule = Rule::Val(Argument {
+            at: of.at,
+            operand: of.coded.operand,
+        });
+        self.on_value(rule, x.at, x.coded)
+    }
 }

@@ -5,6 +5,7 @@ ghost use Rattle.m2_base.specs.States.{State};
 ghost use Rattle.m2_base.specs.declared.notes.Notes.{Notes as NotesOf};
 ghost use Rattle.m2_base.specs.declared.sites.Site.{Site as SiteOf};
 ghost use Rattle.code_form.specs.declared.instr.Instr.TheVariants as instrs;
+ghost use Rattle.expr_sem.specs.Coders.{Codes, Keeps, SuitsPlace, frame_of, nodes_of};
 ghost use Rattle.expr_sem.specs.Coded.{coded};
 ghost use Rattle.expr_sem.specs.Codings.{Coding, IsCoded, coded_in};
 ghost use Rattle.expr_sem.specs.Parts.{plain};
@@ -12,12 +13,12 @@ ghost use Rattle.expr_sem.specs.StandardProcedures.{disposed as spec_disposed, f
 ghost use Rattle.type_rules.specs.Sites.{SuitsSite};
 
 use crate::coded::{Coded, Placed};
+use crate::coder::Coder;
 use crate::fragments::Fragments;
 use crate::rooms::{disposed, new_room};
-use crate::set_members::{included, set_member};
-use crate::standard_functions::{function_of_one, value_of_type};
+use crate::set_members::set_member;
 use crate::step_numbers::step_number;
-use crate::updates::{NO_VALUE, stepped};
+use crate::updates::NO_VALUE;
 use crate::variable_arguments::{Wanted, variable_argument};
 use code_form::Instr;
 use m2_base::{Ask, Builtin, Memory, Notes, Operand, Scopes, Site};
@@ -69,172 +70,166 @@ pub fn of_no_argument(f: Builtin, fragments: &mut Fragments) -> Result<Ask<Coded
     }
 }
 
-/// INC or DEC of a variable by 1.
-fn stepped_by_one<S: Scopes>(
-    scopes: &mut S,
-    site: &Site,
-    f: Builtin,
-    at: u32,
-    x: Coded,
-    fragments: &mut Fragments,
-    notes: &mut Notes,
-) -> Result<Ask<Coded>, Memory>
-    requires suits { SuitsSite (S.state scopes.old).frame site.now }
-    requires x { IsCoded (S.state scopes.old).frame fragments.old.nodes.items x }
-    ensures { Coding (S.state scopes.old) (S.state scopes.new) notes.old notes.new fragments.old.nodes.items fragments.new.nodes.items site.now result IsCoded coded_in (λ c. and_then (ordinal_variable c at (coded_in fragments.old.nodes.items x)) (λ v. gives (spec_stepped c f v one))) }
-{
-    let v = analysed!(variable_argument(scopes, site, Wanted::Ordinal, at, x, fragments, notes));
-    let one = Coded::bare(Operand::Constant(WHOLE, 1));
-    stepped(scopes, site, f, v, one, fragments)
-}
-
-/// NEW.
-fn new_argument<S: Scopes>(
-    scopes: &mut S,
-    site: &Site,
-    at: u32,
-    x: Coded,
-    fragments: &mut Fragments,
-    notes: &mut Notes,
-) -> Result<Ask<Coded>, Memory>
-    requires suits { SuitsSite (S.state scopes.old).frame site.now }
-    requires x { IsCoded (S.state scopes.old).frame fragments.old.nodes.items x }
-    ensures { Coding (S.state scopes.old) (S.state scopes.new) notes.old notes.new fragments.old.nodes.items fragments.new.nodes.items site.now result IsCoded coded_in (λ c. and_then (pointer_variable c at (coded_in fragments.old.nodes.items x)) (λ v. gives (spec_new c v))) }
-{
-    let v = analysed!(variable_argument(scopes, site, Wanted::Pointer, at, x, fragments, notes));
-    new_room(scopes, site, v, fragments)
-}
-
-/// DISPOSE.
-fn disposed_argument<S: Scopes>(
-    scopes: &mut S,
-    site: &Site,
-    at: u32,
-    x: Coded,
-    fragments: &mut Fragments,
-    notes: &mut Notes,
-) -> Result<Ask<Coded>, Memory>
-    requires suits { SuitsSite (S.state scopes.old).frame site.now }
-    requires x { IsCoded (S.state scopes.old).frame fragments.old.nodes.items x }
-    ensures { Coding (S.state scopes.old) (S.state scopes.new) notes.old notes.new fragments.old.nodes.items fragments.new.nodes.items site.now result IsCoded coded_in (λ c. and_then (pointer_variable c at (coded_in fragments.old.nodes.items x)) (λ v. gives (spec_disposed v))) }
-{
-    let v = analysed!(variable_argument(scopes, site, Wanted::Pointer, at, x, fragments, notes));
-    disposed(v, fragments)
-}
-
-/// A standard procedure of one argument.
-pub fn of_one_argument<S: Scopes>(
-    scopes: &mut S,
-    site: &Site,
-    f: Builtin,
-    at: u32,
-    x: Coded,
-    fragments: &mut Fragments,
-    notes: &mut Notes,
-) -> Result<Ask<Coded>, Memory>
-    requires suits { SuitsSite (S.state scopes.old).frame site.now }
-    requires x { IsCoded (S.state scopes.old).frame fragments.old.nodes.items x }
-    ensures { Coding (S.state scopes.old) (S.state scopes.new) notes.old notes.new fragments.old.nodes.items fragments.new.nodes.items site.now result IsCoded coded_in (λ c. spec_one c f at (coded_in fragments.old.nodes.items x)) }
-{
-    match f {
-        Builtin::Inc => stepped_by_one(scopes, site, Builtin::Inc, at, x, fragments, notes),
-        Builtin::Dec => stepped_by_one(scopes, site, Builtin::Dec, at, x, fragments, notes),
-        Builtin::New => new_argument(scopes, site, at, x, fragments, notes),
-        Builtin::Dispose => disposed_argument(scopes, site, at, x, fragments, notes),
-        _ => function_of_one(scopes, site, f, at, x, fragments, notes),
+impl<S: Scopes> Coder<'_, '_, S> {
+    /// INC or DEC of a variable by 1.
+    fn stepped_by_one(&mut self, f: Builtin, at: u32, x: Coded) -> Result<Ask<Coded>, Memory>
+        requires suits { SuitsPlace S.state self.old }
+        requires x { IsCoded (frame_of S.state self.old) (nodes_of self.old) x }
+        ensures keeps { Keeps self.old self.new }
+        ensures codes { Codes S.state self.old self.new result IsCoded coded_in (λ c. and_then (ordinal_variable c at (coded_in (nodes_of self.old) x)) (λ v. gives (spec_stepped c f v one))) }
+    {
+        let v = analysed!(variable_argument(
+            self.scopes,
+            self.site,
+            Wanted::Ordinal,
+            Placed { at, coded: x },
+            self.fragments,
+            self.notes
+        ));
+        let one = Coded::bare(Operand::Constant(WHOLE, 1));
+        self.stepped(f, v, one)
     }
-}
 
-/// The first of two arguments, before the second is looked at.
-pub fn first_of_two<S: Scopes>(
-    scopes: &mut S,
-    site: &Site,
-    f: Builtin,
-    at: u32,
-    x: Coded,
-    fragments: &mut Fragments,
-    notes: &mut Notes,
-) -> Result<Ask<Coded>, Memory>
-    requires suits { SuitsSite (S.state scopes.old).frame site.now }
-    requires x { IsCoded (S.state scopes.old).frame fragments.old.nodes.items x }
-    ensures { Coding (S.state scopes.old) (S.state scopes.new) notes.old notes.new fragments.old.nodes.items fragments.new.nodes.items site.now result IsCoded coded_in (λ c. spec_first c f at (coded_in fragments.old.nodes.items x)) }
-{
-    match f {
-        Builtin::Inc => variable_argument(scopes, site, Wanted::Ordinal, at, x, fragments, notes),
-        Builtin::Dec => variable_argument(scopes, site, Wanted::Ordinal, at, x, fragments, notes),
-        Builtin::Incl => variable_argument(scopes, site, Wanted::Set, at, x, fragments, notes),
-        Builtin::Excl => variable_argument(scopes, site, Wanted::Set, at, x, fragments, notes),
-        _ => Ok(Ask::Known(x)),
+    /// NEW.
+    fn new_argument(&mut self, at: u32, x: Coded) -> Result<Ask<Coded>, Memory>
+        requires suits { SuitsPlace S.state self.old }
+        requires x { IsCoded (frame_of S.state self.old) (nodes_of self.old) x }
+        ensures keeps { Keeps self.old self.new }
+        ensures codes { Codes S.state self.old self.new result IsCoded coded_in (λ c. and_then (pointer_variable c at (coded_in (nodes_of self.old) x)) (λ v. gives (spec_new c v))) }
+    {
+        let v = analysed!(variable_argument(
+            self.scopes,
+            self.site,
+            Wanted::Pointer,
+            Placed { at, coded: x },
+            self.fragments,
+            self.notes
+        ));
+        new_room(self.scopes, self.site, v, self.fragments)
     }
-}
 
-/// INC or DEC of a variable by a number.
-fn stepped_by_number<S: Scopes>(
-    scopes: &mut S,
-    site: &Site,
-    f: Builtin,
-    x: Coded,
-    n: Placed,
-    fragments: &mut Fragments,
-    notes: &mut Notes,
-) -> Result<Ask<Coded>, Memory>
-    requires suits { SuitsSite (S.state scopes.old).frame site.now }
-    requires x { IsCoded (S.state scopes.old).frame fragments.old.nodes.items x }
-    requires n { IsCoded (S.state scopes.old).frame fragments.old.nodes.items n.coded }
-    ensures { Coding (S.state scopes.old) (S.state scopes.new) notes.old notes.new fragments.old.nodes.items fragments.new.nodes.items site.now result IsCoded coded_in (λ c. and_then (spec_number c (coded_in fragments.old.nodes.items x) n.at (coded_in fragments.old.nodes.items n.coded)) (λ v. gives (spec_stepped c f (coded_in fragments.old.nodes.items x) v))) }
-{
-    let v = analysed!(step_number(scopes, site, x, n.at, n.coded, fragments, notes));
-    stepped(scopes, site, f, x, v, fragments)
-}
+    /// DISPOSE.
+    fn disposed_argument(&mut self, at: u32, x: Coded) -> Result<Ask<Coded>, Memory>
+        requires suits { SuitsPlace S.state self.old }
+        requires x { IsCoded (frame_of S.state self.old) (nodes_of self.old) x }
+        ensures keeps { Keeps self.old self.new }
+        ensures codes { Codes S.state self.old self.new result IsCoded coded_in (λ c. and_then (pointer_variable c at (coded_in (nodes_of self.old) x)) (λ v. gives (spec_disposed v))) }
+    {
+        let v = analysed!(variable_argument(
+            self.scopes,
+            self.site,
+            Wanted::Pointer,
+            Placed { at, coded: x },
+            self.fragments,
+            self.notes
+        ));
+        disposed(v, self.fragments)
+    }
 
-/// INCL or EXCL of a set and an element.
-fn included_element<S: Scopes>(
-    scopes: &mut S,
-    site: &Site,
-    f: Builtin,
-    x: Coded,
-    e: Placed,
-    fragments: &mut Fragments,
-    notes: &mut Notes,
-) -> Result<Ask<Coded>, Memory>
-    requires suits { SuitsSite (S.state scopes.old).frame site.now }
-    requires x { IsCoded (S.state scopes.old).frame fragments.old.nodes.items x }
-    requires e { IsCoded (S.state scopes.old).frame fragments.old.nodes.items e.coded }
-    ensures { Coding (S.state scopes.old) (S.state scopes.new) notes.old notes.new fragments.old.nodes.items fragments.new.nodes.items site.now result IsCoded coded_in (λ c. and_then (spec_member c (coded_in fragments.old.nodes.items x) e.at (coded_in fragments.old.nodes.items e.coded)) (λ v. gives (spec_included c f (coded_in fragments.old.nodes.items x) v))) }
-{
-    let v = analysed!(set_member(scopes, site, x, e.at, e.coded, fragments, notes));
-    included(scopes, site, f, x, v, fragments)
-}
+    /// A standard procedure of one argument.
+    pub fn of_one_argument(&mut self, f: Builtin, at: u32, x: Coded) -> Result<Ask<Coded>, Memory>
+        requires suits { SuitsPlace S.state self.old }
+        requires x { IsCoded (frame_of S.state self.old) (nodes_of self.old) x }
+        ensures keeps { Keeps self.old self.new }
+        ensures codes { Codes S.state self.old self.new result IsCoded coded_in (λ c. spec_one c f at (coded_in (nodes_of self.old) x)) }
+    {
+        match f {
+            Builtin::Inc => self.stepped_by_one(Builtin::Inc, at, x),
+            Builtin::Dec => self.stepped_by_one(Builtin::Dec, at, x),
+            Builtin::New => self.new_argument(at, x),
+            Builtin::Dispose => self.disposed_argument(at, x),
+            _ => self.function_of_one(f, at, x),
+        }
+    }
 
-/// A standard procedure of two arguments, of which the first is as `first_of_two` gives it; of others nobody asks.
-pub fn of_two_arguments<S: Scopes>(
-    scopes: &mut S,
-    site: &Site,
-    f: Builtin,
-    x: Placed,
-    y: Placed,
-    fragments: &mut Fragments,
-    notes: &mut Notes,
-) -> Result<Ask<Coded>, Memory>
-    requires suits { SuitsSite (S.state scopes.old).frame site.now }
-    requires x { IsCoded (S.state scopes.old).frame fragments.old.nodes.items x.coded }
-    requires y { IsCoded (S.state scopes.old).frame fragments.old.nodes.items y.coded }
-    ensures { Coding (S.state scopes.old) (S.state scopes.new) notes.old notes.new fragments.old.nodes.items fragments.new.nodes.items site.now result IsCoded coded_in (λ c. spec_two c f x.at (coded_in fragments.old.nodes.items x.coded) y.at (coded_in fragments.old.nodes.items y.coded)) }
-{
-    match f {
-        Builtin::Inc => {
-            stepped_by_number(scopes, site, Builtin::Inc, x.coded, y, fragments, notes)
+    /// The first of two arguments, before the second is looked at.
+    pub fn first_of_two(&mut self, f: Builtin, at: u32, x: Coded) -> Result<Ask<Coded>, Memory>
+        requires suits { SuitsPlace S.state self.old }
+        requires x { IsCoded (frame_of S.state self.old) (nodes_of self.old) x }
+        ensures keeps { Keeps self.old self.new }
+        ensures codes { Codes S.state self.old self.new result IsCoded coded_in (λ c. spec_first c f at (coded_in (nodes_of self.old) x)) }
+    {
+        match f {
+            Builtin::Inc => variable_argument(
+                self.scopes,
+                self.site,
+                Wanted::Ordinal,
+                Placed { at, coded: x },
+                self.fragments,
+                self.notes,
+            ),
+            Builtin::Dec => variable_argument(
+                self.scopes,
+                self.site,
+                Wanted::Ordinal,
+                Placed { at, coded: x },
+                self.fragments,
+                self.notes,
+            ),
+            Builtin::Incl => variable_argument(
+                self.scopes,
+                self.site,
+                Wanted::Set,
+                Placed { at, coded: x },
+                self.fragments,
+                self.notes,
+            ),
+            Builtin::Excl => variable_argument(
+                self.scopes,
+                self.site,
+                Wanted::Set,
+                Placed { at, coded: x },
+                self.fragments,
+                self.notes,
+            ),
+            _ => Ok(Ask::Known(x)),
         }
-        Builtin::Dec => {
-            stepped_by_number(scopes, site, Builtin::Dec, x.coded, y, fragments, notes)
+    }
+
+    /// INC or DEC of a variable by a number.
+    fn stepped_by_number(&mut self, f: Builtin, x: Coded, n: Placed) -> Result<Ask<Coded>, Memory>
+        requires suits { SuitsPlace S.state self.old }
+        requires x { IsCoded (frame_of S.state self.old) (nodes_of self.old) x }
+        requires n { IsCoded (frame_of S.state self.old) (nodes_of self.old) n.coded }
+        ensures keeps { Keeps self.old self.new }
+        ensures codes { Codes S.state self.old self.new result IsCoded coded_in (λ c. and_then (spec_number c (coded_in (nodes_of self.old) x) n.at (coded_in (nodes_of self.old) n.coded)) (λ v. gives (spec_stepped c f (coded_in (nodes_of self.old) x) v))) }
+    {
+        let v = analysed!(step_number(self.scopes, self.site, x, n, self.fragments, self.notes));
+        self.stepped(f, x, v)
+    }
+
+    /// INCL or EXCL of a set and an element.
+    fn included_element(&mut self, f: Builtin, x: Coded, e: Placed) -> Result<Ask<Coded>, Memory>
+        requires suits { SuitsPlace S.state self.old }
+        requires x { IsCoded (frame_of S.state self.old) (nodes_of self.old) x }
+        requires e { IsCoded (frame_of S.state self.old) (nodes_of self.old) e.coded }
+        ensures keeps { Keeps self.old self.new }
+        ensures codes { Codes S.state self.old self.new result IsCoded coded_in (λ c. and_then (spec_member c (coded_in (nodes_of self.old) x) e.at (coded_in (nodes_of self.old) e.coded)) (λ v. gives (spec_included c f (coded_in (nodes_of self.old) x) v))) }
+    {
+        let v = analysed!(set_member(self.scopes, self.site, x, e, self.fragments, self.notes));
+        self.included(f, x, v)
+    }
+
+    /// A standard procedure of two arguments, of which the first is as `first_of_two` gives it; of others nobody asks.
+    pub fn of_two_arguments(
+        &mut self,
+        f: Builtin,
+        x: Placed,
+        y: Placed,
+    ) -> Result<Ask<Coded>, Memory>
+        requires suits { SuitsPlace S.state self.old }
+        requires x { IsCoded (frame_of S.state self.old) (nodes_of self.old) x.coded }
+        requires y { IsCoded (frame_of S.state self.old) (nodes_of self.old) y.coded }
+        ensures keeps { Keeps self.old self.new }
+        ensures codes { Codes S.state self.old self.new result IsCoded coded_in (λ c. spec_two c f x.at (coded_in (nodes_of self.old) x.coded) y.at (coded_in (nodes_of self.old) y.coded)) }
+    {
+        match f {
+            Builtin::Inc => self.stepped_by_number(Builtin::Inc, x.coded, y),
+            Builtin::Dec => self.stepped_by_number(Builtin::Dec, x.coded, y),
+            Builtin::Incl => self.included_element(Builtin::Incl, x.coded, y),
+            Builtin::Excl => self.included_element(Builtin::Excl, x.coded, y),
+            Builtin::Val => self.value_of_type(x, y),
+            _ => Ok(Ask::Known(Coded::in_error())),
         }
-        Builtin::Incl => {
-            included_element(scopes, site, Builtin::Incl, x.coded, y, fragments, notes)
-        }
-        Builtin::Excl => {
-            included_element(scopes, site, Builtin::Excl, x.coded, y, fragments, notes)
-        }
-        Builtin::Val => value_of_type(scopes, site, x, y, fragments, notes),
-        _ => Ok(Ask::Known(Coded::in_error())),
     }
 }

@@ -18,7 +18,7 @@ ghost use Rattle.type_rules.specs.Asks.{Reads, WhereKnown, WhereWaiting};
 ghost use Rattle.type_rules.specs.Scenes.{IsThere, Suits, WhereTold, scene_of};
 ghost use Rattle.type_rules.specs.Sites.{SuitsSite, context_of};
 
-use crate::coded::Coded;
+use crate::coded::{Coded, Placed};
 use crate::fragments::Fragments;
 use crate::refusals::refused;
 use crate::updates::either_bad;
@@ -92,20 +92,19 @@ fn is_step<S: Scopes>(scopes: &mut S, site: &Site, want: Place, operand: Operand
 fn number_or_refused<S: Scopes>(
     scopes: &mut S,
     site: &Site,
-    at: u32,
     want: Place,
     holds: bool,
-    n: Coded,
+    n: Placed,
     notes: &mut Notes,
 ) -> Result<Ask<Coded>, Memory>
     requires suits { SuitsSite (S.state scopes.old).frame site.now }
     requires want { IsThere (S.state scopes.old).frame want }
-    ensures { (nodes : List Node) → IsCoded (S.state scopes.old).frame nodes n → Coding (S.state scopes.old) (S.state scopes.new) notes.old notes.new nodes nodes site.now result IsCoded coded_in (λ c. if holds then spec_in_range c at want (coded_in nodes n) else refuse c at wrong_argument in_error) }
+    ensures { (nodes : List Node) → IsCoded (S.state scopes.old).frame nodes n.coded → Coding (S.state scopes.old) (S.state scopes.new) notes.old notes.new nodes nodes site.now result IsCoded coded_in (λ c. if holds then spec_in_range c n.at want (coded_in nodes n.coded) else refuse c n.at wrong_argument in_error) }
 {
     if holds {
-        in_range(scopes, site, at, want, n, notes)
+        in_range(scopes, site, want, n, notes)
     } else {
-        refused(site, at, Diagnostic::WrongArgument, notes)
+        refused(site, n.at, Diagnostic::WrongArgument, notes)
     }
 }
 
@@ -113,18 +112,17 @@ fn number_or_refused<S: Scopes>(
 fn number_of_type<S: Scopes>(
     scopes: &mut S,
     site: &Site,
-    at: u32,
     want: Place,
-    n: Coded,
+    n: Placed,
     notes: &mut Notes,
 ) -> Result<Ask<Coded>, Memory>
     requires suits { SuitsSite (S.state scopes.old).frame site.now }
     requires want { IsThere (S.state scopes.old).frame want }
-    requires n { IsOperand (S.state scopes.old).frame n.operand }
-    ensures { (nodes : List Node) → IsCoded (S.state scopes.old).frame nodes n → Coding (S.state scopes.old) (S.state scopes.new) notes.old notes.new nodes nodes site.now result IsCoded coded_in (λ c. spec_of_type c at want (coded_in nodes n)) }
+    requires n { IsOperand (S.state scopes.old).frame n.coded.operand }
+    ensures { (nodes : List Node) → IsCoded (S.state scopes.old).frame nodes n.coded → Coding (S.state scopes.old) (S.state scopes.new) notes.old notes.new nodes nodes site.now result IsCoded coded_in (λ c. spec_of_type c n.at want (coded_in nodes n.coded)) }
 {
-    let holds = asked!(is_step(scopes, site, want, n.operand));
-    number_or_refused(scopes, site, at, want, holds, n, notes)
+    let holds = asked!(is_step(scopes, site, want, n.coded.operand));
+    number_or_refused(scopes, site, want, holds, n, notes)
 }
 
 /// A number by which a variable of this type is changed.
@@ -132,17 +130,16 @@ fn number_for<S: Scopes>(
     scopes: &mut S,
     site: &Site,
     of: Place,
-    at: u32,
-    n: Coded,
+    n: Placed,
     notes: &mut Notes,
 ) -> Result<Ask<Coded>, Memory>
     requires suits { SuitsSite (S.state scopes.old).frame site.now }
     requires of { IsThere (S.state scopes.old).frame of }
-    requires n { IsOperand (S.state scopes.old).frame n.operand }
-    ensures { (nodes : List Node) → IsCoded (S.state scopes.old).frame nodes n → Coding (S.state scopes.old) (S.state scopes.new) notes.old notes.new nodes nodes site.now result IsCoded coded_in (λ c. spec_of_type c at (spec_step_type c.scene of) (coded_in nodes n)) }
+    requires n { IsOperand (S.state scopes.old).frame n.coded.operand }
+    ensures { (nodes : List Node) → IsCoded (S.state scopes.old).frame nodes n.coded → Coding (S.state scopes.old) (S.state scopes.new) notes.old notes.new nodes nodes site.now result IsCoded coded_in (λ c. spec_of_type c n.at (spec_step_type c.scene of) (coded_in nodes n.coded)) }
 {
     let want = asked!(step_type(scopes, site, of));
-    number_of_type(scopes, site, at, want, n, notes)
+    number_of_type(scopes, site, want, n, notes)
 }
 
 /// A number beside the variable of its call, where neither is in error.
@@ -150,19 +147,18 @@ fn number_beside<S: Scopes>(
     scopes: &mut S,
     site: &Site,
     x: Coded,
-    at: u32,
-    n: Coded,
+    n: Placed,
     notes: &mut Notes,
 ) -> Result<Ask<Coded>, Memory>
     requires suits { SuitsSite (S.state scopes.old).frame site.now }
     requires x { IsOperand (S.state scopes.old).frame x.operand }
-    requires n { IsOperand (S.state scopes.old).frame n.operand }
-    ensures { (nodes : List Node) → IsCoded (S.state scopes.old).frame nodes n → Coding (S.state scopes.old) (S.state scopes.new) notes.old notes.new nodes nodes site.now result IsCoded coded_in (λ c. beside (coded_in nodes x) (spec_of_type c at (spec_step_type c.scene (spec_type x.operand))) (coded_in nodes n)) }
+    requires n { IsOperand (S.state scopes.old).frame n.coded.operand }
+    ensures { (nodes : List Node) → IsCoded (S.state scopes.old).frame nodes n.coded → Coding (S.state scopes.old) (S.state scopes.new) notes.old notes.new nodes nodes site.now result IsCoded coded_in (λ c. beside (coded_in nodes x) (spec_of_type c n.at (spec_step_type c.scene (spec_type x.operand))) (coded_in nodes n.coded)) }
 {
-    if either_bad(x.operand, n.operand) {
+    if either_bad(x.operand, n.coded.operand) {
         return Ok(Ask::Known(Coded::in_error()));
     }
-    number_for(scopes, site, operand_type(&x.operand), at, n, notes)
+    number_for(scopes, site, operand_type(&x.operand), n, notes)
 }
 
 /// The number by which a variable is changed.
@@ -170,16 +166,15 @@ pub fn step_number<S: Scopes>(
     scopes: &mut S,
     site: &Site,
     x: Coded,
-    at: u32,
-    n: Coded,
+    n: Placed,
     fragments: &Fragments,
     notes: &mut Notes,
 ) -> Result<Ask<Coded>, Memory>
     requires suits { SuitsSite (S.state scopes.old).frame site.now }
     requires x { IsOperand (S.state scopes.old).frame x.operand }
-    requires n { IsCoded (S.state scopes.old).frame fragments.now.nodes.items n }
-    ensures { Coding (S.state scopes.old) (S.state scopes.new) notes.old notes.new fragments.now.nodes.items fragments.now.nodes.items site.now result IsCoded coded_in (λ c. spec_step_number c (coded_in fragments.now.nodes.items x) at (coded_in fragments.now.nodes.items n)) }
+    requires n { IsCoded (S.state scopes.old).frame fragments.now.nodes.items n.coded }
+    ensures { Coding (S.state scopes.old) (S.state scopes.new) notes.old notes.new fragments.now.nodes.items fragments.now.nodes.items site.now result IsCoded coded_in (λ c. spec_step_number c (coded_in fragments.now.nodes.items x) n.at (coded_in fragments.now.nodes.items n.coded)) }
 {
-    let v = analysed!(as_value(site, at, n, notes));
-    number_beside(scopes, site, x, at, v, notes)
+    let v = analysed!(as_value(site, n.at, n.coded, notes));
+    number_beside(scopes, site, x, Placed { at: n.at, coded: v }, notes)
 }

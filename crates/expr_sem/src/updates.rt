@@ -6,6 +6,7 @@ ghost use Rattle.m2_base.specs.Statics.Operands.{is_bad as spec_bad, operand_typ
 ghost use Rattle.m2_base.specs.Statics.Ranges.{range};
 ghost use Rattle.m2_base.specs.declared.notes.Notes.{Notes as NotesOf};
 ghost use Rattle.code_form.specs.declared.instr.Instr.TheVariants as instrs;
+ghost use Rattle.expr_sem.specs.Coders.{Codes, Keeps, SuitsPlace, frame_of, nodes_of};
 ghost use Rattle.expr_sem.specs.Coded.{coded, value_code as spec_value_code};
 ghost use Rattle.expr_sem.specs.Codings.{Coding, IsCoded, coded_in};
 ghost use Rattle.expr_sem.specs.Fitting.{check_of};
@@ -19,6 +20,7 @@ ghost use Rattle.type_rules.specs.Sites.{SuitsSite, context_of};
 
 use crate::chains::{instr_behind, pair};
 use crate::coded::Coded;
+use crate::coder::Coder;
 use crate::fragments::{Fragment, Fragments};
 use crate::operators::side_of;
 use crate::values::value_code;
@@ -133,51 +135,38 @@ fn step_change<S: Scopes>(scopes: &mut S, site: &Site, f: Builtin, of: Place) ->
     })
 }
 
-/// A variable of a type, changed by INC or DEC by a number.
-fn step_code<S: Scopes>(
-    scopes: &mut S,
-    site: &Site,
-    f: Builtin,
-    of: Place,
-    variable: Fragment,
-    number: Fragment,
-    fragments: &mut Fragments,
-) -> Result<Ask<Coded>, Memory>
-    requires suits { SuitsSite (S.state scopes.old).frame site.now }
-    requires of { IsThere (S.state scopes.old).frame of }
-    requires variable { IsIn fragments.old.nodes.items variable }
-    requires number { IsIn fragments.old.nodes.items number }
-    ensures { (notes : NotesOf) → Coding (S.state scopes.old) (S.state scopes.new) notes notes fragments.old.nodes.items fragments.new.nodes.items site.now result IsCoded coded_in (λ c. gives (coded no_value (updated_by (part fragments.old.nodes.items variable) (part fragments.old.nodes.items number) (spec_step_instrs c.scene f of)))) }
-{
-    let change = asked!(step_change(scopes, site, f, of));
-    let code = updated(variable, number, change, fragments)?;
-    Ok(Ask::Known(Coded::new(NO_VALUE, code)))
-}
+impl<S: Scopes> Coder<'_, '_, S> {
+    /// A variable of a type, changed by INC or DEC by a number.
+    fn step_code(
+        &mut self,
+        f: Builtin,
+        of: Place,
+        variable: Fragment,
+        number: Fragment,
+    ) -> Result<Ask<Coded>, Memory>
+        requires suits { SuitsPlace S.state self.old }
+        requires of { IsThere (frame_of S.state self.old) of }
+        requires variable { IsIn (nodes_of self.old) variable }
+        requires number { IsIn (nodes_of self.old) number }
+        ensures keeps { Keeps self.old self.new }
+        ensures codes { Codes S.state self.old self.new result IsCoded coded_in (λ c. gives (coded no_value (updated_by (part (nodes_of self.old) variable) (part (nodes_of self.old) number) (spec_step_instrs c.scene f of)))) }
+    {
+        let change = asked!(step_change(self.scopes, self.site, f, of));
+        let code = updated(variable, number, change, self.fragments)?;
+        Ok(Ask::Known(Coded::new(NO_VALUE, code)))
+    }
 
-/// INC or DEC of a variable by a number, neither of which is in error.
-fn step_by<S: Scopes>(
-    scopes: &mut S,
-    site: &Site,
-    f: Builtin,
-    x: Coded,
-    n: Coded,
-    fragments: &mut Fragments,
-) -> Result<Ask<Coded>, Memory>
-    requires suits { SuitsSite (S.state scopes.old).frame site.now }
-    requires x { IsCoded (S.state scopes.old).frame fragments.old.nodes.items x }
-    requires n { IsCoded (S.state scopes.old).frame fragments.old.nodes.items n }
-    ensures { (notes : NotesOf) → Coding (S.state scopes.old) (S.state scopes.new) notes notes fragments.old.nodes.items fragments.new.nodes.items site.now result IsCoded coded_in (λ c. gives (update (coded_in fragments.old.nodes.items x) (spec_value_code c (coded_in fragments.old.nodes.items n)) (spec_step_instrs c.scene f (spec_type x.operand)))) }
-{
-    let number = analysed!(value_code(scopes, site, n, fragments));
-    step_code(
-        scopes,
-        site,
-        f,
-        operand_type(&x.operand),
-        x.code,
-        number,
-        fragments,
-    )
+    /// INC or DEC of a variable by a number, neither of which is in error.
+    fn step_by(&mut self, f: Builtin, x: Coded, n: Coded) -> Result<Ask<Coded>, Memory>
+        requires suits { SuitsPlace S.state self.old }
+        requires x { IsCoded (frame_of S.state self.old) (nodes_of self.old) x }
+        requires n { IsCoded (frame_of S.state self.old) (nodes_of self.old) n }
+        ensures keeps { Keeps self.old self.new }
+        ensures codes { Codes S.state self.old self.new result IsCoded coded_in (λ c. gives (update (coded_in (nodes_of self.old) x) (spec_value_code c (coded_in (nodes_of self.old) n)) (spec_step_instrs c.scene f (spec_type x.operand)))) }
+    {
+        let number = analysed!(value_code(self.scopes, self.site, n, self.fragments));
+        self.step_code(f, operand_type(&x.operand), x.code, number)
+    }
 }
 
 /// Whether one of two operands takes part in no further check.
@@ -187,22 +176,18 @@ pub fn either_bad(x: Operand, n: Operand) -> bool
     is_bad(x) || is_bad(n)
 }
 
-/// INC or DEC of a variable by a number, unless one of them is in error.
-pub fn stepped<S: Scopes>(
-    scopes: &mut S,
-    site: &Site,
-    f: Builtin,
-    x: Coded,
-    n: Coded,
-    fragments: &mut Fragments,
-) -> Result<Ask<Coded>, Memory>
-    requires suits { SuitsSite (S.state scopes.old).frame site.now }
-    requires x { IsCoded (S.state scopes.old).frame fragments.old.nodes.items x }
-    requires n { IsCoded (S.state scopes.old).frame fragments.old.nodes.items n }
-    ensures { (notes : NotesOf) → Coding (S.state scopes.old) (S.state scopes.new) notes notes fragments.old.nodes.items fragments.new.nodes.items site.now result IsCoded coded_in (λ c. gives (spec_stepped c f (coded_in fragments.old.nodes.items x) (coded_in fragments.old.nodes.items n))) }
-{
-    if either_bad(x.operand, n.operand) {
-        return Ok(Ask::Known(Coded::in_error()));
+impl<S: Scopes> Coder<'_, '_, S> {
+    /// INC or DEC of a variable by a number, unless one of them is in error.
+    pub fn stepped(&mut self, f: Builtin, x: Coded, n: Coded) -> Result<Ask<Coded>, Memory>
+        requires suits { SuitsPlace S.state self.old }
+        requires x { IsCoded (frame_of S.state self.old) (nodes_of self.old) x }
+        requires n { IsCoded (frame_of S.state self.old) (nodes_of self.old) n }
+        ensures keeps { Keeps self.old self.new }
+        ensures codes { Codes S.state self.old self.new result IsCoded coded_in (λ c. gives (spec_stepped c f (coded_in (nodes_of self.old) x) (coded_in (nodes_of self.old) n))) }
+    {
+        if either_bad(x.operand, n.operand) {
+            return Ok(Ask::Known(Coded::in_error()));
+        }
+        self.step_by(f, x, n)
     }
-    step_by(scopes, site, f, x, n, fragments)
 }

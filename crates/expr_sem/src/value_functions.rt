@@ -7,6 +7,7 @@ ghost use Rattle.m2_base.specs.States.{Frame, Waits};
 ghost use Rattle.m2_base.specs.declared.notes.Notes.{Notes as NotesOf};
 ghost use Rattle.const_eval.specs.Analyses.{Analysed};
 ghost use Rattle.const_eval.specs.Sites.{IsOperand};
+ghost use Rattle.expr_sem.specs.Coders.{Codes, Keeps, SuitsPlace, frame_of, nodes_of};
 ghost use Rattle.expr_sem.specs.Codings.{Coding, IsCoded, IsFragment, coded_in};
 ghost use Rattle.expr_sem.specs.Fragments.{IsIn, IsMade, part};
 ghost use Rattle.expr_sem.specs.Operators.{made as spec_made};
@@ -20,6 +21,7 @@ ghost use Rattle.type_rules.specs.Sites.{SuitsSite, context_of};
 
 use crate::chains::{instr_behind, pair};
 use crate::coded::Coded;
+use crate::coder::Coder;
 use crate::fitting::fitted_code;
 use crate::fragments::{Fragment, Fragments};
 use crate::operators::{made, side_of};
@@ -76,18 +78,17 @@ fn rule_noted<S: Scopes>(
     scopes: &mut S,
     site: &Site,
     rule: Rule,
-    at: u32,
-    x: Operand,
+    x: Argument,
     notes: &mut Notes,
 ) -> Result<Ask<Operand>, Memory>
     requires suits { SuitsSite (S.state scopes.old).frame site.now }
     requires rule { IsRuleHere (S.state scopes.old).frame rule }
-    requires x { IsOperand (S.state scopes.old).frame x }
-    ensures { Analysed (S.state scopes.old) (S.state scopes.new) notes.old notes.new site.now result IsOperand (λ c. rule_of c rule at x) }
+    requires x { IsOperand (S.state scopes.old).frame x.operand }
+    ensures { Analysed (S.state scopes.old) (S.state scopes.new) notes.old notes.new site.now result IsOperand (λ c. rule_of c rule x.at x.operand) }
 {
     match rule {
-        Rule::Function(function) => of_value_noted(scopes, site, function, at, x, notes),
-        Rule::Val(of) => val_of_operand(scopes, site, of, at, x, notes),
+        Rule::Function(function) => of_value_noted(scopes, site, function, x.at, x.operand, notes),
+        Rule::Val(of) => val_of_operand(scopes, site, of, x.at, x.operand, notes),
     }
 }
 
@@ -193,120 +194,88 @@ fn with_ending(
     }
 }
 
-/// A value of a type with the ending of a rule.
-fn ended<S: Scopes>(
-    scopes: &mut S,
-    site: &Site,
-    rule: Rule,
-    of: Place,
-    value: Fragment,
-    fragments: &mut Fragments,
-) -> Result<Ask<Fragment>, Memory>
-    requires suits { SuitsSite (S.state scopes.old).frame site.now }
-    requires of { IsThere (S.state scopes.old).frame of }
-    requires value { IsIn fragments.old.nodes.items value }
-    ensures { (notes : NotesOf) → Coding (S.state scopes.old) (S.state scopes.new) notes notes fragments.old.nodes.items fragments.new.nodes.items site.now result IsFragment part (λ c. gives (part fragments.old.nodes.items value ⨟ plain (spec_ending c.scene of rule))) }
-{
-    let after = asked!(ending_of(scopes, site, rule, of));
-    let code = with_ending(value, after, fragments)?;
-    Ok(Ask::Known(code))
-}
-
-/// The code of a value, and the ending of a rule behind it.
-fn ended_code<S: Scopes>(
-    scopes: &mut S,
-    site: &Site,
-    rule: Rule,
-    v: Coded,
-    fragments: &mut Fragments,
-) -> Result<Ask<Fragment>, Memory>
-    requires suits { SuitsSite (S.state scopes.old).frame site.now }
-    requires v { IsCoded (S.state scopes.old).frame fragments.old.nodes.items v }
-    ensures { (notes : NotesOf) → Coding (S.state scopes.old) (S.state scopes.new) notes notes fragments.old.nodes.items fragments.new.nodes.items site.now result IsFragment part (λ c. gives (code_to c rule (coded_in fragments.old.nodes.items v) None)) }
-{
-    let value = analysed!(value_code(scopes, site, v, fragments));
-    ended(
-        scopes,
-        site,
-        rule,
-        operand_type(&v.operand),
-        value,
-        fragments,
-    )
-}
-
-/// The code of a value under a rule.
-fn rule_code<S: Scopes>(
-    scopes: &mut S,
-    site: &Site,
-    rule: Rule,
-    v: Coded,
-    fragments: &mut Fragments,
-) -> Result<Ask<Fragment>, Memory>
-    requires suits { SuitsSite (S.state scopes.old).frame site.now }
-    requires rule { IsRuleHere (S.state scopes.old).frame rule }
-    requires v { IsCoded (S.state scopes.old).frame fragments.old.nodes.items v }
-    ensures { (notes : NotesOf) → Coding (S.state scopes.old) (S.state scopes.new) notes notes fragments.old.nodes.items fragments.new.nodes.items site.now result IsFragment part (λ c. gives (code_of c rule (coded_in fragments.old.nodes.items v))) }
-{
-    match target_of(rule) {
-        Some(to) => fitted_code(scopes, site, to, v, fragments),
-        None => ended_code(scopes, site, rule, v, fragments),
+impl<S: Scopes> Coder<'_, '_, S> {
+    /// A value of a type with the ending of a rule.
+    fn ended(&mut self, rule: Rule, of: Place, value: Fragment) -> Result<Ask<Fragment>, Memory>
+        requires suits { SuitsPlace S.state self.old }
+        requires of { IsThere (frame_of S.state self.old) of }
+        requires value { IsIn (nodes_of self.old) value }
+        ensures keeps { Keeps self.old self.new }
+        ensures codes { Codes S.state self.old self.new result IsFragment part (λ c. gives (part (nodes_of self.old) value ⨟ plain (spec_ending c.scene of rule))) }
+    {
+        let after = asked!(ending_of(self.scopes, self.site, rule, of));
+        let code = with_ending(value, after, self.fragments)?;
+        Ok(Ask::Known(code))
     }
-}
 
-/// What a rule gives of a value, with its code.
-fn with_code<S: Scopes>(
-    scopes: &mut S,
-    site: &Site,
-    rule: Rule,
-    given: Operand,
-    v: Coded,
-    fragments: &mut Fragments,
-) -> Result<Ask<Coded>, Memory>
-    requires suits { SuitsSite (S.state scopes.old).frame site.now }
-    requires rule { IsRuleHere (S.state scopes.old).frame rule }
-    requires given { IsOperand (S.state scopes.old).frame given }
-    requires v { IsCoded (S.state scopes.old).frame fragments.old.nodes.items v }
-    ensures { (notes : NotesOf) → Coding (S.state scopes.old) (S.state scopes.new) notes notes fragments.old.nodes.items fragments.new.nodes.items site.now result IsCoded coded_in (λ c. gives (spec_made given (code_of c rule (coded_in fragments.old.nodes.items v)))) }
-{
-    let code = analysed!(rule_code(scopes, site, rule, v, fragments));
-    Ok(Ask::Known(made(given, code)))
-}
+    /// The code of a value, and the ending of a rule behind it.
+    fn ended_code(&mut self, rule: Rule, v: Coded) -> Result<Ask<Fragment>, Memory>
+        requires suits { SuitsPlace S.state self.old }
+        requires v { IsCoded (frame_of S.state self.old) (nodes_of self.old) v }
+        ensures keeps { Keeps self.old self.new }
+        ensures codes { Codes S.state self.old self.new result IsFragment part (λ c. gives (code_to c rule (coded_in (nodes_of self.old) v) None)) }
+    {
+        let value = analysed!(value_code(self.scopes, self.site, v, self.fragments));
+        self.ended(rule, operand_type(&v.operand), value)
+    }
 
-/// A rule on what stands for a value.
-fn value_under<S: Scopes>(
-    scopes: &mut S,
-    site: &Site,
-    rule: Rule,
-    at: u32,
-    v: Coded,
-    fragments: &mut Fragments,
-    notes: &mut Notes,
-) -> Result<Ask<Coded>, Memory>
-    requires suits { SuitsSite (S.state scopes.old).frame site.now }
-    requires rule { IsRuleHere (S.state scopes.old).frame rule }
-    requires v { IsCoded (S.state scopes.old).frame fragments.old.nodes.items v }
-    ensures { Coding (S.state scopes.old) (S.state scopes.new) notes.old notes.new fragments.old.nodes.items fragments.new.nodes.items site.now result IsCoded coded_in (λ c. under c rule at (coded_in fragments.old.nodes.items v)) }
-{
-    let given = analysed!(rule_noted(scopes, site, rule, at, v.operand, notes));
-    with_code(scopes, site, rule, given, v, fragments)
-}
+    /// The code of a value under a rule.
+    fn rule_code(&mut self, rule: Rule, v: Coded) -> Result<Ask<Fragment>, Memory>
+        requires suits { SuitsPlace S.state self.old }
+        requires rule { IsRuleHere (frame_of S.state self.old) rule }
+        requires v { IsCoded (frame_of S.state self.old) (nodes_of self.old) v }
+        ensures keeps { Keeps self.old self.new }
+        ensures codes { Codes S.state self.old self.new result IsFragment part (λ c. gives (code_of c rule (coded_in (nodes_of self.old) v))) }
+    {
+        match target_of(rule) {
+            Some(to) => fitted_code(self.scopes, self.site, to, v, self.fragments),
+            None => self.ended_code(rule, v),
+        }
+    }
 
-/// A rule on an argument, of which a value is wanted.
-pub fn on_value<S: Scopes>(
-    scopes: &mut S,
-    site: &Site,
-    rule: Rule,
-    at: u32,
-    x: Coded,
-    fragments: &mut Fragments,
-    notes: &mut Notes,
-) -> Result<Ask<Coded>, Memory>
-    requires suits { SuitsSite (S.state scopes.old).frame site.now }
-    requires rule { IsRuleHere (S.state scopes.old).frame rule }
-    requires x { IsCoded (S.state scopes.old).frame fragments.old.nodes.items x }
-    ensures { Coding (S.state scopes.old) (S.state scopes.new) notes.old notes.new fragments.old.nodes.items fragments.new.nodes.items site.now result IsCoded coded_in (λ c. spec_on_value c at (coded_in fragments.old.nodes.items x) (rule_of c rule at) (code_of c rule)) }
-{
-    let v = analysed!(as_value(site, at, x, notes));
-    value_under(scopes, site, rule, at, v, fragments, notes)
+    /// What a rule gives of a value, with its code.
+    fn with_code(&mut self, rule: Rule, given: Operand, v: Coded) -> Result<Ask<Coded>, Memory>
+        requires suits { SuitsPlace S.state self.old }
+        requires rule { IsRuleHere (frame_of S.state self.old) rule }
+        requires given { IsOperand (frame_of S.state self.old) given }
+        requires v { IsCoded (frame_of S.state self.old) (nodes_of self.old) v }
+        ensures keeps { Keeps self.old self.new }
+        ensures codes { Codes S.state self.old self.new result IsCoded coded_in (λ c. gives (spec_made given (code_of c rule (coded_in (nodes_of self.old) v)))) }
+    {
+        let code = analysed!(self.rule_code(rule, v));
+        Ok(Ask::Known(made(given, code)))
+    }
+
+    /// A rule on what stands for a value.
+    fn value_under(&mut self, rule: Rule, at: u32, v: Coded) -> Result<Ask<Coded>, Memory>
+        requires suits { SuitsPlace S.state self.old }
+        requires rule { IsRuleHere (frame_of S.state self.old) rule }
+        requires v { IsCoded (frame_of S.state self.old) (nodes_of self.old) v }
+        ensures keeps { Keeps self.old self.new }
+        ensures codes { Codes S.state self.old self.new result IsCoded coded_in (λ c. under c rule at (coded_in (nodes_of self.old) v)) }
+    {
+        let given = analysed!(rule_noted(
+            self.scopes,
+            self.site,
+            rule,
+            Argument {
+                at,
+                operand: v.operand
+            },
+            self.notes
+        ));
+        self.with_code(rule, given, v)
+    }
+
+    /// A rule on an argument, of which a value is wanted.
+    pub fn on_value(&mut self, rule: Rule, at: u32, x: Coded) -> Result<Ask<Coded>, Memory>
+        requires suits { SuitsPlace S.state self.old }
+        requires rule { IsRuleHere (frame_of S.state self.old) rule }
+        requires x { IsCoded (frame_of S.state self.old) (nodes_of self.old) x }
+        ensures keeps { Keeps self.old self.new }
+        ensures codes { Codes S.state self.old self.new result IsCoded coded_in (λ c. spec_on_value c at (coded_in (nodes_of self.old) x) (rule_of c rule at) (code_of c rule)) }
+    {
+        let v = analysed!(as_value(self.site, at, x, self.notes));
+        self.value_under(rule, at, v)
+    }
 }

@@ -21,7 +21,7 @@ ghost use Rattle.type_rules.specs.Sites.{SuitsSite};
 
 use crate::answers::answered;
 use crate::chains::instr_behind;
-use crate::coded::Coded;
+use crate::coded::{Coded, Placed};
 use crate::fragments::{Fragment, Fragments};
 use crate::levels::level_of;
 use crate::procedure_names::procedure_code;
@@ -180,17 +180,16 @@ fn within(
 pub fn in_range<S: Scopes>(
     scopes: &mut S,
     site: &Site,
-    at: u32,
     to: Place,
-    x: Coded,
+    x: Placed,
     notes: &mut Notes,
 ) -> Result<Ask<Coded>, Memory>
     requires suits { SuitsSite (S.state scopes.old).frame site.now }
     requires to { IsThere (S.state scopes.old).frame to }
-    ensures { (nodes : List Node) → IsCoded (S.state scopes.old).frame nodes x → Coding (S.state scopes.old) (S.state scopes.new) notes.old notes.new nodes nodes site.now result IsCoded coded_in (λ c. spec_in_range c at to (coded_in nodes x)) }
+    ensures { (nodes : List Node) → IsCoded (S.state scopes.old).frame nodes x.coded → Coding (S.state scopes.old) (S.state scopes.new) notes.old notes.new nodes nodes site.now result IsCoded coded_in (λ c. spec_in_range c x.at to (coded_in nodes x.coded)) }
 {
     match range_of(scopes, site.around, to) {
-        Ask::Known(ends) => within(site, at, ends, x, notes),
+        Ask::Known(ends) => within(site, x.at, ends, x.coded, notes),
         Ask::DontKnowYet(head) => Ok(Ask::DontKnowYet(head)),
     }
 }
@@ -215,7 +214,16 @@ pub fn assigned_to<S: Scopes>(
         Ask::Known(Taking::PassedOver) => Ok(Ask::Known(Coded::in_error())),
         Ask::Known(Taking::Refused) => refused(site, at, refusal, notes),
         Ask::Known(Taking::Taken(operand)) => {
-            in_range(scopes, site, at, to, x.taken(operand), notes)
+            in_range(
+                scopes,
+                site,
+                to,
+                Placed {
+                    at,
+                    coded: x.taken(operand),
+                },
+                notes,
+            )
         }
         Ask::DontKnowYet(head) => Ok(Ask::DontKnowYet(head)),
     }

@@ -15,7 +15,7 @@ ghost use Rattle.type_rules.specs.Asks.{Reads, WhereKnown, WhereWaiting};
 ghost use Rattle.type_rules.specs.Scenes.{IsThere, WhereTold};
 ghost use Rattle.type_rules.specs.Sites.{SuitsSite, context_of};
 
-use crate::coded::Coded;
+use crate::coded::{Coded, Placed};
 use crate::fragments::Fragments;
 use crate::refusals::refused;
 use const_eval::is_bad;
@@ -88,19 +88,18 @@ fn variable_where<S: Scopes>(
     scopes: &mut S,
     site: &Site,
     wanted: Wanted,
-    at: u32,
-    x: Coded,
+    x: Placed,
     notes: &mut Notes,
 ) -> Result<Ask<Coded>, Memory>
     requires suits { SuitsSite (S.state scopes.old).frame site.now }
-    requires x { IsOperand (S.state scopes.old).frame x.operand }
-    ensures { (nodes : List Node) → IsCoded (S.state scopes.old).frame nodes x → Coding (S.state scopes.old) (S.state scopes.new) notes.old notes.new nodes nodes site.now result IsCoded coded_in (λ c. spec_where c at (spec_wanted c.scene wanted) (coded_in nodes x)) }
+    requires x { IsOperand (S.state scopes.old).frame x.coded.operand }
+    ensures { (nodes : List Node) → IsCoded (S.state scopes.old).frame nodes x.coded → Coding (S.state scopes.old) (S.state scopes.new) notes.old notes.new nodes nodes site.now result IsCoded coded_in (λ c. spec_where c x.at (spec_wanted c.scene wanted) (coded_in nodes x.coded)) }
 {
-    if is_bad(x.operand) {
-        return Ok(Ask::Known(x));
+    if is_bad(x.coded.operand) {
+        return Ok(Ask::Known(x.coded));
     }
-    let holds = asked!(is_wanted(scopes, site, wanted, operand_type(&x.operand)));
-    wanted_or_refused(site, at, holds, x, notes)
+    let holds = asked!(is_wanted(scopes, site, wanted, operand_type(&x.coded.operand)));
+    wanted_or_refused(site, x.at, holds, x.coded, notes)
 }
 
 /// An argument that must be a variable whose type is as wanted.
@@ -108,15 +107,14 @@ pub fn variable_argument<S: Scopes>(
     scopes: &mut S,
     site: &Site,
     wanted: Wanted,
-    at: u32,
-    x: Coded,
+    x: Placed,
     fragments: &Fragments,
     notes: &mut Notes,
 ) -> Result<Ask<Coded>, Memory>
     requires suits { SuitsSite (S.state scopes.old).frame site.now }
-    requires x { IsCoded (S.state scopes.old).frame fragments.now.nodes.items x }
-    ensures { Coding (S.state scopes.old) (S.state scopes.new) notes.old notes.new fragments.now.nodes.items fragments.now.nodes.items site.now result IsCoded coded_in (λ c. spec_argument c at (spec_wanted c.scene wanted) (coded_in fragments.now.nodes.items x)) }
+    requires x { IsCoded (S.state scopes.old).frame fragments.now.nodes.items x.coded }
+    ensures { Coding (S.state scopes.old) (S.state scopes.new) notes.old notes.new fragments.now.nodes.items fragments.now.nodes.items site.now result IsCoded coded_in (λ c. spec_argument c x.at (spec_wanted c.scene wanted) (coded_in fragments.now.nodes.items x.coded)) }
 {
-    let v = analysed!(as_variable(site, at, x, notes));
-    variable_where(scopes, site, wanted, at, v, notes)
+    let v = analysed!(as_variable(site, x.at, x.coded, notes));
+    variable_where(scopes, site, wanted, Placed { at: x.at, coded: v }, notes)
 }

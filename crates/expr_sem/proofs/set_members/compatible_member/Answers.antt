@@ -28,7 +28,7 @@ returns-in-DontKnowYet g c nodes h = question_waits _ nodes c.compatible_pair.en
 pub returns : goal.returns
 returns g c nodes h =
     after_question c.member_or_refused.result c.in-Known.ensures.reads
-    (c.member_or_refused.ensures nodes (stays_read (λ (f : Frame). IsCoded f nodes c.args.v) c.in-Known.ensures.reads h))
+    (c.member_or_refused.ensures nodes (stays_read (λ (f : Frame). IsCoded f nodes c.args.v.coded) c.in-Known.ensures.reads h))
     (λ made in_hand told. let k = context_of (g.S.Scopes.state c.args.scopes.now).frame made c.args.site.now in
-    ap (λ (o : Option (Operand × Operand)). member_by k c.args.at c.args.base (coded_in nodes c.args.v) o) (c.in-Known.ensures.told made in_hand told)
-    ∙ by_compatible k c.args.at c.args.base (coded_in nodes c.args.v) (taken_beside k.source k.scene c.args.v.operand (Computed c.args.base)) (taken_beside k.source k.scene (Computed c.args.base) c.args.v.operand) (is_compatible k.scene c.args.v.operand (Computed c.args.base)))
+    ap (λ (o : Option (Operand × Operand)). member_by k c.args.v.at c.args.base (coded_in nodes c.args.v.coded) o) (c.in-Known.ensures.told made in_hand told)
+    ∙ by_compatible k c.args.v.at c.args.base (coded_in nodes c.args.v.coded) (taken_beside k.source k.scene c.args.v.coded.operand (Computed c.args.base)) (taken_beside k.source k.scene (Computed c.args.base) c.args.v.coded.operand) (is_compatible k.scene c.args.v.coded.operand (Computed c.args.base)))

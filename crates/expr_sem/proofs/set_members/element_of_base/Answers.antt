@@ -24,16 +24,16 @@ returns-then-broken g c nodes h =
     after_question _ c.in-Known.ensures.reads
     (value_alone _ _ nodes c.args.site.now c.in_error.result IsCoded coded_in (λ k. in_error) (c.in_error.ensures.there _ nodes) (λ k. c.in_error.ensures.told nodes))
     (λ made in_hand told. let k = context_of (g.S.Scopes.state c.args.scopes.now).frame made c.args.site.now in
-    ap (λ (b : Bool). if b then gives in_error else (if is_compatible k.scene c.args.v.operand (Computed c.args.base) then in_range k c.args.at c.args.base (taken (taken_into k.source k.scene c.args.base c.args.v.operand) (coded_in nodes c.args.v)) else refuse k c.args.at wrong_argument in_error))
+    ap (λ (b : Bool). if b then gives in_error else (if is_compatible k.scene c.args.v.coded.operand (Computed c.args.base) then in_range k c.args.v.at c.args.base (taken (taken_into k.source k.scene c.args.base c.args.v.coded.operand) (coded_in nodes c.args.v.coded)) else refuse k c.args.v.at wrong_argument in_error))
     (sym c.if-broken.true ∙ c.in-Known.ensures.told made in_hand told))
 
 pub compatible_member-requires-clause-v : goal.compatible_member-requires-clause-v
-compatible_member-requires-clause-v g c = stays_read (λ (f : Frame). IsOperand f c.args.v.operand) c.in-Known.ensures.reads c.requires.v
+compatible_member-requires-clause-v g c = stays_read (λ (f : Frame). IsOperand f c.args.v.coded.operand) c.in-Known.ensures.reads c.requires.v
 
 pub returns : goal.returns
 returns g c nodes h =
     after_question c.compatible_member.result c.in-Known.ensures.reads
-    (c.compatible_member.ensures nodes (stays_read (λ (f : Frame). IsCoded f nodes c.args.v) c.in-Known.ensures.reads h))
+    (c.compatible_member.ensures nodes (stays_read (λ (f : Frame). IsCoded f nodes c.args.v.coded) c.in-Known.ensures.reads h))
     (λ made in_hand told. let k = context_of (g.S.Scopes.state c.args.scopes.now).frame made c.args.site.now in
-    ap (λ (b : Bool). if b then gives in_error else (if is_compatible k.scene c.args.v.operand (Computed c.args.base) then in_range k c.args.at c.args.base (taken (taken_into k.source k.scene c.args.base c.args.v.operand) (coded_in nodes c.args.v)) else refuse k c.args.at wrong_argument in_error))
+    ap (λ (b : Bool). if b then gives in_error else (if is_compatible k.scene c.args.v.coded.operand (Computed c.args.base) then in_range k c.args.v.at c.args.base (taken (taken_into k.source k.scene c.args.base c.args.v.coded.operand) (coded_in nodes c.args.v.coded)) else refuse k c.args.v.at wrong_argument in_error))
     (sym c.if-broken.false ∙ c.in-Known.ensures.told made in_hand told))

@@ -15,7 +15,7 @@ use Rattle.expr_sem.proofs.set_members.member_beside.Goals as goal
 pub returns-then-either_bad : goal.returns-then-either_bad
 returns-then-either_bad g c nodes h =
     error_alone _ _ nodes _ c.in_error.result _ c.in_error.ensures.told c.in_error.ensures.there
-    (λ k. ap (λ (b : Bool). if b then gives in_error else element_of_base k c.args.at (set_base k (operand_type c.args.x.operand)) (coded_in nodes c.args.v)) (sym c.if-either_bad.true ∙ c.either_bad.ensures))
+    (λ k. ap (λ (b : Bool). if b then gives in_error else element_of_base k c.args.v.at (set_base k (operand_type c.args.x.operand)) (coded_in nodes c.args.v.coded)) (sym c.if-either_bad.true ∙ c.either_bad.ensures))
 
 pub member_of-requires-clause-of : goal.member_of-requires-clause-of
 member_of-requires-clause-of g c =
@@ -24,5 +24,5 @@ member_of-requires-clause-of g c =
 pub returns : goal.returns
 returns g c nodes h =
     described c.member_of.result (c.member_of.ensures nodes h)
-    (λ k. ap (λ (t : Place). element_of_base k c.args.at (set_base k t) (coded_in nodes c.args.v)) c.operand_type.ensures
-    ∙ ap (λ (b : Bool). if b then gives in_error else element_of_base k c.args.at (set_base k (operand_type c.args.x.operand)) (coded_in nodes c.args.v)) (sym c.if-either_bad.false ∙ c.either_bad.ensures))
+    (λ k. ap (λ (t : Place). element_of_base k c.args.v.at (set_base k t) (coded_in nodes c.args.v.coded)) c.operand_type.ensures
+    ∙ ap (λ (b : Bool). if b then gives in_error else element_of_base k c.args.v.at (set_base k (operand_type c.args.x.operand)) (coded_in nodes c.args.v.coded)) (sym c.if-either_bad.false ∙ c.either_bad.ensures))

@@ -13,11 +13,11 @@ pub returns-in-DontKnowYet : goal.returns-in-DontKnowYet
 returns-in-DontKnowYet g c nodes h = question_waits _ nodes c.set_base.ensures.reads c.in-DontKnowYet.ensures.waits
 
 pub element_of_base-requires-clause-v : goal.element_of_base-requires-clause-v
-element_of_base-requires-clause-v g c = stays_read (λ (f : Frame). IsOperand f c.args.v.operand) c.in-Known.ensures.reads c.requires.v
+element_of_base-requires-clause-v g c = stays_read (λ (f : Frame). IsOperand f c.args.v.coded.operand) c.in-Known.ensures.reads c.requires.v
 
 pub returns : goal.returns
 returns g c nodes h =
     after_question c.element_of_base.result c.in-Known.ensures.reads
-    (c.element_of_base.ensures nodes (stays_read (λ (f : Frame). IsCoded f nodes c.args.v) c.in-Known.ensures.reads h))
+    (c.element_of_base.ensures nodes (stays_read (λ (f : Frame). IsCoded f nodes c.args.v.coded) c.in-Known.ensures.reads h))
     (λ made in_hand told. let k = context_of (g.S.Scopes.state c.args.scopes.now).frame made c.args.site.now in
-    ap (λ (t : Place). element_of_base k c.args.at t (coded_in nodes c.args.v)) (c.in-Known.ensures.told made in_hand told))
+    ap (λ (t : Place). element_of_base k c.args.v.at t (coded_in nodes c.args.v.coded)) (c.in-Known.ensures.told made in_hand told))

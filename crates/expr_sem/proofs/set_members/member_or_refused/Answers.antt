@@ -14,9 +14,9 @@ returns-in-Some g c nodes h =
     let f = (g.S.Scopes.state c.args.scopes.now).frame in
     let there = subst (λ (o : Option (Operand × Operand)). IfSome o (λ pair. IsOperand f pair.0)) c.in-Some.is c.requires.pair in
     described c.in_range.result (c.in_range.ensures nodes (c.taken.ensures.there f nodes there h))
-    (λ k. ap (λ (y : code.Coded). in_range k c.args.at c.args.base y) (c.taken.ensures.told nodes) ∙ ap (λ (o : Option (Operand × Operand)). member_by k c.args.at c.args.base (coded_in nodes c.args.v) o) (sym c.in-Some.is))
+    (λ k. ap (λ (y : code.Coded). in_range k c.args.v.at c.args.base y) (c.taken.ensures.told nodes) ∙ ap (λ (o : Option (Operand × Operand)). member_by k c.args.v.at c.args.base (coded_in nodes c.args.v.coded) o) (sym c.in-Some.is))
 
 pub returns-in-None : goal.returns-in-None
 returns-in-None g c nodes h =
     described c.refused.result (c.refused.ensures (g.S.Scopes.state c.args.scopes.now) nodes)
-    (λ k. ap (λ (o : Option (Operand × Operand)). member_by k c.args.at c.args.base (coded_in nodes c.args.v) o) (sym c.in-None.is))
+    (λ k. ap (λ (o : Option (Operand × Operand)). member_by k c.args.v.at c.args.base (coded_in nodes c.args.v.coded) o) (sym c.in-None.is))

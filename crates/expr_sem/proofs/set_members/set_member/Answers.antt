@@ -19,5 +19,5 @@ pub returns : goal.returns
 returns g c =
     let ns = c.args.fragments.now.nodes.items in
     let one = rw c.in-Known.is at c.in-Ok.ensures (g.S.Scopes.state c.args.scopes.now) ns c.requires.e in
-    coding_after (λ k. as_value k c.args.at (coded_in ns c.args.e)) (λ v k. beside (coded_in ns c.args.x) (element_of_base k c.args.at (set_base k (operand_type c.args.x.operand))) v) c.member_beside.result
+    coding_after (λ k. as_value k c.args.e.at (coded_in ns c.args.e.coded)) (λ v k. beside (coded_in ns c.args.x) (element_of_base k c.args.e.at (set_base k (operand_type c.args.x.operand))) v) c.member_beside.result
     one (c.member_beside.ensures ns one.there)

@@ -17,6 +17,6 @@ returns-in-Err g c nodes = unmade (of_analysed nodes _ c.in-Err.ensures) _
 pub returns : goal.returns
 returns g c nodes =
     let one = rw c.in-Known.is at c.in-Ok.ensures in
-    coding_after (λ k. of_type k c.args.function c.args.at c.args.x) (λ r k. gives (bare r)) _ (of_analysed nodes _ one)
+    coding_after (λ k. of_type k c.args.function c.args.x.at c.args.x.operand) (λ r k. gives (bare r)) _ (of_analysed nodes _ one)
     (value_alone _ _ nodes c.args.site.now c.bare.result IsCoded coded_in (λ k. bare c.in-Known.value)
     (c.bare.ensures.there _ nodes (holds_after (of_analysed nodes _ one) (λ (f : Frame). IsOperand f c.in-Known.value) one.there)) (λ k. c.bare.ensures.told nodes))

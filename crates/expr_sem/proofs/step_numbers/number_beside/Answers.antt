@@ -14,7 +14,7 @@ use Rattle.expr_sem.proofs.step_numbers.number_beside.Goals as goal
 pub returns-then-either_bad : goal.returns-then-either_bad
 returns-then-either_bad g c nodes h =
     error_alone _ _ nodes _ c.in_error.result _ c.in_error.ensures.told c.in_error.ensures.there
-    (λ k. ap (λ (b : Bool). if b then gives in_error else number_of_type k c.args.at (step_type k.scene (operand_type c.args.x.operand)) (coded_in nodes c.args.n)) (sym c.if-either_bad.true ∙ c.either_bad.ensures))
+    (λ k. ap (λ (b : Bool). if b then gives in_error else number_of_type k c.args.n.at (step_type k.scene (operand_type c.args.x.operand)) (coded_in nodes c.args.n.coded)) (sym c.if-either_bad.true ∙ c.either_bad.ensures))
 
 pub number_for-requires-clause-of : goal.number_for-requires-clause-of
 number_for-requires-clause-of g c =
@@ -23,5 +23,5 @@ number_for-requires-clause-of g c =
 pub returns : goal.returns
 returns g c nodes h =
     described c.number_for.result (c.number_for.ensures nodes h)
-    (λ k. ap (λ (t : Place). number_of_type k c.args.at (step_type k.scene t) (coded_in nodes c.args.n)) c.operand_type.ensures
-    ∙ ap (λ (b : Bool). if b then gives in_error else number_of_type k c.args.at (step_type k.scene (operand_type c.args.x.operand)) (coded_in nodes c.args.n)) (sym c.if-either_bad.false ∙ c.either_bad.ensures))
+    (λ k. ap (λ (t : Place). number_of_type k c.args.n.at (step_type k.scene t) (coded_in nodes c.args.n.coded)) c.operand_type.ensures
+    ∙ ap (λ (b : Bool). if b then gives in_error else number_of_type k c.args.n.at (step_type k.scene (operand_type c.args.x.operand)) (coded_in nodes c.args.n.coded)) (sym c.if-either_bad.false ∙ c.either_bad.ensures))

@@ -13,11 +13,11 @@ pub returns-in-DontKnowYet : goal.returns-in-DontKnowYet
 returns-in-DontKnowYet g c nodes h = question_waits _ nodes c.step_type.ensures.reads c.in-DontKnowYet.ensures.waits
 
 pub number_of_type-requires-clause-n : goal.number_of_type-requires-clause-n
-number_of_type-requires-clause-n g c = stays_read (λ (f : Frame). IsOperand f c.args.n.operand) c.in-Known.ensures.reads c.requires.n
+number_of_type-requires-clause-n g c = stays_read (λ (f : Frame). IsOperand f c.args.n.coded.operand) c.in-Known.ensures.reads c.requires.n
 
 pub returns : goal.returns
 returns g c nodes h =
     after_question c.number_of_type.result c.in-Known.ensures.reads
-    (c.number_of_type.ensures nodes (stays_read (λ (f : Frame). IsCoded f nodes c.args.n) c.in-Known.ensures.reads h))
+    (c.number_of_type.ensures nodes (stays_read (λ (f : Frame). IsCoded f nodes c.args.n.coded) c.in-Known.ensures.reads h))
     (λ made in_hand told. let k = context_of (g.S.Scopes.state c.args.scopes.now).frame made c.args.site.now in
-    ap (λ (t : Place). number_of_type k c.args.at t (coded_in nodes c.args.n)) (c.in-Known.ensures.told made in_hand told))
+    ap (λ (t : Place). number_of_type k c.args.n.at t (coded_in nodes c.args.n.coded)) (c.in-Known.ensures.told made in_hand told))

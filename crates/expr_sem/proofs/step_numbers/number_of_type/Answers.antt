@@ -16,6 +16,6 @@ returns-in-DontKnowYet g c nodes h = question_waits _ nodes c.is_step.ensures.re
 pub returns : goal.returns
 returns g c nodes h =
     after_question c.number_or_refused.result c.in-Known.ensures.reads
-    (c.number_or_refused.ensures nodes (stays_read (λ (f : Frame). IsCoded f nodes c.args.n) c.in-Known.ensures.reads h))
+    (c.number_or_refused.ensures nodes (stays_read (λ (f : Frame). IsCoded f nodes c.args.n.coded) c.in-Known.ensures.reads h))
     (λ made in_hand told. let k = context_of (g.S.Scopes.state c.args.scopes.now).frame made c.args.site.now in
-    ap (λ (b : Bool). if b then in_range k c.args.at c.args.want (coded_in nodes c.args.n) else refuse k c.args.at wrong_argument in_error) (c.in-Known.ensures.told made in_hand told))
+    ap (λ (b : Bool). if b then in_range k c.args.n.at c.args.want (coded_in nodes c.args.n.coded) else refuse k c.args.n.at wrong_argument in_error) (c.in-Known.ensures.told made in_hand told))

@@ -18,5 +18,5 @@ pub returns : goal.returns
 returns g c =
     let ns = c.args.fragments.now.nodes.items in
     let one = rw c.in-Known.is at c.in-Ok.ensures (g.S.Scopes.state c.args.scopes.now) ns c.requires.n in
-    coding_after (λ k. as_value k c.args.at (coded_in ns c.args.n)) (λ v k. beside (coded_in ns c.args.x) (number_of_type k c.args.at (step_type k.scene (operand_type c.args.x.operand))) v) c.number_beside.result
+    coding_after (λ k. as_value k c.args.n.at (coded_in ns c.args.n.coded)) (λ v k. beside (coded_in ns c.args.x) (number_of_type k c.args.n.at (step_type k.scene (operand_type c.args.x.operand))) v) c.number_beside.result
     one (c.number_beside.ensures ns one.there)

@@ -18,5 +18,5 @@ pub returns : goal.returns
 returns g c =
     let ns = c.args.fragments.now.nodes.items in
     let one = rw c.in-Known.is at c.in-Ok.ensures (g.S.Scopes.state c.args.scopes.now) ns c.requires.x in
-    coding_after (λ k. as_variable k c.args.at (coded_in ns c.args.x)) (λ u k. variable_where k c.args.at (is_wanted k.scene c.args.wanted) u) c.variable_where.result
+    coding_after (λ k. as_variable k c.args.x.at (coded_in ns c.args.x.coded)) (λ u k. variable_where k c.args.x.at (is_wanted k.scene c.args.wanted) u) c.variable_where.result
     one (c.variable_where.ensures ns one.there)
