@@ -75,16 +75,14 @@ pub statements_made-returns-in-Err : goal.statements_made-returns-in-Err
 statements_made-returns-in-Err g t c = unmade_after c.loop-of.invariant c.in-Err.ensures _
 
 pub statements_made-returns-in_err-push : goal.statements_made-returns-in_err-push
-statements_made-returns-in_err-push g t c =
-    full_by_both c.from_residual.result c.from_residual.ensures.0 c.loop-of.invariant (rw c.in-Known.is at c.in-Ok.ensures)
+statements_made-returns-in_err-push g t c = full_by_both c.from_residual.result c.from_residual.ensures.0 c.loop-of.invariant (rw c.in-Known.is at c.in-Ok.ensures)
 
 pub statements_made-returns : goal.statements_made-returns
 statements_made-returns g t c =
     whole (λ k o i. statement_flow (stand_in k c.args.stand.now) (statement_view i)) behind_flow (λ rest. rest) c.args.body.now c.loop-of.of-index (λ k. statements_onto (stand_in k c.args.stand.now) (λ rest. rest) (statements (map statement_view c.args.body.now))) c.loop-of-test.false c.loop-of.invariant (λ k. onto_folded (stand_in k c.args.stand.now) statement_view (λ rest. rest) c.args.body.now)
 
 pub statements-statements_made-requires : goal.statements-statements_made-requires
-statements-statements_made-requires g t c κs within =
-    (omega (arith, c.decreases), (within, (c.requires.suits, (c.requires.item, (c.requires.stand, (c.requires.sound, (c.requires.read)))))))
+statements-statements_made-requires g t c κs within = (omega (arith, c.decreases), (within, (c.requires.suits, (c.requires.item, (c.requires.stand, (c.requires.sound, (c.requires.read)))))))
 
 pub statements-returns-in-DontKnowYet : goal.statements-returns-in-DontKnowYet
 statements-returns-in-DontKnowYet g t c = unknown (rw c.in-DontKnowYet.is at c.in-Ok.ensures)
@@ -102,8 +100,7 @@ statements-returns g t c =
     (λ k. statements_given (stand_in k c.args.stand.now) (statements (map statement_view c.args.body.now))))
 
 pub otherwise-statements-requires : goal.otherwise-statements-requires
-otherwise-statements-requires g t c κs within =
-    (omega (arith, c.decreases), (within, (c.requires.suits, (c.requires.item, (c.requires.stand, (c.requires.sound, (c.requires.read)))))))
+otherwise-statements-requires g t c κs within = (omega (arith, c.decreases), (within, (c.requires.suits, (c.requires.item, (c.requires.stand, (c.requires.sound, (c.requires.read)))))))
 
 pub otherwise-returns-then-is_empty : goal.otherwise-returns-then-is_empty
 otherwise-returns-then-is_empty g t c =
@@ -137,8 +134,7 @@ if_arm-returns-in-DontKnowYet-asked g t c =
     unknown_after (of_code c.args.flows.now c.test.new.fragments _ (rw c.in-Known.is at c.in-Ok.ensures)) (rw c.in-DontKnowYet-asked.is at c.in-Ok-statements.ensures)
 
 pub if_arm-returns-in-Err-statements : goal.if_arm-returns-in-Err-statements
-if_arm-returns-in-Err-statements g t c =
-    unmade_after (of_code c.args.flows.now c.test.new.fragments _ (rw c.in-Known.is at c.in-Ok.ensures)) c.in-Err-statements.ensures _
+if_arm-returns-in-Err-statements g t c = unmade_after (of_code c.args.flows.now c.test.new.fragments _ (rw c.in-Known.is at c.in-Ok.ensures)) c.in-Err-statements.ensures _
 
 pub if_arm-returns : goal.if_arm-returns
 if_arm-returns g t c =
@@ -172,16 +168,14 @@ pub if_arms_made-returns-in-Err : goal.if_arms_made-returns-in-Err
 if_arms_made-returns-in-Err g t c = unmade_after c.loop-arm.invariant c.in-Err.ensures _
 
 pub if_arms_made-returns-in_err-push : goal.if_arms_made-returns-in_err-push
-if_arms_made-returns-in_err-push g t c =
-    full_by_both c.from_residual.result c.from_residual.ensures.0 c.loop-arm.invariant (rw c.in-Known.is at c.in-Ok.ensures)
+if_arms_made-returns-in_err-push g t c = full_by_both c.from_residual.result c.from_residual.ensures.0 c.loop-arm.invariant (rw c.in-Known.is at c.in-Ok.ensures)
 
 pub if_arms_made-returns : goal.if_arms_made-returns
 if_arms_made-returns g t c =
     whole (λ k o i. arm_flow (stand_in k c.args.stand.now) (if_arm_view i)) behind_arm (λ other. other) c.args.arms.now c.loop-arm.arm-index (λ k. arms_flow (stand_in k c.args.stand.now) (if_arms (map if_arm_view c.args.arms.now))) c.loop-arm-test.false c.loop-arm.invariant (λ k. arms_folded (stand_in k c.args.stand.now) if_arm_view c.args.arms.now)
 
 pub if_statement-if_arms_made-requires : goal.if_statement-if_arms_made-requires
-if_statement-if_arms_made-requires g t c κs within =
-    (omega (arith, c.decreases), (within, (c.requires.suits, (c.requires.item, (c.requires.stand, (c.requires.sound, (c.requires.arms)))))))
+if_statement-if_arms_made-requires g t c κs within = (omega (arith, c.decreases), (within, (c.requires.suits, (c.requires.item, (c.requires.stand, (c.requires.sound, (c.requires.arms)))))))
 
 pub if_statement-returns-in-DontKnowYet : goal.if_statement-returns-in-DontKnowYet
 if_statement-returns-in-DontKnowYet g t c = unknown (rw c.in-DontKnowYet.is at c.in-Ok.ensures)
@@ -194,8 +188,7 @@ if_statement-otherwise-requires g t c κs within =
     (omega (arith, c.decreases), (within, (suits_after (rw c.in-Known.is at c.in-Ok.ensures) c.requires.suits, (c.requires.item, (stand_after (rw c.in-Known.is at c.in-Ok.ensures) c.args.stand.now c.requires.stand, (sound_after (rw c.in-Known.is at c.in-Ok.ensures) c.requires.sound, (c.requires.other)))))))
 
 pub if_statement-returns-in-DontKnowYet-asked : goal.if_statement-returns-in-DontKnowYet-asked
-if_statement-returns-in-DontKnowYet-asked g t c =
-    unknown_after (rw c.in-Known.is at c.in-Ok.ensures) (rw c.in-DontKnowYet-asked.is at c.in-Ok-otherwise.ensures)
+if_statement-returns-in-DontKnowYet-asked g t c = unknown_after (rw c.in-Known.is at c.in-Ok.ensures) (rw c.in-DontKnowYet-asked.is at c.in-Ok-otherwise.ensures)
 
 pub if_statement-returns-in-Err-otherwise : goal.if_statement-returns-in-Err-otherwise
 if_statement-returns-in-Err-otherwise g t c = unmade_after (rw c.in-Known.is at c.in-Ok.ensures) c.in-Err-otherwise.ensures _
@@ -237,8 +230,7 @@ pub case_arm-case_labels-requires-clause-read : goal.case_arm-case_labels-requir
 case_arm-case_labels-requires-clause-read g t c = rw c.deref.ensures.value (case_arm_read c.args.site.now.texts.now.names c.args.arm.now c.requires.read).0
 
 pub case_arm-returns-in-DontKnowYet : goal.case_arm-returns-in-DontKnowYet
-case_arm-returns-in-DontKnowYet g t c =
-    unknown (of_labels c.args.flows.now (Ok (DontKnowYet c.in-DontKnowYet.head)) (rw c.in-DontKnowYet.is at c.in-Ok.ensures))
+case_arm-returns-in-DontKnowYet g t c = unknown (of_labels c.args.flows.now (Ok (DontKnowYet c.in-DontKnowYet.head)) (rw c.in-DontKnowYet.is at c.in-Ok.ensures))
 
 pub case_arm-returns-in-Err : goal.case_arm-returns-in-Err
 case_arm-returns-in-Err g t c = unmade (of_labels c.args.flows.now (Err c.in-Err.memory) c.in-Err.ensures) _
@@ -252,8 +244,7 @@ case_arm-returns-in-DontKnowYet-asked g t c =
     unknown_after (of_labels c.args.flows.now (Ok (Known c.in-Known.value)) (rw c.in-Known.is at c.in-Ok.ensures)) (rw c.in-DontKnowYet-asked.is at c.in-Ok-statements.ensures)
 
 pub case_arm-returns-in-Err-statements : goal.case_arm-returns-in-Err-statements
-case_arm-returns-in-Err-statements g t c =
-    unmade_after (of_labels c.args.flows.now (Ok (Known c.in-Known.value)) (rw c.in-Known.is at c.in-Ok.ensures)) c.in-Err-statements.ensures _
+case_arm-returns-in-Err-statements g t c = unmade_after (of_labels c.args.flows.now (Ok (Known c.in-Known.value)) (rw c.in-Known.is at c.in-Ok.ensures)) c.in-Err-statements.ensures _
 
 pub case_arm-returns : goal.case_arm-returns
 case_arm-returns g t c =
@@ -290,8 +281,7 @@ pub case_arms_made-returns-in-Err : goal.case_arms_made-returns-in-Err
 case_arms_made-returns-in-Err g t c = unmade_after c.loop-arm.invariant c.in-Err.ensures _
 
 pub case_arms_made-returns-in_err-push : goal.case_arms_made-returns-in_err-push
-case_arms_made-returns-in_err-push g t c =
-    full_by_both c.from_residual.result c.from_residual.ensures.0 c.loop-arm.invariant (rw c.in-Known.is at c.in-Ok.ensures)
+case_arms_made-returns-in_err-push g t c = full_by_both c.from_residual.result c.from_residual.ensures.0 c.loop-arm.invariant (rw c.in-Known.is at c.in-Ok.ensures)
 
 pub case_arms_made-returns : goal.case_arms_made-returns
 case_arms_made-returns g t c =
@@ -327,15 +317,13 @@ case_of-case_else-requires g t c κs within =
     (omega (arith, c.decreases), (within, (suits_after (rw c.in-Known.is at c.in-Ok.ensures) c.requires.suits, (c.requires.item, (stand_after (rw c.in-Known.is at c.in-Ok.ensures) c.args.stand.now c.requires.stand, (sound_after (rw c.in-Known.is at c.in-Ok.ensures) c.requires.sound, (c.requires.other)))))))
 
 pub case_of-returns-in-DontKnowYet-asked : goal.case_of-returns-in-DontKnowYet-asked
-case_of-returns-in-DontKnowYet-asked g t c =
-    unknown_after (rw c.in-Known.is at c.in-Ok.ensures) (rw c.in-DontKnowYet-asked.is at c.in-Ok-case_else.ensures)
+case_of-returns-in-DontKnowYet-asked g t c = unknown_after (rw c.in-Known.is at c.in-Ok.ensures) (rw c.in-DontKnowYet-asked.is at c.in-Ok-case_else.ensures)
 
 pub case_of-returns-in-Err-case_else : goal.case_of-returns-in-Err-case_else
 case_of-returns-in-Err-case_else g t c = unmade_after (rw c.in-Known.is at c.in-Ok.ensures) c.in-Err-case_else.ensures _
 
 pub case_of-case_made-requires-clause-sound : goal.case_of-case_made-requires-clause-sound
-case_of-case_made-requires-clause-sound g t c =
-    sound_after (rw c.in-Known-asked.is at c.in-Ok-case_else.ensures) (sound_after (rw c.in-Known.is at c.in-Ok.ensures) c.requires.sound)
+case_of-case_made-requires-clause-sound g t c = sound_after (rw c.in-Known-asked.is at c.in-Ok-case_else.ensures) (sound_after (rw c.in-Known.is at c.in-Ok.ensures) c.requires.sound)
 
 pub case_of-case_made-requires-clause-value : goal.case_of-case_made-requires-clause-value
 case_of-case_made-requires-clause-value g t c =
@@ -387,8 +375,7 @@ while_statement-returns-in-DontKnowYet-asked g t c =
     unknown_after (of_code c.args.flows.now c.test.new.fragments _ (rw c.in-Known.is at c.in-Ok.ensures)) (rw c.in-DontKnowYet-asked.is at c.in-Ok-statements.ensures)
 
 pub while_statement-returns-in-Err-statements : goal.while_statement-returns-in-Err-statements
-while_statement-returns-in-Err-statements g t c =
-    unmade_after (of_code c.args.flows.now c.test.new.fragments _ (rw c.in-Known.is at c.in-Ok.ensures)) c.in-Err-statements.ensures _
+while_statement-returns-in-Err-statements g t c = unmade_after (of_code c.args.flows.now c.test.new.fragments _ (rw c.in-Known.is at c.in-Ok.ensures)) c.in-Err-statements.ensures _
 
 pub while_statement-while_true-requires-clause-test : goal.while_statement-while_true-requires-clause-test
 while_statement-while_true-requires-clause-test g t c =
@@ -405,8 +392,7 @@ while_statement-returns g t c =
     (made_after_both (λ k. test (stand_in k c.args.stand.now) (expr_view c.args.holds.now)) (λ p k. flow_of (stand_in k c.args.stand.now) (statements (map statement_view c.args.body.now))) (λ p b. while_true p b) c.while_true.result one two c.while_true.ensures.made (while_same two.grows c.in-Known.value c.in-Known-asked.value one.there))
 
 pub repeat_statement-statements-requires : goal.repeat_statement-statements-requires
-repeat_statement-statements-requires g t c κs within =
-    (omega (arith, c.decreases), (within, (c.requires.suits, (c.requires.item, (c.requires.stand, (c.requires.sound, (c.requires.read)))))))
+repeat_statement-statements-requires g t c κs within = (omega (arith, c.decreases), (within, (c.requires.suits, (c.requires.item, (c.requires.stand, (c.requires.sound, (c.requires.read)))))))
 
 pub repeat_statement-returns-in-DontKnowYet : goal.repeat_statement-returns-in-DontKnowYet
 repeat_statement-returns-in-DontKnowYet g t c = unknown (rw c.in-DontKnowYet.is at c.in-Ok.ensures)
@@ -425,16 +411,14 @@ repeat_statement-returns-in-DontKnowYet-asked g t c =
     unknown_after (rw c.in-Known.is at c.in-Ok.ensures) (of_code c.statements.new.flows c.test.new.fragments _ (rw c.in-DontKnowYet-asked.is at c.in-Ok-test.ensures))
 
 pub repeat_statement-returns-in-Err-test : goal.repeat_statement-returns-in-Err-test
-repeat_statement-returns-in-Err-test g t c =
-    unmade_after (rw c.in-Known.is at c.in-Ok.ensures) (of_code c.statements.new.flows c.test.new.fragments _ c.in-Err-test.ensures) _
+repeat_statement-returns-in-Err-test g t c = unmade_after (rw c.in-Known.is at c.in-Ok.ensures) (of_code c.statements.new.flows c.test.new.fragments _ c.in-Err-test.ensures) _
 
 pub repeat_statement-until_true-requires-clause-body : goal.repeat_statement-until_true-requires-clause-body
 repeat_statement-until_true-requires-clause-body g t c =
     among_later (of_code c.statements.new.flows c.test.new.fragments _ (rw c.in-Known-asked.is at c.in-Ok-test.ensures)).grows c.in-Known.value (rw c.in-Known.is at c.in-Ok.ensures).there
 
 pub repeat_statement-until_true-requires-clause-test : goal.repeat_statement-until_true-requires-clause-test
-repeat_statement-until_true-requires-clause-test g t c =
-    (of_code c.statements.new.flows c.test.new.fragments _ (rw c.in-Known-asked.is at c.in-Ok-test.ensures)).there
+repeat_statement-until_true-requires-clause-test g t c = (of_code c.statements.new.flows c.test.new.fragments _ (rw c.in-Known-asked.is at c.in-Ok-test.ensures)).there
 
 pub repeat_statement-returns : goal.repeat_statement-returns
 repeat_statement-returns g t c =
@@ -445,24 +429,20 @@ repeat_statement-returns g t c =
     (made_after_both (λ k. flow_of (stand_in k c.args.stand.now) (statements (map statement_view c.args.body.now))) (λ b k. test (stand_in k c.args.stand.now) (expr_view c.args.holds.now)) (λ b p. until_true b p) c.until_true.result one two c.until_true.ensures.made (until_same after two.grows c.in-Known-asked.value c.in-Known.value (sound_after one c.requires.sound) one.there))
 
 pub for_statement-returns-in-DontKnowYet : goal.for_statement-returns-in-DontKnowYet
-for_statement-returns-in-DontKnowYet g t c =
-    unknown (of_code c.args.flows.now c.control_variable.new.fragments _ (rw c.in-DontKnowYet.is at c.in-Ok.ensures))
+for_statement-returns-in-DontKnowYet g t c = unknown (of_code c.args.flows.now c.control_variable.new.fragments _ (rw c.in-DontKnowYet.is at c.in-Ok.ensures))
 
 pub for_statement-returns-in-Err : goal.for_statement-returns-in-Err
-for_statement-returns-in-Err g t c =
-    unmade (of_code c.args.flows.now c.control_variable.new.fragments _ c.in-Err.ensures) _
+for_statement-returns-in-Err g t c = unmade (of_code c.args.flows.now c.control_variable.new.fragments _ c.in-Err.ensures) _
 
 pub for_statement-check_bound-requires-clause-suits : goal.for_statement-check_bound-requires-clause-suits
-for_statement-check_bound-requires-clause-suits g t c =
-    suits_after (of_code c.args.flows.now c.control_variable.new.fragments _ (rw c.in-Known.is at c.in-Ok.ensures)) c.requires.suits
+for_statement-check_bound-requires-clause-suits g t c = suits_after (of_code c.args.flows.now c.control_variable.new.fragments _ (rw c.in-Known.is at c.in-Ok.ensures)) c.requires.suits
 
 pub for_statement-check_bound-requires-clause-stand : goal.for_statement-check_bound-requires-clause-stand
 for_statement-check_bound-requires-clause-stand g t c =
     stand_after (of_code c.args.flows.now c.control_variable.new.fragments _ (rw c.in-Known.is at c.in-Ok.ensures)) c.args.stand.now c.requires.stand
 
 pub for_statement-check_bound-requires-clause-x : goal.for_statement-check_bound-requires-clause-x
-for_statement-check_bound-requires-clause-x g t c =
-    stands_after (of_code c.args.flows.now c.control_variable.new.fragments _ (rw c.in-Known.is at c.in-Ok.ensures))
+for_statement-check_bound-requires-clause-x g t c = stands_after (of_code c.args.flows.now c.control_variable.new.fragments _ (rw c.in-Known.is at c.in-Ok.ensures))
 
 pub for_statement-returns-in-DontKnowYet-asked : goal.for_statement-returns-in-DontKnowYet-asked
 for_statement-returns-in-DontKnowYet-asked g t c =
@@ -606,8 +586,7 @@ for_statement-emit_for-requires-clause-last g t c =
     stays_coded five.works.keeps.frame five.grows c.in-Known-asked-2.value (onwards.coded_after fourth c.in-Known-asked-2.value (walking.stands_after third))
 
 pub for_statement-emit_for-requires-clause-body : goal.for_statement-emit_for-requires-clause-body
-for_statement-emit_for-requires-clause-body g t c =
-    (rw c.in-Known-asked-4.is at c.in-Ok-statements.ensures).there
+for_statement-emit_for-requires-clause-body g t c = (rw c.in-Known-asked-4.is at c.in-Ok-statements.ensures).there
 
 pub for_statement-returns : goal.for_statement-returns
 for_statement-returns g t c =
@@ -659,8 +638,7 @@ for_statement-returns g t c =
     (λ k. for_given (stand_in k s) c.args.name first last by body)
 
 pub in_record-returns-in_err-withs : goal.in_record-returns-in_err-withs
-in_record-returns-in_err-withs g t c =
-    wanted_first (g.S.Scopes.state c.args.scopes.now) c.args.notes.now c.args.flows.now c.args.site.now c.from_residual.result c.from_residual.ensures.0
+in_record-returns-in_err-withs g t c = wanted_first (g.S.Scopes.state c.args.scopes.now) c.args.notes.now c.args.flows.now c.args.site.now c.from_residual.result c.from_residual.ensures.0
 
 pub in_record-statements-requires : goal.in_record-statements-requires
 in_record-statements-requires g t c κs within =
@@ -690,8 +668,7 @@ in_record-returns g t c =
     (λ k. good_with (stand_in k c.args.stand.now) code (statements (map statement_view c.args.body.now)) c.requires.good))
 
 pub with_body-statements-requires : goal.with_body-statements-requires
-with_body-statements-requires g t c κs within =
-    (omega (arith, c.decreases), (within, (c.requires.suits, (c.requires.item, (c.requires.stand, (c.requires.sound, (c.requires.read)))))))
+with_body-statements-requires g t c κs within = (omega (arith, c.decreases), (within, (c.requires.suits, (c.requires.item, (c.requires.stand, (c.requires.sound, (c.requires.read)))))))
 
 pub with_body-returns-in-DontKnowYet : goal.with_body-returns-in-DontKnowYet
 with_body-returns-in-DontKnowYet g t c = unknown (rw c.in-DontKnowYet.is at c.in-Ok.ensures)
@@ -812,8 +789,7 @@ statement-returns-in-With g t c =
     described _ (rw c.deref-in-With.ensures.value at c.with_statement.ensures) (λ k. statement_given (stand_in k c.args.stand.now) c.args.of.now _ (ap stmt_form_view c.in-With.is ∙ with_seen c.in-With.of c.in-With.body))
 
 pub statement-return_statement-requires-clause-value : goal.statement-return_statement-requires-clause-value
-statement-return_statement-requires-clause-value g t c =
-    (form_read c.args.site.now.texts.now.names c.args.of.now _ (ap stmt_form_view c.in-Return.is ∙ return_seen c.in-Return.value) c.requires.read)
+statement-return_statement-requires-clause-value g t c = (form_read c.args.site.now.texts.now.names c.args.of.now _ (ap stmt_form_view c.in-Return.is ∙ return_seen c.in-Return.value) c.requires.read)
 
 pub statement-returns-in-Return : goal.statement-returns-in-Return
 statement-returns-in-Return g t c =
