@@ -26,7 +26,6 @@ ghost use Rattle.type_rules.specs.Sites.{SuitsSite};
 use crate::coded::{Coded, Placed};
 use crate::coder::Coder;
 use crate::fitting::fitted_code;
-use crate::fragments::Fragments;
 use crate::refusals::refused;
 use crate::updates::{Change, NO_VALUE, either_bad, updated};
 use crate::values::{as_value, in_range};
@@ -143,13 +142,12 @@ pub fn set_member<S: Scopes>(
     site: &Site,
     x: Coded,
     e: Placed,
-    fragments: &Fragments,
     notes: &mut Notes,
 ) -> Result<Ask<Coded>, Memory>
     requires suits { SuitsSite (S.state scopes.old).frame site.now }
     requires x { IsOperand (S.state scopes.old).frame x.operand }
-    requires e { IsCoded (S.state scopes.old).frame fragments.now.nodes.items e.coded }
-    ensures { Coding (S.state scopes.old) (S.state scopes.new) notes.old notes.new fragments.now.nodes.items fragments.now.nodes.items site.now result IsCoded coded_in (λ c. spec_member c (coded_in fragments.now.nodes.items x) e.at (coded_in fragments.now.nodes.items e.coded)) }
+    requires e { (nodes : List Node) × IsCoded (S.state scopes.old).frame nodes e.coded }
+    ensures { (nodes : List Node) → IsCoded (S.state scopes.old).frame nodes e.coded → Coding (S.state scopes.old) (S.state scopes.new) notes.old notes.new nodes nodes site.now result IsCoded coded_in (λ c. spec_member c (coded_in nodes x) e.at (coded_in nodes e.coded)) }
 {
     let v = analysed!(as_value(site, e.at, e.coded, notes));
     member_beside(scopes, site, x, Placed { at: e.at, coded: v }, notes)

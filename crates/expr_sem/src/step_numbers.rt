@@ -19,7 +19,6 @@ ghost use Rattle.type_rules.specs.Scenes.{IsThere, Suits, WhereTold, scene_of};
 ghost use Rattle.type_rules.specs.Sites.{SuitsSite, context_of};
 
 use crate::coded::{Coded, Placed};
-use crate::fragments::Fragments;
 use crate::refusals::refused;
 use crate::updates::either_bad;
 use crate::values::{as_value, in_range};
@@ -167,13 +166,12 @@ pub fn step_number<S: Scopes>(
     site: &Site,
     x: Coded,
     n: Placed,
-    fragments: &Fragments,
     notes: &mut Notes,
 ) -> Result<Ask<Coded>, Memory>
     requires suits { SuitsSite (S.state scopes.old).frame site.now }
     requires x { IsOperand (S.state scopes.old).frame x.operand }
-    requires n { IsCoded (S.state scopes.old).frame fragments.now.nodes.items n.coded }
-    ensures { Coding (S.state scopes.old) (S.state scopes.new) notes.old notes.new fragments.now.nodes.items fragments.now.nodes.items site.now result IsCoded coded_in (λ c. spec_step_number c (coded_in fragments.now.nodes.items x) n.at (coded_in fragments.now.nodes.items n.coded)) }
+    requires n { (nodes : List Node) × IsCoded (S.state scopes.old).frame nodes n.coded }
+    ensures { (nodes : List Node) → IsCoded (S.state scopes.old).frame nodes n.coded → Coding (S.state scopes.old) (S.state scopes.new) notes.old notes.new nodes nodes site.now result IsCoded coded_in (λ c. spec_step_number c (coded_in nodes x) n.at (coded_in nodes n.coded)) }
 {
     let v = analysed!(as_value(site, n.at, n.coded, notes));
     number_beside(scopes, site, x, Placed { at: n.at, coded: v }, notes)
