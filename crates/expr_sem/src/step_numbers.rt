@@ -87,26 +87,6 @@ fn is_step<S: Scopes>(scopes: &mut S, site: &Site, want: Place, operand: Operand
     }
 }
 
-/// A number of this type, or what is refused otherwise.
-fn number_or_refused<S: Scopes>(
-    scopes: &mut S,
-    site: &Site,
-    want: Place,
-    holds: bool,
-    n: Placed,
-    notes: &mut Notes,
-) -> Result<Ask<Coded>, Memory>
-    requires suits { SuitsSite (S.state scopes.old).frame site.now }
-    requires want { IsThere (S.state scopes.old).frame want }
-    ensures { (nodes : List Node) → IsCoded (S.state scopes.old).frame nodes n.coded → Coding (S.state scopes.old) (S.state scopes.new) notes.old notes.new nodes nodes site.now result IsCoded coded_in (λ c. if holds then spec_in_range c n.at want (coded_in nodes n.coded) else refuse c n.at wrong_argument in_error) }
-{
-    if holds {
-        in_range(scopes, site, want, n, notes)
-    } else {
-        refused(site, n.at, Diagnostic::WrongArgument, notes)
-    }
-}
-
 /// A number of this type; a constant is in its range.
 fn number_of_type<S: Scopes>(
     scopes: &mut S,
@@ -120,8 +100,11 @@ fn number_of_type<S: Scopes>(
     requires n { IsOperand (S.state scopes.old).frame n.coded.operand }
     ensures { (nodes : List Node) → IsCoded (S.state scopes.old).frame nodes n.coded → Coding (S.state scopes.old) (S.state scopes.new) notes.old notes.new nodes nodes site.now result IsCoded coded_in (λ c. spec_of_type c n.at want (coded_in nodes n.coded)) }
 {
-    let holds = asked!(is_step(scopes, site, want, n.coded.operand));
-    number_or_refused(scopes, site, want, holds, n, notes)
+    if asked!(is_step(scopes, site, want, n.coded.operand)) {
+        in_range(scopes, site, want, n, notes)
+    } else {
+        refused(site, n.at, Diagnostic::WrongArgument, notes)
+    }
 }
 
 /// A number by which a variable of this type is changed.
