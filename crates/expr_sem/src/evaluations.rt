@@ -8,7 +8,7 @@ ghost use Rattle.m2_base.specs.States.{Frame};
 ghost use Rattle.m2_base.specs.Statics.ReadTrees.{IsReadDesignator, IsReadExpr};
 ghost use Rattle.m2_base.specs.Views.{designator_view, expr_view};
 ghost use Rattle.m2_base.specs.declared.notes.Notes.{Notes as NotesOf};
-ghost use Rattle.expr_sem.specs.Coders.{Codes, Keeps, SeesWiths, SuitsPlace, names_of};
+ghost use Rattle.expr_sem.specs.Coders.{Codes, Keeps, SeesWiths, SuitsPlace, names_of, nodes_of};
 ghost use Rattle.expr_sem.specs.Coded.{value_code as spec_code};
 ghost use Rattle.expr_sem.specs.Codings.{Coding, IsCoded, coded_in, with_types};
 ghost use Rattle.expr_sem.specs.Evaluations.{Evaluates, IsEvaluated, KeepsPiece, evaluated as spec_evaluated, evaluated_in, evaluation, operand_of};
@@ -118,6 +118,38 @@ fn appended(
     }
 }
 
+impl<S: Scopes> Coder<'_, '_, S> {
+    /// The code of an expression's value, appended to a piece.
+    fn append_value(&mut self, e: &Expr, piece: &mut Piece) -> Result<Ask<Option<Operand>>, Memory>
+        requires suits { SuitsPlace S.state self.old }
+        requires withs { SeesWiths S.state self.old }
+        requires sound { AreSound (nodes_of self.old) }
+        requires read { IsReadExpr (names_of self.old) (expr_view e.now) }
+        ensures keeps { Keeps self.old self.new }
+        ensures codes { Evaluates (S.state self.old.scopes.now) (S.state self.new.scopes.now) self.old.notes.now self.new.notes.now piece.old piece.new self.old.withs.now self.old.site.now result (λ c x. spec_code c x) (λ c. spec_value c (with_types self.old.withs.now) (expr_view e.now)) }
+    {
+        let made = analysed!(self.value_made(e));
+        appended(self.fragments, made, self.withs, piece)
+    }
+
+    /// The code of what a designator stands for, appended to a piece.
+    fn append_address(
+        &mut self,
+        of: &Designator,
+        piece: &mut Piece,
+    ) -> Result<Ask<Option<Operand>>, Memory>
+        requires suits { SuitsPlace S.state self.old }
+        requires withs { SeesWiths S.state self.old }
+        requires sound { AreSound (nodes_of self.old) }
+        requires read { IsReadDesignator (names_of self.old) (designator_view of.now) }
+        ensures keeps { Keeps self.old self.new }
+        ensures codes { Evaluates (S.state self.old.scopes.now) (S.state self.new.scopes.now) self.old.notes.now self.new.notes.now piece.old piece.new self.old.withs.now self.old.site.now result (λ c x. x.code) (λ c. spec_designated c (with_types self.old.withs.now) (designator_view of.now)) }
+    {
+        let made = analysed!(self.address_made(of));
+        appended(self.fragments, made, self.withs, piece)
+    }
+}
+
 /// The code of an expression's value is appended to a piece of a block's code, and its operand is what comes out: none where
 /// the expression is in error, and then the piece is as it was. Where the answer isn't known yet, and where memory is wanted,
 /// the piece has what it had before.
@@ -135,8 +167,14 @@ pub fn value<S: Scopes>(
     ensures { Evaluates (S.state scopes.old) (S.state scopes.new) notes.old notes.new piece.old piece.new withs.now site.now result (λ c x. spec_code c x) (λ c. spec_value c (with_types withs.now) (expr_view e.now)) }
 {
     let mut fragments = Fragments::new(*piece.steps.allocator());
-    let made = analysed!(value_made(scopes, site, withs, e, &mut fragments, notes));
-    appended(&fragments, made, withs, piece)
+    let mut coder = Coder {
+        scopes,
+        site,
+        withs,
+        fragments: &mut fragments,
+        notes,
+    };
+    coder.append_value(e, piece)
 }
 
 /// The code of what a designator stands for is appended to a piece of a block's code: of a variable it gives the address. The
@@ -155,54 +193,12 @@ pub fn address<S: Scopes>(
     ensures { Evaluates (S.state scopes.old) (S.state scopes.new) notes.old notes.new piece.old piece.new withs.now site.now result (λ c x. x.code) (λ c. spec_designated c (with_types withs.now) (designator_view of.now)) }
 {
     let mut fragments = Fragments::new(*piece.steps.allocator());
-    let made = analysed!(address_made(scopes, site, withs, of, &mut fragments, notes));
-    appended(&fragments, made, withs, piece)
-}
-
-/// An expression's operand with the code of its value.
-fn value_made<S: Scopes>(
-    scopes: &mut S,
-    site: &Site,
-    withs: &[With],
-    e: &Expr,
-    fragments: &mut Fragments,
-    notes: &mut Notes,
-) -> Result<Ask<Option<(Operand, Fragment)>>, Memory>
-    requires suits { SuitsSite (S.state scopes.old).frame site.now }
-    requires withs { Each (λ w. IsThere (S.state scopes.old).frame w.of) withs.now }
-    requires read { IsReadExpr site.now.texts.now.names (expr_view e.now) }
-    ensures { Coding (S.state scopes.old) (S.state scopes.new) notes.old notes.new fragments.old.nodes.items fragments.new.nodes.items site.now result IsEvaluated evaluated_in (λ c. evaluation (spec_value c (with_types withs.now) (expr_view e.now)) (λ x. spec_code c x)) }
-{
     let mut coder = Coder {
         scopes,
         site,
         withs,
-        fragments,
+        fragments: &mut fragments,
         notes,
     };
-    coder.value_made(e)
-}
-
-/// What a designator stands for, with its own code.
-fn address_made<S: Scopes>(
-    scopes: &mut S,
-    site: &Site,
-    withs: &[With],
-    of: &Designator,
-    fragments: &mut Fragments,
-    notes: &mut Notes,
-) -> Result<Ask<Option<(Operand, Fragment)>>, Memory>
-    requires suits { SuitsSite (S.state scopes.old).frame site.now }
-    requires withs { Each (λ w. IsThere (S.state scopes.old).frame w.of) withs.now }
-    requires read { IsReadDesignator site.now.texts.now.names (designator_view of.now) }
-    ensures { Coding (S.state scopes.old) (S.state scopes.new) notes.old notes.new fragments.old.nodes.items fragments.new.nodes.items site.now result IsEvaluated evaluated_in (λ c. evaluation (spec_designated c (with_types withs.now) (designator_view of.now)) (λ x. x.code)) }
-{
-    let mut coder = Coder {
-        scopes,
-        site,
-        withs,
-        fragments,
-        notes,
-    };
-    coder.address_made(of)
+    coder.append_address(of, piece)
 }

@@ -26,7 +26,6 @@ ghost use Rattle.type_rules.specs.Sites.{SuitsSite};
 use crate::coded::{Coded, Placed};
 use crate::coder::Coder;
 use crate::fitting::fitted_code;
-use crate::fragments::Fragments;
 use crate::refusals::refused;
 use crate::updates::{Change, NO_VALUE, either_bad, updated};
 use crate::values::{as_value, in_range};
@@ -34,35 +33,6 @@ use code_form::Instr;
 use const_eval::{compatible_pair, is_broken, set_base};
 use m2_base::{Ask, Builtin, Diagnostic, Memory, Notes, Operand, Place, Scopes, Site};
 use type_rules::operand_type;
-
-/// An element as it is taken beside a value of the set's base, or what is refused where they aren't compatible.
-fn member_or_refused<S: Scopes>(
-    scopes: &mut S,
-    site: &Site,
-    base: Place,
-    pair: Option<(Operand, Operand)>,
-    v: Placed,
-    notes: &mut Notes,
-) -> Result<Ask<Coded>, Memory>
-    requires suits { SuitsSite (S.state scopes.old).frame site.now }
-    requires base { IsThere (S.state scopes.old).frame base }
-    requires pair { IfSome pair (λ pair. IsOperand (S.state scopes.old).frame pair.0) }
-    ensures { (nodes : List Node) → IsCoded (S.state scopes.old).frame nodes v.coded → Coding (S.state scopes.old) (S.state scopes.new) notes.old notes.new nodes nodes site.now result IsCoded coded_in (λ c. member_by c v.at base (coded_in nodes v.coded) pair) }
-{
-    match pair {
-        Some((operand, _)) => in_range(
-            scopes,
-            site,
-            base,
-            Placed {
-                at: v.at,
-                coded: v.coded.taken(operand),
-            },
-            notes,
-        ),
-        None => refused(site, v.at, Diagnostic::WrongArgument, notes),
-    }
-}
 
 /// An element for a set with this base, which isn't in error.
 fn compatible_member<S: Scopes>(
@@ -77,8 +47,13 @@ fn compatible_member<S: Scopes>(
     requires v { IsOperand (S.state scopes.old).frame v.coded.operand }
     ensures { (nodes : List Node) → IsCoded (S.state scopes.old).frame nodes v.coded → Coding (S.state scopes.old) (S.state scopes.new) notes.old notes.new nodes nodes site.now result IsCoded coded_in (λ c. if is_compatible c.scene v.coded.operand (operands.Computed base) then spec_in_range c v.at base (taken (taken_into c.source c.scene base v.coded.operand) (coded_in nodes v.coded)) else refuse c v.at wrong_argument in_error) }
 {
-    let pair = asked!(compatible_pair(scopes, site, v.coded.operand, Operand::Computed(base)));
-    member_or_refused(scopes, site, base, pair, v, notes)
+    match asked!(compatible_pair(scopes, site, v.coded.operand, Operand::Computed(base))) {
+        Some((operand, _)) => {
+            let coded = v.coded.taken(operand);
+            in_range(scopes, site, base, Placed { at: v.at, coded }, notes)
+        }
+        None => refused(site, v.at, Diagnostic::WrongArgument, notes),
+    }
 }
 
 /// An element for a set with this base: compatible with it, and a constant in its range.
@@ -143,13 +118,12 @@ pub fn set_member<S: Scopes>(
     site: &Site,
     x: Coded,
     e: Placed,
-    fragments: &Fragments,
     notes: &mut Notes,
 ) -> Result<Ask<Coded>, Memory>
     requires suits { SuitsSite (S.state scopes.old).frame site.now }
     requires x { IsOperand (S.state scopes.old).frame x.operand }
-    requires e { IsCoded (S.state scopes.old).frame fragments.now.nodes.items e.coded }
-    ensures { Coding (S.state scopes.old) (S.state scopes.new) notes.old notes.new fragments.now.nodes.items fragments.now.nodes.items site.now result IsCoded coded_in (λ c. spec_member c (coded_in fragments.now.nodes.items x) e.at (coded_in fragments.now.nodes.items e.coded)) }
+    requires e { (nodes : List Node) × IsCoded (S.state scopes.old).frame nodes e.coded }
+    ensures { (nodes : List Node) → IsCoded (S.state scopes.old).frame nodes e.coded → Coding (S.state scopes.old) (S.state scopes.new) notes.old notes.new nodes nodes site.now result IsCoded coded_in (λ c. spec_member c (coded_in nodes x) e.at (coded_in nodes e.coded)) }
 {
     let v = analysed!(as_value(site, e.at, e.coded, notes));
     member_beside(scopes, site, x, Placed { at: e.at, coded: v }, notes)

@@ -83,7 +83,6 @@ impl<S: Scopes> Coder<'_, '_, S> {
             self.site,
             Wanted::Ordinal,
             Placed { at, coded: x },
-            self.fragments,
             self.notes
         ));
         let one = Coded::bare(Operand::Constant(WHOLE, 1));
@@ -102,7 +101,6 @@ impl<S: Scopes> Coder<'_, '_, S> {
             self.site,
             Wanted::Pointer,
             Placed { at, coded: x },
-            self.fragments,
             self.notes
         ));
         new_room(self.scopes, self.site, v, self.fragments)
@@ -120,7 +118,6 @@ impl<S: Scopes> Coder<'_, '_, S> {
             self.site,
             Wanted::Pointer,
             Placed { at, coded: x },
-            self.fragments,
             self.notes
         ));
         disposed(v, self.fragments)
@@ -155,7 +152,6 @@ impl<S: Scopes> Coder<'_, '_, S> {
                 self.site,
                 Wanted::Ordinal,
                 Placed { at, coded: x },
-                self.fragments,
                 self.notes,
             ),
             Builtin::Dec => variable_argument(
@@ -163,7 +159,6 @@ impl<S: Scopes> Coder<'_, '_, S> {
                 self.site,
                 Wanted::Ordinal,
                 Placed { at, coded: x },
-                self.fragments,
                 self.notes,
             ),
             Builtin::Incl => variable_argument(
@@ -171,7 +166,6 @@ impl<S: Scopes> Coder<'_, '_, S> {
                 self.site,
                 Wanted::Set,
                 Placed { at, coded: x },
-                self.fragments,
                 self.notes,
             ),
             Builtin::Excl => variable_argument(
@@ -179,7 +173,6 @@ impl<S: Scopes> Coder<'_, '_, S> {
                 self.site,
                 Wanted::Set,
                 Placed { at, coded: x },
-                self.fragments,
                 self.notes,
             ),
             _ => Ok(Ask::Known(x)),
@@ -194,7 +187,7 @@ impl<S: Scopes> Coder<'_, '_, S> {
         ensures keeps { Keeps self.old self.new }
         ensures codes { Codes S.state self.old self.new result IsCoded coded_in (λ c. and_then (spec_number c (coded_in (nodes_of self.old) x) n.at (coded_in (nodes_of self.old) n.coded)) (λ v. gives (spec_stepped c f (coded_in (nodes_of self.old) x) v))) }
     {
-        let v = analysed!(step_number(self.scopes, self.site, x, n, self.fragments, self.notes));
+        let v = analysed!(step_number(self.scopes, self.site, x, n, self.notes));
         self.stepped(f, x, v)
     }
 
@@ -206,7 +199,7 @@ impl<S: Scopes> Coder<'_, '_, S> {
         ensures keeps { Keeps self.old self.new }
         ensures codes { Codes S.state self.old self.new result IsCoded coded_in (λ c. and_then (spec_member c (coded_in (nodes_of self.old) x) e.at (coded_in (nodes_of self.old) e.coded)) (λ v. gives (spec_included c f (coded_in (nodes_of self.old) x) v))) }
     {
-        let v = analysed!(set_member(self.scopes, self.site, x, e, self.fragments, self.notes));
+        let v = analysed!(set_member(self.scopes, self.site, x, e, self.notes));
         self.included(f, x, v)
     }
 

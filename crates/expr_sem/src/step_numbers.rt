@@ -19,7 +19,6 @@ ghost use Rattle.type_rules.specs.Scenes.{IsThere, Suits, WhereTold, scene_of};
 ghost use Rattle.type_rules.specs.Sites.{SuitsSite, context_of};
 
 use crate::coded::{Coded, Placed};
-use crate::fragments::Fragments;
 use crate::refusals::refused;
 use crate::updates::either_bad;
 use crate::values::{as_value, in_range};
@@ -88,26 +87,6 @@ fn is_step<S: Scopes>(scopes: &mut S, site: &Site, want: Place, operand: Operand
     }
 }
 
-/// A number of this type, or what is refused otherwise.
-fn number_or_refused<S: Scopes>(
-    scopes: &mut S,
-    site: &Site,
-    want: Place,
-    holds: bool,
-    n: Placed,
-    notes: &mut Notes,
-) -> Result<Ask<Coded>, Memory>
-    requires suits { SuitsSite (S.state scopes.old).frame site.now }
-    requires want { IsThere (S.state scopes.old).frame want }
-    ensures { (nodes : List Node) → IsCoded (S.state scopes.old).frame nodes n.coded → Coding (S.state scopes.old) (S.state scopes.new) notes.old notes.new nodes nodes site.now result IsCoded coded_in (λ c. if holds then spec_in_range c n.at want (coded_in nodes n.coded) else refuse c n.at wrong_argument in_error) }
-{
-    if holds {
-        in_range(scopes, site, want, n, notes)
-    } else {
-        refused(site, n.at, Diagnostic::WrongArgument, notes)
-    }
-}
-
 /// A number of this type; a constant is in its range.
 fn number_of_type<S: Scopes>(
     scopes: &mut S,
@@ -121,8 +100,11 @@ fn number_of_type<S: Scopes>(
     requires n { IsOperand (S.state scopes.old).frame n.coded.operand }
     ensures { (nodes : List Node) → IsCoded (S.state scopes.old).frame nodes n.coded → Coding (S.state scopes.old) (S.state scopes.new) notes.old notes.new nodes nodes site.now result IsCoded coded_in (λ c. spec_of_type c n.at want (coded_in nodes n.coded)) }
 {
-    let holds = asked!(is_step(scopes, site, want, n.coded.operand));
-    number_or_refused(scopes, site, want, holds, n, notes)
+    if asked!(is_step(scopes, site, want, n.coded.operand)) {
+        in_range(scopes, site, want, n, notes)
+    } else {
+        refused(site, n.at, Diagnostic::WrongArgument, notes)
+    }
 }
 
 /// A number by which a variable of this type is changed.
@@ -167,13 +149,12 @@ pub fn step_number<S: Scopes>(
     site: &Site,
     x: Coded,
     n: Placed,
-    fragments: &Fragments,
     notes: &mut Notes,
 ) -> Result<Ask<Coded>, Memory>
     requires suits { SuitsSite (S.state scopes.old).frame site.now }
     requires x { IsOperand (S.state scopes.old).frame x.operand }
-    requires n { IsCoded (S.state scopes.old).frame fragments.now.nodes.items n.coded }
-    ensures { Coding (S.state scopes.old) (S.state scopes.new) notes.old notes.new fragments.now.nodes.items fragments.now.nodes.items site.now result IsCoded coded_in (λ c. spec_step_number c (coded_in fragments.now.nodes.items x) n.at (coded_in fragments.now.nodes.items n.coded)) }
+    requires n { (nodes : List Node) × IsCoded (S.state scopes.old).frame nodes n.coded }
+    ensures { (nodes : List Node) → IsCoded (S.state scopes.old).frame nodes n.coded → Coding (S.state scopes.old) (S.state scopes.new) notes.old notes.new nodes nodes site.now result IsCoded coded_in (λ c. spec_step_number c (coded_in nodes x) n.at (coded_in nodes n.coded)) }
 {
     let v = analysed!(as_value(site, n.at, n.coded, notes));
     number_beside(scopes, site, x, Placed { at: n.at, coded: v }, notes)

@@ -16,7 +16,6 @@ ghost use Rattle.type_rules.specs.Scenes.{IsThere, WhereTold};
 ghost use Rattle.type_rules.specs.Sites.{SuitsSite, context_of};
 
 use crate::coded::{Coded, Placed};
-use crate::fragments::Fragments;
 use crate::refusals::refused;
 use const_eval::is_bad;
 use m2_base::{Ask, Diagnostic, Memory, Notes, Operand, Place, RowMeaning, Scopes, Site};
@@ -108,12 +107,11 @@ pub fn variable_argument<S: Scopes>(
     site: &Site,
     wanted: Wanted,
     x: Placed,
-    fragments: &Fragments,
     notes: &mut Notes,
 ) -> Result<Ask<Coded>, Memory>
     requires suits { SuitsSite (S.state scopes.old).frame site.now }
-    requires x { IsCoded (S.state scopes.old).frame fragments.now.nodes.items x.coded }
-    ensures { Coding (S.state scopes.old) (S.state scopes.new) notes.old notes.new fragments.now.nodes.items fragments.now.nodes.items site.now result IsCoded coded_in (λ c. spec_argument c x.at (spec_wanted c.scene wanted) (coded_in fragments.now.nodes.items x.coded)) }
+    requires x { (nodes : List Node) × IsCoded (S.state scopes.old).frame nodes x.coded }
+    ensures { (nodes : List Node) → IsCoded (S.state scopes.old).frame nodes x.coded → Coding (S.state scopes.old) (S.state scopes.new) notes.old notes.new nodes nodes site.now result IsCoded coded_in (λ c. spec_argument c x.at (spec_wanted c.scene wanted) (coded_in nodes x.coded)) }
 {
     let v = analysed!(as_variable(site, x.at, x.coded, notes));
     variable_where(scopes, site, wanted, Placed { at: x.at, coded: v }, notes)

@@ -1,4 +1,5 @@
-use Rattle.std.proofs.Common.{◌≡◌, ◌∙◌, Bool, Option, Some, None, ap, false, true, refl, if◌then◌else◌, ℕ}
+use Rattle.std.proofs.Common.{◌≡◌, ◌∙◌, Bool, Option, Some, None, ap, false, true, refl, subst, sym, if◌then◌else◌, ℕ}
+use Rattle.std.specs.Option.{IfSome}
 use Rattle.m2_base.specs.States.{Frame}
 use Rattle.m2_base.specs.Statics.Compatible.{is_compatible, taken_beside}
 use Rattle.m2_base.specs.Statics.Contexts.{Context, refuse}
@@ -12,6 +13,8 @@ use Rattle.expr_sem.specs.Coded.{in_error, taken}
 use Rattle.expr_sem.specs.Codings.{IsCoded, coded_in}
 use Rattle.expr_sem.specs.SetMembers.{member_by}
 use Rattle.expr_sem.specs.Values.{in_range}
+use Rattle.const_eval.specs.Sites.{IsOperand}
+use Rattle.expr_sem.proofs.Operating.{described}
 use Rattle.expr_sem.proofs.Making.{after_question, question_waits}
 use Rattle.expr_sem.proofs.Selecting.{stays_read}
 use Rattle.expr_sem.proofs.set_members.compatible_member.Goals as goal
@@ -25,10 +28,23 @@ by_compatible c at base v o other false = refl
 pub returns-in-DontKnowYet : goal.returns-in-DontKnowYet
 returns-in-DontKnowYet g c nodes h = question_waits _ nodes c.compatible_pair.ensures.reads c.in-DontKnowYet.ensures.waits
 
-pub returns : goal.returns
-returns g c nodes h =
-    after_question c.member_or_refused.result c.in-Known.ensures.reads
-    (c.member_or_refused.ensures nodes (stays_read (λ (f : Frame). IsCoded f nodes c.args.v.coded) c.in-Known.ensures.reads h))
+pub returns-in-Some : goal.returns-in-Some
+returns-in-Some g c nodes h =
+    let mid = (g.S.Scopes.state c.compatible_pair.new.scopes).frame in
+    let first = c.in-Known.ensures.reads in
+    let there =
+    subst (λ (o : Option (Operand × Operand)). IfSome o (λ pair. IsOperand mid pair.0 × IsOperand mid pair.1)) c.in-Some.is
+    (stays_read (λ (f : Frame). IfSome c.in-Known.value (λ pair. IsOperand f pair.0 × IsOperand f pair.1)) first c.in-Known.ensures.there) in
+    after_question c.in_range.result first
+    (described c.in_range.result (c.in_range.ensures nodes (c.taken-coded.ensures.there mid nodes there.0 (stays_read (λ (f : Frame). IsCoded f nodes c.args.v.coded) first h)))
+    (λ k. ap (λ (y : code.Coded). in_range k c.args.v.at c.args.base y) (c.taken-coded.ensures.told nodes)))
     (λ made in_hand told. let k = context_of (g.S.Scopes.state c.args.scopes.now).frame made c.args.site.now in
-    ap (λ (o : Option (Operand × Operand)). member_by k c.args.v.at c.args.base (coded_in nodes c.args.v.coded) o) (c.in-Known.ensures.told made in_hand told)
+    ap (λ (o : Option (Operand × Operand)). member_by k c.args.v.at c.args.base (coded_in nodes c.args.v.coded) o) (sym c.in-Some.is ∙ c.in-Known.ensures.told made in_hand told)
+    ∙ by_compatible k c.args.v.at c.args.base (coded_in nodes c.args.v.coded) (taken_beside k.source k.scene c.args.v.coded.operand (Computed c.args.base)) (taken_beside k.source k.scene (Computed c.args.base) c.args.v.coded.operand) (is_compatible k.scene c.args.v.coded.operand (Computed c.args.base)))
+
+pub returns-in-None : goal.returns-in-None
+returns-in-None g c nodes h =
+    after_question c.refused.result c.in-Known.ensures.reads (c.refused.ensures (g.S.Scopes.state c.compatible_pair.new.scopes) nodes)
+    (λ made in_hand told. let k = context_of (g.S.Scopes.state c.args.scopes.now).frame made c.args.site.now in
+    ap (λ (o : Option (Operand × Operand)). member_by k c.args.v.at c.args.base (coded_in nodes c.args.v.coded) o) (sym c.in-None.is ∙ c.in-Known.ensures.told made in_hand told)
     ∙ by_compatible k c.args.v.at c.args.base (coded_in nodes c.args.v.coded) (taken_beside k.source k.scene c.args.v.coded.operand (Computed c.args.base)) (taken_beside k.source k.scene (Computed c.args.base) c.args.v.coded.operand) (is_compatible k.scene c.args.v.coded.operand (Computed c.args.base)))

@@ -18,22 +18,34 @@ as_it_is c f at x h1 h2 h3 h4 = refl
 
 pub returns-in-Inc-clause-codes : goal.returns-in-Inc-clause-codes
 returns-in-Inc-clause-codes g c =
-    described c.variable_argument.result c.variable_argument.ensures (λ k. ap (λ (f : Builtin). first_of_two k f c.args.at (coded_in c.args.self.now.fragments.now.nodes.items c.args.x)) (sym c.in-Inc.is))
+    described c.variable_argument.result (c.variable_argument.ensures c.args.self.now.fragments.now.nodes.items c.requires.x) (λ k. ap (λ (f : Builtin). first_of_two k f c.args.at (coded_in c.args.self.now.fragments.now.nodes.items c.args.x)) (sym c.in-Inc.is))
 
 pub returns-in-Dec-clause-codes : goal.returns-in-Dec-clause-codes
 returns-in-Dec-clause-codes g c =
-    described c.variable_argument-in-Dec.result c.variable_argument-in-Dec.ensures (λ k. ap (λ (f : Builtin). first_of_two k f c.args.at (coded_in c.args.self.now.fragments.now.nodes.items c.args.x)) (sym c.in-Dec.is))
+    described c.variable_argument-in-Dec.result (c.variable_argument-in-Dec.ensures c.args.self.now.fragments.now.nodes.items c.requires.x) (λ k. ap (λ (f : Builtin). first_of_two k f c.args.at (coded_in c.args.self.now.fragments.now.nodes.items c.args.x)) (sym c.in-Dec.is))
 
 pub returns-in-Incl-clause-codes : goal.returns-in-Incl-clause-codes
 returns-in-Incl-clause-codes g c =
-    described c.variable_argument-in-Incl.result c.variable_argument-in-Incl.ensures (λ k. ap (λ (f : Builtin). first_of_two k f c.args.at (coded_in c.args.self.now.fragments.now.nodes.items c.args.x)) (sym c.in-Incl.is))
+    described c.variable_argument-in-Incl.result (c.variable_argument-in-Incl.ensures c.args.self.now.fragments.now.nodes.items c.requires.x) (λ k. ap (λ (f : Builtin). first_of_two k f c.args.at (coded_in c.args.self.now.fragments.now.nodes.items c.args.x)) (sym c.in-Incl.is))
 
 pub returns-in-Excl-clause-codes : goal.returns-in-Excl-clause-codes
 returns-in-Excl-clause-codes g c =
-    described c.variable_argument-in-Excl.result c.variable_argument-in-Excl.ensures (λ k. ap (λ (f : Builtin). first_of_two k f c.args.at (coded_in c.args.self.now.fragments.now.nodes.items c.args.x)) (sym c.in-Excl.is))
+    described c.variable_argument-in-Excl.result (c.variable_argument-in-Excl.ensures c.args.self.now.fragments.now.nodes.items c.requires.x) (λ k. ap (λ (f : Builtin). first_of_two k f c.args.at (coded_in c.args.self.now.fragments.now.nodes.items c.args.x)) (sym c.in-Excl.is))
 
 pub returns-in_default-clause-codes : goal.returns-in_default-clause-codes
 returns-in_default-clause-codes g c =
     let ns = c.args.self.now.fragments.now.nodes.items in
     described _ (value_alone (g.S.Scopes.state c.args.self.now.scopes.now) c.args.self.now.notes.now ns c.args.self.now.site.now c.args.x IsCoded coded_in (λ k. coded_in ns c.args.x) c.requires.x (λ k. refl))
     (λ k. as_it_is k c.args.f c.args.at (coded_in ns c.args.x) c.in_default.not-Inc c.in_default.not-Dec c.in_default.not-Incl c.in_default.not-Excl)
+
+pub variable_argument-requires-clause-x : goal.variable_argument-requires-clause-x
+variable_argument-requires-clause-x g c = (c.args.self.now.fragments.now.nodes.items, c.requires.x)
+
+pub variable_argument-requires-in-Dec-clause-x : goal.variable_argument-requires-in-Dec-clause-x
+variable_argument-requires-in-Dec-clause-x g c = (c.args.self.now.fragments.now.nodes.items, c.requires.x)
+
+pub variable_argument-requires-in-Incl-clause-x : goal.variable_argument-requires-in-Incl-clause-x
+variable_argument-requires-in-Incl-clause-x g c = (c.args.self.now.fragments.now.nodes.items, c.requires.x)
+
+pub variable_argument-requires-in-Excl-clause-x : goal.variable_argument-requires-in-Excl-clause-x
+variable_argument-requires-in-Excl-clause-x g c = (c.args.self.now.fragments.now.nodes.items, c.requires.x)
