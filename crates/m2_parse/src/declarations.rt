@@ -217,7 +217,6 @@ fn procedure(alloc: Global, tokens: &mut Tokens) -> Result<Decl, ReadFault>
 }
 
 /// Decl = CONST {ident "=" Expr ";"} | TYPE {ident "=" Type ";"} | VAR {Idents ":" Type ";"} | Heading ";" Cut
-#[tactic(auto, using(std::proofs::lemmas::Grind::common_steps), unfolding(crate::specs::ReadStreams::declaration_at))]
 fn declaration(alloc: Global, tokens: &mut Tokens, depth: usize) -> Result<Vec<Decl>, ReadFault>
     ensures { Gives (λ x. (map decl_view x.items, tokens.new.list.now)) result (declaration_at depth tokens.old.list.now) }
 {

@@ -156,7 +156,6 @@ fn inner_factor(alloc: Global, tokens: &mut Tokens, depth: usize) -> Result<Expr
 
 /// A set with no type before it.
 #[cycle(expressions)]
-#[tactic(auto, using(std::proofs::lemmas::Grind::common_steps, m2_base::proofs::Seen::expr_seen, m2_base::proofs::Seen::plain_set_seen), unfolding(crate::specs::ReadExpressions::plain_set_with))]
 fn plain_set(alloc: Global, tokens: &mut Tokens, depth: usize) -> Result<Expr, ReadFault>
     ensures { Gives (λ x. (expr_view x, tokens.new.list.now)) result (plain_set_with (factor_at depth) tokens.old.list.now) }
 {
@@ -167,7 +166,6 @@ fn plain_set(alloc: Global, tokens: &mut Tokens, depth: usize) -> Result<Expr, R
 
 /// "(" Expr ")"
 #[cycle(expressions)]
-#[tactic(auto, using(std::proofs::lemmas::Grind::common_steps, m2_base::proofs::Seen::expr_seen), unfolding(crate::specs::ReadExpressions::bracketed_with))]
 fn bracketed(alloc: Global, tokens: &mut Tokens, depth: usize) -> Result<Expr, ReadFault>
     ensures { Gives (λ x. (expr_view x, tokens.new.list.now)) result (bracketed_with (factor_at depth) tokens.old.list.now) }
 {
@@ -180,7 +178,6 @@ fn bracketed(alloc: Global, tokens: &mut Tokens, depth: usize) -> Result<Expr, R
 
 /// NOT Factor
 #[cycle(expressions)]
-#[tactic(auto, using(std::proofs::lemmas::Grind::common_steps, m2_base::proofs::Seen::expr_seen, m2_base::proofs::Seen::one_seen), unfolding(crate::specs::ReadExpressions::negated_with))]
 fn negated(alloc: Global, tokens: &mut Tokens, depth: usize) -> Result<Expr, ReadFault>
     ensures { Gives (λ x. (expr_view x, tokens.new.list.now)) result (negated_with (factor_at depth) tokens.old.list.now) }
 {
@@ -196,7 +193,6 @@ fn negated(alloc: Global, tokens: &mut Tokens, depth: usize) -> Result<Expr, Rea
 
 /// Designator [Set | Actuals]
 #[cycle(expressions)]
-#[tactic(auto, using(std::proofs::lemmas::Grind::common_steps, m2_base::proofs::Seen::expr_seen, m2_base::proofs::Seen::designator_seen, m2_base::proofs::Seen::typed_set_seen, m2_base::proofs::Seen::call_seen, m2_base::proofs::Seen::name_seen), unfolding(crate::specs::ReadExpressions::designated_with, crate::specs::ReadExpressions::selection_with))]
 fn designated(alloc: Global, tokens: &mut Tokens, depth: usize) -> Result<Expr, ReadFault>
     ensures { Gives (λ x. (expr_view x, tokens.new.list.now)) result (designated_with (factor_at depth) tokens.old.list.now) }
 {
@@ -221,7 +217,6 @@ fn designated(alloc: Global, tokens: &mut Tokens, depth: usize) -> Result<Expr, 
 
 /// Set = "{" [Element {"," Element}] "}", with its first token
 #[cycle(expressions)]
-#[tactic(auto, using(std::proofs::lemmas::Grind::common_steps), unfolding(crate::specs::ReadExpressions::set_with, crate::specs::ReadExpressions::elements_with))]
 fn set(alloc: Global, tokens: &mut Tokens, depth: usize) -> Result<(u32, Vec<Label>), ReadFault>
     ensures { Gives (λ x. ((x.0, map label_view x.1.items), tokens.new.list.now)) result (set_with (factor_at depth) tokens.old.list.now) }
 {
@@ -245,7 +240,6 @@ pub fn labels(alloc: Global, tokens: &mut Tokens, depth: usize) -> Result<Vec<La
 
 /// Label = Expr [".." Expr]
 #[cycle(expressions)]
-#[tactic(auto, using(std::proofs::lemmas::Grind::common_steps, m2_base::proofs::Seen::label_made), unfolding(crate::specs::ReadExpressions::label_with_upper, crate::specs::ReadExpressions::upper_with))]
 fn label(alloc: Global, tokens: &mut Tokens, depth: usize) -> Result<Label, ReadFault>
     ensures { Gives (λ x. (label_view x, tokens.new.list.now)) result (label_with_upper (factor_at depth) tokens.old.list.now) }
 {
@@ -260,7 +254,6 @@ fn label(alloc: Global, tokens: &mut Tokens, depth: usize) -> Result<Label, Read
 
 /// Actuals = "(" [Expr {"," Expr}] ")"
 #[cycle(expressions)]
-#[tactic(auto, using(std::proofs::lemmas::Grind::common_steps), unfolding(crate::specs::ReadExpressions::actuals_with, crate::specs::ReadExpressions::arguments_with))]
 pub fn actuals(alloc: Global, tokens: &mut Tokens, depth: usize) -> Result<Vec<Expr>, ReadFault>
     ensures { Gives (λ x. (map expr_view x.items, tokens.new.list.now)) result (actuals_with (factor_at depth) tokens.old.list.now) }
 {
@@ -284,7 +277,6 @@ fn exprs(alloc: Global, tokens: &mut Tokens, depth: usize) -> Result<Vec<Expr>, 
 
 /// Designator = ident {"." ident | "[" Expr {"," Expr} "]" | "^"}
 #[cycle(expressions)]
-#[tactic(auto, using(std::proofs::lemmas::Grind::common_steps, m2_base::proofs::Seen::designator_seen), unfolding(crate::specs::ReadExpressions::designator_with))]
 pub fn designator(alloc: Global, tokens: &mut Tokens, depth: usize) -> Result<Designator, ReadFault>
     ensures { Gives (λ x. (designator_view x, tokens.new.list.now)) result (designator_with (factor_at depth) tokens.old.list.now) }
 {
@@ -313,7 +305,6 @@ fn selectors(alloc: Global, tokens: &mut Tokens, depth: usize) -> Result<Vec<Sel
 
 /// "." ident | "[" Expr {"," Expr} "]" | "^"
 #[cycle(expressions)]
-#[tactic(auto, using(std::proofs::lemmas::Grind::common_steps, m2_base::proofs::Seen::field_seen, m2_base::proofs::Seen::index_seen, m2_base::proofs::Seen::deref_seen), unfolding(crate::specs::ReadExpressions::selector_with))]
 fn selector(alloc: Global, tokens: &mut Tokens, depth: usize) -> Result<Selector, ReadFault>
     ensures { Gives (λ x. (selector_view x, tokens.new.list.now)) result (selector_with (factor_at depth) tokens.old.list.now) }
 {
@@ -332,7 +323,6 @@ fn selector(alloc: Global, tokens: &mut Tokens, depth: usize) -> Result<Selector
 
 /// Term = Factor {("*"|"/"|DIV|MOD|AND) Factor}
 #[cycle(expressions)]
-#[tactic(auto, using(std::proofs::lemmas::Grind::common_steps), unfolding(crate::specs::ReadExpressions::term_with))]
 fn term(alloc: Global, tokens: &mut Tokens, depth: usize) -> Result<Expr, ReadFault>
     ensures { Gives (λ x. (expr_view x, tokens.new.list.now)) result (term_with (factor_at depth) tokens.old.list.now) }
 {
@@ -357,7 +347,6 @@ fn factors(alloc: Global, tokens: &mut Tokens, depth: usize) -> Result<Vec<Next>
 
 /// ("*"|"/"|DIV|MOD|AND) Factor
 #[cycle(expressions)]
-#[tactic(auto, using(std::proofs::lemmas::Grind::common_steps, m2_base::proofs::Seen::next_seen), unfolding(crate::specs::ReadExpressions::next_factor_with))]
 fn next_factor(alloc: Global, tokens: &mut Tokens, depth: usize) -> Result<Next, ReadFault>
     ensures { Gives (λ x. (next_view x, tokens.new.list.now)) result (next_factor_with (factor_at depth) tokens.old.list.now) }
 {
@@ -373,7 +362,6 @@ fn next_factor(alloc: Global, tokens: &mut Tokens, depth: usize) -> Result<Next,
 
 /// ["+"|"-"] Term
 #[cycle(expressions)]
-#[tactic(auto, using(std::proofs::lemmas::Grind::common_steps, m2_base::proofs::Seen::expr_seen, m2_base::proofs::Seen::one_seen), unfolding(crate::specs::ReadExpressions::first_term_with))]
 fn first_term(alloc: Global, tokens: &mut Tokens, depth: usize) -> Result<Expr, ReadFault>
     ensures { Gives (λ x. (expr_view x, tokens.new.list.now)) result (first_term_with (factor_at depth) tokens.old.list.now) }
 {
@@ -392,7 +380,6 @@ fn first_term(alloc: Global, tokens: &mut Tokens, depth: usize) -> Result<Expr, 
 
 /// Sum = ["+"|"-"] Term {("+"|"-"|OR) Term}
 #[cycle(expressions)]
-#[tactic(auto, using(std::proofs::lemmas::Grind::common_steps), unfolding(crate::specs::ReadExpressions::sum_with))]
 fn sum(alloc: Global, tokens: &mut Tokens, depth: usize) -> Result<Expr, ReadFault>
     ensures { Gives (λ x. (expr_view x, tokens.new.list.now)) result (sum_with (factor_at depth) tokens.old.list.now) }
 {
@@ -417,7 +404,6 @@ fn terms(alloc: Global, tokens: &mut Tokens, depth: usize) -> Result<Vec<Next>, 
 
 /// ("+"|"-"|OR) Term
 #[cycle(expressions)]
-#[tactic(auto, using(std::proofs::lemmas::Grind::common_steps, m2_base::proofs::Seen::next_seen), unfolding(crate::specs::ReadExpressions::next_term_with))]
 fn next_term(alloc: Global, tokens: &mut Tokens, depth: usize) -> Result<Next, ReadFault>
     ensures { Gives (λ x. (next_view x, tokens.new.list.now)) result (next_term_with (factor_at depth) tokens.old.list.now) }
 {
@@ -433,7 +419,6 @@ fn next_term(alloc: Global, tokens: &mut Tokens, depth: usize) -> Result<Next, R
 
 /// Expr = Sum [("="|"#"|"<"|"<="|">"|">="|IN) Sum]
 #[cycle(expressions)]
-#[tactic(auto, using(std::proofs::lemmas::Grind::common_steps, m2_base::proofs::Seen::next_seen), unfolding(crate::specs::ReadExpressions::expr_with, crate::specs::ReadExpressions::relation_with))]
 pub fn expr(alloc: Global, tokens: &mut Tokens, depth: usize) -> Result<Expr, ReadFault>
     ensures { Gives (λ x. (expr_view x, tokens.new.list.now)) result (expr_with (factor_at depth) tokens.old.list.now) }
 {

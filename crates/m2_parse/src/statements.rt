@@ -41,7 +41,6 @@ fn exit(tokens: &mut Tokens) -> Result<Statement, ReadFault>
 }
 
 /// RETURN [Expr]
-#[tactic(auto, using(std::proofs::lemmas::Grind::common_steps, m2_base::proofs::Seen::statement_seen, m2_base::proofs::Seen::return_seen), unfolding(crate::specs::ReadStatements::return_at, crate::specs::ReadStatements::optional_expr_at))]
 fn return_statement(
     alloc: Global,
     tokens: &mut Tokens,
@@ -61,7 +60,6 @@ fn return_statement(
 }
 
 /// Designator (":=" Expr | [Actuals])
-#[tactic(auto, using(std::proofs::lemmas::Grind::common_steps, m2_base::proofs::Seen::statement_seen, m2_base::proofs::Seen::assign_seen, m2_base::proofs::Seen::invoke_seen, m2_base::proofs::Seen::designator_seen), unfolding(crate::specs::ReadStatements::designated_at, crate::specs::ReadStatements::assigned_at, crate::specs::ReadStatements::optional_actuals_at))]
 fn designated(alloc: Global, tokens: &mut Tokens, depth: usize) -> Result<Statement, ReadFault>
     ensures { Gives (λ x. (statement_view x, tokens.new.list.now)) result (designated_at depth tokens.old.list.now) }
 {
@@ -181,7 +179,6 @@ pub fn statements(
 
 /// [Stmt]; an empty one is at the token after it
 #[cycle(statements)]
-#[tactic(auto, using(std::proofs::lemmas::Grind::common_steps, m2_base::proofs::Seen::statement_seen, m2_base::proofs::Seen::empty_seen), unfolding(crate::specs::ReadStatements::optional_statement_with))]
 fn optional_statement(
     alloc: Global,
     tokens: &mut Tokens,
@@ -199,7 +196,6 @@ fn optional_statement(
 
 /// [ELSE Stmts]
 #[cycle(statements)]
-#[tactic(auto, using(std::proofs::lemmas::Grind::common_steps), unfolding(crate::specs::ReadStatements::otherwise_with))]
 fn otherwise(
     alloc: Global,
     tokens: &mut Tokens,
@@ -216,7 +212,6 @@ fn otherwise(
 
 /// Expr THEN Stmts
 #[cycle(statements)]
-#[tactic(auto, using(std::proofs::lemmas::Grind::common_steps, m2_base::proofs::Seen::if_arm_made), unfolding(crate::specs::ReadStatements::if_arm_with))]
 fn if_arm(alloc: Global, tokens: &mut Tokens, depth: usize) -> Result<IfArm, ReadFault>
     ensures { Gives (λ x. (if_arm_view x, tokens.new.list.now)) result (if_arm_with depth (statement_at depth) tokens.old.list.now) }
 {
@@ -228,7 +223,6 @@ fn if_arm(alloc: Global, tokens: &mut Tokens, depth: usize) -> Result<IfArm, Rea
 
 /// ELSIF Expr THEN Stmts
 #[cycle(statements)]
-#[tactic(auto, using(std::proofs::lemmas::Grind::common_steps), unfolding(crate::specs::ReadStatements::elsif_with))]
 fn elsif(alloc: Global, tokens: &mut Tokens, depth: usize) -> Result<IfArm, ReadFault>
     ensures { Gives (λ x. (if_arm_view x, tokens.new.list.now)) result (elsif_with depth (statement_at depth) tokens.old.list.now) }
 {
@@ -253,7 +247,6 @@ fn elsifs(alloc: Global, tokens: &mut Tokens, depth: usize) -> Result<Vec<IfArm>
 
 /// IF Expr THEN Stmts {ELSIF Expr THEN Stmts} [ELSE Stmts] END
 #[cycle(statements)]
-#[tactic(auto, using(std::proofs::lemmas::Grind::common_steps, m2_base::proofs::Seen::statement_seen, m2_base::proofs::Seen::if_seen), unfolding(crate::specs::ReadStatements::if_with))]
 fn if_statement(alloc: Global, tokens: &mut Tokens, depth: usize) -> Result<Statement, ReadFault>
     ensures { Gives (λ x. (statement_view x, tokens.new.list.now)) result (if_with depth (statement_at depth) tokens.old.list.now) }
 {
@@ -270,7 +263,6 @@ fn if_statement(alloc: Global, tokens: &mut Tokens, depth: usize) -> Result<Stat
 
 /// Arm = [Labels ":" Stmts]
 #[cycle(statements)]
-#[tactic(auto, using(std::proofs::lemmas::Grind::common_steps, m2_base::proofs::Seen::case_arm_made), unfolding(crate::specs::ReadStatements::arm_with))]
 fn arm(alloc: Global, tokens: &mut Tokens, depth: usize) -> Result<Vec<CaseArm>, ReadFault>
     ensures { Gives (λ x. (map case_arm_view x.items, tokens.new.list.now)) result (arm_with depth (statement_at depth) tokens.old.list.now) }
 {
@@ -295,7 +287,6 @@ fn arms(alloc: Global, tokens: &mut Tokens, depth: usize) -> Result<Vec<CaseArm>
 
 /// CASE Expr OF Arm {"|" Arm} [ELSE Stmts] END
 #[cycle(statements)]
-#[tactic(auto, using(std::proofs::lemmas::Grind::common_steps, m2_base::proofs::Seen::statement_seen, m2_base::proofs::Seen::case_seen, crate::proofs::Others::case_else_is), unfolding(crate::specs::ReadStatements::case_with))]
 fn case_statement(alloc: Global, tokens: &mut Tokens, depth: usize) -> Result<Statement, ReadFault>
     ensures { Gives (λ x. (statement_view x, tokens.new.list.now)) result (case_with depth (statement_at depth) tokens.old.list.now) }
 {
@@ -311,7 +302,6 @@ fn case_statement(alloc: Global, tokens: &mut Tokens, depth: usize) -> Result<St
 
 /// WHILE Expr DO Stmts END
 #[cycle(statements)]
-#[tactic(auto, using(std::proofs::lemmas::Grind::common_steps, m2_base::proofs::Seen::statement_seen, m2_base::proofs::Seen::while_seen), unfolding(crate::specs::ReadStatements::while_with))]
 fn while_statement(alloc: Global, tokens: &mut Tokens, depth: usize) -> Result<Statement, ReadFault>
     ensures { Gives (λ x. (statement_view x, tokens.new.list.now)) result (while_with depth (statement_at depth) tokens.old.list.now) }
 {
@@ -326,7 +316,6 @@ fn while_statement(alloc: Global, tokens: &mut Tokens, depth: usize) -> Result<S
 
 /// REPEAT Stmts UNTIL Expr
 #[cycle(statements)]
-#[tactic(auto, using(std::proofs::lemmas::Grind::common_steps, m2_base::proofs::Seen::statement_seen, m2_base::proofs::Seen::repeat_seen), unfolding(crate::specs::ReadStatements::repeat_with))]
 fn repeat_statement(
     alloc: Global,
     tokens: &mut Tokens,
@@ -344,7 +333,6 @@ fn repeat_statement(
 
 /// LOOP Stmts END
 #[cycle(statements)]
-#[tactic(auto, using(std::proofs::lemmas::Grind::common_steps, m2_base::proofs::Seen::statement_seen, m2_base::proofs::Seen::loop_seen), unfolding(crate::specs::ReadStatements::loop_with))]
 fn loop_statement(alloc: Global, tokens: &mut Tokens, depth: usize) -> Result<Statement, ReadFault>
     ensures { Gives (λ x. (statement_view x, tokens.new.list.now)) result (loop_with depth (statement_at depth) tokens.old.list.now) }
 {
@@ -357,7 +345,6 @@ fn loop_statement(alloc: Global, tokens: &mut Tokens, depth: usize) -> Result<St
 
 /// FOR ident ":=" Expr TO Expr [BY Expr] DO Stmts END
 #[cycle(statements)]
-#[tactic(auto, using(std::proofs::lemmas::Grind::common_steps, m2_base::proofs::Seen::statement_seen, m2_base::proofs::Seen::for_seen), unfolding(crate::specs::ReadStatements::for_with))]
 fn for_statement(alloc: Global, tokens: &mut Tokens, depth: usize) -> Result<Statement, ReadFault>
     ensures { Gives (λ x. (statement_view x, tokens.new.list.now)) result (for_with depth (statement_at depth) tokens.old.list.now) }
 {
@@ -383,7 +370,6 @@ fn for_statement(alloc: Global, tokens: &mut Tokens, depth: usize) -> Result<Sta
 
 /// WITH Designator DO Stmts END
 #[cycle(statements)]
-#[tactic(auto, using(std::proofs::lemmas::Grind::common_steps, m2_base::proofs::Seen::statement_seen, m2_base::proofs::Seen::with_seen), unfolding(crate::specs::ReadStatements::with_with))]
 fn with_statement(alloc: Global, tokens: &mut Tokens, depth: usize) -> Result<Statement, ReadFault>
     ensures { Gives (λ x. (statement_view x, tokens.new.list.now)) result (with_with depth (statement_at depth) tokens.old.list.now) }
 {

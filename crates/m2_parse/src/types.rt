@@ -109,7 +109,6 @@ pub fn result_type(tokens: &mut Tokens) -> Result<Option<Qual>, ReadFault>
 }
 
 /// ["(" [Formal {"," Formal}] ")" [":" Qual]]
-#[tactic(auto, using(std::proofs::lemmas::Grind::common_steps, m2_base::proofs::Seen::proc_type_seen), unfolding(crate::specs::ReadTypes::formals_at, crate::specs::ReadTypes::formal_list_at))]
 fn formals(alloc: Global, tokens: &mut Tokens) -> Result<TypeForm, ReadFault>
     ensures { Gives (λ x. (type_form_view x, tokens.new.list.now)) result (formals_at tokens.old.list.now) }
 {
@@ -164,7 +163,6 @@ fn named(alloc: Global, tokens: &mut Tokens, depth: usize) -> Result<TypeExpr, R
 }
 
 /// "(" Idents ")"
-#[tactic(auto, using(std::proofs::lemmas::Grind::common_steps, m2_base::proofs::Seen::type_seen, m2_base::proofs::Seen::enum_seen), unfolding(crate::specs::ReadTypes::enumeration_at))]
 fn enumeration(alloc: Global, tokens: &mut Tokens) -> Result<TypeExpr, ReadFault>
     ensures { Gives (λ x. (type_view x, tokens.new.list.now)) result (enumeration_at tokens.old.list.now) }
 {
@@ -208,7 +206,6 @@ fn simples(alloc: Global, tokens: &mut Tokens, depth: usize) -> Result<Vec<TypeE
 }
 
 /// SET OF Simple
-#[tactic(auto, using(std::proofs::lemmas::Grind::common_steps, m2_base::proofs::Seen::type_seen, m2_base::proofs::Seen::set_of_seen), unfolding(crate::specs::ReadTypes::set_of_with))]
 fn set_type(alloc: Global, tokens: &mut Tokens, depth: usize) -> Result<TypeExpr, ReadFault>
     ensures { Gives (λ x. (type_view x, tokens.new.list.now)) result (set_of_with (factor_at depth) tokens.old.list.now) }
 {
@@ -280,7 +277,6 @@ fn inner_type(alloc: Global, tokens: &mut Tokens, depth: usize) -> Result<TypeEx
 
 /// ARRAY Simple {"," Simple} OF Type
 #[cycle(types)]
-#[tactic(auto, using(std::proofs::lemmas::Grind::common_steps, m2_base::proofs::Seen::type_seen, m2_base::proofs::Seen::array_seen), unfolding(crate::specs::ReadTypes::array_with))]
 fn array(alloc: Global, tokens: &mut Tokens, depth: usize) -> Result<TypeExpr, ReadFault>
     ensures { Gives (λ x. (type_view x, tokens.new.list.now)) result (array_with (factor_at depth) (type_at depth) (field_at depth) tokens.old.list.now) }
 {
@@ -295,7 +291,6 @@ fn array(alloc: Global, tokens: &mut Tokens, depth: usize) -> Result<TypeExpr, R
 
 /// RECORD Fields END
 #[cycle(types)]
-#[tactic(auto, using(std::proofs::lemmas::Grind::common_steps, m2_base::proofs::Seen::type_seen, m2_base::proofs::Seen::record_seen), unfolding(crate::specs::ReadTypes::record_with))]
 fn record_type(alloc: Global, tokens: &mut Tokens, depth: usize) -> Result<TypeExpr, ReadFault>
     ensures { Gives (λ x. (type_view x, tokens.new.list.now)) result (record_with (factor_at depth) (type_at depth) (field_at depth) tokens.old.list.now) }
 {
@@ -309,7 +304,6 @@ fn record_type(alloc: Global, tokens: &mut Tokens, depth: usize) -> Result<TypeE
 
 /// POINTER TO Type
 #[cycle(types)]
-#[tactic(auto, using(std::proofs::lemmas::Grind::common_steps, m2_base::proofs::Seen::type_seen, m2_base::proofs::Seen::pointer_seen), unfolding(crate::specs::ReadTypes::pointer_with))]
 fn pointer(alloc: Global, tokens: &mut Tokens, depth: usize) -> Result<TypeExpr, ReadFault>
     ensures { Gives (λ x. (type_view x, tokens.new.list.now)) result (pointer_with (factor_at depth) (type_at depth) (field_at depth) tokens.old.list.now) }
 {
@@ -335,7 +329,6 @@ fn fields(alloc: Global, tokens: &mut Tokens, depth: usize) -> Result<Vec<FieldL
 
 /// [FieldList]
 #[cycle(types)]
-#[tactic(auto, using(std::proofs::lemmas::Grind::common_steps), unfolding(crate::specs::ReadTypes::optional_field_with))]
 fn optional_field(
     alloc: Global,
     tokens: &mut Tokens,
@@ -378,7 +371,6 @@ fn inner_field(alloc: Global, tokens: &mut Tokens, depth: usize) -> Result<Field
 
 /// Idents ":" Type
 #[cycle(types)]
-#[tactic(auto, using(std::proofs::lemmas::Grind::common_steps, m2_base::proofs::Seen::plain_fields_seen), unfolding(crate::specs::ReadTypes::plain_fields_with))]
 fn plain_fields(alloc: Global, tokens: &mut Tokens, depth: usize) -> Result<FieldList, ReadFault>
     ensures { Gives (λ x. (field_list_view x, tokens.new.list.now)) result (plain_fields_with (factor_at depth) (type_at depth) (field_at depth) tokens.old.list.now) }
 {
@@ -390,7 +382,6 @@ fn plain_fields(alloc: Global, tokens: &mut Tokens, depth: usize) -> Result<Fiel
 
 /// CASE [ident] ":" Qual OF Variant {"|" Variant} [ELSE Fields] END
 #[cycle(types)]
-#[tactic(auto, using(std::proofs::lemmas::Grind::common_steps, m2_base::proofs::Seen::case_fields_seen), unfolding(crate::specs::ReadTypes::case_fields_with))]
 fn case_fields(alloc: Global, tokens: &mut Tokens, depth: usize) -> Result<FieldList, ReadFault>
     ensures { Gives (λ x. (field_list_view x, tokens.new.list.now)) result (case_fields_with (factor_at depth) (type_at depth) (field_at depth) tokens.old.list.now) }
 {
@@ -421,7 +412,6 @@ fn variants(alloc: Global, tokens: &mut Tokens, depth: usize) -> Result<Vec<Vari
 
 /// Variant = [Labels ":" Fields]
 #[cycle(types)]
-#[tactic(auto, using(std::proofs::lemmas::Grind::common_steps, m2_base::proofs::Seen::variant_arm_seen), unfolding(crate::specs::ReadTypes::variant_with))]
 fn variant(alloc: Global, tokens: &mut Tokens, depth: usize) -> Result<Vec<VariantArm>, ReadFault>
     ensures { Gives (λ x. (map variant_arm_view x.items, tokens.new.list.now)) result (variant_with (factor_at depth) (type_at depth) (field_at depth) tokens.old.list.now) }
 {
@@ -438,7 +428,6 @@ fn variant(alloc: Global, tokens: &mut Tokens, depth: usize) -> Result<Vec<Varia
 
 /// [ELSE Fields]
 #[cycle(types)]
-#[tactic(auto, using(std::proofs::lemmas::Grind::common_steps), unfolding(crate::specs::ReadTypes::other_fields_with))]
 fn other_fields(
     alloc: Global,
     tokens: &mut Tokens,

@@ -1,8 +1,12 @@
-use Rattle.std.proofs.Common.{refl, ap, ◌∙◌, map}
+use Rattle.std.proofs.Common.{refl, ap, ◌∙◌, map, arith}
+use Rattle.std.proofs.lemmas.Grind.{common_steps}
 use Rattle.std.proofs.lemmas.List.{map_push, map-append}
 use Rattle.ll_grammar.proofs.Loops.{listed_starts, repeat_goes_on, repeat_ends, repeat_stops, repeat_is_done, separated_is_done}
 use Rattle.m2_base.specs.Views.{statement_view, if_arm_view, case_arm_view}
+use Rattle.m2_base.proofs.Seen.{case_arm_made, case_seen, empty_seen, for_seen, if_arm_made, if_seen, loop_seen, repeat_seen, statement_seen, while_seen, with_seen}
+use Rattle.m2_parse.specs.ReadStatements.{arm_with, case_with, elsif_with, for_with, if_arm_with, if_with, loop_with, optional_statement_with, otherwise_with, repeat_with, while_with, with_with}
 use Rattle.m2_parse.proofs.ListLemmas.{list_goes_on, list_ends, list_stops}
+use Rattle.m2_parse.proofs.Others.{case_else_is}
 use Rattle.m2_parse.proofs.Steps.{handed_on, fails}
 use Rattle.m2_parse.proofs.statements.+statements.Goals as goal
 
@@ -62,3 +66,259 @@ elsifs-loop-preserved t c =
 
 pub elsifs-returns : goal.elsifs-returns
 elsifs-returns t c = repeat_is_done c.loop.invariant c.loop-test.false
+
+pub optional_statement-returns-then-begins_statement : goal.optional_statement-returns-then-begins_statement
+unfolding optional_statement_with
+optional_statement-returns-then-begins_statement t c = grind (arith, common_steps, statement_seen, empty_seen)
+
+pub optional_statement-returns : goal.optional_statement-returns
+unfolding optional_statement_with
+optional_statement-returns t c = grind (arith, common_steps, statement_seen, empty_seen)
+
+pub otherwise-returns-in_default : goal.otherwise-returns-in_default
+unfolding otherwise_with
+otherwise-returns-in_default t c = grind (arith, common_steps)
+
+pub otherwise-returns-in_err-found : goal.otherwise-returns-in_err-found
+unfolding otherwise_with
+otherwise-returns-in_err-found t c = grind (arith, common_steps)
+
+pub otherwise-returns : goal.otherwise-returns
+unfolding otherwise_with
+otherwise-returns t c = grind (arith, common_steps)
+
+pub if_arm-returns-in_err-test : goal.if_arm-returns-in_err-test
+unfolding if_arm_with
+if_arm-returns-in_err-test t c = grind (arith, common_steps)
+
+pub if_arm-returns-in_err-expect : goal.if_arm-returns-in_err-expect
+unfolding if_arm_with
+if_arm-returns-in_err-expect t c = grind (arith, common_steps)
+
+pub if_arm-returns-in_err-body : goal.if_arm-returns-in_err-body
+unfolding if_arm_with
+if_arm-returns-in_err-body t c = grind (arith, common_steps)
+
+pub if_arm-returns : goal.if_arm-returns
+unfolding if_arm_with
+if_arm-returns t c = grind (arith, common_steps, if_arm_made)
+
+pub elsif-returns-in_err-expect : goal.elsif-returns-in_err-expect
+unfolding elsif_with
+elsif-returns-in_err-expect t c = grind (arith, common_steps)
+
+pub elsif-returns-in_err-arm : goal.elsif-returns-in_err-arm
+unfolding elsif_with
+elsif-returns-in_err-arm t c = grind (arith, common_steps)
+
+pub elsif-returns : goal.elsif-returns
+unfolding elsif_with
+elsif-returns t c = grind (arith, common_steps)
+
+pub if_statement-returns-in_err-word : goal.if_statement-returns-in_err-word
+unfolding if_with
+if_statement-returns-in_err-word t c = grind (arith, common_steps)
+
+pub if_statement-returns-in_err-arm : goal.if_statement-returns-in_err-arm
+unfolding if_with
+if_statement-returns-in_err-arm t c = grind (arith, common_steps)
+
+pub if_statement-returns-in_err-others : goal.if_statement-returns-in_err-others
+unfolding if_with
+if_statement-returns-in_err-others t c = grind (arith, common_steps)
+
+pub if_statement-returns-in_err-other : goal.if_statement-returns-in_err-other
+unfolding if_with
+if_statement-returns-in_err-other t c = grind (arith, common_steps)
+
+pub if_statement-returns-in_err-expect : goal.if_statement-returns-in_err-expect
+unfolding if_with
+if_statement-returns-in_err-expect t c = grind (arith, common_steps)
+
+pub if_statement-returns-in_err-arms : goal.if_statement-returns-in_err-arms
+unfolding if_with
+if_statement-returns-in_err-arms t c = grind (arith, common_steps)
+
+pub if_statement-returns : goal.if_statement-returns
+unfolding if_with
+if_statement-returns t c = grind (arith, common_steps, statement_seen, if_seen)
+
+pub arm-returns-then-not-begins_expr : goal.arm-returns-then-not-begins_expr
+unfolding arm_with
+arm-returns-then-not-begins_expr t c = grind (arith, common_steps, case_arm_made)
+
+pub arm-returns-in_err-labels : goal.arm-returns-in_err-labels
+unfolding arm_with
+arm-returns-in_err-labels t c = grind (arith, common_steps)
+
+pub arm-returns-in_err-expect : goal.arm-returns-in_err-expect
+unfolding arm_with
+arm-returns-in_err-expect t c = grind (arith, common_steps)
+
+pub arm-returns-in_err-body : goal.arm-returns-in_err-body
+unfolding arm_with
+arm-returns-in_err-body t c = grind (arith, common_steps)
+
+pub arm-returns-in_err-push : goal.arm-returns-in_err-push
+unfolding arm_with
+arm-returns-in_err-push t c = grind (arith, common_steps)
+
+pub arm-returns : goal.arm-returns
+unfolding arm_with
+arm-returns t c = grind (arith, common_steps, case_arm_made)
+
+pub case_statement-returns-in_err-word : goal.case_statement-returns-in_err-word
+unfolding case_with
+case_statement-returns-in_err-word t c = grind (arith, common_steps)
+
+pub case_statement-returns-in_err-value : goal.case_statement-returns-in_err-value
+unfolding case_with
+case_statement-returns-in_err-value t c = grind (arith, common_steps)
+
+pub case_statement-returns-in_err-expect : goal.case_statement-returns-in_err-expect
+unfolding case_with
+case_statement-returns-in_err-expect t c = grind (arith, common_steps)
+
+pub case_statement-returns-in_err-arms : goal.case_statement-returns-in_err-arms
+unfolding case_with
+case_statement-returns-in_err-arms t c = grind (arith, common_steps)
+
+pub case_statement-returns-in_err-other : goal.case_statement-returns-in_err-other
+unfolding case_with
+case_statement-returns-in_err-other t c = grind (arith, common_steps)
+
+pub case_statement-returns-in_err-expect-2 : goal.case_statement-returns-in_err-expect-2
+unfolding case_with
+case_statement-returns-in_err-expect-2 t c = grind (arith, common_steps)
+
+pub case_statement-returns : goal.case_statement-returns
+unfolding case_with
+case_statement-returns t c = grind (arith, common_steps, statement_seen, case_seen, case_else_is)
+
+pub while_statement-returns-in_err-word : goal.while_statement-returns-in_err-word
+unfolding while_with
+while_statement-returns-in_err-word t c = grind (arith, common_steps)
+
+pub while_statement-returns-in_err-test : goal.while_statement-returns-in_err-test
+unfolding while_with
+while_statement-returns-in_err-test t c = grind (arith, common_steps)
+
+pub while_statement-returns-in_err-expect : goal.while_statement-returns-in_err-expect
+unfolding while_with
+while_statement-returns-in_err-expect t c = grind (arith, common_steps)
+
+pub while_statement-returns-in_err-body : goal.while_statement-returns-in_err-body
+unfolding while_with
+while_statement-returns-in_err-body t c = grind (arith, common_steps)
+
+pub while_statement-returns-in_err-expect-2 : goal.while_statement-returns-in_err-expect-2
+unfolding while_with
+while_statement-returns-in_err-expect-2 t c = grind (arith, common_steps)
+
+pub while_statement-returns : goal.while_statement-returns
+unfolding while_with
+while_statement-returns t c = grind (arith, common_steps, statement_seen, while_seen)
+
+pub repeat_statement-returns-in_err-word : goal.repeat_statement-returns-in_err-word
+unfolding repeat_with
+repeat_statement-returns-in_err-word t c = grind (arith, common_steps)
+
+pub repeat_statement-returns-in_err-body : goal.repeat_statement-returns-in_err-body
+unfolding repeat_with
+repeat_statement-returns-in_err-body t c = grind (arith, common_steps)
+
+pub repeat_statement-returns-in_err-expect : goal.repeat_statement-returns-in_err-expect
+unfolding repeat_with
+repeat_statement-returns-in_err-expect t c = grind (arith, common_steps)
+
+pub repeat_statement-returns-in_err-test : goal.repeat_statement-returns-in_err-test
+unfolding repeat_with
+repeat_statement-returns-in_err-test t c = grind (arith, common_steps)
+
+pub repeat_statement-returns : goal.repeat_statement-returns
+unfolding repeat_with
+repeat_statement-returns t c = grind (arith, common_steps, statement_seen, repeat_seen)
+
+pub loop_statement-returns-in_err-word : goal.loop_statement-returns-in_err-word
+unfolding loop_with
+loop_statement-returns-in_err-word t c = grind (arith, common_steps)
+
+pub loop_statement-returns-in_err-body : goal.loop_statement-returns-in_err-body
+unfolding loop_with
+loop_statement-returns-in_err-body t c = grind (arith, common_steps)
+
+pub loop_statement-returns-in_err-expect : goal.loop_statement-returns-in_err-expect
+unfolding loop_with
+loop_statement-returns-in_err-expect t c = grind (arith, common_steps)
+
+pub loop_statement-returns : goal.loop_statement-returns
+unfolding loop_with
+loop_statement-returns t c = grind (arith, common_steps, statement_seen, loop_seen)
+
+pub for_statement-returns-in_err-word : goal.for_statement-returns-in_err-word
+unfolding for_with
+for_statement-returns-in_err-word t c = grind (arith, common_steps)
+
+pub for_statement-returns-in_err-name : goal.for_statement-returns-in_err-name
+unfolding for_with
+for_statement-returns-in_err-name t c = grind (arith, common_steps)
+
+pub for_statement-returns-in_err-expect : goal.for_statement-returns-in_err-expect
+unfolding for_with
+for_statement-returns-in_err-expect t c = grind (arith, common_steps)
+
+pub for_statement-returns-in_err-first : goal.for_statement-returns-in_err-first
+unfolding for_with
+for_statement-returns-in_err-first t c = grind (arith, common_steps)
+
+pub for_statement-returns-in_err-expect-2 : goal.for_statement-returns-in_err-expect-2
+unfolding for_with
+for_statement-returns-in_err-expect-2 t c = grind (arith, common_steps)
+
+pub for_statement-returns-in_err-last : goal.for_statement-returns-in_err-last
+unfolding for_with
+for_statement-returns-in_err-last t c = grind (arith, common_steps)
+
+pub for_statement-returns-in_err-by : goal.for_statement-returns-in_err-by
+unfolding for_with
+for_statement-returns-in_err-by t c = grind (arith, common_steps)
+
+pub for_statement-returns-in_err-expect-3 : goal.for_statement-returns-in_err-expect-3
+unfolding for_with
+for_statement-returns-in_err-expect-3 t c = grind (arith, common_steps)
+
+pub for_statement-returns-in_err-body : goal.for_statement-returns-in_err-body
+unfolding for_with
+for_statement-returns-in_err-body t c = grind (arith, common_steps)
+
+pub for_statement-returns-in_err-expect-4 : goal.for_statement-returns-in_err-expect-4
+unfolding for_with
+for_statement-returns-in_err-expect-4 t c = grind (arith, common_steps)
+
+pub for_statement-returns : goal.for_statement-returns
+unfolding for_with
+for_statement-returns t c = grind (arith, common_steps, statement_seen, for_seen)
+
+pub with_statement-returns-in_err-word : goal.with_statement-returns-in_err-word
+unfolding with_with
+with_statement-returns-in_err-word t c = grind (arith, common_steps)
+
+pub with_statement-returns-in_err-of : goal.with_statement-returns-in_err-of
+unfolding with_with
+with_statement-returns-in_err-of t c = grind (arith, common_steps)
+
+pub with_statement-returns-in_err-expect : goal.with_statement-returns-in_err-expect
+unfolding with_with
+with_statement-returns-in_err-expect t c = grind (arith, common_steps)
+
+pub with_statement-returns-in_err-body : goal.with_statement-returns-in_err-body
+unfolding with_with
+with_statement-returns-in_err-body t c = grind (arith, common_steps)
+
+pub with_statement-returns-in_err-expect-2 : goal.with_statement-returns-in_err-expect-2
+unfolding with_with
+with_statement-returns-in_err-expect-2 t c = grind (arith, common_steps)
+
+pub with_statement-returns : goal.with_statement-returns
+unfolding with_with
+with_statement-returns t c = grind (arith, common_steps, statement_seen, with_seen)

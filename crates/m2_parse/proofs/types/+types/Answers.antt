@@ -1,7 +1,10 @@
-use Rattle.std.proofs.Common.{refl, ap, ◌∙◌, map}
+use Rattle.std.proofs.Common.{refl, ap, ◌∙◌, map, arith}
+use Rattle.std.proofs.lemmas.Grind.{common_steps}
 use Rattle.std.proofs.lemmas.List.{map-append}
 use Rattle.ll_grammar.proofs.Loops.{listed_starts, separated_is_done}
 use Rattle.m2_base.specs.Views.{field_list_view, variant_arm_view}
+use Rattle.m2_base.proofs.Seen.{array_seen, case_fields_seen, plain_fields_seen, pointer_seen, record_seen, type_seen, variant_arm_seen}
+use Rattle.m2_parse.specs.ReadTypes.{array_with, case_fields_with, optional_field_with, other_fields_with, plain_fields_with, pointer_with, record_with, variant_with}
 use Rattle.m2_parse.proofs.ListLemmas.{list_goes_on, list_ends, list_stops}
 use Rattle.m2_parse.proofs.Steps.{handed_on, fails}
 use Rattle.m2_parse.proofs.types.+types.Goals as goal
@@ -47,3 +50,167 @@ variants-loop-preserved t c =
 
 pub variants-returns : goal.variants-returns
 variants-returns t c = separated_is_done c.loop.invariant c.loop-test.false
+
+pub array-returns-in_err-array : goal.array-returns-in_err-array
+unfolding array_with
+array-returns-in_err-array t c = grind (arith, common_steps)
+
+pub array-returns-in_err-index : goal.array-returns-in_err-index
+unfolding array_with
+array-returns-in_err-index t c = grind (arith, common_steps)
+
+pub array-returns-in_err-expect : goal.array-returns-in_err-expect
+unfolding array_with
+array-returns-in_err-expect t c = grind (arith, common_steps)
+
+pub array-returns-in_err-of : goal.array-returns-in_err-of
+unfolding array_with
+array-returns-in_err-of t c = grind (arith, common_steps)
+
+pub array-returns-in_err-of-2 : goal.array-returns-in_err-of-2
+unfolding array_with
+array-returns-in_err-of-2 t c = grind (arith, common_steps)
+
+pub array-returns : goal.array-returns
+unfolding array_with
+array-returns t c = grind (arith, common_steps, type_seen, array_seen)
+
+pub record_type-returns-in_err-record : goal.record_type-returns-in_err-record
+unfolding record_with
+record_type-returns-in_err-record t c = grind (arith, common_steps)
+
+pub record_type-returns-in_err-list : goal.record_type-returns-in_err-list
+unfolding record_with
+record_type-returns-in_err-list t c = grind (arith, common_steps)
+
+pub record_type-returns-in_err-expect : goal.record_type-returns-in_err-expect
+unfolding record_with
+record_type-returns-in_err-expect t c = grind (arith, common_steps)
+
+pub record_type-returns : goal.record_type-returns
+unfolding record_with
+record_type-returns t c = grind (arith, common_steps, type_seen, record_seen)
+
+pub pointer-returns-in_err-pointer : goal.pointer-returns-in_err-pointer
+unfolding pointer_with
+pointer-returns-in_err-pointer t c = grind (arith, common_steps)
+
+pub pointer-returns-in_err-expect : goal.pointer-returns-in_err-expect
+unfolding pointer_with
+pointer-returns-in_err-expect t c = grind (arith, common_steps)
+
+pub pointer-returns-in_err-of : goal.pointer-returns-in_err-of
+unfolding pointer_with
+pointer-returns-in_err-of t c = grind (arith, common_steps)
+
+pub pointer-returns-in_err-new : goal.pointer-returns-in_err-new
+unfolding pointer_with
+pointer-returns-in_err-new t c = grind (arith, common_steps)
+
+pub pointer-returns : goal.pointer-returns
+unfolding pointer_with
+pointer-returns t c = grind (arith, common_steps, type_seen, pointer_seen)
+
+pub optional_field-returns-then-not-begins_field : goal.optional_field-returns-then-not-begins_field
+unfolding optional_field_with
+optional_field-returns-then-not-begins_field t c = grind (arith, common_steps)
+
+pub optional_field-returns-in_err-item : goal.optional_field-returns-in_err-item
+unfolding optional_field_with
+optional_field-returns-in_err-item t c = grind (arith, common_steps)
+
+pub optional_field-returns-in_err-push : goal.optional_field-returns-in_err-push
+unfolding optional_field_with
+optional_field-returns-in_err-push t c = grind (arith, common_steps)
+
+pub optional_field-returns : goal.optional_field-returns
+unfolding optional_field_with
+optional_field-returns t c = grind (arith, common_steps)
+
+pub plain_fields-returns-in_err-names : goal.plain_fields-returns-in_err-names
+unfolding plain_fields_with
+plain_fields-returns-in_err-names t c = grind (arith, common_steps)
+
+pub plain_fields-returns-in_err-expect : goal.plain_fields-returns-in_err-expect
+unfolding plain_fields_with
+plain_fields-returns-in_err-expect t c = grind (arith, common_steps)
+
+pub plain_fields-returns-in_err-typ : goal.plain_fields-returns-in_err-typ
+unfolding plain_fields_with
+plain_fields-returns-in_err-typ t c = grind (arith, common_steps)
+
+pub plain_fields-returns : goal.plain_fields-returns
+unfolding plain_fields_with
+plain_fields-returns t c = grind (arith, common_steps, plain_fields_seen)
+
+pub case_fields-returns-in_err-expect : goal.case_fields-returns-in_err-expect
+unfolding case_fields_with
+case_fields-returns-in_err-expect t c = grind (arith, common_steps)
+
+pub case_fields-returns-in_err-tag : goal.case_fields-returns-in_err-tag
+unfolding case_fields_with
+case_fields-returns-in_err-tag t c = grind (arith, common_steps)
+
+pub case_fields-returns-in_err-expect-2 : goal.case_fields-returns-in_err-expect-2
+unfolding case_fields_with
+case_fields-returns-in_err-expect-2 t c = grind (arith, common_steps)
+
+pub case_fields-returns-in_err-of : goal.case_fields-returns-in_err-of
+unfolding case_fields_with
+case_fields-returns-in_err-of t c = grind (arith, common_steps)
+
+pub case_fields-returns-in_err-expect-3 : goal.case_fields-returns-in_err-expect-3
+unfolding case_fields_with
+case_fields-returns-in_err-expect-3 t c = grind (arith, common_steps)
+
+pub case_fields-returns-in_err-arms : goal.case_fields-returns-in_err-arms
+unfolding case_fields_with
+case_fields-returns-in_err-arms t c = grind (arith, common_steps)
+
+pub case_fields-returns-in_err-other : goal.case_fields-returns-in_err-other
+unfolding case_fields_with
+case_fields-returns-in_err-other t c = grind (arith, common_steps)
+
+pub case_fields-returns-in_err-expect-4 : goal.case_fields-returns-in_err-expect-4
+unfolding case_fields_with
+case_fields-returns-in_err-expect-4 t c = grind (arith, common_steps)
+
+pub case_fields-returns : goal.case_fields-returns
+unfolding case_fields_with
+case_fields-returns t c = grind (arith, common_steps, case_fields_seen)
+
+pub variant-returns-then-not-begins_expr : goal.variant-returns-then-not-begins_expr
+unfolding variant_with
+variant-returns-then-not-begins_expr t c = grind (arith, common_steps, variant_arm_seen)
+
+pub variant-returns-in_err-labels : goal.variant-returns-in_err-labels
+unfolding variant_with
+variant-returns-in_err-labels t c = grind (arith, common_steps)
+
+pub variant-returns-in_err-expect : goal.variant-returns-in_err-expect
+unfolding variant_with
+variant-returns-in_err-expect t c = grind (arith, common_steps)
+
+pub variant-returns-in_err-fields : goal.variant-returns-in_err-fields
+unfolding variant_with
+variant-returns-in_err-fields t c = grind (arith, common_steps)
+
+pub variant-returns-in_err-push : goal.variant-returns-in_err-push
+unfolding variant_with
+variant-returns-in_err-push t c = grind (arith, common_steps)
+
+pub variant-returns : goal.variant-returns
+unfolding variant_with
+variant-returns t c = grind (arith, common_steps, variant_arm_seen)
+
+pub other_fields-returns-in_default : goal.other_fields-returns-in_default
+unfolding other_fields_with
+other_fields-returns-in_default t c = grind (arith, common_steps)
+
+pub other_fields-returns-in_err-items : goal.other_fields-returns-in_err-items
+unfolding other_fields_with
+other_fields-returns-in_err-items t c = grind (arith, common_steps)
+
+pub other_fields-returns : goal.other_fields-returns
+unfolding other_fields_with
+other_fields-returns t c = grind (arith, common_steps)
