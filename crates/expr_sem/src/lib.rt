@@ -129,7 +129,7 @@ pub use laws::{
     code_is_short, diagnostics_leave_nothing, errors_have_a_cause, errors_have_no_code,
     heights_are_right, operands_are_known,
 };
-pub use operators::{made, one_coded, side_of, two_coded};
+pub use operators::{made, side_of};
 pub use pieces::{Piece, With, append};
 pub use record_fields::field_of_withs;
 pub use refusals::refused;

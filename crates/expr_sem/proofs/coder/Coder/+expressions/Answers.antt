@@ -68,8 +68,7 @@ pub value_of-returns-clause-codes : goal.value_of-returns-clause-codes
 value_of-returns-clause-codes g t c =
     let one = (rw c.in-Known.is at c.in-Ok.ensures.codes) in
     let two = (rw c.expression.ensures.keeps.site at (c.as_value.ensures (g.S.Scopes.state c.expression.new.self.scopes.now) c.expression.new.self.fragments.now.nodes.items (stands_after one))) in
-    described c.as_value.result (coding_after (λ k. expression k (with_types c.args.self.now.withs.now) (expr_view c.args.e.now)) (λ o k. as_value k c.args.e.now.at o) c.as_value.result one two)
-    (λ k. ap (λ (at : ℕ). and_then (expression k (with_types c.args.self.now.withs.now) (expr_view c.args.e.now)) (λ o. as_value k at o)) (sym (at_seen c.args.e.now)))
+    described c.as_value.result (coding_after (λ k. expression k (with_types c.args.self.now.withs.now) (expr_view c.args.e.now)) (λ o k. as_value k c.args.e.now.at o) c.as_value.result one two) (λ k. ap (λ (at : ℕ). and_then (expression k (with_types c.args.self.now.withs.now) (expr_view c.args.e.now)) (λ o. as_value k at o)) (sym (at_seen c.args.e.now)))
 
 pub member-value_of-requires : goal.member-value_of-requires
 member-value_of-requires g t c κs within = (search rules, (within, (c.requires.suits, (c.requires.withs, (c.requires.read)))))
@@ -93,8 +92,7 @@ pub member-returns-clause-codes : goal.member-returns-clause-codes
 member-returns-clause-codes g t c =
     let one = (rw c.in-Known.is at c.in-Ok.ensures.codes) in
     let two = (rw c.value_of.ensures.keeps.site at (c.element_coded.ensures c.value_of.new.self.fragments.now.nodes.items (stands_after one))) in
-    described c.element_coded.result (coding_after (λ k. value k (with_types c.args.self.now.withs.now) (expr_view c.args.e.now)) (λ v k. element_coded k c.args.base c.args.e.now.at v) c.element_coded.result one two)
-    (λ k. ap (λ (at : ℕ). and_then (value k (with_types c.args.self.now.withs.now) (expr_view c.args.e.now)) (λ v. element_coded k c.args.base at v)) (sym (at_seen c.args.e.now)))
+    described c.element_coded.result (coding_after (λ k. value k (with_types c.args.self.now.withs.now) (expr_view c.args.e.now)) (λ v k. element_coded k c.args.base c.args.e.now.at v) c.element_coded.result one two) (λ k. ap (λ (at : ℕ). and_then (value k (with_types c.args.self.now.withs.now) (expr_view c.args.e.now)) (λ v. element_coded k c.args.base at v)) (sym (at_seen c.args.e.now)))
 
 pub followed-value_of-requires : goal.followed-value_of-requires
 followed-value_of-requires g t c κs within = ((let small = next_smaller c.args.next.now in omega (arith, small, c.decreases)), (within, (c.requires.suits, (c.requires.withs, (next_read c.args.self.now.site.now.texts.now.names c.args.next.now c.requires.read)))))
@@ -122,8 +120,7 @@ followed-returns-clause-codes g t c =
     let right = coded_in c.value_of.new.self.fragments.now.nodes.items c.in-Known.value in
     described c.two_coded.result (coding_after (λ k. value k (with_types c.args.self.now.withs.now) (expr_view n.right)) (λ v k. two_coded k n.op n.op_at c.args.left.at left n.right.at v) c.two_coded.result one
     (described c.two_coded.result (rw c.value_of.ensures.keeps.site at c.two_coded.ensures.codes) (λ k. ap (λ (l : code.Coded). two_coded k n.op n.op_at c.args.left.at l n.right.at right) (coded_later one.grows c.args.left.coded c.requires.left))))
-    (λ k. ap (λ (at : ℕ). and_then (value k (with_types c.args.self.now.withs.now) (expr_view n.right)) (λ v. two_coded k n.op n.op_at c.args.left.at left at v)) (sym (at_seen n.right))
-    ∙ next_given k (with_types c.args.self.now.withs.now) c.args.left.at left n.op n.op_at (expr_view n.right) ∙ ap (followed k (with_types c.args.self.now.withs.now) c.args.left.at left) (sym (next_seen n)))
+    (λ k. ap (λ (at : ℕ). and_then (value k (with_types c.args.self.now.withs.now) (expr_view n.right)) (λ v. two_coded k n.op n.op_at c.args.left.at left at v)) (sym (at_seen n.right)) ∙ next_given k (with_types c.args.self.now.withs.now) c.args.left.at left n.op n.op_at (expr_view n.right) ∙ ap (followed k (with_types c.args.self.now.withs.now) c.args.left.at left) (sym (next_seen n)))
 
 pub index-value_of-requires : goal.index-value_of-requires
 index-value_of-requires g t c κs within = (search rules, (within, (c.requires.suits, (c.requires.withs, (c.requires.read)))))
@@ -150,8 +147,7 @@ index-returns-clause-codes g t c =
     let x = coded_in c.args.self.now.fragments.now.nodes.items c.args.x in
     let i = coded_in c.value_of.new.self.fragments.now.nodes.items c.in-Known.value in
     described c.select_element.result (coding_after (λ k. value k (with_types c.args.self.now.withs.now) (expr_view e)) (λ v k. select_element k c.args.first c.args.at e.at v x) c.select_element.result one
-    (described c.select_element.result (rw c.value_of.ensures.keeps.site at c.select_element.ensures.codes) (λ k. ap (λ (y : code.Coded). select_element k c.args.first c.args.at e.at i y) (coded_later one.grows c.args.x c.requires.x))))
-    (λ k. ap (λ (at : ℕ). and_then (value k (with_types c.args.self.now.withs.now) (expr_view e)) (λ v. select_element k c.args.first c.args.at at v x)) (sym (at_seen e)))
+    (described c.select_element.result (rw c.value_of.ensures.keeps.site at c.select_element.ensures.codes) (λ k. ap (λ (y : code.Coded). select_element k c.args.first c.args.at e.at i y) (coded_later one.grows c.args.x c.requires.x)))) (λ k. ap (λ (at : ℕ). and_then (value k (with_types c.args.self.now.withs.now) (expr_view e)) (λ v. select_element k c.args.first c.args.at at v x)) (sym (at_seen e)))
 
 pub set_type-designated-requires : goal.set_type-designated-requires
 set_type-designated-requires g t c κs within = (search rules, (within, (c.requires.suits, (c.requires.withs, (c.requires.read)))))
@@ -193,8 +189,7 @@ set_of-returns-clause-codes g t c =
     let first = (rw c.in-Known.is at (started c.args.self.now.notes.now c.args.self.now.fragments.now.nodes.items c.args.self.now.site.now c.set_start.result c.args.of c.set_start.ensures.reads c.set_start.ensures.waits c.set_start.ensures.based c.set_start.ensures.told c.set_start.ensures.base c.set_start.ensures.elements)) in
     let more = (rw c.in-Known-asked.is at c.in-Ok.ensures.codes) in
     let of_there = there_after more c.args.of (there_after first c.args.of c.requires.of) in
-    coding_after (λ k. gives (start_of (set_base k c.args.of) (no_elements_yet k c.args.of))) (λ start k. and_then (elements k (with_types c.args.self.now.withs.now) start.0 start.1 (labels (map label_view c.args.items.now))) (λ es. gives (set_coded c.args.of es))) c.set_coded.result first
-    (coding_after _ (λ es k. gives (set_coded c.args.of es)) c.set_coded.result more
+    coding_after (λ k. gives (start_of (set_base k c.args.of) (no_elements_yet k c.args.of))) (λ start k. and_then (elements k (with_types c.args.self.now.withs.now) start.0 start.1 (labels (map label_view c.args.items.now))) (λ es. gives (set_coded c.args.of es))) c.set_coded.result first (coding_after _ (λ es k. gives (set_coded c.args.of es)) c.set_coded.result more
     (c.set_coded.ensures (g.S.Scopes.state c.elements.new.self.scopes.now) c.elements.new.self.notes.now c.args.self.now.site.now of_there (stands_after more)))
 
 pub element-member-requires : goal.element-member-requires
@@ -225,8 +220,7 @@ element-returns-in-None-clause-codes g t c =
     let es = elements_in c.args.self.now.fragments.now.nodes.items c.args.es in
     let low = coded_in c.member.new.self.fragments.now.nodes.items c.in-Known.value in
     described c.add_element.result (coding_after (λ k. member k (with_types c.args.self.now.withs.now) c.args.base (expr_view (out-Label c.args.label.now).low)) (λ o k. gives (add_element k es o)) c.add_element.result one
-    (described c.add_element.result ((rw c.member.ensures.keeps.site at (c.add_element.ensures c.member.new.self.notes.now))) (λ k. ap (λ (u : sets.Elements). gives (add_element k u low)) (elements_later one.grows c.args.es c.requires.es))))
-    (λ k. one_label_given k (with_types c.args.self.now.withs.now) c.args.base es (expr_view (out-Label c.args.label.now).low)
+    (described c.add_element.result ((rw c.member.ensures.keeps.site at (c.add_element.ensures c.member.new.self.notes.now))) (λ k. ap (λ (u : sets.Elements). gives (add_element k u low)) (elements_later one.grows c.args.es c.requires.es)))) (λ k. one_label_given k (with_types c.args.self.now.withs.now) c.args.base es (expr_view (out-Label c.args.label.now).low)
     ∙ ap (element k (with_types c.args.self.now.withs.now) c.args.base es) (sym (label_seen c.args.label.now ∙ ap (λ h. label_with (expr_view (out-Label c.args.label.now).low) (option_map expr_view h)) c.in-None.is)))
 
 pub element-returns-in-Some-clause-codes : goal.element-returns-in-Some-clause-codes
@@ -236,8 +230,7 @@ element-returns-in-Some-clause-codes g t c =
     let low = coded_in c.member.new.self.fragments.now.nodes.items c.in-Known.value in
     let high = expr_view c.in-Some.high in
     described c.range_to.result (coding_after (λ k. member k (with_types c.args.self.now.withs.now) c.args.base (expr_view (out-Label c.args.label.now).low)) (λ o k. range_to k (with_types c.args.self.now.withs.now) c.args.base es o high) c.range_to.result one
-    (described c.range_to.result (rw c.member.ensures.keeps.withs at (rw c.member.ensures.keeps.site at c.range_to.ensures.codes)) (λ k. ap (λ (u : sets.Elements). range_to k (with_types c.args.self.now.withs.now) c.args.base u low high) (elements_later one.grows c.args.es c.requires.es))))
-    (λ k. range_given k (with_types c.args.self.now.withs.now) c.args.base es (expr_view (out-Label c.args.label.now).low) high
+    (described c.range_to.result (rw c.member.ensures.keeps.withs at (rw c.member.ensures.keeps.site at c.range_to.ensures.codes)) (λ k. ap (λ (u : sets.Elements). range_to k (with_types c.args.self.now.withs.now) c.args.base u low high) (elements_later one.grows c.args.es c.requires.es)))) (λ k. range_given k (with_types c.args.self.now.withs.now) c.args.base es (expr_view (out-Label c.args.label.now).low) high
     ∙ ap (element k (with_types c.args.self.now.withs.now) c.args.base es) (sym (label_seen c.args.label.now ∙ ap (λ h. label_with (expr_view (out-Label c.args.label.now).low) (option_map expr_view h)) c.in-Some.is)))
 
 pub range_to-member-requires : goal.range_to-member-requires
@@ -268,8 +261,7 @@ range_to-returns-clause-codes g t c =
     let low = coded_in c.args.self.now.fragments.now.nodes.items c.args.low in
     let high = coded_in c.member.new.self.fragments.now.nodes.items c.in-Known.value in
     coding_after (λ k. member k (with_types c.args.self.now.withs.now) c.args.base (expr_view c.args.high.now)) (λ p k. gives (add_range k es low p)) c.add_range.result one
-    (described c.add_range.result ((rw c.member.ensures.keeps.site at (c.add_range.ensures c.member.new.self.notes.now)))
-    (λ k. ap (λ (u : sets.Elements). gives (add_range k u (coded_in c.member.new.self.fragments.now.nodes.items c.args.low) high)) (elements_later one.grows c.args.es c.requires.es)
+    (described c.add_range.result ((rw c.member.ensures.keeps.site at (c.add_range.ensures c.member.new.self.notes.now))) (λ k. ap (λ (u : sets.Elements). gives (add_range k u (coded_in c.member.new.self.fragments.now.nodes.items c.args.low) high)) (elements_later one.grows c.args.es c.requires.es)
     ∙ ap (λ (l : code.Coded). gives (add_range k es l high)) (coded_later one.grows c.args.low c.requires.low)))
 
 pub designated-name_coded-requires-clause-named : goal.designated-name_coded-requires-clause-named
@@ -667,8 +659,7 @@ passed-returns-clause-codes g t c =
     described (Ok (Known c.all_passed.result)) (coding_after (λ k. folded (λ o i. argument_step k (with_types c.args.self.now.withs.now) o (expr_view i)) ((map parameter_view c.args.params.now), Some none) c.args.args.now) (λ o k. gives (all_passed o.0 o.1)) (Ok (Known c.all_passed.result))
     (whole (λ k o i. argument_step k (with_types c.args.self.now.withs.now) o (expr_view i)) ((map parameter_view c.args.params.now), Some none) c.args.args.now c.loop-e.e-index (λ k. folded (λ o i. argument_step k (with_types c.args.self.now.withs.now) o (expr_view i)) ((map parameter_view c.args.params.now), Some none) c.args.args.now) c.loop-e-test.false c.loop-e.invariant.1 (λ k. refl))
     (value_alone (g.S.Scopes.state c.loop-e.self.scopes.now) c.loop-e.self.notes.now c.loop-e.self.fragments.now.nodes.items c.args.self.now.site.now c.all_passed.result IsArgument argument_in (λ k. all_passed (map parameter_view c.loop-e.left.now) (argument_in c.loop-e.self.fragments.now.nodes.items c.loop-e.code))
-    (c.all_passed.ensures.there (g.S.Scopes.state c.loop-e.self.scopes.now).frame c.loop-e.self.fragments.now.nodes.items (stands_after c.loop-e.invariant.1).1) (λ k. c.all_passed.ensures.told c.loop-e.self.fragments.now.nodes.items)))
-    (λ k. passed_whole k (with_types c.args.self.now.withs.now) expr_view (map parameter_view c.args.params.now) c.args.args.now)
+    (c.all_passed.ensures.there (g.S.Scopes.state c.loop-e.self.scopes.now).frame c.loop-e.self.fragments.now.nodes.items (stands_after c.loop-e.invariant.1).1) (λ k. c.all_passed.ensures.told c.loop-e.self.fragments.now.nodes.items))) (λ k. passed_whole k (with_types c.args.self.now.withs.now) expr_view (map parameter_view c.args.params.now) c.args.args.now)
 
 pub procedure-passed-requires : goal.procedure-passed-requires
 procedure-passed-requires g t c κs within = (search rules, (within, (c.requires.suits, (c.requires.withs, (rw c.deref.ensures.value c.requires.callee.params, (c.requires.read))))))
@@ -780,8 +771,7 @@ expression-returns-in-Known-asked-clause-codes g t c =
 pub next_passed-returns-in-None-clause-codes : goal.next_passed-returns-in-None-clause-codes
 next_passed-returns-in-None-clause-codes g t c =
     let ns = c.args.self.now.fragments.now.nodes.items in
-    described (Ok (Known None)) (value_alone (g.S.Scopes.state c.args.self.now.scopes.now) c.args.self.now.notes.now ns c.args.self.now.site.now None IsArgument argument_in (λ k. None) tt (λ k. refl))
-    (λ k. none_passed k (with_types c.args.self.now.withs.now) c.args.params.now (argument_in ns c.args.code) (expr_view c.args.e.now) (rw c.in-None.is at c.first.ensures.value))
+    described (Ok (Known None)) (value_alone (g.S.Scopes.state c.args.self.now.scopes.now) c.args.self.now.notes.now ns c.args.self.now.site.now None IsArgument argument_in (λ k. None) tt (λ k. refl)) (λ k. none_passed k (with_types c.args.self.now.withs.now) c.args.params.now (argument_in ns c.args.code) (expr_view c.args.e.now) (rw c.in-None.is at c.first.ensures.value))
 
 pub next_passed-expression-requires : goal.next_passed-expression-requires
 next_passed-expression-requires g t c κs within = (search rules, (within, (c.requires.suits, (c.requires.withs, (c.requires.read)))))
@@ -816,12 +806,9 @@ next_passed-returns-in-Known-asked-clause-codes g t c =
     let code = argument_in c.args.self.now.fragments.now.nodes.items c.args.code in
     let x = coded_in c.expression.new.self.fragments.now.nodes.items c.in-Known.value in
     let more = argument_in c.argument.new.self.fragments.now.nodes.items c.in-Known-asked.value in
-    described c.joined.result (coding_after (λ k. expression k (with_types c.args.self.now.withs.now) (expr_view e)) (λ x k. and_then (argument k (parameter_view p) e.at x) (λ a. gives (after_argument code a))) c.joined.result one
-    (coding_after (λ k. argument k (parameter_view p) e.at x) (λ a k. gives (after_argument code a)) c.joined.result two
-    (described c.joined.result (c.joined.ensures (g.S.Scopes.state c.argument.new.self.scopes.now) c.argument.new.self.notes.now c.args.self.now.site.now)
-    (λ k. ap (λ (o : Option Part). gives (after_argument o more)) (argument_later (Grows-trans one.grows two.grows) (g.S.Scopes.state c.args.self.now.scopes.now).frame c.args.code c.requires.code)))))
-    (λ k. ap (λ (at : ℕ). and_then (expression k (with_types c.args.self.now.withs.now) (expr_view e)) (λ x. and_then (argument k (parameter_view p) at x) (λ a. gives (after_argument code a)))) (sym (at_seen e))
-    ∙ parameter_given k (with_types c.args.self.now.withs.now) c.args.params.now p code (expr_view e) (rw c.in-Some.is at c.first.ensures.value))
+    described c.joined.result (coding_after (λ k. expression k (with_types c.args.self.now.withs.now) (expr_view e)) (λ x k. and_then (argument k (parameter_view p) e.at x) (λ a. gives (after_argument code a))) c.joined.result one (coding_after (λ k. argument k (parameter_view p) e.at x) (λ a k. gives (after_argument code a)) c.joined.result two
+    (described c.joined.result (c.joined.ensures (g.S.Scopes.state c.argument.new.self.scopes.now) c.argument.new.self.notes.now c.args.self.now.site.now) (λ k. ap (λ (o : Option Part). gives (after_argument o more)) (argument_later (Grows-trans one.grows two.grows) (g.S.Scopes.state c.args.self.now.scopes.now).frame c.args.code c.requires.code)))))
+    (λ k. ap (λ (at : ℕ). and_then (expression k (with_types c.args.self.now.withs.now) (expr_view e)) (λ x. and_then (argument k (parameter_view p) at x) (λ a. gives (after_argument code a)))) (sym (at_seen e)) ∙ parameter_given k (with_types c.args.self.now.withs.now) c.args.params.now p code (expr_view e) (rw c.in-Some.is at c.first.ensures.value))
 
 pub expression-overflow_cast-value : goal.expression-overflow_cast-value
 expression-overflow_cast-value g t c = let small = (form_read c.args.self.now.site.now.texts.now.names c.args.e.now _ _ c.in-Number.is (number_seen c.in-Number.value) c.requires.read) in omega (arith, small)
