@@ -118,8 +118,7 @@ followed-returns-clause-codes g t c =
     let n = c.args.next.now in
     let left = coded_in c.args.self.now.fragments.now.nodes.items c.args.left.coded in
     let right = coded_in c.value_of.new.self.fragments.now.nodes.items c.in-Known.value in
-    described c.two_coded.result (coding_after (λ k. value k (with_types c.args.self.now.withs.now) (expr_view n.right)) (λ v k. two_coded k n.op n.op_at c.args.left.at left n.right.at v) c.two_coded.result one
-    (described c.two_coded.result (rw c.value_of.ensures.keeps.site at c.two_coded.ensures.codes) (λ k. ap (λ (l : code.Coded). two_coded k n.op n.op_at c.args.left.at l n.right.at right) (coded_later one.grows c.args.left.coded c.requires.left))))
+    described c.two_coded.result (coding_after (λ k. value k (with_types c.args.self.now.withs.now) (expr_view n.right)) (λ v k. two_coded k n.op n.op_at c.args.left.at left n.right.at v) c.two_coded.result one (described c.two_coded.result (rw c.value_of.ensures.keeps.site at c.two_coded.ensures.codes) (λ k. ap (λ (l : code.Coded). two_coded k n.op n.op_at c.args.left.at l n.right.at right) (coded_later one.grows c.args.left.coded c.requires.left))))
     (λ k. ap (λ (at : ℕ). and_then (value k (with_types c.args.self.now.withs.now) (expr_view n.right)) (λ v. two_coded k n.op n.op_at c.args.left.at left at v)) (sym (at_seen n.right)) ∙ next_given k (with_types c.args.self.now.withs.now) c.args.left.at left n.op n.op_at (expr_view n.right) ∙ ap (followed k (with_types c.args.self.now.withs.now) c.args.left.at left) (sym (next_seen n)))
 
 pub index-value_of-requires : goal.index-value_of-requires
@@ -146,8 +145,7 @@ index-returns-clause-codes g t c =
     let e = c.args.e.now in
     let x = coded_in c.args.self.now.fragments.now.nodes.items c.args.x in
     let i = coded_in c.value_of.new.self.fragments.now.nodes.items c.in-Known.value in
-    described c.select_element.result (coding_after (λ k. value k (with_types c.args.self.now.withs.now) (expr_view e)) (λ v k. select_element k c.args.first c.args.at e.at v x) c.select_element.result one
-    (described c.select_element.result (rw c.value_of.ensures.keeps.site at c.select_element.ensures.codes) (λ k. ap (λ (y : code.Coded). select_element k c.args.first c.args.at e.at i y) (coded_later one.grows c.args.x c.requires.x)))) (λ k. ap (λ (at : ℕ). and_then (value k (with_types c.args.self.now.withs.now) (expr_view e)) (λ v. select_element k c.args.first c.args.at at v x)) (sym (at_seen e)))
+    described c.select_element.result (coding_after (λ k. value k (with_types c.args.self.now.withs.now) (expr_view e)) (λ v k. select_element k c.args.first c.args.at e.at v x) c.select_element.result one (described c.select_element.result (rw c.value_of.ensures.keeps.site at c.select_element.ensures.codes) (λ k. ap (λ (y : code.Coded). select_element k c.args.first c.args.at e.at i y) (coded_later one.grows c.args.x c.requires.x)))) (λ k. ap (λ (at : ℕ). and_then (value k (with_types c.args.self.now.withs.now) (expr_view e)) (λ v. select_element k c.args.first c.args.at at v x)) (sym (at_seen e)))
 
 pub set_type-designated-requires : goal.set_type-designated-requires
 set_type-designated-requires g t c κs within = (search rules, (within, (c.requires.suits, (c.requires.withs, (c.requires.read)))))
@@ -168,8 +166,7 @@ pub set_type-returns-clause-codes : goal.set_type-returns-clause-codes
 set_type-returns-clause-codes g t c =
     let one = (rw c.in-Known.is at c.in-Ok.ensures.codes) in
     let d = c.args.of.now in
-    described c.type_noted.result (coding_after (λ k. designated k (with_types c.args.self.now.withs.now) (designator_view d)) (λ x k. set_type_of k d.first.at x.operand) c.type_noted.result one ((rw c.designated.ensures.keeps.site at (c.type_noted.ensures c.designated.new.self.fragments.now.nodes.items))))
-    (λ k. ap (λ (at : ℕ). and_then (designated k (with_types c.args.self.now.withs.now) (designator_view d)) (λ x. set_type_of k at x.operand)) (sym (designator_at_seen d)))
+    described c.type_noted.result (coding_after (λ k. designated k (with_types c.args.self.now.withs.now) (designator_view d)) (λ x k. set_type_of k d.first.at x.operand) c.type_noted.result one ((rw c.designated.ensures.keeps.site at (c.type_noted.ensures c.designated.new.self.fragments.now.nodes.items)))) (λ k. ap (λ (at : ℕ). and_then (designated k (with_types c.args.self.now.withs.now) (designator_view d)) (λ x. set_type_of k at x.operand)) (sym (designator_at_seen d)))
 
 pub set_of-returns-in-DontKnowYet-clause-codes : goal.set_of-returns-in-DontKnowYet-clause-codes
 set_of-returns-in-DontKnowYet-clause-codes g t c = unknown (rw c.in-DontKnowYet.is at (started c.args.self.now.notes.now c.args.self.now.fragments.now.nodes.items c.args.self.now.site.now c.set_start.result c.args.of c.set_start.ensures.reads c.set_start.ensures.waits c.set_start.ensures.based c.set_start.ensures.told c.set_start.ensures.base c.set_start.ensures.elements))
@@ -189,8 +186,7 @@ set_of-returns-clause-codes g t c =
     let first = (rw c.in-Known.is at (started c.args.self.now.notes.now c.args.self.now.fragments.now.nodes.items c.args.self.now.site.now c.set_start.result c.args.of c.set_start.ensures.reads c.set_start.ensures.waits c.set_start.ensures.based c.set_start.ensures.told c.set_start.ensures.base c.set_start.ensures.elements)) in
     let more = (rw c.in-Known-asked.is at c.in-Ok.ensures.codes) in
     let of_there = there_after more c.args.of (there_after first c.args.of c.requires.of) in
-    coding_after (λ k. gives (start_of (set_base k c.args.of) (no_elements_yet k c.args.of))) (λ start k. and_then (elements k (with_types c.args.self.now.withs.now) start.0 start.1 (labels (map label_view c.args.items.now))) (λ es. gives (set_coded c.args.of es))) c.set_coded.result first (coding_after _ (λ es k. gives (set_coded c.args.of es)) c.set_coded.result more
-    (c.set_coded.ensures (g.S.Scopes.state c.elements.new.self.scopes.now) c.elements.new.self.notes.now c.args.self.now.site.now of_there (stands_after more)))
+    coding_after (λ k. gives (start_of (set_base k c.args.of) (no_elements_yet k c.args.of))) (λ start k. and_then (elements k (with_types c.args.self.now.withs.now) start.0 start.1 (labels (map label_view c.args.items.now))) (λ es. gives (set_coded c.args.of es))) c.set_coded.result first (coding_after _ (λ es k. gives (set_coded c.args.of es)) c.set_coded.result more (c.set_coded.ensures (g.S.Scopes.state c.elements.new.self.scopes.now) c.elements.new.self.notes.now c.args.self.now.site.now of_there (stands_after more)))
 
 pub element-member-requires : goal.element-member-requires
 element-member-requires g t c κs within = ((let small = low_smaller c.args.label.now in omega (arith, small, c.decreases)), (within, (c.requires.suits, (c.requires.withs, (c.requires.base, (low_read c.args.self.now.site.now.texts.now.names (expr_view (out-Label c.args.label.now).low) (option_map expr_view (out-Label c.args.label.now).high) (label_read c.args.self.now.site.now.texts.now.names c.args.label.now c.requires.read)))))))
@@ -219,8 +215,7 @@ element-returns-in-None-clause-codes g t c =
     let one = (rw c.in-Known.is at c.in-Ok.ensures.codes) in
     let es = elements_in c.args.self.now.fragments.now.nodes.items c.args.es in
     let low = coded_in c.member.new.self.fragments.now.nodes.items c.in-Known.value in
-    described c.add_element.result (coding_after (λ k. member k (with_types c.args.self.now.withs.now) c.args.base (expr_view (out-Label c.args.label.now).low)) (λ o k. gives (add_element k es o)) c.add_element.result one
-    (described c.add_element.result ((rw c.member.ensures.keeps.site at (c.add_element.ensures c.member.new.self.notes.now))) (λ k. ap (λ (u : sets.Elements). gives (add_element k u low)) (elements_later one.grows c.args.es c.requires.es)))) (λ k. one_label_given k (with_types c.args.self.now.withs.now) c.args.base es (expr_view (out-Label c.args.label.now).low)
+    described c.add_element.result (coding_after (λ k. member k (with_types c.args.self.now.withs.now) c.args.base (expr_view (out-Label c.args.label.now).low)) (λ o k. gives (add_element k es o)) c.add_element.result one (described c.add_element.result ((rw c.member.ensures.keeps.site at (c.add_element.ensures c.member.new.self.notes.now))) (λ k. ap (λ (u : sets.Elements). gives (add_element k u low)) (elements_later one.grows c.args.es c.requires.es)))) (λ k. one_label_given k (with_types c.args.self.now.withs.now) c.args.base es (expr_view (out-Label c.args.label.now).low)
     ∙ ap (element k (with_types c.args.self.now.withs.now) c.args.base es) (sym (label_seen c.args.label.now ∙ ap (λ h. label_with (expr_view (out-Label c.args.label.now).low) (option_map expr_view h)) c.in-None.is)))
 
 pub element-returns-in-Some-clause-codes : goal.element-returns-in-Some-clause-codes
@@ -260,9 +255,7 @@ range_to-returns-clause-codes g t c =
     let es = elements_in c.args.self.now.fragments.now.nodes.items c.args.es in
     let low = coded_in c.args.self.now.fragments.now.nodes.items c.args.low in
     let high = coded_in c.member.new.self.fragments.now.nodes.items c.in-Known.value in
-    coding_after (λ k. member k (with_types c.args.self.now.withs.now) c.args.base (expr_view c.args.high.now)) (λ p k. gives (add_range k es low p)) c.add_range.result one
-    (described c.add_range.result ((rw c.member.ensures.keeps.site at (c.add_range.ensures c.member.new.self.notes.now))) (λ k. ap (λ (u : sets.Elements). gives (add_range k u (coded_in c.member.new.self.fragments.now.nodes.items c.args.low) high)) (elements_later one.grows c.args.es c.requires.es)
-    ∙ ap (λ (l : code.Coded). gives (add_range k es l high)) (coded_later one.grows c.args.low c.requires.low)))
+    coding_after (λ k. member k (with_types c.args.self.now.withs.now) c.args.base (expr_view c.args.high.now)) (λ p k. gives (add_range k es low p)) c.add_range.result one (described c.add_range.result ((rw c.member.ensures.keeps.site at (c.add_range.ensures c.member.new.self.notes.now))) (λ k. ap (λ (u : sets.Elements). gives (add_range k u (coded_in c.member.new.self.fragments.now.nodes.items c.args.low) high)) (elements_later one.grows c.args.es c.requires.es) ∙ ap (λ (l : code.Coded). gives (add_range k es l high)) (coded_later one.grows c.args.low c.requires.low)))
 
 pub designated-name_coded-requires-clause-named : goal.designated-name_coded-requires-clause-named
 designated-name_coded-requires-clause-named g t c = (designator_read c.args.self.now.site.now.texts.now.names c.args.of.now c.requires.read).0
@@ -280,8 +273,7 @@ designated-selected-requires g t c κs within =
 pub designated-returns-clause-codes : goal.designated-returns-clause-codes
 designated-returns-clause-codes g t c =
     let d = c.args.of.now in
-    described c.selected.result (coding_after (λ k. name_coded k (with_types c.args.self.now.withs.now) d.first) (λ x k. selected k (with_types c.args.self.now.withs.now) d.first.at x (selectors (map selector_view d.rest.items))) c.selected.result (rw c.in-Known.is at c.in-Ok.ensures.codes) (rw c.deref.ensures.value at (rw c.name_coded.ensures.keeps.withs at (rw c.name_coded.ensures.keeps.site at c.selected.ensures.codes))))
-    (λ k. ap (designated k (with_types c.args.self.now.withs.now)) (sym (designator_seen d)))
+    described c.selected.result (coding_after (λ k. name_coded k (with_types c.args.self.now.withs.now) d.first) (λ x k. selected k (with_types c.args.self.now.withs.now) d.first.at x (selectors (map selector_view d.rest.items))) c.selected.result (rw c.in-Known.is at c.in-Ok.ensures.codes) (rw c.deref.ensures.value at (rw c.name_coded.ensures.keeps.withs at (rw c.name_coded.ensures.keeps.site at c.selected.ensures.codes)))) (λ k. ap (designated k (with_types c.args.self.now.withs.now)) (sym (designator_seen d)))
 
 pub select-select_field-requires-clause-named : goal.select-select_field-requires-clause-named
 select-select_field-requires-clause-named g t c = selector_read c.args.self.now.site.now.texts.now.names c.args.selector.now _ (ap selector_view c.in-Field.is ∙ field_seen c.in-Field.ident c.in-Field.at) c.requires.read
@@ -478,8 +470,7 @@ expression-one_coded-requires-clause-x g t c = stands_after (rw c.in-Known-asked
 
 pub expression-returns-in-Known-asked-2-clause-codes : goal.expression-returns-in-Known-asked-2-clause-codes
 expression-returns-in-Known-asked-2-clause-codes g t c =
-    described c.one_coded.result (coding_after (λ k. value k (with_types c.args.self.now.withs.now) (expr_view c.in-One.of.value)) (λ x k. one_coded k c.in-One.op c.in-One.op_at x) c.one_coded.result (rw c.deref-in-One.ensures at (rw c.in-Known-asked-2.is at c.in-Ok-value_of.ensures.codes)) (rw c.value_of.ensures.keeps.site at c.one_coded.ensures.codes))
-    (λ k. one_given k (with_types c.args.self.now.withs.now) c.in-One.op c.in-One.op_at (expr_view c.in-One.of.value) ∙ form_given k (with_types c.args.self.now.withs.now) c.args.e.now _ _ c.in-One.is (one_seen c.in-One.op c.in-One.op_at c.in-One.of))
+    described c.one_coded.result (coding_after (λ k. value k (with_types c.args.self.now.withs.now) (expr_view c.in-One.of.value)) (λ x k. one_coded k c.in-One.op c.in-One.op_at x) c.one_coded.result (rw c.deref-in-One.ensures at (rw c.in-Known-asked-2.is at c.in-Ok-value_of.ensures.codes)) (rw c.value_of.ensures.keeps.site at c.one_coded.ensures.codes)) (λ k. one_given k (with_types c.args.self.now.withs.now) c.in-One.op c.in-One.op_at (expr_view c.in-One.of.value) ∙ form_given k (with_types c.args.self.now.withs.now) c.args.e.now _ _ c.in-One.is (one_seen c.in-One.op c.in-One.op_at c.in-One.of))
 
 pub expression-value_of-requires-in-Many : goal.expression-value_of-requires-in-Many
 expression-value_of-requires-in-Many g t c κs within =
@@ -520,8 +511,7 @@ first_argument-first_of_two-requires-clause-x g t c = stands_after (rw c.in-Know
 pub first_argument-returns-clause-codes : goal.first_argument-returns-clause-codes
 first_argument-returns-clause-codes g t c =
     let e = c.args.e.now in
-    described c.first_of_two.result (coding_after (λ k. expression k (with_types c.args.self.now.withs.now) (expr_view e)) (λ x k. first_of_two k c.args.f e.at x) c.first_of_two.result (rw c.in-Known.is at c.in-Ok.ensures.codes) (rw c.expression.ensures.keeps.site at c.first_of_two.ensures.codes))
-    (λ k. ap (λ (at : ℕ). and_then (expression k (with_types c.args.self.now.withs.now) (expr_view e)) (λ x. first_of_two k c.args.f at x)) (sym (at_seen e)))
+    described c.first_of_two.result (coding_after (λ k. expression k (with_types c.args.self.now.withs.now) (expr_view e)) (λ x k. first_of_two k c.args.f e.at x) c.first_of_two.result (rw c.in-Known.is at c.in-Ok.ensures.codes) (rw c.expression.ensures.keeps.site at c.first_of_two.ensures.codes)) (λ k. ap (λ (at : ℕ). and_then (expression k (with_types c.args.self.now.withs.now) (expr_view e)) (λ x. first_of_two k c.args.f at x)) (sym (at_seen e)))
 
 pub second_argument-expression-requires : goal.second_argument-expression-requires
 second_argument-expression-requires g t c κs within = (search rules, (within, (c.requires.suits, (c.requires.withs, (c.requires.read)))))
@@ -547,8 +537,7 @@ second_argument-returns-clause-codes g t c =
     let e = c.args.e.now in
     let first = coded_in c.args.self.now.fragments.now.nodes.items c.args.first.coded in
     let y = coded_in c.expression.new.self.fragments.now.nodes.items c.in-Known.value in
-    described c.of_two_arguments.result (coding_after (λ k. expression k (with_types c.args.self.now.withs.now) (expr_view e)) (λ y k. of_two_arguments k c.args.f c.args.first.at first e.at y) c.of_two_arguments.result one
-    (described c.of_two_arguments.result (rw c.expression.ensures.keeps.site at c.of_two_arguments.ensures.codes) (λ k. ap (λ (x : code.Coded). of_two_arguments k c.args.f c.args.first.at x e.at y) (coded_later one.grows c.args.first.coded c.requires.first))))
+    described c.of_two_arguments.result (coding_after (λ k. expression k (with_types c.args.self.now.withs.now) (expr_view e)) (λ y k. of_two_arguments k c.args.f c.args.first.at first e.at y) c.of_two_arguments.result one (described c.of_two_arguments.result (rw c.expression.ensures.keeps.site at c.of_two_arguments.ensures.codes) (λ k. ap (λ (x : code.Coded). of_two_arguments k c.args.f c.args.first.at x e.at y) (coded_later one.grows c.args.first.coded c.requires.first))))
     (λ k. ap (λ (at : ℕ). and_then (expression k (with_types c.args.self.now.withs.now) (expr_view e)) (λ y. of_two_arguments k c.args.f c.args.first.at first at y)) (sym (at_seen e)))
 
 pub standard-expression-requires : goal.standard-expression-requires
@@ -575,8 +564,7 @@ pub standard-returns-in-Known-clause-codes : goal.standard-returns-in-Known-clau
 standard-returns-in-Known-clause-codes g t c =
     let e = c.e-item.result in
     let one : length c.args.args.now ≡ 1 = omega (arith, c.in-len1.len_at_least, c.in-len1.len_below) in
-    described c.of_one_argument.result (coding_after (λ k. expression k (with_types c.args.self.now.withs.now) (expr_view e)) (λ x k. of_one_argument k c.args.f e.at x) c.of_one_argument.result (rw c.in-Known.is at c.in-Ok.ensures.codes) (rw c.expression.ensures.keeps.site at c.of_one_argument.ensures.codes))
-    (λ k. ap (λ (at : ℕ). and_then (expression k (with_types c.args.self.now.withs.now) (expr_view e)) (λ x. of_one_argument k c.args.f at x)) (sym (at_seen e)) ∙ one_argument_given k (with_types c.args.self.now.withs.now) c.args.f expr_view c.args.args.now e one c.e-item.is)
+    described c.of_one_argument.result (coding_after (λ k. expression k (with_types c.args.self.now.withs.now) (expr_view e)) (λ x k. of_one_argument k c.args.f e.at x) c.of_one_argument.result (rw c.in-Known.is at c.in-Ok.ensures.codes) (rw c.expression.ensures.keeps.site at c.of_one_argument.ensures.codes)) (λ k. ap (λ (at : ℕ). and_then (expression k (with_types c.args.self.now.withs.now) (expr_view e)) (λ x. of_one_argument k c.args.f at x)) (sym (at_seen e)) ∙ one_argument_given k (with_types c.args.self.now.withs.now) c.args.f expr_view c.args.args.now e one c.e-item.is)
 
 pub standard-first_argument-requires : goal.standard-first_argument-requires
 standard-first_argument-requires g t c κs within =
@@ -597,8 +585,7 @@ standard-returns-in-Known-asked-clause-codes g t c =
     let e = c.e-item-2.result in
     let d = c.other-item.result in
     described c.second_argument.result (coding_after (λ k. first_argument k (with_types c.args.self.now.withs.now) c.args.f (expr_view e)) (λ v k. second_argument k (with_types c.args.self.now.withs.now) c.args.f e.at v (expr_view d)) c.second_argument.result (rw c.in-Known-asked.is at c.in-Ok-first_argument.ensures.codes) (rw c.first_argument.ensures.keeps.withs at (rw c.first_argument.ensures.keeps.site at c.second_argument.ensures.codes)))
-    (λ k. ap (λ (at : ℕ). and_then (first_argument k (with_types c.args.self.now.withs.now) c.args.f (expr_view e)) (λ v. second_argument k (with_types c.args.self.now.withs.now) c.args.f at v (expr_view d))) (sym (at_seen e))
-    ∙ two_arguments_given k (with_types c.args.self.now.withs.now) c.args.f expr_view c.args.args.now e d (omega (arith, c.in-len2-up.len_at_least)) c.e-item-2.is c.other-item.is)
+    (λ k. ap (λ (at : ℕ). and_then (first_argument k (with_types c.args.self.now.withs.now) c.args.f (expr_view e)) (λ v. second_argument k (with_types c.args.self.now.withs.now) c.args.f at v (expr_view d))) (sym (at_seen e)) ∙ two_arguments_given k (with_types c.args.self.now.withs.now) c.args.f expr_view c.args.args.now e d (omega (arith, c.in-len2-up.len_at_least)) c.e-item-2.is c.other-item.is)
 
 pub looked_at-loop-e-init : goal.looked_at-loop-e-init
 looked_at-loop-e-init g t c = (
@@ -642,10 +629,8 @@ passed-loop-e-preserved g t c = (
   (Keeps-trans c.loop-e.invariant.0 c.next_passed.ensures.keeps),
   (let one = (rw c.loop-e.invariant.0.withs at (rw c.loop-e.invariant.0.site at (rw c.in-Known.is at c.in-Ok.ensures.codes))) in
       let left = c.behind_first-left.result.now in
-      one_more (λ k o i. argument_step k (with_types c.args.self.now.withs.now) o (expr_view i)) ((map parameter_view c.args.params.now), Some none) c.args.args.now c.loop-e.e-index c.e-item.result c.loop-e-test.true c.e-item.is c.loop-e.invariant.1
-      (coding_after (λ k. next_passed k (with_types c.args.self.now.withs.now) (map parameter_view c.loop-e.left.now) (argument_in c.loop-e.self.fragments.now.nodes.items c.loop-e.code) (expr_view c.e-item.result)) (λ code k. gives (behind_first (map parameter_view c.loop-e.left.now), code)) (Ok (Known (left, c.in-Known.value))) one
-      (value_alone (g.S.Scopes.state c.next_passed.new.self.scopes.now) c.next_passed.new.self.notes.now c.next_passed.new.self.fragments.now.nodes.items c.args.self.now.site.now (left, c.in-Known.value) AreLeft left_in (λ k. (behind_first (map parameter_view c.loop-e.left.now), argument_in c.next_passed.new.self.fragments.now.nodes.items c.in-Known.value))
-      (behind_there _ c.loop-e.left.now left c.behind_first-left.ensures (params_after one c.loop-e.left.now (stands_after c.loop-e.invariant.1).0), stands_after one) (λ k. behind_in left c.loop-e.left.now _ c.behind_first-left.ensures)))),
+      one_more (λ k o i. argument_step k (with_types c.args.self.now.withs.now) o (expr_view i)) ((map parameter_view c.args.params.now), Some none) c.args.args.now c.loop-e.e-index c.e-item.result c.loop-e-test.true c.e-item.is c.loop-e.invariant.1 (coding_after (λ k. next_passed k (with_types c.args.self.now.withs.now) (map parameter_view c.loop-e.left.now) (argument_in c.loop-e.self.fragments.now.nodes.items c.loop-e.code) (expr_view c.e-item.result)) (λ code k. gives (behind_first (map parameter_view c.loop-e.left.now), code)) (Ok (Known (left, c.in-Known.value))) one
+      (value_alone (g.S.Scopes.state c.next_passed.new.self.scopes.now) c.next_passed.new.self.notes.now c.next_passed.new.self.fragments.now.nodes.items c.args.self.now.site.now (left, c.in-Known.value) AreLeft left_in (λ k. (behind_first (map parameter_view c.loop-e.left.now), argument_in c.next_passed.new.self.fragments.now.nodes.items c.in-Known.value)) (behind_there _ c.loop-e.left.now left c.behind_first-left.ensures (params_after one c.loop-e.left.now (stands_after c.loop-e.invariant.1).0), stands_after one) (λ k. behind_in left c.loop-e.left.now _ c.behind_first-left.ensures)))),
 )
 
 pub passed-returns-in-DontKnowYet-clause-codes : goal.passed-returns-in-DontKnowYet-clause-codes
@@ -700,8 +685,7 @@ pub lacking-returns-clause-codes : goal.lacking-returns-clause-codes
 lacking-returns-clause-codes g t c =
     let ms = c.passed.new.self.fragments.now.nodes.items in
     let state = g.S.Scopes.state c.passed.new.self.scopes.now in
-    coding_after (λ k. passed k (with_types c.args.self.now.withs.now) (map parameter_view c.args.params.now) (exprs (map expr_view c.args.args.now))) (λ codes k. gives in_error) (Ok (Known c.in_error.result)) (rw c.in-Known.is at c.in-Ok.ensures.codes)
-    (value_alone state c.passed.new.self.notes.now ms c.args.self.now.site.now c.in_error.result IsCoded coded_in (λ k. in_error) (c.in_error.ensures.there state.frame ms) (λ k. c.in_error.ensures.told ms))
+    coding_after (λ k. passed k (with_types c.args.self.now.withs.now) (map parameter_view c.args.params.now) (exprs (map expr_view c.args.args.now))) (λ codes k. gives in_error) (Ok (Known c.in_error.result)) (rw c.in-Known.is at c.in-Ok.ensures.codes) (value_alone state c.passed.new.self.notes.now ms c.args.self.now.site.now c.in_error.result IsCoded coded_in (λ k. in_error) (c.in_error.ensures.there state.frame ms) (λ k. c.in_error.ensures.told ms))
 
 pub called_as-standard-requires : goal.called_as-standard-requires
 called_as-standard-requires g t c κs within = (search rules, (within, (c.requires.suits, (c.requires.withs, (c.requires.read)))))
@@ -744,8 +728,7 @@ called_with-called_as-requires g t c κs within =
 pub called_with-returns-clause-codes : goal.called_with-returns-clause-codes
 called_with-returns-clause-codes g t c =
     let to = coded_in c.args.self.now.fragments.now.nodes.items c.args.to.coded in
-    described c.called_as.result (coding_after (λ k. called k c.args.is_wanted c.args.to.at (length c.args.args.now) to) (λ what k. called_as k (with_types c.args.self.now.withs.now) (exprs (map expr_view c.args.args.now)) what) c.called_as.result (rw c.in-Known.is at c.in-Ok.ensures.codes) (rw c.called.ensures.keeps.withs at (rw c.called.ensures.keeps.site at c.called_as.ensures.codes)))
-    (λ k. ap (λ (n : ℕ). and_then (called k c.args.is_wanted c.args.to.at n to) (λ what. called_as k (with_types c.args.self.now.withs.now) (exprs (map expr_view c.args.args.now)) what)) (count_given expr_view c.args.args.now))
+    described c.called_as.result (coding_after (λ k. called k c.args.is_wanted c.args.to.at (length c.args.args.now) to) (λ what k. called_as k (with_types c.args.self.now.withs.now) (exprs (map expr_view c.args.args.now)) what) c.called_as.result (rw c.in-Known.is at c.in-Ok.ensures.codes) (rw c.called.ensures.keeps.withs at (rw c.called.ensures.keeps.site at c.called_as.ensures.codes))) (λ k. ap (λ (n : ℕ). and_then (called k c.args.is_wanted c.args.to.at n to) (λ what. called_as k (with_types c.args.self.now.withs.now) (exprs (map expr_view c.args.args.now)) what)) (count_given expr_view c.args.args.now))
 
 pub expression-designated-requires-in-Call : goal.expression-designated-requires-in-Call
 expression-designated-requires-in-Call g t c κs within =
