@@ -32,6 +32,8 @@ QUICK = 5
 # What all crates keep in their out/ on disk.
 DISK = 10 * GB
 LOGS = f"{rooms.ROOT}/out/prove"
+# rt, which sums up texts once.
+RT = f"{rooms.ROOT}/tools/rt_once.py"
 FAILED = 70
 # The death of its parent ends a child by this signal (prctl).
 PR_SET_PDEATHSIG = 1
@@ -76,7 +78,7 @@ class Check:
         self.name, self.jobs, self.began = name, jobs, time.monotonic()
         folder = shelf.open(name)
         shelf.lend(name)
-        words = ["rt", "run" if rooms.is_program(name) else "lib", "--jobs", str(jobs)]
+        words = [sys.executable, RT, "run" if rooms.is_program(name) else "lib", "--jobs", str(jobs)]
         how = {"stdin": subprocess.DEVNULL, "stderr": subprocess.STDOUT, "start_new_session": True}
         with open(log_of(name), "w", encoding="utf-8") as log:
             self.process = subprocess.Popen(words, cwd=folder, stdout=log, preexec_fn=die_with_parent, **how)
