@@ -8,6 +8,7 @@ use Rattle.std.proofs.lemmas.Bool.{and_parts, leb-true}
 use Rattle.std.proofs.lemmas.Nat.{or_lt, pow_pos}
 use Rattle.m2_base.proofs.SoundOperands.{AreValues, fold_value, integer_values, natural-value, truth-value, where_in_value, whole_values}
 use Rattle.m2_base.proofs.SoundTypes.{either}
+use Rattle.m2_base.proofs.ValueBounds.{absolute_value, natural_small, odd_is_value, span_small}
 use Rattle.m2_base.specs.Gives.{Gives, gives}
 use Rattle.m2_base.specs.Lists.{WhereKept}
 use Rattle.m2_base.specs.Rows.{IsValue, is_same_place, natural}
@@ -34,21 +35,6 @@ use Rattle.m2_base.specs.declared.operands.Operand.{Operand}
 use Rattle.m2_base.specs.declared.trees.operators.Operator.TheVariants.{And, In, Not, Or}
 use Rattle.row_laws.specs.RowRanges.{RowsInRange}
 use Rattle.block_laws.proofs.Values.{HasValues, range_values, size_is}
-
-pub natural-small : (v : ℤ) → IsValue v → natural v < 2 ^ 32
-natural-small (pos n) h = let e = h.1.le in omega (arith, leb_yes, e)
-natural-small (negsuc n) h = omega arith
-
-span-small : (low high : ℕ) → span low high < 2 ^ 32
-span-small low high = by_order (nat_le low high && nat_le high 31) refl
-  where
-    by_order : (b : Bool) → (nat_le low high && nat_le high 31) ≡ b → (if b then 2 ^ (high + 1) - 2 ^ low else 0) < 2 ^ 32
-    by_order true e =
-        let top : high + 1 ≤ 32 = let h = leb-true high 31 (and_parts (nat_le low high) (nat_le high 31) e).1 in omega (arith, h) in
-        let power = pow_mono top in
-        let some = pow_pos low in
-        omega (arith, power, some)
-    by_order false e = omega arith
 
 module _ (seen : ℕ → Type 0) (P : ℕ → Place → ℕ → ℕ → Type 0) where
   abbrev Values : Operand → Type 0
@@ -154,7 +140,7 @@ module _ (seen : ℕ → Type 0) (P : ℕ → Place → ℕ → ℕ → Type 0) 
 
   pub with_elements-values : (bits low high : Operand) → Values bits → Values (with_elements bits low high)
   with_elements-values (Constant t b) (Constant u l) (Constant v h) k =
-      natural-value _ (or_lt 32 (natural b) (span (natural l) (natural h)) (natural-small b k) (span-small (natural l) (natural h)))
+      natural-value _ (or_lt 32 (natural b) (span (natural l) (natural h)) (natural_small b k) (span_small (natural l) (natural h)))
   with_elements-values bits low high k = worse-values bits (worse low high)
 
   pub no_elements-values : (c : Context) (t : Place) → Values (no_elements c t)
@@ -207,13 +193,9 @@ module _ (seen : ℕ → Type 0) (P : ℕ → Place → ℕ → ℕ → Type 0) 
     converted-values at t NotConstant k = tt
     converted-values at t o k = tt
 
-    absolute-value : (v : ℤ) → IsValue v → IsValue (pos (nat_abs v))
-    absolute-value (pos n) h = h
-    absolute-value (negsuc n) h = let e = h.0.le in natural-value _ (omega (arith, leb_yes, e))
-
     absolute-values : (at : ℕ) (t : Place) (o : Operand) → Values o → Given (absolute c at t o)
     absolute-values at t (Constant u v) k =
-        either Given (is_same_place t integer && not (is_within (Some integer_range) (pos (nat_abs v)))) _ (gives (Constant t (pos (nat_abs v)))) tt (absolute-value v k)
+        either Given (is_same_place t integer && not (is_within (Some integer_range) (pos (nat_abs v)))) _ (gives (Constant t (pos (nat_abs v)))) tt (absolute_value v k)
     absolute-values at t InError k = tt
     absolute-values at t NotConstant k = tt
     absolute-values at t o k = tt
@@ -225,7 +207,7 @@ module _ (seen : ℕ → Type 0) (P : ℕ → Place → ℕ → ℕ → Type 0) 
 
     capital-values : (o : Operand) → Values o → Values (capital o)
     capital-values (Constant t v) h =
-        either IsValue (is_small_letter v) (pos (natural v - 32)) v (natural-value _ (let small = natural-small v h in omega (arith, small))) h
+        either IsValue (is_small_letter v) (pos (natural v - 32)) v (natural-value _ (let small = natural_small v h in omega (arith, small))) h
     capital-values o h = tt
 
     pub cap-values : (at : ℕ) (o : Operand) → Values o → Given (cap_of c at o)
@@ -237,12 +219,8 @@ module _ (seen : ℕ → Type 0) (P : ℕ → Place → ℕ → ℕ → Type 0) 
     pub chr-values : (at : ℕ) (o : Operand) → Values o → Given (chr_of c at o)
     chr-values at o h = converted-values at character (number_argument c at o).value (number_argument-values at o h)
 
-    odd-value : (v : ℤ) → IsValue (odd_value v)
-    odd-value (pos n) = let e : n % 2 < 2 = mod-lt n (omega arith) in natural-value _ (omega (arith, e))
-    odd-value (negsuc n) = natural-value _ (omega arith)
-
     oddness-values : (o : Operand) → Values (oddness o)
-    oddness-values (Constant t v) = odd-value v
+    oddness-values (Constant t v) = odd_is_value v
     oddness-values InError = tt
     oddness-values NotConstant = tt
     oddness-values o = tt

@@ -28,3 +28,4 @@ pub use compiling::compile;
 pub use laws::{
     diagnostics_have_lines, one_outcome, one_summary, refusals_have_lines, wrong_imports_have_lines,
 };
+pub use unit_workers::Crew;

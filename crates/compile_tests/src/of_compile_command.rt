@@ -1,12 +1,11 @@
 //! The call of `compile_command`, over shelves and sinks in memory, some of whose calls fail.
-use compile_command::{Answer, Stop, compile};
+use compile_command::{Answer, Crew, Stop, compile};
 use m2_io::{MemShelf, MemSink, NoGate};
 use std::alloc::{AllocError, Global};
 use std::collections::BTreeMap;
 use std::sync::Wait;
 use std::test::Fail;
 use std::thread::Threads;
-use unit_workers::Crew;
 
 /// Which calls of the shelf and of the sink fail.
 #[derive(Drop)]

@@ -16,21 +16,7 @@ use Rattle.m2_base.specs.declared.rows.Place.{Place}
 use Rattle.const_eval.specs.Ends.{ends_of}
 use Rattle.const_eval.specs.Sites.{IsOperand}
 use Rattle.m2_base.proofs.SoundOperands.{natural-value}
-
-natural_small : (v : ℤ) → IsValue v → natural v < 2 ^ 32
-natural_small (pos n) h = let e = h.1.le in omega (arith, leb_yes, e)
-natural_small (negsuc n) h = omega arith
-
-span_small : (low high : ℕ) → span low high < 2 ^ 32
-span_small low high = by_test (nat_le low high && nat_le high 31) refl
-  where
-    by_test : (b : Bool) → (nat_le low high && nat_le high 31) ≡ b → (if b then 2 ^ (high + 1) - 2 ^ low else 0) < 2 ^ 32
-    by_test true e =
-        let top : high + 1 ≤ 32 = let h = leb-true high 31 (and_parts (nat_le low high) (nat_le high 31) e).1 in omega (arith, h) in
-        let power = pow_mono top in
-        let some = pow_pos low in
-        omega (arith, power, some)
-    by_test false e = omega arith
+use Rattle.m2_base.proofs.ValueBounds.{natural_small, span_small}
 
 pub bits_small : (bits : ℤ) (low high : ℕ) → IsValue bits → bit_or (natural bits) (span low high) < 2 ^ 32
 bits_small bits low high h = or_lt 32 (natural bits) (span low high) (natural_small bits h) (span_small low high)

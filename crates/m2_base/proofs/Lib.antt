@@ -56,4 +56,5 @@ pub mod StandingTypes
 pub mod WholeTextChecks
 pub mod TypeLaws
 pub mod UnitTerms
+pub mod ValueBounds
 pub mod units

@@ -24,7 +24,7 @@ use Rattle.ll_grammar.specs.Texts as texts
 -- ** Parts without procedures
 
 -- no procedure is part of it
-abbrev alone : Rule → Bool
+abbrev pub alone : Rule → Bool
 alone empty = true
 alone (token ks) = true
 alone (followed r s) = alone r && alone s

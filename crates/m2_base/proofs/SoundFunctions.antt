@@ -20,7 +20,8 @@ use Rattle.m2_base.specs.declared.operands.Operand.{Operand}
 use Rattle.m2_base.specs.declared.operands.Operand.TheVariants.{Constant, Computed, Variable, NamedType, NotConstant, InError}
 use Rattle.m2_base.proofs.Sound.{Sound, IsThere}
 use Rattle.m2_base.proofs.SoundOperands.{OperandOk, AreValues, natural-value}
-use Rattle.m2_base.proofs.SoundOperations.{SoundContext, GivesOk, not_text, text_range, text_is_sound, number_type_there, number_type_not_text, char_or_same_ok, standard_constant, natural_small}
+use Rattle.m2_base.proofs.SoundOperations.{SoundContext, GivesOk, not_text, text_range, text_is_sound, number_type_there, number_type_not_text, char_or_same_ok, standard_constant}
+use Rattle.m2_base.proofs.ValueBounds.{absolute_value, natural_small, odd_is_value}
 use Rattle.m2_base.proofs.SoundTypes.{either, broken-there, standard-there, kind_fits}
 use Rattle.m2_base.proofs.TypeLaws.{range_of_meaning}
 
@@ -68,10 +69,6 @@ module _ (names : ℕ) where
   converted_ok c at t NotConstant h n k = tt
   converted_ok c at t o h n k = h
 
-  absolute_value : (v : ℤ) → IsValue v → IsValue (pos (nat_abs v))
-  absolute_value (pos n) h = h
-  absolute_value (negsuc n) h = let e = h.0.le in natural-value _ (omega (arith, leb_yes, e))
-
   absolute_ok : (c : Context) (at : ℕ) (t : Place) (o : Operand) → IsThere c.scene t → (t ≡ text_type → ⊥) → OperandOk names c.scene o → GivesOk names c (absolute c at t o)
   absolute_ok c at t (Constant u v) h n k =
       either (GivesOk names c) (is_same_place t integer && not (is_within (Some integer_range) (pos (nat_abs v)))) _ (gives (Constant t (pos (nat_abs v)))) tt
@@ -89,7 +86,7 @@ module _ (names : ℕ) where
   capital_ok : (c : Context) → Sound names c.scene → (o : Operand) → OperandOk names c.scene o → OperandOk names c.scene (capital o)
   capital_ok c sound (Constant t v) h =
       standard_constant sound 2 _ (omega arith) (λ e. omega (arith, e))
-      (either IsValue (is_small_letter v) (pos (natural v - 32)) v (natural-value _ (let small = natural_small names v h.1 in omega (arith, small))) h.1)
+      (either IsValue (is_small_letter v) (pos (natural v - 32)) v (natural-value _ (let small = natural_small v h.1 in omega (arith, small))) h.1)
   capital_ok c sound o h = standard-there sound 2 (omega arith)
 
   pub cap_ok : (c : Context) → SoundContext names c → (at : ℕ) (o : Operand) → OperandOk names c.scene o → GivesOk names c (cap_of c at o)
@@ -102,10 +99,6 @@ module _ (names : ℕ) where
   pub chr_ok : (c : Context) → Sound names c.scene → (at : ℕ) (o : Operand) → OperandOk names c.scene o → GivesOk names c (chr_of c at o)
   chr_ok c sound at o h =
       converted_ok c at character (number_argument c at o).value (standard-there sound 2 (omega arith)) (not_text 2 (λ e. omega (arith, e))) (number_argument_ok c at o h)
-
-  odd_is_value : (v : ℤ) → IsValue (odd_value v)
-  odd_is_value (pos n) = let e : n % 2 < 2 = mod-lt n (omega arith) in natural-value _ (omega (arith, e))
-  odd_is_value (negsuc n) = natural-value _ (omega arith)
 
   oddness_ok : (c : Context) → Sound names c.scene → (o : Operand) → OperandOk names c.scene (oddness o)
   oddness_ok c sound (Constant t v) = standard_constant sound 3 _ (omega arith) (λ e. omega (arith, e)) (odd_is_value v)

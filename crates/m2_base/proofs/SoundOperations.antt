@@ -26,6 +26,7 @@ use Rattle.m2_base.specs.declared.operands.Operand.{Operand}
 use Rattle.m2_base.specs.declared.operands.Operand.TheVariants.{Constant, StringConstant, Computed, Variable, NamedType, InError}
 use Rattle.m2_base.specs.declared.trees.operators.Operator.TheVariants.{In, Or, And, Not}
 use Rattle.m2_base.proofs.EachLaws.{each_found}
+use Rattle.m2_base.proofs.ValueBounds.{natural_small, span_small}
 use Rattle.m2_base.proofs.Sound.{Sound, IsThere}
 use Rattle.m2_base.proofs.SoundOperands.{SoundSource, OperandOk, IsConstant, AreValues, natural-value, truth-value, fold_value, where_in_value, integer_values, whole_values}
 use Rattle.m2_base.proofs.SoundTypes.{either, broken-there, standard-there, stands_there}
@@ -298,21 +299,6 @@ module _ (names : ℕ) where
       (either (GivesOk names c) (is_broken c.scene base) (gives InError) _ tt
       (either (GivesOk names c) (not (is_procedure o) && is_compatible c.scene o (Computed base)) _ _
       (checked_element_ok c base at (taken_beside c.source c.scene o (Computed base)) (beside_ok c sound o (Computed base) h)) tt))
-
-  pub natural_small : (v : ℤ) → IsValue v → natural v < 2 ^ 32
-  natural_small (pos n) h = let e = h.1.le in omega (arith, leb_yes, e)
-  natural_small (negsuc n) h = omega arith
-
-  span_small : (low high : ℕ) → span low high < 2 ^ 32
-  span_small low high = by_test (nat_le low high && nat_le high 31) refl
-    where
-      by_test : (b : Bool) → (nat_le low high && nat_le high 31) ≡ b → (if b then 2 ^ (high + 1) - 2 ^ low else 0) < 2 ^ 32
-      by_test true e =
-          let top : high + 1 ≤ 32 = let h = leb-true high 31 (and_parts (nat_le low high) (nat_le high 31) e).1 in omega (arith, h) in
-          let power = pow_mono top in
-          let some = pow_pos low in
-          omega (arith, power, some)
-      by_test false e = omega arith
 
   pub with_elements_ok : (scene : Scene) (bits low high : Operand) → OperandOk names scene bits → OperandOk names scene (with_elements bits low high)
   with_elements_ok scene (Constant t b) (Constant u l) (Constant v h) k =

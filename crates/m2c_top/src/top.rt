@@ -15,13 +15,12 @@ use crate::ending::{Stop, ended, ended_compiling, status_of};
 use crate::laws::one_outcome;
 use crate::status::Status;
 use command_words::{Command, read_command};
-use compile_command::{compile, compile_big};
+use compile_command::{Crew, compile, compile_big};
 use m2_io::{Gate, Shelf, Sink, Source, write_all};
 use object_commands::{Settings, dump, run};
 use std::alloc::Global;
 use std::sync::Wait;
 use std::thread::Threads;
-use unit_workers::Crew;
 
 /// How the program is called.
 const USAGE: &[u8] =

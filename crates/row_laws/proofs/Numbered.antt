@@ -12,27 +12,18 @@ use Rattle.m2_base.specs.StreamsOf.{all_variables_of, constants_of, heading_of, 
 use Rattle.m2_base.specs.Trees.{Decl, Heading, const_decl, type_decl, vars_decl, proc_decl}
 use Rattle.m2_base.specs.WholeTexts.{block_from, blocks_after, declaration_from, declarations_from}
 use Rattle.m2_base.specs.declared.token.Token.{Token}
+use Rattle.m2_base.proofs.LoneModules.{alone}
 use Rattle.row_laws.proofs.Joined.{in_either}
 
 -- ** Parts without procedures
 
--- no procedure is part of it
-abbrev is_plain : Rule → Bool
-is_plain empty = true
-is_plain (token ks) = true
-is_plain (followed r s) = is_plain r && is_plain s
-is_plain (or r s) = is_plain r && is_plain s
-is_plain (many r) = is_plain r
-is_plain (deep n) = true
-is_plain sub = false
-
-plain_after : {r : Rule} {x : Tree Token} → Derives grammar r x → is_plain r ≡ true → (c : ℕ) → blocks_after c x ≡ c
+plain_after : {r : Rule} {x : Tree Token} → Derives grammar r x → alone r ≡ true → (c : ℕ) → blocks_after c x ≡ c
 plain_after of_empty h c = refl
 plain_after (of_token g) h c = refl
 plain_after (of_then {r} {s} {d = x} {e = y} g k) h c =
-    let e = and_parts (is_plain r) (is_plain s) h in ap (λ z. blocks_after z y) (plain_after g e.0 c) ∙ plain_after k e.1 c
-plain_after (of_left {r} {s} g) h c = plain_after g (and_parts (is_plain r) (is_plain s) h).0 c
-plain_after (of_right {r} {s} g) h c = plain_after g (and_parts (is_plain r) (is_plain s) h).1 c
+    let e = and_parts (alone r) (alone s) h in ap (λ z. blocks_after z y) (plain_after g e.0 c) ∙ plain_after k e.1 c
+plain_after (of_left {r} {s} g) h c = plain_after g (and_parts (alone r) (alone s) h).0 c
+plain_after (of_right {r} {s} g) h c = plain_after g (and_parts (alone r) (alone s) h).1 c
 plain_after of_last h c = refl
 plain_after (of_more {d = x} {ds = y} g k) h c = ap (λ z. blocks_after z y) (plain_after g h c) ∙ plain_after k h c
 plain_after (of_deep g) h c = refl
@@ -93,13 +84,13 @@ unequal c s h = grind arith
 unequal_low : (c s : ℕ) → s < c → (c == s) ≡ false
 unequal_low c s h = grind arith
 
-plain_has : {r : Rule} {x : Tree Token} → Derives grammar r x → is_plain r ≡ true → (s c : ℕ) → has s c x ≡ false
+plain_has : {r : Rule} {x : Tree Token} → Derives grammar r x → alone r ≡ true → (s c : ℕ) → has s c x ≡ false
 plain_has of_empty h s c = refl
 plain_has (of_token g) h s c = refl
 plain_has (of_then {r} {s = q} {d = x} g k) h s c =
-    let e = and_parts (is_plain r) (is_plain q) h in or_from _ _ (plain_has g e.0 s c) (plain_has k e.1 s (blocks_after c x))
-plain_has (of_left {r} {s = q} g) h s c = plain_has g (and_parts (is_plain r) (is_plain q) h).0 s c
-plain_has (of_right {r} {s = q} g) h s c = plain_has g (and_parts (is_plain r) (is_plain q) h).1 s c
+    let e = and_parts (alone r) (alone q) h in or_from _ _ (plain_has g e.0 s c) (plain_has k e.1 s (blocks_after c x))
+plain_has (of_left {r} {s = q} g) h s c = plain_has g (and_parts (alone r) (alone q) h).0 s c
+plain_has (of_right {r} {s = q} g) h s c = plain_has g (and_parts (alone r) (alone q) h).1 s c
 plain_has of_last h s c = refl
 plain_has (of_more {d = x} g k) h s c = or_from _ _ (plain_has g h s c) (plain_has k h s (blocks_after c x))
 plain_has (of_deep g) h s c = refl

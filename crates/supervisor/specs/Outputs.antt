@@ -9,6 +9,8 @@ use Rattle.task_state.specs.Outputs.{IsOutput}
 use Rattle.task_state.specs.Progress.{IsAsFar, IsLeft}
 use Rattle.task_state.specs.declared.task.Task.{Task}
 use Rattle.supervisor.specs.Units.{block_in}
+-- (handed on to unit_workers, which says of what several workers leave what is said here of one)
+pub use Rattle.merge_laws.specs.Outputs.{AreOutputs}
 
 -- the output of a stream of a unit
 abbrev pub IsOutputIn : UnitTexts → StreamOf → Output → Type 0

@@ -1,10 +1,9 @@
 //! Turns of a unit's tasks over the scopes of one thread.
 ghost use Rattle.std.specs.Prelude.{◌≡◌, ◌+◌, ◌<◌, ◌^◌, IfOk, OnOk, length, map};
-ghost use Rattle.merge_laws.specs.Outputs.{AreOutputs};
 ghost use Rattle.scope_core.specs.Fronts.{ShowsFront};
 ghost use Rattle.stream_split.specs.Streams.{streams_of};
 ghost use Rattle.stream_split.specs.Views.{stream_view};
-ghost use Rattle.supervisor.specs.Outputs.{AreOfStreams};
+ghost use Rattle.supervisor.specs.Outputs.{AreOfStreams, AreOutputs};
 ghost use Rattle.supervisor.specs.Stands.{AreFull, AreOver, AreOverBefore, HasGrown, IsStand, IsTurned, state_at};
 ghost use Rattle.supervisor.specs.Starts.{first_scopes};
 ghost use Rattle.supervisor.specs.Units.{CanBeRun};

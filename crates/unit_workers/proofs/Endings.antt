@@ -10,7 +10,7 @@ use Rattle.m2_base.specs.Statics.Contexts.{Block}
 use Rattle.m2_base.specs.Tables.{rows_at}
 use Rattle.m2_base.specs.Units.{UnitTexts}
 use Rattle.m2_base.specs.declared.rows.Row.{Row}
-use Rattle.merge_laws.specs.Outputs.{AreOutputs}
+use Rattle.supervisor.specs.Outputs.{AreOutputs}
 use Rattle.relay.specs.Hands.{AreLater}
 use Rattle.scope_table.specs.declared.table.ScopeTable.{ScopeTable}
 use Rattle.dky_search.specs.SeatScopes.{state_of, table_in}

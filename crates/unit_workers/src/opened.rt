@@ -1,6 +1,6 @@
 //! A unit, over a table that is opened for it.
 ghost use Rattle.std.specs.Prelude.{◌≡◌, ◌<◌, ◌≤◌, ◌^◌, All, IfOk, length, map};
-ghost use Rattle.merge_laws.specs.Outputs.{AreOutputs};
+ghost use Rattle.supervisor.specs.Outputs.{AreOutputs};
 ghost use Rattle.scope_table.specs.Seats.{IsOpened};
 ghost use Rattle.stream_split.specs.Sizes.{sizes_of};
 ghost use Rattle.stream_split.specs.Streams.{streams_of};

@@ -1,7 +1,7 @@
 //! A unit, worked through by workers at once.
 ghost use Rattle.std.specs.Prelude.{◌≡◌, ◌<◌, ◌≤◌, IfOk, Some, map};
 ghost use Rattle.std.specs.List.{AllZip};
-ghost use Rattle.merge_laws.specs.Outputs.{AreOutputs};
+ghost use Rattle.supervisor.specs.Outputs.{AreOutputs};
 ghost use Rattle.stream_split.specs.Streams.{streams_of};
 ghost use Rattle.stream_split.specs.Views.{stream_view};
 ghost use Rattle.supervisor.specs.Units.{CanBeRun};

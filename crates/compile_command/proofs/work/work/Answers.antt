@@ -1,12 +1,10 @@
-use Rattle.supervisor.specs.Units.{CanBeRun}
 use Rattle.compile_command.proofs.work.work.Goals as goal
 
 pub outputs_by-requires-clause-unit : goal.outputs_by-requires-clause-unit
 outputs_by-requires-clause-unit g c κs within =
-    let can : CanBeRun c.args.texts.now = record {
+    record {
       limits = c.requires.limits;
       front = c.requires.whole.0;
       fronts = c.requires.whole.1.fronts;
       whole = c.requires.whole.1.whole;
-    } in
-    can
+    }
