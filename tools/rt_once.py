@@ -4,7 +4,7 @@
 usage: rt_once.py WORD..    as rt WORD..
 
 Before it builds a library rt sums up its texts and those of the libraries that it names, and of each of these again those
-that it names, along every way through crates.txt: for m2c_main that is reading some crate's texts 6,256 times, which
+that it names, along every way through crates.txt: for m2c_main that is reading some crate's texts 2,700 times, which
 takes minutes. In a room (rooms.py) nobody changes a text meanwhile, so that one sum of each crate serves. Where the
 kit's rt isn't as this expects it, it runs as it is.
 """

@@ -5,4 +5,4 @@ mod behind;
 #[cfg(test)]
 mod of_def_import;
 
-pub use behind::{Driver, Unit, module_outcome, scopes_of, whole_unit};
+pub use behind::whole_unit;

@@ -1,5 +1,5 @@
 //! The calls of `def_import`. What comes of a shelf is told by the cases of `m2_cases`.
-use crate::behind::{scopes_of, whole_unit};
+use crate::behind::whole_unit;
 use def_import::{Gathered, gather_text};
 use m2_base::{Text, Texts};
 use m2_io::MemShelf;
@@ -52,9 +52,8 @@ fn hands_a_whole_unit_on(rt: HostRuntime) -> Result<(), Fail> {
             ("A.def", "DEFINITION MODULE A; END A."),
         ],
     )?;
-    let unit = whole_unit(alloc, &mut shelf, "M").ok_or("no unit")?;
-    assert_eq!(rt; unit.streams.len(), 3);
-    let scopes = scopes_of(alloc, &unit).ok().ok_or("no scopes")?;
-    let _nothing_is_entered = scopes;
+    let texts = whole_unit(alloc, &mut shelf, "M").ok_or("no unit")?;
+    let counts = counts(alloc, &texts.list)?;
+    assert_eq!(rt; counts.as_slice(), [16, 8].as_slice());
     Ok(())
 }
