@@ -16,10 +16,11 @@ use Rattle.m2_base.specs.Statics.Diagnostics.{wrong_label}
 use Rattle.m2_base.specs.Statics.Operands.{constant_of_operand}
 use Rattle.m2_base.specs.Statics.Ranges.{Range, range}
 use Rattle.m2_base.specs.Statics.Types.{is_broken}
-use Rattle.m2_base.specs.Views.{expr_view}
+use Rattle.m2_base.specs.Views.{expr_view, label_view}
 use Rattle.m2_base.specs.Trees.{Expr, Label, expr_at, label_with, labels, one_label, range_label}
 use Rattle.m2_base.specs.declared.notes.Notes.{Notes}
 use Rattle.m2_base.specs.declared.trees.expressions.Expr as tree
+use Rattle.m2_base.specs.declared.trees.expressions.Label as tree_label
 use Rattle.m2_base.specs.declared.operands.Operand.{Operand}
 use Rattle.m2_base.specs.declared.operands.Operand.TheVariants.{Computed}
 use Rattle.m2_base.specs.declared.replies.Ask.{Ask}
@@ -28,6 +29,7 @@ use Rattle.m2_base.specs.declared.replies.Head.{Head}
 use Rattle.m2_base.specs.declared.rows.Place.{Place}
 use Rattle.m2_base.specs.declared.sites.Site.{Site}
 use Rattle.m2_base.proofs.Kept.{Works-notes}
+use Rattle.m2_base.proofs.Seen.{label_seen}
 use Rattle.type_rules.specs.Asks.{Reads, WhereKnown, WhereWaiting}
 use Rattle.type_rules.specs.Scenes.{WhereTold}
 use Rattle.type_rules.specs.Sites.{context_of}
@@ -37,6 +39,7 @@ use Rattle.const_eval.specs.Sites.{IsOperand}
 use Rattle.const_eval.proofs.Analysing.{and_then_assoc, quiet}
 use Rattle.const_eval.proofs.Elements.{pair}
 use Rattle.const_eval.proofs.Folding.{and_then_gives, and_then_same, folded}
+use Rattle.const_eval.proofs.ReadParts.{at_seen}
 use Rattle.case_labels.specs.Labels.{IsAny, covered_by, ends_in, is_ranged, label_at, label_fault, one_label_of, test_of, values_beside, values_by, values_in, values_of}
 use Rattle.case_labels.specs.Seen.{AreAny, test_seen}
 use Rattle.case_labels.specs.declared.tests.LabelTest as code
@@ -128,7 +131,7 @@ abbrev pub by_values : Context → Place → List Range → (at : ℕ) → (rang
 by_values c t covered at ranged l = and_then (and_then (ends_in c l) (λ ends. gives (values_in c t ends))) (λ values. covered_by c at ranged covered values)
 
 -- one label, as the definition has it
-label_as : (c : Context) (t : Place) (covered : List Range) (l : Label) → by_values c t covered (label_at l) (is_ranged l) l ≡ label_of c t covered l
+pub label_as : (c : Context) (t : Place) (covered : List Range) (l : Label) → by_values c t covered (label_at l) (is_ranged l) l ≡ label_of c t covered l
 label_as c t covered (one_label e) =
     let k : Option Operand × Option Operand → Gives CaseLabels = λ ends. covered_by c (expr_at e) false covered (values_in c t ends) in
     and_then_assoc (and_then (constant_of c e) (λ x. gives (x, x))) (λ ends. gives (values_in c t ends)) (λ values. covered_by c (expr_at e) false covered values)
@@ -144,21 +147,38 @@ label_as c t covered (range_label low high) =
     ∙ and_then_same (constant_of c high) (λ y. k (x, y)) (λ y. range_taken c (expr_at low) t covered x y)
     (range-taken c (expr_at low) t covered x (constant_of c high).value))
 
--- the same, by the parts that the code looks at
-pub label_by_parts : (c : Context) (t : Place) (covered : List Range) (l : Label) (low : Expr) (high : Option Expr) (at : ℕ) (ranged : Bool) → l ≡ label_with low high → at ≡ expr_at low → ranged ≡ is_some high
-    → by_values c t covered at ranged l ≡ label_of c t covered l
-label_by_parts c t covered l low None at ranged is same_at same_ranged =
-    ap (λ (n : ℕ). by_values c t covered n ranged l) same_at ∙ ap (λ (b : Bool). by_values c t covered (expr_at low) b l) same_ranged
-    ∙ ap (λ (u : Label). by_values c t covered (expr_at low) false u) is ∙ label_as c t covered (one_label low) ∙ sym (ap (label_of c t covered) is)
-label_by_parts c t covered l low (Some high) at ranged is same_at same_ranged =
-    ap (λ (n : ℕ). by_values c t covered n ranged l) same_at ∙ ap (λ (b : Bool). by_values c t covered (expr_at low) b l) same_ranged
-    ∙ ap (λ (u : Label). by_values c t covered (expr_at low) true u) is ∙ label_as c t covered (range_label low high) ∙ sym (ap (label_of c t covered) is)
+-- the first token of a label, by its tree
+with_at : (low : Expr) (high : Option Expr) → expr_at low ≡ label_at (label_with low high)
+with_at low None = refl
+with_at low (Some high) = refl
+
+pub label_at_seen : (l : tree_label.Label) → (tree_label.out-Label l).low.at ≡ label_at (label_view l)
+label_at_seen l =
+    let low = (tree_label.out-Label l).low in
+    let high = (tree_label.out-Label l).high in
+    sym (at_seen low) ∙ with_at (expr_view low) (option_map expr_view high) ∙ ap label_at (sym (label_seen l))
+
+-- and whether it is a range
+with_range : (low : Expr) (high : Option tree.Expr) → is_some high ≡ is_ranged (label_with low (option_map expr_view high))
+with_range low None = refl
+with_range low (Some e) = refl
+
+pub ranged_seen : (l : tree_label.Label) → is_some (tree_label.out-Label l).high ≡ is_ranged (label_view l)
+ranged_seen l =
+    with_range (expr_view (tree_label.out-Label l).low) (tree_label.out-Label l).high ∙ ap is_ranged (sym (label_seen l))
 
 -- ** Label after label
 
 -- labels with one more
 abbrev pub with_label : Context → Place → CaseLabels → Label → Gives CaseLabels
 with_label c t labels l = and_then (label_of c t labels.covered l) (λ one. gives (joined labels one))
+
+-- the same, by what that stands for
+pub label_joined : (c : Context) (t : Place) (before : CaseLabels) (l : Label)
+    → and_then (and_then (ends_in c l) (λ ends. gives (values_in c t ends))) (λ values. and_then (covered_by c (label_at l) (is_ranged l) before.covered values) (λ one. gives (joined before one))) ≡ with_label c t before l
+label_joined c t before l =
+    sym (and_then_assoc (and_then (ends_in c l) (λ ends. gives (values_in c t ends))) (λ values. covered_by c (label_at l) (is_ranged l) before.covered values) (λ one. gives (joined before one)))
+    ∙ ap (λ (g : Gives CaseLabels). and_then g (λ one. gives (joined before one))) (label_as c t before.covered l)
 
 joined_assoc : (a b d : CaseLabels) → joined (joined a b) d ≡ joined a (joined b d)
 joined_assoc a b d =
@@ -244,11 +264,6 @@ asked_values {a} {b} {v} x s asked f is reads told =
 pub test_kept : {given : Option code.LabelTest} (wrong : Bool) (test : code.LabelTest) → given ≡ (if wrong then None else Some test) → option_map test_seen given ≡ (if wrong then None else Some (test_seen test))
 test_kept true test e = ap (λ (o : Option code.LabelTest). option_map test_seen o) e
 test_kept false test e = ap (λ (o : Option code.LabelTest). option_map test_seen o) e
-
--- a label has a second part where its tree has
-pub ranged_seen : (high : Option tree.Expr) → is_some high ≡ is_some (option_map expr_view high)
-ranged_seen None = refl
-ranged_seen (Some e) = refl
 
 -- or isn't known yet
 pub asked_waits : {a b : State} {h : Head} (x : Notes) (s : Site) (asked : Ask LabelValues) (f : Context → LabelValues) → asked ≡ DontKnowYet h → Reads a b → WhereWaiting asked (λ head. Waits a b head)

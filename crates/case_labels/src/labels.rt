@@ -2,13 +2,13 @@
 ghost use Rattle.std.specs.Prelude.{◌≡◌, List, int_le, map, true, IfOk};
 ghost use Rattle.m2_base.specs.States.{State};
 ghost use Rattle.m2_base.specs.Gives.{and_then, gives};
-ghost use Rattle.m2_base.specs.Statics.CaseLabels.{case_labels as spec_labels, cover as spec_cover, joined as spec_joined, label_of, labels_of};
+ghost use Rattle.m2_base.specs.Statics.CaseLabels.{case_labels as spec_labels, cover as spec_cover, joined as spec_joined, labels_of};
 ghost use Rattle.m2_base.specs.Statics.Ranges.{Range, range};
-ghost use Rattle.m2_base.specs.Statics.ReadTrees.{AreReadLabels, IsReadLabel};
+ghost use Rattle.m2_base.specs.Statics.ReadTrees.{AreReadLabels};
 ghost use Rattle.m2_base.specs.Trees.{labels as plain_labels};
 ghost use Rattle.m2_base.specs.Views.{label_view};
 ghost use Rattle.const_eval.specs.Analyses.{Analysed};
-ghost use Rattle.case_labels.specs.Labels.{covered_by, one_seen};
+ghost use Rattle.case_labels.specs.Labels.{covered_by, is_ranged, label_at, one_seen};
 ghost use Rattle.case_labels.specs.Seen.{AreAny, answer_as, known_as, labels_seen, test_seen};
 ghost use Rattle.type_rules.specs.Scenes.{IsThere};
 ghost use Rattle.type_rules.specs.Sites.{SuitsSite};
@@ -35,24 +35,30 @@ struct OneLabel {
     covered: Covered,
 }
 
-/// Covers the values from low to high, of which there are some. Where one is covered already, they are refused.
-fn cover_some(
-    site: &Site,
+/// A label that goes with the type: its first token, its test, and the least and the greatest value that it stands for.
+#[derive(Clone, Copy)]
+struct FittingLabel {
     at: u32,
     test: LabelTest,
     low: i64,
     high: i64,
+}
+
+/// Covers the values of a label, of which there are some. Where one is covered already, they are refused.
+fn cover_some(
+    site: &Site,
+    label: FittingLabel,
     covered: Covered,
     notes: &mut Notes,
 ) -> Result<OneLabel, Memory>
-    requires { int_le low high ≡ true }
-    ensures { (a : State) → Analysed a a notes.old notes.new site.now (known_as one_seen result) AreAny (λ c. spec_cover c at (test_seen test) (range low high) covered) }
+    requires { int_le label.low label.high ≡ true }
+    ensures { (a : State) → Analysed a a notes.old notes.new site.now (known_as one_seen result) AreAny (λ c. spec_cover c label.at (test_seen label.test) (range label.low label.high) covered) }
 {
-    let twice = covered.overlaps(low, high);
-    let more = put!(covered.with(low, high));
-    put!(refuse_if(site, at, twice, notes));
+    let twice = covered.overlaps(label.low, label.high);
+    let more = put!(covered.with(label.low, label.high));
+    put!(refuse_if(site, label.at, twice, notes));
     Ok(OneLabel {
-        test: test_unless(twice, test),
+        test: test_unless(twice, label.test),
         covered: more,
     })
 }
@@ -64,38 +70,34 @@ fn has_values(low: i64, high: i64) -> bool
     low <= high
 }
 
-/// Covers the values from low to high, if there are any.
+/// Covers the values of a label, if there are any.
 fn cover_range(
     site: &Site,
-    at: u32,
-    test: LabelTest,
-    low: i64,
-    high: i64,
+    label: FittingLabel,
     covered: Covered,
     notes: &mut Notes,
 ) -> Result<OneLabel, Memory>
-    ensures { (a : State) → Analysed a a notes.old notes.new site.now (known_as one_seen result) AreAny (λ c. spec_cover c at (test_seen test) (range low high) covered) }
+    ensures { (a : State) → Analysed a a notes.old notes.new site.now (known_as one_seen result) AreAny (λ c. spec_cover c label.at (test_seen label.test) (range label.low label.high) covered) }
 {
-    if has_values(low, high) {
-        cover_some(site, at, test, low, high, covered, notes)
+    if has_values(label.low, label.high) {
+        cover_some(site, label, covered, notes)
     } else {
         Ok(OneLabel {
-            test: Some(test),
+            test: Some(label.test),
             covered,
         })
     }
 }
 
-/// Covers what a label stands for that is a range or not.
+/// Covers what a label stands for.
 fn cover(
     site: &Site,
-    at: u32,
-    ranged: bool,
+    label: &Label,
     values: LabelValues,
     covered: Covered,
     notes: &mut Notes,
 ) -> Result<OneLabel, Memory>
-    ensures { (a : State) → Analysed a a notes.old notes.new site.now (known_as one_seen result) AreAny (λ c. covered_by c at ranged covered values) }
+    ensures { (a : State) → Analysed a a notes.old notes.new site.now (known_as one_seen result) AreAny (λ c. covered_by c (label_at (label_view label.now)) (is_ranged (label_view label.now)) covered values) }
 {
     match values {
         LabelValues::Nothing => Ok(OneLabel {
@@ -103,37 +105,23 @@ fn cover(
             covered,
         }),
         LabelValues::Wrong => {
-            put!(refuse(site, at, notes));
+            put!(refuse(site, label.low.at, notes));
             Ok(OneLabel {
                 test: None,
                 covered,
             })
         }
         LabelValues::Values(low, high) => {
-            let test = test_of(ranged, low, high);
-            cover_range(site, at, test, low, high, covered, notes)
+            let ranged = label.high.is_some();
+            let fitting = FittingLabel {
+                at: label.low.at,
+                test: test_of(ranged, low, high),
+                low,
+                high,
+            };
+            cover_range(site, fitting, covered, notes)
         }
     }
-}
-
-/// One label, where earlier ones cover these values.
-fn label_in<S: Scopes>(
-    scopes: &mut S,
-    site: &Site,
-    of: Place,
-    covered: Covered,
-    label: &Label,
-    notes: &mut Notes,
-) -> Result<Ask<OneLabel>, Memory>
-    requires suits { SuitsSite (S.state scopes.old).frame site.now }
-    requires of { IsThere (S.state scopes.old).frame of }
-    requires read { IsReadLabel site.now.texts.now.names (label_view label.now) }
-    ensures { Analysed (S.state scopes.old) (S.state scopes.new) notes.old notes.new site.now (answer_as one_seen result) AreAny (λ c. label_of c of covered (label_view label.now)) }
-{
-    let values = analysed!(label_values(scopes, site, of, label, notes));
-    let ranged = label.high.is_some();
-    let one = put!(cover(site, label.low.at, ranged, values, covered, notes));
-    Ok(Ask::Known(one))
 }
 
 /// The labels of an arm with one more, by what all cover.
@@ -158,28 +146,24 @@ fn joined(good: bool, tests: Vec<LabelTest>, one: OneLabel) -> Result<CaseLabels
     }
 }
 
-/// The labels of an arm with one more.
-fn with_label<S: Scopes>(
-    scopes: &mut S,
+/// The labels of an arm with one more, by what that stands for.
+fn with_label(
     site: &Site,
-    of: Place,
     labels: CaseLabels,
     label: &Label,
+    values: LabelValues,
     notes: &mut Notes,
-) -> Result<Ask<CaseLabels>, Memory>
-    requires suits { SuitsSite (S.state scopes.old).frame site.now }
-    requires of { IsThere (S.state scopes.old).frame of }
-    requires read { IsReadLabel site.now.texts.now.names (label_view label.now) }
-    ensures { Analysed (S.state scopes.old) (S.state scopes.new) notes.old notes.new site.now (answer_as labels_seen result) AreAny (λ c. and_then (label_of c of labels.covered (label_view label.now)) (λ one. gives (spec_joined (labels_seen labels) one))) }
+) -> Result<CaseLabels, Memory>
+    ensures { (a : State) → Analysed a a notes.old notes.new site.now (known_as labels_seen result) AreAny (λ c. and_then (covered_by c (label_at (label_view label.now)) (is_ranged (label_view label.now)) labels.covered values) (λ one. gives (spec_joined (labels_seen labels) one))) }
 {
     let CaseLabels {
         good,
         tests,
         covered,
     } = labels;
-    let one = analysed!(label_in(scopes, site, of, covered, label, notes));
+    let one = put!(cover(site, label, values, covered, notes));
     let more = put!(joined(good, tests, one));
-    Ok(Ask::Known(more))
+    Ok(more)
 }
 
 /// The labels of one arm, of a CASE or of variants, beside a value of the type `of`, where earlier arms cover
@@ -205,7 +189,8 @@ pub fn case_labels<S: Scopes>(
         covered,
     };
     for label in labels {
-        found = analysed!(with_label(scopes, site, of, found, label, notes));
+        let values = analysed!(label_values(scopes, site, of, label, notes));
+        found = put!(with_label(site, found, label, values, notes));
     }
     Ok(Ask::Known(found))
 }

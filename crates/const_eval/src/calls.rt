@@ -172,39 +172,37 @@ pub(crate) fn value_noted(
     )
 }
 
-/// What ABS, CAP, CHR, ODD or ORD gives of the value `x`, whose first token is `at`, as `abs_of` or one beside it
-/// judges. A fault is noted in the site's text, and then the operand is in error. It waits for the value's type.
+/// What ABS, CAP, CHR, ODD or ORD gives of the value `x`, as `abs_of` or one beside it judges. A fault is noted in the
+/// site's text, and then the operand is in error. It waits for the value's type.
 pub fn of_value_noted<S: Scopes>(
     scopes: &mut S,
     site: &Site,
     function: ValueFunction,
-    at: u32,
-    x: Operand,
+    x: Argument,
     notes: &mut Notes,
 ) -> Result<Ask<Operand>, Memory>
     requires suits { SuitsSite (S.state scopes.old).frame site.now }
-    requires x { IsOperand (S.state scopes.old).frame x }
-    ensures { Analysed (S.state scopes.old) (S.state scopes.new) notes.old notes.new site.now result IsOperand (λ c. spec_of_value c function at x) }
+    requires x { IsOperand (S.state scopes.old).frame x.operand }
+    ensures { Analysed (S.state scopes.old) (S.state scopes.new) notes.old notes.new site.now result IsOperand (λ c. spec_of_value c function x.at x.operand) }
 {
-    let given = of_value(scopes, site, function, at, x);
+    let given = of_value(scopes, site, function, x.at, x.operand);
     note(site.around.text, given, notes)
 }
 
-/// What MIN, MAX or SIZE gives of the argument `x`, whose first token is `at`, as `extreme_of` or `size_value` judges
-/// it. A fault is noted in the site's text, and then the operand is in error. It waits for the argument's type.
+/// What MIN, MAX or SIZE gives of the argument `x`, as `extreme_of` or `size_value` judges it. A fault is noted in
+/// the site's text, and then the operand is in error. It waits for the argument's type.
 pub fn of_type_noted<S: Scopes>(
     scopes: &mut S,
     site: &Site,
     function: TypeFunction,
-    at: u32,
-    x: Operand,
+    x: Argument,
     notes: &mut Notes,
 ) -> Result<Ask<Operand>, Memory>
     requires suits { SuitsSite (S.state scopes.old).frame site.now }
-    requires x { IsOperand (S.state scopes.old).frame x }
-    ensures { Analysed (S.state scopes.old) (S.state scopes.new) notes.old notes.new site.now result IsOperand (λ c. spec_of_type c function at x) }
+    requires x { IsOperand (S.state scopes.old).frame x.operand }
+    ensures { Analysed (S.state scopes.old) (S.state scopes.new) notes.old notes.new site.now result IsOperand (λ c. spec_of_type c function x.at x.operand) }
 {
-    let given = of_type(scopes, site, function, at, x);
+    let given = of_type(scopes, site, function, x.at, x.operand);
     note(site.around.text, given, notes)
 }
 
@@ -220,8 +218,12 @@ fn call_of_value<S: Scopes>(
     requires arg { IsOperand (S.state scopes.old).frame arg.operand }
     ensures { Analysed (S.state scopes.old) (S.state scopes.new) notes.old notes.new site.now result IsOperand (λ c. and_then (spec_value_wanted c arg.at arg.operand) (spec_of_value c function arg.at)) }
 {
-    let x = analysed!(value_noted(site, arg.at, arg.operand, notes));
-    of_value_noted(scopes, site, function, arg.at, x, notes)
+    let operand = analysed!(value_noted(site, arg.at, arg.operand, notes));
+    let x = Argument {
+        at: arg.at,
+        operand,
+    };
+    of_value_noted(scopes, site, function, x, notes)
 }
 
 /// The ordinal type that an argument is; what is refused is noted.
@@ -243,37 +245,35 @@ fn ordinal_type_noted<S: Scopes>(
 fn val_noted<S: Scopes>(
     scopes: &mut S,
     site: &Site,
-    at: u32,
     of: Place,
-    x: Operand,
+    x: Argument,
     notes: &mut Notes,
 ) -> Result<Ask<Operand>, Memory>
     requires suits { SuitsSite (S.state scopes.old).frame site.now }
     requires of { IsThere (S.state scopes.old).frame of }
-    requires x { IsOperand (S.state scopes.old).frame x }
-    ensures { Analysed (S.state scopes.old) (S.state scopes.new) notes.old notes.new site.now result IsOperand (λ c. and_then (spec_ordinal_argument c at x) (λ v. spec_val_as c at of v)) }
+    requires x { IsOperand (S.state scopes.old).frame x.operand }
+    ensures { Analysed (S.state scopes.old) (S.state scopes.new) notes.old notes.new site.now result IsOperand (λ c. and_then (spec_ordinal_argument c x.at x.operand) (λ v. spec_val_as c x.at of v)) }
 {
-    let given = val_of(scopes, site, at, of, x);
+    let given = val_of(scopes, site, x.at, of, x.operand);
     note(site.around.text, given, notes)
 }
 
-/// VAL(T, x): `of` is what is written for T, which must be an ordinal type, and `x`, whose first token is `at`, has
-/// passed `value_wanted`. A fault of T, and then one that `val_of` finds, is noted. It waits for both types.
+/// VAL(T, x): `of` is what is written for T, which must be an ordinal type, and `x` has passed
+/// `value_wanted`. A fault of T, and then one that `val_of` finds, is noted. It waits for both types.
 pub fn val_of_operand<S: Scopes>(
     scopes: &mut S,
     site: &Site,
     of: Argument,
-    at: u32,
-    x: Operand,
+    x: Argument,
     notes: &mut Notes,
 ) -> Result<Ask<Operand>, Memory>
     requires suits { SuitsSite (S.state scopes.old).frame site.now }
     requires of { IsOperand (S.state scopes.old).frame of.operand }
-    requires x { IsOperand (S.state scopes.old).frame x }
-    ensures { Analysed (S.state scopes.old) (S.state scopes.new) notes.old notes.new site.now result IsOperand (λ c. spec_val c of.at of.operand at x) }
+    requires x { IsOperand (S.state scopes.old).frame x.operand }
+    ensures { Analysed (S.state scopes.old) (S.state scopes.new) notes.old notes.new site.now result IsOperand (λ c. spec_val c of.at of.operand x.at x.operand) }
 {
     let place = analysed!(ordinal_type_noted(scopes, site, of, notes));
-    val_noted(scopes, site, at, place, x, notes)
+    val_noted(scopes, site, place, x, notes)
 }
 
 /// VAL, of a type and a value.
@@ -289,8 +289,12 @@ fn call_of_type_and_value<S: Scopes>(
     requires arg { IsOperand (S.state scopes.old).frame arg.operand }
     ensures { Analysed (S.state scopes.old) (S.state scopes.new) notes.old notes.new site.now result IsOperand (λ c. and_then (spec_value_wanted c arg.at arg.operand) (spec_val c of.at of.operand arg.at)) }
 {
-    let x = analysed!(value_noted(site, arg.at, arg.operand, notes));
-    val_of_operand(scopes, site, of, arg.at, x, notes)
+    let operand = analysed!(value_noted(site, arg.at, arg.operand, notes));
+    let x = Argument {
+        at: arg.at,
+        operand,
+    };
+    val_of_operand(scopes, site, of, x, notes)
 }
 
 /// A fault at a token is noted, and the operand is in error.
@@ -305,67 +309,44 @@ pub(crate) fn fault_noted(
     note(site.around.text, Ask::Known(Err(Fault { at, kind })), notes)
 }
 
-/// A call of a standard procedure.
-fn builtin_call<S: Scopes>(
-    scopes: &mut S,
-    site: &Site,
-    at: u32,
-    args: Arguments,
-    call: Call,
-    notes: &mut Notes,
-) -> Result<Ask<Operand>, Memory>
-    requires suits { SuitsSite (S.state scopes.old).frame site.now }
-    requires call { IsCall (S.state scopes.old).frame call }
-    ensures { Analysed (S.state scopes.old) (S.state scopes.new) notes.old notes.new site.now result IsOperand (λ c. called c at args.spoilt call) }
-{
-    match call {
-        Call::OfValue(function, arg) => call_of_value(scopes, site, function, arg, notes),
-        Call::OfType(function, arg) => {
-            of_type_noted(scopes, site, function, arg.at, arg.operand, notes)
-        }
-        Call::OfTypeAndValue(of, arg) => call_of_type_and_value(scopes, site, of, arg, notes),
-        Call::OfNone => Ok(Ask::Known(args.no_constant())),
-        Call::WrongCount => fault_noted(site, at, Diagnostic::WrongCount, notes),
-    }
-}
-
 /// A call by its operand and its arguments; of anything but a standard function it is no constant.
 pub(crate) fn call_with<S: Scopes>(
     scopes: &mut S,
     site: &Site,
-    at: u32,
-    to: Operand,
+    to: Argument,
     args: Arguments,
     notes: &mut Notes,
 ) -> Result<Ask<Operand>, Memory>
     requires suits { SuitsSite (S.state scopes.old).frame site.now }
     requires args { AreArguments (S.state scopes.old).frame args }
-    ensures { Analysed (S.state scopes.old) (S.state scopes.new) notes.old notes.new site.now result IsOperand (λ c. spec_call_with c at to args) }
+    ensures { Analysed (S.state scopes.old) (S.state scopes.new) notes.old notes.new site.now result IsOperand (λ c. spec_call_with c to.at to.operand args) }
 {
-    match to {
-        Operand::StandardProcedure(name) => {
-            let call = call_kind(standard_procedure(name), args.shape);
-            builtin_call(scopes, site, at, args, call, notes)
-        }
-        Operand::ModuleName(_) => fault_noted(site, at, Diagnostic::NotAVariable, notes),
+    match to.operand {
+        Operand::StandardProcedure(name) => match call_kind(standard_procedure(name), args.shape) {
+            Call::OfValue(function, arg) => call_of_value(scopes, site, function, arg, notes),
+            Call::OfType(function, arg) => of_type_noted(scopes, site, function, arg, notes),
+            Call::OfTypeAndValue(of, arg) => call_of_type_and_value(scopes, site, of, arg, notes),
+            Call::OfNone => Ok(Ask::Known(args.no_constant())),
+            Call::WrongCount => fault_noted(site, to.at, Diagnostic::WrongCount, notes),
+        },
+        Operand::ModuleName(_) => fault_noted(site, to.at, Diagnostic::NotAVariable, notes),
         Operand::InError => Ok(Ask::Known(Operand::InError)),
         _ => Ok(Ask::Known(args.no_constant())),
     }
 }
 
-/// A call, in a constant, of the operand `to`, whose first token is `at`: what a standard function gives of `args`, a
-/// fault noted; any other is no constant, or in error where an argument is. It waits for the arguments' types.
+/// A call, in a constant, of the operand `to`: what a standard function gives of `args`, a fault noted; any other is
+/// no constant, or in error where an argument is. It waits for the arguments' types.
 pub fn call_of<S: Scopes>(
     scopes: &mut S,
     site: &Site,
-    at: u32,
-    to: Operand,
+    to: Argument,
     args: Arguments,
     notes: &mut Notes,
 ) -> Result<Ask<Operand>, Memory>
     requires suits { SuitsSite (S.state scopes.old).frame site.now }
     requires args { AreArguments (S.state scopes.old).frame args }
-    ensures { (list : List Argument) → IsSummary args list → Analysed (S.state scopes.old) (S.state scopes.new) notes.old notes.new site.now result IsOperand (λ c. spec_call c at to (map argument list)) }
+    ensures { (list : List Argument) → IsSummary args list → Analysed (S.state scopes.old) (S.state scopes.new) notes.old notes.new site.now result IsOperand (λ c. spec_call c to.at to.operand (map argument list)) }
 {
-    call_with(scopes, site, at, to, args, notes)
+    call_with(scopes, site, to, args, notes)
 }

@@ -15,7 +15,7 @@ ghost use Rattle.type_rules.specs.Sites.{SuitsSite};
 use crate::arguments::Arguments;
 use crate::calls::{call_with, value_noted};
 use crate::names::name_operand;
-use crate::operands::Argument;
+use crate::operands::{Argument, BasedSet, PlacedOperator};
 use crate::set_bits::with_elements;
 use crate::steps::{
     applied_one, field_operand, operated, picked, set_start, set_type, string_constant, taken,
@@ -53,15 +53,24 @@ fn operand_in<S: Scopes>(
         ExprForm::Name(name) => designator_in(scopes, site, name, notes),
         ExprForm::Call { to, args } => {
             let operand = analysed!(designator_in(scopes, site, to, notes));
-            called_in(scopes, site, to.first.at, operand, args, notes)
+            let called = Argument {
+                at: to.first.at,
+                operand,
+            };
+            called_in(scopes, site, called, args, notes)
         }
         ExprForm::One { op, op_at, of } => {
             let x = analysed!(value_in(scopes, site, of, notes));
-            applied_one(scopes, site, *op, *op_at, x, notes)
+            let operator = PlacedOperator {
+                at: *op_at,
+                operator: *op,
+            };
+            applied_one(scopes, site, operator, x, notes)
         }
         ExprForm::Many { first, rest } => {
-            let x = analysed!(value_in(scopes, site, first, notes));
-            nexts_in(scopes, site, e.at, x, rest, notes)
+            let operand = analysed!(value_in(scopes, site, first, notes));
+            let left = Argument { at: e.at, operand };
+            nexts_in(scopes, site, left, rest, notes)
         }
     }
 }
@@ -87,21 +96,21 @@ pub fn value_in<S: Scopes>(
 fn nexts_in<S: Scopes>(
     scopes: &mut S,
     site: &Site,
-    at: u32,
-    first: Operand,
+    first: Argument,
     rest: &[Next],
     notes: &mut Notes,
 ) -> Result<Ask<Operand>, Memory>
     requires suits { SuitsSite (S.state scopes.old).frame site.now }
-    requires first { IsOperand (S.state scopes.old).frame first }
+    requires first { IsOperand (S.state scopes.old).frame first.operand }
     requires read { AreReadNexts site.now.texts.now.names (nexts (map next_view rest.now)) }
-    ensures { Analysed (S.state scopes.old) (S.state scopes.new) notes.old notes.new site.now result IsOperand (λ c. spec_many c at first (nexts (map next_view rest.now))) }
+    ensures { Analysed (S.state scopes.old) (S.state scopes.new) notes.old notes.new site.now result IsOperand (λ c. spec_many c first.at first.operand (nexts (map next_view rest.now))) }
 {
-    let mut x = first;
+    let at = first.at;
+    let mut operand = first.operand;
     for next in rest.iter() {
-        x = analysed!(next_in(scopes, site, at, x, next, notes));
+        operand = analysed!(next_in(scopes, site, Argument { at, operand }, next, notes));
     }
-    Ok(Ask::Known(x))
+    Ok(Ask::Known(operand))
 }
 
 /// An operator and the operand behind it, after the operand before it.
@@ -109,23 +118,25 @@ fn nexts_in<S: Scopes>(
 fn next_in<S: Scopes>(
     scopes: &mut S,
     site: &Site,
-    at: u32,
-    x: Operand,
+    left: Argument,
     next: &Next,
     notes: &mut Notes,
 ) -> Result<Ask<Operand>, Memory>
     requires suits { SuitsSite (S.state scopes.old).frame site.now }
-    requires x { IsOperand (S.state scopes.old).frame x }
+    requires left { IsOperand (S.state scopes.old).frame left.operand }
     requires read { IsReadNext site.now.texts.now.names (next_view next.now) }
-    ensures { Analysed (S.state scopes.old) (S.state scopes.new) notes.old notes.new site.now result IsOperand (λ c. spec_next c at x (next_view next.now)) }
+    ensures { Analysed (S.state scopes.old) (S.state scopes.new) notes.old notes.new site.now result IsOperand (λ c. spec_next c left.at left.operand (next_view next.now)) }
 {
     let operand = analysed!(value_in(scopes, site, &next.right, notes));
-    let left = Argument { at, operand: x };
     let right = Argument {
         at: next.right.at,
         operand,
     };
-    operated(scopes, site, next.op, next.op_at, left, right, notes)
+    let operator = PlacedOperator {
+        at: next.op_at,
+        operator: next.op,
+    };
+    operated(scopes, site, operator, (left, right), notes)
 }
 
 /// A set of this type with these elements.
@@ -142,11 +153,11 @@ fn set_in<S: Scopes>(
     requires read { AreReadLabels site.now.texts.now.names (labels (map label_view items.now)) }
     ensures { Analysed (S.state scopes.old) (S.state scopes.new) notes.old notes.new site.now result IsOperand (λ c. spec_elements c (spec_base c of) (spec_none c of) (labels (map label_view items.now))) }
 {
-    let (base, bits) = match set_start(scopes, site, of) {
-        Ask::Known(start) => start,
+    let empty = match set_start(scopes, site, of) {
+        Ask::Known(empty) => empty,
         Ask::DontKnowYet(head) => return Ok(Ask::DontKnowYet(head)),
     };
-    elements_in(scopes, site, base, bits, items, notes)
+    elements_in(scopes, site, empty, items, notes)
 }
 
 /// The type before the brackets of a set.
@@ -170,20 +181,20 @@ fn set_type_in<S: Scopes>(
 fn elements_in<S: Scopes>(
     scopes: &mut S,
     site: &Site,
-    base: Place,
-    bits: Operand,
+    of: BasedSet,
     items: &[Label],
     notes: &mut Notes,
 ) -> Result<Ask<Operand>, Memory>
     requires suits { SuitsSite (S.state scopes.old).frame site.now }
-    requires base { IsThere (S.state scopes.old).frame base }
-    requires bits { IsOperand (S.state scopes.old).frame bits }
+    requires base { IsThere (S.state scopes.old).frame of.base }
+    requires set { IsOperand (S.state scopes.old).frame of.set }
     requires read { AreReadLabels site.now.texts.now.names (labels (map label_view items.now)) }
-    ensures { Analysed (S.state scopes.old) (S.state scopes.new) notes.old notes.new site.now result IsOperand (λ c. spec_elements c base bits (labels (map label_view items.now))) }
+    ensures { Analysed (S.state scopes.old) (S.state scopes.new) notes.old notes.new site.now result IsOperand (λ c. spec_elements c of.base of.set (labels (map label_view items.now))) }
 {
-    let mut set = bits;
+    let base = of.base;
+    let mut set = of.set;
     for label in items.iter() {
-        set = analysed!(element_in(scopes, site, base, set, label, notes));
+        set = analysed!(element_in(scopes, site, BasedSet { base, set }, label, notes));
     }
     Ok(Ask::Known(set))
 }
@@ -193,43 +204,24 @@ fn elements_in<S: Scopes>(
 fn element_in<S: Scopes>(
     scopes: &mut S,
     site: &Site,
-    base: Place,
-    bits: Operand,
+    of: BasedSet,
     label: &Label,
     notes: &mut Notes,
 ) -> Result<Ask<Operand>, Memory>
     requires suits { SuitsSite (S.state scopes.old).frame site.now }
-    requires base { IsThere (S.state scopes.old).frame base }
-    requires bits { IsOperand (S.state scopes.old).frame bits }
+    requires base { IsThere (S.state scopes.old).frame of.base }
+    requires set { IsOperand (S.state scopes.old).frame of.set }
     requires read { IsReadLabel site.now.texts.now.names (label_view label.now) }
-    ensures { Analysed (S.state scopes.old) (S.state scopes.new) notes.old notes.new site.now result IsOperand (λ c. spec_element c base bits (label_view label.now)) }
+    ensures { Analysed (S.state scopes.old) (S.state scopes.new) notes.old notes.new site.now result IsOperand (λ c. spec_element c of.base of.set (label_view label.now)) }
 {
-    let low = analysed!(member_in(scopes, site, base, &label.low, notes));
+    let low = analysed!(member_in(scopes, site, of.base, &label.low, notes));
     match &label.high {
-        None => Ok(Ask::Known(with_elements(bits, low, low))),
-        Some(high) => range_in(scopes, site, base, bits, low, high, notes),
+        None => Ok(Ask::Known(with_elements(of.set, low, low))),
+        Some(high) => {
+            let high = analysed!(member_in(scopes, site, of.base, high, notes));
+            Ok(Ask::Known(with_elements(of.set, low, high)))
+        }
     }
-}
-
-/// A set with the elements from a low one to this.
-#[cycle(expressions)]
-fn range_in<S: Scopes>(
-    scopes: &mut S,
-    site: &Site,
-    base: Place,
-    bits: Operand,
-    low: Operand,
-    high: &Expr,
-    notes: &mut Notes,
-) -> Result<Ask<Operand>, Memory>
-    requires suits { SuitsSite (S.state scopes.old).frame site.now }
-    requires base { IsThere (S.state scopes.old).frame base }
-    requires bits { IsOperand (S.state scopes.old).frame bits }
-    requires read { IsReadExpr site.now.texts.now.names (expr_view high.now) }
-    ensures { Analysed (S.state scopes.old) (S.state scopes.new) notes.old notes.new site.now result IsOperand (λ c. and_then (spec_member c base (expr_view high.now)) (λ y. gives (spec_with_elements bits low y))) }
-{
-    let high = analysed!(member_in(scopes, site, base, high, notes));
-    Ok(Ask::Known(with_elements(bits, low, high)))
 }
 
 /// An expression as it is taken into a set.
@@ -246,8 +238,8 @@ fn member_in<S: Scopes>(
     requires read { IsReadExpr site.now.texts.now.names (expr_view e.now) }
     ensures { Analysed (S.state scopes.old) (S.state scopes.new) notes.old notes.new site.now result IsOperand (λ c. spec_member c base (expr_view e.now)) }
 {
-    let x = analysed!(value_in(scopes, site, e, notes));
-    taken(scopes, site, base, e.at, x, notes)
+    let operand = analysed!(value_in(scopes, site, e, notes));
+    taken(scopes, site, base, Argument { at: e.at, operand }, notes)
 }
 
 /// What a designator stands for.
@@ -263,7 +255,11 @@ fn designator_in<S: Scopes>(
     ensures { Analysed (S.state scopes.old) (S.state scopes.new) notes.old notes.new site.now result IsOperand (λ c. spec_designator c (designator_view of.now)) }
 {
     let operand = analysed!(name_operand(scopes, site, None, of.first, notes));
-    selectors_in(scopes, site, of.first.at, operand, &of.rest, notes)
+    let first = Argument {
+        at: of.first.at,
+        operand,
+    };
+    selectors_in(scopes, site, first, &of.rest, notes)
 }
 
 /// What the selectors select, one after another.
@@ -271,19 +267,19 @@ fn designator_in<S: Scopes>(
 fn selectors_in<S: Scopes>(
     scopes: &mut S,
     site: &Site,
-    at: u32,
-    of: Operand,
+    of: Argument,
     rest: &[Selector],
     notes: &mut Notes,
 ) -> Result<Ask<Operand>, Memory>
     requires suits { SuitsSite (S.state scopes.old).frame site.now }
-    requires of { IsOperand (S.state scopes.old).frame of }
+    requires of { IsOperand (S.state scopes.old).frame of.operand }
     requires read { AreReadSelectors site.now.texts.now.names (selectors (map selector_view rest.now)) }
-    ensures { Analysed (S.state scopes.old) (S.state scopes.new) notes.old notes.new site.now result IsOperand (λ c. spec_selectors c at of (selectors (map selector_view rest.now))) }
+    ensures { Analysed (S.state scopes.old) (S.state scopes.new) notes.old notes.new site.now result IsOperand (λ c. spec_selectors c of.at of.operand (selectors (map selector_view rest.now))) }
 {
-    let mut operand = of;
+    let at = of.at;
+    let mut operand = of.operand;
     for selector in rest.iter() {
-        operand = analysed!(selector_in(scopes, site, at, operand, selector, notes));
+        operand = analysed!(selector_in(scopes, site, Argument { at, operand }, selector, notes));
     }
     Ok(Ask::Known(operand))
 }
@@ -293,20 +289,19 @@ fn selectors_in<S: Scopes>(
 fn selector_in<S: Scopes>(
     scopes: &mut S,
     site: &Site,
-    at: u32,
-    operand: Operand,
+    of: Argument,
     selector: &Selector,
     notes: &mut Notes,
 ) -> Result<Ask<Operand>, Memory>
     requires suits { SuitsSite (S.state scopes.old).frame site.now }
-    requires operand { IsOperand (S.state scopes.old).frame operand }
+    requires of { IsOperand (S.state scopes.old).frame of.operand }
     requires read { IsReadSelector site.now.texts.now.names (selector_view selector.now) }
-    ensures { Analysed (S.state scopes.old) (S.state scopes.new) notes.old notes.new site.now result IsOperand (λ c. spec_selector c at operand (selector_view selector.now)) }
+    ensures { Analysed (S.state scopes.old) (S.state scopes.new) notes.old notes.new site.now result IsOperand (λ c. spec_selector c of.at of.operand (selector_view selector.now)) }
 {
     match selector {
-        Selector::Field(ident, _) => field_operand(scopes, site, at, operand, *ident, notes),
-        Selector::Index(es, _) => indices_in(scopes, site, at, operand, es, notes),
-        Selector::Deref(_) => picked(site, at, operand, notes),
+        Selector::Field(ident, _) => field_operand(scopes, site, of, *ident, notes),
+        Selector::Index(es, _) => indices_in(scopes, site, of, es, notes),
+        Selector::Deref(_) => picked(site, of.at, of.operand, notes),
     }
 }
 
@@ -315,19 +310,19 @@ fn selector_in<S: Scopes>(
 fn indices_in<S: Scopes>(
     scopes: &mut S,
     site: &Site,
-    at: u32,
-    of: Operand,
+    of: Argument,
     es: &[Expr],
     notes: &mut Notes,
 ) -> Result<Ask<Operand>, Memory>
     requires suits { SuitsSite (S.state scopes.old).frame site.now }
-    requires of { IsOperand (S.state scopes.old).frame of }
+    requires of { IsOperand (S.state scopes.old).frame of.operand }
     requires read { AreReadExprs site.now.texts.now.names (exprs (map expr_view es.now)) }
-    ensures { Analysed (S.state scopes.old) (S.state scopes.new) notes.old notes.new site.now result IsOperand (λ c. spec_indices c at of (exprs (map expr_view es.now))) }
+    ensures { Analysed (S.state scopes.old) (S.state scopes.new) notes.old notes.new site.now result IsOperand (λ c. spec_indices c of.at of.operand (exprs (map expr_view es.now))) }
 {
-    let mut operand = of;
+    let at = of.at;
+    let mut operand = of.operand;
     for e in es.iter() {
-        operand = analysed!(index_in(scopes, site, at, operand, e, notes));
+        operand = analysed!(index_in(scopes, site, Argument { at, operand }, e, notes));
     }
     Ok(Ask::Known(operand))
 }
@@ -337,17 +332,16 @@ fn indices_in<S: Scopes>(
 fn index_in<S: Scopes>(
     scopes: &mut S,
     site: &Site,
-    at: u32,
-    operand: Operand,
+    of: Argument,
     e: &Expr,
     notes: &mut Notes,
 ) -> Result<Ask<Operand>, Memory>
     requires suits { SuitsSite (S.state scopes.old).frame site.now }
     requires read { IsReadExpr site.now.texts.now.names (expr_view e.now) }
-    ensures { Analysed (S.state scopes.old) (S.state scopes.new) notes.old notes.new site.now result IsOperand (λ c. spec_index c at operand (expr_view e.now)) }
+    ensures { Analysed (S.state scopes.old) (S.state scopes.new) notes.old notes.new site.now result IsOperand (λ c. spec_index c of.at of.operand (expr_view e.now)) }
 {
     let index = analysed!(value_in(scopes, site, e, notes));
-    with_index(site, at, operand, index, notes)
+    with_index(site, of.at, of.operand, index, notes)
 }
 
 /// The arguments of a call, summed up.
@@ -375,16 +369,15 @@ fn arguments_in<S: Scopes>(
 fn called_in<S: Scopes>(
     scopes: &mut S,
     site: &Site,
-    at: u32,
-    to: Operand,
+    to: Argument,
     es: &[Expr],
     notes: &mut Notes,
 ) -> Result<Ask<Operand>, Memory>
     requires suits { SuitsSite (S.state scopes.old).frame site.now }
-    requires to { IsOperand (S.state scopes.old).frame to }
+    requires to { IsOperand (S.state scopes.old).frame to.operand }
     requires read { AreReadExprs site.now.texts.now.names (exprs (map expr_view es.now)) }
-    ensures { Analysed (S.state scopes.old) (S.state scopes.new) notes.old notes.new site.now result IsOperand (λ c. spec_called c at to (exprs (map expr_view es.now))) }
+    ensures { Analysed (S.state scopes.old) (S.state scopes.new) notes.old notes.new site.now result IsOperand (λ c. spec_called c to.at to.operand (exprs (map expr_view es.now))) }
 {
     let args = analysed!(arguments_in(scopes, site, es, notes));
-    call_with(scopes, site, at, to, args, notes)
+    call_with(scopes, site, to, args, notes)
 }

@@ -79,7 +79,7 @@ pub use functions::{
 pub use laws::{diagnostics_leave_nothing, missing_constants_have_a_cause};
 pub use names::{is_in_error, name_operand, operand_of};
 pub use noting::{note, note_type};
-pub use operands::{Argument, char_or_same, constant_value, is_bad};
+pub use operands::{Argument, PlacedOperator, char_or_same, constant_value, is_bad};
 pub use operators::{apply_one, operate};
 pub use pairs::{compatible_pair, is_ordinal, is_within};
 pub use set_bits::with_elements;

@@ -19,7 +19,7 @@ ghost use Rattle.type_rules.specs.Sites.{SuitsSite, context_of};
 
 use crate::faults::Fault;
 use crate::numbers::member_of_set;
-use crate::operands::Argument;
+use crate::operands::{Argument, BasedSet};
 use crate::pairs::{as_number, is_ordinal, taken_beside};
 use crate::structures::set_row;
 use m2_base::{Ask, Diagnostic, Operand, Place, Scopes, Site};
@@ -88,25 +88,24 @@ fn membership_in<S: Scopes>(
     site: &Site,
     operator_at: u32,
     x: Argument,
-    y: Operand,
-    base: Place,
+    of: BasedSet,
 ) -> Ask<Result<Operand, Fault>>
     requires suits { SuitsSite (S.state scopes.old).frame site.now }
     requires x { IsOperand (S.state scopes.old).frame x.operand }
-    requires base { IsThere (S.state scopes.old).frame base }
+    requires base { IsThere (S.state scopes.old).frame of.base }
     ensures reads { Reads (S.state scopes.old) (S.state scopes.new) }
     ensures waits { WhereWaiting result (λ head. Waits (S.state scopes.old) (S.state scopes.new) head) }
     ensures told { WhereTold (S.state scopes.old).frame (λ made.
-        WhereKnown result (λ given. let c = context_of (S.state scopes.old).frame made site.now in judged c given ≡ spec_membership_in c operator_at x.operand x.at y base)) }
+        WhereKnown result (λ given. let c = context_of (S.state scopes.old).frame made site.now in judged c given ≡ spec_membership_in c operator_at x.operand x.at of.set of.base)) }
     ensures there { WhereKnown result (λ given. IfOk given (λ operand. IsOperand (S.state scopes.old).frame operand)) }
 {
-    let (stood, meaning) = known!(stand(scopes, site.around, base));
+    let (stood, meaning) = known!(stand(scopes, site.around, of.base));
     if is_broken_place(stood) {
         return Ask::Known(Ok(Operand::InError));
     }
     let whole = base_by(stood, meaning);
-    match known!(ordinal_element(scopes, site, x.operand, base, whole)) {
-        Some(element) => Ask::Known(member(x.at, whole, element, y)),
+    match known!(ordinal_element(scopes, site, x.operand, of.base, whole)) {
+        Some(element) => Ask::Known(member(x.at, whole, element, of.set)),
         None => Ask::Known(fault!(operator_at, WrongOperands)),
     }
 }
@@ -130,7 +129,13 @@ pub(crate) fn membership<S: Scopes>(
     ensures there { WhereKnown result (λ given. IfOk given (λ operand. IsOperand (S.state scopes.old).frame operand)) }
 {
     match known!(set_row(scopes, site.around, operand_type(&y))) {
-        Some(row) => membership_in(scopes, site, operator_at, x, y, row.1),
+        Some(row) => {
+            let of = BasedSet {
+                base: row.1,
+                set: y,
+            };
+            membership_in(scopes, site, operator_at, x, of)
+        }
         None => Ask::Known(fault!(operator_at, WrongOperands)),
     }
 }

@@ -15,7 +15,7 @@ ghost use Rattle.const_eval.specs.Sites.{IsOperand};
 ghost use Rattle.type_rules.specs.Scenes.{IsThere};
 
 use crate::faults::Fault;
-use crate::operands::{constant_value, is_bad};
+use crate::operands::{PlacedOperator, constant_value, is_bad};
 use m2_base::{
     Diagnostic, FoldKind, GREATEST_CARDINAL, GREATEST_ELEMENT, GREATEST_INTEGER, LEAST_INTEGER,
     Operand, Operator, Place,
@@ -99,64 +99,65 @@ fn folded(at: u32, of: Place, value: Option<i64>) -> Result<Operand, Fault>
 /// The result of two operands of one kind, of this type.
 #[tactic(auto, using(m2_base::proofs::SoundOperands::fold_value))]
 pub(crate) fn combined(
-    at: u32,
+    operator: PlacedOperator,
     kind: FoldKind,
-    operator: Operator,
     of: Place,
     x: Operand,
     y: Operand,
 ) -> Result<Operand, Fault>
-    ensures told { (c : Context) → judged c result ≡ gives_result c at kind operator of x y }
+    ensures told { (c : Context) → judged c result ≡ gives_result c operator.at kind operator.operator of x y }
     ensures there { (f : Frame) → IsThere f of → IfOk result (λ operand. IsOperand f operand) }
 {
     if is_bad(x) || is_bad(y) {
         return Ok(Operand::InError);
     }
     match (constant_value(x), constant_value(y)) {
-        (Some(left), Some(right)) => folded(at, of, fold(kind, operator, left, right)),
+        (Some(left), Some(right)) => folded(
+            operator.at,
+            of,
+            fold(kind, operator.operator, left, right),
+        ),
         _ => Ok(Operand::Computed(of)),
     }
 }
 
 /// The result of two sets of one type.
 pub(crate) fn set_operation(
-    at: u32,
-    operator: Operator,
+    operator: PlacedOperator,
     x: Operand,
     y: Operand,
 ) -> Result<Operand, Fault>
-    ensures told { (c : Context) → judged c result ≡ spec_set_operation c operator at x y }
+    ensures told { (c : Context) → judged c result ≡ spec_set_operation c operator.operator operator.at x y }
     ensures there { (f : Frame) → IsThere f (spec_operand_type x) → IsThere f boolean → IfOk result (λ operand. IsOperand f operand) }
 {
-    if makes_set(operator) {
-        return combined(at, FoldKind::Set, operator, operand_type(&x), x, y);
+    if makes_set(operator.operator) {
+        return combined(operator, FoldKind::Set, operand_type(&x), x, y);
     }
-    if compares_sets(operator) {
-        combined(at, FoldKind::Set, operator, BOOLEAN, x, y)
+    if compares_sets(operator.operator) {
+        combined(operator, FoldKind::Set, BOOLEAN, x, y)
     } else {
-        fault!(at, WrongOperands)
+        fault!(operator.at, WrongOperands)
     }
 }
 
 /// The result of two numbers, of which the left has this base.
 pub(crate) fn number_operation(
-    at: u32,
-    operator: Operator,
+    operator: PlacedOperator,
     base: Place,
     x: Operand,
     y: Operand,
 ) -> Result<Operand, Fault>
-    ensures told { (c : Context) → base ≡ base_type c x → judged c result ≡ spec_number_operation c operator at x y }
+    ensures told { (c : Context) → base ≡ base_type c x → judged c result ≡ spec_number_operation c operator.operator operator.at x y }
     ensures there { (f : Frame) → IsThere f integer → IsThere f cardinal → IsThere f whole → IsThere f boolean → IfOk result (λ operand. IsOperand f operand) }
 {
     let kind = number_kind(base);
-    if is_arithmetic(operator) {
-        return combined(at, kind, operator, number_type(kind), x, y);
+    if is_arithmetic(operator.operator) {
+        return combined(operator, kind, number_type(kind), x, y);
     }
-    if is_relation(operator) {
-        combined(at, kind, operator, BOOLEAN, x, y)
+    if is_relation(operator.operator) {
+        combined(operator, kind, BOOLEAN, x, y)
     } else {
-        fault!(at, WrongOperands)
+        fault!(operator.at, WrongOperands)
     }
 }
 
@@ -189,19 +190,22 @@ fn signed(low: i64, high: i64, operator: Operator, value: i64) -> Option<i64>
 /// A sign on a number of this type, whose values are from low to high.
 #[tactic(auto, using(m2_base::proofs::SoundOperands::where_in_value))]
 fn with_sign(
-    at: u32,
-    operator: Operator,
+    operator: PlacedOperator,
     of: Place,
     low: i64,
     high: i64,
     operand: Operand,
 ) -> Result<Operand, Fault>
     requires { AreValues (range low high) }
-    ensures told { (c : Context) → judged c result ≡ spec_with_sign c operator at of (range low high) operand }
+    ensures told { (c : Context) → judged c result ≡ spec_with_sign c operator.operator operator.at of (range low high) operand }
     ensures there { (f : Frame) → IsThere f of → IfOk result (λ operand. IsOperand f operand) }
 {
     match operand {
-        Operand::Constant(_, value) => folded(at, of, signed(low, high, operator, value)),
+        Operand::Constant(_, value) => folded(
+            operator.at,
+            of,
+            signed(low, high, operator.operator, value),
+        ),
         _ => Ok(Operand::Computed(of)),
     }
 }
@@ -209,34 +213,25 @@ fn with_sign(
 /// An operator before one operand of this base.
 #[tactic(auto, using(m2_base::proofs::SoundOperands::integer_values, m2_base::proofs::SoundOperands::whole_values))]
 pub(crate) fn applied(
-    at: u32,
-    operator: Operator,
+    operator: PlacedOperator,
     base: Place,
     operand: Operand,
 ) -> Result<Operand, Fault>
-    ensures told { (c : Context) → base ≡ base_type c operand → judged c result ≡ apply_one_by c operator at operand }
+    ensures told { (c : Context) → base ≡ base_type c operand → judged c result ≡ apply_one_by c operator.operator operator.at operand }
     ensures there { (f : Frame) → IsThere f integer → IsThere f whole → IsThere f boolean → IfOk result (λ operand. IsOperand f operand) }
 {
-    match operator {
+    match operator.operator {
         Operator::Not if base == BOOLEAN => Ok(negated(operand)),
-        Operator::Not => fault!(at, WrongOperands),
+        Operator::Not => fault!(operator.at, WrongOperands),
         _ if base == INTEGER => with_sign(
-            at,
             operator,
             INTEGER,
             LEAST_INTEGER,
             GREATEST_INTEGER,
             operand,
         ),
-        _ if base == WHOLE => with_sign(
-            at,
-            operator,
-            WHOLE,
-            LEAST_INTEGER,
-            GREATEST_CARDINAL,
-            operand,
-        ),
-        _ => fault!(at, WrongOperands),
+        _ if base == WHOLE => with_sign(operator, WHOLE, LEAST_INTEGER, GREATEST_CARDINAL, operand),
+        _ => fault!(operator.at, WrongOperands),
     }
 }
 

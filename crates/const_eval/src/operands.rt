@@ -8,7 +8,7 @@ ghost use Rattle.m2_base.specs.States.{Frame};
 ghost use Rattle.const_eval.specs.Sites.{IsNamed, IsOperand};
 ghost use Rattle.type_rules.specs.Scenes.{IsThere};
 
-use m2_base::{Names, Operand};
+use m2_base::{Names, Operand, Operator, Place};
 use type_rules::{CHARACTER, is_one_char};
 
 /// An operand, and its first token.
@@ -16,6 +16,20 @@ use type_rules::{CHARACTER, is_one_char};
 pub struct Argument {
     pub at: u32,
     pub operand: Operand,
+}
+
+/// An operator, and its token.
+#[derive(Clone, Copy)]
+pub struct PlacedOperator {
+    pub at: u32,
+    pub operator: Operator,
+}
+
+/// A set, and the base of its type.
+#[derive(Clone, Copy)]
+pub(crate) struct BasedSet {
+    pub base: Place,
+    pub set: Operand,
 }
 
 /// Whether an operand takes part in no further check: it is in error, or in a constant expression no constant.

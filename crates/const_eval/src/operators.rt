@@ -27,7 +27,7 @@ use crate::membership::membership;
 use crate::numbers::{
     applied, combined, is_arithmetic, is_equality, number_operation, set_operation,
 };
-use crate::operands::{Argument, is_bad, is_procedure, worse};
+use crate::operands::{Argument, PlacedOperator, is_bad, is_procedure, worse};
 use crate::pairs::{as_number, base_beside, number_base, taken_beside};
 use crate::structures::{are_alike, set_by};
 use m2_base::{
@@ -80,14 +80,13 @@ fn takes_scalars(operator: Operator, ordinal: bool, pointer: bool) -> bool
     is_relation(operator) && ordinal || is_equality(operator) && pointer
 }
 
-/// Judges NOT or a sign, at the token `operator_at`, before an operand: NOT takes a BOOLEAN, a sign an INTEGER or a
-/// whole constant. Any other type is a fault there, and so is a value out of range. It waits for the operand's type.
+/// Judges NOT or a sign before an operand: NOT takes a BOOLEAN, a sign an INTEGER or a whole constant. Any other type
+/// is a fault at the operator's token, and so is a value out of range. It waits for the operand's type.
 #[tactic(auto, using(type_rules::proofs::Reading::reading, crate::proofs::TypesThere::there))]
 pub fn apply_one<S: Scopes>(
     scopes: &mut S,
     site: &Site,
-    operator: Operator,
-    operator_at: u32,
+    operator: PlacedOperator,
     operand: Operand,
 ) -> Ask<Result<Operand, Fault>>
     requires suits { SuitsSite (S.state scopes.old).frame site.now }
@@ -95,14 +94,14 @@ pub fn apply_one<S: Scopes>(
     ensures reads { Reads (S.state scopes.old) (S.state scopes.new) }
     ensures waits { WhereWaiting result (λ head. Waits (S.state scopes.old) (S.state scopes.new) head) }
     ensures told { WhereTold (S.state scopes.old).frame (λ made.
-        WhereKnown result (λ given. let c = context_of (S.state scopes.old).frame made site.now in judged c given ≡ spec_apply_one c operator operator_at operand)) }
+        WhereKnown result (λ given. let c = context_of (S.state scopes.old).frame made site.now in judged c given ≡ spec_apply_one c operator.operator operator.at operand)) }
     ensures there { WhereKnown result (λ given. IfOk given (λ operand. IsOperand (S.state scopes.old).frame operand)) }
 {
     if is_bad(operand) {
         return Ask::Known(Ok(operand));
     }
     let base = known!(base_of(scopes, site.around, operand_type(&operand)));
-    Ask::Known(applied(operator_at, operator, base, operand))
+    Ask::Known(applied(operator, base, operand))
 }
 
 /// AND and OR.
@@ -110,8 +109,7 @@ pub fn apply_one<S: Scopes>(
 fn logical<S: Scopes>(
     scopes: &mut S,
     site: &Site,
-    operator: Operator,
-    operator_at: u32,
+    operator: PlacedOperator,
     x: Operand,
     y: Operand,
 ) -> Ask<Result<Operand, Fault>>
@@ -121,14 +119,14 @@ fn logical<S: Scopes>(
     ensures reads { Reads (S.state scopes.old) (S.state scopes.new) }
     ensures waits { WhereWaiting result (λ head. Waits (S.state scopes.old) (S.state scopes.new) head) }
     ensures told { WhereTold (S.state scopes.old).frame (λ made.
-        WhereKnown result (λ given. let c = context_of (S.state scopes.old).frame made site.now in judged c given ≡ spec_logical c operator operator_at x y)) }
+        WhereKnown result (λ given. let c = context_of (S.state scopes.old).frame made site.now in judged c given ≡ spec_logical c operator.operator operator.at x y)) }
     ensures there { WhereKnown result (λ given. IfOk given (λ operand. IsOperand (S.state scopes.old).frame operand)) }
 {
     let (left, right) = known!(bases_of(scopes, site.around, operand_type(&x), operand_type(&y)));
     if are_boolean(left, right) {
-        Ask::Known(combined(operator_at, FoldKind::Ordinal, operator, BOOLEAN, x, y))
+        Ask::Known(combined(operator, FoldKind::Ordinal, BOOLEAN, x, y))
     } else {
-        Ask::Known(fault!(operator_at, WrongOperands))
+        Ask::Known(fault!(operator.at, WrongOperands))
     }
 }
 
@@ -167,12 +165,12 @@ fn taken(names: &Names, x: Based, y: Based) -> Based
 }
 
 /// Two numbers, of which a whole constant takes the other's base.
-fn on_numbers(operator: Operator, operator_at: u32, x: Based, y: Based) -> Result<Operand, Fault>
-    ensures told { (c : Context) → HasStandardRows c → IsBased c x → IsBased c y → judged c result ≡ spec_on_numbers c operator operator_at x.operand x.at y.operand y.at }
+fn on_numbers(operator: PlacedOperator, x: Based, y: Based) -> Result<Operand, Fault>
+    ensures told { (c : Context) → HasStandardRows c → IsBased c x → IsBased c y → judged c result ≡ spec_on_numbers c operator.operator operator.at x.operand x.at y.operand y.at }
     ensures there { (f : Frame) (a : Surroundings) → Suits f a → IsBasedHere f x → IsBasedHere f y → IfOk result (λ operand. IsOperand f operand) }
 {
-    if !takes_numbers(operator) {
-        return fault!(operator_at, WrongOperands);
+    if !takes_numbers(operator.operator) {
+        return fault!(operator.at, WrongOperands);
     }
     let base = number_base(x.operand, x.base, y.base);
     let left = match as_number(x.at, y.base, x.operand) {
@@ -180,7 +178,7 @@ fn on_numbers(operator: Operator, operator_at: u32, x: Based, y: Based) -> Resul
         Err(fault) => return Err(fault),
     };
     match as_number(y.at, x.base, y.operand) {
-        Ok(right) => number_operation(operator_at, operator, base, left, right),
+        Ok(right) => number_operation(operator, base, left, right),
         Err(fault) => Err(fault),
     }
 }
@@ -244,8 +242,7 @@ fn kinds_of<S: Scopes>(
 fn on_scalars<S: Scopes>(
     scopes: &mut S,
     site: &Site,
-    operator: Operator,
-    operator_at: u32,
+    operator: PlacedOperator,
     x: Based,
     y: Based,
 ) -> Ask<Result<Operand, Fault>>
@@ -255,15 +252,15 @@ fn on_scalars<S: Scopes>(
     ensures reads { Reads (S.state scopes.old) (S.state scopes.new) }
     ensures waits { WhereWaiting result (λ head. Waits (S.state scopes.old) (S.state scopes.new) head) }
     ensures told { WhereTold (S.state scopes.old).frame (λ made.
-        WhereKnown result (λ given. let c = context_of (S.state scopes.old).frame made site.now in IsBased c x → IsBased c y → judged c given ≡ spec_on_scalars c operator operator_at x.operand y.operand)) }
+        WhereKnown result (λ given. let c = context_of (S.state scopes.old).frame made site.now in IsBased c x → IsBased c y → judged c given ≡ spec_on_scalars c operator.operator operator.at x.operand y.operand)) }
     ensures there { WhereKnown result (λ given. IfOk given (λ operand. IsOperand (S.state scopes.old).frame operand)) }
 {
     let (left, right) = known!(kinds_of(scopes, site, x.base, y.base));
-    if compares(operator, left, right) {
+    if compares(operator.operator, left, right) {
         let (x, y) = (x.operand, y.operand);
-        Ask::Known(combined(operator_at, FoldKind::Ordinal, operator, BOOLEAN, x, y))
+        Ask::Known(combined(operator, FoldKind::Ordinal, BOOLEAN, x, y))
     } else {
-        Ask::Known(fault!(operator_at, WrongOperands))
+        Ask::Known(fault!(operator.at, WrongOperands))
     }
 }
 
@@ -272,8 +269,7 @@ fn on_scalars<S: Scopes>(
 fn on_compatible<S: Scopes>(
     scopes: &mut S,
     site: &Site,
-    operator: Operator,
-    operator_at: u32,
+    operator: PlacedOperator,
     x: Based,
     y: Based,
 ) -> Ask<Result<Operand, Fault>>
@@ -283,13 +279,13 @@ fn on_compatible<S: Scopes>(
     ensures reads { Reads (S.state scopes.old) (S.state scopes.new) }
     ensures waits { WhereWaiting result (λ head. Waits (S.state scopes.old) (S.state scopes.new) head) }
     ensures told { WhereTold (S.state scopes.old).frame (λ made.
-        WhereKnown result (λ given. let c = context_of (S.state scopes.old).frame made site.now in IsBased c x → IsBased c y → judged c given ≡ spec_on_compatible c operator operator_at x.operand x.at y.operand y.at)) }
+        WhereKnown result (λ given. let c = context_of (S.state scopes.old).frame made site.now in IsBased c x → IsBased c y → judged c given ≡ spec_on_compatible c operator.operator operator.at x.operand x.at y.operand y.at)) }
     ensures there { WhereKnown result (λ given. IfOk given (λ operand. IsOperand (S.state scopes.old).frame operand)) }
 {
     if are_numbers(x.base, y.base) {
-        Ask::Known(on_numbers(operator, operator_at, x, y))
+        Ask::Known(on_numbers(operator, x, y))
     } else {
-        on_scalars(scopes, site, operator, operator_at, x, y)
+        on_scalars(scopes, site, operator, x, y)
     }
 }
 
@@ -298,8 +294,7 @@ fn on_compatible<S: Scopes>(
 fn on_values<S: Scopes>(
     scopes: &mut S,
     site: &Site,
-    operator: Operator,
-    operator_at: u32,
+    operator: PlacedOperator,
     x: Based,
     y: Based,
 ) -> Ask<Result<Operand, Fault>>
@@ -309,17 +304,17 @@ fn on_values<S: Scopes>(
     ensures reads { Reads (S.state scopes.old) (S.state scopes.new) }
     ensures waits { WhereWaiting result (λ head. Waits (S.state scopes.old) (S.state scopes.new) head) }
     ensures told { WhereTold (S.state scopes.old).frame (λ made.
-        WhereKnown result (λ given. let c = context_of (S.state scopes.old).frame made site.now in IsBased c x → IsBased c y → judged c given ≡ (if is_compatible c.scene x.operand y.operand then spec_on_compatible c operator operator_at (spec_taken c.source c.scene x.operand y.operand) x.at (spec_taken c.source c.scene y.operand x.operand) y.at else spec_wrong c operator_at))) }
+        WhereKnown result (λ given. let c = context_of (S.state scopes.old).frame made site.now in IsBased c x → IsBased c y → judged c given ≡ (if is_compatible c.scene x.operand y.operand then spec_on_compatible c operator.operator operator.at (spec_taken c.source c.scene x.operand y.operand) x.at (spec_taken c.source c.scene y.operand x.operand) y.at else spec_wrong c operator.at))) }
     ensures there { WhereKnown result (λ given. IfOk given (λ operand. IsOperand (S.state scopes.old).frame operand)) }
 {
     let around = site.around;
     if !known!(compatible_with(scopes, around, &x.operand, x.base, &y.operand, y.base)) {
-        return Ask::Known(fault!(operator_at, WrongOperands));
+        return Ask::Known(fault!(operator.at, WrongOperands));
     }
     let texts = site.texts;
     let left = taken(&texts.names, x, y);
     let right = taken(&texts.names, y, x);
-    on_compatible(scopes, site, operator, operator_at, left, right)
+    on_compatible(scopes, site, operator, left, right)
 }
 
 /// Whether two types are those of one set, by what they stand for and what their rows say.
@@ -334,8 +329,7 @@ fn are_sets_alike(left: (Place, RowMeaning), right: (Place, RowMeaning)) -> bool
 fn on_alike<S: Scopes>(
     scopes: &mut S,
     site: &Site,
-    operator: Operator,
-    operator_at: u32,
+    operator: PlacedOperator,
     x: Argument,
     y: Argument,
 ) -> Ask<Result<Operand, Fault>>
@@ -345,17 +339,17 @@ fn on_alike<S: Scopes>(
     ensures reads { Reads (S.state scopes.old) (S.state scopes.new) }
     ensures waits { WhereWaiting result (λ head. Waits (S.state scopes.old) (S.state scopes.new) head) }
     ensures told { WhereTold (S.state scopes.old).frame (λ made.
-        WhereKnown result (λ given. let c = context_of (S.state scopes.old).frame made site.now in judged c given ≡ spec_on_alike c operator operator_at x.operand x.at y.operand y.at)) }
+        WhereKnown result (λ given. let c = context_of (S.state scopes.old).frame made site.now in judged c given ≡ spec_on_alike c operator.operator operator.at x.operand x.at y.operand y.at)) }
     ensures there { WhereKnown result (λ given. IfOk given (λ operand. IsOperand (S.state scopes.old).frame operand)) }
 {
     let left = known!(stand(scopes, site.around, operand_type(&x.operand)));
     let right = known!(stand(scopes, site.around, operand_type(&y.operand)));
     if are_sets_alike(left, right) {
-        return Ask::Known(set_operation(operator_at, operator, x.operand, y.operand));
+        return Ask::Known(set_operation(operator, x.operand, y.operand));
     }
     let first = with_base(x, left.0, left.1);
     let second = with_base(y, right.0, right.1);
-    on_values(scopes, site, operator, operator_at, first, second)
+    on_values(scopes, site, operator, first, second)
 }
 
 /// What is given without a look at types: a bad operand gives no fault, and a procedure has no operator.
@@ -378,8 +372,7 @@ fn settled(operator_at: u32, x: Operand, y: Operand) -> Option<Result<Operand, F
 fn operate_by<S: Scopes>(
     scopes: &mut S,
     site: &Site,
-    operator: Operator,
-    operator_at: u32,
+    operator: PlacedOperator,
     x: Argument,
     y: Argument,
 ) -> Ask<Result<Operand, Fault>>
@@ -389,26 +382,25 @@ fn operate_by<S: Scopes>(
     ensures reads { Reads (S.state scopes.old) (S.state scopes.new) }
     ensures waits { WhereWaiting result (λ head. Waits (S.state scopes.old) (S.state scopes.new) head) }
     ensures told { WhereTold (S.state scopes.old).frame (λ made.
-        WhereKnown result (λ given. let c = context_of (S.state scopes.old).frame made site.now in judged c given ≡ spec_operate_by c operator operator_at x.operand x.at y.operand y.at)) }
+        WhereKnown result (λ given. let c = context_of (S.state scopes.old).frame made site.now in judged c given ≡ spec_operate_by c operator.operator operator.at x.operand x.at y.operand y.at)) }
     ensures there { WhereKnown result (λ given. IfOk given (λ operand. IsOperand (S.state scopes.old).frame operand)) }
 {
-    match operator {
-        Operator::And => logical(scopes, site, operator, operator_at, x.operand, y.operand),
-        Operator::Or => logical(scopes, site, operator, operator_at, x.operand, y.operand),
-        Operator::In => membership(scopes, site, operator_at, x, y.operand),
-        _ => on_alike(scopes, site, operator, operator_at, x, y),
+    match operator.operator {
+        Operator::And => logical(scopes, site, operator, x.operand, y.operand),
+        Operator::Or => logical(scopes, site, operator, x.operand, y.operand),
+        Operator::In => membership(scopes, site, operator.at, x, y.operand),
+        _ => on_alike(scopes, site, operator, x, y),
     }
 }
 
-/// Judges an operator, at the token `operator_at`, between two operands: a constant where both are. Wrong operands are
-/// a fault there, as is a value out of range; a whole constant that the other type hasn't is one at its own first
-/// token. It waits for both types.
+/// Judges an operator between two operands: a constant where both are. Wrong operands are a fault at its token, as is
+/// a value out of range; a whole constant that the other type hasn't is one at its own first token. It waits for both
+/// types.
 #[tactic(auto, using(type_rules::proofs::Reading::reading, crate::proofs::TypesThere::there))]
 pub fn operate<S: Scopes>(
     scopes: &mut S,
     site: &Site,
-    operator: Operator,
-    operator_at: u32,
+    operator: PlacedOperator,
     x: Argument,
     y: Argument,
 ) -> Ask<Result<Operand, Fault>>
@@ -418,11 +410,11 @@ pub fn operate<S: Scopes>(
     ensures reads { Reads (S.state scopes.old) (S.state scopes.new) }
     ensures waits { WhereWaiting result (λ head. Waits (S.state scopes.old) (S.state scopes.new) head) }
     ensures told { WhereTold (S.state scopes.old).frame (λ made.
-        WhereKnown result (λ given. let c = context_of (S.state scopes.old).frame made site.now in judged c given ≡ spec_operate c operator operator_at x.operand x.at y.operand y.at)) }
+        WhereKnown result (λ given. let c = context_of (S.state scopes.old).frame made site.now in judged c given ≡ spec_operate c operator.operator operator.at x.operand x.at y.operand y.at)) }
     ensures there { WhereKnown result (λ given. IfOk given (λ operand. IsOperand (S.state scopes.old).frame operand)) }
 {
-    match settled(operator_at, x.operand, y.operand) {
+    match settled(operator.at, x.operand, y.operand) {
         Some(judgement) => Ask::Known(judgement),
-        None => operate_by(scopes, site, operator, operator_at, x, y),
+        None => operate_by(scopes, site, operator, x, y),
     }
 }

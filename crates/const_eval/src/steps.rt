@@ -16,11 +16,11 @@ ghost use Rattle.type_rules.specs.Sites.{SuitsSite, context_of};
 
 use crate::names::name_operand;
 use crate::noting::{note, note_type};
-use crate::operands::Argument;
+use crate::operands::{Argument, BasedSet, PlacedOperator};
 use crate::operators::{apply_one, operate};
 use crate::sets::{element_of, no_elements, set_base, set_type_of};
 use crate::values::{selected, spoilt_by};
-use m2_base::{Ask, Ident, Memory, Names, Notes, Operand, Operator, Place, Scopes, Site};
+use m2_base::{Ask, Ident, Memory, Names, Notes, Operand, Place, Scopes, Site};
 
 /// The length of a string: the empty one counts as one character.
 fn string_length(names: &Names, name: u32) -> u32
@@ -78,76 +78,71 @@ pub fn with_index(
 pub fn field_operand<S: Scopes>(
     scopes: &mut S,
     site: &Site,
-    at: u32,
-    operand: Operand,
+    x: Argument,
     ident: Ident,
     notes: &mut Notes,
 ) -> Result<Ask<Operand>, Memory>
     requires suits { SuitsSite (S.state scopes.old).frame site.now }
-    requires operand { IsOperand (S.state scopes.old).frame operand }
+    requires x { IsOperand (S.state scopes.old).frame x.operand }
     requires named { ident.name ≢ 0 }
-    ensures { Analysed (S.state scopes.old) (S.state scopes.new) notes.old notes.new site.now result IsOperand (λ c. spec_field c at operand ident) }
+    ensures { Analysed (S.state scopes.old) (S.state scopes.new) notes.old notes.new site.now result IsOperand (λ c. spec_field c x.at x.operand ident) }
 {
-    match operand {
+    match x.operand {
         Operand::ModuleName(scope) => name_operand(scopes, site, Some(scope), ident, notes),
-        _ => picked(site, at, operand, notes),
+        _ => picked(site, x.at, x.operand, notes),
     }
 }
 
-/// An operator, at the token `operator_at`, applied to the one operand behind it: what `apply_one` judges. A fault is
-/// noted in the site's text, and then the result is in error. It waits for the operand's type.
+/// An operator applied to the one operand behind it: what `apply_one` judges. A fault is noted in the site's text, and
+/// then the result is in error. It waits for the operand's type.
 pub fn applied_one<S: Scopes>(
     scopes: &mut S,
     site: &Site,
-    operator: Operator,
-    operator_at: u32,
+    operator: PlacedOperator,
     operand: Operand,
     notes: &mut Notes,
 ) -> Result<Ask<Operand>, Memory>
     requires suits { SuitsSite (S.state scopes.old).frame site.now }
     requires operand { IsOperand (S.state scopes.old).frame operand }
-    ensures { Analysed (S.state scopes.old) (S.state scopes.new) notes.old notes.new site.now result IsOperand (λ c. spec_apply c operator operator_at operand) }
+    ensures { Analysed (S.state scopes.old) (S.state scopes.new) notes.old notes.new site.now result IsOperand (λ c. spec_apply c operator.operator operator.at operand) }
 {
-    let given = apply_one(scopes, site, operator, operator_at, operand);
+    let given = apply_one(scopes, site, operator, operand);
     note(site.around.text, given, notes)
 }
 
-/// An operator, at the token `operator_at`, applied to the operands on both sides: what `operate` judges. A fault is
-/// noted in the site's text, and then the result is in error. It waits for both types.
+/// An operator applied to the operands on both sides: what `operate` judges. A fault is noted in the site's text, and
+/// then the result is in error. It waits for both types.
 pub fn operated<S: Scopes>(
     scopes: &mut S,
     site: &Site,
-    operator: Operator,
-    operator_at: u32,
-    x: Argument,
-    y: Argument,
+    operator: PlacedOperator,
+    sides: (Argument, Argument),
     notes: &mut Notes,
 ) -> Result<Ask<Operand>, Memory>
     requires suits { SuitsSite (S.state scopes.old).frame site.now }
-    requires x { IsOperand (S.state scopes.old).frame x.operand }
-    requires y { IsOperand (S.state scopes.old).frame y.operand }
-    ensures { Analysed (S.state scopes.old) (S.state scopes.new) notes.old notes.new site.now result IsOperand (λ c. spec_operate c operator operator_at x.operand x.at y.operand y.at) }
+    requires x { IsOperand (S.state scopes.old).frame sides.0.operand }
+    requires y { IsOperand (S.state scopes.old).frame sides.1.operand }
+    ensures { Analysed (S.state scopes.old) (S.state scopes.new) notes.old notes.new site.now result IsOperand (λ c. spec_operate c operator.operator operator.at sides.0.operand sides.0.at sides.1.operand sides.1.at) }
 {
-    let given = operate(scopes, site, operator, operator_at, x, y);
+    let given = operate(scopes, site, operator, sides.0, sides.1);
     note(site.around.text, given, notes)
 }
 
-/// An operand, whose first token is `at`, taken as an element into a set with this base: what `element_of` judges. A
-/// fault is noted in the site's text, and then the element is in error. It waits for both types.
+/// An operand taken as an element into a set with this base: what `element_of` judges. A fault is noted in the site's
+/// text, and then the element is in error. It waits for both types.
 pub fn taken<S: Scopes>(
     scopes: &mut S,
     site: &Site,
     base: Place,
-    at: u32,
-    operand: Operand,
+    x: Argument,
     notes: &mut Notes,
 ) -> Result<Ask<Operand>, Memory>
     requires suits { SuitsSite (S.state scopes.old).frame site.now }
     requires base { IsThere (S.state scopes.old).frame base }
-    requires operand { IsOperand (S.state scopes.old).frame operand }
-    ensures { Analysed (S.state scopes.old) (S.state scopes.new) notes.old notes.new site.now result IsOperand (λ c. spec_element c base at operand) }
+    requires x { IsOperand (S.state scopes.old).frame x.operand }
+    ensures { Analysed (S.state scopes.old) (S.state scopes.new) notes.old notes.new site.now result IsOperand (λ c. spec_element c base x.at x.operand) }
 {
-    let given = element_of(scopes, site, base, at, operand);
+    let given = element_of(scopes, site, base, x.at, x.operand);
     note(site.around.text, given, notes)
 }
 
@@ -169,16 +164,16 @@ pub fn set_type<S: Scopes>(
 
 /// The base of a set type, and its set without elements.
 #[tactic(auto, using(type_rules::proofs::Reading::reading, crate::proofs::TypesThere::there))]
-pub fn set_start<S: Scopes>(scopes: &mut S, site: &Site, of: Place) -> Ask<(Place, Operand)>
+pub(crate) fn set_start<S: Scopes>(scopes: &mut S, site: &Site, of: Place) -> Ask<BasedSet>
     requires suits { SuitsSite (S.state scopes.old).frame site.now }
     requires of { IsThere (S.state scopes.old).frame of }
     ensures reads { Reads (S.state scopes.old) (S.state scopes.new) }
     ensures waits { WhereWaiting result (λ head. Waits (S.state scopes.old) (S.state scopes.new) head) }
     ensures told { WhereTold (S.state scopes.old).frame (λ made.
-        WhereKnown result (λ given. let c = context_of (S.state scopes.old).frame made site.now in given ≡ (spec_base c of, spec_none c of))) }
-    ensures there { WhereKnown result (λ given. IsThere (S.state scopes.old).frame given.0 × IsOperand (S.state scopes.old).frame given.1) }
+        WhereKnown result (λ given. let c = context_of (S.state scopes.old).frame made site.now in given ≡ record { base = spec_base c of; set = spec_none c of })) }
+    ensures there { WhereKnown result (λ given. IsThere (S.state scopes.old).frame given.base × IsOperand (S.state scopes.old).frame given.set) }
 {
     let base = known!(set_base(scopes, site, of));
-    let bits = known!(no_elements(scopes, site, of));
-    Ask::Known((base, bits))
+    let set = known!(no_elements(scopes, site, of));
+    Ask::Known(BasedSet { base, set })
 }

@@ -26,7 +26,7 @@ use crate::coder::Coder;
 use crate::fragments::{Connective, Fragment, Fragments};
 use crate::values::value_code;
 use code_form::Instr;
-use const_eval::{Argument, applied_one, char_or_same, operated};
+use const_eval::{Argument, PlacedOperator, applied_one, char_or_same, operated};
 use m2_base::{Ask, Memory, Notes, Operand, Operator, Place, RowMeaning, Scopes, Site};
 use type_rules::{INTEGER, base_of, operand_type, stand};
 
@@ -170,14 +170,11 @@ impl<S: Scopes> Coder<'_, '_, S> {
         ensures keeps { Keeps self.old self.new }
         ensures codes { Codes S.state self.old self.new result IsCoded coded_in (λ c. spec_one c op op_at (coded_in (nodes_of self.old) x)) }
     {
-        let given = analysed!(applied_one(
-            self.scopes,
-            self.site,
-            op,
-            op_at,
-            x.operand,
-            self.notes
-        ));
+        let operator = PlacedOperator {
+            at: op_at,
+            operator: op,
+        };
+        let given = analysed!(applied_one(self.scopes, self.site, operator, x.operand, self.notes));
         let Operand::Computed(_) = given else {
             return Ok(Ask::Known(made(given, Fragment::Nothing)));
         };
@@ -271,7 +268,12 @@ impl<S: Scopes> Coder<'_, '_, S> {
             at: y.at,
             operand: y.coded.operand,
         };
-        let given = analysed!(operated(self.scopes, self.site, op, op_at, left, right, self.notes));
+        let operator = PlacedOperator {
+            at: op_at,
+            operator: op,
+        };
+        let sides = (left, right);
+        let given = analysed!(operated(self.scopes, self.site, operator, sides, self.notes));
         let Operand::Computed(of) = given else {
             return Ok(Ask::Known(made(given, Fragment::Nothing)));
         };

@@ -22,7 +22,7 @@ use crate::coded::Coded;
 use crate::fragments::{Fragment, Fragments};
 use crate::values::value_code;
 use code_form::Instr;
-use const_eval::{no_elements, set_base, taken, with_elements};
+use const_eval::{Argument, no_elements, set_base, taken, with_elements};
 use m2_base::{Ask, Memory, Notes, Operand, Place, Scopes, Site};
 
 /// What the elements make so far: the set by the static rule, and the code that adds each of them to the set on the stack.
@@ -82,7 +82,11 @@ pub fn element_coded<S: Scopes>(
     requires x { IsOperand (S.state scopes.old).frame x.operand }
     ensures { (nodes : List Node) → IsCoded (S.state scopes.old).frame nodes x → Coding (S.state scopes.old) (S.state scopes.new) notes.old notes.new nodes nodes site.now result IsCoded coded_in (λ c. spec_coded c base at (coded_in nodes x)) }
 {
-    let operand = analysed!(taken(scopes, site, base, at, x.operand, notes));
+    let element = Argument {
+        at,
+        operand: x.operand,
+    };
+    let operand = analysed!(taken(scopes, site, base, element, notes));
     Ok(Ask::Known(element_as(x, operand)))
 }
 

@@ -248,12 +248,15 @@ impl<S: Scopes> Coder<'_, '_, S> {
         ensures keeps { Keeps self.old self.new }
         ensures codes { Codes S.state self.old self.new result IsCoded coded_in (λ c. and_then (of_type c functions.Size at x.operand) (λ r. gives (spec_made r (spec_size c (coded_in (nodes_of self.old) x))))) }
     {
+        let argument = Argument {
+            at,
+            operand: x.operand,
+        };
         let given = analysed!(of_type_noted(
             self.scopes,
             self.site,
             TypeFunction::Size,
-            at,
-            x.operand,
+            argument,
             self.notes
         ));
         size_made(self.scopes, self.site, given, x, self.fragments)
@@ -272,7 +275,7 @@ fn of_type_coded<S: Scopes>(
     requires x { IsOperand (S.state scopes.old).frame x.operand }
     ensures { (nodes : List Node) → Coding (S.state scopes.old) (S.state scopes.new) notes.old notes.new nodes nodes site.now result IsCoded coded_in (λ c. and_then (of_type c function x.at x.operand) (λ r. gives (bare r))) }
 {
-    let given = analysed!(of_type_noted(scopes, site, function, x.at, x.operand, notes));
+    let given = analysed!(of_type_noted(scopes, site, function, x, notes));
     Ok(Ask::Known(Coded::bare(given)))
 }
 

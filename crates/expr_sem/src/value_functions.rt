@@ -87,8 +87,8 @@ fn rule_noted<S: Scopes>(
     ensures { Analysed (S.state scopes.old) (S.state scopes.new) notes.old notes.new site.now result IsOperand (λ c. rule_of c rule x.at x.operand) }
 {
     match rule {
-        Rule::Function(function) => of_value_noted(scopes, site, function, x.at, x.operand, notes),
-        Rule::Val(of) => val_of_operand(scopes, site, of, x.at, x.operand, notes),
+        Rule::Function(function) => of_value_noted(scopes, site, function, x, notes),
+        Rule::Val(of) => val_of_operand(scopes, site, of, x, notes),
     }
 }
 

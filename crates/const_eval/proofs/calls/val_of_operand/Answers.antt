@@ -19,9 +19,9 @@ val_noted-requires-clause-of g c =
     subst (λ (f : Frame). IsThere f c.in-Known.value) (sym c.ordinal_type_noted.ensures.works.keeps.frame) (rw c.in-Known.is at c.in-Ok.ensures).there
 
 pub val_noted-requires-clause-x : goal.val_noted-requires-clause-x
-val_noted-requires-clause-x g c = subst (λ (f : Frame). IsOperand f c.args.x) (sym c.ordinal_type_noted.ensures.works.keeps.frame) c.requires.x
+val_noted-requires-clause-x g c = subst (λ (f : Frame). IsOperand f c.args.x.operand) (sym c.ordinal_type_noted.ensures.works.keeps.frame) c.requires.x
 
 pub returns : goal.returns
 returns g c =
-    and_after (λ k. ordinal_type_argument k c.args.of.at c.args.of.operand) (λ t k. and_then (ordinal_argument k c.args.at c.args.x) (λ v. val_as k c.args.at t v)) c.val_noted.result
+    and_after (λ k. ordinal_type_argument k c.args.of.at c.args.of.operand) (λ t k. and_then (ordinal_argument k c.args.x.at c.args.x.operand) (λ v. val_as k c.args.x.at t v)) c.val_noted.result
     (rw c.in-Known.is at c.in-Ok.ensures) c.val_noted.ensures

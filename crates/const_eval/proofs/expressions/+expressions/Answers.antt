@@ -70,8 +70,8 @@ pub member_in-taken-requires-clause-base : goal.member_in-taken-requires-clause-
 member_in-taken-requires-clause-base g t c =
     stays_after (λ (f : Frame). IsThere f c.args.base) (rw c.in-Known.is at c.in-Ok.ensures) c.requires.base
 
-pub member_in-taken-requires-clause-operand : goal.member_in-taken-requires-clause-operand
-member_in-taken-requires-clause-operand g t c =
+pub member_in-taken-requires-clause-x : goal.member_in-taken-requires-clause-x
+member_in-taken-requires-clause-x g t c =
     stands_after (rw c.in-Known.is at c.in-Ok.ensures)
 
 pub member_in-returns : goal.member_in-returns
@@ -97,7 +97,7 @@ next_in-operated-requires-clause-suits g t c =
 
 pub next_in-operated-requires-clause-x : goal.next_in-operated-requires-clause-x
 next_in-operated-requires-clause-x g t c =
-    stays_after (λ (f : Frame). IsOperand f c.args.x) (rw c.in-Known.is at c.in-Ok.ensures) c.requires.x
+    stays_after (λ (f : Frame). IsOperand f c.args.left.operand) (rw c.in-Known.is at c.in-Ok.ensures) c.requires.left
 
 pub next_in-operated-requires-clause-y : goal.next_in-operated-requires-clause-y
 next_in-operated-requires-clause-y g t c =
@@ -105,9 +105,9 @@ next_in-operated-requires-clause-y g t c =
 
 pub next_in-returns : goal.next_in-returns
 next_in-returns g t c =
-    described c.operated.result (and_after (λ k. value_in k (expr_view c.args.next.now.right)) (λ y k. operate k c.args.next.now.op c.args.next.now.op_at c.args.x c.args.at y c.args.next.now.right.at) c.operated.result (rw c.in-Known.is at c.in-Ok.ensures) c.operated.ensures)
-    (λ k. ap (λ (at : ℕ). and_then (value_in k (expr_view c.args.next.now.right)) (λ y. operate k c.args.next.now.op c.args.next.now.op_at c.args.x c.args.at y at)) (sym (at_seen c.args.next.now.right))
-    ∙ next_given k c.args.at c.args.x c.args.next.now.op c.args.next.now.op_at (expr_view c.args.next.now.right) ∙ ap (next_in k c.args.at c.args.x) (sym (next_seen c.args.next.now)))
+    described c.operated.result (and_after (λ k. value_in k (expr_view c.args.next.now.right)) (λ y k. operate k c.args.next.now.op c.args.next.now.op_at c.args.left.operand c.args.left.at y c.args.next.now.right.at) c.operated.result (rw c.in-Known.is at c.in-Ok.ensures) c.operated.ensures)
+    (λ k. ap (λ (at : ℕ). and_then (value_in k (expr_view c.args.next.now.right)) (λ y. operate k c.args.next.now.op c.args.next.now.op_at c.args.left.operand c.args.left.at y at)) (sym (at_seen c.args.next.now.right))
+    ∙ next_given k c.args.left.at c.args.left.operand c.args.next.now.op c.args.next.now.op_at (expr_view c.args.next.now.right) ∙ ap (next_in k c.args.left.at c.args.left.operand) (sym (next_seen c.args.next.now)))
 
 pub index_in-value_in-requires : goal.index_in-value_in-requires
 index_in-value_in-requires g t c κs within =
@@ -123,7 +123,7 @@ index_in-returns-in-Err g t c =
 
 pub index_in-returns : goal.index_in-returns
 index_in-returns g t c =
-    and_after (λ k. value_in k (expr_view c.args.e.now)) (λ v k. with_index k c.args.at c.args.operand v) c.with_index.result (rw c.in-Known.is at c.in-Ok.ensures) (c.with_index.ensures (g.S.Scopes.state c.value_in.new.scopes))
+    and_after (λ k. value_in k (expr_view c.args.e.now)) (λ v k. with_index k c.args.of.at c.args.of.operand v) c.with_index.result (rw c.in-Known.is at c.in-Ok.ensures) (c.with_index.ensures (g.S.Scopes.state c.value_in.new.scopes))
 
 pub set_type_in-designator_in-requires : goal.set_type_in-designator_in-requires
 set_type_in-designator_in-requires g t c κs within =
@@ -172,8 +172,8 @@ called_in-call_with-requires-clause-args g t c =
 
 pub called_in-returns : goal.called_in-returns
 called_in-returns g t c =
-    described c.call_with.result (and_after (λ k. arguments_in k (exprs (map expr_view c.args.es.now))) (λ args k. call_with k c.args.at c.args.to args) c.call_with.result (rw c.in-Known.is at c.in-Ok.ensures) c.call_with.ensures)
-    (λ k. called_given k c.args.at c.args.to (exprs (map expr_view c.args.es.now)))
+    described c.call_with.result (and_after (λ k. arguments_in k (exprs (map expr_view c.args.es.now))) (λ args k. call_with k c.args.to.at c.args.to.operand args) c.call_with.result (rw c.in-Known.is at c.in-Ok.ensures) c.call_with.ensures)
+    (λ k. called_given k c.args.to.at c.args.to.operand (exprs (map expr_view c.args.es.now)))
 
 pub designator_in-name_operand-requires-clause-named : goal.designator_in-name_operand-requires-clause-named
 designator_in-name_operand-requires-clause-named g t c =
@@ -202,19 +202,19 @@ selector_in-field_operand-requires-clause-named g t c =
 
 pub selector_in-indices_in-requires : goal.selector_in-indices_in-requires
 selector_in-indices_in-requires g t c κs within =
-    ((let small = index_smaller c.args.selector.now c.in-Index.es c.in-Index.field-1 c.in-Index.is in let same = ap (most size-Expr) c.deref.ensures.value in omega (arith, small, same, c.decreases)), (within, (c.requires.suits, (c.requires.operand, (rw c.deref.ensures.value (selector_read c.args.site.now.texts.now.names c.args.selector.now _ (ap selector_view c.in-Index.is ∙ index_seen c.in-Index.es c.in-Index.field-1) c.requires.read))))))
+    ((let small = index_smaller c.args.selector.now c.in-Index.es c.in-Index.field-1 c.in-Index.is in let same = ap (most size-Expr) c.deref.ensures.value in omega (arith, small, same, c.decreases)), (within, (c.requires.suits, (c.requires.of, (rw c.deref.ensures.value (selector_read c.args.site.now.texts.now.names c.args.selector.now _ (ap selector_view c.in-Index.is ∙ index_seen c.in-Index.es c.in-Index.field-1) c.requires.read))))))
 
 pub selector_in-returns-in-Field : goal.selector_in-returns-in-Field
 selector_in-returns-in-Field g t c =
-    described c.field_operand.result c.field_operand.ensures (λ k. ap (selector_in k c.args.at c.args.operand) (sym (ap selector_view c.in-Field.is ∙ field_seen c.in-Field.ident c.in-Field.field-1)))
+    described c.field_operand.result c.field_operand.ensures (λ k. ap (selector_in k c.args.of.at c.args.of.operand) (sym (ap selector_view c.in-Field.is ∙ field_seen c.in-Field.ident c.in-Field.field-1)))
 
 pub selector_in-returns-in-Index : goal.selector_in-returns-in-Index
 selector_in-returns-in-Index g t c =
-    described c.indices_in.result (rw c.deref.ensures.value at c.indices_in.ensures) (λ k. ap (selector_in k c.args.at c.args.operand) (sym (ap selector_view c.in-Index.is ∙ index_seen c.in-Index.es c.in-Index.field-1)))
+    described c.indices_in.result (rw c.deref.ensures.value at c.indices_in.ensures) (λ k. ap (selector_in k c.args.of.at c.args.of.operand) (sym (ap selector_view c.in-Index.is ∙ index_seen c.in-Index.es c.in-Index.field-1)))
 
 pub selector_in-returns-in-Deref : goal.selector_in-returns-in-Deref
 selector_in-returns-in-Deref g t c =
-    described c.picked.result (c.picked.ensures (g.S.Scopes.state c.args.scopes.now)) (λ k. ap (selector_in k c.args.at c.args.operand) (sym (ap selector_view c.in-Deref.is ∙ deref_seen c.in-Deref.field-0)))
+    described c.picked.result (c.picked.ensures (g.S.Scopes.state c.args.scopes.now)) (λ k. ap (selector_in k c.args.of.at c.args.of.operand) (sym (ap selector_view c.in-Deref.is ∙ deref_seen c.in-Deref.field-0)))
 
 pub element_in-member_in-requires : goal.element_in-member_in-requires
 element_in-member_in-requires g t c κs within =
@@ -230,65 +230,60 @@ element_in-returns-in-Err g t c =
 
 pub element_in-with_elements-requires : goal.element_in-with_elements-requires
 element_in-with_elements-requires g t c =
-    small_constant (g.S.Scopes.state c.args.scopes.now).frame c.args.bits c.requires.bits
+    small_constant (g.S.Scopes.state c.args.scopes.now).frame c.args.of.set c.requires.set
 
-pub element_in-range_in-requires : goal.element_in-range_in-requires
-element_in-range_in-requires g t c κs within =
-    ((let small = high_smaller c.args.label.now c.in-Some.high c.in-Some.is in omega (arith, small, c.decreases)), (within, ((stays_after (λ (f : Frame). SuitsSite f c.args.site.now) (rw c.in-Known.is at c.in-Ok.ensures) c.requires.suits), ((stays_after (λ (f : Frame). IsThere f c.args.base) (rw c.in-Known.is at c.in-Ok.ensures) c.requires.base), ((stays_after (λ (f : Frame). IsOperand f c.args.bits) (rw c.in-Known.is at c.in-Ok.ensures) c.requires.bits), high_read c.args.site.now.texts.now.names (expr_view (out-Label c.args.label.now).low) (expr_view c.in-Some.high) (rw (ap (option_map expr_view) c.in-Some.is) at (label_read c.args.site.now.texts.now.names c.args.label.now c.requires.read)))))))
+pub element_in-member_in-requires-in-Some : goal.element_in-member_in-requires-in-Some
+element_in-member_in-requires-in-Some g t c κs within =
+    let one = (rw c.in-Known.is at c.in-Ok.ensures) in
+    ((let small = high_smaller c.args.label.now c.in-Some.high c.in-Some.is in omega (arith, small, c.decreases)), (within, ((stays_after (λ (f : Frame). SuitsSite f c.args.site.now) one c.requires.suits), ((stays_after (λ (f : Frame). IsThere f c.args.of.base) one c.requires.base), high_read c.args.site.now.texts.now.names (expr_view (out-Label c.args.label.now).low) (expr_view c.in-Some.high) (rw (ap (option_map expr_view) c.in-Some.is) at (label_read c.args.site.now.texts.now.names c.args.label.now c.requires.read))))))
 
 pub element_in-returns-in-None : goal.element_in-returns-in-None
 element_in-returns-in-None g t c =
     let one = (rw c.in-Known.is at c.in-Ok.ensures) in
-    let made = value_everywhere (g.S.Scopes.state c.member_in.new.scopes) c.member_in.new.notes c.args.site.now c.with_elements.result IsOperand (λ k. gives (with_elements c.args.bits c.in-Known.value c.in-Known.value))
-    (c.with_elements.ensures.there (g.S.Scopes.state c.member_in.new.scopes).frame (stays_after (λ (f : Frame). IsOperand f c.args.bits) one c.requires.bits)) (λ k. ap (λ o. gives o) c.with_elements.ensures.told) in
-    described (Ok (Known c.with_elements.result)) (and_after (λ k. member_in k c.args.base (expr_view (out-Label c.args.label.now).low)) (λ x k. gives (with_elements c.args.bits x x)) (Ok (Known c.with_elements.result)) one made)
-    (λ k. one_label_given k c.args.base c.args.bits (expr_view (out-Label c.args.label.now).low)
-    ∙ ap (element_in k c.args.base c.args.bits) (sym (label_seen c.args.label.now ∙ ap (λ h. label_with (expr_view (out-Label c.args.label.now).low) (option_map expr_view h)) c.in-None.is)))
+    let made = value_everywhere (g.S.Scopes.state c.member_in.new.scopes) c.member_in.new.notes c.args.site.now c.with_elements.result IsOperand (λ k. gives (with_elements c.args.of.set c.in-Known.value c.in-Known.value))
+    (c.with_elements.ensures.there (g.S.Scopes.state c.member_in.new.scopes).frame (stays_after (λ (f : Frame). IsOperand f c.args.of.set) one c.requires.set)) (λ k. ap (λ o. gives o) c.with_elements.ensures.told) in
+    described (Ok (Known c.with_elements.result)) (and_after (λ k. member_in k c.args.of.base (expr_view (out-Label c.args.label.now).low)) (λ x k. gives (with_elements c.args.of.set x x)) (Ok (Known c.with_elements.result)) one made)
+    (λ k. one_label_given k c.args.of.base c.args.of.set (expr_view (out-Label c.args.label.now).low)
+    ∙ ap (element_in k c.args.of.base c.args.of.set) (sym (label_seen c.args.label.now ∙ ap (λ h. label_with (expr_view (out-Label c.args.label.now).low) (option_map expr_view h)) c.in-None.is)))
 
-pub element_in-returns-in-Some : goal.element_in-returns-in-Some
-element_in-returns-in-Some g t c =
-    described c.range_in.result (and_after (λ k. member_in k c.args.base (expr_view (out-Label c.args.label.now).low)) (λ x k. and_then (member_in k c.args.base (expr_view c.in-Some.high)) (λ y. gives (with_elements c.args.bits x y))) c.range_in.result (rw c.in-Known.is at c.in-Ok.ensures) c.range_in.ensures)
-    (λ k. range_given k c.args.base c.args.bits (expr_view (out-Label c.args.label.now).low) (expr_view c.in-Some.high)
-    ∙ ap (element_in k c.args.base c.args.bits) (sym (label_seen c.args.label.now ∙ ap (λ h. label_with (expr_view (out-Label c.args.label.now).low) (option_map expr_view h)) c.in-Some.is)))
+pub element_in-returns-in-DontKnowYet-asked : goal.element_in-returns-in-DontKnowYet-asked
+element_in-returns-in-DontKnowYet-asked g t c =
+    waiting_after (rw c.in-Known.is at c.in-Ok.ensures) (rw c.in-DontKnowYet-asked.is at c.in-Ok-member_in.ensures)
 
-pub range_in-member_in-requires : goal.range_in-member_in-requires
-range_in-member_in-requires g t c κs within =
-    (search rules, (within, (c.requires.suits, (c.requires.base, c.requires.read))))
+pub element_in-returns-in-Err-member_in : goal.element_in-returns-in-Err-member_in
+element_in-returns-in-Err-member_in g t c =
+    failed_after (rw c.in-Known.is at c.in-Ok.ensures) c.in-Err-member_in.ensures _
 
-pub range_in-returns-in-DontKnowYet : goal.range_in-returns-in-DontKnowYet
-range_in-returns-in-DontKnowYet g t c =
-    waiting (rw c.in-DontKnowYet.is at c.in-Ok.ensures)
+pub element_in-with_elements-requires-in-Some : goal.element_in-with_elements-requires-in-Some
+element_in-with_elements-requires-in-Some g t c =
+    small_constant (g.S.Scopes.state c.args.scopes.now).frame c.args.of.set c.requires.set
 
-pub range_in-returns-in-Err : goal.range_in-returns-in-Err
-range_in-returns-in-Err g t c =
-    failed c.in-Err.ensures _
-
-pub range_in-with_elements-requires : goal.range_in-with_elements-requires
-range_in-with_elements-requires g t c =
-    small_constant (g.S.Scopes.state c.args.scopes.now).frame c.args.bits c.requires.bits
-
-pub range_in-returns : goal.range_in-returns
-range_in-returns g t c =
+pub element_in-returns-in-Known-asked : goal.element_in-returns-in-Known-asked
+element_in-returns-in-Known-asked g t c =
     let one = (rw c.in-Known.is at c.in-Ok.ensures) in
-    let made = value_everywhere (g.S.Scopes.state c.member_in.new.scopes) c.member_in.new.notes c.args.site.now c.with_elements.result IsOperand (λ k. gives (with_elements c.args.bits c.args.low c.in-Known.value))
-    (c.with_elements.ensures.there (g.S.Scopes.state c.member_in.new.scopes).frame (stays_after (λ (f : Frame). IsOperand f c.args.bits) one c.requires.bits)) (λ k. ap (λ o. gives o) c.with_elements.ensures.told) in
-    and_after (λ k. member_in k c.args.base (expr_view c.args.high.now)) (λ y k. gives (with_elements c.args.bits c.args.low y)) (Ok (Known c.with_elements.result)) one made
+    let two = (rw c.in-Known-asked.is at c.in-Ok-member_in.ensures) in
+    let made = value_everywhere (g.S.Scopes.state c.member_in-in-Some.new.scopes) c.member_in-in-Some.new.notes c.args.site.now c.with_elements-in-Some.result IsOperand (λ k. gives (with_elements c.args.of.set c.in-Known.value c.in-Known-asked.value))
+    (c.with_elements-in-Some.ensures.there (g.S.Scopes.state c.member_in-in-Some.new.scopes).frame (stays_after (λ (f : Frame). IsOperand f c.args.of.set) two (stays_after (λ (f : Frame). IsOperand f c.args.of.set) one c.requires.set))) (λ k. ap (λ o. gives o) c.with_elements-in-Some.ensures.told) in
+    let range = and_after (λ k. member_in k c.args.of.base (expr_view c.in-Some.high)) (λ y k. gives (with_elements c.args.of.set c.in-Known.value y)) (Ok (Known c.with_elements-in-Some.result)) two made in
+    described (Ok (Known c.with_elements-in-Some.result)) (and_after (λ k. member_in k c.args.of.base (expr_view (out-Label c.args.label.now).low)) (λ x k. and_then (member_in k c.args.of.base (expr_view c.in-Some.high)) (λ y. gives (with_elements c.args.of.set x y))) (Ok (Known c.with_elements-in-Some.result)) one range)
+    (λ k. range_given k c.args.of.base c.args.of.set (expr_view (out-Label c.args.label.now).low) (expr_view c.in-Some.high)
+    ∙ ap (element_in k c.args.of.base c.args.of.set) (sym (label_seen c.args.label.now ∙ ap (λ h. label_with (expr_view (out-Label c.args.label.now).low) (option_map expr_view h)) c.in-Some.is)))
 
 pub set_in-returns-in-DontKnowYet : goal.set_in-returns-in-DontKnowYet
 set_in-returns-in-DontKnowYet g t c =
-    waiting (rw c.in-DontKnowYet.is at (quiet c.args.notes.now c.args.site.now c.set_start.result (λ f start. IsThere f start.0 × IsOperand f start.1) (λ k. (set_base k c.args.of, no_elements k c.args.of)) c.set_start.ensures.reads c.set_start.ensures.waits c.set_start.ensures.told c.set_start.ensures.there))
+    waiting (rw c.in-DontKnowYet.is at (quiet c.args.notes.now c.args.site.now c.set_start.result (λ f start. IsThere f start.base × IsOperand f start.set) (λ k. record { base = set_base k c.args.of; set = no_elements k c.args.of }) c.set_start.ensures.reads c.set_start.ensures.waits c.set_start.ensures.told c.set_start.ensures.there))
 
 pub set_in-elements_in-requires : goal.set_in-elements_in-requires
 set_in-elements_in-requires g t c κs within =
-    (search rules, (within, ((stays_after (λ (f : Frame). SuitsSite f c.args.site.now) (quiet c.args.notes.now c.args.site.now c.set_start.result (λ f start. IsThere f start.0 × IsOperand f start.1) (λ k. (set_base k c.args.of, no_elements k c.args.of)) c.set_start.ensures.reads c.set_start.ensures.waits c.set_start.ensures.told c.set_start.ensures.there) c.requires.suits), ((stands_after (rw c.in-Known.is at (quiet c.args.notes.now c.args.site.now c.set_start.result (λ f start. IsThere f start.0 × IsOperand f start.1) (λ k. (set_base k c.args.of, no_elements k c.args.of)) c.set_start.ensures.reads c.set_start.ensures.waits c.set_start.ensures.told c.set_start.ensures.there))).0, ((stands_after (rw c.in-Known.is at (quiet c.args.notes.now c.args.site.now c.set_start.result (λ f start. IsThere f start.0 × IsOperand f start.1) (λ k. (set_base k c.args.of, no_elements k c.args.of)) c.set_start.ensures.reads c.set_start.ensures.waits c.set_start.ensures.told c.set_start.ensures.there))).1, c.requires.read)))))
+    (search rules, (within, ((stays_after (λ (f : Frame). SuitsSite f c.args.site.now) (quiet c.args.notes.now c.args.site.now c.set_start.result (λ f start. IsThere f start.base × IsOperand f start.set) (λ k. record { base = set_base k c.args.of; set = no_elements k c.args.of }) c.set_start.ensures.reads c.set_start.ensures.waits c.set_start.ensures.told c.set_start.ensures.there) c.requires.suits), ((stands_after (rw c.in-Known.is at (quiet c.args.notes.now c.args.site.now c.set_start.result (λ f start. IsThere f start.base × IsOperand f start.set) (λ k. record { base = set_base k c.args.of; set = no_elements k c.args.of }) c.set_start.ensures.reads c.set_start.ensures.waits c.set_start.ensures.told c.set_start.ensures.there))).0, ((stands_after (rw c.in-Known.is at (quiet c.args.notes.now c.args.site.now c.set_start.result (λ f start. IsThere f start.base × IsOperand f start.set) (λ k. record { base = set_base k c.args.of; set = no_elements k c.args.of }) c.set_start.ensures.reads c.set_start.ensures.waits c.set_start.ensures.told c.set_start.ensures.there))).1, c.requires.read)))))
 
 pub set_in-returns : goal.set_in-returns
 set_in-returns g t c =
-    and_after (λ k. gives (set_base k c.args.of, no_elements k c.args.of)) (λ start k. elements_in k start.0 start.1 (labels (map label_view c.args.items.now))) c.elements_in.result (rw c.in-Known.is at (quiet c.args.notes.now c.args.site.now c.set_start.result (λ f start. IsThere f start.0 × IsOperand f start.1) (λ k. (set_base k c.args.of, no_elements k c.args.of)) c.set_start.ensures.reads c.set_start.ensures.waits c.set_start.ensures.told c.set_start.ensures.there)) c.elements_in.ensures
+    and_after (λ k. gives (record { base = set_base k c.args.of; set = no_elements k c.args.of })) (λ start k. elements_in k start.base start.set (labels (map label_view c.args.items.now))) c.elements_in.result (rw c.in-Known.is at (quiet c.args.notes.now c.args.site.now c.set_start.result (λ f start. IsThere f start.base × IsOperand f start.set) (λ k. record { base = set_base k c.args.of; set = no_elements k c.args.of }) c.set_start.ensures.reads c.set_start.ensures.waits c.set_start.ensures.told c.set_start.ensures.there)) c.elements_in.ensures
 
 pub nexts_in-loop-next-init : goal.nexts_in-loop-next-init
 nexts_in-loop-next-init g t c =
-    value_everywhere (g.S.Scopes.state c.args.scopes.now) c.args.notes.now c.args.site.now c.args.first IsOperand (λ k. gives c.args.first) c.requires.first (λ k. refl)
+    value_everywhere (g.S.Scopes.state c.args.scopes.now) c.args.notes.now c.args.site.now c.args.first.operand IsOperand (λ k. gives c.args.first.operand) c.requires.first (λ k. refl)
 
 pub nexts_in-next_in-requires : goal.nexts_in-next_in-requires
 nexts_in-next_in-requires g t c κs within =
@@ -296,7 +291,7 @@ nexts_in-next_in-requires g t c κs within =
 
 pub nexts_in-loop-next-preserved : goal.nexts_in-loop-next-preserved
 nexts_in-loop-next-preserved g t c =
-    one_more (λ k o i. next_in k c.args.at o (next_view i)) c.args.first c.args.rest.now c.loop-next.next-index c.next-item.result c.loop-next-test.true c.next-item.is c.loop-next.invariant (rw c.in-Known.is at c.in-Ok.ensures)
+    one_more (λ k o i. next_in k c.args.first.at o (next_view i)) c.args.first.operand c.args.rest.now c.loop-next.next-index c.next-item.result c.loop-next-test.true c.next-item.is c.loop-next.invariant (rw c.in-Known.is at c.in-Ok.ensures)
 
 pub nexts_in-returns-in-DontKnowYet : goal.nexts_in-returns-in-DontKnowYet
 nexts_in-returns-in-DontKnowYet g t c =
@@ -308,19 +303,19 @@ nexts_in-returns-in-Err g t c =
 
 pub nexts_in-returns : goal.nexts_in-returns
 nexts_in-returns g t c =
-    whole (λ k o i. next_in k c.args.at o (next_view i)) c.args.first c.args.rest.now c.loop-next.next-index (λ k. many_in k c.args.at c.args.first (nexts (map next_view c.args.rest.now))) c.loop-next-test.false c.loop-next.invariant (λ k. many_folded k next_view c.args.at c.args.first c.args.rest.now)
+    whole (λ k o i. next_in k c.args.first.at o (next_view i)) c.args.first.operand c.args.rest.now c.loop-next.next-index (λ k. many_in k c.args.first.at c.args.first.operand (nexts (map next_view c.args.rest.now))) c.loop-next-test.false c.loop-next.invariant (λ k. many_folded k next_view c.args.first.at c.args.first.operand c.args.rest.now)
 
 pub elements_in-loop-label-init : goal.elements_in-loop-label-init
 elements_in-loop-label-init g t c =
-    value_everywhere (g.S.Scopes.state c.args.scopes.now) c.args.notes.now c.args.site.now c.args.bits IsOperand (λ k. gives c.args.bits) c.requires.bits (λ k. refl)
+    value_everywhere (g.S.Scopes.state c.args.scopes.now) c.args.notes.now c.args.site.now c.args.of.set IsOperand (λ k. gives c.args.of.set) c.requires.set (λ k. refl)
 
 pub elements_in-element_in-requires : goal.elements_in-element_in-requires
 elements_in-element_in-requires g t c κs within =
-    ((let small = item_small size-Label c.args.items.now c.loop-label.label-index c.label-item.result c.loop-label-test.true c.label-item.is in omega (arith, small, c.decreases)), (within, ((stays_after (λ (f : Frame). SuitsSite f c.args.site.now) c.loop-label.invariant c.requires.suits), ((stays_after (λ (f : Frame). IsThere f c.args.base) c.loop-label.invariant c.requires.base), (stands_after c.loop-label.invariant, read_label c.args.site.now.texts.now.names label_view c.args.items.now c.loop-label.label-index c.label-item.result c.loop-label-test.true c.label-item.is c.requires.read)))))
+    ((let small = item_small size-Label c.args.items.now c.loop-label.label-index c.label-item.result c.loop-label-test.true c.label-item.is in omega (arith, small, c.decreases)), (within, ((stays_after (λ (f : Frame). SuitsSite f c.args.site.now) c.loop-label.invariant c.requires.suits), ((stays_after (λ (f : Frame). IsThere f c.args.of.base) c.loop-label.invariant c.requires.base), (stands_after c.loop-label.invariant, read_label c.args.site.now.texts.now.names label_view c.args.items.now c.loop-label.label-index c.label-item.result c.loop-label-test.true c.label-item.is c.requires.read)))))
 
 pub elements_in-loop-label-preserved : goal.elements_in-loop-label-preserved
 elements_in-loop-label-preserved g t c =
-    one_more (λ k o i. element_in k c.args.base o (label_view i)) c.args.bits c.args.items.now c.loop-label.label-index c.label-item.result c.loop-label-test.true c.label-item.is c.loop-label.invariant (rw c.in-Known.is at c.in-Ok.ensures)
+    one_more (λ k o i. element_in k c.args.of.base o (label_view i)) c.args.of.set c.args.items.now c.loop-label.label-index c.label-item.result c.loop-label-test.true c.label-item.is c.loop-label.invariant (rw c.in-Known.is at c.in-Ok.ensures)
 
 pub elements_in-returns-in-DontKnowYet : goal.elements_in-returns-in-DontKnowYet
 elements_in-returns-in-DontKnowYet g t c =
@@ -332,11 +327,11 @@ elements_in-returns-in-Err g t c =
 
 pub elements_in-returns : goal.elements_in-returns
 elements_in-returns g t c =
-    whole (λ k o i. element_in k c.args.base o (label_view i)) c.args.bits c.args.items.now c.loop-label.label-index (λ k. elements_in k c.args.base c.args.bits (labels (map label_view c.args.items.now))) c.loop-label-test.false c.loop-label.invariant (λ k. elements_folded k label_view c.args.base c.args.bits c.args.items.now)
+    whole (λ k o i. element_in k c.args.of.base o (label_view i)) c.args.of.set c.args.items.now c.loop-label.label-index (λ k. elements_in k c.args.of.base c.args.of.set (labels (map label_view c.args.items.now))) c.loop-label-test.false c.loop-label.invariant (λ k. elements_folded k label_view c.args.of.base c.args.of.set c.args.items.now)
 
 pub selectors_in-loop-selector-init : goal.selectors_in-loop-selector-init
 selectors_in-loop-selector-init g t c =
-    value_everywhere (g.S.Scopes.state c.args.scopes.now) c.args.notes.now c.args.site.now c.args.of IsOperand (λ k. gives c.args.of) c.requires.of (λ k. refl)
+    value_everywhere (g.S.Scopes.state c.args.scopes.now) c.args.notes.now c.args.site.now c.args.of.operand IsOperand (λ k. gives c.args.of.operand) c.requires.of (λ k. refl)
 
 pub selectors_in-selector_in-requires : goal.selectors_in-selector_in-requires
 selectors_in-selector_in-requires g t c κs within =
@@ -344,7 +339,7 @@ selectors_in-selector_in-requires g t c κs within =
 
 pub selectors_in-loop-selector-preserved : goal.selectors_in-loop-selector-preserved
 selectors_in-loop-selector-preserved g t c =
-    one_more (λ k o i. selector_in k c.args.at o (selector_view i)) c.args.of c.args.rest.now c.loop-selector.selector-index c.selector-item.result c.loop-selector-test.true c.selector-item.is c.loop-selector.invariant (rw c.in-Known.is at c.in-Ok.ensures)
+    one_more (λ k o i. selector_in k c.args.of.at o (selector_view i)) c.args.of.operand c.args.rest.now c.loop-selector.selector-index c.selector-item.result c.loop-selector-test.true c.selector-item.is c.loop-selector.invariant (rw c.in-Known.is at c.in-Ok.ensures)
 
 pub selectors_in-returns-in-DontKnowYet : goal.selectors_in-returns-in-DontKnowYet
 selectors_in-returns-in-DontKnowYet g t c =
@@ -356,11 +351,11 @@ selectors_in-returns-in-Err g t c =
 
 pub selectors_in-returns : goal.selectors_in-returns
 selectors_in-returns g t c =
-    whole (λ k o i. selector_in k c.args.at o (selector_view i)) c.args.of c.args.rest.now c.loop-selector.selector-index (λ k. selectors_in k c.args.at c.args.of (selectors (map selector_view c.args.rest.now))) c.loop-selector-test.false c.loop-selector.invariant (λ k. selectors_folded k selector_view c.args.at c.args.of c.args.rest.now)
+    whole (λ k o i. selector_in k c.args.of.at o (selector_view i)) c.args.of.operand c.args.rest.now c.loop-selector.selector-index (λ k. selectors_in k c.args.of.at c.args.of.operand (selectors (map selector_view c.args.rest.now))) c.loop-selector-test.false c.loop-selector.invariant (λ k. selectors_folded k selector_view c.args.of.at c.args.of.operand c.args.rest.now)
 
 pub indices_in-loop-e-init : goal.indices_in-loop-e-init
 indices_in-loop-e-init g t c =
-    value_everywhere (g.S.Scopes.state c.args.scopes.now) c.args.notes.now c.args.site.now c.args.of IsOperand (λ k. gives c.args.of) c.requires.of (λ k. refl)
+    value_everywhere (g.S.Scopes.state c.args.scopes.now) c.args.notes.now c.args.site.now c.args.of.operand IsOperand (λ k. gives c.args.of.operand) c.requires.of (λ k. refl)
 
 pub indices_in-index_in-requires : goal.indices_in-index_in-requires
 indices_in-index_in-requires g t c κs within =
@@ -368,7 +363,7 @@ indices_in-index_in-requires g t c κs within =
 
 pub indices_in-loop-e-preserved : goal.indices_in-loop-e-preserved
 indices_in-loop-e-preserved g t c =
-    one_more (λ k o i. index_in k c.args.at o (expr_view i)) c.args.of c.args.es.now c.loop-e.e-index c.e-item.result c.loop-e-test.true c.e-item.is c.loop-e.invariant (rw c.in-Known.is at c.in-Ok.ensures)
+    one_more (λ k o i. index_in k c.args.of.at o (expr_view i)) c.args.of.operand c.args.es.now c.loop-e.e-index c.e-item.result c.loop-e-test.true c.e-item.is c.loop-e.invariant (rw c.in-Known.is at c.in-Ok.ensures)
 
 pub indices_in-returns-in-DontKnowYet : goal.indices_in-returns-in-DontKnowYet
 indices_in-returns-in-DontKnowYet g t c =
@@ -380,7 +375,7 @@ indices_in-returns-in-Err g t c =
 
 pub indices_in-returns : goal.indices_in-returns
 indices_in-returns g t c =
-    whole (λ k o i. index_in k c.args.at o (expr_view i)) c.args.of c.args.es.now c.loop-e.e-index (λ k. indices_in k c.args.at c.args.of (exprs (map expr_view c.args.es.now))) c.loop-e-test.false c.loop-e.invariant (λ k. indices_folded k expr_view c.args.at c.args.of c.args.es.now)
+    whole (λ k o i. index_in k c.args.of.at o (expr_view i)) c.args.of.operand c.args.es.now c.loop-e.e-index (λ k. indices_in k c.args.of.at c.args.of.operand (exprs (map expr_view c.args.es.now))) c.loop-e-test.false c.loop-e.invariant (λ k. indices_folded k expr_view c.args.of.at c.args.of.operand c.args.es.now)
 
 pub arguments_in-loop-e-init : goal.arguments_in-loop-e-init
 arguments_in-loop-e-init g t c =

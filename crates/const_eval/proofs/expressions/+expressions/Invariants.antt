@@ -11,19 +11,19 @@ use Rattle.const_eval.proofs.expressions.+expressions.Given as goal
 -- what the items so far give
 abbrev pub invariant-nexts_in-loop-next : goal.invariant-nexts_in-loop-next
 invariant-nexts_in-loop-next g l =
-    Analysed (g.S.Scopes.state l.fn.scopes) (g.S.Scopes.state l.scopes) l.fn.notes l.notes l.site (Ok (Known l.x)) IsOperand (λ c. folded (λ o n. next_in c l.at o (next_view n)) l.fn.first (take l.next-index l.rest))
+    Analysed (g.S.Scopes.state l.fn.scopes) (g.S.Scopes.state l.scopes) l.fn.notes l.notes l.site (Ok (Known l.operand)) IsOperand (λ c. folded (λ o n. next_in c l.fn.first.at o (next_view n)) l.fn.first.operand (take l.next-index l.rest))
 
 abbrev pub invariant-elements_in-loop-label : goal.invariant-elements_in-loop-label
 invariant-elements_in-loop-label g l =
-    Analysed (g.S.Scopes.state l.fn.scopes) (g.S.Scopes.state l.scopes) l.fn.notes l.notes l.site (Ok (Known l.set)) IsOperand (λ c. folded (λ o i. element_in c l.base o (label_view i)) l.fn.bits (take l.label-index l.items))
+    Analysed (g.S.Scopes.state l.fn.scopes) (g.S.Scopes.state l.scopes) l.fn.notes l.notes l.site (Ok (Known l.set)) IsOperand (λ c. folded (λ o i. element_in c l.fn.of.base o (label_view i)) l.fn.of.set (take l.label-index l.items))
 
 abbrev pub invariant-selectors_in-loop-selector : goal.invariant-selectors_in-loop-selector
 invariant-selectors_in-loop-selector g l =
-    Analysed (g.S.Scopes.state l.fn.scopes) (g.S.Scopes.state l.scopes) l.fn.notes l.notes l.site (Ok (Known l.operand)) IsOperand (λ c. folded (λ o i. selector_in c l.at o (selector_view i)) l.fn.of (take l.selector-index l.rest))
+    Analysed (g.S.Scopes.state l.fn.scopes) (g.S.Scopes.state l.scopes) l.fn.notes l.notes l.site (Ok (Known l.operand)) IsOperand (λ c. folded (λ o i. selector_in c l.fn.of.at o (selector_view i)) l.fn.of.operand (take l.selector-index l.rest))
 
 abbrev pub invariant-indices_in-loop-e : goal.invariant-indices_in-loop-e
 invariant-indices_in-loop-e g l =
-    Analysed (g.S.Scopes.state l.fn.scopes) (g.S.Scopes.state l.scopes) l.fn.notes l.notes l.site (Ok (Known l.operand)) IsOperand (λ c. folded (λ o i. index_in c l.at o (expr_view i)) l.fn.of (take l.e-index l.es))
+    Analysed (g.S.Scopes.state l.fn.scopes) (g.S.Scopes.state l.scopes) l.fn.notes l.notes l.site (Ok (Known l.operand)) IsOperand (λ c. folded (λ o i. index_in c l.fn.of.at o (expr_view i)) l.fn.of.operand (take l.e-index l.es))
 
 abbrev pub invariant-arguments_in-loop-e : goal.invariant-arguments_in-loop-e
 invariant-arguments_in-loop-e g l =

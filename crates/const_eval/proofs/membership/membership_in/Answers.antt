@@ -34,7 +34,7 @@ returns-in-None-clause-reads g c = Reads-trans c.in-Known.ensures.reads c.in-Kno
 
 pub returns-then-is_broken_place-clause-told : goal.returns-then-is_broken_place-clause-told
 returns-then-is_broken_place-clause-told g c made in_hand told =
-    in_by (context_of (g.S.Scopes.state c.args.scopes.now).frame made c.args.site.now) c.args.operator_at c.args.x.operand c.args.x.at c.args.y c.args.base _
+    in_by (context_of (g.S.Scopes.state c.args.scopes.now).frame made c.args.site.now) c.args.operator_at c.args.x.operand c.args.x.at c.args.of.set c.args.of.base _
     (sym c.if-is_broken_place.true ∙ c.is_broken_place.ensures ∙ ap (λ t. is_same_place t broken) (c.in-Known.ensures.told made in_hand told))
 
 pub returns-in-Some-clause-told : goal.returns-in-Some-clause-told
@@ -44,11 +44,11 @@ returns-in-Some-clause-told g c made in_hand told =
     let now = context_of f made s in
     let whole = c.base_by-whole.ensures.base ∙ by_row base_by (c.in-Known.ensures.told made in_hand told) (c.in-Known.ensures.kind made in_hand told) in
     c.member.ensures.told now (standard_there f made s c.requires.suits told)
-    ∙ ap (λ t. and_then (as_number now c.args.x.at t c.in-Some.element) (λ e. gives (member_of_set e c.args.y))) whole
-    ∙ within_some now c.args.operator_at c.args.x.operand c.args.x.at c.args.y c.args.base c.in-Some.element
-    (told_later f _ (λ h rows. c.base_by-whole.result ≡ base_of (scene_of h rows s.around.now) c.args.base → Some c.in-Some.element ≡ ordinal (context_of h rows s) c.args.x.operand c.args.base)
+    ∙ ap (λ t. and_then (as_number now c.args.x.at t c.in-Some.element) (λ e. gives (member_of_set e c.args.of.set))) whole
+    ∙ within_some now c.args.operator_at c.args.x.operand c.args.x.at c.args.of.set c.args.of.base c.in-Some.element
+    (told_later f _ (λ h rows. c.base_by-whole.result ≡ base_of (scene_of h rows s.around.now) c.args.of.base → Some c.in-Some.element ≡ ordinal (context_of h rows s) c.args.x.operand c.args.of.base)
     c.in-Known.ensures.reads.keeps.frame (rw c.in-Some.is at c.in-Known-ordinal_element.ensures.told) made in_hand told whole)
-    ∙ in_by now c.args.operator_at c.args.x.operand c.args.x.at c.args.y c.args.base _
+    ∙ in_by now c.args.operator_at c.args.x.operand c.args.x.at c.args.of.set c.args.of.base _
     (sym c.if-is_broken_place.false ∙ c.is_broken_place.ensures ∙ ap (λ t. is_same_place t broken) (c.in-Known.ensures.told made in_hand told))
 
 pub returns-in-None-clause-told : goal.returns-in-None-clause-told
@@ -57,8 +57,8 @@ returns-in-None-clause-told g c made in_hand told =
     let s = c.args.site.now in
     let now = context_of f made s in
     let whole = c.base_by-whole.ensures.base ∙ by_row base_by (c.in-Known.ensures.told made in_hand told) (c.in-Known.ensures.kind made in_hand told) in
-    within_none now c.args.operator_at c.args.x.operand c.args.x.at c.args.y c.args.base
-    (told_later f _ (λ h rows. c.base_by-whole.result ≡ base_of (scene_of h rows s.around.now) c.args.base → None ≡ ordinal (context_of h rows s) c.args.x.operand c.args.base)
+    within_none now c.args.operator_at c.args.x.operand c.args.x.at c.args.of.set c.args.of.base
+    (told_later f _ (λ h rows. c.base_by-whole.result ≡ base_of (scene_of h rows s.around.now) c.args.of.base → None ≡ ordinal (context_of h rows s) c.args.x.operand c.args.of.base)
     c.in-Known.ensures.reads.keeps.frame (rw c.in-None.is at c.in-Known-ordinal_element.ensures.told) made in_hand told whole)
-    ∙ in_by now c.args.operator_at c.args.x.operand c.args.x.at c.args.y c.args.base _
+    ∙ in_by now c.args.operator_at c.args.x.operand c.args.x.at c.args.of.set c.args.of.base _
     (sym c.if-is_broken_place.false ∙ c.is_broken_place.ensures ∙ ap (λ t. is_same_place t broken) (c.in-Known.ensures.told made in_hand told))

@@ -8,7 +8,7 @@ pub returns-then-are_boolean-clause-told : goal.returns-then-are_boolean-clause-
 returns-then-are_boolean-clause-told g c made in_hand told =
     let now = context_of (g.S.Scopes.state c.args.scopes.now).frame made c.args.site.now in
     c.combined.ensures.told now
-    ∙ logical_by now c.args.operator c.args.operator_at c.args.x c.args.y c.in-Known.value.0 c.in-Known.value.1
+    ∙ logical_by now c.args.operator.operator c.args.operator.at c.args.x c.args.y c.in-Known.value.0 c.in-Known.value.1
     (c.in-Known.ensures.left made in_hand told ∙ ap (base_of now.scene) c.operand_type.ensures)
     (c.in-Known.ensures.right made in_hand told ∙ ap (base_of now.scene) c.operand_type-2.ensures)
     _ (sym c.if-are_boolean.true ∙ c.are_boolean.ensures)
@@ -16,7 +16,7 @@ returns-then-are_boolean-clause-told g c made in_hand told =
 pub returns-else-are_boolean-clause-told : goal.returns-else-are_boolean-clause-told
 returns-else-are_boolean-clause-told g c made in_hand told =
     let now = context_of (g.S.Scopes.state c.args.scopes.now).frame made c.args.site.now in
-    logical_by now c.args.operator c.args.operator_at c.args.x c.args.y c.in-Known.value.0 c.in-Known.value.1
+    logical_by now c.args.operator.operator c.args.operator.at c.args.x c.args.y c.in-Known.value.0 c.in-Known.value.1
     (c.in-Known.ensures.left made in_hand told ∙ ap (base_of now.scene) c.operand_type.ensures)
     (c.in-Known.ensures.right made in_hand told ∙ ap (base_of now.scene) c.operand_type-2.ensures)
     _ (sym c.if-are_boolean.false ∙ c.are_boolean.ensures)

@@ -54,7 +54,7 @@ returns-then-are_sets_alike-clause-told g c made in_hand told =
     let y_kind = told_first c.in-Known-stand.value.1 f _ (λ h rows. kind_of (scene_of h rows a) c.operand_type-2.result) c.in-Known.ensures.reads.keeps.frame c.in-Known-stand.ensures.kind made in_hand told
     ∙ ap (kind_of now.scene) c.operand_type-2.ensures in
     c.set_operation.ensures.told now
-    ∙ alike_by now c.args.operator c.args.operator_at x c.args.x.at y c.args.y.at _
+    ∙ alike_by now c.args.operator.operator c.args.operator.at x c.args.x.at y c.args.y.at _
     (sym c.if-are_sets_alike.true ∙ c.are_sets_alike.ensures ∙ alike_types now x y _ _ (by_row set_row_by x_place x_kind) (by_row set_row_by y_place y_kind))
 
 pub returns-clause-told : goal.returns-clause-told
@@ -76,14 +76,14 @@ returns-clause-told g c made in_hand told =
     let first_is : c.with_base-first.result ≡ first = c.with_base-first.ensures in
     let second_is : c.with_base-second.result ≡ second = c.with_base-second.ensures in
     judged_met c.on_values.result f _ s (λ h rows. IsBased (context_of h rows s) c.with_base-first.result) (λ h rows. IsBased (context_of h rows s) c.with_base-second.result)
-    (λ h rows. values (context_of h rows s) c.args.operator c.args.operator_at c.with_base-first.result.operand c.with_base-first.result.at c.with_base-second.result.operand c.with_base-second.result.at
+    (λ h rows. values (context_of h rows s) c.args.operator.operator c.args.operator.at c.with_base-first.result.operand c.with_base-first.result.at c.with_base-second.result.operand c.with_base-second.result.at
     (is_compatible (context_of h rows s).scene c.with_base-first.result.operand c.with_base-second.result.operand)) made _
     (c.in-Known-stand.ensures.reads.keeps.frame ∙ c.in-Known.ensures.reads.keeps.frame) c.on_values.ensures.told
     (subst (λ (b : Based). IsBased now b) (sym first_is) (by_row base_by x_place x_kind))
     (subst (λ (b : Based). IsBased now b) (sym second_is) (by_row base_by y_place y_kind))
-    (ap (λ (b : Based). values now c.args.operator c.args.operator_at b.operand b.at c.with_base-second.result.operand c.with_base-second.result.at (is_compatible now.scene b.operand c.with_base-second.result.operand)) first_is
-    ∙ ap (λ (b : Based). values now c.args.operator c.args.operator_at x c.args.x.at b.operand b.at (is_compatible now.scene x b.operand)) second_is
-    ∙ alike_by now c.args.operator c.args.operator_at x c.args.x.at y c.args.y.at _
+    (ap (λ (b : Based). values now c.args.operator.operator c.args.operator.at b.operand b.at c.with_base-second.result.operand c.with_base-second.result.at (is_compatible now.scene b.operand c.with_base-second.result.operand)) first_is
+    ∙ ap (λ (b : Based). values now c.args.operator.operator c.args.operator.at x c.args.x.at b.operand b.at (is_compatible now.scene x b.operand)) second_is
+    ∙ alike_by now c.args.operator.operator c.args.operator.at x c.args.x.at y c.args.y.at _
     (sym c.if-are_sets_alike.false ∙ c.are_sets_alike.ensures ∙ alike_types now x y _ _ (by_row set_row_by x_place x_kind) (by_row set_row_by y_place y_kind))) in_hand told
 
 pub returns-clause-reads : goal.returns-clause-reads

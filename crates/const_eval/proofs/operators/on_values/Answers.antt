@@ -29,7 +29,7 @@ pub returns-then-not-value-clause-told : goal.returns-then-not-value-clause-told
 returns-then-not-value-clause-told g c made in_hand told left right =
     let now = context_of (g.S.Scopes.state c.args.scopes.now).frame made c.args.site.now in
     let fails : c.in-Known.value ≡ false = search rules in
-    ap (values now c.args.operator c.args.operator_at c.args.x.operand c.args.x.at c.args.y.operand c.args.y.at) (sym fails ∙ c.in-Known.ensures.told made in_hand told left right)
+    ap (values now c.args.operator.operator c.args.operator.at c.args.x.operand c.args.x.at c.args.y.operand c.args.y.at) (sym fails ∙ c.in-Known.ensures.told made in_hand told left right)
 
 pub returns-clause-told : goal.returns-clause-told
 returns-clause-told g c made in_hand told =
@@ -40,12 +40,12 @@ returns-clause-told g c made in_hand told =
     let y = c.taken-right.result in
     let holds : c.in-Known.value ≡ true = search rules in
     judged_on c.on_compatible.result f _ s (λ h rows. IsBased (context_of h rows s) x) (λ h rows. IsBased (context_of h rows s) y)
-    (λ h rows. on_compatible (context_of h rows s) c.args.operator c.args.operator_at x.operand x.at y.operand y.at) made
-    (values now c.args.operator c.args.operator_at c.args.x.operand c.args.x.at c.args.y.operand c.args.y.at (is_compatible now.scene c.args.x.operand c.args.y.operand))
+    (λ h rows. on_compatible (context_of h rows s) c.args.operator.operator c.args.operator.at x.operand x.at y.operand y.at) made
+    (values now c.args.operator.operator c.args.operator.at c.args.x.operand c.args.x.at c.args.y.operand c.args.y.at (is_compatible now.scene c.args.x.operand c.args.y.operand))
     (IsBased now c.args.x) (IsBased now c.args.y) c.in-Known.ensures.reads.keeps.frame c.on_compatible.ensures.told
     (λ left right. c.taken-left.ensures.based now (search rules) (standard_there f made s c.requires.suits told) left right)
     (λ left right. c.taken-right.ensures.based now (search rules) (standard_there f made s c.requires.suits told) right left)
-    (λ left right. values_at now c.args.operator c.args.operator_at c.args.x.operand c.args.x.at c.args.y.operand c.args.y.at x.operand x.at y.operand y.at
+    (λ left right. values_at now c.args.operator.operator c.args.operator.at c.args.x.operand c.args.x.at c.args.y.operand c.args.y.at x.operand x.at y.operand y.at
     (c.taken-left.ensures.told now (search rules) right) c.taken-left.ensures.at (c.taken-right.ensures.told now (search rules) left) c.taken-right.ensures.at
     (sym (c.in-Known.ensures.told made in_hand told left right) ∙ holds)) in_hand told
 

@@ -9,17 +9,17 @@ pub returns-in_default : goal.returns-in_default
 returns-in_default g c =
     let f = (g.S.Scopes.state c.args.scopes.now).frame in
     let s = c.args.site.now in
-    let op = c.args.operator in
+    let op = c.args.operator.operator in
     let x = c.args.x in
     let y = c.args.y in
     record {
       reads = c.on_alike.ensures.reads;
       waits = c.on_alike.ensures.waits;
       told = λ made in_hand told.
-          judged_as c.on_alike.result f f s (λ h rows. on_alike (context_of h rows s) op c.args.operator_at x.operand x.at y.operand y.at)
-          made (operate_by (context_of f made s) op c.args.operator_at x.operand x.at y.operand y.at)
+          judged_as c.on_alike.result f f s (λ h rows. on_alike (context_of h rows s) op c.args.operator.at x.operand x.at y.operand y.at)
+          made (operate_by (context_of f made s) op c.args.operator.at x.operand x.at y.operand y.at)
           refl c.on_alike.ensures.told
-          (other_operator (context_of f made s) op c.args.operator_at x.operand x.at y.operand y.at c.in_default.not-And c.in_default.not-Or c.in_default.not-In) in_hand told;
+          (other_operator (context_of f made s) op c.args.operator.at x.operand x.at y.operand y.at c.in_default.not-And c.in_default.not-Or c.in_default.not-In) in_hand told;
       there = c.on_alike.ensures.there;
     }
 

@@ -4,6 +4,6 @@ use Rattle.const_eval.proofs.steps.applied_one.Goals as goal
 
 pub returns : goal.returns
 returns g c =
-    noted_operand c.args.notes.now c.note.new.notes c.args.site.now c.apply_one-given.result c.note.result (λ k. apply_one k c.args.operator c.args.operator_at c.args.operand)
+    noted_operand c.args.notes.now c.note.new.notes c.args.site.now c.apply_one-given.result c.note.result (λ k. apply_one k c.args.operator.operator c.args.operator.at c.args.operand)
     c.note.ensures.answers c.note.ensures.diags c.note.ensures.waits c.note.ensures.there c.note.ensures.told
     c.apply_one-given.ensures.reads c.apply_one-given.ensures.waits c.apply_one-given.ensures.told c.apply_one-given.ensures.there

@@ -13,4 +13,4 @@ no_module c at o i other = refl
 
 pub returns-in_default : goal.returns-in_default
 returns-in_default g c =
-    described c.picked.result (c.picked.ensures (g.S.Scopes.state c.args.scopes.now)) (λ k. no_module k c.args.at c.args.operand c.args.ident c.in_default.not-ModuleName)
+    described c.picked.result (c.picked.ensures (g.S.Scopes.state c.args.scopes.now)) (λ k. no_module k c.args.x.at c.args.x.operand c.args.ident c.in_default.not-ModuleName)

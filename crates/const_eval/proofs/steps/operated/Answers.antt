@@ -4,6 +4,6 @@ use Rattle.const_eval.proofs.steps.operated.Goals as goal
 
 pub returns : goal.returns
 returns g c =
-    noted_operand c.args.notes.now c.note.new.notes c.args.site.now c.operate-given.result c.note.result (λ k. operate k c.args.operator c.args.operator_at c.args.x.operand c.args.x.at c.args.y.operand c.args.y.at)
+    noted_operand c.args.notes.now c.note.new.notes c.args.site.now c.operate-given.result c.note.result (λ k. operate k c.args.operator.operator c.args.operator.at c.args.sides.0.operand c.args.sides.0.at c.args.sides.1.operand c.args.sides.1.at)
     c.note.ensures.answers c.note.ensures.diags c.note.ensures.waits c.note.ensures.there c.note.ensures.told
     c.operate-given.ensures.reads c.operate-given.ensures.waits c.operate-given.ensures.told c.operate-given.ensures.there
