@@ -73,5 +73,5 @@ pub use flows::{Arm, Code, Flow, FlowForm, FlowNode, Flows};
 pub use laws::{code_is_short, code_is_valid, heights_are_right, returns_agree};
 pub use procedure_codes::procedure_code;
 pub use stands::Stand;
+pub use statements::statement;
 pub use top_statements::{Beginning, Stated, state};
-pub use walker::Walker;

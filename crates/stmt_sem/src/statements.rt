@@ -8,9 +8,9 @@ ghost use Rattle.expr_sem.specs.Codings.{IsCoded, coded_in};
 ghost use Rattle.expr_sem.specs.Fragments.{part};
 ghost use Rattle.type_rules.specs.Scenes.{IsThere};
 ghost use Rattle.stmt_sem.specs.FlowNodes.{AreSound, flow_in};
-ghost use Rattle.stmt_sem.specs.Flowings.{IsFlow};
+ghost use Rattle.stmt_sem.specs.Flowings.{Flowing, IsFlow};
 ghost use Rattle.m2_base.specs.Statics.ReadStatements.{AreReadCaseArms, AreReadIfArms, AreReadStatements, IsReadCaseArm, IsReadCaseElse, IsReadExprOption, IsReadIfArm, IsReadStatement};
-ghost use Rattle.stmt_sem.specs.Stands.{IsStand, names_of};
+ghost use Rattle.stmt_sem.specs.Stands.{IsStand, names_of, stand_in};
 ghost use Rattle.stmt_sem.specs.Stated.{AreArms, AreFlows, IsArm, IsCase, IsOther, arm_in, arms_in, block_in, case_in, cases_in, other_in};
 ghost use Rattle.stmt_sem.specs.StatementParts.{case_of as spec_case, form_of, otherwise as spec_otherwise, statements_onto, with_body as spec_with};
 ghost use Rattle.stmt_sem.specs.Statements.{arm_flow, arms_flow, case_flow, cases_flow, else_flow, flow_of, statement_flow};
@@ -28,7 +28,7 @@ use case_labels::{Covered, case_labels};
 use const_eval::is_bad;
 use expr_sem::Coded;
 use m2_base::{
-    Ask, CaseArm, Designator, Expr, Ident, IfArm, Memory, Place, Scopes, Statement, StmtForm,
+    Ask, CaseArm, Designator, Expr, Ident, IfArm, Memory, Notes, Place, Scopes, Statement, StmtForm,
 };
 use type_rules::operand_type;
 
@@ -48,8 +48,7 @@ struct Limits<'a> {
 }
 
 impl<S: Scopes> Walker<'_, S> {
-    /// A statement where it stands: its code as a flow, for which further fragments and flows are added to `flows`. What is
-    /// wrong is noted in text order, and what is in error has no code. It waits where the first of its parts does.
+    /// A statement.
     #[cycle(statements)]
     pub fn statement(&mut self, stand: &Stand, of: &Statement) -> Result<Ask<Flow>, Memory>
         requires stand { IsStand (frame_of S.state self.old) stand.now }
@@ -473,4 +472,26 @@ impl<S: Scopes> Walker<'_, S> {
         let x = analysed!(self.record_of(stand, of));
         self.with_body(stand, x, body)
     }
+}
+
+/// A statement where it stands: its code as a flow, for which further fragments and flows are added to `flows`. What is
+/// wrong is noted in text order, and what is in error has no code. It waits where the first of its parts does.
+pub fn statement<S: Scopes>(
+    scopes: &mut S,
+    stand: &Stand,
+    of: &Statement,
+    flows: &mut Flows,
+    notes: &mut Notes,
+) -> Result<Ask<Flow>, Memory>
+    requires stand { IsStand (S.state scopes.old).frame stand.now }
+    requires sound { AreSound flows.old }
+    requires read { IsReadStatement (names_of stand.now) (statement_view of.now) }
+    ensures { Flowing (S.state scopes.old) (S.state scopes.new) notes.old notes.new flows.old flows.new stand.now.site.now result IsFlow flow_in (λ c. statement_flow (stand_in c stand.now) (statement_view of.now)) }
+{
+    let mut walker = Walker {
+        scopes,
+        flows,
+        notes,
+    };
+    walker.statement(stand, of)
 }

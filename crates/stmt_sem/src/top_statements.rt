@@ -18,7 +18,7 @@ use crate::block_pieces::empty_piece;
 use crate::flow_appending::append_flow;
 use crate::flows::{Flow, Flows};
 use crate::stands::Stand;
-use crate::walker::Walker;
+use crate::statements::statement;
 use expr_sem::Piece;
 use m2_base::{Ask, Layout, Memory, Notes, Place, Scopes, Site, Statement, Stream};
 use std::alloc::Global;
@@ -78,12 +78,7 @@ pub fn top_statement<S: Scopes>(
         withs: &[],
         looped: false,
     };
-    let mut walker = Walker {
-        scopes,
-        flows,
-        notes,
-    };
-    walker.statement(&stand, top.of)
+    statement(scopes, &stand, top.of, flows, notes)
 }
 
 /// Where a statement of a body begins: its first temporary cell, and the first byte of its data; and the result of the body's

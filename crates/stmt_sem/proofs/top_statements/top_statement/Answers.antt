@@ -24,4 +24,4 @@ returns-in_err-layout g c =
 pub returns : goal.returns
 returns g c =
     without_layout c.args.site.now _ c.args.top.now.result (statement_view c.args.top.now.of.now) c.requires.item refl refl (λ k. record { names = (c.in_ok-layout.ensures.names ∙ c.new.ensures.items) k; firsts = (c.in_ok-layout.ensures.firsts ∙ c.new-2.ensures.items) k; brought = c.in_ok-layout.ensures.brought k })
-    refl c.statement.ensures.walks
+    refl c.statement.ensures

@@ -1,4 +1,4 @@
-use Rattle.std.proofs.Common.{ap, map, refl}
+use Rattle.std.proofs.Common.{ap, map}
 use Rattle.m2_base.specs.Trees.{exprs}
 use Rattle.m2_base.specs.Views.{designator_view, expr_view}
 use Rattle.stmt_sem.specs.Flows.{straight}

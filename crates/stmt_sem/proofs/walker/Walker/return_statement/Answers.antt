@@ -1,4 +1,4 @@
-use Rattle.std.proofs.Common.{ap, option_map, refl}
+use Rattle.std.proofs.Common.{ap, option_map}
 use Rattle.m2_base.specs.Views.{expr_view}
 use Rattle.stmt_sem.specs.Flows.{straight}
 use Rattle.stmt_sem.specs.Stands.{stand_in}
