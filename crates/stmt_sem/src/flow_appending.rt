@@ -49,8 +49,8 @@ impl Appender<'_> {
         self.append_inner(body, out, piece)
     }
 
-    /// Appends an arm's body, or a beginning of it, behind its test and before what stands for the other cases, whose length with
-    /// one jump more is told.
+    /// Appends an arm's body, or a beginning of it, behind its test and before what stands for the other cases, which
+    /// has so many bytes with one jump more.
     #[cycle(flows)]
     fn append_body(&self, body: Flow, left: u64, out: u64, piece: &mut Piece) -> Result<(), Memory>
         requires sound { AreSound self.now.flows.now }
@@ -317,8 +317,7 @@ impl Appender<'_> {
         }
     }
 
-    /// Appends a flow's code and data, or a beginning of them. Its statement's cell is told, and how far behind it the end of the
-    /// innermost LOOP is.
+    /// Appends a flow's code and data, or a beginning of them. The end of the innermost LOOP is so far behind it.
     #[cycle(flows)]
     fn append_inner(&self, flow: Flow, out: u64, piece: &mut Piece) -> Result<(), Memory>
         requires sound { AreSound self.now.flows.now }

@@ -81,8 +81,8 @@ pub fn top_statement<S: Scopes>(
     statement(scopes, &stand, top.of, flows, notes)
 }
 
-/// Where a statement of a body begins: its first temporary cell, and the first byte of its data; and the result of the body's
-/// procedure.
+/// Where a statement of a body begins, by its first temporary cell and the first byte of its data, and the result of
+/// the body's procedure.
 #[derive(Clone, Copy, Debug, PartialEq, Eq)]
 pub struct Beginning {
     pub cell: u32,

@@ -2,8 +2,8 @@
 use crate::flows::Flows;
 use m2_base::{Notes, Scopes};
 
-/// Makes the flows of statements: it asks the scopes, adds flows and the fragments that they are made of, and notes what it
-/// refuses and what each name was found to be.
+/// Makes the flows of statements: it asks the scopes, adds flows and the fragments that they are made of, and notes
+/// what it refuses and what each name was found to be.
 #[derive(Drop)]
 pub struct Walker<'a, S: Scopes> {
     pub scopes: &'a mut S,
