@@ -29,6 +29,7 @@ pub mod FlowsBehind
 pub mod CaseLists
 pub mod StatementGiven
 pub mod Walked
+pub mod Walkers
 pub mod SimpleGiven
 mod ProcedureCodes
 mod PiecesJoined

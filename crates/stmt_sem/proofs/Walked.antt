@@ -34,6 +34,11 @@ pub of_code : {T V : Type 0} {a b : State} {x y : Notes} {s : Site} {P : Frame �
     → Coding a b x y from.fragments.nodes.items made.nodes.items s answer P as_p g → Flowing a b x y from (record { fragments = made; nodes = from.nodes }) s answer (among_fragments P) (with_fragments as_p) g
 of_code from made answer p = of_coding {from = from} {to = record { fragments = made; nodes = from.nodes }} answer p refl
 
+-- code alone, of an analysis that added fragments alone
+pub of_part : {T V : Type 0} {a b : State} {x y : Notes} {s : Site} {P : Frame → List Node → T → Type 0} {as_p : List Node → T → V} {g : Context → Gives V} (from to : Flows) (answer : Result (Ask T) Memory)
+    → Coding a b x y from.fragments.nodes.items to.fragments.nodes.items s answer P as_p g → to.nodes.items ≡ from.nodes.items → Flowing a b x y from to s answer (among_fragments P) (with_fragments as_p) g
+of_part from to answer p e = of_coding {from = from} {to = to} answer p e
+
 -- memory was wanted behind a known part
 pub full_by : {T U V W : Type 0} {a b : State} {x y : Notes} {f1 f2 : Flows} {s : Site} {P : Frame → Flows → T → Type 0} {Q : Frame → Flows → U → Type 0} {as_p : Flows → T → (cell : ℕ) → V} {as_q : Flows → U → (cell : ℕ) → W} {g : Context → Gives V} {h : Context → Gives W} {v : T} (r : Result (Ask U) Memory)
     → IsErr r → Flowing a b x y f1 f2 s (Ok (Known v)) P as_p g → Flowing a b x y f1 f2 s r Q as_q h

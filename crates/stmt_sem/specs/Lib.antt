@@ -17,6 +17,7 @@ pub mod FlowSizes
 pub mod FlowPieces
 pub mod Places
 pub mod Stands
+pub mod Walkers
 pub mod StatementParts
 pub mod Taken
 pub mod Stated

@@ -7,20 +7,20 @@ use Rattle.type_rules.specs.Scenes.{IsThere, WhereTold}
 use Rattle.type_rules.specs.Sites.{AreOfSite}
 use Rattle.expr_sem.specs.Fragments.{IsIn, part}
 use Rattle.expr_sem.specs.Parts.{Part}
-use Rattle.expr_sem.specs.declared.fragments.Fragment.{Fragment}
 use Rattle.expr_sem.specs.declared.fragments.Node.{Node}
 use Rattle.stmt_sem.specs.FlowNodes.{IsCodeOf, flow_in}
 use Rattle.stmt_sem.specs.Flows as flow
+use Rattle.stmt_sem.specs.declared.cases.Selected.{Selected}
 use Rattle.stmt_sem.specs.declared.flows.Code.{Code}
 use Rattle.stmt_sem.specs.declared.flows.Flow.{Flow}
 use Rattle.stmt_sem.specs.declared.flows.Flows.{Flows}
 
 -- the value of a selector, and its type
-abbrev pub selector_in : List Node → Fragment × Place → Part × Place
-selector_in ns x = (part ns x.0, x.1)
+abbrev pub selector_in : List Node → Selected → Part × Place
+selector_in ns x = (part ns x.value, x.of)
 
-abbrev pub IsSelector : Frame → List Node → Fragment × Place → Type 0
-IsSelector f ns x = IsIn ns x.0 × IsThere f x.1
+abbrev pub IsSelector : Frame → List Node → Selected → Type 0
+IsSelector f ns x = IsIn ns x.value × IsThere f x.of
 
 -- code of a statement's own, among these fragments
 abbrev pub IsCellCode : Frame → List Node → Code → Type 0

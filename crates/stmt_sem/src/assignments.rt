@@ -10,14 +10,18 @@ ghost use Rattle.expr_sem.specs.Parts.{plain, ◌⨟◌};
 ghost use Rattle.expr_sem.specs.declared.fragments.Node.{Node};
 ghost use Rattle.type_rules.specs.Sites.{SuitsSite};
 ghost use Rattle.stmt_sem.specs.Assignments.{assignment as spec_assignment, code_unless_bad as spec_unless_bad, store_code as spec_store, store_text as spec_store_text, store_value as spec_store_value};
+ghost use Rattle.stmt_sem.specs.Stands.{IsStand};
+ghost use Rattle.stmt_sem.specs.Walkers.{Codes, Keeps, KeepsNodes, frame_of, nodes_of};
 
+use crate::stands::Stand;
+use crate::walker::Walker;
 use code_form::Instr;
 use const_eval::is_bad;
 use expr_sem::{
-    Coded, Fragment, Fragments, answered, assigned_to, cells_of, characters, fitted_code,
+    Coded, Fragment, Fragments, Placed, answered, assigned_to, cells_of, characters, fitted_code,
     instr_behind, is_structured, value_code,
 };
-use m2_base::{Ask, Diagnostic, Memory, Notes, Operand, Scopes, Site};
+use m2_base::{Ask, Diagnostic, Memory, Operand, Scopes, Site};
 use type_rules::operand_type;
 
 /// A value stored by this instruction behind the address of its variable.
@@ -111,28 +115,43 @@ pub fn store_code<S: Scopes>(
     }
 }
 
-/// An assignment to a variable. `at` is the value's first token.
-pub fn assignment<S: Scopes>(
-    scopes: &mut S,
-    site: &Site,
-    to: Coded,
-    at: u32,
-    x: Coded,
-    fragments: &mut Fragments,
-    notes: &mut Notes,
-) -> Result<Ask<Fragment>, Memory>
-    requires suits { SuitsSite (S.state scopes.old).frame site.now }
-    requires to { IsCoded (S.state scopes.old).frame fragments.old.nodes.items to }
-    requires x { IsCoded (S.state scopes.old).frame fragments.old.nodes.items x }
-    ensures { Coding (S.state scopes.old) (S.state scopes.new) notes.old notes.new fragments.old.nodes.items fragments.new.nodes.items site.now result IsFragment part (λ c. spec_assignment c (coded_in fragments.old.nodes.items to) at (coded_in fragments.old.nodes.items x)) }
-{
-    if is_bad(to.operand) {
-        return Ok(Ask::Known(Fragment::Nothing));
+impl<S: Scopes> Walker<'_, S> {
+    /// An assignment to a variable.
+    pub(crate) fn assignment(
+        &mut self,
+        stand: &Stand,
+        to: Coded,
+        x: Placed,
+    ) -> Result<Ask<Fragment>, Memory>
+        requires stand { IsStand (frame_of S.state self.old) stand.now }
+        requires to { IsCoded (frame_of S.state self.old) (nodes_of self.old) to }
+        requires x { IsCoded (frame_of S.state self.old) (nodes_of self.old) x.coded }
+        ensures keeps { Keeps self.old self.new }
+        ensures nodes { KeepsNodes self.old self.new }
+        ensures codes { Codes S.state self.old self.new stand.now result IsFragment part (λ s. spec_assignment s.context (coded_in (nodes_of self.old) to) x.at (coded_in (nodes_of self.old) x.coded)) }
+    {
+        if is_bad(to.operand) {
+            return Ok(Ask::Known(Fragment::Nothing));
+        }
+        let of = operand_type(&to.operand);
+        let refusal = Diagnostic::NotAssignable;
+        let value = analysed!(assigned_to(
+            self.scopes,
+            stand.site,
+            of,
+            x.at,
+            refusal,
+            x.coded,
+            self.notes
+        ));
+        store_code(
+            self.scopes,
+            stand.site,
+            to,
+            value,
+            &mut self.flows.fragments,
+        )
     }
-    let of = operand_type(&to.operand);
-    let refusal = Diagnostic::NotAssignable;
-    let value = analysed!(assigned_to(scopes, site, of, at, refusal, x, notes));
-    store_code(scopes, site, to, value, fragments)
 }
 
 /// A call as a statement, unless it is in error.

@@ -21,7 +21,7 @@ ghost use Rattle.stmt_sem.specs.Stating.{Returns};
 use crate::block_pieces::{append_ending, begun};
 use crate::flow_appending::append_flow;
 use crate::flows::{Flow, Flows};
-use crate::top_statements::{Stated, top_statement};
+use crate::top_statements::{Stated, TopStatement, top_statement};
 use decl_sem::ParamCopy;
 use expr_sem::{Piece, capped_sum};
 use m2_base::{
@@ -214,7 +214,11 @@ impl Body {
         let mut flows = Flows::new(alloc);
         let mut notes = Notes::new(alloc);
         let of = &stream.body[self.count];
-        let flow = analysed!(top_statement(scopes, site, of, returns, &mut flows, &mut notes));
+        let top = TopStatement {
+            of,
+            result: returns,
+        };
+        let flow = analysed!(top_statement(scopes, site, &top, &mut flows, &mut notes));
         append_stated(&flows, flow, &notes, &mut self.piece, &mut self.notes)?;
         self.count += 1;
         Ok(Ask::Known(()))

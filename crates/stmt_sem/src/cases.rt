@@ -24,6 +24,13 @@ use expr_sem::{Coded, Fragment, Fragments, answered, value_code};
 use m2_base::{Ask, Diagnostic, Memory, Notes, Place, Scopes, Site};
 use type_rules::{BROKEN, operand_type};
 
+/// The value of a selector, and its type.
+#[derive(Clone, Copy, Debug, PartialEq, Eq)]
+pub struct Selected {
+    pub value: Fragment,
+    pub of: Place,
+}
+
 /// The type of an ordinal selector, or what is refused otherwise.
 fn type_or_refused(
     site: &Site,

@@ -1,17 +1,20 @@
 //! The variable of a FOR.
 ghost use Rattle.std.specs.Prelude.{◌≡◌, ◌≢◌, ◌==◌, ◌&&◌, List, is_some};
-ghost use Rattle.m2_base.specs.Lists.{Each};
 ghost use Rattle.m2_base.specs.Rows.{row_meaning};
 ghost use Rattle.m2_base.specs.States.{Waits};
 ghost use Rattle.m2_base.specs.Statics.Types.{range_of as spec_range};
-ghost use Rattle.expr_sem.specs.Codings.{Coding, IsCoded, coded_in, with_types};
+ghost use Rattle.expr_sem.specs.Codings.{Coding, IsCoded, coded_in};
 ghost use Rattle.expr_sem.specs.declared.fragments.Node.{Node};
 ghost use Rattle.type_rules.specs.Asks.{Reads, WhereKnown, WhereWaiting};
 ghost use Rattle.type_rules.specs.Scenes.{IsRowOf, IsThere, Suits, WhereTold, scene_of};
 ghost use Rattle.type_rules.specs.Sites.{SuitsSite};
 ghost use Rattle.stmt_sem.specs.Counting.{can_control as spec_can, control_variable as spec_variable, controls_by};
+ghost use Rattle.stmt_sem.specs.Stands.{IsStand};
+ghost use Rattle.stmt_sem.specs.Walkers.{Codes, Keeps, KeepsNodes, frame_of, nodes_of};
 
-use expr_sem::{Coded, Fragments, With, entry_coded, field_of_withs, refused};
+use crate::stands::Stand;
+use crate::walker::Walker;
+use expr_sem::{Coded, Placed, entry_coded, field_of_withs, refused};
 use m2_base::{
     Around, Ask, Diagnostic, Ident, Memory, Mode, Notes, Operand, Place, Row, RowMeaning, Scopes,
     Site, read_row,
@@ -54,50 +57,55 @@ fn can_control<S: Scopes>(scopes: &mut S, around: &Around, entry: (Place, Row)) 
 fn check_control<S: Scopes>(
     scopes: &mut S,
     site: &Site,
-    at: u32,
     entry: (Place, Row),
-    x: Coded,
+    x: Placed,
     notes: &mut Notes,
 ) -> Result<Ask<Coded>, Memory>
     requires suits { SuitsSite (S.state scopes.old).frame site.now }
     requires entry { IsRowOf (S.state scopes.old).frame entry.0 entry.1 }
-    ensures { (nodes : List Node) → IsCoded (S.state scopes.old).frame nodes x → Coding (S.state scopes.old) (S.state scopes.new) notes.old notes.new nodes nodes site.now result IsCoded coded_in (λ c. controls_by c at entry (coded_in nodes x) x.operand) }
+    ensures { (nodes : List Node) → IsCoded (S.state scopes.old).frame nodes x.coded → Coding (S.state scopes.old) (S.state scopes.new) notes.old notes.new nodes nodes site.now result IsCoded coded_in (λ c. controls_by c x.at entry (coded_in nodes x.coded) x.coded.operand) }
 {
-    match x.operand {
+    match x.coded.operand {
         Operand::InError => Ok(Ask::Known(Coded::in_error())),
         Operand::Variable(_) => {
             let holds = asked!(can_control(scopes, site.around, entry));
             if holds {
-                return Ok(Ask::Known(x));
+                return Ok(Ask::Known(x.coded));
             }
-            refused(site, at, Diagnostic::NotAControlVariable, notes)
+            refused(site, x.at, Diagnostic::NotAControlVariable, notes)
         }
-        _ => refused(site, at, Diagnostic::NotAVariable, notes),
+        _ => refused(site, x.at, Diagnostic::NotAVariable, notes),
     }
 }
 
-/// The variable of a FOR; a field of an open WITH is none.
-pub fn control_variable<S: Scopes>(
-    scopes: &mut S,
-    site: &Site,
-    withs: &[With],
-    ident: Ident,
-    fragments: &mut Fragments,
-    notes: &mut Notes,
-) -> Result<Ask<Coded>, Memory>
-    requires suits { SuitsSite (S.state scopes.old).frame site.now }
-    requires withs { Each (λ w. IsThere (S.state scopes.old).frame w.of) withs.now }
-    requires named { ident.name ≢ 0 }
-    ensures { Coding (S.state scopes.old) (S.state scopes.new) notes.old notes.new fragments.old.nodes.items fragments.new.nodes.items site.now result IsCoded coded_in (λ c. spec_variable c (with_types withs.now) ident) }
-{
-    let field = asked!(field_of_withs(scopes, site.around, withs, ident.name));
-    if field.is_some() {
-        return refused(site, ident.at, Diagnostic::NotAControlVariable, notes);
+impl<S: Scopes> Walker<'_, S> {
+    /// The variable of a FOR; a field of an open WITH is none.
+    pub(crate) fn control_variable(
+        &mut self,
+        stand: &Stand,
+        ident: Ident,
+    ) -> Result<Ask<Coded>, Memory>
+        requires stand { IsStand (frame_of S.state self.old) stand.now }
+        requires named { ident.name ≢ 0 }
+        ensures keeps { Keeps self.old self.new }
+        ensures nodes { KeepsNodes self.old self.new }
+        ensures codes { Codes S.state self.old self.new stand.now result IsCoded coded_in (λ s. spec_variable s.context s.withs ident) }
+    {
+        let (site, at) = (stand.site, ident.at);
+        let field = asked!(field_of_withs(self.scopes, site.around, stand.withs, ident.name));
+        if field.is_some() {
+            return refused(site, at, Diagnostic::NotAControlVariable, self.notes);
+        }
+        let entry = analysed!(use_name(self.scopes, site, None, ident.name, at, self.notes));
+        let Some(entry) = entry else {
+            return Ok(Ask::Known(Coded::in_error()));
+        };
+        let coded = analysed!(entry_coded(
+            self.scopes,
+            site,
+            Some(entry),
+            &mut self.flows.fragments
+        ));
+        check_control(self.scopes, site, entry, Placed { at, coded }, self.notes)
     }
-    let entry = analysed!(use_name(scopes, site, None, ident.name, ident.at, notes));
-    let Some(entry) = entry else {
-        return Ok(Ask::Known(Coded::in_error()));
-    };
-    let x = analysed!(entry_coded(scopes, site, Some(entry), fragments));
-    check_control(scopes, site, ident.at, entry, x, notes)
 }

@@ -19,9 +19,10 @@ ghost use Rattle.stmt_sem.specs.Flowings.{Flowing, IsFlow};
 ghost use Rattle.stmt_sem.specs.Flows as flow;
 ghost use Rattle.stmt_sem.specs.Flows.{counted as spec_counted};
 ghost use Rattle.stmt_sem.specs.Plain.{IsStep, itself};
-ghost use Rattle.stmt_sem.specs.Stands.{IsStand, stand_in};
+ghost use Rattle.stmt_sem.specs.Stands.{IsStand, names_of, stand_in};
 ghost use Rattle.stmt_sem.specs.Statements.{by_of, for_flow, value_at};
 ghost use Rattle.stmt_sem.specs.Taken.{IsCellCode, StandsFor};
+ghost use Rattle.stmt_sem.specs.Walkers.{Codes, Keeps, KeepsNodes, frame_of, nodes_of};
 ghost use Rattle.stmt_sem.specs.declared.stands.Stand.{Stand as StandOf};
 
 use crate::assignments::store_code;
@@ -29,6 +30,7 @@ use crate::flow_parts::{self, behind, celled};
 use crate::flows::{Code, Flow, Flows};
 use crate::refusals::refused_step;
 use crate::stands::Stand;
+use crate::walker::Walker;
 use code_form::Instr;
 use const_eval::{constant, is_bad};
 use expr_sem::{
@@ -47,28 +49,43 @@ pub struct Count {
     pub by: i64,
 }
 
-/// The first or the last value, which is assignable to the variable `x`.
-pub fn check_bound<S: Scopes>(
-    scopes: &mut S,
-    site: &Site,
-    stand: &Stand,
-    x: Coded,
-    e: &Expr,
-    fragments: &mut Fragments,
-    notes: &mut Notes,
-) -> Result<Ask<Coded>, Memory>
-    requires suits { SuitsSite (S.state scopes.old).frame site.now }
-    requires stand { IsStand (S.state scopes.old).frame stand.now }
-    requires x { IsCoded (S.state scopes.old).frame fragments.old.nodes.items x }
-    requires e { IsReadExpr site.now.texts.now.names (expr_view e.now) }
-    ensures { Coding (S.state scopes.old) (S.state scopes.new) notes.old notes.new fragments.old.nodes.items fragments.new.nodes.items site.now result IsCoded coded_in (λ c. and_then (value_at (stand_in c stand.now) (expr_view e.now)) (bound_value c (coded_in fragments.old.nodes.items x) (expr_at (expr_view e.now)))) }
-{
-    let v = analysed!(value_of(scopes, site, stand.withs, e, fragments, notes));
-    if is_bad(x.operand) {
-        return Ok(Ask::Known(Coded::in_error()));
+impl<S: Scopes> Walker<'_, S> {
+    /// The first or the last value, which is assignable to the variable `x`.
+    pub(crate) fn check_bound(
+        &mut self,
+        stand: &Stand,
+        x: Coded,
+        e: &Expr,
+    ) -> Result<Ask<Coded>, Memory>
+        requires stand { IsStand (frame_of S.state self.old) stand.now }
+        requires x { IsCoded (frame_of S.state self.old) (nodes_of self.old) x }
+        requires e { IsReadExpr (names_of stand.now) (expr_view e.now) }
+        ensures keeps { Keeps self.old self.new }
+        ensures nodes { KeepsNodes self.old self.new }
+        ensures codes { Codes S.state self.old self.new stand.now result IsCoded coded_in (λ s. and_then (value_at s (expr_view e.now)) (bound_value s.context (coded_in (nodes_of self.old) x) (expr_at (expr_view e.now)))) }
+    {
+        let v = analysed!(value_of(
+            self.scopes,
+            stand.site,
+            stand.withs,
+            e,
+            &mut self.flows.fragments,
+            self.notes
+        ));
+        if is_bad(x.operand) {
+            return Ok(Ask::Known(Coded::in_error()));
+        }
+        let of = operand_type(&x.operand);
+        assigned_to(
+            self.scopes,
+            stand.site,
+            of,
+            e.at,
+            Diagnostic::NotAssignable,
+            v,
+            self.notes,
+        )
     }
-    let of = operand_type(&x.operand);
-    assigned_to(scopes, site, of, e.at, Diagnostic::NotAssignable, v, notes)
 }
 
 /// Whether a base is INTEGER or CARDINAL, or the type of whole constants.

@@ -3,9 +3,10 @@
 //! The words are those of Wirth's report and of the machine's instructions (`code_form`). The code of an expression is a
 //! part of code (`expr_sem`'s `specs/Parts`); that of statements is a flow, which is known once it is also told how far away
 //! the end of the innermost LOOP is (`specs/Flows`). `specs/Statements` goes over the trees, `specs/BlockCode` puts a block
-//! together; each kind of statement has a file of its own below them. A `Body` is the code of a block in the making: it begins
-//! with what the body copies first, takes one statement after another, each as a whole or not at all, and ends (`specs/Bodies`);
-//! `procedure_code` is what the object file has of the whole. `state` makes the code of one statement alone (`specs/Stating`).
+//! together; each kind of statement has a file of its own below them. A `Walker` makes flows of statements where they stand
+//! (`specs/Walkers`). A `Body` is the code of a block in the making: it begins with what the body copies first, takes one
+//! statement after another, each as a whole or not at all, and ends (`specs/Bodies`); `procedure_code` is what the object
+//! file has of the whole. `state` makes the code of one statement alone (`specs/Stating`).
 #![tactic(auto)]
 
 /// The value of a question, or the end of the function where it isn't known yet.
@@ -63,6 +64,7 @@ mod statement_parts;
 mod statements;
 mod tests;
 mod top_statements;
+mod walker;
 mod withs;
 
 pub use bodies::Body;
@@ -72,4 +74,4 @@ pub use laws::{code_is_short, code_is_valid, heights_are_right, returns_agree};
 pub use procedure_codes::procedure_code;
 pub use stands::Stand;
 pub use statements::statement;
-pub use top_statements::{Stated, state};
+pub use top_statements::{Beginning, Stated, state};

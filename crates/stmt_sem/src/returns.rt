@@ -1,5 +1,4 @@
 //! RETURN, with a value or without.
-ghost use Rattle.std.specs.Option.{IfSome};
 ghost use Rattle.m2_base.specs.Gives.{and_then, gives};
 ghost use Rattle.m2_base.specs.States.{State};
 ghost use Rattle.m2_base.specs.Statics.Diagnostics.{not_assignable};
@@ -13,11 +12,15 @@ ghost use Rattle.expr_sem.specs.Values.{assigned_to as spec_assigned};
 ghost use Rattle.type_rules.specs.Scenes.{IsThere};
 ghost use Rattle.type_rules.specs.Sites.{SuitsSite};
 ghost use Rattle.stmt_sem.specs.Returns.{return_alone as spec_alone, return_code as spec_return, return_value as spec_value, returned as spec_returned};
+ghost use Rattle.stmt_sem.specs.Stands.{IsStand};
+ghost use Rattle.stmt_sem.specs.Walkers.{Codes, Keeps, KeepsNodes, frame_of, nodes_of};
 
 use crate::refusals::refused_code;
+use crate::stands::Stand;
+use crate::walker::Walker;
 use code_form::Instr;
 use const_eval::is_bad;
-use expr_sem::{Coded, Fragment, Fragments, Step, answered, assigned_to, fitted_code};
+use expr_sem::{Coded, Fragment, Fragments, Placed, Step, answered, assigned_to, fitted_code};
 use m2_base::{Ask, Diagnostic, Memory, Notes, Place, Scopes, Site};
 
 /// The end of a procedure that has no result.
@@ -96,44 +99,56 @@ pub fn return_alone(
     }
 }
 
-/// RETURN with a value, in a function with a result of this type.
-fn return_of_type<S: Scopes>(
-    scopes: &mut S,
-    site: &Site,
-    of: Place,
-    x_at: u32,
-    x: Coded,
-    fragments: &mut Fragments,
-    notes: &mut Notes,
-) -> Result<Ask<Fragment>, Memory>
-    requires suits { SuitsSite (S.state scopes.old).frame site.now }
-    requires of { IsThere (S.state scopes.old).frame of }
-    requires x { IsCoded (S.state scopes.old).frame fragments.old.nodes.items x }
-    ensures { Coding (S.state scopes.old) (S.state scopes.new) notes.old notes.new fragments.old.nodes.items fragments.new.nodes.items site.now result IsFragment part (λ c. and_then (spec_assigned c of x_at not_assignable (coded_in fragments.old.nodes.items x)) (λ v. gives (spec_returned c of v))) }
-{
-    let refusal = Diagnostic::NotAssignable;
-    let value = analysed!(assigned_to(scopes, site, of, x_at, refusal, x, notes));
-    returned(scopes, site, of, value, fragments)
-}
+impl<S: Scopes> Walker<'_, S> {
+    /// RETURN with a value, in a function with a result of this type.
+    fn return_of_type(
+        &mut self,
+        stand: &Stand,
+        of: Place,
+        x: Placed,
+    ) -> Result<Ask<Fragment>, Memory>
+        requires stand { IsStand (frame_of S.state self.old) stand.now }
+        requires of { IsThere (frame_of S.state self.old) of }
+        requires x { IsCoded (frame_of S.state self.old) (nodes_of self.old) x.coded }
+        ensures keeps { Keeps self.old self.new }
+        ensures nodes { KeepsNodes self.old self.new }
+        ensures codes { Codes S.state self.old self.new stand.now result IsFragment part (λ s. and_then (spec_assigned s.context of x.at not_assignable (coded_in (nodes_of self.old) x.coded)) (λ v. gives (spec_returned s.context of v))) }
+    {
+        let refusal = Diagnostic::NotAssignable;
+        let value = analysed!(assigned_to(
+            self.scopes,
+            stand.site,
+            of,
+            x.at,
+            refusal,
+            x.coded,
+            self.notes
+        ));
+        returned(
+            self.scopes,
+            stand.site,
+            of,
+            value,
+            &mut self.flows.fragments,
+        )
+    }
 
-/// RETURN with a value, in a procedure with this result. `x_at` is the value's first token.
-pub fn return_value<S: Scopes>(
-    scopes: &mut S,
-    site: &Site,
-    at: u32,
-    of: Option<Place>,
-    x_at: u32,
-    x: Coded,
-    fragments: &mut Fragments,
-    notes: &mut Notes,
-) -> Result<Ask<Fragment>, Memory>
-    requires suits { SuitsSite (S.state scopes.old).frame site.now }
-    requires of { IfSome of (λ t. IsThere (S.state scopes.old).frame t) }
-    requires x { IsCoded (S.state scopes.old).frame fragments.old.nodes.items x }
-    ensures { Coding (S.state scopes.old) (S.state scopes.new) notes.old notes.new fragments.old.nodes.items fragments.new.nodes.items site.now result IsFragment part (λ c. spec_value c at of x_at (coded_in fragments.old.nodes.items x)) }
-{
-    match of {
-        None => refused_code(site, at, Diagnostic::WrongReturn, notes),
-        Some(of) => return_of_type(scopes, site, of, x_at, x, fragments, notes),
+    /// RETURN with a value.
+    pub(crate) fn return_value(
+        &mut self,
+        stand: &Stand,
+        at: u32,
+        x: Placed,
+    ) -> Result<Ask<Fragment>, Memory>
+        requires stand { IsStand (frame_of S.state self.old) stand.now }
+        requires x { IsCoded (frame_of S.state self.old) (nodes_of self.old) x.coded }
+        ensures keeps { Keeps self.old self.new }
+        ensures nodes { KeepsNodes self.old self.new }
+        ensures codes { Codes S.state self.old self.new stand.now result IsFragment part (λ s. spec_value s.context at s.result x.at (coded_in (nodes_of self.old) x.coded)) }
+    {
+        match stand.result {
+            None => refused_code(stand.site, at, Diagnostic::WrongReturn, self.notes),
+            Some(of) => self.return_of_type(stand, of, x),
+        }
     }
 }

@@ -7,106 +7,106 @@ ghost use Rattle.m2_base.specs.Gives.{gives};
 ghost use Rattle.m2_base.specs.States.{State};
 ghost use Rattle.m2_base.specs.declared.notes.Notes.{Notes as NotesOf};
 ghost use Rattle.m2_base.specs.declared.sites.Site.{Site as SiteOf};
-ghost use Rattle.type_rules.specs.Sites.{SuitsSite};
 ghost use Rattle.stmt_sem.specs.Cases.{no_case as spec_none};
 ghost use Rattle.stmt_sem.specs.FlowNodes.{AreSound, flow_in};
 ghost use Rattle.stmt_sem.specs.Flows.{straight};
 ghost use Rattle.stmt_sem.specs.Flowings.{Flowing, IsFlow};
 ghost use Rattle.m2_base.specs.Statics.ReadStatements.{IsReadExprOption};
 ghost use Rattle.stmt_sem.specs.StatementParts.{form_of};
-ghost use Rattle.stmt_sem.specs.Stands.{IsStand, stand_in};
+ghost use Rattle.stmt_sem.specs.Stands.{IsStand, names_of, stand_in};
 ghost use Rattle.stmt_sem.specs.Statements.{exit_of, form_flow};
+ghost use Rattle.stmt_sem.specs.Walkers.{Keeps, Walks, frame_of};
 
-use crate::assignments::assignment;
 use crate::cases::no_case;
 use crate::flow_parts::answered;
 use crate::flows::{Code, Flow, Flows};
 use crate::refusals::noted;
 use crate::stands::Stand;
-use crate::statement_parts::{called, returned, variable};
-use expr_sem::value_of;
-use m2_base::{Ask, Designator, Diagnostic, Expr, Memory, Notes, Scopes, Site};
+use crate::walker::Walker;
+use expr_sem::{Placed, value_of};
+use m2_base::{Ask, Designator, Diagnostic, Expr, Memory, Notes, Scopes};
 
-/// An assignment.
-pub fn assign_statement<S: Scopes>(
-    scopes: &mut S,
-    site: &Site,
-    stand: &Stand,
-    to: &Designator,
-    value: &Expr,
-    flows: &mut Flows,
-    notes: &mut Notes,
-) -> Result<Ask<Flow>, Memory>
-    requires suits { SuitsSite (S.state scopes.old).frame site.now }
-    requires stand { IsStand (S.state scopes.old).frame stand.now }
-    requires sound { AreSound flows.old }
-    requires to { IsReadDesignator site.now.texts.now.names (designator_view to.now) }
-    requires value { IsReadExpr site.now.texts.now.names (expr_view value.now) }
-    ensures { Flowing (S.state scopes.old) (S.state scopes.new) notes.old notes.new flows.old flows.new site.now result IsFlow flow_in (λ c. form_of (stand_in c stand.now) (assign_form (designator_view to.now) (expr_view value.now))) }
-{
-    let fragments = &mut flows.fragments;
-    let x = analysed!(variable(scopes, site, stand, to, fragments, notes));
-    let v = analysed!(value_of(scopes, site, stand.withs, value, fragments, notes));
-    let code = analysed!(assignment(scopes, site, x, value.at, v, fragments, notes));
-    answered(flows.straight(Code::Fixed(code)))
-}
+impl<S: Scopes> Walker<'_, S> {
+    /// An assignment.
+    pub(crate) fn assign_statement(
+        &mut self,
+        stand: &Stand,
+        to: &Designator,
+        value: &Expr,
+    ) -> Result<Ask<Flow>, Memory>
+        requires stand { IsStand (frame_of S.state self.old) stand.now }
+        requires sound { AreSound self.old.flows.now }
+        requires to { IsReadDesignator (names_of stand.now) (designator_view to.now) }
+        requires value { IsReadExpr (names_of stand.now) (expr_view value.now) }
+        ensures keeps { Keeps self.old self.new }
+        ensures walks { Walks S.state self.old self.new stand.now result IsFlow flow_in (λ s. form_of s (assign_form (designator_view to.now) (expr_view value.now))) }
+    {
+        let variable = analysed!(self.variable(stand, to));
+        let coded = analysed!(value_of(
+            self.scopes,
+            stand.site,
+            stand.withs,
+            value,
+            &mut self.flows.fragments,
+            self.notes
+        ));
+        let x = Placed {
+            at: value.at,
+            coded,
+        };
+        let code = analysed!(self.assignment(stand, variable, x));
+        answered(self.flows.straight(Code::Fixed(code)))
+    }
 
-/// A call.
-pub fn called_statement<S: Scopes>(
-    scopes: &mut S,
-    site: &Site,
-    stand: &Stand,
-    to: &Designator,
-    args: &[Expr],
-    flows: &mut Flows,
-    notes: &mut Notes,
-) -> Result<Ask<Flow>, Memory>
-    requires suits { SuitsSite (S.state scopes.old).frame site.now }
-    requires stand { IsStand (S.state scopes.old).frame stand.now }
-    requires sound { AreSound flows.old }
-    requires to { IsReadDesignator site.now.texts.now.names (designator_view to.now) }
-    requires args { AreReadExprs site.now.texts.now.names (exprs (map expr_view args.now)) }
-    ensures { Flowing (S.state scopes.old) (S.state scopes.new) notes.old notes.new flows.old flows.new site.now result IsFlow flow_in (λ c. form_of (stand_in c stand.now) (spec_call (designator_view to.now) (exprs (map expr_view args.now)))) }
-{
-    let code = analysed!(called(scopes, site, stand, to, args, &mut flows.fragments, notes));
-    answered(flows.straight(Code::Fixed(code)))
-}
+    /// A call.
+    pub(crate) fn called_statement(
+        &mut self,
+        stand: &Stand,
+        to: &Designator,
+        args: &[Expr],
+    ) -> Result<Ask<Flow>, Memory>
+        requires stand { IsStand (frame_of S.state self.old) stand.now }
+        requires sound { AreSound self.old.flows.now }
+        requires to { IsReadDesignator (names_of stand.now) (designator_view to.now) }
+        requires args { AreReadExprs (names_of stand.now) (exprs (map expr_view args.now)) }
+        ensures keeps { Keeps self.old self.new }
+        ensures walks { Walks S.state self.old self.new stand.now result IsFlow flow_in (λ s. form_of s (spec_call (designator_view to.now) (exprs (map expr_view args.now)))) }
+    {
+        let code = analysed!(self.called(stand, to, args));
+        answered(self.flows.straight(Code::Fixed(code)))
+    }
 
-/// RETURN.
-pub fn return_statement<S: Scopes>(
-    scopes: &mut S,
-    site: &Site,
-    stand: &Stand,
-    at: u32,
-    value: &Option<Expr>,
-    flows: &mut Flows,
-    notes: &mut Notes,
-) -> Result<Ask<Flow>, Memory>
-    requires suits { SuitsSite (S.state scopes.old).frame site.now }
-    requires stand { IsStand (S.state scopes.old).frame stand.now }
-    requires sound { AreSound flows.old }
-    requires value { IsReadExprOption site.now.texts.now.names (option_map expr_view value.now) }
-    ensures { Flowing (S.state scopes.old) (S.state scopes.new) notes.old notes.new flows.old flows.new site.now result IsFlow flow_in (λ c. form_flow (stand_in c stand.now) at (return_form (option_map expr_view value.now))) }
-{
-    let fragments = &mut flows.fragments;
-    let code = analysed!(returned(scopes, site, stand, at, value, fragments, notes));
-    answered(flows.straight(Code::Fixed(code)))
+    /// RETURN.
+    pub(crate) fn return_statement(
+        &mut self,
+        stand: &Stand,
+        at: u32,
+        value: &Option<Expr>,
+    ) -> Result<Ask<Flow>, Memory>
+        requires stand { IsStand (frame_of S.state self.old) stand.now }
+        requires sound { AreSound self.old.flows.now }
+        requires value { IsReadExprOption (names_of stand.now) (option_map expr_view value.now) }
+        ensures keeps { Keeps self.old self.new }
+        ensures walks { Walks S.state self.old self.new stand.now result IsFlow flow_in (λ s. form_flow s at (return_form (option_map expr_view value.now))) }
+    {
+        let code = analysed!(self.returned(stand, at, value));
+        answered(self.flows.straight(Code::Fixed(code)))
+    }
 }
 
 /// EXIT, which stands within a LOOP.
 pub fn exit_statement(
-    site: &Site,
     stand: &Stand,
     at: u32,
     flows: &mut Flows,
     notes: &mut Notes,
 ) -> Result<Ask<Flow>, Memory>
-    ensures { (state : State) → Flowing state state notes.old notes.new flows.old flows.new site.now result IsFlow flow_in (λ c. exit_of (stand_in c stand.now) at) }
+    ensures { (state : State) → Flowing state state notes.old notes.new flows.old flows.new stand.now.site.now result IsFlow flow_in (λ c. exit_of (stand_in c stand.now) at) }
 {
     if stand.looped {
         return answered(flows.exit());
     }
-    noted(site, at, Diagnostic::ExitOutsideLoop, notes)?;
+    noted(stand.site, at, Diagnostic::ExitOutsideLoop, notes)?;
     Ok(Ask::Known(Flow::Nothing))
 }
 

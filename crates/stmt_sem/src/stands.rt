@@ -1,11 +1,12 @@
 //! Where statements stand.
 use expr_sem::With;
-use m2_base::Place;
+use m2_base::{Place, Site};
 
-/// Where a statement stands in its block: the result of the block's procedure, the open WITHs, the innermost first, and
-/// whether a LOOP is round it.
-#[derive(Clone, Copy, Debug, PartialEq, Eq)]
-pub struct Stand<'a> {
+/// Where a statement stands: in its block, whose procedure has this result, in the open WITHs, the innermost first, and
+/// in a LOOP or in none.
+#[derive(Clone, Copy)]
+pub struct Stand<'a, 'b> {
+    pub site: &'a Site<'b>,
     pub result: Option<Place>,
     pub withs: &'a [With],
     pub looped: bool,

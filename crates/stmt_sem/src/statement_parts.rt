@@ -3,156 +3,173 @@ ghost use Rattle.std.specs.Prelude.{map, option_map};
 ghost use Rattle.m2_base.specs.Statics.ReadTrees.{AreReadExprs, IsReadDesignator, IsReadExpr};
 ghost use Rattle.m2_base.specs.Trees.{exprs};
 ghost use Rattle.m2_base.specs.Views.{designator_view, expr_view};
-ghost use Rattle.expr_sem.specs.Codings.{Coding, IsCoded, IsFragment, coded_in};
+ghost use Rattle.expr_sem.specs.Codings.{IsCoded, IsFragment, coded_in};
 ghost use Rattle.expr_sem.specs.Fragments.{part};
-ghost use Rattle.type_rules.specs.Sites.{SuitsSite};
 ghost use Rattle.m2_base.specs.Statics.ReadStatements.{IsReadExprOption};
-ghost use Rattle.stmt_sem.specs.Stands.{IsStand, stand_in};
+ghost use Rattle.stmt_sem.specs.Stands.{IsStand, names_of};
 ghost use Rattle.stmt_sem.specs.StatementParts.{called as spec_called, record_of as spec_record, selector as spec_selector, typed_selector as spec_typed};
 ghost use Rattle.stmt_sem.specs.Statements.{return_of, test as spec_test, variable as spec_variable};
 ghost use Rattle.stmt_sem.specs.Taken.{IsSelector, selector_in};
+ghost use Rattle.stmt_sem.specs.Walkers.{Codes, Keeps, KeepsNodes, frame_of, nodes_of};
 
 use crate::assignments::code_unless_bad;
-use crate::cases::{selector_type, selector_value};
-use crate::returns::{return_alone, return_value};
+use crate::cases::{Selected, selector_type, selector_value};
+use crate::returns::return_alone;
 use crate::stands::Stand;
-use crate::tests::test_code;
+use crate::walker::Walker;
 use crate::withs::record_variable;
-use expr_sem::{Coded, Fragment, Fragments, as_variable, call_alone, designated, value_of};
-use m2_base::{Ask, Designator, Expr, Memory, Notes, Place, Scopes, Site};
+use expr_sem::{Coded, Fragment, Placed, as_variable, call_alone, designated, value_of};
+use m2_base::{Ask, Designator, Expr, Memory, Scopes};
 
-/// A variable.
-pub fn variable<S: Scopes>(
-    scopes: &mut S,
-    site: &Site,
-    stand: &Stand,
-    of: &Designator,
-    fragments: &mut Fragments,
-    notes: &mut Notes,
-) -> Result<Ask<Coded>, Memory>
-    requires suits { SuitsSite (S.state scopes.old).frame site.now }
-    requires stand { IsStand (S.state scopes.old).frame stand.now }
-    requires of { IsReadDesignator site.now.texts.now.names (designator_view of.now) }
-    ensures { Coding (S.state scopes.old) (S.state scopes.new) notes.old notes.new fragments.old.nodes.items fragments.new.nodes.items site.now result IsCoded coded_in (λ c. spec_variable (stand_in c stand.now) (designator_view of.now)) }
-{
-    let x = analysed!(designated(scopes, site, stand.withs, of, fragments, notes));
-    as_variable(site, of.first.at, x, notes)
-}
+impl<S: Scopes> Walker<'_, S> {
+    /// A variable.
+    pub(crate) fn variable(&mut self, stand: &Stand, of: &Designator) -> Result<Ask<Coded>, Memory>
+        requires stand { IsStand (frame_of S.state self.old) stand.now }
+        requires of { IsReadDesignator (names_of stand.now) (designator_view of.now) }
+        ensures keeps { Keeps self.old self.new }
+        ensures nodes { KeepsNodes self.old self.new }
+        ensures codes { Codes S.state self.old self.new stand.now result IsCoded coded_in (λ s. spec_variable s (designator_view of.now)) }
+    {
+        let x = analysed!(designated(
+            self.scopes,
+            stand.site,
+            stand.withs,
+            of,
+            &mut self.flows.fragments,
+            self.notes
+        ));
+        as_variable(stand.site, of.first.at, x, self.notes)
+    }
 
-/// A test.
-pub fn test<S: Scopes>(
-    scopes: &mut S,
-    site: &Site,
-    stand: &Stand,
-    e: &Expr,
-    fragments: &mut Fragments,
-    notes: &mut Notes,
-) -> Result<Ask<Fragment>, Memory>
-    requires suits { SuitsSite (S.state scopes.old).frame site.now }
-    requires stand { IsStand (S.state scopes.old).frame stand.now }
-    requires e { IsReadExpr site.now.texts.now.names (expr_view e.now) }
-    ensures { Coding (S.state scopes.old) (S.state scopes.new) notes.old notes.new fragments.old.nodes.items fragments.new.nodes.items site.now result IsFragment part (λ c. spec_test (stand_in c stand.now) (expr_view e.now)) }
-{
-    let x = analysed!(value_of(scopes, site, stand.withs, e, fragments, notes));
-    test_code(scopes, site, e.at, x, fragments, notes)
-}
+    /// A test.
+    pub(crate) fn test(&mut self, stand: &Stand, e: &Expr) -> Result<Ask<Fragment>, Memory>
+        requires stand { IsStand (frame_of S.state self.old) stand.now }
+        requires e { IsReadExpr (names_of stand.now) (expr_view e.now) }
+        ensures keeps { Keeps self.old self.new }
+        ensures nodes { KeepsNodes self.old self.new }
+        ensures codes { Codes S.state self.old self.new stand.now result IsFragment part (λ s. spec_test s (expr_view e.now)) }
+    {
+        let coded = analysed!(value_of(
+            self.scopes,
+            stand.site,
+            stand.withs,
+            e,
+            &mut self.flows.fragments,
+            self.notes
+        ));
+        let x = Placed { at: e.at, coded };
+        self.test_code(stand, x)
+    }
 
-/// A call.
-pub fn called<S: Scopes>(
-    scopes: &mut S,
-    site: &Site,
-    stand: &Stand,
-    of: &Designator,
-    args: &[Expr],
-    fragments: &mut Fragments,
-    notes: &mut Notes,
-) -> Result<Ask<Fragment>, Memory>
-    requires suits { SuitsSite (S.state scopes.old).frame site.now }
-    requires stand { IsStand (S.state scopes.old).frame stand.now }
-    requires of { IsReadDesignator site.now.texts.now.names (designator_view of.now) }
-    requires args { AreReadExprs site.now.texts.now.names (exprs (map expr_view args.now)) }
-    ensures { Coding (S.state scopes.old) (S.state scopes.new) notes.old notes.new fragments.old.nodes.items fragments.new.nodes.items site.now result IsFragment part (λ c. spec_called (stand_in c stand.now) (designator_view of.now) (exprs (map expr_view args.now))) }
-{
-    let x = analysed!(call_alone(scopes, site, stand.withs, of, args, fragments, notes));
-    Ok(Ask::Known(code_unless_bad(x)))
-}
+    /// A call.
+    pub(crate) fn called(
+        &mut self,
+        stand: &Stand,
+        of: &Designator,
+        args: &[Expr],
+    ) -> Result<Ask<Fragment>, Memory>
+        requires stand { IsStand (frame_of S.state self.old) stand.now }
+        requires of { IsReadDesignator (names_of stand.now) (designator_view of.now) }
+        requires args { AreReadExprs (names_of stand.now) (exprs (map expr_view args.now)) }
+        ensures keeps { Keeps self.old self.new }
+        ensures nodes { KeepsNodes self.old self.new }
+        ensures codes { Codes S.state self.old self.new stand.now result IsFragment part (λ s. spec_called s (designator_view of.now) (exprs (map expr_view args.now))) }
+    {
+        let x = analysed!(call_alone(
+            self.scopes,
+            stand.site,
+            stand.withs,
+            of,
+            args,
+            &mut self.flows.fragments,
+            self.notes
+        ));
+        Ok(Ask::Known(code_unless_bad(x)))
+    }
 
-/// RETURN with a value or without.
-pub fn returned<S: Scopes>(
-    scopes: &mut S,
-    site: &Site,
-    stand: &Stand,
-    at: u32,
-    value: &Option<Expr>,
-    fragments: &mut Fragments,
-    notes: &mut Notes,
-) -> Result<Ask<Fragment>, Memory>
-    requires suits { SuitsSite (S.state scopes.old).frame site.now }
-    requires stand { IsStand (S.state scopes.old).frame stand.now }
-    requires value { IsReadExprOption site.now.texts.now.names (option_map expr_view value.now) }
-    ensures { Coding (S.state scopes.old) (S.state scopes.new) notes.old notes.new fragments.old.nodes.items fragments.new.nodes.items site.now result IsFragment part (λ c. return_of (stand_in c stand.now) at (option_map expr_view value.now)) }
-{
-    match value {
-        None => return_alone(site, at, stand.result, fragments, notes),
-        Some(e) => {
-            let x = analysed!(value_of(scopes, site, stand.withs, e, fragments, notes));
-            return_value(scopes, site, at, stand.result, e.at, x, fragments, notes)
+    /// RETURN with a value or without.
+    pub(crate) fn returned(
+        &mut self,
+        stand: &Stand,
+        at: u32,
+        value: &Option<Expr>,
+    ) -> Result<Ask<Fragment>, Memory>
+        requires stand { IsStand (frame_of S.state self.old) stand.now }
+        requires value { IsReadExprOption (names_of stand.now) (option_map expr_view value.now) }
+        ensures keeps { Keeps self.old self.new }
+        ensures nodes { KeepsNodes self.old self.new }
+        ensures codes { Codes S.state self.old self.new stand.now result IsFragment part (λ s. return_of s at (option_map expr_view value.now)) }
+    {
+        match value {
+            None => return_alone(
+                stand.site,
+                at,
+                stand.result,
+                &mut self.flows.fragments,
+                self.notes,
+            ),
+            Some(e) => {
+                let coded = analysed!(value_of(
+                    self.scopes,
+                    stand.site,
+                    stand.withs,
+                    e,
+                    &mut self.flows.fragments,
+                    self.notes
+                ));
+                let x = Placed { at: e.at, coded };
+                self.return_value(stand, at, x)
+            }
         }
     }
-}
 
-/// The value of a selector that is there, and its type. `at` is its first token.
-fn typed_selector<S: Scopes>(
-    scopes: &mut S,
-    site: &Site,
-    stand: &Stand,
-    at: u32,
-    x: Coded,
-    fragments: &mut Fragments,
-    notes: &mut Notes,
-) -> Result<Ask<(Fragment, Place)>, Memory>
-    requires suits { SuitsSite (S.state scopes.old).frame site.now }
-    requires stand { IsStand (S.state scopes.old).frame stand.now }
-    requires x { IsCoded (S.state scopes.old).frame fragments.old.nodes.items x }
-    ensures { Coding (S.state scopes.old) (S.state scopes.new) notes.old notes.new fragments.old.nodes.items fragments.new.nodes.items site.now result IsSelector selector_in (λ c. spec_typed (stand_in c stand.now) at (coded_in fragments.old.nodes.items x)) }
-{
-    let of = analysed!(selector_type(scopes, site, at, x, notes));
-    let code = analysed!(selector_value(scopes, site, x, fragments));
-    Ok(Ask::Known((code, of)))
-}
+    /// The value of a selector that is there, and its type.
+    fn typed_selector(&mut self, stand: &Stand, x: Placed) -> Result<Ask<Selected>, Memory>
+        requires stand { IsStand (frame_of S.state self.old) stand.now }
+        requires x { IsCoded (frame_of S.state self.old) (nodes_of self.old) x.coded }
+        ensures keeps { Keeps self.old self.new }
+        ensures nodes { KeepsNodes self.old self.new }
+        ensures codes { Codes S.state self.old self.new stand.now result IsSelector selector_in (λ s. spec_typed s x.at (coded_in (nodes_of self.old) x.coded)) }
+    {
+        let of = analysed!(selector_type(self.scopes, stand.site, x.at, x.coded, self.notes));
+        let value = analysed!(selector_value(
+            self.scopes,
+            stand.site,
+            x.coded,
+            &mut self.flows.fragments
+        ));
+        Ok(Ask::Known(Selected { value, of }))
+    }
 
-/// The value of a selector, and its type.
-pub fn selector<S: Scopes>(
-    scopes: &mut S,
-    site: &Site,
-    stand: &Stand,
-    e: &Expr,
-    fragments: &mut Fragments,
-    notes: &mut Notes,
-) -> Result<Ask<(Fragment, Place)>, Memory>
-    requires suits { SuitsSite (S.state scopes.old).frame site.now }
-    requires stand { IsStand (S.state scopes.old).frame stand.now }
-    requires e { IsReadExpr site.now.texts.now.names (expr_view e.now) }
-    ensures { Coding (S.state scopes.old) (S.state scopes.new) notes.old notes.new fragments.old.nodes.items fragments.new.nodes.items site.now result IsSelector selector_in (λ c. spec_selector (stand_in c stand.now) (expr_view e.now)) }
-{
-    let x = analysed!(value_of(scopes, site, stand.withs, e, fragments, notes));
-    typed_selector(scopes, site, stand, e.at, x, fragments, notes)
-}
+    /// The value of a selector, and its type.
+    pub(crate) fn selector(&mut self, stand: &Stand, e: &Expr) -> Result<Ask<Selected>, Memory>
+        requires stand { IsStand (frame_of S.state self.old) stand.now }
+        requires e { IsReadExpr (names_of stand.now) (expr_view e.now) }
+        ensures keeps { Keeps self.old self.new }
+        ensures nodes { KeepsNodes self.old self.new }
+        ensures codes { Codes S.state self.old self.new stand.now result IsSelector selector_in (λ s. spec_selector s (expr_view e.now)) }
+    {
+        let coded = analysed!(value_of(
+            self.scopes,
+            stand.site,
+            stand.withs,
+            e,
+            &mut self.flows.fragments,
+            self.notes
+        ));
+        let x = Placed { at: e.at, coded };
+        self.typed_selector(stand, x)
+    }
 
-/// The variable of a WITH.
-pub fn record_of<S: Scopes>(
-    scopes: &mut S,
-    site: &Site,
-    stand: &Stand,
-    of: &Designator,
-    fragments: &mut Fragments,
-    notes: &mut Notes,
-) -> Result<Ask<Coded>, Memory>
-    requires suits { SuitsSite (S.state scopes.old).frame site.now }
-    requires stand { IsStand (S.state scopes.old).frame stand.now }
-    requires of { IsReadDesignator site.now.texts.now.names (designator_view of.now) }
-    ensures { Coding (S.state scopes.old) (S.state scopes.new) notes.old notes.new fragments.old.nodes.items fragments.new.nodes.items site.now result IsCoded coded_in (λ c. spec_record (stand_in c stand.now) (designator_view of.now)) }
-{
-    let x = analysed!(variable(scopes, site, stand, of, fragments, notes));
-    record_variable(scopes, site, of.first.at, x, notes)
+    /// The variable of a WITH.
+    pub(crate) fn record_of(&mut self, stand: &Stand, of: &Designator) -> Result<Ask<Coded>, Memory>
+        requires stand { IsStand (frame_of S.state self.old) stand.now }
+        requires of { IsReadDesignator (names_of stand.now) (designator_view of.now) }
+        ensures keeps { Keeps self.old self.new }
+        ensures nodes { KeepsNodes self.old self.new }
+        ensures codes { Codes S.state self.old self.new stand.now result IsCoded coded_in (λ s. spec_record s (designator_view of.now)) }
+    {
+        let x = analysed!(self.variable(stand, of));
+        record_variable(self.scopes, stand.site, of.first.at, x, self.notes)
+    }
 }

@@ -12,12 +12,16 @@ ghost use Rattle.expr_sem.specs.Fragments.{IsMade, part};
 ghost use Rattle.type_rules.specs.Asks.{Reads, WhereKnown, WhereWaiting};
 ghost use Rattle.type_rules.specs.Scenes.{WhereTold};
 ghost use Rattle.type_rules.specs.Sites.{SuitsSite, context_of};
+ghost use Rattle.stmt_sem.specs.Stands.{IsStand};
 ghost use Rattle.stmt_sem.specs.Tests.{false_code as spec_false, test_code as spec_test};
+ghost use Rattle.stmt_sem.specs.Walkers.{Codes, Keeps, KeepsNodes, frame_of, nodes_of};
 
 use crate::refusals::refused_code;
+use crate::stands::Stand;
+use crate::walker::Walker;
 use code_form::Instr;
 use const_eval::is_bad;
-use expr_sem::{Coded, Fragment, Fragments, answered, value_code};
+use expr_sem::{Fragment, Fragments, Placed, answered, value_code};
 use m2_base::{Ask, Diagnostic, Memory, Notes, Operand, Place, Scopes, Site};
 use type_rules::{BOOLEAN, base_of, operand_type};
 
@@ -55,41 +59,33 @@ fn refused_test(
     answered(false_code(fragments))
 }
 
-/// A test that isn't in error.
-fn test_wanted<S: Scopes>(
-    scopes: &mut S,
-    site: &Site,
-    at: u32,
-    x: Coded,
-    fragments: &mut Fragments,
-    notes: &mut Notes,
-) -> Result<Ask<Fragment>, Memory>
-    requires suits { SuitsSite (S.state scopes.old).frame site.now }
-    requires x { IsCoded (S.state scopes.old).frame fragments.old.nodes.items x }
-    ensures { Coding (S.state scopes.old) (S.state scopes.new) notes.old notes.new fragments.old.nodes.items fragments.new.nodes.items site.now result IsFragment part (λ c. if spec_boolean c x.operand then gives (spec_value_code c (coded_in fragments.old.nodes.items x)) else refuse c at not_boolean spec_false) }
-{
-    let boolean = asked!(is_boolean(scopes, site, x.operand));
-    if boolean {
-        return value_code(scopes, site, x, fragments);
+impl<S: Scopes> Walker<'_, S> {
+    /// A test that isn't in error.
+    fn test_wanted(&mut self, stand: &Stand, x: Placed) -> Result<Ask<Fragment>, Memory>
+        requires stand { IsStand (frame_of S.state self.old) stand.now }
+        requires x { IsCoded (frame_of S.state self.old) (nodes_of self.old) x.coded }
+        ensures keeps { Keeps self.old self.new }
+        ensures nodes { KeepsNodes self.old self.new }
+        ensures codes { Codes S.state self.old self.new stand.now result IsFragment part (λ s. if spec_boolean s.context x.coded.operand then gives (spec_value_code s.context (coded_in (nodes_of self.old) x.coded)) else refuse s.context x.at not_boolean spec_false) }
+    {
+        let boolean = asked!(is_boolean(self.scopes, stand.site, x.coded.operand));
+        if boolean {
+            return value_code(self.scopes, stand.site, x.coded, &mut self.flows.fragments);
+        }
+        refused_test(stand.site, x.at, &mut self.flows.fragments, self.notes)
     }
-    refused_test(site, at, fragments, notes)
-}
 
-/// The code of a test. `at` is its first token.
-pub fn test_code<S: Scopes>(
-    scopes: &mut S,
-    site: &Site,
-    at: u32,
-    x: Coded,
-    fragments: &mut Fragments,
-    notes: &mut Notes,
-) -> Result<Ask<Fragment>, Memory>
-    requires suits { SuitsSite (S.state scopes.old).frame site.now }
-    requires x { IsCoded (S.state scopes.old).frame fragments.old.nodes.items x }
-    ensures { Coding (S.state scopes.old) (S.state scopes.new) notes.old notes.new fragments.old.nodes.items fragments.new.nodes.items site.now result IsFragment part (λ c. spec_test c at (coded_in fragments.old.nodes.items x)) }
-{
-    if is_bad(x.operand) {
-        return answered(false_code(fragments));
+    /// The code of a test.
+    pub(crate) fn test_code(&mut self, stand: &Stand, x: Placed) -> Result<Ask<Fragment>, Memory>
+        requires stand { IsStand (frame_of S.state self.old) stand.now }
+        requires x { IsCoded (frame_of S.state self.old) (nodes_of self.old) x.coded }
+        ensures keeps { Keeps self.old self.new }
+        ensures nodes { KeepsNodes self.old self.new }
+        ensures codes { Codes S.state self.old self.new stand.now result IsFragment part (λ s. spec_test s.context x.at (coded_in (nodes_of self.old) x.coded)) }
+    {
+        if is_bad(x.coded.operand) {
+            return answered(false_code(&mut self.flows.fragments));
+        }
+        self.test_wanted(stand, x)
     }
-    test_wanted(scopes, site, at, x, fragments, notes)
 }

@@ -23,6 +23,13 @@ use expr_sem::Piece;
 use m2_base::{Ask, Layout, Memory, Notes, Place, Scopes, Site, Statement, Stream};
 use std::alloc::Global;
 
+/// A statement of a body, and the result of the body's procedure.
+#[derive(Clone, Copy)]
+pub struct TopStatement<'a> {
+    pub of: &'a Statement,
+    pub result: Option<Place>,
+}
+
 /// What one statement of a body makes, and what it notes.
 #[derive(Drop)]
 pub struct Stated {
@@ -41,22 +48,20 @@ fn piece_of(alloc: Global, flows: &Flows, flow: Flow, cell: u32, byte: u32) -> R
     Ok(piece)
 }
 
-/// What one statement of a body makes whose procedure has this result. All rows of the own scope count there, so the site's layout
-/// isn't asked.
+/// What one statement of a body makes. All rows of the own scope count there, so the site's layout isn't asked.
 pub fn top_statement<S: Scopes>(
     scopes: &mut S,
     site: &Site,
-    of: &Statement,
-    returns: Option<Place>,
+    top: &TopStatement,
     flows: &mut Flows,
     notes: &mut Notes,
 ) -> Result<Ask<Flow>, Memory>
     requires suits { SuitsSite (S.state scopes.old).frame site.now }
     requires item { site.now.item ≡ None }
     requires sound { AreSound flows.old }
-    requires read { IsReadStatement site.now.texts.now.names (statement_view of.now) }
-    requires there { IfSome returns (λ t. IsThere (S.state scopes.old).frame t) }
-    ensures { Flowing (S.state scopes.old) (S.state scopes.new) notes.old notes.new flows.old flows.new site.now result IsFlow flow_in (λ c. statement_flow (at_first (in_statements c) returns) (statement_view of.now)) }
+    requires read { IsReadStatement site.now.texts.now.names (statement_view top.now.of.now) }
+    requires there { IfSome top.now.result (λ t. IsThere (S.state scopes.old).frame t) }
+    ensures { Flowing (S.state scopes.old) (S.state scopes.new) notes.old notes.new flows.old flows.new site.now result IsFlow flow_in (λ c. statement_flow (at_first (in_statements c) top.now.result) (statement_view top.now.of.now)) }
 {
     let texts = site.texts;
     let alloc = *texts.order.allocator();
@@ -68,37 +73,49 @@ pub fn top_statement<S: Scopes>(
         item: None,
     };
     let stand = Stand {
-        result: returns,
+        site: &place,
+        result: top.result,
         withs: &[],
         looped: false,
     };
-    statement(scopes, &place, &stand, of, flows, notes)
+    statement(scopes, &stand, top.of, flows, notes)
 }
 
-/// One statement of a body whose procedure has this result: its code, whose temporary cells begin at this cell and whose data
-/// at this byte, and its notes.
+/// Where a statement of a body begins, by its first temporary cell and the first byte of its data, and the result of
+/// the body's procedure.
+#[derive(Clone, Copy, Debug, PartialEq, Eq)]
+pub struct Beginning {
+    pub cell: u32,
+    pub byte: u32,
+    pub result: Option<Place>,
+}
+
+/// One statement of a body: its code from this beginning on, and its notes.
 pub fn state<S: Scopes>(
-    alloc: Global,
     scopes: &mut S,
     site: &Site,
     stream: &Stream,
     index: usize,
-    returns: Option<Place>,
-    cell: u32,
-    data_from: u32,
+    from: Beginning,
 ) -> Result<Ask<Stated>, Memory>
     requires suits { SuitsSite (S.state scopes.old).frame site.now }
     requires item { site.now.item ≡ None }
     requires index { index < length stream.now.body.items }
     requires read { AreReadStatements site.now.texts.now.names (stream_view stream.now).body }
-    requires returns { Returns (S.state scopes.old).frame site.now (stream_view stream.now) returns }
-    requires there { IfSome returns (λ t. IsThere (S.state scopes.old).frame t) }
-    ensures { Stating (S.state scopes.old) (S.state scopes.new) site.now (stream_view stream.now) index (spot_at cell data_from) result }
+    requires returns { Returns (S.state scopes.old).frame site.now (stream_view stream.now) from.result }
+    requires there { IfSome from.result (λ t. IsThere (S.state scopes.old).frame t) }
+    ensures { Stating (S.state scopes.old) (S.state scopes.new) site.now (stream_view stream.now) index (spot_at from.cell from.byte) result }
 {
+    let texts = site.texts;
+    let alloc = *texts.order.allocator();
     let mut flows = Flows::new(alloc);
     let mut notes = Notes::new(alloc);
     let of = &stream.body[index];
-    let flow = analysed!(top_statement(scopes, site, of, returns, &mut flows, &mut notes));
-    let piece = piece_of(alloc, &flows, flow, cell, data_from)?;
+    let top = TopStatement {
+        of,
+        result: from.result,
+    };
+    let flow = analysed!(top_statement(scopes, site, &top, &mut flows, &mut notes));
+    let piece = piece_of(alloc, &flows, flow, from.cell, from.byte)?;
     Ok(Ask::Known(Stated { piece, notes }))
 }

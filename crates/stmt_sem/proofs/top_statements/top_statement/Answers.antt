@@ -6,20 +6,22 @@ use Rattle.stmt_sem.specs.Statements.{statement_flow}
 use Rattle.stmt_sem.proofs.TopStatements.{unbegun, without_layout}
 use Rattle.stmt_sem.proofs.top_statements.top_statement.Goals as goal
 
-pub statement-requires-clause-suits : goal.statement-requires-clause-suits
-statement-requires-clause-suits g c =
-    let s = c.requires.suits in
-    record { around = s.around; texts = s.texts; chain = s.chain; short = s.short; down = s.down; done = λ none. s.done c.requires.item }
-
 pub statement-requires-clause-stand : goal.statement-requires-clause-stand
-statement-requires-clause-stand g c = record { result = c.requires.there; withs = tt }
+statement-requires-clause-stand g c =
+    let s = c.requires.suits in
+    record {
+      suits = record { around = s.around; texts = s.texts; chain = s.chain; short = s.short; down = s.down; done = λ none. s.done c.requires.item };
+      item = refl;
+      result = c.requires.there;
+      withs = tt;
+    }
 
 pub returns-in_err-layout : goal.returns-in_err-layout
 returns-in_err-layout g c =
-    unbegun (g.S.Scopes.state c.args.scopes.now) c.args.notes.now c.args.flows.now c.args.site.now (λ k. statement_flow (at_first (in_statements k) c.args.returns) (statement_view c.args.of.now))
+    unbegun (g.S.Scopes.state c.args.scopes.now) c.args.notes.now c.args.flows.now c.args.site.now (λ k. statement_flow (at_first (in_statements k) c.args.top.now.result) (statement_view c.args.top.now.of.now))
     c.from_residual.result c.from_residual.ensures.0
 
 pub returns : goal.returns
 returns g c =
-    without_layout c.args.site.now _ c.args.returns (statement_view c.args.of.now) c.requires.item refl refl (λ k. record { names = (c.in_ok-layout.ensures.names ∙ c.new.ensures.items) k; firsts = (c.in_ok-layout.ensures.firsts ∙ c.new-2.ensures.items) k; brought = c.in_ok-layout.ensures.brought k })
+    without_layout c.args.site.now _ c.args.top.now.result (statement_view c.args.top.now.of.now) c.requires.item refl refl (λ k. record { names = (c.in_ok-layout.ensures.names ∙ c.new.ensures.items) k; firsts = (c.in_ok-layout.ensures.firsts ∙ c.new-2.ensures.items) k; brought = c.in_ok-layout.ensures.brought k })
     refl c.statement.ensures
