@@ -15,4 +15,5 @@ IsNamedProcedure name other = Unit {0}
 
 -- each procedure of the own definition has a name: the second of a name has none, and was refused
 abbrev pub HasNamedHeadings : UnitTrees → Type 0
-HasNamedHeadings u = WhereKept u.own (λ own. Each (λ r. IsNamedProcedure r.name (row_meaning r)) (rows_at (unit_rows u) own))
+HasNamedHeadings u =
+    WhereKept u.own (λ own. Each (λ r. IsNamedProcedure r.name (row_meaning r)) (rows_at (unit_rows u) own))

@@ -30,10 +30,11 @@ IsOfLone s home other = Unit {0}
 
 -- the rows of a scene are those of a lone module
 abbrev pub AreOfLone : Scene → Type 0
-AreOfLone scene = (s o : ℕ) (r : Row) → slice_get (rows_at scene.tables s) o ≡ Some r → IsOfLone s scene.block.scope (row_meaning r)
+AreOfLone scene =
+    (s o : ℕ) (r : Row) → slice_get (rows_at scene.tables s) o ≡ Some r → IsOfLone s scene.block.scope (row_meaning r)
 
--- The block is a module's, it has a name, nothing is copied first, and no row of its scene declares a procedure or is a
--- variable of another module; its cells are there.
+-- The block is a module's, it has a name, nothing is copied first, and no row of its scene declares a procedure or is
+-- a variable of another module; its cells are there.
 pub record IsLone (source : Source) (before all : List (List Row)) (b : BlockTree) : Type 0 where
   pub main : b.tree.kind ≡ Main
   pub name : Ident
@@ -41,7 +42,8 @@ pub record IsLone (source : Source) (before all : List (List Row)) (b : BlockTre
   pub home : b.block.home ≡ b.block.scope
   pub nothing_copied : (declare_block source before b).value.prologue ≡ []
   pub rows : AreOfLone (complete_context source all b.block).scene
-  pub cells : CellsAreThere (rows_at (complete_context source all b.block).scene.tables b.block.scope) (declare_block source before b).value
+  pub cells : CellsAreThere (rows_at (complete_context source all b.block).scene.tables b.block.scope)
+      (declare_block source before b).value
 
 -- ** Units
 

@@ -18,4 +18,5 @@ pub record IsMainBlock (source : Source) (before : List (List Row)) (b : BlockTr
   pub name : Ident
   pub named : block_name b.tree ≡ Some name
   pub copies : (declare_block source before b).value.cell ≤ most_cells
-      → Each (IsCopyBelow (first_cell b.tree.kind (declare_block source before b).value.cell)) (declare_block source before b).value.prologue
+      → Each (IsCopyBelow (first_cell b.tree.kind (declare_block source before b).value.cell))
+      (declare_block source before b).value.prologue

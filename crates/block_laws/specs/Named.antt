@@ -19,20 +19,31 @@ use Rattle.block_laws.specs.Sight.{RowsNameThere}
 -- a block's code as a procedure of an object
 abbrev pub procedure_of : ProcedureCode → Procedure
 procedure_of p =
-    record { outer = p.outer; params = p.params; result = p.result; locals = p.locals; high = p.high; bytes = p.bytes; code = p.code }
+    record {
+      outer = p.outer;
+      params = p.params;
+      result = p.result;
+      locals = p.locals;
+      high = p.high;
+      bytes = p.bytes;
+      code = p.code;
+    }
 
 -- a definition module has no code
 abbrev pub HasCode : StreamKind → Type 0
 HasCode Definition = ⊥
 HasCode kind = Unit {0}
 
--- Block b is procedure k of the module, and has a name. The rows that are seen name what is there; unless the block has too many
--- cells, what is copied first stands below its temporary cells.
-pub record BlockNamesThere (seen : ℕ → Type 0) (w : World) (k : ℕ) (source : Source) (before all : List (List Row)) (b : BlockTree) : Type 0 where
+-- Block b is procedure k of the module, and has a name. The rows that are seen name what is there; unless the block
+-- has too many cells, what is copied first stands below its temporary cells.
+pub record BlockNamesThere (seen : ℕ → Type 0) (w : World) (k : ℕ) (source : Source) (before all : List (List Row))
+    (b : BlockTree) : Type 0 where
   pub coded : HasCode b.tree.kind
   pub name : Ident
   pub named : block_name b.tree ≡ Some name
   pub there : slice_get w.procedures k ≡ Some (procedure_of (block_code source before all b))
   pub copies : (declare_block source before b).value.cell ≤ most_cells
-      → Each (IsCopyBelow (first_cell b.tree.kind (declare_block source before b).value.cell)) (declare_block source before b).value.prologue
-  pub rows : (declare_block source before b).value.cell ≤ most_cells → RowsNameThere seen w k (procedure_of (block_code source before all b)) (complete_context source all b.block).scene
+      → Each (IsCopyBelow (first_cell b.tree.kind (declare_block source before b).value.cell))
+      (declare_block source before b).value.prologue
+  pub rows : (declare_block source before b).value.cell ≤ most_cells → RowsNameThere seen w k
+      (procedure_of (block_code source before all b)) (complete_context source all b.block).scene

@@ -1,5 +1,5 @@
--- What a block's code can name by its rows: the rows in sight of the block, and what is asked of them so that the code names
--- what is there.
+-- What a block's code can name by its rows: the rows in sight of the block, and what is asked of them so that the code
+-- names what is there.
 use Rattle.std.specs.Prelude.{◌≡◌, ℕ, ◌+◌, ◌<◌, ◌==◌, ◌⊎◌, true, Option, Some, None, slice_get}
 use Rattle.code_form.specs.Heights.{Step, step_among}
 use Rattle.code_form.specs.Modules.{Procedure, World}
@@ -38,28 +38,38 @@ pub record Sees (seen : ℕ → Type 0) (scene : Scene) : Type 0 where
   pub modules : (name s : ℕ) → IsDeclared seen scene name (Module s) → seen s
   pub aliases : (name : ℕ) (p : Place) → IsDeclared seen scene name (Alias p) → seen p.scope
 
--- the scopes in sight of a block: those of its chain, and those of the definition modules, which come before its module
+-- the scopes in sight of a block: those of its chain, and those of the definition modules,
+-- which come before its module
 abbrev pub IsInSight : Block → (scope : ℕ) → Type 0
 IsInSight b s = IsIn s b.chain ⊎ (s < b.home)
 
 -- the call of a procedure of this type
 abbrev pub call_step : Scene → Place → Instr → (more : ℕ) → Step
 call_step scene t i more =
-    record { instr = i; takes = cells_of_all scene (parameters scene t) + more; leaves = result_cells (result_of_type scene t) }
+    record {
+      instr = i;
+      takes = cells_of_all scene (parameters scene t) + more;
+      leaves = result_cells (result_of_type scene t);
+    }
 
 -- the procedure as a value; the module lacks it where there is none
 abbrev pub value_instr : Scene → Option Target → Instr
 value_instr scene None = ProcValue 0 0
 value_instr scene (Some p) = ProcValue (import_of_target scene.block p) p.number
 
--- The rows of the scopes that are seen name what is there, for the code of procedure k: the cells of each variable, each procedure that may be a
--- value, and each procedure that may be called, which takes and leaves what its type says. Modules and aliases lead to
--- scopes that are seen.
+-- The rows of the scopes that are seen name what is there, for the code of procedure k: the cells of each variable,
+-- each procedure that may be a value, and each procedure that may be called, which takes and leaves what its type
+-- says. Modules and aliases lead to scopes that are seen.
 pub record RowsNameThere (seen : ℕ → Type 0) (w : World) (k : ℕ) (p : Procedure) (scene : Scene) : Type 0 where
   pub sight : Sees seen scene
-  pub cells : (name : ℕ) (t : Place) (mode : Mode) (o : ℕ) (d : IsDeclared seen scene name (Var t mode o)) → names_what_is_there w k p (cell_instr scene.block d.place.scope o) ≡ true
-  pub second_cells : (name : ℕ) (t : Place) (o : ℕ) (d : IsDeclared seen scene name (Var t Open o)) → names_what_is_there w k p (cell_instr scene.block d.place.scope (o + 1)) ≡ true
-  pub values : (name : ℕ) (t : Place) (number s : ℕ) → IsDeclared seen scene name (Proc t number s) → (level_of scene.block t.scope == 0) ≡ true
+  pub cells : (name : ℕ) (t : Place) (mode : Mode) (o : ℕ) (d : IsDeclared seen scene name (Var t mode o))
+      → names_what_is_there w k p (cell_instr scene.block d.place.scope o) ≡ true
+  pub second_cells : (name : ℕ) (t : Place) (o : ℕ) (d : IsDeclared seen scene name (Var t Open o))
+      → names_what_is_there w k p (cell_instr scene.block d.place.scope (o + 1)) ≡ true
+  pub values : (name : ℕ) (t : Place) (number s : ℕ) → IsDeclared seen scene name (Proc t number s)
+      → (level_of scene.block t.scope == 0) ≡ true
       → names_what_is_there w k p (value_instr scene (target_of_procedure scene name t number)) ≡ true
-  pub calls : (name : ℕ) (t : Place) (number s : ℕ) (q : Target) → IsDeclared seen scene name (Proc t number s) → target_of_procedure scene name t number ≡ Some q
-      → (names_what_is_there w k p (call_instr scene q) ≡ true) × (step_among (callees_of w p) (call_instr scene q) ≡ call_step scene t (call_instr scene q) 0)
+  pub calls : (name : ℕ) (t : Place) (number s : ℕ) (q : Target) → IsDeclared seen scene name (Proc t number s)
+      → target_of_procedure scene name t number ≡ Some q
+      → (names_what_is_there w k p (call_instr scene q) ≡ true)
+      × (step_among (callees_of w p) (call_instr scene q) ≡ call_step scene t (call_instr scene q) 0)

@@ -15,9 +15,11 @@ use Rattle.stmt_sem.specs.BlockCode.{block_code}
 use Rattle.block_laws.specs.Named.{procedure_of}
 
 -- what f makes of each of these blocks, over the finished scopes before it
-abbrev pub over_blocks : {A : Type 0} → (f : List (List Row) → BlockTree → A) → Source → (before : List (List Row)) → List BlockTree → List A
+abbrev pub over_blocks : {A : Type 0} → (f : List (List Row) → BlockTree → A) → Source → (before : List (List Row))
+    → List BlockTree → List A
 over_blocks f source before [] = []
-over_blocks f source before (b ∷ blocks) = f before b ∷ over_blocks f source (before ++ (declare_block source before b).rows ∷ []) blocks
+over_blocks f source before (b ∷ blocks) =
+    f before b ∷ over_blocks f source (before ++ (declare_block source before b).rows ∷ []) blocks
 
 -- what f makes of each block of a unit
 abbrev pub of_blocks : {A : Type 0} → (f : List (List Row) → BlockTree → A) → UnitTrees → List A
@@ -45,12 +47,15 @@ abbrev pub without_own : {A : Type 0} → (own : Option ℕ) → List A → List
 without_own None xs = xs
 without_own (Some s) xs = take (s - 1) xs ++ drop s xs
 
--- The cells are those of the main module. The imports are the definition modules in the order of their scopes, without the own
--- one; the procedures are the blocks of the main text, in the order of theirs.
+-- The cells are those of the main module. The imports are the definition modules in the order of their scopes, without
+-- the own one; the procedures are the blocks of the main text, in the order of theirs.
 abbrev pub unit_world : UnitTrees → World
 unit_world u =
     record {
-      cells = slice_index_or (of_blocks (λ before b. (declare_block u.source before b).value.cell) u) (length u.definitions) 0;
+      cells =
+          slice_index_or (of_blocks (λ before b. (declare_block u.source before b).value.cell) u)
+          (length u.definitions) 0;
       imports = without_own u.own (take (length u.definitions) (of_blocks (import_over u.source) u));
-      procedures = drop (length u.definitions) (of_blocks (λ before b. procedure_of (block_code u.source before (unit_rows u) b)) u);
+      procedures = drop (length u.definitions)
+          (of_blocks (λ before b. procedure_of (block_code u.source before (unit_rows u) b)) u);
     }

@@ -1,8 +1,8 @@
 //! What holds of every block's code and diagnostics?
 //!
-//! There is no code here: the functions do nothing, and their contracts are laws over the definitions of `stmt_sem` and
-//! `expr_sem`. `laws` says that the code of each block of a unit is valid where no block has a diagnostic (`code_is_valid`);
-//! `notes` that each diagnostic stands in its block's text, at a token that the block's tree names
+//! There is no code here: the functions do nothing, and their contracts are laws over the definitions of `stmt_sem`
+//! and `expr_sem`. `laws` says that the code of each block of a unit is valid where no block has a diagnostic
+//! (`code_is_valid`); `notes` that each diagnostic stands in its block's text, at a token that the block's tree names
 //! (`blocks_stand_in_their_texts`).
 #![tactic(auto)]
 

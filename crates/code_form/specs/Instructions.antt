@@ -5,9 +5,17 @@ use Rattle.std.specs.List.{AllByRecursion}
 use Rattle.code_form.specs.declared.effect.Effect.{Effect}
 use Rattle.code_form.specs.declared.effect.Effect.TheVariants.{Changes, CallsOwn, CallsImport, GivesResult}
 pub use Rattle.code_form.specs.declared.instr.Instr.{Instr}
-pub use Rattle.code_form.specs.declared.instr.Instr.TheVariants.{Push, Local, Global, Str, Load, Store, Move, Dup, Offset, Index, IndexOpen, Check, Nil, Add, Sub, Mul, Div, Mod, Neg, Abs, Not, Eq, Ne, Lt, Le, Gt, Ge, Union, Diff, Inter, SymDiff, Subset, Superset, In, Bit, Span, Jump, JumpFalse, AndJump, OrJump, More, Call, CallX, CallVar, Proc, Return, Trap, New, OpenCopy, Halt, Cap}
+pub use Rattle.code_form.specs.declared.instr.Instr.TheVariants.{Push, Local, Global, Str, Load, Store, Move, Dup}
+pub use Rattle.code_form.specs.declared.instr.Instr.TheVariants.{Offset, Index, IndexOpen, Check, Nil, Add, Sub, Mul}
+pub use Rattle.code_form.specs.declared.instr.Instr.TheVariants.{Div, Mod, Neg, Abs, Not, Eq, Ne, Lt, Le, Gt, Ge}
+pub use Rattle.code_form.specs.declared.instr.Instr.TheVariants.{Union, Diff, Inter, SymDiff, Subset, Superset, In}
+pub use Rattle.code_form.specs.declared.instr.Instr.TheVariants.{Bit, Span, Jump, JumpFalse, AndJump, OrJump, More}
+pub use Rattle.code_form.specs.declared.instr.Instr.TheVariants.{Call, CallX, CallVar, Proc, Return, Trap, New}
+pub use Rattle.code_form.specs.declared.instr.Instr.TheVariants.{OpenCopy, Halt, Cap}
 pub use Rattle.code_form.specs.declared.operand.Operand.{Operand}
-pub use Rattle.code_form.specs.declared.operand.Operand.TheVariants.{Number as number, Count as count, Distance as distance, Value as value, Flag as flag, Trap as trap}
+pub use Rattle.code_form.specs.declared.operand.Operand.TheVariants.{Number as number, Count as count}
+pub use Rattle.code_form.specs.declared.operand.Operand.TheVariants.{Distance as distance, Value as value}
+pub use Rattle.code_form.specs.declared.operand.Operand.TheVariants.{Flag as flag, Trap as trap}
 
 -- a line of the table
 pub record Line : Type 0 where

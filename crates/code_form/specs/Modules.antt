@@ -8,8 +8,9 @@ pub record Import : Type 0 where
   pub cells : ℕ
   pub headings : List Callee
 
--- A procedure: the one that directly encloses it (0: none), the cells of its parameters, its result (0 or 1), its cells,
--- its greatest height, its data and its code. Procedure 0 is the module's body, whose cells are its temporary cells.
+-- A procedure: the one that directly encloses it (0: none), the cells of its parameters, its result (0 or 1), its
+-- cells, its greatest height, its data and its code. Procedure 0 is the module's body,
+-- whose cells are its temporary cells.
 pub record Procedure : Type 0 where
   pub outer : ℕ
   pub params : ℕ

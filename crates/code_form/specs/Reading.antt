@@ -1,7 +1,12 @@
 -- Reading an instruction from the front of the bytes.
-use Rattle.std.specs.Prelude.{◌≡◌, ℕ, ℤ, pos, negsuc, List, [], ◌∷◌, length, take, drop, Option, Some, None, nat_lt, ◌==◌, ◌||◌, if◌then◌else◌, slice_get}
+use Rattle.std.specs.Prelude.{◌≡◌, ℕ, ℤ, pos, negsuc, List, [], ◌∷◌, length, take, drop, Option, Some, None, nat_lt}
+use Rattle.std.specs.Prelude.{◌==◌, ◌||◌, if◌then◌else◌, slice_get}
 use Rattle.std.specs.Int.{Width, w32, w64, byte_len, from_le_bytes, cast_signed}
-use Rattle.code_form.specs.Instructions.{Instr, Push, Local, Global, Str, Load, Store, Move, Dup, Offset, Index, IndexOpen, Check, Nil, Add, Sub, Mul, Div, Mod, Neg, Abs, Not, Eq, Ne, Lt, Le, Gt, Ge, Union, Diff, Inter, SymDiff, Subset, Superset, In, Bit, Span, Jump, JumpFalse, AndJump, OrJump, More, Call, CallX, CallVar, Proc, Return, Trap, New, OpenCopy, Halt, Cap}
+use Rattle.code_form.specs.Instructions.{Instr, Push, Local, Global, Str, Load, Store, Move, Dup, Offset, Index}
+use Rattle.code_form.specs.Instructions.{IndexOpen, Check, Nil, Add, Sub, Mul, Div, Mod, Neg, Abs, Not, Eq, Ne, Lt, Le}
+use Rattle.code_form.specs.Instructions.{Gt, Ge, Union, Diff, Inter, SymDiff, Subset, Superset, In, Bit, Span, Jump}
+use Rattle.code_form.specs.Instructions.{JumpFalse, AndJump, OrJump, More, Call, CallX, CallVar, Proc, Return, Trap}
+use Rattle.code_form.specs.Instructions.{New, OpenCopy, Halt, Cap}
 
 infixl 10 ◌>>=◌
 abbrev pub ◌>>=◌ : {A B : Type 0} → Option A → (A → Option B) → Option B
@@ -14,7 +19,8 @@ Reads view (Some x) read = read ≡ Some (view x)
 Reads view None read = read ≡ None
 
 abbrev pub wide_at : Width → List ℕ → Option (ℕ × List ℕ)
-wide_at w bytes = if nat_lt (length bytes) (byte_len w) then None else Some (from_le_bytes w (take (byte_len w) bytes), drop (byte_len w) bytes)
+wide_at w bytes = if nat_lt (length bytes) (byte_len w) then None
+    else Some (from_le_bytes w (take (byte_len w) bytes), drop (byte_len w) bytes)
 
 abbrev pub number_at : List ℕ → Option (ℕ × List ℕ)
 number_at = wide_at w32
@@ -61,13 +67,15 @@ one at f bytes = do
   x ← at bytes
   Some (f x.0, x.1)
 
-abbrev pub two : {A B : Type 0} → (List ℕ → Option (A × List ℕ)) → (List ℕ → Option (B × List ℕ)) → (A → B → Instr) → Row
+abbrev pub two : {A B : Type 0} → (List ℕ → Option (A × List ℕ)) → (List ℕ → Option (B × List ℕ)) → (A → B → Instr)
+    → Row
 two at bt f bytes = do
   x ← at bytes
   y ← bt x.1
   Some (f x.0 y.0, y.1)
 
-abbrev pub three : {A B C : Type 0} → (List ℕ → Option (A × List ℕ)) → (List ℕ → Option (B × List ℕ)) → (List ℕ → Option (C × List ℕ)) → (A → B → C → Instr) → Row
+abbrev pub three : {A B C : Type 0} → (List ℕ → Option (A × List ℕ)) → (List ℕ → Option (B × List ℕ))
+    → (List ℕ → Option (C × List ℕ)) → (A → B → C → Instr) → Row
 three at bt ct f bytes = do
   x ← at bytes
   y ← bt x.1

@@ -1,9 +1,12 @@
 -- Which code is valid: it is instructions one after another, what their operands name is there, their jumps go to
 -- instructions, their heights agree, the last one ends, and the greatest height is the one that is told. Stated by the
 -- first fault of a code, in the order in which faults are told.
-use Rattle.std.specs.Prelude.{◌≡◌, ℕ, zero, suc, ◌+◌, ◌<◌, ◌==◌, ℤ, pos, negsuc, ◌+ℤ◌, ◌-ℤ◌, int_le, int_lt, Bool, true, false, ◌&&◌, ◌||◌, List, [], ◌∷◌, ◌++◌, length, slice_get, Option, Some, None, nat_le, nat_lt, if◌then◌else◌}
+use Rattle.std.specs.Prelude.{◌≡◌, ℕ, zero, suc, ◌+◌, ◌<◌, ◌==◌, ℤ, pos, negsuc, ◌+ℤ◌, ◌-ℤ◌, int_le, int_lt, Bool}
+use Rattle.std.specs.Prelude.{true, false, ◌&&◌, ◌||◌, List, [], ◌∷◌, ◌++◌, length, slice_get, Option, Some, None}
+use Rattle.std.specs.Prelude.{nat_le, nat_lt, if◌then◌else◌}
 use Rattle.std.specs.List.{AllByRecursion}
-use Rattle.code_form.specs.Instructions.{Instr, Local, Global, Str, CallX, Call, CallVar, Proc, OpenCopy, Jump, JumpFalse, AndJump, OrJump, Return, Trap, Halt, IsInstr}
+use Rattle.code_form.specs.Instructions.{Instr, Local, Global, Str, CallX, Call, CallVar, Proc, OpenCopy, Jump}
+use Rattle.code_form.specs.Instructions.{JumpFalse, AndJump, OrJump, Return, Trap, Halt, IsInstr}
 use Rattle.code_form.specs.Bytes.{code_bytes, size, BeginsWith}
 use Rattle.code_form.specs.Heights.{Callee, Callees, Step, step_among}
 use Rattle.code_form.specs.Modules.{Import, Procedure, World}
@@ -53,10 +56,11 @@ can_call w from p h =
 
 -- a cell of the procedure that h links lead to
 abbrev pub has_local : World → (from h o : ℕ) → Bool
-has_local w from h o = when_there (linked w h from) (λ q. when_there (slice_get w.procedures q) (λ p. nat_lt o p.locals))
+has_local w from h o =
+    when_there (linked w h from) (λ q. when_there (slice_get w.procedures q) (λ p. nat_lt o p.locals))
 
--- What the operands of an instruction in the code of procedure k name is there. A call of a variable has a result of one
--- cell or none; both cells of an open array are the procedure's.
+-- What the operands of an instruction in the code of procedure k name is there. A call of a variable has a result of
+-- one cell or none; both cells of an open array are the procedure's.
 abbrev pub names_what_is_there : World → (k : ℕ) → Procedure → Instr → Bool
 names_what_is_there w k p (Local h o) = has_local w k h o
 names_what_is_there w k p (Global m o) = has_cell w m o
@@ -184,8 +188,8 @@ abbrev pub in_code_or : (code : ℕ) → Option ℕ → Option Fault → Option 
 in_code_or c None next = next
 in_code_or c (Some at) next = Some (in_code at c)
 
--- The first fault of a code that is these instructions. 6: an operand, a jump or the last instruction; of empty code at
--- its beginning. 7: a height. Then the greatest height. Each over the whole code before the next.
+-- The first fault of a code that is these instructions. 6: an operand, a jump or the last instruction; of empty code
+-- at its beginning. 7: a height. Then the greatest height. Each over the whole code before the next.
 abbrev pub fault_among : World → (k : ℕ) → Procedure → List Instr → Option Fault
 fault_among w k p is =
     let all = points (callees_of w p) 0 (pos 0) is in

@@ -2,7 +2,8 @@
 ghost use Rattle.std.specs.Prelude.{◌≡◌, ◌+◌, ◌≤◌, ◌<◌, List, ℕ, length, drop, Some, IfSome, IfNone};
 ghost use Rattle.code_form.specs.Instructions.{Instr as InstrOf};
 ghost use Rattle.code_form.specs.Bytes.{spelling, BeginsWith};
-ghost use Rattle.code_form.specs.Reading.{Reads, number_at, distance_at, value_at, flag_at, trap_at, count_at, instr_at, decoded};
+ghost use Rattle.code_form.specs.Reading.{Reads, number_at, distance_at, value_at, flag_at, trap_at, count_at};
+ghost use Rattle.code_form.specs.Reading.{instr_at, decoded};
 
 use crate::instr::Instr;
 use crate::operand::Operand;
@@ -128,7 +129,8 @@ pub fn decode(bytes: &[u8], at: usize) -> Option<(Instr, usize)>
     ensures after { IfSome result (λ x. (at < x.1) × (x.1 ≤ length bytes.now)) }
     ensures none { IfNone result ((i : InstrOf) (rest : List ℕ) → BeginsWith (drop at bytes.now) i rest → ⊥) }
     // What was encoded is decoded, whatever follows it.
-    ensures again { (i : InstrOf) (rest : List ℕ) → BeginsWith (drop at bytes.now) i rest → result ≡ Some (i, at + length (spelling i)) }
+    ensures again { (i : InstrOf) (rest : List ℕ) → BeginsWith (drop at bytes.now) i rest
+        → result ≡ Some (i, at + length (spelling i)) }
 {
     let (_, rest) = bytes.split_at(at);
     let Some((i, after)) = instr(rest) else {

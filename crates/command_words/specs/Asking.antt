@@ -1,5 +1,6 @@
 -- What the kit's `clap` is asked of the words behind a verb, and what is read from its answer.
-use Rattle.std.specs.Prelude.{◌≡◌, ℕ, true, List, [], ◌∷◌, ◌++◌, map, Option, Some, None, codes, if◌then◌else◌, option_map}
+use Rattle.std.specs.Prelude.{◌≡◌, ℕ, true, List, [], ◌∷◌, ◌++◌, map, Option, Some, None, codes, if◌then◌else◌}
+use Rattle.std.specs.Prelude.{option_map}
 use Rattle.clap.specs.Simple.{App, new_rule, new_shape, on_top}
 use Rattle.clap.specs.Walk.{Row, Rule, first_of}
 use Rattle.command_words.specs.Operands.{is_operand}
@@ -25,7 +26,8 @@ operand_id = codes "NAME"
 
 -- no program's name in front, and no option for help
 abbrev pub bare_app : App
-bare_app = record { top = record (new_shape (codes "m2c")) { no_binary_name = true; disable_help_flag = true }; subs = [] }
+bare_app =
+    record { top = record (new_shape (codes "m2c")) { no_binary_name = true; disable_help_flag = true }; subs = [] }
 
 -- these options with one value each, and one word that is none
 abbrev pub app_for : List Setting → App

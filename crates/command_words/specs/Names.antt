@@ -12,4 +12,5 @@ is_identifier (b ∷ bs) = is_letter b && list_all goes_on bs
 
 -- a module's name: an identifier of at most 64 bytes that is no reserved word and isn't the library module's
 abbrev pub is_name : List ℕ → Bool
-is_name word = is_identifier word && nat_le (length word) 64 && not (is_some (kind_in reserved_words word) || bytes_eq word (codes "InOut"))
+is_name word = is_identifier word && nat_le (length word) 64
+    && not (is_some (kind_in reserved_words word) || bytes_eq word (codes "InOut"))

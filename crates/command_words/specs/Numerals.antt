@@ -10,4 +10,5 @@ is_numeral word = nat_le 1 (length word) && nat_le (length word) 10 && list_all 
 
 -- the value of a numeral from 1 to this
 abbrev pub value_to : ℕ → List ℕ → Option ℕ
-value_to most word = if is_numeral word && nat_le 1 (digits_value 10 word) && nat_le (digits_value 10 word) most then Some (digits_value 10 word) else None
+value_to most word = if is_numeral word && nat_le 1 (digits_value 10 word) && nat_le (digits_value 10 word) most then
+    Some (digits_value 10 word) else None

@@ -1,5 +1,6 @@
 -- What stands behind a verb: what it is about, and options with their values.
-use Rattle.std.specs.Prelude.{◌≡◌, ℕ, List, [], ◌∷◌, ◌++◌, map, Option, Some, None, codes, IsTrue, if◌then◌else◌, is_some, option_and_then}
+use Rattle.std.specs.Prelude.{◌≡◌, ℕ, List, [], ◌∷◌, ◌++◌, map, Option, Some, None, codes, IsTrue, if◌then◌else◌}
+use Rattle.std.specs.Prelude.{is_some, option_and_then}
 use Rattle.m2_base.specs.Lists.{Each}
 use Rattle.command_words.specs.Operands.{is_operand}
 use Rattle.command_words.specs.Settings.{spelling, value_in}
@@ -16,11 +17,14 @@ IsOperand word = IsTrue (is_operand word)
 -- The words spell these parts.
 pub data Spells : List (List ℕ) → List Part → Type 0 where
   over : Spells [] []
-  named : (word : List ℕ) (words : List (List ℕ)) (parts : List Part) → IsOperand word → Spells words parts → Spells (word ∷ words) (an_operand word ∷ parts)
+  named : (word : List ℕ) (words : List (List ℕ)) (parts : List Part) → IsOperand word → Spells words parts
+      → Spells (word ∷ words) (an_operand word ∷ parts)
   -- an option's value is the next word
-  spaced : (s : Setting) (word : List ℕ) (n : ℕ) (words : List (List ℕ)) (parts : List Part) → value_in s word ≡ Some n → Spells words parts → Spells (spelling s ∷ word ∷ words) (a_value s n ∷ parts)
+  spaced : (s : Setting) (word : List ℕ) (n : ℕ) (words : List (List ℕ)) (parts : List Part) → value_in s word ≡ Some n
+      → Spells words parts → Spells (spelling s ∷ word ∷ words) (a_value s n ∷ parts)
   -- or it follows `=`
-  joined : (s : Setting) (word : List ℕ) (n : ℕ) (words : List (List ℕ)) (parts : List Part) → value_in s word ≡ Some n → Spells words parts → Spells ((spelling s ++ 61 ∷ word) ∷ words) (a_value s n ∷ parts)
+  joined : (s : Setting) (word : List ℕ) (n : ℕ) (words : List (List ℕ)) (parts : List Part) → value_in s word ≡ Some n
+      → Spells words parts → Spells ((spelling s ++ 61 ∷ word) ∷ words) (a_value s n ∷ parts)
   -- after `--` every word is an operand
   marked : (words : List (List ℕ)) → Each IsOperand words → Spells (codes "--" ∷ words) (map an_operand words)
 

@@ -38,7 +38,8 @@ pub enum Command<'a> {
 
 /// The command to compile, with what is given.
 fn to_compile<'a>(given: Given<'a>) -> Option<Command<'a>>
-    ensures { MatchOption result (MakesNone (codes "compile") (given_of given.entry)) (λ command. Makes (codes "compile") (given_of given.entry) (command_of command)) }
+    ensures { MatchOption result (MakesNone (codes "compile") (given_of given.entry))
+        (λ command. Makes (codes "compile") (given_of given.entry) (command_of command)) }
 {
     let name = given.operand?;
     if given.steps.is_some() || given.cells.is_some() {
@@ -53,7 +54,8 @@ fn to_compile<'a>(given: Given<'a>) -> Option<Command<'a>>
 
 /// The command to run, with what is given.
 fn to_run<'a>(given: Given<'a>) -> Option<Command<'a>>
-    ensures { MatchOption result (MakesNone (codes "run") (given_of given.entry)) (λ command. Makes (codes "run") (given_of given.entry) (command_of command)) }
+    ensures { MatchOption result (MakesNone (codes "run") (given_of given.entry))
+        (λ command. Makes (codes "run") (given_of given.entry) (command_of command)) }
 {
     let name = given.operand?;
     if given.workers.is_some() {
@@ -69,7 +71,8 @@ fn to_run<'a>(given: Given<'a>) -> Option<Command<'a>>
 
 /// The command to dump, with what is given.
 fn to_dump<'a>(given: Given<'a>) -> Option<Command<'a>>
-    ensures { MatchOption result (MakesNone (codes "dump") (given_of given.entry)) (λ command. Makes (codes "dump") (given_of given.entry) (command_of command)) }
+    ensures { MatchOption result (MakesNone (codes "dump") (given_of given.entry))
+        (λ command. Makes (codes "dump") (given_of given.entry) (command_of command)) }
 {
     let name = given.operand?;
     if given.workers.is_some() || given.steps.is_some() || given.cells.is_some() {
@@ -83,7 +86,8 @@ fn to_dump<'a>(given: Given<'a>) -> Option<Command<'a>>
 
 /// The command to count what the big module comes to, with what is given.
 fn to_count<'a>(given: Given<'a>) -> Option<Command<'a>>
-    ensures { MatchOption result (MakesNone (codes "big") (given_of given.entry)) (λ command. Makes (codes "big") (given_of given.entry) (command_of command)) }
+    ensures { MatchOption result (MakesNone (codes "big") (given_of given.entry))
+        (λ command. Makes (codes "big") (given_of given.entry) (command_of command)) }
 {
     let operand = given.operand?;
     if given.steps.is_some() || given.cells.is_some() {
@@ -99,7 +103,8 @@ fn to_count<'a>(given: Given<'a>) -> Option<Command<'a>>
 
 /// The command of a verb with what is given behind it.
 fn made<'a>(verb: Verb, given: Given<'a>) -> Option<Command<'a>>
-    ensures { MatchOption result (MakesNone (verb_text verb) (given_of given.entry)) (λ command. Makes (verb_text verb) (given_of given.entry) (command_of command)) }
+    ensures { MatchOption result (MakesNone (verb_text verb) (given_of given.entry))
+        (λ command. Makes (verb_text verb) (given_of given.entry) (command_of command)) }
 {
     match verb {
         Verb::Compile => to_compile(given),
@@ -111,7 +116,8 @@ fn made<'a>(verb: Verb, given: Given<'a>) -> Option<Command<'a>>
 
 /// The command that the words behind the program's name ask for; `None` where they are no command.
 pub fn read_command(alloc: Global, words: &[String]) -> Result<Option<Command<'_>>, Memory>
-    ensures { IfOk result (λ found. MatchOption found (IsNoCommand (map string_bytes words.now)) (λ command. Asks (map string_bytes words.now) (command_of command))) }
+    ensures { IfOk result (λ found. MatchOption found (IsNoCommand (map string_bytes words.now))
+        (λ command. Asks (map string_bytes words.now) (command_of command))) }
 {
     let Some((first, others)) = words.split_first() else {
         return Ok(None);

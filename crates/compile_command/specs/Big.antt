@@ -26,16 +26,20 @@ pub record TellsUnit (unit : UnitTexts) (summary : Summary) : Type 0 where
   pub decides : DecidesUnit unit decision
   pub tells : Tells unit decision summary
 
--- What is told of the module of n procedures. A text of its unit passes a limit; something is wrong with the imports of its unit; or
--- nothing is, and this is told of the unit.
+-- What is told of the module of n procedures. A text of its unit passes a limit; something is wrong with the imports
+-- of its unit; or nothing is, and this is told of the unit.
 pub data TellsBig (holds : Option Files) (n : ℕ) : Summary → Type 0 where
-  passes_texts : (limit : gathering.Limit) → Stops holds (codes "Big") (text_of n) limit → TellsBig holds n (Limited (of_texts limit))
-  has_wrong_imports : (unit : UnitTexts) (wrongs : List Diag) → HasBigUnit holds n unit wrongs → wrongs ≢ [] → TellsBig holds n (Counted (import_counts unit wrongs))
-  of_unit : {unit : UnitTexts} {summary : Summary} → HasBigUnit holds n unit [] → TellsUnit unit summary → TellsBig holds n summary
+  passes_texts : (limit : gathering.Limit) → Stops holds (codes "Big") (text_of n) limit
+      → TellsBig holds n (Limited (of_texts limit))
+  has_wrong_imports : (unit : UnitTexts) (wrongs : List Diag) → HasBigUnit holds n unit wrongs → wrongs ≢ []
+      → TellsBig holds n (Counted (import_counts unit wrongs))
+  of_unit : {unit : UnitTexts} {summary : Summary} → HasBigUnit holds n unit [] → TellsUnit unit summary
+      → TellsBig holds n summary
 
 -- The answer, and what is printed: what goes with what is told of the module.
 pub data Summarizes (holds : Option Files) (n : ℕ) : Answer → (printed : List ℕ) → Type 0 where
-  as_told : (summary : Summary) → TellsBig holds n summary → Summarizes holds n (answer_by summary) (printed_by n summary)
+  as_told : (summary : Summary) → TellsBig holds n summary
+      → Summarizes holds n (answer_by summary) (printed_by n summary)
 
 -- this is answered and printed, behind what was written before
 pub record LeavesSummary (holds : Option Files) (n : ℕ) (answer : Answer) (old new : Option (List ℕ)) : Type 0 where
@@ -45,4 +49,5 @@ pub record LeavesSummary (holds : Option Files) (n : ℕ) (answer : Answer) (old
 
 -- a front of what the definition prints
 abbrev pub PrintsSummaryPart : Option Files → (n : ℕ) → Option (List ℕ) → Option (List ℕ) → Type 0
-PrintsSummaryPart holds n old new = (answer : Answer) (printed : List ℕ) → Summarizes holds n answer printed → WritesPart old printed new
+PrintsSummaryPart holds n old new =
+    (answer : Answer) (printed : List ℕ) → Summarizes holds n answer printed → WritesPart old printed new

@@ -25,15 +25,23 @@ code_of contents = sum_by (λ p. length p.code) contents.procedures
 
 -- of a unit that is compiled to this object
 abbrev pub object_counts : UnitTexts → Contents → Counts
-object_counts unit contents = record { tokens = tokens_of unit; streams = length (streams_of unit); code = code_of contents; object = length (object_bytes contents); diags = 0 }
+object_counts unit contents = record {
+  tokens = tokens_of unit;
+  streams = length (streams_of unit);
+  code = code_of contents;
+  object = length (object_bytes contents);
+  diags = 0;
+}
 
 -- of one that is cut and has these diagnostics
 abbrev pub diagnostic_counts : UnitTexts → List Diag → Counts
-diagnostic_counts unit diags = record { tokens = tokens_of unit; streams = length (streams_of unit); code = 0; object = 0; diags = length diags }
+diagnostic_counts unit diags =
+    record { tokens = tokens_of unit; streams = length (streams_of unit); code = 0; object = 0; diags = length diags }
 
 -- of one with whose imports this is wrong, which isn't cut
 abbrev pub import_counts : UnitTexts → List Diag → Counts
-import_counts unit wrongs = record { tokens = tokens_of unit; streams = 0; code = 0; object = 0; diags = length wrongs }
+import_counts unit wrongs =
+    record { tokens = tokens_of unit; streams = 0; code = 0; object = 0; diags = length wrongs }
 
 -- What is told of a unit of which this is decided: the counts, or the limit that it passes.
 pub data Tells (unit : UnitTexts) : Decision → Summary → Type 0 where

@@ -8,7 +8,8 @@ use Rattle.compile_command.specs.Verdicts.{Decision, answer_to, files_after, obj
 use Rattle.compile_command.specs.declared.answer.Answer.{Answer}
 
 -- the answer, the files and what is printed are those that go with the decision
-pub record Delivers (name : List ℕ) (d : Decision) (answer : Answer) (holds after : Option Files) (old new : Option (List ℕ)) : Type 0 where
+pub record Delivers (name : List ℕ) (d : Decision) (answer : Answer) (holds after : Option Files)
+    (old new : Option (List ℕ)) : Type 0 where
   pub answer_is : answer ≡ answer_to d
   pub files_are : after ≡ files_after name d holds
   pub printed_is : new ≡ with_bytes old (printed_of name d)

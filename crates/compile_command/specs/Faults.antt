@@ -1,7 +1,8 @@
 -- What the faults of gathering say of a module: what is decided of it, or nothing.
 use Rattle.std.specs.Prelude.{Option, Some, None}
 use Rattle.def_import.specs.declared.faults.GatherFault.{GatherFault}
-use Rattle.def_import.specs.declared.faults.GatherFault.TheVariants.{Memory, NoText, ReadFault, TooLong, TooManyTexts, TooManyTokens, TooManyUnitTokens}
+use Rattle.def_import.specs.declared.faults.GatherFault.TheVariants.{Memory, NoText, ReadFault, TooLong, TooManyTexts}
+use Rattle.def_import.specs.declared.faults.GatherFault.TheVariants.{TooManyTokens, TooManyUnitTokens}
 use Rattle.compile_command.specs.Verdicts.{Decision, limited, no_text}
 use Rattle.compile_command.specs.declared.limit.Limit.TheVariants.{TextBytes, Texts, Tokens, UnitTokens}
 

@@ -4,7 +4,8 @@ use Rattle.m2_base.specs.Statics.BlockLimits.{BlockLimit, too_deep_procedure, to
 use Rattle.def_import.specs.Outcomes as gathering
 use Rattle.def_import.specs.Outcomes.{too_long, too_many_texts, too_many_tokens, too_many_unit_tokens}
 use Rattle.compile_command.specs.declared.limit.Limit.{Limit}
-use Rattle.compile_command.specs.declared.limit.Limit.TheVariants.{Nesting, Procedures, StaticLevel, TextBytes, Texts, Tokens, UnitTokens}
+use Rattle.compile_command.specs.declared.limit.Limit.TheVariants.{Nesting, Procedures, StaticLevel, TextBytes, Texts}
+use Rattle.compile_command.specs.declared.limit.Limit.TheVariants.{Tokens, UnitTokens}
 
 abbrev pub limit_text : Limit → List ℕ
 limit_text TextBytes = codes "limit text bytes 1048576"

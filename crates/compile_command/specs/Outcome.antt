@@ -17,14 +17,16 @@ pub record Outcome : Type 0 where
 
 -- what goes with a decision
 abbrev pub outcome_of : Option Files → (name : List ℕ) → Decision → Outcome
-outcome_of holds name d = record { answer = answer_to d; printed = printed_of name d; files = files_after name d holds }
+outcome_of holds name d =
+    record { answer = answer_to d; printed = printed_of name d; files = files_after name d holds }
 
 -- The outcome of compiling the module with this name: what goes with what is decided of it.
 pub data Compiles (holds : Option Files) (name : List ℕ) : Outcome → Type 0 where
   as_decided : (d : Decision) → Decides holds name d → Compiles holds name (outcome_of holds name d)
 
 -- what is left, behind what was written before
-pub record Leaves (given : Outcome → Type 0) (answer : Answer) (files : Option Files) (old new : Option (List ℕ)) : Type 0 where
+pub record Leaves (given : Outcome → Type 0) (answer : Answer) (files : Option Files)
+    (old new : Option (List ℕ)) : Type 0 where
   pub outcome : Outcome
   pub is_given : given outcome
   pub answer_is : answer ≡ outcome.answer
@@ -48,4 +50,5 @@ PrintsPart given old new = (outcome : Outcome) → given outcome → WritesPart 
 -- all files stay, but that a front of the module's object may be put under its name
 pub data KeepsButObject (name : List ℕ) (old new : Option Files) : Type 0 where
   keeps_all : new ≡ old → KeepsButObject name old new
-  puts_part : (contents : Contents) → Decides old name (object contents) → HasPart old (object_name name) (object_bytes contents) new → KeepsButObject name old new
+  puts_part : (contents : Contents) → Decides old name (object contents)
+      → HasPart old (object_name name) (object_bytes contents) new → KeepsButObject name old new

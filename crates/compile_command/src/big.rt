@@ -44,8 +44,10 @@ fn print_counts<P: Sink>(
     print: &mut P,
 ) -> Result<Answer, Stop>
     ensures answer { IfOk result (λ answer. answer ≡ Answer.Done) }
-    ensures ok { OnOk result (P.written print.new ≡ with_bytes (P.written print.old) (spec_line procedures counts.now)) }
-    ensures part { OnErr result (WritesPart (P.written print.old) (spec_line procedures counts.now) (P.written print.new)) }
+    ensures ok { OnOk result
+        (P.written print.new ≡ with_bytes (P.written print.old) (spec_line procedures counts.now)) }
+    ensures part { OnErr result
+        (WritesPart (P.written print.old) (spec_line procedures counts.now) (P.written print.new)) }
     ensures no_read { IsErrOf result Stop.Read → ⊥ }
     ensures write { IsErrOf result Stop.Write → Rose (P.faults print.old) (P.faults print.new) }
     ensures later { P.faults print.old ≤ P.faults print.new }
@@ -63,8 +65,10 @@ fn print_summary<P: Sink>(
     print: &mut P,
 ) -> Result<Answer, Stop>
     ensures answer { IfOk result (λ answer. answer ≡ answer_by summary.now) }
-    ensures ok { OnOk result (P.written print.new ≡ with_bytes (P.written print.old) (printed_by procedures summary.now)) }
-    ensures part { OnErr result (WritesPart (P.written print.old) (printed_by procedures summary.now) (P.written print.new)) }
+    ensures ok { OnOk result
+        (P.written print.new ≡ with_bytes (P.written print.old) (printed_by procedures summary.now)) }
+    ensures part { OnErr result
+        (WritesPart (P.written print.old) (printed_by procedures summary.now) (P.written print.new)) }
     ensures no_read { IsErrOf result Stop.Read → ⊥ }
     ensures write { IsErrOf result Stop.Write → Rose (P.faults print.old) (P.faults print.new) }
     ensures later { P.faults print.old ≤ P.faults print.new }
@@ -75,8 +79,8 @@ fn print_summary<P: Sink>(
     }
 }
 
-/// Compiles the module Big of so many procedures over the files of a shelf, and prints what is counted of it, or which limit it passes.
-/// The crew works on the streams of its unit. The object is put nowhere.
+/// Compiles the module Big of so many procedures over the files of a shelf, and prints what is counted of it, or which
+/// limit it passes. The crew works on the streams of its unit. The object is put nowhere.
 pub fn compile_big<R: Threads + Wait + Sync, G: Gate, H: Shelf, P: Sink>(
     crew: &Crew<R, G>,
     alloc: Global,
@@ -87,8 +91,10 @@ pub fn compile_big<R: Threads + Wait + Sync, G: Gate, H: Shelf, P: Sink>(
     requires most { procedures ≤ 16384 }
     requires workers { (0 < crew.now.workers) × (crew.now.workers ≤ 64) }
     // The answer and what is printed are those of the definition; after a fault a front of it was printed.
-    ensures leaves { IfOk result (λ answer. LeavesSummary (H.holds shelf.old) procedures answer (P.written print.old) (P.written print.new)) }
-    ensures prints { OnErr result (IfSome (H.holds shelf.old) (λ files. PrintsSummaryPart (Some files) procedures (P.written print.old) (P.written print.new))) }
+    ensures leaves { IfOk result
+        (λ answer. LeavesSummary (H.holds shelf.old) procedures answer (P.written print.old) (P.written print.new)) }
+    ensures prints { OnErr result (IfSome (H.holds shelf.old)
+        (λ files. PrintsSummaryPart (Some files) procedures (P.written print.old) (P.written print.new))) }
 
     // The shelf and the sink fail only where they count a fault, and the files stay.
     ensures read { IsErrOf result Stop.Read → Rose (H.faults shelf.old) (H.faults shelf.new) }

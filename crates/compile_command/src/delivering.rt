@@ -29,8 +29,10 @@ fn put_object<H: Shelf>(
 ) -> Result<Answer, Stop>
     ensures answer { IfOk result (λ answer. answer ≡ Answer.Done) }
     ensures valid { IfOk result (λ answer. IsValid object.now) }
-    ensures ok { OnOk result (H.holds shelf.new ≡ with_file (H.holds shelf.old) (object_name name.now) (object_bytes object.now)) }
-    ensures part { IsErrOf result Stop.Write → HasPart (H.holds shelf.old) (object_name name.now) (object_bytes object.now) (H.holds shelf.new) }
+    ensures ok { OnOk result
+        (H.holds shelf.new ≡ with_file (H.holds shelf.old) (object_name name.now) (object_bytes object.now)) }
+    ensures part { IsErrOf result Stop.Write
+        → HasPart (H.holds shelf.old) (object_name name.now) (object_bytes object.now) (H.holds shelf.new) }
     ensures memory { IsErrOf result Stop.Memory → H.holds shelf.new ≡ H.holds shelf.old }
     ensures no_read { IsErrOf result Stop.Read → ⊥ }
     ensures write { IsErrOf result Stop.Write → Rose (H.put_faults shelf.old) (H.put_faults shelf.new) }
@@ -52,8 +54,10 @@ fn print_listing<P: Sink>(
     print: &mut P,
 ) -> Result<Answer, Stop>
     ensures answer { IfOk result (λ answer. answer ≡ Answer.Diagnosed) }
-    ensures ok { OnOk result (P.written print.new ≡ with_bytes (P.written print.old) (spec_listing texts.now diags.now)) }
-    ensures part { OnErr result (WritesPart (P.written print.old) (spec_listing texts.now diags.now) (P.written print.new)) }
+    ensures ok { OnOk result
+        (P.written print.new ≡ with_bytes (P.written print.old) (spec_listing texts.now diags.now)) }
+    ensures part { OnErr result
+        (WritesPart (P.written print.old) (spec_listing texts.now diags.now) (P.written print.new)) }
     ensures no_read { IsErrOf result Stop.Read → ⊥ }
     ensures write { IsErrOf result Stop.Write → Rose (P.faults print.old) (P.faults print.new) }
     ensures later { P.faults print.old ≤ P.faults print.new }
@@ -79,8 +83,10 @@ pub(crate) fn print_limit<P: Sink>(limit: Limit, print: &mut P) -> Result<Answer
 /// Says that there is no text of the module.
 fn print_no_text<P: Sink>(alloc: Global, name: &str, print: &mut P) -> Result<Answer, Stop>
     ensures answer { IfOk result (λ answer. answer ≡ Answer.NoText) }
-    ensures ok { OnOk result (P.written print.new ≡ with_bytes (P.written print.old) (line (codes "no text " ++ name.now ++ codes ".mod"))) }
-    ensures part { OnErr result (WritesPart (P.written print.old) (line (codes "no text " ++ name.now ++ codes ".mod")) (P.written print.new)) }
+    ensures ok { OnOk result (P.written print.new
+        ≡ with_bytes (P.written print.old) (line (codes "no text " ++ name.now ++ codes ".mod"))) }
+    ensures part { OnErr result (WritesPart (P.written print.old) (line (codes "no text " ++ name.now ++ codes ".mod"))
+        (P.written print.new)) }
     ensures no_read { IsErrOf result Stop.Read → ⊥ }
     ensures write { IsErrOf result Stop.Write → Rose (P.faults print.old) (P.faults print.new) }
     ensures later { P.faults print.old ≤ P.faults print.new }
@@ -98,14 +104,18 @@ pub(crate) fn deliver<H: Shelf, P: Sink>(
     shelf: &mut H,
     print: &mut P,
 ) -> Result<Answer, Stop>
-    ensures delivers { IfOk result (λ answer. Delivers name.now (decision_of verdict.now) answer (H.holds shelf.old) (H.holds shelf.new) (P.written print.old) (P.written print.new)) }
+    ensures delivers { IfOk result (λ answer. Delivers name.now (decision_of verdict.now) answer (H.holds shelf.old)
+        (H.holds shelf.new) (P.written print.old) (P.written print.new)) }
     ensures sound { IfOk result (λ answer. IsSound (decision_of verdict.now)) }
     // After a fault a front of it was printed, or put.
-    ensures prints { OnErr result (WritesPart (P.written print.old) (printed_of name.now (decision_of verdict.now)) (P.written print.new)) }
-    ensures part { IsErrOf result Stop.Write → PutsPart name.now (decision_of verdict.now) (H.holds shelf.old) (H.holds shelf.new) }
+    ensures prints { OnErr result
+        (WritesPart (P.written print.old) (printed_of name.now (decision_of verdict.now)) (P.written print.new)) }
+    ensures part { IsErrOf result Stop.Write
+        → PutsPart name.now (decision_of verdict.now) (H.holds shelf.old) (H.holds shelf.new) }
     ensures memory { IsErrOf result Stop.Memory → H.holds shelf.new ≡ H.holds shelf.old }
     ensures no_read { IsErrOf result Stop.Read → ⊥ }
-    ensures write { IsErrOf result Stop.Write → Rose (H.put_faults shelf.old) (H.put_faults shelf.new) ⊎ Rose (P.faults print.old) (P.faults print.new) }
+    ensures write { IsErrOf result Stop.Write
+        → Rose (H.put_faults shelf.old) (H.put_faults shelf.new) ⊎ Rose (P.faults print.old) (P.faults print.new) }
     ensures later { P.faults print.old ≤ P.faults print.new }
 {
     match verdict {

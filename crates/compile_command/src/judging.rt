@@ -43,7 +43,8 @@ fn judge_streams<R: Threads + Wait + Sync, G: Gate>(
     requires few { length streams.items < 2 ^ 31 }
     requires workers { (0 < crew.now.workers) × (crew.now.workers ≤ 64) }
     ensures decides { IfOk result (λ verdict. DecidesUnit texts (decision_of verdict)) }
-    ensures named { IfOk result (λ verdict. IsNamed (spelled texts.names (name_in (slice_get texts.list 0))) (decision_of verdict)) }
+    ensures named { IfOk result
+        (λ verdict. IsNamed (spelled texts.names (name_in (slice_get texts.list 0))) (decision_of verdict)) }
 {
     let _unit = texts.main();
     gathered_units_are_whole();
@@ -67,7 +68,8 @@ fn judge_unit<R: Threads + Wait + Sync, G: Gate>(
     requires workers { (0 < crew.now.workers) × (crew.now.workers ≤ 64) }
     ensures unit { IfOk result (λ verdict. IsUnit texts) }
     ensures decides { IfOk result (λ verdict. DecidesUnit texts (decision_of verdict)) }
-    ensures named { IfOk result (λ verdict. IsNamed (spelled texts.names (name_in (slice_get texts.list 0))) (decision_of verdict)) }
+    ensures named { IfOk result
+        (λ verdict. IsNamed (spelled texts.names (name_in (slice_get texts.list 0))) (decision_of verdict)) }
 {
     let _main = texts.main();
     match cut(alloc, &texts) {

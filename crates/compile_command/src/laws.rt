@@ -20,7 +20,8 @@ use unit_outcome::{diagnostics_stand_in_their_texts, whole_units_have_one_outcom
 
 /// Compiling a module over given files has one outcome.
 pub fn one_outcome()
-    ensures { (files : Files) (name : List ℕ) (these those : Outcome) → Compiles (Some files) name these → Compiles (Some files) name those → these ≡ those }
+    ensures { (files : Files) (name : List ℕ) (these those : Outcome) → Compiles (Some files) name these
+        → Compiles (Some files) name those → these ≡ those }
 {
     given_files_have_one_outcome();
     whole_units_have_one_outcome();
@@ -28,7 +29,9 @@ pub fn one_outcome()
 
 /// Compiling the module Big of so many procedures over given files has one answer, and prints one text.
 pub fn one_summary()
-    ensures { (files : Files) (n : ℕ) (this other : Answer) (these those : List ℕ) → Summarizes (Some files) n this these → Summarizes (Some files) n other those → (this ≡ other) × (these ≡ those) }
+    ensures { (files : Files) (n : ℕ) (this other : Answer) (these those : List ℕ)
+        → Summarizes (Some files) n this these → Summarizes (Some files) n other those
+        → (this ≡ other) × (these ≡ those) }
 {
     given_files_have_one_outcome();
     whole_units_have_one_outcome();
@@ -36,18 +39,22 @@ pub fn one_summary()
 
 /// What is wrong with the imports of a unit stands at tokens of its texts, and so has lines in the listing.
 pub fn wrong_imports_have_lines()
-    ensures { (files : Files) (name : List ℕ) (unit : UnitTexts) (wrongs : List Diag) → IsGatheredFrom (Some files) name unit wrongs → Each (HasLine unit) wrongs }
+    ensures { (files : Files) (name : List ℕ) (unit : UnitTexts) (wrongs : List Diag)
+        → IsGatheredFrom (Some files) name unit wrongs → Each (HasLine unit) wrongs }
 {}
 
 /// The first faults of a unit's texts stand at tokens of their texts, and so have lines in the listing.
 pub fn refusals_have_lines()
-    ensures { (unit : UnitTexts) (faults : List (Option StreamFault)) → IsUnit unit → AreFaults unit faults → Each (HasLine unit) (refusals faults) }
+    ensures { (unit : UnitTexts) (faults : List (Option StreamFault)) → IsUnit unit → AreFaults unit faults
+        → Each (HasLine unit) (refusals faults) }
 {}
 
-/// All diagnostics that are listed stand at tokens of the unit's texts, and so have lines in the listing: what is wrong with imports, the
-/// first faults of the texts, and the diagnostics of all blocks, of declarations as of statements.
+/// All diagnostics that are listed stand at tokens of the unit's texts, and so have lines in the listing: what is
+/// wrong with imports, the first faults of the texts, and the diagnostics of all blocks,
+/// of declarations as of statements.
 pub fn diagnostics_have_lines()
-    ensures { (holds : Option Files) (name : List ℕ) (unit : UnitTexts) (diags : List Diag) → Decides holds name (listed unit diags) → Each (HasLine unit) diags }
+    ensures { (holds : Option Files) (name : List ℕ) (unit : UnitTexts) (diags : List Diag)
+        → Decides holds name (listed unit diags) → Each (HasLine unit) diags }
 {
     diagnostics_stand_in_their_texts();
 }

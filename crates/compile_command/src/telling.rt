@@ -128,7 +128,8 @@ fn tell_wrongs(texts: &Texts, wrongs: &[Diag]) -> Summary
 
 /// What is told of a text that isn't gathered with those that it imports.
 fn tell_fault(fault: GatherFault) -> Result<Summary, Stop>
-    ensures limit { IfOk result (λ summary. (limit : TextLimit) × (fault ≡ fault_of limit) × (summary ≡ Summary.Limited (of_texts limit))) }
+    ensures limit { IfOk result
+        (λ summary. (limit : TextLimit) × (fault ≡ fault_of limit) × (summary ≡ Summary.Limited (of_texts limit))) }
     ensures read { IsErrOf result Stop.Read → fault ≡ GatherFault.ReadFault }
     ensures no_write { IsErrOf result Stop.Write → ⊥ }
 {

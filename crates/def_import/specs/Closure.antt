@@ -15,8 +15,8 @@ pub record Found : Type 0 where
   pub text : TextOf
   pub front : Front
 
--- How far the texts of a unit are read: the names so far, the texts in the order in which they were found, and for each
--- module that was asked for, in that order, the number of its text, if there is one.
+-- How far the texts of a unit are read: the names so far, the texts in the order in which they were found, and for
+-- each module that was asked for, in that order, the number of its text, if there is one.
 pub record Progress : Type 0 where
   pub names : List (List ℕ)
   pub found : List Found

@@ -1,5 +1,6 @@
--- What gathering the texts of a unit comes to: the texts with what is wrong with their imports, or the first limit that
--- they pass. The texts are read in their order, and at each the limits are tried in the order in which they stand here.
+-- What gathering the texts of a unit comes to: the texts with what is wrong with their imports, or the first limit
+-- that they pass. The texts are read in their order, and at each the limits are tried in the
+-- order in which they stand here.
 use Rattle.std.specs.Prelude.{◌≡◌, ℕ, ◌+◌, ◌<◌, ◌≤◌, Bool, true, false, List, [], ◌∷◌, ◌++◌, Option, Some, None}
 use Rattle.std.specs.Prelude.{length, map, slice_index}
 use Rattle.m2_io.specs.Files.{Files}
@@ -93,7 +94,8 @@ abbrev pub unit_in : Progress → UnitTexts
 unit_in p = unit_of p.names (map (λ f. f.text) p.found) (dependency_order p) (own_text p p.found)
 
 -- All texts are read, and this is the unit with what is wrong with its imports.
-pub record IsGathered (holds : Option Files) (file main : List ℕ) (unit : UnitTexts) (wrongs : List Diag) : Type 0 where
+pub record IsGathered (holds : Option Files) (file main : List ℕ) (unit : UnitTexts)
+    (wrongs : List Diag) : Type 0 where
   pub progress : Progress
   pub reached : Reaches holds file main progress
   pub all : next_module progress ≡ None

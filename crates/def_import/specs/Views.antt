@@ -4,7 +4,8 @@ use Rattle.m2_io.specs.declared.shelf.ShelfError.{ShelfError}
 use Rattle.m2_lex.specs.declared.lexer.LexFault.TheVariants as lex
 use Rattle.m2_lex.specs.declared.lexer.LexFault.{LexFault}
 use Rattle.def_import.specs.declared.faults.GatherFault.TheVariants.{NoText, ReadFault, Memory}
-use Rattle.def_import.specs.declared.faults.GatherFault.TheVariants.{TooLong, TooManyTexts, TooManyTokens, TooManyUnitTokens}
+use Rattle.def_import.specs.declared.faults.GatherFault.TheVariants.{TooLong, TooManyTexts, TooManyTokens}
+use Rattle.def_import.specs.declared.faults.GatherFault.TheVariants.{TooManyUnitTokens}
 use Rattle.def_import.specs.declared.faults.GatherFault.{GatherFault}
 use Rattle.def_import.specs.Outcomes.{Limit, too_long, too_many_tokens, too_many_unit_tokens, too_many_texts}
 

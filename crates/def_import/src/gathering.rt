@@ -81,7 +81,8 @@ fn finish(alloc: Global, progress: Progress) -> Result<Gathered, Memory>
     Ok(told(texts, wrongs))
 }
 
-/// The texts of the unit whose main text is this one, in the file of that module. The shelf has the definition modules.
+/// The texts of the unit whose main text is this one, in the file of that module.
+/// The shelf has the definition modules.
 pub fn gather_text<H: Shelf>(
     alloc: Global,
     shelf: &mut H,

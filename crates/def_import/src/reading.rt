@@ -1,7 +1,8 @@
 //! Reading the texts, one after another.
 ghost use Rattle.std.specs.Prelude.{◌≡◌, ◌≤◌, ◌<◌, IfErr, IfOk, IsErrOf, List, OnOk, Some, length};
 ghost use Rattle.m2_io.specs.Causes.{Rose};
-ghost use Rattle.def_import.specs.Closure.{Found as FoundText, listed, modules_of, names_of, with_module, with_modules};
+ghost use Rattle.def_import.specs.Closure.{Found as FoundText, listed, modules_of, names_of, with_module};
+ghost use Rattle.def_import.specs.Closure.{with_modules};
 ghost use Rattle.def_import.specs.Closure.{next_module as spec_next_module, own_name as spec_own_name};
 ghost use Rattle.def_import.specs.Outcomes.{AskPasses, Asks, IsRead, Limit, Passes, Reads};
 ghost use Rattle.def_import.specs.Views.{IsAskFault, IsNamingFault, IsTextFault, fault_of};

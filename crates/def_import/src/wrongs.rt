@@ -51,7 +51,8 @@ fn note_own(
     text: u32,
     found: &Found,
 ) -> Result<(), Memory>
-    ensures { OnOk result (wrongs.new.items ≡ wrongs.old.items ++ no_own progress.now text (own_name found.now.front)) }
+    ensures { OnOk result
+        (wrongs.new.items ≡ wrongs.old.items ++ no_own progress.now text (own_name found.now.front)) }
 {
     match found.own_name() {
         Some(own) => note_missing(progress, wrongs, text, own),

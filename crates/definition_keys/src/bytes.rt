@@ -3,7 +3,8 @@ ghost use Rattle.std.specs.Prelude.{◌≡◌, ◌++◌, ◌<◌, ◌^◌, true,
 ghost use Rattle.m2_base.specs.Lists.{Each};
 ghost use Rattle.m2_base.specs.Units.{HasValue, IsSpelling};
 ghost use Rattle.m2_parse.specs.Fitting.{name_fits, names_fit};
-ghost use Rattle.definition_keys.specs.KeyBytes.{is_of as spec_is_of, spelled_bytes, token_bytes, value_bytes, text_bytes};
+ghost use Rattle.definition_keys.specs.KeyBytes.{is_of as spec_is_of, spelled_bytes, token_bytes, value_bytes};
+ghost use Rattle.definition_keys.specs.KeyBytes.{text_bytes};
 
 use m2_base::{Memory, Names, Token, TokenKind};
 use std::alloc::Global;

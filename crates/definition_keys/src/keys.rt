@@ -4,7 +4,8 @@ ghost use Rattle.std.specs.List.{flat_map};
 ghost use Rattle.m2_base.specs.Units.{Front as FrontOf, IsText, TextOf};
 ghost use Rattle.m2_parse.specs.Fitting.{names_fit};
 ghost use Rattle.stream_split.specs.Fronts.{AreFronts};
-ghost use Rattle.definition_keys.specs.Keys.{AreImports, IsFrontAt, key_in, key_of as spec_key_of, with_name, unit_keys as spec_unit_keys};
+ghost use Rattle.definition_keys.specs.Keys.{AreImports, IsFrontAt, key_in, key_of as spec_key_of, with_name};
+ghost use Rattle.definition_keys.specs.Keys.{unit_keys as spec_unit_keys};
 
 use crate::bytes::text_bytes_of;
 use indexmap::IndexSet;
@@ -73,7 +74,8 @@ fn key_of(
 ) -> Result<[u8; 32], Memory>
     requires countable { length names.now < 2 ^ 32 }
     requires text { IsText names.now text.now }
-    ensures { (front : TextOf → FrontOf) → IsFrontAt front text.now → IfOk result (λ key. key ≡ spec_key_of names.now front keys.now text.now) }
+    ensures { (front : TextOf → FrontOf) → IsFrontAt front text.now
+        → IfOk result (λ key. key ≡ spec_key_of names.now front keys.now text.now) }
 {
     let mut message = text_bytes_of(alloc, names, &text.tokens)?;
     let modules = imports_of(alloc, &text.tokens, text.definition)?;
@@ -81,10 +83,11 @@ fn key_of(
     Ok(Sha256::digest(&message))
 }
 
-/// The keys of a unit's definition texts, each with the name of its module, in dependency order: from the one with scope 1 on.
-/// Each text is digested once.
+/// The keys of a unit's definition texts, each with the name of its module, in dependency order: from the one with
+/// scope 1 on. Each text is digested once.
 pub fn unit_keys(alloc: Global, texts: &Texts) -> Result<Vec<(u32, [u8; 32])>, Memory>
-    ensures { (front : TextOf → FrontOf) → AreFronts front texts.now → IfOk result (λ keys. keys.items ≡ spec_unit_keys front texts.now) }
+    ensures { (front : TextOf → FrontOf) → AreFronts front texts.now
+        → IfOk result (λ keys. keys.items ≡ spec_unit_keys front texts.now) }
 {
     let mut keys = Vec::new(alloc);
     for k in &texts.order {

@@ -1,5 +1,6 @@
 -- What a seat has seen of the shared tables, in the terms of all scopes.
-use Rattle.std.specs.Prelude.{◌≡◌, ℕ, zero, suc, ◌-◌, ◌/◌, ◌≤◌, true, false, List, [], ◌∷◌, Option, None, Some, map, length, slice_get, if◌then◌else◌}
+use Rattle.std.specs.Prelude.{◌≡◌, ℕ, zero, suc, ◌-◌, ◌/◌, ◌≤◌, true, false, List, [], ◌∷◌, Option, None, Some, map}
+use Rattle.std.specs.Prelude.{length, slice_get, if◌then◌else◌}
 use Rattle.m2_base.specs.Lists.{Each, IsIn, IsPrefixOf}
 use Rattle.m2_base.specs.Scopes.{IsTaken}
 use Rattle.m2_base.specs.States.{State, Look, Mark}
@@ -46,7 +47,8 @@ TellsOf tables chain name (Found p r) =
     IsIn p.scope chain × (r.name ≡ name) × (slice_get (table_at tables p.scope).rows p.ordinal ≡ Some r)
 TellsOf tables chain name Absent = Each (λ s. IsWithout name (table_at tables s)) chain
 TellsOf tables chain name (DontKnowYet h) =
-    IsIn h.scope chain × (h ≡ head_of h.scope (table_at tables h.scope)) × (h.complete ≡ false) × Lacks (table_at tables h.scope).rows name
+    IsIn h.scope chain × (h ≡ head_of h.scope (table_at tables h.scope)) × (h.complete ≡ false)
+    × Lacks (table_at tables h.scope).rows name
 
 -- what is known of a place that a head of its scope doesn't count
 abbrev pub behind : Head → Ask (Option Row)
@@ -57,8 +59,8 @@ pub record WasShown (t : Table) (h : Head) : Type 0 where
   pub count : h.count ≤ length t.rows
   pub whole : h.complete ≡ true → (t.complete ≡ true) × (length t.rows ≡ h.count)
 
--- A look is lawful in tables: its heads were shown there, they are those of the chain's first scopes, all but the last are
--- complete, and its reply comes from the last and is what the rows that the heads count answer.
+-- A look is lawful in tables: its heads were shown there, they are those of the chain's first scopes, all but the last
+-- are complete, and its reply comes from the last and is what the rows that the heads count answer.
 pub record IsLawful (tables : List Table) (l : Look) : Type 0 where
   pub shown : Each (λ h. WasShown (table_at tables h.scope) h) l.heads
   pub taken : IsTaken l.chain l.heads l.reply

@@ -15,7 +15,8 @@ pub(crate) fn put_all(table: &ScopeTable, seat: &mut TableSeat, rows: &[Row])
     requires can { CanEnter (state_in (key_of table.now) (view seat.old) (scope_of seat.old)) rows.now }
     ensures same { IsSameSeat seat.old seat.new }
     ensures about { (view seat.new).about ≡ (view seat.old).about }
-    ensures rows { (shown_at (view seat.new) (scope_of seat.old)).rows ≡ (shown_at (view seat.old) (scope_of seat.old)).rows ++ rows.now }
+    ensures rows { (shown_at (view seat.new) (scope_of seat.old)).rows
+        ≡ (shown_at (view seat.old) (scope_of seat.old)).rows ++ rows.now }
     ensures mark { (shown_at (view seat.new) (scope_of seat.old)).complete ≡ false }
     ensures others { (j : ℕ) → j ≢ scope_of seat.old → shown_at (view seat.new) j ≡ shown_at (view seat.old) j }
     ensures none { (view seat.new).put ≡ [] }

@@ -2,7 +2,8 @@
 ghost use Rattle.std.specs.Prelude.{◌≡◌, ◌≢◌, ◌++◌, ◌∷◌, [], ◌≤◌, ◌<◌, ℕ, List, length, map, Some};
 ghost use Rattle.m2_base.specs.Keys.{one_thread_field};
 ghost use Rattle.m2_base.specs.Lists.{Each, HasNoRepeats};
-ghost use Rattle.m2_base.specs.Scopes.{CanSearch, Searched, CanFetch, Fetched, Selected, CanEnter, Entered, CanComplete, Completed, looks_of};
+ghost use Rattle.m2_base.specs.Scopes.{CanSearch, Searched, CanFetch, Fetched, Selected, CanEnter, Entered};
+ghost use Rattle.m2_base.specs.Scopes.{CanComplete, Completed, looks_of};
 ghost use Rattle.m2_base.specs.States.{IsSound, areas_of, fills_of, texts_of};
 ghost use Rattle.m2_base.specs.Tables.{Table, one_thread, one_thread_row};
 ghost use Rattle.scope_core.specs.Events.{Stays};
@@ -108,7 +109,8 @@ impl<'t> SeatScopes<'t> {
 }
 
 impl<'t> Scopes for SeatScopes<'t> {
-    ghost use Rattle.dky_search.specs.SeatScopes.{table_in, view_in, loaded_in, state_of, counted, StopsNew, WaitsNew, StaysKnown};
+    ghost use Rattle.dky_search.specs.SeatScopes.{table_in, view_in, loaded_in, state_of, counted, StopsNew, WaitsNew};
+    ghost use Rattle.dky_search.specs.SeatScopes.{StaysKnown};
 
     ghost state = { state_of };
 
@@ -118,12 +120,16 @@ impl<'t> Scopes for SeatScopes<'t> {
         requires { CanSearch (state_of self.old) chain.now name }
         ensures searched { Searched (state_of self.old) (state_of self.new) at chain.now name result }
         ensures answer { result ≡ one_thread (tables_in (view_in self.new)) chain.now name }
-        ensures loads { (view_in self.new).loads ≡ (view_in self.old).loads ++ heads_of (tables_in (view_in self.new)) chain.now name }
-        ensures look { (state_of self.new).looks ≡ Some (map look_of (view_in self.old).looks ++ looks_of at name chain.now (heads_of (tables_in (view_in self.new)) chain.now name) result) }
-        ensures lawful { (later : List Table) → HaveGrown (tables_in (view_in self.new)) later → Each (IsLawful later) (looks_of at name chain.now (heads_of (tables_in (view_in self.new)) chain.now name) result) }
+        ensures loads { (view_in self.new).loads
+            ≡ (view_in self.old).loads ++ heads_of (tables_in (view_in self.new)) chain.now name }
+        ensures look { (state_of self.new).looks ≡ Some (map look_of (view_in self.old).looks
+            ++ looks_of at name chain.now (heads_of (tables_in (view_in self.new)) chain.now name) result) }
+        ensures lawful { (later : List Table) → HaveGrown (tables_in (view_in self.new)) later → Each (IsLawful later)
+            (looks_of at name chain.now (heads_of (tables_in (view_in self.new)) chain.now name) result) }
         ensures stops { StopsNew (state_of self.old) result }
         ensures grown { HaveGrown (tables_in (view_in self.old)) (tables_in (view_in self.new)) }
-        ensures stays { (later : List Table) → HaveGrown (tables_in (view_in self.new)) later → Stays result (one_thread later chain.now name) }
+        ensures stays { (later : List Table) → HaveGrown (tables_in (view_in self.new)) later
+            → Stays result (one_thread later chain.now name) }
         ensures table { table_in self.new ≡ table_in self.old }
         ensures counted { loaded_in self.old ≤ loaded_in self.new }
     {
@@ -147,10 +153,12 @@ impl<'t> Scopes for SeatScopes<'t> {
         requires { CanFetch (state_of self.old) place }
         ensures fetched { Fetched (state_of self.old) (state_of self.new) place result }
         ensures answer { result ≡ one_thread_row (tables_in (view_in self.new)) place }
-        ensures loads { (view_in self.new).loads ≡ (view_in self.old).loads ++ head_in place.scope (shown_at (view_in self.new) place.scope) ∷ [] }
+        ensures loads { (view_in self.new).loads
+            ≡ (view_in self.old).loads ++ head_in place.scope (shown_at (view_in self.new) place.scope) ∷ [] }
         ensures waits { WaitsNew (state_of self.old) result }
         ensures grown { HaveGrown (tables_in (view_in self.old)) (tables_in (view_in self.new)) }
-        ensures stays { (later : List Table) → HaveGrown (tables_in (view_in self.new)) later → StaysKnown result (one_thread_row later place) }
+        ensures stays { (later : List Table) → HaveGrown (tables_in (view_in self.new)) later
+            → StaysKnown result (one_thread_row later place) }
         ensures table { table_in self.new ≡ table_in self.old }
         ensures counted { loaded_in self.new ≡ counted result (loaded_in self.old) }
     {
@@ -167,10 +175,12 @@ impl<'t> Scopes for SeatScopes<'t> {
         requires { CanFetch (state_of self.old) of }
         ensures selected { Selected (state_of self.old) (state_of self.new) of name result }
         ensures answer { result ≡ one_thread_field (tables_in (view_in self.new)) of name }
-        ensures loads { (view_in self.new).loads ≡ (view_in self.old).loads ++ head_in of.scope (shown_at (view_in self.new) of.scope) ∷ [] }
+        ensures loads { (view_in self.new).loads
+            ≡ (view_in self.old).loads ++ head_in of.scope (shown_at (view_in self.new) of.scope) ∷ [] }
         ensures waits { WaitsNew (state_of self.old) result }
         ensures grown { HaveGrown (tables_in (view_in self.old)) (tables_in (view_in self.new)) }
-        ensures stays { (later : List Table) → HaveGrown (tables_in (view_in self.new)) later → StaysKnown result (one_thread_field later of name) }
+        ensures stays { (later : List Table) → HaveGrown (tables_in (view_in self.new)) later
+            → StaysKnown result (one_thread_field later of name) }
         ensures table { table_in self.new ≡ table_in self.old }
         ensures counted { loaded_in self.old ≤ loaded_in self.new }
     {

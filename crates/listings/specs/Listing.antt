@@ -1,5 +1,6 @@
 -- The listing of diagnostics: a line FILE:LINE:COLUMN: CODE TEXT for each, by the place of its token.
-use Rattle.std.specs.Prelude.{ℕ, Bool, List, [], ◌++◌, Option, Some, None, if◌then◌else◌, slice_get, slice_index_or, codes, decimal}
+use Rattle.std.specs.Prelude.{ℕ, Bool, List, [], ◌++◌, Option, Some, None, if◌then◌else◌, slice_get, slice_index_or}
+use Rattle.std.specs.Prelude.{codes, decimal}
 use Rattle.std.specs.List.{flat_map}
 use Rattle.m2_base.specs.Units.{TextOf, UnitTexts}
 use Rattle.m2_base.specs.declared.notes.Diag.{Diag}

@@ -1,6 +1,7 @@
 //! The listing of diagnostics.
 ghost use Rattle.std.specs.Prelude.{◌≡◌, ◌++◌, ◌<◌, Some, length, slice_get, decimal, IfOk, OnOk};
-ghost use Rattle.listings.specs.Listing.{place_text, code_text, line_at, file_of as spec_file_of, line_in, listing as spec_listing, unit_listing as spec_unit_listing};
+ghost use Rattle.listings.specs.Listing.{place_text, code_text, line_at, file_of as spec_file_of, line_in};
+ghost use Rattle.listings.specs.Listing.{listing as spec_listing, unit_listing as spec_unit_listing};
 
 use m2_base::{Diag, Diagnostic, Memory, Names, Text, Texts, Token};
 use std::alloc::Global;
@@ -28,7 +29,8 @@ fn push_line(
     tokens: &[Token],
     diag: Diag,
 ) -> Result<(), Memory>
-    ensures { OnOk result (listing.new.items ≡ listing.old.items ++ line_at file.now (slice_get tokens.now diag.at) diag.code) }
+    ensures { OnOk result
+        (listing.new.items ≡ listing.old.items ++ line_at file.now (slice_get tokens.now diag.at) diag.code) }
 {
     match token_at(tokens, diag.at) {
         Some(token) => {
@@ -115,7 +117,8 @@ fn push_unit_line(
     texts: &Texts,
     diag: Diag,
 ) -> Result<(), Memory>
-    ensures { OnOk result (listing.new.items ≡ listing.old.items ++ line_in texts.now.names (slice_get texts.now.list diag.text) diag) }
+    ensures { OnOk result
+        (listing.new.items ≡ listing.old.items ++ line_in texts.now.names (slice_get texts.now.list diag.text) diag) }
 {
     match texts.list.get(diag.text as usize) {
         Some(text) => push_line_in(alloc, listing, &texts.names, text, diag),

@@ -21,7 +21,8 @@ module _ {T : Type 0} (g : Grammar T) (r : Rule) where
 
   -- the token at which reading is refused is the first at fault
   abbrev pub RefusesFirstFault : Type 0
-  RefusesFirstFault = (f : Fault) (n : ℕ) (u rest ts : List T) → Refuses g f n r u rest → ts ≡ u ++ rest → Faulty g n r f ts rest
+  RefusesFirstFault =
+      (f : Fault) (n : ℕ) (u rest ts : List T) → Refuses g f n r u rest → ts ≡ u ++ rest → Faulty g n r f ts rest
 
   -- a text is a sentence within the depth, or has a first token at fault
   abbrev pub IsDecided : Type 0
@@ -30,7 +31,8 @@ module _ {T : Type 0} (g : Grammar T) (r : Rule) where
   -- never both, and never two
   abbrev pub HasOneFault : Type 0
   HasOneFault = (n : ℕ) (ts : List T) (f : Fault) (rest : List T) → Faulty g n r f ts rest
-      → (Sentence g n r ts → ⊥) × ((f' : Fault) (rest' : List T) → Faulty g n r f' ts rest' → (rest' ≡ rest) × (f' ≡ f))
+      → (Sentence g n r ts → ⊥) × ((f' : Fault) (rest' : List T) → Faulty g n r f' ts rest'
+      → (rest' ≡ rest) × (f' ≡ f))
 
   -- where a parser's answer is a value of the derivation or what is told of the first fault, each text has one
   abbrev pub HasAnswer : {X F : Type 0} → (Tree T → List T → X) → (Fault → List T → F) → Type 0
@@ -39,4 +41,5 @@ module _ {T : Type 0} (g : Grammar T) (r : Rule) where
   -- and no other
   abbrev pub HasOneAnswer : {X F : Type 0} → (Tree T → List T → X) → (Fault → List T → F) → Type 0
   HasOneAnswer {X} {F} value tell =
-      (n : ℕ) (ts : List T) (a b : Result X F) → IsAnswer g n r value tell ts a → IsAnswer g n r value tell ts b → a ≡ b
+      (n : ℕ) (ts : List T) (a b : Result X F) → IsAnswer g n r value tell ts a → IsAnswer g n r value tell ts b
+      → a ≡ b

@@ -80,7 +80,8 @@ module _ {T : Type 0} (g : Grammar T) where
   clear empty follow = true
   clear (token ks) follow = true
   clear (then r s) follow = clear r (heads s follow) && clear s follow
-  clear (or r s) follow = not (nullable r) && (disjoint (first r) (heads s follow) && (clear r follow && clear s follow))
+  clear (or r s) follow =
+      not (nullable r) && (disjoint (first r) (heads s follow) && (clear r follow && clear s follow))
   clear (many r) follow = not (nullable r) && (disjoint (first r) follow && clear r (first r ++ follow))
   clear (deep n) follow = subset follow (g.follows n)
   clear sub follow = subset follow (g.follows zero)

@@ -1,5 +1,6 @@
 -- Reading by descent, as functions: a value and the tokens behind it, or the fault.
-use Rattle.std.specs.Prelude.{◌≡◌, ℕ, zero, suc, Bool, false, List, [], ◌∷◌, ◌++◌, Result, Ok, Err, Option, Some, None, if◌then◌else◌, ◌==◌, length}
+use Rattle.std.specs.Prelude.{◌≡◌, ℕ, zero, suc, Bool, false, List, [], ◌∷◌, ◌++◌, Result, Ok, Err, Option, Some, None}
+use Rattle.std.specs.Prelude.{if◌then◌else◌, ◌==◌, length}
 use Rattle.ll_grammar.specs.LookAhead.{member}
 use Rattle.ll_grammar.specs.Sentences.{Fault, Syntax, TooDeep}
 
@@ -65,17 +66,20 @@ module _ {T F X Y : Type 0} where
   unfoldable pub repeat : (List T → Bool) → Reader T F X → (X → List Y) → ℕ → Reader T F (List Y)
   repeat begins item parts zero ts = Ok ([], ts)
   repeat begins item parts (suc n) ts =
-      if begins ts then (item ts >>= λ x. repeat begins item parts n x.1 >>= λ ys. Ok (parts x.0 ++ ys.0, ys.1)) else Ok ([], ts)
+      if begins ts then (item ts >>= λ x. repeat begins item parts n x.1 >>= λ ys. Ok (parts x.0 ++ ys.0, ys.1))
+      else Ok ([], ts)
 
   -- an item behind each token of kind k, at most n of them: { k item }
   unfoldable pub separated : (T → ℕ) → ℕ → Reader T F X → (X → List Y) → ℕ → Reader T F (List Y)
   separated kind k item parts zero ts = Ok ([], ts)
   separated kind k item parts (suc n) ts =
-      behind (skip kind k ts) (λ after. item after >>= λ x. separated kind k item parts n x.1 >>= λ ys. Ok (parts x.0 ++ ys.0, ys.1)) (Ok ([], ts))
+      behind (skip kind k ts) (λ after. item after >>= λ x. separated kind k item parts n x.1 >>= λ ys.
+      Ok (parts x.0 ++ ys.0, ys.1)) (Ok ([], ts))
 
   -- an item, and another behind each token of kind k: item { k item }
   abbrev pub listed : (T → ℕ) → ℕ → Reader T F X → (X → List Y) → Reader T F (List Y)
-  listed kind k item parts ts = item ts >>= λ x. separated kind k item parts (length x.1) x.1 >>= λ ys. Ok (parts x.0 ++ ys.0, ys.1)
+  listed kind k item parts ts = item ts >>= λ x. separated kind k item parts (length x.1) x.1 >>= λ ys.
+      Ok (parts x.0 ++ ys.0, ys.1)
 
 -- an item adds itself
 abbrev pub itself : {X : Type 0} → X → List X
@@ -85,7 +89,8 @@ itself x = x ∷ []
 abbrev pub all : {X : Type 0} → List X → List X
 all xs = xs
 
--- Code that reads may also run out of memory: `cause` is the fault that an error tells of, and None where memory is out.
+-- Code that reads may also run out of memory: `cause` is the fault that an error tells of,
+-- and None where memory is out.
 abbrev pub Ends : {F Y : Type 0} → Option F → Result Y F → Type 0
 Ends None read = Unit {0}
 Ends (Some f) read = read ≡ Err f

@@ -45,7 +45,8 @@ module _ {T : Type 0} (g : Grammar T) (n : ℕ) (r : Rule) where
   abbrev pub NoSentence : List T → List T → Type 0
   NoSentence u rest = (d : Tree T) → Derives g r d → Begins u rest (tokens d) → ⊥
 
-  -- some sentence begins with u and the next token, and in each that does this token is the first that is nested too deep
+  -- some sentence begins with u and the next token, and in each that does this token is
+  -- the first that is nested too deep
   pub record OnlyDeeper (u rest : List T) : Type 0 where
     pub tree : Tree T
     pub derives : Derives g r tree
@@ -57,7 +58,8 @@ module _ {T : Type 0} (g : Grammar T) (n : ℕ) (r : Rule) where
   Refusal Syntax u rest = NoSentence u rest
   Refusal TooDeep u rest = OnlyDeeper u rest
 
-  -- the first token at fault, for this reason, is that with which rest begins; the end of the text is at fault where rest is empty
+  -- the first token at fault, for this reason, is that with which rest begins;
+  -- the end of the text is at fault where rest is empty
   pub record Faulty (f : Fault) (ts rest : List T) : Type 0 where
     pub before : List T
     pub is : ts ≡ before ++ rest

@@ -5,7 +5,8 @@ use Rattle.ll_grammar.specs.Derivations.{Tree}
 use Rattle.ll_grammar.specs.Sentences.{Fault, Sentence, Faulty}
 
 module _ {T : Type 0} (g : Grammar T) (n : ℕ) (r : Rule) where
-  -- The tokens are a sentence whose derivation gives this value. `value` may look at the tokens behind a derivation, of which a whole text has none.
+  -- The tokens are a sentence whose derivation gives this value. `value` may look at the tokens behind a derivation,
+  -- of which a whole text has none.
   pub record Spells {X : Type 0} (value : Tree T → List T → X) (x : X) (ts : List T) : Type 0 where
     pub sentence : Sentence g n r ts
     pub gives : value sentence.tree [] ≡ x

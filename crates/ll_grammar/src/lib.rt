@@ -21,7 +21,8 @@
 ghost use Rattle.std.specs.Prelude.{List};
 ghost use Rattle.ll_grammar.specs.Derivations.{Tree};
 ghost use Rattle.ll_grammar.specs.Grammar.{Grammar, Rule};
-ghost use Rattle.ll_grammar.specs.Laws.{HasAnswer, HasOneAnswer, HasOneFault, IsDecided, IsSound, IsTotal, IsUnambiguous, RefusesFirstFault};
+ghost use Rattle.ll_grammar.specs.Laws.{HasAnswer, HasOneAnswer, HasOneFault, IsDecided, IsSound, IsTotal};
+ghost use Rattle.ll_grammar.specs.Laws.{IsUnambiguous, RefusesFirstFault};
 ghost use Rattle.ll_grammar.specs.LookAhead.{IsLL1, IsRoot};
 ghost use Rattle.ll_grammar.specs.Sentences.{Fault};
 

@@ -1,7 +1,20 @@
 -- What can be wrong with a text: the code of each diagnostic, and what a listing says of it.
 use Rattle.std.specs.Prelude.{ℕ, ◌==◌, List, [], ◌∷◌, Option, Some, None, codes, find}
 use Rattle.m2_base.specs.declared.diagnostic.Diagnostic.{Diagnostic}
-use Rattle.m2_base.specs.declared.diagnostic.Diagnostic.TheVariants.{CharacterNotAllowed, CommentNotClosed, StringNotClosed, NumberTooLarge, UnexpectedToken, ClosingNameDiffers, NoDefinitionText, OtherModuleName, CircularImports, UnknownName, UsedBefore, DeclaredTwice, StandardDeclared, NotDeclaredThere, NotAType, NotAConstant, OutOfRange, NotAVariable, WrongOperands, NotAssignable, NoSuchField, NotAnArray, NotAPointer, NotAProcedure, WrongCount, WrongArgument, NotBoolean, WrongLabel, ExitOutsideLoop, WrongReturn, WrongIndex, TooManyCells, NotAControlVariable, NotImplemented, HeadingDiffers, NotAProcedureValue, NotARecord, ResultNotScalar, TooManyConstants}
+use Rattle.m2_base.specs.declared.diagnostic.Diagnostic.TheVariants.{CharacterNotAllowed, CommentNotClosed}
+use Rattle.m2_base.specs.declared.diagnostic.Diagnostic.TheVariants.{StringNotClosed, NumberTooLarge, UnexpectedToken}
+use Rattle.m2_base.specs.declared.diagnostic.Diagnostic.TheVariants.{ClosingNameDiffers, NoDefinitionText}
+use Rattle.m2_base.specs.declared.diagnostic.Diagnostic.TheVariants.{OtherModuleName, CircularImports, UnknownName}
+use Rattle.m2_base.specs.declared.diagnostic.Diagnostic.TheVariants.{UsedBefore, DeclaredTwice, StandardDeclared}
+use Rattle.m2_base.specs.declared.diagnostic.Diagnostic.TheVariants.{NotDeclaredThere, NotAType, NotAConstant}
+use Rattle.m2_base.specs.declared.diagnostic.Diagnostic.TheVariants.{OutOfRange, NotAVariable, WrongOperands}
+use Rattle.m2_base.specs.declared.diagnostic.Diagnostic.TheVariants.{NotAssignable, NoSuchField, NotAnArray}
+use Rattle.m2_base.specs.declared.diagnostic.Diagnostic.TheVariants.{NotAPointer, NotAProcedure, WrongCount}
+use Rattle.m2_base.specs.declared.diagnostic.Diagnostic.TheVariants.{WrongArgument, NotBoolean, WrongLabel}
+use Rattle.m2_base.specs.declared.diagnostic.Diagnostic.TheVariants.{ExitOutsideLoop, WrongReturn, WrongIndex}
+use Rattle.m2_base.specs.declared.diagnostic.Diagnostic.TheVariants.{TooManyCells, NotAControlVariable, NotImplemented}
+use Rattle.m2_base.specs.declared.diagnostic.Diagnostic.TheVariants.{HeadingDiffers, NotAProcedureValue, NotARecord}
+use Rattle.m2_base.specs.declared.diagnostic.Diagnostic.TheVariants.{ResultNotScalar, TooManyConstants}
 
 abbrev pub code_of : Diagnostic → ℕ
 code_of CharacterNotAllowed = 10

@@ -1,10 +1,13 @@
--- The trees of expressions, by their derivations. A derivation of the rule has one of the forms that are named; what is
--- said of any other form is said of nothing.
+-- The trees of expressions, by their derivations. A derivation of the rule has one of the forms that are named; what
+-- is said of any other form is said of nothing.
 use Rattle.std.specs.Prelude.{ℕ, List, [], ◌∷◌, Option, Some, None}
 use Rattle.m2_base.specs.declared.token.Token.{Token}
 use Rattle.m2_base.specs.declared.trees.operators.Operator.TheVariants.{Not}
 use Rattle.m2_base.specs.Operators.{operator_of}
-use Rattle.m2_base.specs.Trees.{Ident, Qual, Expr, expr, number_form, char_form, string_form, set_form, typed_set_form, name_form, call_form, one_form, exprs, Next, next, Designator, designator, no_selectors, Selector, field_selector, index_selector, deref_selector, selectors, Label, one_label, label_with, labels, designator_at, with_operators, in_brackets}
+use Rattle.m2_base.specs.Trees.{Ident, Qual, Expr, expr, number_form, char_form, string_form, set_form, typed_set_form}
+use Rattle.m2_base.specs.Trees.{name_form, call_form, one_form, exprs, Next, next, Designator, designator}
+use Rattle.m2_base.specs.Trees.{no_selectors, Selector, field_selector, index_selector, deref_selector, selectors}
+use Rattle.m2_base.specs.Trees.{Label, one_label, label_with, labels, designator_at, with_operators, in_brackets}
 use Rattle.ll_grammar.specs.Derivations.{Tree, leaf, both, left, right, more, inner}
 
 -- the name that the token is

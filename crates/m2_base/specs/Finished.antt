@@ -1,5 +1,6 @@
 -- What the texts of a unit mean for the tables: the rows that each scope has in the end, where all texts can be read.
-use Rattle.std.specs.Prelude.{◌≡◌, ℕ, ◌+◌, ◌==◌, true, false, List, [], ◌∷◌, Option, Some, None, length, map, option_map, position, slice_get, slice_index_or}
+use Rattle.std.specs.Prelude.{◌≡◌, ℕ, ◌+◌, ◌==◌, true, false, List, [], ◌∷◌, Option, Some, None, length, map}
+use Rattle.std.specs.Prelude.{option_map, position, slice_get, slice_index_or}
 use Rattle.std.specs.List.{AllZip}
 use Rattle.m2_base.specs.Rows.{Row}
 use Rattle.m2_base.specs.Statics.BlockLimits.{begins_procedure, limit_of}
@@ -52,8 +53,8 @@ source_of u = record { spellings = u.names; definitions = definitions_of u }
 
 -- ** Finished rows
 
--- These are the trees of a unit: its definition texts, in dependency order, spell one each, and the main text spells its blocks.
--- No text has a syntax error, and the main text passes no limit on procedures.
+-- These are the trees of a unit: its definition texts, in dependency order, spell one each, and the main text spells
+-- its blocks. No text has a syntax error, and the main text passes no limit on procedures.
 pub record AreRead (u : UnitTexts) (trees : UnitTrees) : Type 0 where
   pub source : trees.source ≡ source_of u
   pub own : trees.own ≡ own_scope u

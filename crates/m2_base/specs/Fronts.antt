@@ -55,17 +55,22 @@ modules_of i = modules_with i.from i.names
 -- These are the modules of the whole imports that the list begins with.
 pub data Imported : List Token → List Ident → Type 0 where
   no_import : {ts : List Token} → BreaksOff imported ts → Imported ts []
-  an_import : {d : Tree Token} {rest ts : List Token} {modules : List Ident} → Opens imported d rest ts → Imported rest modules
+  an_import : {d : Tree Token} {rest ts : List Token} {modules : List Ident} → Opens imported d rest ts
+      → Imported rest modules
       → Imported ts (modules_of (import_of d) ++ modules)
 
 -- The same of what stands behind the module's name, which begins with ";".
 pub data ImportedBehind : List Token → List Ident → Type 0 where
   no_semicolon : {ts : List Token} → BreaksOff (a Semicolon) ts → ImportedBehind ts []
-  semicolon : {d : Tree Token} {rest ts : List Token} {modules : List Ident} → Opens (a Semicolon) d rest ts → Imported rest modules
+  semicolon : {d : Tree Token} {rest ts : List Token} {modules : List Ident} → Opens (a Semicolon) d rest ts
+      → Imported rest modules
       → ImportedBehind ts modules
 
 -- This is the front of the text: where a token is refused before the name, there is no name and no import.
 pub data IsFront (definition : Bool) : List Token → Front → Type 0 where
-  nameless : {ts : List Token} → BreaksOff (head definition) ts → IsFront definition ts (record { name = None; implementation = false; imports = [] })
-  named : {d : Tree Token} {rest ts : List Token} {modules : List Ident} → Opens (head definition) d rest ts → ImportedBehind rest modules
-      → IsFront definition ts (record { name = Some (head_of definition d).1; implementation = (head_of definition d).0; imports = modules })
+  nameless : {ts : List Token} → BreaksOff (head definition) ts
+      → IsFront definition ts (record { name = None; implementation = false; imports = [] })
+  named : {d : Tree Token} {rest ts : List Token} {modules : List Ident} → Opens (head definition) d rest ts
+      → ImportedBehind rest modules
+      → IsFront definition ts
+      (record { name = Some (head_of definition d).1; implementation = (head_of definition d).0; imports = modules })

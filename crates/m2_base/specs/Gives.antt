@@ -1,4 +1,5 @@
--- What a definition gives: its value, and beside it the diagnostics and the answers of the uses that it binds, in text order.
+-- What a definition gives: its value, and beside it the diagnostics and the answers of the uses that it binds,
+-- in text order.
 use Rattle.std.specs.Prelude.{◌≡◌, List, [], ◌∷◌, ◌++◌}
 use Rattle.m2_base.specs.declared.notes.Answer.{Answer}
 use Rattle.m2_base.specs.declared.notes.Diag.{Diag}

@@ -1,11 +1,21 @@
 -- The grammar of the language, as data. Above each rule stands its EBNF: [x] is optional, {x} is repeated, | separates
 -- choices. A text can be read with one token of look-ahead.
 --
--- Nesting counts Factor, Stmt, Type and FieldList: they have the numbers 1 to 4. An empty Stmt or FieldList is outside its
--- rule. Rule 0 is the procedure that is declared in a text; in a stream `Heading ";" Cut` stands in its place.
+-- Nesting counts Factor, Stmt, Type and FieldList: they have the numbers 1 to 4. An empty Stmt or FieldList is outside
+-- its rule. Rule 0 is the procedure that is declared in a text; in a stream `Heading ";" Cut` stands in its place.
 use Rattle.std.specs.Prelude.{ℕ, zero, suc, List, [], ◌∷◌, map}
 use Rattle.m2_base.specs.declared.kind.TokenKind.{TokenKind}
-use Rattle.m2_base.specs.declared.kind.TokenKind.TheVariants.{EndOfText, Identifier, Number, Character, String, Cut, StreamEnd, And, Array, Begin, By, Case, Const, Definition, Div, Do, Else, Elsif, End, Exit, Export, For, From, If, Implementation, Import, In, Loop, Mod, Module, Not, Of, Or, Pointer, Procedure, Qualified, Record, Repeat, Return, Set, Then, To, «Type», Until, Var, While, With, Plus, Minus, Times, Slash, Becomes, Period, Comma, Semicolon, LeftParenthesis, LeftBracket, LeftBrace, Arrow, Equal, Unequal, Less, Greater, LessEqual, GreaterEqual, Ellipsis, Colon, RightParenthesis, RightBracket, RightBrace, Bar}
+use Rattle.m2_base.specs.declared.kind.TokenKind.TheVariants.{EndOfText, Identifier, Number, Character, String, Cut}
+use Rattle.m2_base.specs.declared.kind.TokenKind.TheVariants.{StreamEnd, And, Array, Begin, By, Case, Const}
+use Rattle.m2_base.specs.declared.kind.TokenKind.TheVariants.{Definition, Div, Do, Else, Elsif, End, Exit, Export, For}
+use Rattle.m2_base.specs.declared.kind.TokenKind.TheVariants.{From, If, Implementation, Import, In, Loop, Mod, Module}
+use Rattle.m2_base.specs.declared.kind.TokenKind.TheVariants.{Not, Of, Or, Pointer, Procedure, Qualified, Record}
+use Rattle.m2_base.specs.declared.kind.TokenKind.TheVariants.{Repeat, Return, Set, Then, To, «Type», Until, Var, While}
+use Rattle.m2_base.specs.declared.kind.TokenKind.TheVariants.{With, Plus, Minus, Times, Slash, Becomes, Period, Comma}
+use Rattle.m2_base.specs.declared.kind.TokenKind.TheVariants.{Semicolon, LeftParenthesis, LeftBracket, LeftBrace}
+use Rattle.m2_base.specs.declared.kind.TokenKind.TheVariants.{Arrow, Equal, Unequal, Less, Greater, LessEqual}
+use Rattle.m2_base.specs.declared.kind.TokenKind.TheVariants.{GreaterEqual, Ellipsis, Colon, RightParenthesis}
+use Rattle.m2_base.specs.declared.kind.TokenKind.TheVariants.{RightBracket, RightBrace, Bar}
 use Rattle.m2_base.specs.declared.token.Token.{Token}
 use Rattle.m2_base.specs.declared.trees.declarations.StreamKind.{StreamKind}
 use Rattle.m2_base.specs.declared.trees.declarations.StreamKind.TheVariants as streams
@@ -121,7 +131,8 @@ designated = designator ⨾ (set_rule ∣ actuals ∣ empty)
 
 abbrev pub factor_rule : Rule
 factor_rule =
-    a Number ∣ a Character ∣ a String ∣ set_rule ∣ designated ∣ a LeftParenthesis ⨾ expr ⨾ a RightParenthesis ∣ a Not ⨾ factor
+    a Number ∣ a Character ∣ a String ∣ set_rule ∣ designated ∣ a LeftParenthesis ⨾ expr ⨾ a RightParenthesis ∣ a Not
+    ⨾ factor
 
 -- Types.
 
@@ -251,7 +262,8 @@ with_rule = a With ⨾ designator ⨾ a Do ⨾ statements ⨾ a End
 
 abbrev pub statement_rule : Rule
 statement_rule =
-    designated_statement ∣ if_rule ∣ case_rule ∣ while_rule ∣ repeat_rule ∣ loop_rule ∣ a Exit ∣ a Return ⨾ optional expr ∣ for_rule ∣ with_rule
+    designated_statement ∣ if_rule ∣ case_rule ∣ while_rule ∣ repeat_rule ∣ loop_rule ∣ a Exit ∣ a Return
+    ⨾ optional expr ∣ for_rule ∣ with_rule
 
 -- Declarations. What is said of a procedure's block is a parameter: in a text it is the block, in a stream its cut.
 
@@ -266,7 +278,8 @@ parameters = optional (a LeftParenthesis ⨾ optional (list section Semicolon) �
 abbrev pub heading : Rule
 heading = a Procedure ⨾ ident ⨾ parameters
 
--- Decl = CONST {ident "=" Expr ";"} | TYPE {ident "=" Type ";"} | VAR {Idents ":" Type ";"} | Heading ";" Block ident ";"
+-- Decl = CONST {ident "=" Expr ";"} | TYPE {ident "=" Type ";"} | VAR {Idents ":" Type
+-- ";"} | Heading ";" Block ident ";"
 abbrev pub constant : Rule
 constant = ident ⨾ a Equal ⨾ expr ⨾ a Semicolon
 
@@ -292,7 +305,8 @@ abbrev pub defined_type : Rule
 defined_type = ident ⨾ optional (a Equal ⨾ type_expr) ⨾ a Semicolon
 
 abbrev pub definition_declaration : Rule
-definition_declaration = a Const ⨾ many constant ∣ a «Type» ⨾ many defined_type ∣ a Var ⨾ many variables ∣ heading ⨾ a Semicolon
+definition_declaration =
+    a Const ⨾ many constant ∣ a «Type» ⨾ many defined_type ∣ a Var ⨾ many variables ∣ heading ⨾ a Semicolon
 
 -- Import = [FROM ident] IMPORT Idents ";"
 abbrev pub from : Rule
@@ -316,12 +330,14 @@ procedure_cut = heading ⨾ a Semicolon ⨾ a Cut
 
 -- Main = [IMPLEMENTATION] MODULE ident ";" {Import} Block ident "." End
 abbrev pub main : Rule → Rule
-main procedure = optional (a Implementation) ⨾ a Module ⨾ ident ⨾ a Semicolon ⨾ many imported ⨾ block procedure ⨾ a Period ⨾ a EndOfText
+main procedure = optional (a Implementation) ⨾ a Module ⨾ ident ⨾ a Semicolon ⨾ many imported ⨾ block procedure
+    ⨾ a Period ⨾ a EndOfText
 
 -- Definition = DEFINITION MODULE ident ";" {Import} [Export] {DefDecl} END ident "." End
 abbrev pub definition : Rule
 definition =
-    a Definition ⨾ a Module ⨾ ident ⨾ a Semicolon ⨾ many imported ⨾ export ⨾ many definition_declaration ⨾ a End ⨾ ident ⨾ a Period ⨾ a EndOfText
+    a Definition ⨾ a Module ⨾ ident ⨾ a Semicolon ⨾ many imported ⨾ export ⨾ many definition_declaration ⨾ a End
+    ⨾ ident ⨾ a Period ⨾ a EndOfText
 
 -- Procedure = Heading ";" Block ident ";" StreamEnd
 abbrev pub procedure_stream : Rule
@@ -351,8 +367,10 @@ rule (suc (suc (suc (suc (suc n))))) = a Number
 abbrev pub follows : ℕ → List TokenKind
 follows zero = Const ∷ «Type» ∷ Var ∷ Procedure ∷ Begin ∷ End ∷ []
 follows (suc zero) =
-    Times ∷ Slash ∷ Div ∷ Mod ∷ And ∷ Plus ∷ Minus ∷ Or ∷ Equal ∷ Unequal ∷ Less ∷ LessEqual ∷ Greater ∷ GreaterEqual ∷ In
-    ∷ RightParenthesis ∷ RightBracket ∷ RightBrace ∷ Comma ∷ Ellipsis ∷ Semicolon ∷ End ∷ Else ∷ Elsif ∷ Then ∷ Of ∷ Do ∷ To ∷ By
+    Times ∷ Slash ∷ Div ∷ Mod ∷ And ∷ Plus ∷ Minus ∷ Or ∷ Equal ∷ Unequal ∷ Less ∷ LessEqual ∷ Greater ∷ GreaterEqual
+    ∷ In
+    ∷ RightParenthesis ∷ RightBracket ∷ RightBrace ∷ Comma ∷ Ellipsis ∷ Semicolon ∷ End ∷ Else ∷ Elsif ∷ Then ∷ Of ∷ Do
+    ∷ To ∷ By
     ∷ Until ∷ Colon ∷ Bar ∷ []
 follows (suc (suc zero)) = Semicolon ∷ End ∷ Elsif ∷ Else ∷ Until ∷ Bar ∷ []
 follows (suc (suc (suc zero))) = Semicolon ∷ End ∷ Bar ∷ Else ∷ []

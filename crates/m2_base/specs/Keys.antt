@@ -1,5 +1,6 @@
 -- What the index of a scope finds rows by: a name, or a record and the name of one of its fields.
-use Rattle.std.specs.Prelude.{ℕ, ◌+◌, ◌==◌, ◌&&◌, ◌||◌, nat_lt, Bool, false, if◌then◌else◌, List, [], ◌∷◌, length, take, Option, Some, None}
+use Rattle.std.specs.Prelude.{ℕ, ◌+◌, ◌==◌, ◌&&◌, ◌||◌, nat_lt, Bool, false, if◌then◌else◌, List, [], ◌∷◌, length}
+use Rattle.std.specs.Prelude.{take, Option, Some, None}
 use Rattle.m2_base.specs.Rows.{Row, Place, field_kind, natural}
 use Rattle.m2_base.specs.Tables.{Table, head_of, table_at}
 use Rattle.m2_base.specs.declared.replies.Ask.{Ask}
@@ -10,7 +11,8 @@ pub use Rattle.m2_base.specs.declared.rows.RowKey.TheVariants.{Name, Member}
 -- the key of a row: its name; of a field without one the ordinal of its record, and its name there
 unfoldable pub row_key : Row → Option RowKey
 row_key r =
-    if r.name == 0 then (if r.kind == field_kind then Some (Member (natural r.c) (natural r.e)) else None) else Some (Name r.name)
+    if r.name == 0 then (if r.kind == field_kind then Some (Member (natural r.c) (natural r.e)) else None)
+    else Some (Name r.name)
 
 abbrev pub is_same_key : RowKey → RowKey → Bool
 is_same_key (Name x) (Name y) = x == y

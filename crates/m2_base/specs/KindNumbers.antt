@@ -1,7 +1,17 @@
 -- The numbers of the kinds of token.
 use Rattle.std.specs.Prelude.{ℕ, List, [], ◌∷◌}
 use Rattle.m2_base.specs.declared.kind.TokenKind.{TokenKind}
-use Rattle.m2_base.specs.declared.kind.TokenKind.TheVariants.{EndOfText, Identifier, Number, Character, String, Bad, Cut, StreamEnd, And, Array, Begin, By, Case, Const, Definition, Div, Do, Else, Elsif, End, Exit, Export, For, From, If, Implementation, Import, In, Loop, Mod, Module, Not, Of, Or, Pointer, Procedure, Qualified, Record, Repeat, Return, Set, Then, To, «Type», Until, Var, While, With, Plus, Minus, Times, Slash, Becomes, Period, Comma, Semicolon, LeftParenthesis, LeftBracket, LeftBrace, Arrow, Equal, Unequal, Less, Greater, LessEqual, GreaterEqual, Ellipsis, Colon, RightParenthesis, RightBracket, RightBrace, Bar}
+use Rattle.m2_base.specs.declared.kind.TokenKind.TheVariants.{EndOfText, Identifier, Number, Character, String, Bad}
+use Rattle.m2_base.specs.declared.kind.TokenKind.TheVariants.{Cut, StreamEnd, And, Array, Begin, By, Case, Const}
+use Rattle.m2_base.specs.declared.kind.TokenKind.TheVariants.{Definition, Div, Do, Else, Elsif, End, Exit, Export, For}
+use Rattle.m2_base.specs.declared.kind.TokenKind.TheVariants.{From, If, Implementation, Import, In, Loop, Mod, Module}
+use Rattle.m2_base.specs.declared.kind.TokenKind.TheVariants.{Not, Of, Or, Pointer, Procedure, Qualified, Record}
+use Rattle.m2_base.specs.declared.kind.TokenKind.TheVariants.{Repeat, Return, Set, Then, To, «Type», Until, Var, While}
+use Rattle.m2_base.specs.declared.kind.TokenKind.TheVariants.{With, Plus, Minus, Times, Slash, Becomes, Period, Comma}
+use Rattle.m2_base.specs.declared.kind.TokenKind.TheVariants.{Semicolon, LeftParenthesis, LeftBracket, LeftBrace}
+use Rattle.m2_base.specs.declared.kind.TokenKind.TheVariants.{Arrow, Equal, Unequal, Less, Greater, LessEqual}
+use Rattle.m2_base.specs.declared.kind.TokenKind.TheVariants.{GreaterEqual, Ellipsis, Colon, RightParenthesis}
+use Rattle.m2_base.specs.declared.kind.TokenKind.TheVariants.{RightBracket, RightBrace, Bar}
 use Rattle.m2_base.specs.declared.token.Token.{Token}
 
 abbrev pub kind_number : TokenKind → ℕ

@@ -1,9 +1,19 @@
 -- The kinds of token: what spells the reserved words and the symbols.
-use Rattle.std.specs.Prelude.{ℕ, ◌≤◌, ◌==◌, Bool, false, not, IsTrue, List, [], ◌∷◌, take, drop, Option, option_map, find, codes}
+use Rattle.std.specs.Prelude.{ℕ, ◌≤◌, ◌==◌, Bool, false, not, IsTrue, List, [], ◌∷◌, take, drop, Option, option_map}
+use Rattle.std.specs.Prelude.{find, codes}
 use Rattle.std.specs.List.{list_all}
 use Rattle.std.specs.Str.{bytes_eq}
 use Rattle.m2_base.specs.declared.kind.TokenKind.{TokenKind}
-use Rattle.m2_base.specs.declared.kind.TokenKind.TheVariants.{And, Array, Begin, By, Case, Const, Definition, Div, Do, Else, Elsif, End, Exit, Export, For, From, If, Implementation, Import, In, Loop, Mod, Module, Not, Of, Or, Pointer, Procedure, Qualified, Record, Repeat, Return, Set, Then, To, «Type», Until, Var, While, With, Plus, Minus, Times, Slash, Becomes, Period, Comma, Semicolon, LeftParenthesis, LeftBracket, LeftBrace, Arrow, Equal, Unequal, Less, Greater, LessEqual, GreaterEqual, Ellipsis, Colon, RightParenthesis, RightBracket, RightBrace, Bar}
+use Rattle.m2_base.specs.declared.kind.TokenKind.TheVariants.{And, Array, Begin, By, Case, Const, Definition, Div, Do}
+use Rattle.m2_base.specs.declared.kind.TokenKind.TheVariants.{Else, Elsif, End, Exit, Export, For, From, If}
+use Rattle.m2_base.specs.declared.kind.TokenKind.TheVariants.{Implementation, Import, In, Loop, Mod, Module, Not, Of}
+use Rattle.m2_base.specs.declared.kind.TokenKind.TheVariants.{Or, Pointer, Procedure, Qualified, Record, Repeat}
+use Rattle.m2_base.specs.declared.kind.TokenKind.TheVariants.{Return, Set, Then, To, «Type», Until, Var, While, With}
+use Rattle.m2_base.specs.declared.kind.TokenKind.TheVariants.{Plus, Minus, Times, Slash, Becomes, Period, Comma}
+use Rattle.m2_base.specs.declared.kind.TokenKind.TheVariants.{Semicolon, LeftParenthesis, LeftBracket, LeftBrace}
+use Rattle.m2_base.specs.declared.kind.TokenKind.TheVariants.{Arrow, Equal, Unequal, Less, Greater, LessEqual}
+use Rattle.m2_base.specs.declared.kind.TokenKind.TheVariants.{GreaterEqual, Ellipsis, Colon, RightParenthesis}
+use Rattle.m2_base.specs.declared.kind.TokenKind.TheVariants.{RightBracket, RightBrace, Bar}
 
 -- the kind that the table has for these bytes
 abbrev pub kind_in : List (List ℕ × TokenKind) → List ℕ → Option TokenKind

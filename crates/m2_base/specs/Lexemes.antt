@@ -1,9 +1,11 @@
 -- The lexemes of a text, as the bytes that spell them.
-use Rattle.std.specs.Prelude.{◌≡◌, ℕ, ◌<◌, ◌≤◌, Bool, false, ◌||◌, is_some, if◌then◌else◌, List, [], ◌∷◌, ◌++◌, length, take, codes, IsTrue}
+use Rattle.std.specs.Prelude.{◌≡◌, ℕ, ◌<◌, ◌≤◌, Bool, false, ◌||◌, is_some, if◌then◌else◌, List, [], ◌∷◌, ◌++◌, length}
+use Rattle.std.specs.Prelude.{take, codes, IsTrue}
 use Rattle.std.specs.List.{list_all}
 use Rattle.std.specs.Str.{bytes_eq}
 use Rattle.m2_base.specs.Comments.{is_comment}
-use Rattle.m2_base.specs.Letters.{is_digit, is_octal_digit, is_hexadecimal_digit, is_letter, goes_on, is_blank, is_quote, stays_in}
+use Rattle.m2_base.specs.Letters.{is_digit, is_octal_digit, is_hexadecimal_digit, is_letter, goes_on, is_blank}
+use Rattle.m2_base.specs.Letters.{is_quote, stays_in}
 use Rattle.m2_base.specs.Kinds.{kind_in, symbols}
 use Rattle.m2_base.specs.Runs.{is_run_and}
 
@@ -19,8 +21,8 @@ is_numeral bytes =
 abbrev pub fills_string : ℕ → List ℕ → Bool
 fills_string quote bytes = list_all (stays_in quote) bytes || is_run_and (stays_in quote) (quote ∷ []) bytes
 
--- Which bytes may follow the first one in a lexeme: blanks a blank, letters and digits a letter, the rest of a numeral a
--- digit, the rest of a string a quote. Any other byte stands alone, or begins a symbol or a comment.
+-- Which bytes may follow the first one in a lexeme: blanks a blank, letters and digits a letter, the rest of a numeral
+-- a digit, the rest of a string a quote. Any other byte stands alone, or begins a symbol or a comment.
 abbrev pub continues : ℕ → List ℕ → Bool
 continues b bs =
     if is_blank b then list_all is_blank bs
@@ -42,4 +44,5 @@ pub record IsLongest (lexeme after : List ℕ) : Type 0 where
 -- These are the lexemes of a text: they make it up one after another, and each is the longest match at its place.
 abbrev pub AreLexemes : List ℕ → List (List ℕ) → Type 0
 AreLexemes text [] = text ≡ []
-AreLexemes text (lexeme ∷ lexemes) = (after : List ℕ) × (text ≡ lexeme ++ after) × IsLongest lexeme after × AreLexemes after lexemes
+AreLexemes text (lexeme ∷ lexemes) =
+    (after : List ℕ) × (text ≡ lexeme ++ after) × IsLongest lexeme after × AreLexemes after lexemes

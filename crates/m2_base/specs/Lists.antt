@@ -35,4 +35,5 @@ WhereLast {A} (Some xs) P = (front : List A) × (x : A) × (xs ≡ front ++ x �
 
 -- no number but 0 is that of two of them
 abbrev pub HasNoRepeats : {A : Type 0} → (A → ℕ) → List A → Type 0
-HasNoRepeats {A} number xs = (i j : ℕ) (x y : A) → i < j → slice_get xs i ≡ Some x → slice_get xs j ≡ Some y → number x ≢ 0 → number x ≢ number y
+HasNoRepeats {A} number xs = (i j : ℕ) (x y : A) → i < j → slice_get xs i ≡ Some x → slice_get xs j ≡ Some y
+    → number x ≢ 0 → number x ≢ number y

@@ -1,10 +1,13 @@
 -- What a lexeme stands for.
-use Rattle.std.specs.Prelude.{ℕ, ◌+◌, ◌-◌, ◌*◌, nat_le, if◌then◌else◌, Bool, true, false, List, [], ◌∷◌, Option, Some, None, codes, fold, is_some}
+use Rattle.std.specs.Prelude.{ℕ, ◌+◌, ◌-◌, ◌*◌, nat_le, if◌then◌else◌, Bool, true, false, List, [], ◌∷◌, Option, Some}
+use Rattle.std.specs.Prelude.{None, codes, fold, is_some}
 use Rattle.std.specs.List.{take_while}
 use Rattle.m2_base.specs.Diagnostics.{code_of}
-use Rattle.m2_base.specs.declared.diagnostic.Diagnostic.TheVariants.{CharacterNotAllowed, CommentNotClosed, NumberTooLarge, StringNotClosed}
+use Rattle.m2_base.specs.declared.diagnostic.Diagnostic.TheVariants.{CharacterNotAllowed, CommentNotClosed}
+use Rattle.m2_base.specs.declared.diagnostic.Diagnostic.TheVariants.{NumberTooLarge, StringNotClosed}
 use Rattle.m2_base.specs.Comments.{opens_comment, behind_comment}
-use Rattle.m2_base.specs.Letters.{is_blank, is_letter, is_digit, is_octal_digit, is_hexadecimal_digit, is_quote, stays_in}
+use Rattle.m2_base.specs.Letters.{is_blank, is_letter, is_digit, is_octal_digit, is_hexadecimal_digit, is_quote}
+use Rattle.m2_base.specs.Letters.{stays_in}
 use Rattle.m2_base.specs.Kinds.{kind_in, reserved_words, symbols}
 use Rattle.m2_base.specs.Runs.{is_run_and}
 use Rattle.m2_base.specs.declared.kind.TokenKind.{TokenKind}
@@ -47,14 +50,18 @@ character_of value = if nat_le value greatest_character then character value els
 -- What a numeral stands for: `H` ends hexadecimal digits, `B` octal ones, and `C` those of a character.
 abbrev pub numeral_meaning : List ℕ → Meaning
 numeral_meaning bytes =
-    if is_run_and is_hexadecimal_digit (codes "H") bytes then number_of (value_in 16 (take_while is_hexadecimal_digit bytes))
+    if is_run_and is_hexadecimal_digit (codes "H") bytes then
+    number_of (value_in 16 (take_while is_hexadecimal_digit bytes))
     else (if is_run_and is_octal_digit (codes "B") bytes then number_of (value_in 8 (take_while is_octal_digit bytes))
-    else (if is_run_and is_octal_digit (codes "C") bytes then character_of (value_in 8 (take_while is_octal_digit bytes))
+    else (if is_run_and is_octal_digit (codes "C") bytes then
+    character_of (value_in 8 (take_while is_octal_digit bytes))
     else number_of (value_in 10 bytes)))
 
--- What a string stands for, by its quote and what follows that: what stands between the quotes. An open one is fault 12.
+-- What a string stands for, by its quote and what follows that: what stands between the quotes.
+-- An open one is fault 12.
 abbrev pub string_meaning : ℕ → List ℕ → Meaning
-string_meaning quote bytes = if is_run_and (stays_in quote) (quote ∷ []) bytes then string (take_while (stays_in quote) bytes) else bad (code_of StringNotClosed)
+string_meaning quote bytes = if is_run_and (stays_in quote) (quote ∷ []) bytes then
+    string (take_while (stays_in quote) bytes) else bad (code_of StringNotClosed)
 
 -- A comment separates tokens as a blank does. An open one is fault 11.
 abbrev pub comment_meaning : List ℕ → Meaning
@@ -64,7 +71,8 @@ abbrev pub fixed_or : Option TokenKind → Meaning → Meaning
 fixed_or (Some kind) other = fixed kind
 fixed_or None other = other
 
--- What a lexeme stands for, by its first byte. Nothing spells the end of the text. Fault 10 is a byte that no token has.
+-- What a lexeme stands for, by its first byte. Nothing spells the end of the text.
+-- Fault 10 is a byte that no token has.
 abbrev pub meaning_of : List ℕ → Meaning
 meaning_of [] = fixed EndOfText
 meaning_of (b ∷ bs) =

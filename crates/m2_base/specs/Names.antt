@@ -14,13 +14,15 @@ with_name names bytes = if list_any (bytes_eq bytes) names then names else names
 abbrev pub with_names : List (List ℕ) → List (List ℕ) → List (List ℕ)
 with_names names new = fold with_name names new
 
--- The names that each unit begins with: number 0 is the empty text, 1 to 26 are the standard names of the language, and
--- 27 is the library module.
+-- The names that each unit begins with: number 0 is the empty text, 1 to 26 are the standard names of the language,
+-- and 27 is the library module.
 unfoldable pub standard_names : List (List ℕ)
 standard_names =
     []
-    ∷ codes "INTEGER" ∷ codes "CARDINAL" ∷ codes "CHAR" ∷ codes "BOOLEAN" ∷ codes "BITSET" ∷ codes "PROC" ∷ codes "TRUE" ∷ codes "FALSE" ∷ codes "NIL"
-    ∷ codes "ABS" ∷ codes "CAP" ∷ codes "CHR" ∷ codes "DEC" ∷ codes "DISPOSE" ∷ codes "EXCL" ∷ codes "HALT" ∷ codes "HIGH" ∷ codes "INC" ∷ codes "INCL"
+    ∷ codes "INTEGER" ∷ codes "CARDINAL" ∷ codes "CHAR" ∷ codes "BOOLEAN" ∷ codes "BITSET" ∷ codes "PROC"
+    ∷ codes "TRUE" ∷ codes "FALSE" ∷ codes "NIL"
+    ∷ codes "ABS" ∷ codes "CAP" ∷ codes "CHR" ∷ codes "DEC" ∷ codes "DISPOSE" ∷ codes "EXCL" ∷ codes "HALT"
+    ∷ codes "HIGH" ∷ codes "INC" ∷ codes "INCL"
     ∷ codes "MAX" ∷ codes "MIN" ∷ codes "NEW" ∷ codes "ODD" ∷ codes "ORD" ∷ codes "SIZE" ∷ codes "VAL"
     ∷ codes "InOut"
     ∷ []

@@ -2,7 +2,9 @@
 use Rattle.m2_base.specs.declared.kind.TokenKind.{TokenKind}
 use Rattle.m2_base.specs.declared.kind.TokenKind.TheVariants as kinds
 use Rattle.m2_base.specs.declared.trees.operators.Operator.{Operator}
-use Rattle.m2_base.specs.declared.trees.operators.Operator.TheVariants.{Equal, Unequal, Less, LessEqual, Greater, GreaterEqual, In, Plus, Minus, Or, Times, Slash, Div, Mod, And, Not}
+use Rattle.m2_base.specs.declared.trees.operators.Operator.TheVariants.{Equal, Unequal, Less, LessEqual, Greater}
+use Rattle.m2_base.specs.declared.trees.operators.Operator.TheVariants.{GreaterEqual, In, Plus, Minus, Or, Times}
+use Rattle.m2_base.specs.declared.trees.operators.Operator.TheVariants.{Slash, Div, Mod, And, Not}
 
 -- the operator that a token of this kind is; of kinds that are none nobody asks
 abbrev pub operator_of : TokenKind → Operator

@@ -9,7 +9,8 @@ abbrev pub first_position : Position
 first_position = record { line = 1; column = 1 }
 
 abbrev pub after_byte : Position → ℕ → Position
-after_byte p byte = if byte == 10 then record { line = p.line + 1; column = 1 } else record { line = p.line; column = p.column + 1 }
+after_byte p byte =
+    if byte == 10 then record { line = p.line + 1; column = 1 } else record { line = p.line; column = p.column + 1 }
 
 -- the place behind these bytes
 abbrev pub after_bytes : Position → List ℕ → Position

@@ -1,12 +1,16 @@
 -- Rows: what a scope has an entry of. A row has a name (0: none), a kind, the token that it stands for, and numbers
 -- whose sense the kind decides. The definitions speak of a row's meaning, by cases, and never of these numbers.
-use Rattle.std.specs.Prelude.{◌≡◌, ℕ, ◌+◌, ◌*◌, ◌/◌, ◌%◌, ◌^◌, ◌<◌, ◌≤◌, Bool, true, false, ◌&&◌, ◌==◌, if◌then◌else◌, ℤ, pos, negsuc, ◌≤ℤ◌, Option, Some, None}
+use Rattle.std.specs.Prelude.{◌≡◌, ℕ, ◌+◌, ◌*◌, ◌/◌, ◌%◌, ◌^◌, ◌<◌, ◌≤◌, Bool, true, false, ◌&&◌, ◌==◌, if◌then◌else◌}
+use Rattle.std.specs.Prelude.{ℤ, pos, negsuc, ◌≤ℤ◌, Option, Some, None}
 pub use Rattle.m2_base.specs.declared.rows.Row.{Row}
 pub use Rattle.m2_base.specs.declared.rows.Place.{Place}
 pub use Rattle.m2_base.specs.declared.rows.Mode.{Mode}
 pub use Rattle.m2_base.specs.declared.rows.Mode.TheVariants.{Plain, ByAddress, Open}
 pub use Rattle.m2_base.specs.declared.rows.RowMeaning.{RowMeaning}
-pub use Rattle.m2_base.specs.declared.rows.RowMeaning.TheVariants.{Const, TypeName, Var, Proc, Module, Alias, Field, Param, Standard, Broken, Integer, Cardinal, Character, Nil, Text, Whole, Enum, Subrange, Array, OpenArray, Record, Set, Pointer, ProcType, Opaque}
+pub use Rattle.m2_base.specs.declared.rows.RowMeaning.TheVariants.{Const, TypeName, Var, Proc, Module, Alias, Field}
+pub use Rattle.m2_base.specs.declared.rows.RowMeaning.TheVariants.{Param, Standard, Broken, Integer, Cardinal}
+pub use Rattle.m2_base.specs.declared.rows.RowMeaning.TheVariants.{Character, Nil, Text, Whole, Enum, Subrange, Array}
+pub use Rattle.m2_base.specs.declared.rows.RowMeaning.TheVariants.{OpenArray, Record, Set, Pointer, ProcType, Opaque}
 use Rattle.m2_base.specs.declared.limits.TheConstants.{GREATEST_CARDINAL, LEAST_INTEGER}
 
 -- the place of a scope's row

@@ -1,10 +1,12 @@
 -- The calls of Scopes: when each may be made, and what it leaves and answers.
-use Rattle.std.specs.Prelude.{◌≡◌, ◌≢◌, ◌⊎◌, ℕ, ◌+◌, ◌<◌, ◌≤◌, true, false, List, [], ◌∷◌, ◌++◌, Option, Some, None, length, map, slice_get, slice_index}
+use Rattle.std.specs.Prelude.{◌≡◌, ◌≢◌, ◌⊎◌, ℕ, ◌+◌, ◌<◌, ◌≤◌, true, false, List, [], ◌∷◌, ◌++◌, Option, Some, None}
+use Rattle.std.specs.Prelude.{length, map, slice_get, slice_index}
 use Rattle.m2_base.specs.Finished.{WhereFinished}
 use Rattle.m2_base.specs.Keys.{Member, field_before, one_thread_field, row_key}
 use Rattle.m2_base.specs.Lists.{IsPrefixOf, IsIn, Each, WhereKept, HasNoRepeats}
 use Rattle.m2_base.specs.Rows.{Row, Place, at_place, IsWellFormed}
-use Rattle.m2_base.specs.States.{State, Look, IsLater, Keeps, mark_of, texts_of, fills_of, areas_of, others_of, tables_of}
+use Rattle.m2_base.specs.States.{State, Look, IsLater, Keeps, mark_of, texts_of, fills_of, areas_of, others_of}
+use Rattle.m2_base.specs.States.{tables_of}
 use Rattle.m2_base.specs.Tables.{Lacks, Settles, lookup, one_thread, one_thread_row, reply_of_heads, rows_at}
 use Rattle.m2_base.specs.declared.replies.Ask.{Ask}
 use Rattle.m2_base.specs.declared.replies.Ask.TheVariants.{Known, DontKnowYet as Waiting}
@@ -32,8 +34,8 @@ EndsAt h (Found p r) = (p.scope ≡ h.scope) × (p.ordinal < h.count)
 EndsAt h Absent = ⊥
 EndsAt h (DontKnowYet k) = (k ≡ h) × (h.complete ≡ false)
 
--- The heads are those of the chain's first scopes, in order. All but the last are complete, and the reply comes from the
--- last; it is Absent where all scopes of the chain have been tried.
+-- The heads are those of the chain's first scopes, in order. All but the last are complete, and the reply comes from
+-- the last; it is Absent where all scopes of the chain have been tried.
 abbrev pub IsTaken : List ℕ → List Head → Reply → Type 0
 IsTaken [] heads reply = (heads ≡ []) × (reply ≡ Absent)
 IsTaken (s ∷ chain) [] reply = ⊥
@@ -63,8 +65,8 @@ pub record IsAbsent (new : State) (chain : List ℕ) (name : ℕ) : Type 0 where
   pub complete : Each (λ s. (new.seen s).complete ≡ true) chain
   pub own : IsIn (fills_of new) chain → (new.frame.closed ≡ true) × Lacks new.frame.entered name
 
--- A head at which a search or a fetch stopped: it is incomplete, and this call loaded it. Where the scope is the own one, it
--- tells what is entered.
+-- A head at which a search or a fetch stopped: it is incomplete, and this call loaded it. Where the scope is the own
+-- one, it tells what is entered.
 pub record StopsAt (old new : State) (h : Head) : Type 0 where
   pub incomplete : h.complete ≡ false
   pub loaded : IsLoaded old new h
@@ -80,9 +82,9 @@ Replied old new chain name (Found p r) = IsFound new chain name p r
 Replied old new chain name Absent = IsAbsent new chain name
 Replied old new chain name (DontKnowYet h) = IsUnknown old new chain name h
 
--- A search loads `heads`, each in this call, and its reply comes from the last; it sees nothing of other scopes. Where the unit
--- has finished rows, the reply is that of those which these heads show, and Found and Absent are those of all. Where nobody else
--- changes the tables, it is what one thread answers.
+-- A search loads `heads`, each in this call, and its reply comes from the last; it sees nothing of other scopes. Where
+-- the unit has finished rows, the reply is that of those which these heads show, and Found and Absent are those of
+-- all. Where nobody else changes the tables, it is what one thread answers.
 pub record Searched (old new : State) (at : ℕ) (chain : List ℕ) (name : ℕ) (reply : Reply) : Type 0 where
   pub heads : List Head
   pub taken : IsTaken chain heads reply
@@ -130,8 +132,8 @@ pub record Fetched (old new : State) (p : Place) (answer : Ask (Option Row)) : T
 
 -- ** Select
 
--- The first field of this name before the row of its record, which is the one at the place p: a row that is shown, and its
--- ordinal.
+-- The first field of this name before the row of its record, which is the one at the place p: a row that is shown, and
+-- its ordinal.
 pub record IsSelected (old new : State) (p : Place) (name : ℕ) (hit : ℕ × Row) : Type 0 where
   pub before : hit.0 < p.ordinal
   pub keyed : row_key hit.1 ≡ Some (Member p.ordinal name)
@@ -149,8 +151,8 @@ Selects old new p name (Known (Some hit)) = IsSelected old new p name hit
 Selects old new p name (Known None) = LacksField old new p name
 Selects old new p name (Waiting h) = IsNotYet old new p h
 
--- A selection loads the head of its scope alone, and waits where a fetch of the record's row would. Where nobody else changes
--- the tables, it gives what one thread answers.
+-- A selection loads the head of its scope alone, and waits where a fetch of the record's row would. Where nobody else
+-- changes the tables, it gives what one thread answers.
 pub record Selected (old new : State) (p : Place) (name : ℕ) (answer : Ask (Option (ℕ × Row))) : Type 0 where
   pub keeps : Keeps old new []
   pub elsewhere : (s : ℕ) → s ≢ p.scope → new.seen s ≡ old.seen s
@@ -159,17 +161,20 @@ pub record Selected (old new : State) (p : Place) (name : ℕ) (answer : Ask (Op
 
 -- ** Enter and complete
 
--- The scope isn't complete and has room; the rows are well formed at their places, their names are new and differ, and they are
--- the next finished rows, if the unit has such.
+-- The scope isn't complete and has room; the rows are well formed at their places, their names are new and differ, and
+-- they are the next finished rows, if the unit has such.
 pub record CanEnter (st : State) (rows : List Row) : Type 0 where
   pub open_yet : st.frame.closed ≡ false
   pub room : length st.frame.entered + length rows ≤ slice_index (areas_of st) (fills_of st)
-  pub formed : (k : ℕ) (r : Row) → slice_get rows k ≡ Some r → IsWellFormed (length (texts_of st).names) (at_place (fills_of st) (length st.frame.entered + k)) r
+  pub formed : (k : ℕ) (r : Row) → slice_get rows k ≡ Some r
+      → IsWellFormed (length (texts_of st).names) (at_place (fills_of st) (length st.frame.entered + k)) r
   pub once : HasNoRepeats (λ r. r.name) (st.frame.entered ++ rows)
-  pub next : WhereFinished (texts_of st) (λ tables. IsPrefixOf (st.frame.entered ++ rows) (rows_at tables (fills_of st)))
+  pub next : WhereFinished (texts_of st)
+      (λ tables. IsPrefixOf (st.frame.entered ++ rows) (rows_at tables (fills_of st)))
 
 pub record Entered (old new : State) (rows : List Row) : Type 0 where
-  pub frame : new.frame ≡ record { setting = old.frame.setting; entered = old.frame.entered ++ rows; closed = old.frame.closed }
+  pub frame : new.frame
+      ≡ record { setting = old.frame.setting; entered = old.frame.entered ++ rows; closed = old.frame.closed }
   pub looks : new.looks ≡ old.looks
   pub seen : (s : ℕ) → IsLater (old.seen s) (new.seen s)
   pub head : new.seen (fills_of old) ≡ record { count = length new.frame.entered; complete = false }

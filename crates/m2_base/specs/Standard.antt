@@ -1,6 +1,7 @@
 -- The standard names, and scope 0, whose rows they are.
 use Rattle.std.specs.Prelude.{ℕ, ◌+◌, Bool, ◌&&◌, nat_le, List, [], ◌∷◌, ◌++◌, map, pos, None}
-use Rattle.m2_base.specs.Rows.{Row, Place, at_place, row_of, RowMeaning, Const, TypeName, Standard, Broken, Integer, Cardinal, Character, Nil, Text, Whole, Enum, Subrange, Set, ProcType}
+use Rattle.m2_base.specs.Rows.{Row, Place, at_place, row_of, RowMeaning, Const, TypeName, Standard, Broken, Integer}
+use Rattle.m2_base.specs.Rows.{Cardinal, Character, Nil, Text, Whole, Enum, Subrange, Set, ProcType}
 
 -- the types of scope 0, by their places
 abbrev pub integer : Place
@@ -52,7 +53,8 @@ standard_place name = at_place 0 (name + 10)
 -- the names, in the order of their numbers, with what they mean
 abbrev pub standard_meanings : List RowMeaning
 standard_meanings =
-    TypeName integer ∷ TypeName cardinal ∷ TypeName character ∷ TypeName boolean ∷ TypeName bitset ∷ TypeName proc_type ∷
+    TypeName integer ∷ TypeName cardinal ∷ TypeName character ∷ TypeName boolean ∷ TypeName bitset ∷ TypeName proc_type
+    ∷
     Const boolean (pos 1) 0 ∷ Const boolean (pos 0) 0 ∷ Const nil_type (pos 0) 0 ∷
     Standard 10 ∷ Standard 11 ∷ Standard 12 ∷ Standard 13 ∷ Standard 14 ∷ Standard 15 ∷ Standard 16 ∷ Standard 17 ∷
     Standard 18 ∷ Standard 19 ∷ Standard 20 ∷ Standard 21 ∷ Standard 22 ∷ Standard 23 ∷ Standard 24 ∷ Standard 25 ∷

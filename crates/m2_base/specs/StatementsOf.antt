@@ -1,7 +1,11 @@
--- The trees of statements, by their derivations and the tokens behind them: an empty statement is at the token after it.
+-- The trees of statements, by their derivations and the tokens behind them:
+-- an empty statement is at the token after it.
 use Rattle.std.specs.Prelude.{ℕ, List, [], ◌∷◌, ◌++◌, Option, Some, None}
 use Rattle.m2_base.specs.declared.token.Token.{Token}
-use Rattle.m2_base.specs.Trees.{Expr, exprs, Designator, designator_at, labels, Statement, statement, assign_form, call_statement, if_form, loop_form, exit_form, case_form, while_form, repeat_form, for_form, with_form, return_form, empty_form, statements, IfArm, if_arm, if_arms, CaseArm, case_arm, case_arms, CaseElse, no_case_else, case_else}
+use Rattle.m2_base.specs.Trees.{Expr, exprs, Designator, designator_at, labels, Statement, statement, assign_form}
+use Rattle.m2_base.specs.Trees.{call_statement, if_form, loop_form, exit_form, case_form, while_form, repeat_form}
+use Rattle.m2_base.specs.Trees.{for_form, with_form, return_form, empty_form, statements, IfArm, if_arm, if_arms}
+use Rattle.m2_base.specs.Trees.{CaseArm, case_arm, case_arms, CaseElse, no_case_else, case_else}
 use Rattle.m2_base.specs.ExpressionsOf.{ident_of, designator_of, expr_of, optional_expr_of, labels_of, actuals_of}
 use Rattle.ll_grammar.specs.Derivations.{Tree, leaf, both, left, right, more, inner, tokens}
 
@@ -58,7 +62,8 @@ abbrev mutual
   statements_of _ w = []
 
   pub more_statements_of : Tree Token → List Token → List Statement
-  more_statements_of (more (both semicolon s) ss) w = optional_statement_of s (tokens ss ++ w) ∷ more_statements_of ss w
+  more_statements_of (more (both semicolon s) ss) w =
+      optional_statement_of s (tokens ss ++ w) ∷ more_statements_of ss w
   more_statements_of _ w = []
 
   pub optional_statement_of : Tree Token → List Token → Statement
@@ -84,7 +89,8 @@ abbrev mutual
 
   pub if_of : Tree Token → List Token → Statement
   if_of (both (leaf t) (both a (both arms (both other end)))) w =
-      statement t.at (if_form (if_arms (if_arm_of a (tokens (both arms (both other end)) ++ w) ∷ elsifs_of arms (tokens (both other end) ++ w)))
+      statement t.at (if_form (if_arms (if_arm_of a (tokens (both arms (both other end)) ++ w)
+      ∷ elsifs_of arms (tokens (both other end) ++ w)))
       (statements (other_statements (otherwise_of other (tokens end ++ w)))))
   if_of _ w = no_statement
 
@@ -106,7 +112,8 @@ abbrev mutual
 
   pub case_of : Tree Token → List Token → Statement
   case_of (both (leaf t) (both e (both of (both arms (both other end))))) w =
-      statement t.at (case_form (expr_of e) (case_arms (arms_of arms (tokens (both other end) ++ w))) (case_else_with (otherwise_of other (tokens end ++ w))))
+      statement t.at (case_form (expr_of e) (case_arms (arms_of arms (tokens (both other end) ++ w)))
+      (case_else_with (otherwise_of other (tokens end ++ w))))
   case_of _ w = no_statement
 
   pub arms_of : Tree Token → List Token → List CaseArm
@@ -123,22 +130,28 @@ abbrev mutual
   arm_of _ w = []
 
   pub while_of : Tree Token → List Token → Statement
-  while_of (both (leaf t) (both e (both doing (both ss end)))) w = statement t.at (while_form (expr_of e) (statements (statements_of ss (tokens end ++ w))))
+  while_of (both (leaf t) (both e (both doing (both ss end)))) w =
+      statement t.at (while_form (expr_of e) (statements (statements_of ss (tokens end ++ w))))
   while_of _ w = no_statement
 
   pub repeat_of : Tree Token → List Token → Statement
-  repeat_of (both (leaf t) (both ss (both until e))) w = statement t.at (repeat_form (statements (statements_of ss (tokens (both until e) ++ w))) (expr_of e))
+  repeat_of (both (leaf t) (both ss (both until e))) w =
+      statement t.at (repeat_form (statements (statements_of ss (tokens (both until e) ++ w))) (expr_of e))
   repeat_of _ w = no_statement
 
   pub loop_of : Tree Token → List Token → Statement
-  loop_of (both (leaf t) (both ss end)) w = statement t.at (loop_form (statements (statements_of ss (tokens end ++ w))))
+  loop_of (both (leaf t) (both ss end)) w =
+      statement t.at (loop_form (statements (statements_of ss (tokens end ++ w))))
   loop_of _ w = no_statement
 
   pub for_of : Tree Token → List Token → Statement
-  for_of (both (leaf t) (both i (both becomes (both low (both to (both high (both by (both doing (both ss end))))))))) w =
-      statement t.at (for_form (ident_of i) (expr_of low) (expr_of high) (step_of by) (statements (statements_of ss (tokens end ++ w))))
+  for_of (both (leaf t) (both i (both becomes (both low (both to (both high (both by (both doing (both ss end)))))))))
+      w =
+      statement t.at (for_form (ident_of i) (expr_of low) (expr_of high) (step_of by)
+      (statements (statements_of ss (tokens end ++ w))))
   for_of _ w = no_statement
 
   pub with_of : Tree Token → List Token → Statement
-  with_of (both (leaf t) (both d (both doing (both ss end)))) w = statement t.at (with_form (designator_of d) (statements (statements_of ss (tokens end ++ w))))
+  with_of (both (leaf t) (both d (both doing (both ss end)))) w =
+      statement t.at (with_form (designator_of d) (statements (statements_of ss (tokens end ++ w))))
   with_of _ w = no_statement

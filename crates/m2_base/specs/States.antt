@@ -26,8 +26,9 @@ pub record Look : Type 0 where
   pub heads : List Head
   pub reply : Reply
 
--- What no call changes: the texts of the unit, the scope that the value may fill, for each scope how many rows it has room
--- for, and, where nobody else changes the tables, all tables but that of the own scope, which stands empty in them.
+-- What no call changes: the texts of the unit, the scope that the value may fill, for each scope how many rows it has
+-- room for, and, where nobody else changes the tables, all tables but that of the own scope,
+-- which stands empty in them.
 pub record Setting : Type 0 where
   pub texts : UnitTexts
   pub fills : ℕ
@@ -40,8 +41,8 @@ pub record Frame : Type 0 where
   pub entered : List Row
   pub closed : Bool
 
--- The whole: `seen` has for each scope the latest head that this value loaded, stored or was told of, and `looks` has its
--- searches, where they are kept.
+-- The whole: `seen` has for each scope the latest head that this value loaded, stored or was told of, and `looks` has
+-- its searches, where they are kept.
 pub record State : Type 0 where
   pub frame : Frame
   pub seen : ℕ → Mark
@@ -63,7 +64,8 @@ others_of st = st.frame.setting.others
 abbrev pub tables_of : State → List Table → List Table
 tables_of st others = slice_set others (fills_of st) (record { rows = st.frame.entered; complete = st.frame.closed })
 
--- a head that can be loaded after another of the same scope: it has no fewer rows, and after a complete one it is that one
+-- a head that can be loaded after another of the same scope: it has no fewer rows,
+-- and after a complete one it is that one
 pub record IsLater (m n : Mark) : Type 0 where
   pub count : m.count ≤ n.count
   pub complete : m.complete ≡ true → n ≡ m
@@ -103,8 +105,8 @@ pub record Works (old new : State) (before after : Notes) : Type 0 where
   pub shown : Each (IsAmong looks) answers
   pub diags : IsPrefixOf before.diags.items after.diags.items
 
--- This call loaded this head of a scope with a smaller number: it was incomplete, and so was the head of its scope that was
--- seen before.
+-- This call loaded this head of a scope with a smaller number: it was incomplete, and so was the head of its scope
+-- that was seen before.
 pub record Waits (old new : State) (h : Head) : Type 0 where
   pub smaller : h.scope < fills_of old
   pub incomplete : h.complete ≡ false

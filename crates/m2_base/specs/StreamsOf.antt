@@ -1,7 +1,8 @@
 -- The trees of declarations and of streams, by their derivations.
 use Rattle.std.specs.Prelude.{Bool, false, List, [], ◌∷◌, ◌++◌, Option, Some, None}
 use Rattle.m2_base.specs.declared.token.Token.{Token}
-use Rattle.m2_base.specs.Trees.{Ident, Qual, StreamKind, Main, Definition, Procedure, TypeExpr, Statement, statements, Section, Heading, Import, Decl, const_decl, type_decl, vars_decl, proc_decl, Stream}
+use Rattle.m2_base.specs.Trees.{Ident, Qual, StreamKind, Main, Definition, Procedure, TypeExpr, Statement, statements}
+use Rattle.m2_base.specs.Trees.{Section, Heading, Import, Decl, const_decl, type_decl, vars_decl, proc_decl, Stream}
 use Rattle.m2_base.specs.ExpressionsOf.{no_ident, ident_of, idents_of, qual_of, no_expr, expr_of}
 use Rattle.m2_base.specs.TypesOf.{is_there, result_of, no_type, type_of}
 use Rattle.m2_base.specs.StatementsOf.{statements_of}
@@ -101,7 +102,8 @@ pub record Block : Type 0 where
   pub close : Ident
 
 abbrev pub block_of : Tree Token → List Token → Block
-block_of (both ds (both b (both end i))) w = record { decls = declarations_of ds; body = body_of b (tokens (both end i) ++ w); close = ident_of i }
+block_of (both ds (both b (both end i))) w =
+    record { decls = declarations_of ds; body = body_of b (tokens (both end i) ++ w); close = ident_of i }
 block_of _ w = record { decls = []; body = []; close = no_ident }
 
 -- in a definition a procedure has no stream
@@ -174,7 +176,8 @@ main_of (both implementation (both module_word (both i (both semicolon (both is 
 main_of _ w = no_stream
 
 abbrev pub definition_of : Tree Token → List Token → Stream
-definition_of (both definition (both module_word (both i (both semicolon (both is (both export (both ds (both end (both close (both period stop)))))))))) w =
+definition_of (both definition (both module_word
+    (both i (both semicolon (both is (both export (both ds (both end (both close (both period stop)))))))))) w =
     definition_tree (ident_of i) (imports_of is) (definition_declarations_of ds) (ident_of close)
 definition_of _ w = no_stream
 

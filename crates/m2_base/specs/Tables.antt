@@ -1,5 +1,6 @@
 -- Tables, and what one thread answers over them.
-use Rattle.std.specs.Prelude.{◌≡◌, ℕ, ◌+◌, ◌==◌, Bool, false, List, [], ◌∷◌, Option, Some, None, length, take, slice_get, slice_index_or, if◌then◌else◌}
+use Rattle.std.specs.Prelude.{◌≡◌, ℕ, ◌+◌, ◌==◌, Bool, false, List, [], ◌∷◌, Option, Some, None, length, take}
+use Rattle.std.specs.Prelude.{slice_get, slice_index_or, if◌then◌else◌}
 use Rattle.m2_base.specs.Rows.{Row, Place, at_place}
 use Rattle.m2_base.specs.declared.replies.Ask.{Ask}
 use Rattle.m2_base.specs.declared.replies.Ask.TheVariants.{Known, DontKnowYet as Waiting}
@@ -51,7 +52,8 @@ reply_or h None rest = if h.complete then rest else DontKnowYet h
 abbrev pub one_thread : List Table → (chain : List ℕ) → (name : ℕ) → Reply
 one_thread tables [] name = Absent
 one_thread tables (s ∷ chain) name =
-    reply_or (head_of s (table_at tables s)) (first_named name (table_at tables s).rows 0) (one_thread tables chain name)
+    reply_or (head_of s (table_at tables s)) (first_named name (table_at tables s).rows 0)
+    (one_thread tables chain name)
 
 -- the row that stands at a place of a scope, or why there is none
 abbrev pub fetched_or : ℕ → Table → Option Row → Ask (Option Row)
@@ -60,7 +62,8 @@ fetched_or s t None = if t.complete then Known None else Waiting (head_of s t)
 
 -- what one thread answers of a place
 abbrev pub one_thread_row : List Table → Place → Ask (Option Row)
-one_thread_row tables p = fetched_or p.scope (table_at tables p.scope) (slice_get (table_at tables p.scope).rows p.ordinal)
+one_thread_row tables p =
+    fetched_or p.scope (table_at tables p.scope) (slice_get (table_at tables p.scope).rows p.ordinal)
 
 -- what the finished rows answer of which these heads tell how many are shown
 abbrev pub reply_of_heads : List (List Row) → List Head → (name : ℕ) → Reply

@@ -2,7 +2,8 @@
 use Rattle.std.specs.Prelude.{◌≡◌, ℕ, ◌+◌, List, [], ◌∷◌, ◌++◌, if◌then◌else◌, Some}
 use Rattle.std.specs.List.{AllZip}
 use Rattle.m2_base.specs.Lexemes.{AreLexemes}
-use Rattle.m2_base.specs.Meanings.{Meaning, blank, name, number, character, string, fixed, bad, meaning_of, is_blank_lexeme}
+use Rattle.m2_base.specs.Meanings.{Meaning, blank, name, number, character, string, fixed, bad, meaning_of}
+use Rattle.m2_base.specs.Meanings.{is_blank_lexeme}
 use Rattle.m2_base.specs.Names.{number_in, with_names}
 use Rattle.m2_base.specs.Positions.{Position, first_position, after_bytes}
 use Rattle.m2_base.specs.declared.kind.TokenKind.{TokenKind}

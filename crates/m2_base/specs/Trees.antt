@@ -57,7 +57,8 @@ mutual
     no_labels : Labels
     more_labels : Label → Labels → Labels
 
--- Types. A record is its list of fields; of a variant part the tag, the tag's type, the arms and what stands after ELSE.
+-- Types. A record is its list of fields; of a variant part the tag, the tag's type,
+-- the arms and what stands after ELSE.
 mutual
   pub data TypeExpr : Type 0 where
     type_expr : (at : ℕ) → TypeForm → TypeExpr

@@ -1,7 +1,10 @@
 -- The trees of types, by their derivations.
 use Rattle.std.specs.Prelude.{ℕ, Bool, true, false, List, [], ◌∷◌, ◌++◌, Option, Some, None}
 use Rattle.m2_base.specs.declared.token.Token.{Token}
-use Rattle.m2_base.specs.Trees.{Ident, Qual, Formal, Expr, labels, TypeExpr, type_expr, TypeForm, named_type, enum_type, sub_type, array_type, record_type, set_type, pointer_type, proc_type, type_exprs, FieldList, plain_fields, case_fields, field_lists, VariantArm, variant_arm, variant_arms}
+use Rattle.m2_base.specs.Trees.{Ident, Qual, Formal, Expr, labels, TypeExpr, type_expr, TypeForm, named_type}
+use Rattle.m2_base.specs.Trees.{enum_type, sub_type, array_type, record_type, set_type, pointer_type, proc_type}
+use Rattle.m2_base.specs.Trees.{type_exprs, FieldList, plain_fields, case_fields, field_lists, VariantArm, variant_arm}
+use Rattle.m2_base.specs.Trees.{variant_arms}
 use Rattle.m2_base.specs.ExpressionsOf.{no_ident, ident_of, idents_of, qual_of, no_expr, expr_of, labels_of}
 use Rattle.ll_grammar.specs.Derivations.{Tree, leaf, both, left, right, more, inner}
 
@@ -60,7 +63,8 @@ simples_of (both s ss) = simple_of s ∷ more_simples_of ss
 simples_of _ = []
 
 abbrev pub formal_of : Tree Token → Formal
-formal_of (both by_ref (both is_open q)) = record { by_ref = is_there by_ref; is_open = is_there is_open; of = qual_of q }
+formal_of (both by_ref (both is_open q)) =
+    record { by_ref = is_there by_ref; is_open = is_there is_open; of = qual_of q }
 formal_of _ = record { by_ref = false; is_open = false; of = record { first = no_ident; second = None } }
 
 abbrev pub more_formals_of : Tree Token → List Formal

@@ -1,11 +1,13 @@
 -- The texts of a unit as plain data, and what every unit keeps.
-use Rattle.std.specs.Prelude.{◌≡◌, ◌≢◌, ◌⊎◌, ℕ, ◌+◌, ◌<◌, ◌≤◌, ◌^◌, Bool, true, false, List, [], ◌∷◌, Option, Some, None, length, map, slice_get, slice_index_or, sum_by, IsTrue}
+use Rattle.std.specs.Prelude.{◌≡◌, ◌≢◌, ◌⊎◌, ℕ, ◌+◌, ◌<◌, ◌≤◌, ◌^◌, Bool, true, false, List, [], ◌∷◌, Option, Some}
+use Rattle.std.specs.Prelude.{None, length, map, slice_get, slice_index_or, sum_by, IsTrue}
 use Rattle.m2_base.specs.Lexemes.{is_lexeme}
 use Rattle.m2_base.specs.Lists.{Each, IsIn, IsPrefixOf}
 use Rattle.m2_base.specs.Meanings.{greatest_character, greatest_number, name, meaning_of}
 use Rattle.m2_base.specs.Names.{standard_names}
 use Rattle.m2_base.specs.declared.kind.TokenKind.{TokenKind}
-use Rattle.m2_base.specs.declared.kind.TokenKind.TheVariants.{EndOfText, Identifier, Number, Character, «String», Bad, Cut, StreamEnd}
+use Rattle.m2_base.specs.declared.kind.TokenKind.TheVariants.{EndOfText, Identifier, Number, Character, «String», Bad}
+use Rattle.m2_base.specs.declared.kind.TokenKind.TheVariants.{Cut, StreamEnd}
 use Rattle.m2_base.specs.declared.token.Token.{Token}
 use Rattle.m2_base.specs.declared.limits.TheConstants.{MOST_TEXT_BYTES, MOST_TEXTS, MOST_TOKENS, MOST_UNIT_TOKENS}
 
@@ -110,7 +112,8 @@ pub record IsUnit (u : UnitTexts) : Type 0 where
   pub once : AllDiffer u.order
   pub own_text : IsOwn u.list u.own
 
--- ** Whole units, by what the fronts of the texts say. How a front is read is the grammar's to say: it is a parameter here.
+-- ** Whole units, by what the fronts of the texts say. How a front is read is the grammar's to say:
+-- it is a parameter here.
 
 -- What the front of a text says: the module's name, whether it is an implementation, and the modules that it imports.
 pub record Front : Type 0 where
@@ -133,12 +136,14 @@ abbrev pub IsOwnBy : UnitTexts → Front → Option ℕ → Type 0
 IsOwnBy u front (Some k) = (front.implementation ≡ true) × (name : ℕ) × (front.name ≡ Some name) × IsTextOf u name k
 IsOwnBy u front None = front.implementation ≡ true → front.name ≡ None
 
--- Nothing is left out of a unit, by what the fronts of its texts say: each module that a front names is there, no front
--- has a name other than its text's, the own definition is told where there is one, and each definition text comes after
--- those that it imports, so that none imports itself.
+-- Nothing is left out of a unit, by what the fronts of its texts say: each module that a front names is there, no
+-- front has a name other than its text's, the own definition is told where there is one, and each definition text
+-- comes after those that it imports, so that none imports itself.
 pub record IsWholeBy (front : TextOf → Front) (u : UnitTexts) : Type 0 where
-  pub imported : (n : ℕ) (t : TextOf) → slice_get u.list n ≡ Some t → Each (λ name. (k : ℕ) × IsTextOf u name k) (front t).imports
+  pub imported : (n : ℕ) (t : TextOf) → slice_get u.list n ≡ Some t
+      → Each (λ name. (k : ℕ) × IsTextOf u name k) (front t).imports
   pub named : Each (λ t. (name : ℕ) → (front t).name ≡ Some name → name ≡ t.name) u.list
   pub own : (main : TextOf) → slice_get u.list 0 ≡ Some main → IsOwnBy u (front main) u.own
   pub all : (k : ℕ) → IsDefinition u.list k → IsIn k u.order
-  pub after : (n k name : ℕ) (t : TextOf) → IsDefinition u.list n → slice_get u.list n ≡ Some t → IsIn name (front t).imports → IsTextOf u name k → StandsBefore u.order k n
+  pub after : (n k name : ℕ) (t : TextOf) → IsDefinition u.list n → slice_get u.list n ≡ Some t
+      → IsIn name (front t).imports → IsTextOf u name k → StandsBefore u.order k n

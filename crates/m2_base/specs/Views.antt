@@ -9,25 +9,39 @@ use Rattle.m2_base.specs.declared.trees.expressions.Next.{fold-Next}
 use Rattle.m2_base.specs.declared.trees.expressions.Designator.{fold-Designator}
 use Rattle.m2_base.specs.declared.trees.expressions.Selector.{fold-Selector}
 use Rattle.m2_base.specs.declared.trees.expressions.Label.{fold-Label}
-use Rattle.m2_base.specs.declared.trees.expressions.ExprForm.TheOpen.{ExprForm-F, Selector-F, Designator-F, Expr-F, Label-F, Next-F, Number, Char, Str, Set, Name, Call, One, Many, Field, Index, Deref}
+use Rattle.m2_base.specs.declared.trees.expressions.ExprForm.TheOpen.{ExprForm-F, Selector-F, Designator-F, Expr-F}
+use Rattle.m2_base.specs.declared.trees.expressions.ExprForm.TheOpen.{Label-F, Next-F, Number, Char, Str, Set, Name}
+use Rattle.m2_base.specs.declared.trees.expressions.ExprForm.TheOpen.{Call, One, Many, Field, Index, Deref}
 use Rattle.m2_base.specs.declared.trees.types as types
 use Rattle.m2_base.specs.declared.trees.types.TypeExpr.{fold-TypeExpr}
 use Rattle.m2_base.specs.declared.trees.types.TypeForm.{fold-TypeForm}
 use Rattle.m2_base.specs.declared.trees.types.FieldList.{fold-FieldList}
 use Rattle.m2_base.specs.declared.trees.types.VariantArm.{fold-VariantArm}
-use Rattle.m2_base.specs.declared.trees.types.FieldList.TheOpen.{FieldList-F, TypeForm-F, TypeExpr-F, VariantArm-F, Named, Enum, Sub, Array, Rec, Set as SetOf, Pointer, Proc as ProcType, Plain, Cases}
+use Rattle.m2_base.specs.declared.trees.types.FieldList.TheOpen.{FieldList-F, TypeForm-F, TypeExpr-F, VariantArm-F}
+use Rattle.m2_base.specs.declared.trees.types.FieldList.TheOpen.{Named, Enum, Sub, Array, Rec, Set as SetOf, Pointer}
+use Rattle.m2_base.specs.declared.trees.types.FieldList.TheOpen.{Proc as ProcType, Plain, Cases}
 use Rattle.m2_base.specs.declared.trees.statements as statements
 use Rattle.m2_base.specs.declared.trees.statements.Statement.{fold-Statement}
 use Rattle.m2_base.specs.declared.trees.statements.StmtForm.{fold-StmtForm}
 use Rattle.m2_base.specs.declared.trees.statements.IfArm.{fold-IfArm}
 use Rattle.m2_base.specs.declared.trees.statements.CaseArm.{fold-CaseArm}
-use Rattle.m2_base.specs.declared.trees.statements.StmtForm.TheOpen.{StmtForm-F, CaseArm-F, IfArm-F, Statement-F, Assign, Call as Invoke, If, Loop, Exit, Case, While, Repeat, For, With, Return, Empty}
+use Rattle.m2_base.specs.declared.trees.statements.StmtForm.TheOpen.{StmtForm-F, CaseArm-F, IfArm-F, Statement-F}
+use Rattle.m2_base.specs.declared.trees.statements.StmtForm.TheOpen.{Assign, Call as Invoke, If, Loop, Exit, Case}
+use Rattle.m2_base.specs.declared.trees.statements.StmtForm.TheOpen.{While, Repeat, For, With, Return, Empty}
 use Rattle.m2_base.specs.declared.trees.declarations as declarations
 use Rattle.m2_base.specs.declared.trees.declarations.Decl.TheVariants.{Const, Types, Vars, Proc}
 use Rattle.m2_base.specs.Trees as plain
-use Rattle.m2_base.specs.Trees.{Expr, expr, ExprForm, number_form, char_form, string_form, set_form, typed_set_form, name_form, call_form, one_form, many_form, exprs, Next, next, nexts, Designator, designator, Selector, field_selector, index_selector, deref_selector, selectors, Label, label_with, labels}
-use Rattle.m2_base.specs.Trees.{TypeExpr, type_expr, TypeForm, named_type, enum_type, sub_type, array_type, record_type, set_type, pointer_type, proc_type, type_exprs, FieldList, plain_fields, case_fields, field_lists, VariantArm, variant_arm, variant_arms}
-use Rattle.m2_base.specs.Trees.{Statement, statement, StmtForm, assign_form, call_statement, if_form, loop_form, exit_form, case_form, while_form, repeat_form, for_form, with_form, return_form, empty_form, IfArm, if_arm, if_arms, CaseArm, case_arm, case_arms, CaseElse, no_case_else, case_else}
+use Rattle.m2_base.specs.Trees.{Expr, expr, ExprForm, number_form, char_form, string_form, set_form, typed_set_form}
+use Rattle.m2_base.specs.Trees.{name_form, call_form, one_form, many_form, exprs, Next, next, nexts, Designator}
+use Rattle.m2_base.specs.Trees.{designator, Selector, field_selector, index_selector, deref_selector, selectors, Label}
+use Rattle.m2_base.specs.Trees.{label_with, labels}
+use Rattle.m2_base.specs.Trees.{TypeExpr, type_expr, TypeForm, named_type, enum_type, sub_type, array_type}
+use Rattle.m2_base.specs.Trees.{record_type, set_type, pointer_type, proc_type, type_exprs, FieldList, plain_fields}
+use Rattle.m2_base.specs.Trees.{case_fields, field_lists, VariantArm, variant_arm, variant_arms}
+use Rattle.m2_base.specs.Trees.{Statement, statement, StmtForm, assign_form, call_statement, if_form, loop_form}
+use Rattle.m2_base.specs.Trees.{exit_form, case_form, while_form, repeat_form, for_form, with_form, return_form}
+use Rattle.m2_base.specs.Trees.{empty_form, IfArm, if_arm, if_arms, CaseArm, case_arm, case_arms, CaseElse}
+use Rattle.m2_base.specs.Trees.{no_case_else, case_else}
 use Rattle.m2_base.specs.Trees.{Decl, const_decl, type_decl, vars_decl, proc_decl}
 
 -- Expressions.
@@ -65,22 +79,28 @@ abbrev pub next_step : Next-F ExprForm Selector Designator Expr Label Next → N
 next_step n = next n.op n.op_at n.right
 
 unfoldable pub form_view : expressions.ExprForm.ExprForm → ExprForm
-form_view = fold-ExprForm ExprForm Selector Designator Expr Label Next form_step selector_step designator_step expr_step label_step next_step
+form_view = fold-ExprForm ExprForm Selector Designator Expr Label Next form_step selector_step designator_step
+    expr_step label_step next_step
 
 unfoldable pub selector_view : expressions.Selector.Selector → Selector
-selector_view = fold-Selector ExprForm Selector Designator Expr Label Next form_step selector_step designator_step expr_step label_step next_step
+selector_view = fold-Selector ExprForm Selector Designator Expr Label Next form_step selector_step designator_step
+    expr_step label_step next_step
 
 unfoldable pub designator_view : expressions.Designator.Designator → Designator
-designator_view = fold-Designator ExprForm Selector Designator Expr Label Next form_step selector_step designator_step expr_step label_step next_step
+designator_view = fold-Designator ExprForm Selector Designator Expr Label Next form_step selector_step designator_step
+    expr_step label_step next_step
 
 unfoldable pub expr_view : expressions.Expr.Expr → Expr
-expr_view = fold-Expr ExprForm Selector Designator Expr Label Next form_step selector_step designator_step expr_step label_step next_step
+expr_view = fold-Expr ExprForm Selector Designator Expr Label Next form_step selector_step designator_step expr_step
+    label_step next_step
 
 unfoldable pub label_view : expressions.Label.Label → Label
-label_view = fold-Label ExprForm Selector Designator Expr Label Next form_step selector_step designator_step expr_step label_step next_step
+label_view = fold-Label ExprForm Selector Designator Expr Label Next form_step selector_step designator_step expr_step
+    label_step next_step
 
 unfoldable pub next_view : expressions.Next.Next → Next
-next_view = fold-Next ExprForm Selector Designator Expr Label Next form_step selector_step designator_step expr_step label_step next_step
+next_view = fold-Next ExprForm Selector Designator Expr Label Next form_step selector_step designator_step expr_step
+    label_step next_step
 
 -- Types.
 
@@ -105,16 +125,20 @@ abbrev pub variant_arm_step : VariantArm-F FieldList TypeForm TypeExpr VariantAr
 variant_arm_step a = variant_arm (labels (map label_view a.labels.items)) (field_lists a.fields.items)
 
 unfoldable pub field_list_view : types.FieldList.FieldList → FieldList
-field_list_view = fold-FieldList FieldList TypeForm TypeExpr VariantArm field_list_step type_form_step type_step variant_arm_step
+field_list_view =
+    fold-FieldList FieldList TypeForm TypeExpr VariantArm field_list_step type_form_step type_step variant_arm_step
 
 unfoldable pub type_form_view : types.TypeForm.TypeForm → TypeForm
-type_form_view = fold-TypeForm FieldList TypeForm TypeExpr VariantArm field_list_step type_form_step type_step variant_arm_step
+type_form_view =
+    fold-TypeForm FieldList TypeForm TypeExpr VariantArm field_list_step type_form_step type_step variant_arm_step
 
 unfoldable pub type_view : types.TypeExpr.TypeExpr → TypeExpr
-type_view = fold-TypeExpr FieldList TypeForm TypeExpr VariantArm field_list_step type_form_step type_step variant_arm_step
+type_view =
+    fold-TypeExpr FieldList TypeForm TypeExpr VariantArm field_list_step type_form_step type_step variant_arm_step
 
 unfoldable pub variant_arm_view : types.VariantArm.VariantArm → VariantArm
-variant_arm_view = fold-VariantArm FieldList TypeForm TypeExpr VariantArm field_list_step type_form_step type_step variant_arm_step
+variant_arm_view =
+    fold-VariantArm FieldList TypeForm TypeExpr VariantArm field_list_step type_form_step type_step variant_arm_step
 
 -- Statements.
 
@@ -132,7 +156,8 @@ stmt_form_step Exit = exit_form
 stmt_form_step (Case value arms other) = case_form (expr_view value) (case_arms arms.items) (case_else_of other)
 stmt_form_step (While test body) = while_form (expr_view test) (plain.statements body.items)
 stmt_form_step (Repeat body test) = repeat_form (plain.statements body.items) (expr_view test)
-stmt_form_step (For name first last by body) = for_form name (expr_view first) (expr_view last) (option_map expr_view by) (plain.statements body.items)
+stmt_form_step (For name first last by body) =
+    for_form name (expr_view first) (expr_view last) (option_map expr_view by) (plain.statements body.items)
 stmt_form_step (With of body) = with_form (designator_view of) (plain.statements body.items)
 stmt_form_step (Return value) = return_form (option_map expr_view value)
 stmt_form_step Empty = empty_form
@@ -156,7 +181,8 @@ unfoldable pub if_arm_view : statements.IfArm.IfArm → IfArm
 if_arm_view = fold-IfArm StmtForm CaseArm IfArm Statement stmt_form_step case_arm_step if_arm_step statement_step
 
 unfoldable pub statement_view : statements.Statement.Statement → Statement
-statement_view = fold-Statement StmtForm CaseArm IfArm Statement stmt_form_step case_arm_step if_arm_step statement_step
+statement_view =
+    fold-Statement StmtForm CaseArm IfArm Statement stmt_form_step case_arm_step if_arm_step statement_step
 
 -- the ELSE of a CASE, seen
 abbrev pub case_else_seen : Option (Vec statements.Statement.Statement Global) → CaseElse

@@ -1,13 +1,14 @@
--- What a whole text means: the trees of its blocks, or its first fault. The text is read as it stands, with each procedure
--- where it is declared. The module's block comes first and the procedures' follow in the order of their PROCEDURE tokens,
--- each with the next number; a procedure's declaration names the number of its block.
+-- What a whole text means: the trees of its blocks, or its first fault. The text is read as it stands, with each
+-- procedure where it is declared. The module's block comes first and the procedures' follow in the order of their
+-- PROCEDURE tokens, each with the next number; a procedure's declaration names the number of its block.
 use Rattle.std.specs.Prelude.{ℕ, suc, List, [], ◌∷◌, ◌++◌}
 use Rattle.m2_base.specs.declared.outputs.StreamFault.{StreamFault}
 use Rattle.m2_base.specs.declared.token.Token.{Token}
 use Rattle.m2_base.specs.ExpressionsOf.{no_ident, ident_of}
 use Rattle.m2_base.specs.FaultsOf.{fault_in}
 use Rattle.m2_base.specs.Grammar.{grammar, main, definition, levels}
-use Rattle.m2_base.specs.StreamsOf.{Block, heading_of, procedure_of, declaration_of, body_of, imports_of, main_tree, procedure_tree, no_stream, definition_of}
+use Rattle.m2_base.specs.StreamsOf.{Block, heading_of, procedure_of, declaration_of, body_of, imports_of, main_tree}
+use Rattle.m2_base.specs.StreamsOf.{procedure_tree, no_stream, definition_of}
 use Rattle.m2_base.specs.Trees.{Decl, proc_decl, Stream}
 use Rattle.m2_base.specs.TypesOf.{is_there}
 use Rattle.ll_grammar.specs.Derivations.{Tree, nothing, leaf, both, left, right, last, more, inner, part, tokens}
@@ -61,15 +62,18 @@ procedures_from c (part d) = []
 
 -- the trees of a main text's blocks, of which the module's has the number m
 abbrev pub main_blocks : ℕ → Tree Token → List Token → List Stream
-main_blocks m (both implementation (both module_word (both i (both semicolon (both is (both b (both period end))))))) w =
-    main_tree (is_there implementation) (ident_of i) (imports_of is) (block_from (suc m) b (tokens (both period end) ++ w)) ∷ procedures_from (suc m) b
+main_blocks m (both implementation (both module_word (both i (both semicolon (both is (both b (both period end)))))))
+    w =
+    main_tree (is_there implementation) (ident_of i) (imports_of is)
+    (block_from (suc m) b (tokens (both period end) ++ w)) ∷ procedures_from (suc m) b
 main_blocks m _ w = no_stream ∷ []
 
 -- a definition text has one block
 abbrev pub definition_blocks : Tree Token → List Token → List Stream
 definition_blocks d w = definition_of d w ∷ []
 
--- The tokens are those of a main text, no token is nested too deep, and these are its blocks' trees; and so of a definition.
+-- The tokens are those of a main text, no token is nested too deep, and these are its blocks' trees;
+-- and so of a definition.
 abbrev pub SpellsMain : ℕ → List Stream → List Token → Type 0
 SpellsMain m trees ts = texts.Spells grammar levels (main sub) (main_blocks m) trees ts
 

@@ -80,7 +80,8 @@ impl BroughtNames {
 /// With the first entry of each of these names that isn't there.
 fn index_all(index: &mut IndexMap<u32, Named>, brought: &[Named])
     requires room { length brought.now ≤ spare index.old }
-    ensures { (name : ℕ) → get nat_eq index.new name ≡ entry_or (get nat_eq index.old name) (entry_named brought.now name) }
+    ensures { (name : ℕ)
+        → get nat_eq index.new name ≡ entry_or (get nat_eq index.old name) (entry_named brought.now name) }
 {
     for named in brought {
         index_one(index, *named);
@@ -90,7 +91,8 @@ fn index_all(index: &mut IndexMap<u32, Named>, brought: &[Named])
 /// With one more name, if it isn't there.
 fn index_one(index: &mut IndexMap<u32, Named>, named: Named)
     requires room { 0 < spare index.old }
-    ensures first { (name : ℕ) → get nat_eq index.new name ≡ entry_or (get nat_eq index.old name) (entry_named (named ∷ []) name) }
+    ensures first { (name : ℕ)
+        → get nat_eq index.new name ≡ entry_or (get nat_eq index.old name) (entry_named (named ∷ []) name) }
     ensures room { spare index.old ≤ spare index.new + 1 }
 {
     if index.get(&named.name).is_none() {

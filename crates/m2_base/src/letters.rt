@@ -1,6 +1,9 @@
 //! The classes of bytes.
 ghost use Rattle.std.specs.Prelude.{◌≡◌};
-ghost use Rattle.m2_base.specs.Letters.{is_digit as spec_digit, is_octal_digit as spec_octal_digit, is_hexadecimal_digit as spec_hexadecimal_digit, is_letter as spec_letter, goes_on as spec_goes_on, is_blank as spec_blank, is_quote as spec_quote, stays_in as spec_stays_in};
+ghost use Rattle.m2_base.specs.Letters.{is_digit as spec_digit, is_octal_digit as spec_octal_digit};
+ghost use Rattle.m2_base.specs.Letters.{is_hexadecimal_digit as spec_hexadecimal_digit, is_letter as spec_letter};
+ghost use Rattle.m2_base.specs.Letters.{goes_on as spec_goes_on, is_blank as spec_blank, is_quote as spec_quote};
+ghost use Rattle.m2_base.specs.Letters.{stays_in as spec_stays_in};
 
 pub fn is_digit(byte: u8) -> bool
     ensures { result ≡ spec_digit byte }

@@ -1,5 +1,6 @@
 //! Names as numbers.
-ghost use Rattle.std.specs.Prelude.{◌≡◌, ◌+◌, ◌-◌, ◌^◌, ◌<◌, ◌≤◌, List, [], ℕ, length, map, slice_get, Some, IsSome, IsOk, IfOk, OnOk, OnErr};
+ghost use Rattle.std.specs.Prelude.{◌≡◌, ◌+◌, ◌-◌, ◌^◌, ◌<◌, ◌≤◌, List, [], ℕ, length, map, slice_get, Some, IsSome};
+ghost use Rattle.std.specs.Prelude.{IsOk, IfOk, OnOk, OnErr};
 ghost use Rattle.std.specs.Hash.DefaultHasher.{initial, write};
 ghost use Rattle.sha2.specs.Sha512.{sha512};
 ghost use Rattle.m2_base.specs.Names.{with_name, with_names, number_in, standard_names};
@@ -136,8 +137,8 @@ impl Names {
         Ok(number as u32)
     }
 
-    /// Makes ready for the names of a text: its names can't be chosen so that finding their numbers grows slow. It reads
-    /// the text and the names so far, so call it once for each text. The names stay, also where memory runs out.
+    /// Makes ready for the names of a text: its names can't be chosen so that finding their numbers grows slow. It
+    /// reads the text and the names so far, so call it once for each text. The names stay, also where memory runs out.
     pub fn prepare(&mut self, alloc: Global, text: &[u8]) -> Result<(), Memory>
         ensures { self.new ≡ self.old }
     {

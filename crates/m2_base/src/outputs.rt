@@ -1,7 +1,8 @@
 //! What the work on one stream leaves.
 use crate::notes::{Answer, Diag};
 
-/// The heading of a procedure, for those who call it: its name, its procedure's number, and the cells of its parameters and of its result.
+/// The heading of a procedure, for those who call it: its name, its procedure's number,
+/// and the cells of its parameters and of its result.
 #[derive(Clone, Copy, Debug, PartialEq, Eq)]
 pub struct HeadingNote {
     pub name: u32,

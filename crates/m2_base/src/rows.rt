@@ -1,7 +1,10 @@
-//! Rows: what a scope has an entry of. Code and definitions speak of a row's meaning; its numbers are read and written here alone.
+//! Rows: what a scope has an entry of. Code and definitions speak of a row's meaning;
+//! its numbers are read and written here alone.
 ghost use Rattle.std.specs.Prelude.{◌≡◌, ℕ, pos};
 ghost use Rattle.m2_base.specs.Keys.{row_key as spec_key, is_keyed};
-ghost use Rattle.m2_base.specs.Rows.{place_of, natural, row_meaning, mode_of, mode_number, result_of, result_number, basic_of, number_of, numbers_of, numbers_row, row_of, HasSmallNumbers, HasSmallOrdinals, HasSmallScopes, IsSmall, IsSmallScope, ResultHasSmallScope};
+ghost use Rattle.m2_base.specs.Rows.{place_of, natural, row_meaning, mode_of, mode_number, result_of, result_number};
+ghost use Rattle.m2_base.specs.Rows.{basic_of, number_of, numbers_of, numbers_row, row_of, HasSmallNumbers};
+ghost use Rattle.m2_base.specs.Rows.{HasSmallOrdinals, HasSmallScopes, IsSmall, IsSmallScope, ResultHasSmallScope};
 ghost use Rattle.m2_base.specs.declared.rows.RowMeaning.{RowMeaning as Meant};
 
 /// A row of a scope's table. Name 0 is no name, and is never found.
@@ -251,7 +254,8 @@ pub fn has_key(row: &Row, key: RowKey) -> bool
 
 /// What was written as a row is what it says.
 pub fn rows_say_what_was_written()
-    ensures { (name at : ℕ) (meaning : Meant) → HasSmallOrdinals meaning → row_meaning (row_of name at meaning) ≡ meaning }
+    ensures { (name at : ℕ) (meaning : Meant) → HasSmallOrdinals meaning
+        → row_meaning (row_of name at meaning) ≡ meaning }
 {}
 
 /// The row with these numbers.

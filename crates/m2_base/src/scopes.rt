@@ -1,6 +1,7 @@
 //! The tables of all scopes as whoever fills one of them sees them, while others may fill the rest.
 ghost use Rattle.m2_base.specs.States.{State};
-ghost use Rattle.m2_base.specs.Scopes.{CanSearch, Searched, CanFetch, Fetched, Selected, CanEnter, Entered, CanComplete, Completed};
+ghost use Rattle.m2_base.specs.Scopes.{CanSearch, Searched, CanFetch, Fetched, Selected, CanEnter, Entered};
+ghost use Rattle.m2_base.specs.Scopes.{CanComplete, Completed};
 
 use crate::replies::{Ask, Reply};
 use crate::rows::{Place, Row};

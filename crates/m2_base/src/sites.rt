@@ -38,8 +38,8 @@ pub struct Named {
     pub item: u32,
 }
 
-/// The layout of a block: each name that its syntax declares, the first ordinal of each item with the number of all rows
-/// last, and the names that its imports have brought so far.
+/// The layout of a block: each name that its syntax declares, the first ordinal of each item with the number of all
+/// rows last, and the names that its imports have brought so far.
 #[derive(Drop)]
 pub struct Layout {
     names: Vec<Named>,
@@ -56,7 +56,8 @@ impl Model for Layout {
 
     ghost view = { λ l. record { names = l.names.items; firsts = l.firsts.items; brought = l.brought } };
 
-    ghost invariant = { λ l. IsIndexed l.index l.names.items × HasSmallNumbers l.names.items l.firsts.items l.brought };
+    ghost invariant = { λ l.
+        IsIndexed l.index l.names.items × HasSmallNumbers l.names.items l.firsts.items l.brought };
 }
 
 impl Layout {
@@ -135,7 +136,8 @@ impl Layout {
         Some(first + self.brought.before(item))
     }
 
-    /// With the names that an item has brought. Items come in their order. After want of memory the layout is as before.
+    /// With the names that an item has brought. Items come in their order.
+    /// After want of memory the layout is as before.
     pub fn extend(&mut self, item: u32, brought: &[Named]) -> Result<(), Memory>
         requires item { Each (λ b. b.item ≡ item) brought.now }
         requires order { Each (λ b. b.item ≤ item) self.old.brought }

@@ -42,7 +42,8 @@ impl Model for Texts {
 
     ghost view = { λ t. record { names = t.names; list = t.list.items; order = t.order.items; own = t.own } };
 
-    ghost invariant = { λ t. IsUnit (record { names = t.names; list = t.list.items; order = t.order.items; own = t.own }) };
+    ghost invariant = { λ t.
+        IsUnit (record { names = t.names; list = t.list.items; order = t.order.items; own = t.own }) };
 }
 
 impl Texts {

@@ -1,5 +1,6 @@
 //! A shelf over a real folder. It tells nothing of its texts.
-ghost use Rattle.std.specs.Prelude.{◌≡◌, ◌≤◌, ◌↔◌, None, Option, IfOk, IfSome, IsTrue, IsErr, IsErrOf, vec_len, string_bytes};
+ghost use Rattle.std.specs.Prelude.{◌≡◌, ◌≤◌, ◌↔◌, None, Option, IfOk, IfSome, IsTrue, IsErr, IsErrOf, vec_len};
+ghost use Rattle.std.specs.Prelude.{string_bytes};
 ghost use Rattle.std.specs.Path.{path_buf_bytes, path_join};
 ghost use Rattle.m2_io.specs.Causes.{RoseWhere};
 ghost use Rattle.m2_io.specs.PlainName.{IsPlainName};

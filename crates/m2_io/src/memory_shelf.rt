@@ -1,5 +1,6 @@
 //! A shelf in memory.
-ghost use Rattle.std.specs.Prelude.{◌≡◌, ◌≤◌, ◌↔◌, Some, Option, option_map, IfOk, OnOk, OnErr, IsOk, IsErrOf, IsOkUnless, IfSome, take, vec_len};
+ghost use Rattle.std.specs.Prelude.{◌≡◌, ◌≤◌, ◌↔◌, Some, Option, option_map, IfOk, OnOk, OnErr, IsOk, IsErrOf};
+ghost use Rattle.std.specs.Prelude.{IsOkUnless, IfSome, take, vec_len};
 ghost use Rattle.std.specs.FinMap.{get, insert};
 ghost use Rattle.m2_io.specs.Calls.{calls_that_fail_at, NextFails, after_call};
 ghost use Rattle.m2_io.specs.Causes.{RoseWhere};

@@ -1,5 +1,6 @@
 //! A sink in memory.
-ghost use Rattle.std.specs.Prelude.{◌≡◌, ◌≤◌, ◌++◌, ◌⊎◌, ◌↔◌, ◌≢◌, ◌-◌, [], Some, IfOk, IsErr, IsOk, OnErr, vec_capacity, length, take, min};
+ghost use Rattle.std.specs.Prelude.{◌≡◌, ◌≤◌, ◌++◌, ◌⊎◌, ◌↔◌, ◌≢◌, ◌-◌, [], Some, IfOk, IsErr, IsOk, OnErr};
+ghost use Rattle.std.specs.Prelude.{vec_capacity, length, take, min};
 ghost use Rattle.m2_io.specs.Calls.{calls_that_fail_at, NextFails, after_call};
 ghost use Rattle.m2_io.specs.Causes.{RoseWhere};
 

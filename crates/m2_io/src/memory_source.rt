@@ -1,5 +1,6 @@
 //! A source in memory.
-ghost use Rattle.std.specs.Prelude.{◌≡◌, ◌≤◌, ◌<◌, ◌↔◌, ◌++◌, Some, IfOk, IsErr, OnErr, vec_len, length, take, drop, min};
+ghost use Rattle.std.specs.Prelude.{◌≡◌, ◌≤◌, ◌<◌, ◌↔◌, ◌++◌, Some, IfOk, IsErr, OnErr, vec_len, length, take, drop};
+ghost use Rattle.std.specs.Prelude.{min};
 ghost use Rattle.m2_io.specs.Calls.{calls_that_fail_at, NextFails, after_call};
 ghost use Rattle.m2_io.specs.Causes.{RoseWhere};
 

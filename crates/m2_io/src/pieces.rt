@@ -1,5 +1,6 @@
 //! A sink that hands on in pieces what is written.
-ghost use Rattle.std.specs.Prelude.{◌≡◌, ◌≤◌, ◌<◌, ◌+◌, ◌++◌, [], IfErr, IfOk, OnErr, OnOk, drop, length, take, vec_capacity, vec_len};
+ghost use Rattle.std.specs.Prelude.{◌≡◌, ◌≤◌, ◌<◌, ◌+◌, ◌++◌, [], IfErr, IfOk, OnErr, OnOk, drop, length, take};
+ghost use Rattle.std.specs.Prelude.{vec_capacity, vec_len};
 ghost use Rattle.m2_io.specs.Causes.{Rose};
 ghost use Rattle.m2_io.specs.Written.{with_bytes};
 
@@ -53,7 +54,8 @@ impl<P: Sink + Drop> Pieces<P> {
 
     /// Hands on what this sink keeps back itself.
     fn hand_on(&mut self) -> Result<(), SinkError>
-        ensures written { with_bytes (P.written (sink_of self.new)) (kept_in self.new) ≡ with_bytes (P.written (sink_of self.old)) (kept_in self.old) }
+        ensures written { with_bytes (P.written (sink_of self.new)) (kept_in self.new)
+            ≡ with_bytes (P.written (sink_of self.old)) (kept_in self.old) }
         ensures kept { OnOk result (kept_in self.new ≡ []) }
         ensures failed { OnErr result (Rose (P.faults (sink_of self.old)) (P.faults (sink_of self.new))) }
         ensures later { P.faults (sink_of self.old) ≤ P.faults (sink_of self.new) }
@@ -78,7 +80,8 @@ impl<P: Sink + Drop> Sink for Pieces<P> {
     fn write(&mut self, bytes: &[u8]) -> Result<usize, SinkError>
         ensures bound { IfOk result (λ n. n ≤ length bytes.now) }
         ensures some { IfOk result (λ n. n ≡ 0 → bytes.now ≡ []) }
-        ensures ok { IfOk result (λ n. ⟦<Pieces<P> as Sink>⟧.written self.new ≡ with_bytes (⟦<Pieces<P> as Sink>⟧.written self.old) (take n bytes.now)) }
+        ensures ok { IfOk result (λ n. ⟦<Pieces<P> as Sink>⟧.written self.new
+            ≡ with_bytes (⟦<Pieces<P> as Sink>⟧.written self.old) (take n bytes.now)) }
         ensures err { OnErr result (⟦<Pieces<P> as Sink>⟧.written self.new ≡ ⟦<Pieces<P> as Sink>⟧.written self.old) }
         ensures failed { OnErr result (Rose (P.faults (sink_of self.old)) (P.faults (sink_of self.new))) }
         ensures later { P.faults (sink_of self.old) ≤ P.faults (sink_of self.new) }

@@ -7,10 +7,15 @@ use Rattle.m2_base.specs.declared.token.Token.{Token}
 
 -- the unit of a main text of this name with these tokens
 abbrev pub one_text : (names : List (List ℕ)) → (name : ℕ) → List Token → UnitTexts
-one_text names name tokens = record { names = names; list = record { name = name; definition = false; tokens = tokens } ∷ []; order = []; own = None }
+one_text names name tokens = record {
+  names = names;
+  list = record { name = name; definition = false; tokens = tokens } ∷ [];
+  order = [];
+  own = None;
+}
 
--- The unit has this text alone, whose file has that name. Its names are the standard ones, the file's, and the text's in
--- order.
+-- The unit has this text alone, whose file has that name. Its names are the standard ones, the file's, and the text's
+-- in order.
 pub record IsLoneText (name text : List ℕ) (u : UnitTexts) : Type 0 where
   pub number : ℕ
   pub tokens : List Token

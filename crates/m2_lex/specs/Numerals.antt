@@ -10,4 +10,5 @@ behind_octal text = slice_index text (prefix_len is_octal_digit text)
 
 -- octal digits with the `B` or `C` behind them, and else digits
 abbrev pub plain_length : List ℕ → ℕ
-plain_length text = if behind_octal text == byte "B" || behind_octal text == byte "C" then prefix_len is_octal_digit text + 1 else prefix_len is_digit text
+plain_length text = if behind_octal text == byte "B" || behind_octal text == byte "C" then
+    prefix_len is_octal_digit text + 1 else prefix_len is_digit text

@@ -2,7 +2,8 @@
 use Rattle.m2_base.specs.Diagnostics.{code_of}
 use Rattle.m2_base.specs.Meanings.{Meaning as Stands, blank, name, number, character, string, fixed, bad}
 use Rattle.m2_lex.specs.declared.meaning.Meaning.{Meaning}
-use Rattle.m2_lex.specs.declared.meaning.Meaning.TheVariants.{Blank, Name, Number, Character, String as StringOf, Fixed, Bad}
+use Rattle.m2_lex.specs.declared.meaning.Meaning.TheVariants.{Blank, Name, Number, Character, String as StringOf}
+use Rattle.m2_lex.specs.declared.meaning.Meaning.TheVariants.{Fixed, Bad}
 
 abbrev pub stands_for : Meaning → Stands
 stands_for Blank = blank

@@ -1,6 +1,7 @@
 //! Comments, which nest.
 ghost use Rattle.std.specs.Prelude.{◌≡◌, ◌≤◌, ◌<◌, ◌+◌, ◌^◌, length, drop, MatchOption, Some, None};
-ghost use Rattle.m2_base.specs.Comments.{one_further as spec_one_further, in_comment as spec_in_comment, behind_comment, opens_comment as spec_opens_comment};
+ghost use Rattle.m2_base.specs.Comments.{one_further as spec_one_further, in_comment as spec_in_comment};
+ghost use Rattle.m2_base.specs.Comments.{behind_comment, opens_comment as spec_opens_comment};
 ghost use Rattle.m2_lex.specs.Depths.{depth_of};
 
 /// A place in a comment: how deep it is, and the byte before it, or 0 where that ended a `(*` or a `*)`.
@@ -53,7 +54,8 @@ pub fn opens_comment(text: &[u8]) -> bool
 /// The length of the comment that the bytes begin with; none of an open one.
 pub fn comment_len(text: &[u8]) -> Option<usize>
     requires { 2 ≤ length text.now }
-    ensures { MatchOption result (behind_comment text.now ≡ None) (λ count. (2 < count) × (count ≤ length text.now) × (behind_comment text.now ≡ Some (drop count text.now))) }
+    ensures { MatchOption result (behind_comment text.now ≡ None)
+        (λ count. (2 < count) × (count ≤ length text.now) × (behind_comment text.now ≡ Some (drop count text.now))) }
 {
     let mut place = Depth::in_comment();
     for (index, byte) in text[2..].iter().enumerate() {

@@ -1,5 +1,6 @@
 //! The loop over a text's lexemes.
-ghost use Rattle.std.specs.Prelude.{◌≡◌, ◌≤◌, ◌<◌, ◌-◌, ◌^◌, ◌++◌, List, ℕ, IfOk, IfErr, OnOk, OnErr, IsOk, IsErrOf, length, vec_len};
+ghost use Rattle.std.specs.Prelude.{◌≡◌, ◌≤◌, ◌<◌, ◌-◌, ◌^◌, ◌++◌, List, ℕ, IfOk, IfErr, OnOk, OnErr, IsOk, IsErrOf};
+ghost use Rattle.std.specs.Prelude.{length, vec_len};
 ghost use Rattle.m2_base.specs.Meanings.{meaning_of as spec_meaning};
 ghost use Rattle.m2_base.specs.Names.{with_names};
 ghost use Rattle.m2_base.specs.Tokens.{AreTokens, names_of};
@@ -87,7 +88,8 @@ fn add_token(
 ) -> Result<(), LexFault>
     requires few { vec_len tokens.old < 2 ^ 32 }
     requires room { length names.old < 2 ^ 32 - 1 }
-    ensures token { OnOk result (AddsToken names.new (place_of position) lexeme.now tokens.old.items tokens.new.items) }
+    ensures token { OnOk result
+        (AddsToken names.new (place_of position) lexeme.now tokens.old.items tokens.new.items) }
     ensures names { OnOk result (names.new ≡ with_names names.old (names_of (spec_meaning lexeme.now))) }
     ensures extends { Extends names.old names.new }
     ensures err { IfErr result (λ fault. fault ≡ LexFault.Memory) }

@@ -1,7 +1,9 @@
 //! The longest lexeme at the front of a text.
-ghost use Rattle.std.specs.Prelude.{◌≡◌, ◌≤◌, ◌<◌, ◌+◌, ℕ, length, take, drop, slice_index, is_some, IsTrue, MatchOption};
+ghost use Rattle.std.specs.Prelude.{◌≡◌, ◌≤◌, ◌<◌, ◌+◌, ℕ, length, take, drop, slice_index, is_some, IsTrue};
+ghost use Rattle.std.specs.Prelude.{MatchOption};
 ghost use Rattle.std.specs.List.{prefix_len};
-ghost use Rattle.m2_base.specs.Letters.{is_hexadecimal_digit as spec_hexadecimal_digit, is_digit as spec_digit, is_quote as spec_quote};
+ghost use Rattle.m2_base.specs.Letters.{is_hexadecimal_digit as spec_hexadecimal_digit, is_digit as spec_digit};
+ghost use Rattle.m2_base.specs.Letters.{is_quote as spec_quote};
 ghost use Rattle.m2_base.specs.Kinds.{kind_in, symbols};
 ghost use Rattle.m2_base.specs.Lexemes.{IsLongest};
 ghost use Rattle.m2_lex.specs.Ahead.{IsPlain, ShowsH};
@@ -16,8 +18,8 @@ use m2_base::{is_blank, is_digit, is_letter, is_quote, symbol_kind};
 
 /// The length of the longest lexeme at the front.
 ///
-/// `plain` counts hexadecimal digits ahead that are known to come before no `H`, so that they aren't looked through again
-/// for each of the numbers among them.
+/// `plain` counts hexadecimal digits ahead that are known to come before no `H`, so that they aren't looked through
+/// again for each of the numbers among them.
 pub fn lexeme_len(text: &[u8], plain: &mut usize) -> usize
     requires some { 1 ≤ length text.now }
     requires plain { IsPlain plain.old text.now }
@@ -64,7 +66,8 @@ fn numeral_len(text: &[u8], plain: &mut usize) -> usize
 /// The length of the hexadecimal numeral at the front, if one stands there.
 fn hexadecimal_len(text: &[u8], plain: &mut usize) -> Option<usize>
     requires { IsPlain plain.old text.now }
-    ensures length { MatchOption result (ShowsH text.now → ⊥) (λ count. (count ≡ prefix_len spec_hexadecimal_digit text.now + 1) × (ShowsH text.now)) }
+    ensures length { MatchOption result
+        (ShowsH text.now → ⊥) (λ count. (count ≡ prefix_len spec_hexadecimal_digit text.now + 1) × (ShowsH text.now)) }
     ensures plain { MatchOption result (IsPlain plain.new text.now) (λ _. plain.new ≡ 0) }
 {
     if *plain > 0 {

@@ -1,7 +1,10 @@
 //! What a lexeme stands for.
 ghost use Rattle.std.specs.Prelude.{◌≡◌, ◌<◌, ◌≤◌, length, MatchOption};
 ghost use Rattle.m2_base.specs.Kinds.{kind_in, reserved_words, symbols};
-ghost use Rattle.m2_base.specs.Meanings.{meaning_of as spec_meaning, numeral_meaning as spec_numeral, string_meaning as spec_string, comment_meaning as spec_comment, value_in as spec_value_in, digit_value as spec_digit_value, number_of, character_of, fixed_or, name, bad};
+ghost use Rattle.m2_base.specs.Meanings.{meaning_of as spec_meaning, numeral_meaning as spec_numeral};
+ghost use Rattle.m2_base.specs.Meanings.{string_meaning as spec_string, comment_meaning as spec_comment};
+ghost use Rattle.m2_base.specs.Meanings.{value_in as spec_value_in, digit_value as spec_digit_value, number_of};
+ghost use Rattle.m2_base.specs.Meanings.{character_of, fixed_or, name, bad};
 ghost use Rattle.m2_lex.specs.Understood.{stands_for};
 
 use crate::comment::{comment_len, opens_comment};
@@ -135,7 +138,8 @@ fn symbol_meaning(spelling: &[u8]) -> Meaning<'_>
 fn value_in(base: u64, digits: &[u8]) -> Option<u32>
     requires some { 1 ≤ base }
     requires most { base ≤ 16 }
-    ensures { MatchOption result (4294967295 < spec_value_in base digits.now) (λ value. (value ≡ spec_value_in base digits.now) × (value ≤ 4294967295)) }
+    ensures { MatchOption result (4294967295 < spec_value_in base digits.now)
+        (λ value. (value ≡ spec_value_in base digits.now) × (value ≤ 4294967295)) }
 {
     let mut value = 0;
     for digit in digits {

@@ -1,6 +1,7 @@
 //! Places in a text.
 ghost use Rattle.std.specs.Prelude.{◌≡◌, ◌+◌, ◌^◌, ◌<◌, length};
-ghost use Rattle.m2_base.specs.Positions.{first_position, after_byte as spec_after_byte, after_bytes as spec_after_bytes};
+ghost use Rattle.m2_base.specs.Positions.{first_position, after_byte as spec_after_byte};
+ghost use Rattle.m2_base.specs.Positions.{after_bytes as spec_after_bytes};
 ghost use Rattle.m2_lex.specs.Places.{place_of};
 
 use m2_base::{Token, TokenKind};

@@ -1,7 +1,9 @@
 //! Runs of bytes of one class.
 ghost use Rattle.std.specs.Prelude.{◌≡◌, ◌≤◌, length, slice_index};
 ghost use Rattle.std.specs.List.{prefix_len};
-ghost use Rattle.m2_base.specs.Letters.{is_digit as spec_digit, is_octal_digit as spec_octal_digit, is_hexadecimal_digit as spec_hexadecimal_digit, goes_on as spec_goes_on, is_blank as spec_blank, stays_in as spec_stays_in};
+ghost use Rattle.m2_base.specs.Letters.{is_digit as spec_digit, is_octal_digit as spec_octal_digit};
+ghost use Rattle.m2_base.specs.Letters.{is_hexadecimal_digit as spec_hexadecimal_digit, goes_on as spec_goes_on};
+ghost use Rattle.m2_base.specs.Letters.{is_blank as spec_blank, stays_in as spec_stays_in};
 
 use m2_base::{goes_on, is_blank, is_digit, is_hexadecimal_digit, is_octal_digit, stays_in};
 

@@ -1,6 +1,8 @@
--- What objects are refused for when they are linked: first two of one name, then an import whose object is missing, then an import that was
--- compiled with another definition than the object of its name gives. Each is looked for in all objects and all their imports, in order.
-use Rattle.std.specs.Prelude.{◌≡◌, ℕ, ◌==◌, Bool, true, false, ◌&&◌, ◌||◌, not, List, [], ◌∷◌, length, Option, Some, None, if◌then◌else◌, is_none, option_map, slice_get}
+-- What objects are refused for when they are linked: first two of one name, then an import whose object is missing,
+-- then an import that was compiled with another definition than the object of its name gives. Each is looked for in
+-- all objects and all their imports, in order.
+use Rattle.std.specs.Prelude.{◌≡◌, ℕ, ◌==◌, Bool, true, false, ◌&&◌, ◌||◌, not, List, [], ◌∷◌, length, Option, Some}
+use Rattle.std.specs.Prelude.{None, if◌then◌else◌, is_none, option_map, slice_get}
 use Rattle.std.specs.Str.{bytes_eq}
 use Rattle.code_form.specs.Heights.{Callee}
 use Rattle.code_form.specs.Modules.{Import}
@@ -48,7 +50,8 @@ same_headings [] [] = true
 same_headings (c ∷ cs) (d ∷ ds) = c.params == d.params && c.result == d.result && same_headings cs ds
 same_headings cs ds = false
 
--- An import of an object of this version agrees with what is given. Keys are compared where both have one, in version 2.
+-- An import of an object of this version agrees with what is given. Keys are compared where both have one,
+-- in version 2.
 abbrev pub agrees : (version : ℕ) → KeyedImport → Given → Bool
 agrees version i g =
     i.definition.cells == g.cells && same_headings g.headings i.definition.headings
@@ -65,7 +68,8 @@ disagrees version i (Some o) = not (agrees version i (given_by o))
 
 -- an import of an object of this version differs from what InOut gives, or the object of its name, if there is one
 abbrev pub differs_at : (version : ℕ) → List Contents → KeyedImport → Bool
-differs_at version os i = if is_in_out i.definition then not (agrees version i in_out_given) else disagrees version i (object_at os (object_named os i.definition.name))
+differs_at version os i = if is_in_out i.definition then not (agrees version i in_out_given)
+    else disagrees version i (object_at os (object_named os i.definition.name))
 
 abbrev pub differs : List Contents → Contents → KeyedImport → Bool
 differs os o i = differs_at o.version os i
@@ -92,7 +96,8 @@ first_differing os = first_import (differs os) os
 
 -- what objects are refused for
 unfoldable pub refusal : List Contents → Option Refusal
-refusal os = or_else (option_map twice (name_again os)) (or_else (option_map missing (first_missing os)) (option_map key_differs (first_differing os)))
+refusal os = or_else (option_map twice (name_again os))
+    (or_else (option_map missing (first_missing os)) (option_map key_differs (first_differing os)))
 
 -- nothing is refused, and the program is these objects in their running order
 pub record AreLinkedTo (os program : List Contents) : Type 0 where

@@ -3,7 +3,9 @@ ghost use Rattle.std.specs.Prelude.{◌≡◌, option_map};
 ghost use Rattle.object_file.specs.Directories.{IsDirectory, found_in};
 ghost use Rattle.object_file.specs.Views.{import_of, keyed_of};
 ghost use Rattle.m2_link.specs.Keys.{in_out_key};
-ghost use Rattle.m2_link.specs.Refusals.{lacks as spec_lacks, is_in_out as spec_in_out, differs as spec_differs, differs_at, first_in, object_at, first_missing as spec_first_missing, first_differing as spec_first_differing};
+ghost use Rattle.m2_link.specs.Refusals.{lacks as spec_lacks, is_in_out as spec_in_out, differs as spec_differs};
+ghost use Rattle.m2_link.specs.Refusals.{differs_at, first_in, object_at, first_missing as spec_first_missing};
+ghost use Rattle.m2_link.specs.Refusals.{first_differing as spec_first_differing};
 
 use crate::agreement::{agrees_with_in_out, agrees_with_object};
 use object_file::{Directory, ImportNote, Object};
@@ -52,7 +54,8 @@ fn differs(
 
 /// The name of the first import of an object whose object is missing.
 fn missing_in<'o>(directory: &Directory, object: &'o Object) -> Option<&'o [u8]>
-    ensures { option_map (λ n. n.now) result ≡ first_in (λ i. spec_lacks (found_in directory.now i.definition.name) i.definition) object.now.imports }
+    ensures { option_map (λ n. n.now) result
+        ≡ first_in (λ i. spec_lacks (found_in directory.now i.definition.name) i.definition) object.now.imports }
 {
     for note in object.imports() {
         if lacks(directory, note) {

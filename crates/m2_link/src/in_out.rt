@@ -4,8 +4,8 @@ ghost use Rattle.m2_link.specs.Keys.{in_out_key as spec_key};
 
 use sha2::{Digest, Sha256};
 
-/// The tokens of InOut.def, declaration by declaration: of each the number of its kind, behind that of a name (1) its length and its
-/// bytes, and behind that of a character (3) its eight bytes.
+/// The tokens of InOut.def, declaration by declaration: of each the number of its kind, behind that of a name (1) its
+/// length and its bytes, and behind that of a character (3) its eight bytes.
 const KEY_BYTES: &[u8] = b"\
     \x10\x20\x01\x05\x00\x00\x00InOut9\
     \x0f\x01\x03\x00\x00\x00EOL\x3e\x03\x0a\x00\x00\x00\x00\x00\x00\x009\

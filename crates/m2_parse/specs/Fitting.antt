@@ -1,5 +1,5 @@
--- What a token's value has to fit: a name, the bytes of a string and the number of a stream are below 2^32, the code of a
--- fault is below 256.
+-- What a token's value has to fit: a name, the bytes of a string and the number of a stream are below 2^32, the code
+-- of a fault is below 256.
 use Rattle.std.specs.Prelude.{ℕ, ◌^◌, Bool, true, ◌&&◌, List, [], ◌∷◌, map, nat_lt, ◌==◌, if◌then◌else◌}
 use Rattle.m2_base.specs.declared.kind.TokenKind.TheVariants.{Identifier, String, Bad, Cut}
 use Rattle.m2_base.specs.declared.token.Token.{Token}

@@ -1,5 +1,6 @@
 -- Reading the front of a text: its head, and the imports behind it as long as each is whole.
-use Rattle.std.specs.Prelude.{ℕ, zero, suc, Bool, false, List, [], ◌++◌, Result, Ok, Err, Option, Some, None, if◌then◌else◌, length}
+use Rattle.std.specs.Prelude.{ℕ, zero, suc, Bool, false, List, [], ◌++◌, Result, Ok, Err, Option, Some, None}
+use Rattle.std.specs.Prelude.{if◌then◌else◌, length}
 use Rattle.m2_base.specs.declared.kind.TokenKind.TheVariants.{Definition, Module, Semicolon}
 use Rattle.m2_base.specs.declared.token.Token.{Token}
 use Rattle.m2_base.specs.declared.trees.Ident.{Ident}

@@ -1,13 +1,18 @@
 -- Readers of expressions. All but Factor take the reader of a factor, in which their nesting lies.
 use Rattle.std.specs.Prelude.{ℕ, zero, suc, Bool, List, [], ◌∷◌, Ok, Option, Some, None, if◌then◌else◌, length}
 use Rattle.m2_base.specs.declared.kind.TokenKind.{TokenKind}
-use Rattle.m2_base.specs.declared.kind.TokenKind.TheVariants.{Identifier, Number, Character, String, LeftBrace, RightBrace, LeftParenthesis, RightParenthesis, LeftBracket, RightBracket, Period, Comma, Arrow, Ellipsis, Plus, Minus, Not}
+use Rattle.m2_base.specs.declared.kind.TokenKind.TheVariants.{Identifier, Number, Character, String, LeftBrace}
+use Rattle.m2_base.specs.declared.kind.TokenKind.TheVariants.{RightBrace, LeftParenthesis, RightParenthesis}
+use Rattle.m2_base.specs.declared.kind.TokenKind.TheVariants.{LeftBracket, RightBracket, Period, Comma, Arrow}
+use Rattle.m2_base.specs.declared.kind.TokenKind.TheVariants.{Ellipsis, Plus, Minus, Not}
 use Rattle.m2_base.specs.declared.token.Token.{Token}
 use Rattle.m2_base.specs.declared.trees.operators.Operator.TheVariants as operators
 use Rattle.m2_base.specs.KindNumbers.{kind_number}
 use Rattle.m2_base.specs.Grammar.{number_of_token, multiplying, signs, adding, relations}
 use Rattle.m2_base.specs.Operators.{operator_of}
-use Rattle.m2_base.specs.Trees.{Expr, expr, number_form, char_form, string_form, one_form, exprs, Next, next, Designator, designator, Selector, field_selector, index_selector, deref_selector, selectors, Label, label_with, with_operators, in_brackets}
+use Rattle.m2_base.specs.Trees.{Expr, expr, number_form, char_form, string_form, one_form, exprs, Next, next}
+use Rattle.m2_base.specs.Trees.{Designator, designator, Selector, field_selector, index_selector, deref_selector}
+use Rattle.m2_base.specs.Trees.{selectors, Label, label_with, with_operators, in_brackets}
 use Rattle.m2_base.specs.ExpressionsOf.{plain_set, typed_set, call, name}
 use Rattle.ll_grammar.specs.Readers.{◌>>=◌, listed, repeat, itself, at_depth}
 use Rattle.m2_parse.specs.Reading.{Read, tell, next_is, next_in, expect, expect_in}

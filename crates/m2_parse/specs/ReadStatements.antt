@@ -1,15 +1,20 @@
 -- Readers of statements. They take the number of levels that are left, and the reader of a statement.
 use Rattle.std.specs.Prelude.{ℕ, zero, suc, Bool, List, [], ◌∷◌, Ok, Option, Some, None, if◌then◌else◌, length}
-use Rattle.m2_base.specs.declared.kind.TokenKind.TheVariants.{Identifier, If, Case, While, Repeat, Loop, Exit, Return, For, With, Becomes, LeftParenthesis, Semicolon, Else, Then, Elsif, Colon, Bar, Of, End, Do, Until, To, By}
+use Rattle.m2_base.specs.declared.kind.TokenKind.TheVariants.{Identifier, If, Case, While, Repeat, Loop, Exit, Return}
+use Rattle.m2_base.specs.declared.kind.TokenKind.TheVariants.{For, With, Becomes, LeftParenthesis, Semicolon, Else}
+use Rattle.m2_base.specs.declared.kind.TokenKind.TheVariants.{Then, Elsif, Colon, Bar, Of, End, Do, Until, To, By}
 use Rattle.m2_base.specs.declared.token.Token.{Token}
 use Rattle.m2_base.specs.KindNumbers.{kind_number}
 use Rattle.m2_base.specs.Grammar.{number_of_token}
-use Rattle.m2_base.specs.Trees.{Expr, Designator, labels, Statement, statement, if_form, loop_form, exit_form, case_form, while_form, repeat_form, for_form, with_form, return_form, empty_form, statements, IfArm, if_arm, if_arms, CaseArm, case_arm, case_arms}
+use Rattle.m2_base.specs.Trees.{Expr, Designator, labels, Statement, statement, if_form, loop_form, exit_form}
+use Rattle.m2_base.specs.Trees.{case_form, while_form, repeat_form, for_form, with_form, return_form, empty_form}
+use Rattle.m2_base.specs.Trees.{statements, IfArm, if_arm, if_arms, CaseArm, case_arm, case_arms}
 use Rattle.m2_base.specs.StatementsOf.{assignment, invocation, other_statements, case_else_with}
 use Rattle.ll_grammar.specs.Readers.{◌>>=◌, listed, repeat, itself, all, at_depth}
 use Rattle.m2_parse.specs.Reading.{Read, tell, place, next_is, next_in, expect}
 use Rattle.m2_parse.specs.ReadNames.{ident_at}
-use Rattle.m2_parse.specs.ReadExpressions.{begins_expr, expr_with, labels_with, designator_with, actuals_with, factor_at}
+use Rattle.m2_parse.specs.ReadExpressions.{begins_expr, expr_with, labels_with, designator_with, actuals_with}
+use Rattle.m2_parse.specs.ReadExpressions.{factor_at}
 
 -- what a statement begins with
 abbrev pub begins_statement : List Token → Bool

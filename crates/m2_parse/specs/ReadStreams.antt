@@ -1,6 +1,10 @@
 -- Readers of declarations and of streams, where n levels are left.
 use Rattle.std.specs.Prelude.{ℕ, Bool, true, false, List, [], ◌∷◌, Ok, Option, Some, None, if◌then◌else◌, length}
-use Rattle.m2_base.specs.declared.kind.TokenKind.TheVariants.{EndOfText, Identifier, Cut, StreamEnd, Const, «Type», Var, Procedure, Begin, End, Definition, Module, Implementation, Import, From, Export, Qualified, Equal, Semicolon, Colon, Period, LeftParenthesis, RightParenthesis}
+use Rattle.m2_base.specs.declared.kind.TokenKind.TheVariants.{EndOfText, Identifier, Cut, StreamEnd, Const, «Type»}
+use Rattle.m2_base.specs.declared.kind.TokenKind.TheVariants.{Var, Procedure, Begin, End, Definition, Module}
+use Rattle.m2_base.specs.declared.kind.TokenKind.TheVariants.{Implementation, Import, From, Export, Qualified, Equal}
+use Rattle.m2_base.specs.declared.kind.TokenKind.TheVariants.{Semicolon, Colon, Period, LeftParenthesis}
+use Rattle.m2_base.specs.declared.kind.TokenKind.TheVariants.{RightParenthesis}
 use Rattle.m2_base.specs.declared.token.Token.{Token}
 use Rattle.m2_base.specs.declared.trees.Ident.{Ident}
 use Rattle.m2_base.specs.declared.trees.Qual.{Qual}
@@ -8,7 +12,8 @@ use Rattle.m2_base.specs.declared.trees.declarations.StreamKind.{StreamKind}
 use Rattle.m2_base.specs.declared.trees.declarations.StreamKind.TheVariants as streams
 use Rattle.m2_base.specs.KindNumbers.{kind_number}
 use Rattle.m2_base.specs.Grammar.{number_of_token}
-use Rattle.m2_base.specs.Trees.{TypeExpr, Statement, Section, Heading, Import as ImportTree, Decl, const_decl, type_decl, vars_decl, proc_decl, Stream}
+use Rattle.m2_base.specs.Trees.{TypeExpr, Statement, Section, Heading, Import as ImportTree, Decl, const_decl}
+use Rattle.m2_base.specs.Trees.{type_decl, vars_decl, proc_decl, Stream}
 use Rattle.m2_base.specs.StreamsOf.{heading_with, Block, main_tree, definition_tree, procedure_tree}
 use Rattle.ll_grammar.specs.Readers.{◌>>=◌, listed, repeat, itself, all}
 use Rattle.m2_parse.specs.Reading.{Read, next_is, next_in, expect}

@@ -1,13 +1,18 @@
 -- Readers of types. They take the readers of what nests: a factor, a type and a field list.
 use Rattle.std.specs.Prelude.{ℕ, zero, suc, Bool, true, false, List, [], ◌∷◌, Ok, Option, Some, None, if◌then◌else◌}
-use Rattle.m2_base.specs.declared.kind.TokenKind.TheVariants.{Identifier, Comma, Semicolon, Colon, Bar, LeftParenthesis, RightParenthesis, LeftBracket, RightBracket, Ellipsis, Array, Of, Record, End, Set, Pointer, To, Procedure, Var, Case, Else}
+use Rattle.m2_base.specs.declared.kind.TokenKind.TheVariants.{Identifier, Comma, Semicolon, Colon, Bar}
+use Rattle.m2_base.specs.declared.kind.TokenKind.TheVariants.{LeftParenthesis, RightParenthesis, LeftBracket}
+use Rattle.m2_base.specs.declared.kind.TokenKind.TheVariants.{RightBracket, Ellipsis, Array, Of, Record, End, Set}
+use Rattle.m2_base.specs.declared.kind.TokenKind.TheVariants.{Pointer, To, Procedure, Var, Case, Else}
 use Rattle.m2_base.specs.declared.token.Token.{Token}
 use Rattle.m2_base.specs.declared.trees.Ident.{Ident}
 use Rattle.m2_base.specs.declared.trees.Qual.{Qual}
 use Rattle.m2_base.specs.declared.trees.types.Formal.{Formal}
 use Rattle.m2_base.specs.KindNumbers.{kind_number}
 use Rattle.m2_base.specs.Grammar.{number_of_token}
-use Rattle.m2_base.specs.Trees.{Expr, labels, TypeExpr, type_expr, TypeForm, enum_type, array_type, record_type, set_type, pointer_type, proc_type, type_exprs, FieldList, plain_fields, case_fields, field_lists, VariantArm, variant_arm, variant_arms}
+use Rattle.m2_base.specs.Trees.{Expr, labels, TypeExpr, type_expr, TypeForm, enum_type, array_type, record_type}
+use Rattle.m2_base.specs.Trees.{set_type, pointer_type, proc_type, type_exprs, FieldList, plain_fields, case_fields}
+use Rattle.m2_base.specs.Trees.{field_lists, VariantArm, variant_arm, variant_arms}
 use Rattle.m2_base.specs.TypesOf.{Range, named, bare_range}
 use Rattle.ll_grammar.specs.Readers.{◌>>=◌, listed, itself, all, at_depth}
 use Rattle.m2_parse.specs.Reading.{Read, tell, next_is, next_in, expect}
@@ -16,7 +21,8 @@ use Rattle.m2_parse.specs.ReadExpressions.{begins_expr, expr_with, labels_with, 
 
 -- what a type and a field list begin with
 abbrev pub begins_type : List Token → Bool
-begins_type ts = next_in (Identifier ∷ LeftParenthesis ∷ LeftBracket ∷ Array ∷ Record ∷ Set ∷ Pointer ∷ Procedure ∷ []) ts
+begins_type ts =
+    next_in (Identifier ∷ LeftParenthesis ∷ LeftBracket ∷ Array ∷ Record ∷ Set ∷ Pointer ∷ Procedure ∷ []) ts
 
 abbrev pub begins_field : List Token → Bool
 begins_field ts = next_in (Identifier ∷ Case ∷ []) ts

@@ -4,7 +4,13 @@ ghost use Rattle.m2_base.specs.StreamsOf.{Block as SpecBlock};
 ghost use Rattle.m2_base.specs.Views.{section_view, heading_view, decl_view, statement_view};
 ghost use Rattle.m2_parse.specs.BlockViews.{block_view};
 ghost use Rattle.m2_parse.specs.Reading.{Gives};
-ghost use Rattle.m2_parse.specs.ReadStreams.{begins_section as spec_begins_section, begins_declaration as spec_begins_declaration, section_at, some_sections_at, parameters_at, heading_at, constant_at, constants_at, type_declaration_at, type_declarations_at, defined_type_at, defined_types_at, variables_at, all_variables_at, procedure_at, declaration_at, declarations_at, body_at, block_at, definition_declaration_at, definition_declarations_at};
+ghost use Rattle.m2_parse.specs.ReadStreams.{begins_section as spec_begins_section};
+ghost use Rattle.m2_parse.specs.ReadStreams.{begins_declaration as spec_begins_declaration, section_at};
+ghost use Rattle.m2_parse.specs.ReadStreams.{some_sections_at, parameters_at, heading_at, constant_at, constants_at};
+ghost use Rattle.m2_parse.specs.ReadStreams.{type_declaration_at, type_declarations_at, defined_type_at};
+ghost use Rattle.m2_parse.specs.ReadStreams.{defined_types_at, variables_at, all_variables_at, procedure_at};
+ghost use Rattle.m2_parse.specs.ReadStreams.{declaration_at, declarations_at, body_at, block_at};
+ghost use Rattle.m2_parse.specs.ReadStreams.{definition_declaration_at, definition_declarations_at};
 
 use crate::blocks::Block;
 use crate::expressions::expr;
@@ -55,7 +61,8 @@ fn section(alloc: Global, tokens: &mut Tokens) -> Result<Section, ReadFault>
 
 /// Section {";" Section}
 fn some_sections(alloc: Global, tokens: &mut Tokens) -> Result<Vec<Section>, ReadFault>
-    ensures { Gives (λ x. (map section_view x.items, tokens.new.list.now)) result (some_sections_at tokens.old.list.now) }
+    ensures { Gives (λ x. (map section_view x.items, tokens.new.list.now)) result
+        (some_sections_at tokens.old.list.now) }
 {
     listed!(alloc, tokens, TokenKind::Semicolon, section(alloc, tokens))
 }
@@ -63,7 +70,8 @@ fn some_sections(alloc: Global, tokens: &mut Tokens) -> Result<Vec<Section>, Rea
 /// ["(" [Section {";" Section}] ")" [":" Qual]]
 #[tactic(auto, using(std::proofs::lemmas::Grind::common_steps), unfolding(crate::specs::ReadStreams::parameters_at, crate::specs::ReadStreams::sections_at))]
 fn parameters(alloc: Global, tokens: &mut Tokens) -> Result<(Vec<Section>, Option<Qual>), ReadFault>
-    ensures { Gives (λ x. ((map section_view x.0.items, x.1), tokens.new.list.now)) result (parameters_at tokens.old.list.now) }
+    ensures { Gives (λ x. ((map section_view x.0.items, x.1), tokens.new.list.now)) result
+        (parameters_at tokens.old.list.now) }
 {
     let Some(_) = tokens.next_if(TokenKind::LeftParenthesis) else {
         return Ok((Vec::new(alloc), None));
@@ -151,7 +159,8 @@ fn variables(alloc: Global, tokens: &mut Tokens, depth: usize) -> Result<Decl, R
 /// {ident "=" Expr ";"}
 #[tactic(auto, using(ll_grammar::proofs::Loops::repeat_starts))]
 fn constants(alloc: Global, tokens: &mut Tokens, depth: usize) -> Result<Vec<Decl>, ReadFault>
-    ensures { Gives (λ x. (map decl_view x.items, tokens.new.list.now)) result (constants_at depth tokens.old.list.now) }
+    ensures { Gives (λ x. (map decl_view x.items, tokens.new.list.now)) result
+        (constants_at depth tokens.old.list.now) }
 {
     repeated!(
         alloc,
@@ -168,7 +177,8 @@ fn type_declarations(
     tokens: &mut Tokens,
     depth: usize,
 ) -> Result<Vec<Decl>, ReadFault>
-    ensures { Gives (λ x. (map decl_view x.items, tokens.new.list.now)) result (type_declarations_at depth tokens.old.list.now) }
+    ensures { Gives (λ x. (map decl_view x.items, tokens.new.list.now)) result
+        (type_declarations_at depth tokens.old.list.now) }
 {
     repeated!(
         alloc,
@@ -181,7 +191,8 @@ fn type_declarations(
 /// {ident ["=" Type] ";"}
 #[tactic(auto, using(ll_grammar::proofs::Loops::repeat_starts))]
 fn defined_types(alloc: Global, tokens: &mut Tokens, depth: usize) -> Result<Vec<Decl>, ReadFault>
-    ensures { Gives (λ x. (map decl_view x.items, tokens.new.list.now)) result (defined_types_at depth tokens.old.list.now) }
+    ensures { Gives (λ x. (map decl_view x.items, tokens.new.list.now)) result
+        (defined_types_at depth tokens.old.list.now) }
 {
     repeated!(
         alloc,
@@ -194,7 +205,8 @@ fn defined_types(alloc: Global, tokens: &mut Tokens, depth: usize) -> Result<Vec
 /// {Idents ":" Type ";"}
 #[tactic(auto, using(ll_grammar::proofs::Loops::repeat_starts))]
 fn all_variables(alloc: Global, tokens: &mut Tokens, depth: usize) -> Result<Vec<Decl>, ReadFault>
-    ensures { Gives (λ x. (map decl_view x.items, tokens.new.list.now)) result (all_variables_at depth tokens.old.list.now) }
+    ensures { Gives (λ x. (map decl_view x.items, tokens.new.list.now)) result
+        (all_variables_at depth tokens.old.list.now) }
 {
     repeated!(
         alloc,
@@ -218,7 +230,8 @@ fn procedure(alloc: Global, tokens: &mut Tokens) -> Result<Decl, ReadFault>
 
 /// Decl = CONST {ident "=" Expr ";"} | TYPE {ident "=" Type ";"} | VAR {Idents ":" Type ";"} | Heading ";" Cut
 fn declaration(alloc: Global, tokens: &mut Tokens, depth: usize) -> Result<Vec<Decl>, ReadFault>
-    ensures { Gives (λ x. (map decl_view x.items, tokens.new.list.now)) result (declaration_at depth tokens.old.list.now) }
+    ensures { Gives (λ x. (map decl_view x.items, tokens.new.list.now)) result
+        (declaration_at depth tokens.old.list.now) }
 {
     if let Some(_) = tokens.next_if(TokenKind::Const) {
         let items = constants(alloc, tokens, depth)?;
@@ -241,7 +254,8 @@ fn declaration(alloc: Global, tokens: &mut Tokens, depth: usize) -> Result<Vec<D
 /// {Decl}
 #[tactic(auto, using(ll_grammar::proofs::Loops::repeat_starts))]
 fn declarations(alloc: Global, tokens: &mut Tokens, depth: usize) -> Result<Vec<Decl>, ReadFault>
-    ensures { Gives (λ x. (map decl_view x.items, tokens.new.list.now)) result (declarations_at depth tokens.old.list.now) }
+    ensures { Gives (λ x. (map decl_view x.items, tokens.new.list.now)) result
+        (declarations_at depth tokens.old.list.now) }
 {
     all_repeated!(
         alloc,
@@ -258,7 +272,8 @@ fn definition_declaration(
     tokens: &mut Tokens,
     depth: usize,
 ) -> Result<Vec<Decl>, ReadFault>
-    ensures { Gives (λ x. (map decl_view x.items, tokens.new.list.now)) result (definition_declaration_at depth tokens.old.list.now) }
+    ensures { Gives (λ x. (map decl_view x.items, tokens.new.list.now)) result
+        (definition_declaration_at depth tokens.old.list.now) }
 {
     if let Some(_) = tokens.next_if(TokenKind::Const) {
         let items = constants(alloc, tokens, depth)?;
@@ -287,7 +302,8 @@ pub fn definition_declarations(
     tokens: &mut Tokens,
     depth: usize,
 ) -> Result<Vec<Decl>, ReadFault>
-    ensures { Gives (λ x. (map decl_view x.items, tokens.new.list.now)) result (definition_declarations_at depth tokens.old.list.now) }
+    ensures { Gives (λ x. (map decl_view x.items, tokens.new.list.now)) result
+        (definition_declarations_at depth tokens.old.list.now) }
 {
     all_repeated!(
         alloc,
@@ -300,7 +316,8 @@ pub fn definition_declarations(
 /// [BEGIN Stmts]
 #[tactic(auto, using(std::proofs::lemmas::Grind::common_steps), unfolding(crate::specs::ReadStreams::body_at))]
 fn body(alloc: Global, tokens: &mut Tokens, depth: usize) -> Result<Vec<Statement>, ReadFault>
-    ensures { Gives (λ x. (map statement_view x.items, tokens.new.list.now)) result (body_at depth tokens.old.list.now) }
+    ensures { Gives (λ x. (map statement_view x.items, tokens.new.list.now)) result
+        (body_at depth tokens.old.list.now) }
 {
     let Some(_) = tokens.next_if(TokenKind::Begin) else {
         return Ok(Vec::new(alloc));

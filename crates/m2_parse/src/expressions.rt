@@ -3,7 +3,15 @@ ghost use Rattle.std.specs.Prelude.{◌≡◌, [], ◌∷◌, map, length, IfOk}
 ghost use Rattle.m2_base.specs.Trees.{with_operators as spec_with_operators};
 ghost use Rattle.m2_base.specs.Views.{expr_view, next_view, designator_view, selector_view, label_view};
 ghost use Rattle.m2_parse.specs.Reading.{Gives, depth_fault};
-ghost use Rattle.m2_parse.specs.ReadExpressions.{begins_factor as spec_begins_factor, begins_expr as spec_begins_expr, begins_selector as spec_begins_selector, number_at, char_at, string_at, next_factor_with, factors_with, term_with, next_term_with, terms_with, first_term_with, sum_with, relation_with, expr_with, exprs_with, upper_with, label_with_upper, labels_with, elements_with, set_with, arguments_with, actuals_with, selector_with, selectors_with, designator_with, selection_with, designated_with, plain_set_with, bracketed_with, negated_with, inner_factor as spec_inner_factor, factor_at};
+ghost use Rattle.m2_parse.specs.ReadExpressions.{begins_factor as spec_begins_factor, begins_expr as spec_begins_expr};
+ghost use Rattle.m2_parse.specs.ReadExpressions.{begins_selector as spec_begins_selector, number_at, char_at};
+ghost use Rattle.m2_parse.specs.ReadExpressions.{string_at, next_factor_with, factors_with, term_with, next_term_with};
+ghost use Rattle.m2_parse.specs.ReadExpressions.{terms_with, first_term_with, sum_with, relation_with, expr_with};
+ghost use Rattle.m2_parse.specs.ReadExpressions.{exprs_with, upper_with, label_with_upper, labels_with, elements_with};
+ghost use Rattle.m2_parse.specs.ReadExpressions.{set_with, arguments_with, actuals_with, selector_with};
+ghost use Rattle.m2_parse.specs.ReadExpressions.{selectors_with, designator_with, selection_with, designated_with};
+ghost use Rattle.m2_parse.specs.ReadExpressions.{plain_set_with, bracketed_with, negated_with};
+ghost use Rattle.m2_parse.specs.ReadExpressions.{inner_factor as spec_inner_factor, factor_at};
 
 use crate::faults::{ReadFault, Refusal};
 use crate::lists::{listed, repeated};
@@ -131,7 +139,8 @@ fn factor(alloc: Global, tokens: &mut Tokens, depth: usize) -> Result<Expr, Read
 #[cycle(expressions)]
 #[tactic(auto, unfolding(crate::specs::ReadExpressions::inner_factor))]
 fn inner_factor(alloc: Global, tokens: &mut Tokens, depth: usize) -> Result<Expr, ReadFault>
-    ensures { Gives (λ x. (expr_view x, tokens.new.list.now)) result (spec_inner_factor (factor_at depth) tokens.old.list.now) }
+    ensures { Gives (λ x. (expr_view x, tokens.new.list.now)) result
+        (spec_inner_factor (factor_at depth) tokens.old.list.now) }
 {
     if tokens.next_is(TokenKind::Number) {
         return number(tokens);
@@ -157,7 +166,8 @@ fn inner_factor(alloc: Global, tokens: &mut Tokens, depth: usize) -> Result<Expr
 /// A set with no type before it.
 #[cycle(expressions)]
 fn plain_set(alloc: Global, tokens: &mut Tokens, depth: usize) -> Result<Expr, ReadFault>
-    ensures { Gives (λ x. (expr_view x, tokens.new.list.now)) result (plain_set_with (factor_at depth) tokens.old.list.now) }
+    ensures { Gives (λ x. (expr_view x, tokens.new.list.now)) result
+        (plain_set_with (factor_at depth) tokens.old.list.now) }
 {
     let (at, items) = set(alloc, tokens, depth)?;
     let form = ExprForm::Set { of: None, items };
@@ -167,7 +177,8 @@ fn plain_set(alloc: Global, tokens: &mut Tokens, depth: usize) -> Result<Expr, R
 /// "(" Expr ")"
 #[cycle(expressions)]
 fn bracketed(alloc: Global, tokens: &mut Tokens, depth: usize) -> Result<Expr, ReadFault>
-    ensures { Gives (λ x. (expr_view x, tokens.new.list.now)) result (bracketed_with (factor_at depth) tokens.old.list.now) }
+    ensures { Gives (λ x. (expr_view x, tokens.new.list.now)) result
+        (bracketed_with (factor_at depth) tokens.old.list.now) }
 {
     let open = tokens.expect(TokenKind::LeftParenthesis)?;
     let inner = expr(alloc, tokens, depth)?;
@@ -179,7 +190,8 @@ fn bracketed(alloc: Global, tokens: &mut Tokens, depth: usize) -> Result<Expr, R
 /// NOT Factor
 #[cycle(expressions)]
 fn negated(alloc: Global, tokens: &mut Tokens, depth: usize) -> Result<Expr, ReadFault>
-    ensures { Gives (λ x. (expr_view x, tokens.new.list.now)) result (negated_with (factor_at depth) tokens.old.list.now) }
+    ensures { Gives (λ x. (expr_view x, tokens.new.list.now)) result
+        (negated_with (factor_at depth) tokens.old.list.now) }
 {
     let not = tokens.expect(TokenKind::Not)?;
     let of = factor(alloc, tokens, depth)?;
@@ -194,7 +206,8 @@ fn negated(alloc: Global, tokens: &mut Tokens, depth: usize) -> Result<Expr, Rea
 /// Designator [Set | Actuals]
 #[cycle(expressions)]
 fn designated(alloc: Global, tokens: &mut Tokens, depth: usize) -> Result<Expr, ReadFault>
-    ensures { Gives (λ x. (expr_view x, tokens.new.list.now)) result (designated_with (factor_at depth) tokens.old.list.now) }
+    ensures { Gives (λ x. (expr_view x, tokens.new.list.now)) result
+        (designated_with (factor_at depth) tokens.old.list.now) }
 {
     let of = designator(alloc, tokens, depth)?;
     let at = of.first.at;
@@ -218,7 +231,8 @@ fn designated(alloc: Global, tokens: &mut Tokens, depth: usize) -> Result<Expr, 
 /// Set = "{" [Element {"," Element}] "}", with its first token
 #[cycle(expressions)]
 fn set(alloc: Global, tokens: &mut Tokens, depth: usize) -> Result<(u32, Vec<Label>), ReadFault>
-    ensures { Gives (λ x. ((x.0, map label_view x.1.items), tokens.new.list.now)) result (set_with (factor_at depth) tokens.old.list.now) }
+    ensures { Gives (λ x. ((x.0, map label_view x.1.items), tokens.new.list.now)) result
+        (set_with (factor_at depth) tokens.old.list.now) }
 {
     let open = tokens.expect(TokenKind::LeftBrace)?;
     if !begins_expr(tokens) {
@@ -233,7 +247,8 @@ fn set(alloc: Global, tokens: &mut Tokens, depth: usize) -> Result<(u32, Vec<Lab
 /// Labels = Label {"," Label}
 #[cycle(expressions)]
 pub fn labels(alloc: Global, tokens: &mut Tokens, depth: usize) -> Result<Vec<Label>, ReadFault>
-    ensures { Gives (λ x. (map label_view x.items, tokens.new.list.now)) result (labels_with (factor_at depth) tokens.old.list.now) }
+    ensures { Gives (λ x. (map label_view x.items, tokens.new.list.now)) result
+        (labels_with (factor_at depth) tokens.old.list.now) }
 {
     listed!(alloc, tokens, TokenKind::Comma, label(alloc, tokens, depth))
 }
@@ -241,7 +256,8 @@ pub fn labels(alloc: Global, tokens: &mut Tokens, depth: usize) -> Result<Vec<La
 /// Label = Expr [".." Expr]
 #[cycle(expressions)]
 fn label(alloc: Global, tokens: &mut Tokens, depth: usize) -> Result<Label, ReadFault>
-    ensures { Gives (λ x. (label_view x, tokens.new.list.now)) result (label_with_upper (factor_at depth) tokens.old.list.now) }
+    ensures { Gives (λ x. (label_view x, tokens.new.list.now)) result
+        (label_with_upper (factor_at depth) tokens.old.list.now) }
 {
     let low = expr(alloc, tokens, depth)?;
     let Some(_) = tokens.next_if(TokenKind::Ellipsis) else {
@@ -255,7 +271,8 @@ fn label(alloc: Global, tokens: &mut Tokens, depth: usize) -> Result<Label, Read
 /// Actuals = "(" [Expr {"," Expr}] ")"
 #[cycle(expressions)]
 pub fn actuals(alloc: Global, tokens: &mut Tokens, depth: usize) -> Result<Vec<Expr>, ReadFault>
-    ensures { Gives (λ x. (map expr_view x.items, tokens.new.list.now)) result (actuals_with (factor_at depth) tokens.old.list.now) }
+    ensures { Gives (λ x. (map expr_view x.items, tokens.new.list.now)) result
+        (actuals_with (factor_at depth) tokens.old.list.now) }
 {
     tokens.expect(TokenKind::LeftParenthesis)?;
     if !begins_expr(tokens) {
@@ -270,7 +287,8 @@ pub fn actuals(alloc: Global, tokens: &mut Tokens, depth: usize) -> Result<Vec<E
 /// Expr {"," Expr}
 #[cycle(expressions)]
 fn exprs(alloc: Global, tokens: &mut Tokens, depth: usize) -> Result<Vec<Expr>, ReadFault>
-    ensures { Gives (λ x. (map expr_view x.items, tokens.new.list.now)) result (exprs_with (factor_at depth) tokens.old.list.now) }
+    ensures { Gives (λ x. (map expr_view x.items, tokens.new.list.now)) result
+        (exprs_with (factor_at depth) tokens.old.list.now) }
 {
     listed!(alloc, tokens, TokenKind::Comma, expr(alloc, tokens, depth))
 }
@@ -278,7 +296,8 @@ fn exprs(alloc: Global, tokens: &mut Tokens, depth: usize) -> Result<Vec<Expr>, 
 /// Designator = ident {"." ident | "[" Expr {"," Expr} "]" | "^"}
 #[cycle(expressions)]
 pub fn designator(alloc: Global, tokens: &mut Tokens, depth: usize) -> Result<Designator, ReadFault>
-    ensures { Gives (λ x. (designator_view x, tokens.new.list.now)) result (designator_with (factor_at depth) tokens.old.list.now) }
+    ensures { Gives (λ x. (designator_view x, tokens.new.list.now)) result
+        (designator_with (factor_at depth) tokens.old.list.now) }
 {
     let first = ident(tokens)?;
     let others = selectors(alloc, tokens, depth)?;
@@ -293,7 +312,8 @@ pub fn designator(alloc: Global, tokens: &mut Tokens, depth: usize) -> Result<De
 #[cycle(expressions)]
 #[tactic(auto, using(ll_grammar::proofs::Loops::repeat_starts))]
 fn selectors(alloc: Global, tokens: &mut Tokens, depth: usize) -> Result<Vec<Selector>, ReadFault>
-    ensures { Gives (λ x. (map selector_view x.items, tokens.new.list.now)) result (selectors_with (factor_at depth) tokens.old.list.now) }
+    ensures { Gives (λ x. (map selector_view x.items, tokens.new.list.now)) result
+        (selectors_with (factor_at depth) tokens.old.list.now) }
 {
     repeated!(
         alloc,
@@ -306,7 +326,8 @@ fn selectors(alloc: Global, tokens: &mut Tokens, depth: usize) -> Result<Vec<Sel
 /// "." ident | "[" Expr {"," Expr} "]" | "^"
 #[cycle(expressions)]
 fn selector(alloc: Global, tokens: &mut Tokens, depth: usize) -> Result<Selector, ReadFault>
-    ensures { Gives (λ x. (selector_view x, tokens.new.list.now)) result (selector_with (factor_at depth) tokens.old.list.now) }
+    ensures { Gives (λ x. (selector_view x, tokens.new.list.now)) result
+        (selector_with (factor_at depth) tokens.old.list.now) }
 {
     if let Some(period) = tokens.next_if(TokenKind::Period) {
         let name = ident(tokens)?;
@@ -324,7 +345,8 @@ fn selector(alloc: Global, tokens: &mut Tokens, depth: usize) -> Result<Selector
 /// Term = Factor {("*"|"/"|DIV|MOD|AND) Factor}
 #[cycle(expressions)]
 fn term(alloc: Global, tokens: &mut Tokens, depth: usize) -> Result<Expr, ReadFault>
-    ensures { Gives (λ x. (expr_view x, tokens.new.list.now)) result (term_with (factor_at depth) tokens.old.list.now) }
+    ensures { Gives (λ x. (expr_view x, tokens.new.list.now)) result
+        (term_with (factor_at depth) tokens.old.list.now) }
 {
     let first = factor(alloc, tokens, depth)?;
     let others = factors(alloc, tokens, depth)?;
@@ -335,7 +357,8 @@ fn term(alloc: Global, tokens: &mut Tokens, depth: usize) -> Result<Expr, ReadFa
 #[cycle(expressions)]
 #[tactic(auto, using(ll_grammar::proofs::Loops::repeat_starts))]
 fn factors(alloc: Global, tokens: &mut Tokens, depth: usize) -> Result<Vec<Next>, ReadFault>
-    ensures { Gives (λ x. (map next_view x.items, tokens.new.list.now)) result (factors_with (factor_at depth) tokens.old.list.now) }
+    ensures { Gives (λ x. (map next_view x.items, tokens.new.list.now)) result
+        (factors_with (factor_at depth) tokens.old.list.now) }
 {
     repeated!(
         alloc,
@@ -348,7 +371,8 @@ fn factors(alloc: Global, tokens: &mut Tokens, depth: usize) -> Result<Vec<Next>
 /// ("*"|"/"|DIV|MOD|AND) Factor
 #[cycle(expressions)]
 fn next_factor(alloc: Global, tokens: &mut Tokens, depth: usize) -> Result<Next, ReadFault>
-    ensures { Gives (λ x. (next_view x, tokens.new.list.now)) result (next_factor_with (factor_at depth) tokens.old.list.now) }
+    ensures { Gives (λ x. (next_view x, tokens.new.list.now)) result
+        (next_factor_with (factor_at depth) tokens.old.list.now) }
 {
     let sign = expect_multiplying(tokens)?;
     let right = factor(alloc, tokens, depth)?;
@@ -363,7 +387,8 @@ fn next_factor(alloc: Global, tokens: &mut Tokens, depth: usize) -> Result<Next,
 /// ["+"|"-"] Term
 #[cycle(expressions)]
 fn first_term(alloc: Global, tokens: &mut Tokens, depth: usize) -> Result<Expr, ReadFault>
-    ensures { Gives (λ x. (expr_view x, tokens.new.list.now)) result (first_term_with (factor_at depth) tokens.old.list.now) }
+    ensures { Gives (λ x. (expr_view x, tokens.new.list.now)) result
+        (first_term_with (factor_at depth) tokens.old.list.now) }
 {
     if !is_sign(tokens) {
         return term(alloc, tokens, depth);
@@ -392,7 +417,8 @@ fn sum(alloc: Global, tokens: &mut Tokens, depth: usize) -> Result<Expr, ReadFau
 #[cycle(expressions)]
 #[tactic(auto, using(ll_grammar::proofs::Loops::repeat_starts))]
 fn terms(alloc: Global, tokens: &mut Tokens, depth: usize) -> Result<Vec<Next>, ReadFault>
-    ensures { Gives (λ x. (map next_view x.items, tokens.new.list.now)) result (terms_with (factor_at depth) tokens.old.list.now) }
+    ensures { Gives (λ x. (map next_view x.items, tokens.new.list.now)) result
+        (terms_with (factor_at depth) tokens.old.list.now) }
 {
     repeated!(
         alloc,
@@ -405,7 +431,8 @@ fn terms(alloc: Global, tokens: &mut Tokens, depth: usize) -> Result<Vec<Next>, 
 /// ("+"|"-"|OR) Term
 #[cycle(expressions)]
 fn next_term(alloc: Global, tokens: &mut Tokens, depth: usize) -> Result<Next, ReadFault>
-    ensures { Gives (λ x. (next_view x, tokens.new.list.now)) result (next_term_with (factor_at depth) tokens.old.list.now) }
+    ensures { Gives (λ x. (next_view x, tokens.new.list.now)) result
+        (next_term_with (factor_at depth) tokens.old.list.now) }
 {
     let sign = expect_adding(tokens)?;
     let right = term(alloc, tokens, depth)?;
@@ -420,7 +447,8 @@ fn next_term(alloc: Global, tokens: &mut Tokens, depth: usize) -> Result<Next, R
 /// Expr = Sum [("="|"#"|"<"|"<="|">"|">="|IN) Sum]
 #[cycle(expressions)]
 pub fn expr(alloc: Global, tokens: &mut Tokens, depth: usize) -> Result<Expr, ReadFault>
-    ensures { Gives (λ x. (expr_view x, tokens.new.list.now)) result (expr_with (factor_at depth) tokens.old.list.now) }
+    ensures { Gives (λ x. (expr_view x, tokens.new.list.now)) result
+        (expr_with (factor_at depth) tokens.old.list.now) }
 {
     let first = sum(alloc, tokens, depth)?;
     if !is_relation(tokens) {

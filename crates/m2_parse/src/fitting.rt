@@ -17,8 +17,8 @@ fn value_fits(token: Token) -> bool
     }
 }
 
-/// The values of all tokens fit: a name, a string and a cut below 2^32, and the code of a fault below 256. The tokens of a
-/// text and those of its streams do.
+/// The values of all tokens fit: a name, a string and a cut below 2^32, and the code of a fault below 256. The tokens
+/// of a text and those of its streams do.
 pub fn values_fit(tokens: &[Token]) -> bool
     ensures { result ≡ all_fit tokens.now }
 {

@@ -2,7 +2,8 @@
 ghost use Rattle.std.specs.Prelude.{◌≡◌, ◌++◌, length, IfOk, IsTrue};
 ghost use Rattle.m2_base.specs.Fronts.{modules_of, IsFront};
 ghost use Rattle.m2_base.specs.Views.{import_view};
-ghost use Rattle.m2_parse.specs.Fronts.{definition_head_at, main_head_at, head_at, modules_at, imports_behind as spec_imports_behind, front_of};
+ghost use Rattle.m2_parse.specs.Fronts.{definition_head_at, main_head_at, head_at, modules_at};
+ghost use Rattle.m2_parse.specs.Fronts.{imports_behind as spec_imports_behind, front_of};
 ghost use Rattle.m2_parse.specs.FrontViews.{front_view};
 ghost use Rattle.m2_parse.specs.Fitting.{names_fit};
 ghost use Rattle.m2_parse.specs.Reading.{Gives};

@@ -10,7 +10,8 @@ ghost use Rattle.m2_base.specs.WholeTexts.{main_blocks};
 
 /// A text has one front at most.
 pub fn text_has_one_front()
-    ensures { (definition : Bool) (ts : List Token) (f g : Front) → IsFront definition ts f → IsFront definition ts g → f ≡ g }
+    ensures { (definition : Bool) (ts : List Token) (f g : Front) → IsFront definition ts f → IsFront definition ts g
+        → f ≡ g }
 {}
 
 /// A main text, uncut, has the trees of its blocks or a first fault, and no second answer.

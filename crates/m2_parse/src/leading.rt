@@ -1,7 +1,8 @@
 //! The tokens that a front is read from.
 ghost use Rattle.std.specs.Prelude.{◌≡◌, IsTrue};
 ghost use Rattle.m2_parse.specs.Fitting.{all_fit, names_fit};
-ghost use Rattle.m2_parse.specs.Leading.{is_outside as spec_is_outside, leading as spec_leading, leading_count as spec_leading_count};
+ghost use Rattle.m2_parse.specs.Leading.{is_outside as spec_is_outside, leading as spec_leading};
+ghost use Rattle.m2_parse.specs.Leading.{leading_count as spec_leading_count};
 
 use crate::reading::is_one_of;
 use m2_base::{Token, TokenKind};

@@ -3,7 +3,9 @@ ghost use Rattle.std.specs.Prelude.{◌≡◌, [], ◌∷◌, map, IfOk, ◌<◌
 ghost use Rattle.m2_base.specs.KindNumbers.{kind_number};
 ghost use Rattle.ll_grammar.specs.LookAhead.{member};
 ghost use Rattle.m2_parse.specs.Fitting.{limit_of};
-ghost use Rattle.m2_parse.specs.Reading.{Gives, next_is as spec_next_is, next_in as spec_next_in, expect as spec_expect, expect_in as spec_expect_in, Takes, syntax_fault, place as spec_place};
+ghost use Rattle.m2_parse.specs.Reading.{Gives, next_is as spec_next_is, next_in as spec_next_in};
+ghost use Rattle.m2_parse.specs.Reading.{expect as spec_expect, expect_in as spec_expect_in, Takes, syntax_fault};
+ghost use Rattle.m2_parse.specs.Reading.{place as spec_place};
 
 use crate::faults::{ReadFault, Refusal};
 use crate::tokens::Tokens;

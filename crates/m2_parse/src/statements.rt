@@ -3,7 +3,12 @@ ghost use Rattle.std.specs.Prelude.{◌≡◌, ◌∷◌, map, length, option_ma
 ghost use Rattle.m2_base.specs.StatementsOf.{other_statements as spec_other_statements};
 ghost use Rattle.m2_base.specs.Views.{expr_view, designator_view, statement_view, if_arm_view, case_arm_view};
 ghost use Rattle.m2_parse.specs.Reading.{Gives};
-ghost use Rattle.m2_parse.specs.ReadStatements.{begins_statement as spec_begins_statement, exit_at, return_at, step_at, designated_at, optional_statement_with, statements_with, otherwise_with, if_arm_with, elsif_with, elsifs_with, if_with, arm_with, arms_with, case_with, while_with, repeat_with, loop_with, for_with, with_with, inner_statement as spec_inner_statement, statement_at};
+ghost use Rattle.m2_parse.specs.ReadStatements.{begins_statement as spec_begins_statement, exit_at, return_at};
+ghost use Rattle.m2_parse.specs.ReadStatements.{step_at, designated_at, optional_statement_with, statements_with};
+ghost use Rattle.m2_parse.specs.ReadStatements.{otherwise_with, if_arm_with, elsif_with, elsifs_with, if_with};
+ghost use Rattle.m2_parse.specs.ReadStatements.{arm_with, arms_with, case_with, while_with, repeat_with, loop_with};
+ghost use Rattle.m2_parse.specs.ReadStatements.{for_with, with_with, inner_statement as spec_inner_statement};
+ghost use Rattle.m2_parse.specs.ReadStatements.{statement_at};
 
 use crate::expressions::{actuals, begins_expr, designator, expr, labels, too_deep};
 use crate::faults::ReadFault;
@@ -94,7 +99,8 @@ fn step(alloc: Global, tokens: &mut Tokens, depth: usize) -> Result<Option<Expr>
 
 /// The statements after ELSE of an IF: none where there is no ELSE.
 fn other_statements(alloc: Global, other: Option<Vec<Statement>>) -> Vec<Statement>
-    ensures { map statement_view result.items ≡ spec_other_statements (option_map (λ v. map statement_view v.items) other) }
+    ensures { map statement_view result.items
+        ≡ spec_other_statements (option_map (λ v. map statement_view v.items) other) }
 {
     match other {
         Some(found) => found,
@@ -128,7 +134,8 @@ fn statement(alloc: Global, tokens: &mut Tokens, depth: usize) -> Result<Stateme
 #[cycle(statements)]
 #[tactic(auto, unfolding(crate::specs::ReadStatements::inner_statement))]
 fn inner_statement(alloc: Global, tokens: &mut Tokens, depth: usize) -> Result<Statement, ReadFault>
-    ensures { Gives (λ x. (statement_view x, tokens.new.list.now)) result (spec_inner_statement depth (statement_at depth) tokens.old.list.now) }
+    ensures { Gives (λ x. (statement_view x, tokens.new.list.now)) result
+        (spec_inner_statement depth (statement_at depth) tokens.old.list.now) }
 {
     if tokens.next_is(TokenKind::Identifier) {
         return designated(alloc, tokens, depth);
@@ -167,7 +174,8 @@ pub fn statements(
     tokens: &mut Tokens,
     depth: usize,
 ) -> Result<Vec<Statement>, ReadFault>
-    ensures { Gives (λ x. (map statement_view x.items, tokens.new.list.now)) result (statements_with depth (statement_at depth) tokens.old.list.now) }
+    ensures { Gives (λ x. (map statement_view x.items, tokens.new.list.now)) result
+        (statements_with depth (statement_at depth) tokens.old.list.now) }
 {
     listed!(
         alloc,
@@ -184,7 +192,8 @@ fn optional_statement(
     tokens: &mut Tokens,
     depth: usize,
 ) -> Result<Statement, ReadFault>
-    ensures { Gives (λ x. (statement_view x, tokens.new.list.now)) result (optional_statement_with depth (statement_at depth) tokens.old.list.now) }
+    ensures { Gives (λ x. (statement_view x, tokens.new.list.now)) result
+        (optional_statement_with depth (statement_at depth) tokens.old.list.now) }
 {
     if begins_statement(tokens) {
         return statement(alloc, tokens, depth);
@@ -201,7 +210,8 @@ fn otherwise(
     tokens: &mut Tokens,
     depth: usize,
 ) -> Result<Option<Vec<Statement>>, ReadFault>
-    ensures { Gives (λ x. (option_map (λ v. map statement_view v.items) x, tokens.new.list.now)) result (otherwise_with depth (statement_at depth) tokens.old.list.now) }
+    ensures { Gives (λ x. (option_map (λ v. map statement_view v.items) x, tokens.new.list.now)) result
+        (otherwise_with depth (statement_at depth) tokens.old.list.now) }
 {
     let Some(_) = tokens.next_if(TokenKind::Else) else {
         return Ok(None);
@@ -213,7 +223,8 @@ fn otherwise(
 /// Expr THEN Stmts
 #[cycle(statements)]
 fn if_arm(alloc: Global, tokens: &mut Tokens, depth: usize) -> Result<IfArm, ReadFault>
-    ensures { Gives (λ x. (if_arm_view x, tokens.new.list.now)) result (if_arm_with depth (statement_at depth) tokens.old.list.now) }
+    ensures { Gives (λ x. (if_arm_view x, tokens.new.list.now)) result
+        (if_arm_with depth (statement_at depth) tokens.old.list.now) }
 {
     let test = expr(alloc, tokens, depth)?;
     tokens.expect(TokenKind::Then)?;
@@ -224,7 +235,8 @@ fn if_arm(alloc: Global, tokens: &mut Tokens, depth: usize) -> Result<IfArm, Rea
 /// ELSIF Expr THEN Stmts
 #[cycle(statements)]
 fn elsif(alloc: Global, tokens: &mut Tokens, depth: usize) -> Result<IfArm, ReadFault>
-    ensures { Gives (λ x. (if_arm_view x, tokens.new.list.now)) result (elsif_with depth (statement_at depth) tokens.old.list.now) }
+    ensures { Gives (λ x. (if_arm_view x, tokens.new.list.now)) result
+        (elsif_with depth (statement_at depth) tokens.old.list.now) }
 {
     tokens.expect(TokenKind::Elsif)?;
     let arm = if_arm(alloc, tokens, depth)?;
@@ -235,7 +247,8 @@ fn elsif(alloc: Global, tokens: &mut Tokens, depth: usize) -> Result<IfArm, Read
 #[cycle(statements)]
 #[tactic(auto, using(ll_grammar::proofs::Loops::repeat_starts))]
 fn elsifs(alloc: Global, tokens: &mut Tokens, depth: usize) -> Result<Vec<IfArm>, ReadFault>
-    ensures { Gives (λ x. (map if_arm_view x.items, tokens.new.list.now)) result (elsifs_with depth (statement_at depth) tokens.old.list.now) }
+    ensures { Gives (λ x. (map if_arm_view x.items, tokens.new.list.now)) result
+        (elsifs_with depth (statement_at depth) tokens.old.list.now) }
 {
     repeated!(
         alloc,
@@ -248,7 +261,8 @@ fn elsifs(alloc: Global, tokens: &mut Tokens, depth: usize) -> Result<Vec<IfArm>
 /// IF Expr THEN Stmts {ELSIF Expr THEN Stmts} [ELSE Stmts] END
 #[cycle(statements)]
 fn if_statement(alloc: Global, tokens: &mut Tokens, depth: usize) -> Result<Statement, ReadFault>
-    ensures { Gives (λ x. (statement_view x, tokens.new.list.now)) result (if_with depth (statement_at depth) tokens.old.list.now) }
+    ensures { Gives (λ x. (statement_view x, tokens.new.list.now)) result
+        (if_with depth (statement_at depth) tokens.old.list.now) }
 {
     let word = tokens.expect(TokenKind::If)?;
     let arm = if_arm(alloc, tokens, depth)?;
@@ -264,7 +278,8 @@ fn if_statement(alloc: Global, tokens: &mut Tokens, depth: usize) -> Result<Stat
 /// Arm = [Labels ":" Stmts]
 #[cycle(statements)]
 fn arm(alloc: Global, tokens: &mut Tokens, depth: usize) -> Result<Vec<CaseArm>, ReadFault>
-    ensures { Gives (λ x. (map case_arm_view x.items, tokens.new.list.now)) result (arm_with depth (statement_at depth) tokens.old.list.now) }
+    ensures { Gives (λ x. (map case_arm_view x.items, tokens.new.list.now)) result
+        (arm_with depth (statement_at depth) tokens.old.list.now) }
 {
     let mut items = Vec::new(alloc);
     if !begins_expr(tokens) {
@@ -280,7 +295,8 @@ fn arm(alloc: Global, tokens: &mut Tokens, depth: usize) -> Result<Vec<CaseArm>,
 /// Arm {"|" Arm}
 #[cycle(statements)]
 fn arms(alloc: Global, tokens: &mut Tokens, depth: usize) -> Result<Vec<CaseArm>, ReadFault>
-    ensures { Gives (λ x. (map case_arm_view x.items, tokens.new.list.now)) result (arms_with depth (statement_at depth) tokens.old.list.now) }
+    ensures { Gives (λ x. (map case_arm_view x.items, tokens.new.list.now)) result
+        (arms_with depth (statement_at depth) tokens.old.list.now) }
 {
     all_listed!(tokens, TokenKind::Bar, arm(alloc, tokens, depth))
 }
@@ -288,7 +304,8 @@ fn arms(alloc: Global, tokens: &mut Tokens, depth: usize) -> Result<Vec<CaseArm>
 /// CASE Expr OF Arm {"|" Arm} [ELSE Stmts] END
 #[cycle(statements)]
 fn case_statement(alloc: Global, tokens: &mut Tokens, depth: usize) -> Result<Statement, ReadFault>
-    ensures { Gives (λ x. (statement_view x, tokens.new.list.now)) result (case_with depth (statement_at depth) tokens.old.list.now) }
+    ensures { Gives (λ x. (statement_view x, tokens.new.list.now)) result
+        (case_with depth (statement_at depth) tokens.old.list.now) }
 {
     let word = tokens.expect(TokenKind::Case)?;
     let value = expr(alloc, tokens, depth)?;
@@ -303,7 +320,8 @@ fn case_statement(alloc: Global, tokens: &mut Tokens, depth: usize) -> Result<St
 /// WHILE Expr DO Stmts END
 #[cycle(statements)]
 fn while_statement(alloc: Global, tokens: &mut Tokens, depth: usize) -> Result<Statement, ReadFault>
-    ensures { Gives (λ x. (statement_view x, tokens.new.list.now)) result (while_with depth (statement_at depth) tokens.old.list.now) }
+    ensures { Gives (λ x. (statement_view x, tokens.new.list.now)) result
+        (while_with depth (statement_at depth) tokens.old.list.now) }
 {
     let word = tokens.expect(TokenKind::While)?;
     let test = expr(alloc, tokens, depth)?;
@@ -321,7 +339,8 @@ fn repeat_statement(
     tokens: &mut Tokens,
     depth: usize,
 ) -> Result<Statement, ReadFault>
-    ensures { Gives (λ x. (statement_view x, tokens.new.list.now)) result (repeat_with depth (statement_at depth) tokens.old.list.now) }
+    ensures { Gives (λ x. (statement_view x, tokens.new.list.now)) result
+        (repeat_with depth (statement_at depth) tokens.old.list.now) }
 {
     let word = tokens.expect(TokenKind::Repeat)?;
     let body = statements(alloc, tokens, depth)?;
@@ -334,7 +353,8 @@ fn repeat_statement(
 /// LOOP Stmts END
 #[cycle(statements)]
 fn loop_statement(alloc: Global, tokens: &mut Tokens, depth: usize) -> Result<Statement, ReadFault>
-    ensures { Gives (λ x. (statement_view x, tokens.new.list.now)) result (loop_with depth (statement_at depth) tokens.old.list.now) }
+    ensures { Gives (λ x. (statement_view x, tokens.new.list.now)) result
+        (loop_with depth (statement_at depth) tokens.old.list.now) }
 {
     let word = tokens.expect(TokenKind::Loop)?;
     let body = statements(alloc, tokens, depth)?;
@@ -346,7 +366,8 @@ fn loop_statement(alloc: Global, tokens: &mut Tokens, depth: usize) -> Result<St
 /// FOR ident ":=" Expr TO Expr [BY Expr] DO Stmts END
 #[cycle(statements)]
 fn for_statement(alloc: Global, tokens: &mut Tokens, depth: usize) -> Result<Statement, ReadFault>
-    ensures { Gives (λ x. (statement_view x, tokens.new.list.now)) result (for_with depth (statement_at depth) tokens.old.list.now) }
+    ensures { Gives (λ x. (statement_view x, tokens.new.list.now)) result
+        (for_with depth (statement_at depth) tokens.old.list.now) }
 {
     let word = tokens.expect(TokenKind::For)?;
     let name = ident(tokens)?;
@@ -371,7 +392,8 @@ fn for_statement(alloc: Global, tokens: &mut Tokens, depth: usize) -> Result<Sta
 /// WITH Designator DO Stmts END
 #[cycle(statements)]
 fn with_statement(alloc: Global, tokens: &mut Tokens, depth: usize) -> Result<Statement, ReadFault>
-    ensures { Gives (λ x. (statement_view x, tokens.new.list.now)) result (with_with depth (statement_at depth) tokens.old.list.now) }
+    ensures { Gives (λ x. (statement_view x, tokens.new.list.now)) result
+        (with_with depth (statement_at depth) tokens.old.list.now) }
 {
     let word = tokens.expect(TokenKind::With)?;
     let of = designator(alloc, tokens, depth)?;

@@ -5,8 +5,11 @@ ghost use Rattle.m2_base.specs.Trees.{Stream as StreamTree};
 ghost use Rattle.m2_base.specs.Views.{import_view, stream_view};
 ghost use Rattle.m2_parse.specs.Fitting.{all_fit};
 ghost use Rattle.m2_parse.specs.Reading.{Gives};
-ghost use Rattle.m2_parse.specs.ReadStreams.{begins_import as spec_begins_import, from_at, import_at, imports_at, implementation_at, export_at, main_at, definition_at, procedure_stream_at, stream_at};
-ghost use Rattle.m2_parse.specs.Streams.{parse_fault as spec_parse_fault, cause_of, SpellsStream, IsFirstFault, stream_text};
+ghost use Rattle.m2_parse.specs.ReadStreams.{begins_import as spec_begins_import, from_at, import_at, imports_at};
+ghost use Rattle.m2_parse.specs.ReadStreams.{implementation_at, export_at, main_at, definition_at};
+ghost use Rattle.m2_parse.specs.ReadStreams.{procedure_stream_at, stream_at};
+ghost use Rattle.m2_parse.specs.Streams.{parse_fault as spec_parse_fault, cause_of, SpellsStream, IsFirstFault};
+ghost use Rattle.m2_parse.specs.Streams.{stream_text};
 
 use crate::declarations::{block, definition_declarations, heading};
 use crate::faults::{ParseFault, ReadFault, Refusal};
@@ -139,7 +142,8 @@ fn definition_stream(alloc: Global, tokens: &mut Tokens, depth: usize) -> Result
 /// Procedure = Heading ";" Block ident ";" StreamEnd
 #[tactic(auto, using(std::proofs::lemmas::Grind::common_steps), unfolding(crate::specs::ReadStreams::procedure_stream_at))]
 fn procedure_stream(alloc: Global, tokens: &mut Tokens, depth: usize) -> Result<Stream, ReadFault>
-    ensures { Gives (λ x. (stream_view x, tokens.new.list.now)) result (procedure_stream_at depth tokens.old.list.now) }
+    ensures { Gives (λ x. (stream_view x, tokens.new.list.now)) result
+        (procedure_stream_at depth tokens.old.list.now) }
 {
     let heading = heading(alloc, tokens)?;
     tokens.expect(TokenKind::Semicolon)?;
@@ -211,8 +215,8 @@ fn whole(
     }
 }
 
-/// The tree of a stream of this kind, or its first fault. At a fault of syntax no sentence begins with the tokens up to
-/// it; a token is too deep where it lies in more than a hundred types, field lists, statements and factors.
+/// The tree of a stream of this kind, or its first fault. At a fault of syntax no sentence begins with the tokens up
+/// to it; a token is too deep where it lies in more than a hundred types, field lists, statements and factors.
 pub fn parse_stream(
     alloc: Global,
     tokens: &[Token],
@@ -221,7 +225,8 @@ pub fn parse_stream(
 ) -> Result<Stream, ParseFault>
     requires { IsTrue (all_fit tokens.now) }
     ensures tree { IfOk result (λ s. SpellsStream kind (stream_view s) tokens.now) }
-    ensures only { (s : StreamTree) → SpellsStream kind s tokens.now → readers.Gives cause_of stream_view result (Ok s) }
+    ensures only { (s : StreamTree) → SpellsStream kind s tokens.now
+        → readers.Gives cause_of stream_view result (Ok s) }
     ensures fault { IfErr result (λ e. IsFirstFault text kind tokens.now e) }
 {
     whole(alloc, Tokens { list: tokens }, text, kind)

@@ -3,7 +3,15 @@ ghost use Rattle.std.specs.Prelude.{◌≡◌, map, length};
 ghost use Rattle.m2_base.specs.Views.{expr_view, type_view, type_form_view, field_list_view, variant_arm_view};
 ghost use Rattle.m2_parse.specs.Reading.{Gives};
 ghost use Rattle.m2_parse.specs.ReadExpressions.{factor_at};
-ghost use Rattle.m2_parse.specs.ReadTypes.{begins_type as spec_begins_type, begins_field as spec_begins_field, begins_formal as spec_begins_formal, begins_simple as spec_begins_simple, by_reference_at, open_array_at, formal_at, some_formals_at, result_at, formals_at, range_with, named_with, enumeration_at, simple_with, simples_with, optional_field_with, fields_with, variant_with, variants_with, other_fields_with, tag_at, plain_fields_with, case_fields_with, inner_field as spec_inner_field, array_with, record_with, set_of_with, pointer_with, proc_type_at, inner_type as spec_inner_type, type_at, field_at};
+ghost use Rattle.m2_parse.specs.ReadTypes.{begins_type as spec_begins_type, begins_field as spec_begins_field};
+ghost use Rattle.m2_parse.specs.ReadTypes.{begins_formal as spec_begins_formal, begins_simple as spec_begins_simple};
+ghost use Rattle.m2_parse.specs.ReadTypes.{by_reference_at, open_array_at, formal_at, some_formals_at, result_at};
+ghost use Rattle.m2_parse.specs.ReadTypes.{formals_at, range_with, named_with, enumeration_at, simple_with};
+ghost use Rattle.m2_parse.specs.ReadTypes.{simples_with, optional_field_with, fields_with, variant_with};
+ghost use Rattle.m2_parse.specs.ReadTypes.{variants_with, other_fields_with, tag_at, plain_fields_with};
+ghost use Rattle.m2_parse.specs.ReadTypes.{case_fields_with, inner_field as spec_inner_field, array_with, record_with};
+ghost use Rattle.m2_parse.specs.ReadTypes.{set_of_with, pointer_with, proc_type_at, inner_type as spec_inner_type};
+ghost use Rattle.m2_parse.specs.ReadTypes.{type_at, field_at};
 
 use crate::expressions::{begins_expr, expr, labels, too_deep};
 use crate::faults::ReadFault;
@@ -132,7 +140,8 @@ fn formals(alloc: Global, tokens: &mut Tokens) -> Result<TypeForm, ReadFault>
 /// Range = "[" Expr ".." Expr "]", with its first token
 #[tactic(auto, using(std::proofs::lemmas::Grind::common_steps), unfolding(crate::specs::ReadTypes::range_with))]
 fn range(alloc: Global, tokens: &mut Tokens, depth: usize) -> Result<(u32, Expr, Expr), ReadFault>
-    ensures { Gives (λ x. ((x.0, expr_view x.1, expr_view x.2), tokens.new.list.now)) result (range_with (factor_at depth) tokens.old.list.now) }
+    ensures { Gives (λ x. ((x.0, expr_view x.1, expr_view x.2), tokens.new.list.now)) result
+        (range_with (factor_at depth) tokens.old.list.now) }
 {
     let open = tokens.expect(TokenKind::LeftBracket)?;
     let low = expr(alloc, tokens, depth)?;
@@ -145,7 +154,8 @@ fn range(alloc: Global, tokens: &mut Tokens, depth: usize) -> Result<(u32, Expr,
 /// Qual [Range]
 #[tactic(auto, using(std::proofs::lemmas::Grind::common_steps, m2_base::proofs::Seen::type_seen, m2_base::proofs::Seen::named_seen, m2_base::proofs::Seen::sub_seen), unfolding(crate::specs::ReadTypes::named_with, crate::specs::ReadTypes::optional_range_with))]
 fn named(alloc: Global, tokens: &mut Tokens, depth: usize) -> Result<TypeExpr, ReadFault>
-    ensures { Gives (λ x. (type_view x, tokens.new.list.now)) result (named_with (factor_at depth) tokens.old.list.now) }
+    ensures { Gives (λ x. (type_view x, tokens.new.list.now)) result
+        (named_with (factor_at depth) tokens.old.list.now) }
 {
     let of = qual(tokens)?;
     let at = of.first.at;
@@ -176,7 +186,8 @@ fn enumeration(alloc: Global, tokens: &mut Tokens) -> Result<TypeExpr, ReadFault
 /// Simple = Qual [Range] | "(" Idents ")" | Range
 #[tactic(auto, using(std::proofs::lemmas::Grind::common_steps, m2_base::proofs::Seen::type_seen, m2_base::proofs::Seen::sub_seen), unfolding(crate::specs::ReadTypes::simple_with))]
 fn simple(alloc: Global, tokens: &mut Tokens, depth: usize) -> Result<TypeExpr, ReadFault>
-    ensures { Gives (λ x. (type_view x, tokens.new.list.now)) result (simple_with (factor_at depth) tokens.old.list.now) }
+    ensures { Gives (λ x. (type_view x, tokens.new.list.now)) result
+        (simple_with (factor_at depth) tokens.old.list.now) }
 {
     if tokens.next_is(TokenKind::Identifier) {
         return named(alloc, tokens, depth);
@@ -195,7 +206,8 @@ fn simple(alloc: Global, tokens: &mut Tokens, depth: usize) -> Result<TypeExpr, 
 
 /// Simple {"," Simple}
 fn simples(alloc: Global, tokens: &mut Tokens, depth: usize) -> Result<Vec<TypeExpr>, ReadFault>
-    ensures { Gives (λ x. (map type_view x.items, tokens.new.list.now)) result (simples_with (factor_at depth) tokens.old.list.now) }
+    ensures { Gives (λ x. (map type_view x.items, tokens.new.list.now)) result
+        (simples_with (factor_at depth) tokens.old.list.now) }
 {
     listed!(
         alloc,
@@ -207,7 +219,8 @@ fn simples(alloc: Global, tokens: &mut Tokens, depth: usize) -> Result<Vec<TypeE
 
 /// SET OF Simple
 fn set_type(alloc: Global, tokens: &mut Tokens, depth: usize) -> Result<TypeExpr, ReadFault>
-    ensures { Gives (λ x. (type_view x, tokens.new.list.now)) result (set_of_with (factor_at depth) tokens.old.list.now) }
+    ensures { Gives (λ x. (type_view x, tokens.new.list.now)) result
+        (set_of_with (factor_at depth) tokens.old.list.now) }
 {
     let set = tokens.expect(TokenKind::Set)?;
     tokens.expect(TokenKind::Of)?;
@@ -251,11 +264,13 @@ pub fn type_expr(alloc: Global, tokens: &mut Tokens, depth: usize) -> Result<Typ
     inner_type(alloc, tokens, depth - 1)
 }
 
-/// Type = Simple | ARRAY Simple {"," Simple} OF Type | RECORD Fields END | SET OF Simple | POINTER TO Type | PROCEDURE ["(" [Formal {"," Formal}] ")" [":" Qual]]
+/// Type = Simple | ARRAY Simple {"," Simple} OF Type | RECORD Fields END | SET OF Simple | POINTER TO Type | PROCEDURE
+/// ["(" [Formal {"," Formal}] ")" [":" Qual]]
 #[cycle(types)]
 #[tactic(auto, unfolding(crate::specs::ReadTypes::inner_type))]
 fn inner_type(alloc: Global, tokens: &mut Tokens, depth: usize) -> Result<TypeExpr, ReadFault>
-    ensures { Gives (λ x. (type_view x, tokens.new.list.now)) result (spec_inner_type (factor_at depth) (type_at depth) (field_at depth) tokens.old.list.now) }
+    ensures { Gives (λ x. (type_view x, tokens.new.list.now)) result
+        (spec_inner_type (factor_at depth) (type_at depth) (field_at depth) tokens.old.list.now) }
 {
     if begins_simple(tokens) {
         return simple(alloc, tokens, depth);
@@ -278,7 +293,8 @@ fn inner_type(alloc: Global, tokens: &mut Tokens, depth: usize) -> Result<TypeEx
 /// ARRAY Simple {"," Simple} OF Type
 #[cycle(types)]
 fn array(alloc: Global, tokens: &mut Tokens, depth: usize) -> Result<TypeExpr, ReadFault>
-    ensures { Gives (λ x. (type_view x, tokens.new.list.now)) result (array_with (factor_at depth) (type_at depth) (field_at depth) tokens.old.list.now) }
+    ensures { Gives (λ x. (type_view x, tokens.new.list.now)) result
+        (array_with (factor_at depth) (type_at depth) (field_at depth) tokens.old.list.now) }
 {
     let array = tokens.expect(TokenKind::Array)?;
     let index = simples(alloc, tokens, depth)?;
@@ -292,7 +308,8 @@ fn array(alloc: Global, tokens: &mut Tokens, depth: usize) -> Result<TypeExpr, R
 /// RECORD Fields END
 #[cycle(types)]
 fn record_type(alloc: Global, tokens: &mut Tokens, depth: usize) -> Result<TypeExpr, ReadFault>
-    ensures { Gives (λ x. (type_view x, tokens.new.list.now)) result (record_with (factor_at depth) (type_at depth) (field_at depth) tokens.old.list.now) }
+    ensures { Gives (λ x. (type_view x, tokens.new.list.now)) result
+        (record_with (factor_at depth) (type_at depth) (field_at depth) tokens.old.list.now) }
 {
     let record = tokens.expect(TokenKind::Record)?;
     let list = fields(alloc, tokens, depth)?;
@@ -305,7 +322,8 @@ fn record_type(alloc: Global, tokens: &mut Tokens, depth: usize) -> Result<TypeE
 /// POINTER TO Type
 #[cycle(types)]
 fn pointer(alloc: Global, tokens: &mut Tokens, depth: usize) -> Result<TypeExpr, ReadFault>
-    ensures { Gives (λ x. (type_view x, tokens.new.list.now)) result (pointer_with (factor_at depth) (type_at depth) (field_at depth) tokens.old.list.now) }
+    ensures { Gives (λ x. (type_view x, tokens.new.list.now)) result
+        (pointer_with (factor_at depth) (type_at depth) (field_at depth) tokens.old.list.now) }
 {
     let pointer = tokens.expect(TokenKind::Pointer)?;
     tokens.expect(TokenKind::To)?;
@@ -318,7 +336,8 @@ fn pointer(alloc: Global, tokens: &mut Tokens, depth: usize) -> Result<TypeExpr,
 /// Fields = FieldList {";" FieldList}
 #[cycle(types)]
 fn fields(alloc: Global, tokens: &mut Tokens, depth: usize) -> Result<Vec<FieldList>, ReadFault>
-    ensures { Gives (λ x. (map field_list_view x.items, tokens.new.list.now)) result (fields_with (factor_at depth) (type_at depth) (field_at depth) tokens.old.list.now) }
+    ensures { Gives (λ x. (map field_list_view x.items, tokens.new.list.now)) result
+        (fields_with (factor_at depth) (type_at depth) (field_at depth) tokens.old.list.now) }
 {
     all_listed!(
         tokens,
@@ -334,7 +353,8 @@ fn optional_field(
     tokens: &mut Tokens,
     depth: usize,
 ) -> Result<Vec<FieldList>, ReadFault>
-    ensures { Gives (λ x. (map field_list_view x.items, tokens.new.list.now)) result (optional_field_with (factor_at depth) (type_at depth) (field_at depth) tokens.old.list.now) }
+    ensures { Gives (λ x. (map field_list_view x.items, tokens.new.list.now)) result
+        (optional_field_with (factor_at depth) (type_at depth) (field_at depth) tokens.old.list.now) }
 {
     let mut items = Vec::new(alloc);
     if !begins_field(tokens) {
@@ -361,7 +381,8 @@ fn field(alloc: Global, tokens: &mut Tokens, depth: usize) -> Result<FieldList, 
 #[cycle(types)]
 #[tactic(auto, unfolding(crate::specs::ReadTypes::inner_field))]
 fn inner_field(alloc: Global, tokens: &mut Tokens, depth: usize) -> Result<FieldList, ReadFault>
-    ensures { Gives (λ x. (field_list_view x, tokens.new.list.now)) result (spec_inner_field (factor_at depth) (type_at depth) (field_at depth) tokens.old.list.now) }
+    ensures { Gives (λ x. (field_list_view x, tokens.new.list.now)) result
+        (spec_inner_field (factor_at depth) (type_at depth) (field_at depth) tokens.old.list.now) }
 {
     if tokens.next_is(TokenKind::Identifier) {
         return plain_fields(alloc, tokens, depth);
@@ -372,7 +393,8 @@ fn inner_field(alloc: Global, tokens: &mut Tokens, depth: usize) -> Result<Field
 /// Idents ":" Type
 #[cycle(types)]
 fn plain_fields(alloc: Global, tokens: &mut Tokens, depth: usize) -> Result<FieldList, ReadFault>
-    ensures { Gives (λ x. (field_list_view x, tokens.new.list.now)) result (plain_fields_with (factor_at depth) (type_at depth) (field_at depth) tokens.old.list.now) }
+    ensures { Gives (λ x. (field_list_view x, tokens.new.list.now)) result
+        (plain_fields_with (factor_at depth) (type_at depth) (field_at depth) tokens.old.list.now) }
 {
     let names = idents(alloc, tokens)?;
     tokens.expect(TokenKind::Colon)?;
@@ -383,7 +405,8 @@ fn plain_fields(alloc: Global, tokens: &mut Tokens, depth: usize) -> Result<Fiel
 /// CASE [ident] ":" Qual OF Variant {"|" Variant} [ELSE Fields] END
 #[cycle(types)]
 fn case_fields(alloc: Global, tokens: &mut Tokens, depth: usize) -> Result<FieldList, ReadFault>
-    ensures { Gives (λ x. (field_list_view x, tokens.new.list.now)) result (case_fields_with (factor_at depth) (type_at depth) (field_at depth) tokens.old.list.now) }
+    ensures { Gives (λ x. (field_list_view x, tokens.new.list.now)) result
+        (case_fields_with (factor_at depth) (type_at depth) (field_at depth) tokens.old.list.now) }
 {
     tokens.expect(TokenKind::Case)?;
     let tag = tag(tokens)?;
@@ -405,7 +428,8 @@ fn case_fields(alloc: Global, tokens: &mut Tokens, depth: usize) -> Result<Field
 /// Variant {"|" Variant}
 #[cycle(types)]
 fn variants(alloc: Global, tokens: &mut Tokens, depth: usize) -> Result<Vec<VariantArm>, ReadFault>
-    ensures { Gives (λ x. (map variant_arm_view x.items, tokens.new.list.now)) result (variants_with (factor_at depth) (type_at depth) (field_at depth) tokens.old.list.now) }
+    ensures { Gives (λ x. (map variant_arm_view x.items, tokens.new.list.now)) result
+        (variants_with (factor_at depth) (type_at depth) (field_at depth) tokens.old.list.now) }
 {
     all_listed!(tokens, TokenKind::Bar, variant(alloc, tokens, depth))
 }
@@ -413,7 +437,8 @@ fn variants(alloc: Global, tokens: &mut Tokens, depth: usize) -> Result<Vec<Vari
 /// Variant = [Labels ":" Fields]
 #[cycle(types)]
 fn variant(alloc: Global, tokens: &mut Tokens, depth: usize) -> Result<Vec<VariantArm>, ReadFault>
-    ensures { Gives (λ x. (map variant_arm_view x.items, tokens.new.list.now)) result (variant_with (factor_at depth) (type_at depth) (field_at depth) tokens.old.list.now) }
+    ensures { Gives (λ x. (map variant_arm_view x.items, tokens.new.list.now)) result
+        (variant_with (factor_at depth) (type_at depth) (field_at depth) tokens.old.list.now) }
 {
     let mut items = Vec::new(alloc);
     if !begins_expr(tokens) {
@@ -433,7 +458,8 @@ fn other_fields(
     tokens: &mut Tokens,
     depth: usize,
 ) -> Result<Vec<FieldList>, ReadFault>
-    ensures { Gives (λ x. (map field_list_view x.items, tokens.new.list.now)) result (other_fields_with (factor_at depth) (type_at depth) (field_at depth) tokens.old.list.now) }
+    ensures { Gives (λ x. (map field_list_view x.items, tokens.new.list.now)) result
+        (other_fields_with (factor_at depth) (type_at depth) (field_at depth) tokens.old.list.now) }
 {
     let Some(_) = tokens.next_if(TokenKind::Else) else {
         return Ok(Vec::new(alloc));

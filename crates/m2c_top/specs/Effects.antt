@@ -1,4 +1,5 @@
--- What the words of a command line leave: the status, what is printed, the files of the shelf, and what is left of the input.
+-- What the words of a command line leave: the status, what is printed, the files of the shelf,
+-- and what is left of the input.
 use Rattle.std.specs.Prelude.{◌≡◌, ℕ, List, Option, Some, codes}
 use Rattle.command_words.specs.Command.{Asks, Command, IsNoCommand, big, compile, dump, run}
 use Rattle.compile_command.specs.Big.{Summarizes}
@@ -22,23 +23,33 @@ pub record Effect : Type 0 where
   pub left : Option (List ℕ)
 
 abbrev pub usage : List ℕ
-usage = line (codes "usage: m2c compile NAME [--workers N] | run NAME [--steps N] [--cells N] | dump NAME | big N [--workers N]")
+usage = line (codes
+    "usage: m2c compile NAME [--workers N] | run NAME [--steps N] [--cells N] | dump NAME | big N [--workers N]")
 
 -- What a command leaves over these files, where this is left of the input.
 pub data Does (files : Files) (left : Option (List ℕ)) : Command → Effect → Type 0 where
-  compiles : (name : List ℕ) (workers : ℕ) (outcome : CompileOutcome) (after : Files) → Compiles (Some files) name outcome → outcome.files ≡ Some after
-      → Does files left (compile name workers) (record { status = status_compiled outcome.answer; printed = outcome.printed; files = after; left = left })
-  runs : (name : List ℕ) (steps cells : ℕ) (input : List ℕ) (outcome : ObjectOutcome) → left ≡ Some input → Runs (Some files) name steps cells input outcome
-      → Does files left (run name steps cells) (record { status = status_after outcome.answer; printed = outcome.printed; files = files; left = Some outcome.left })
+  compiles : (name : List ℕ) (workers : ℕ) (outcome : CompileOutcome) (after : Files)
+      → Compiles (Some files) name outcome → outcome.files ≡ Some after
+      → Does files left (compile name workers)
+      (record { status = status_compiled outcome.answer; printed = outcome.printed; files = after; left = left })
+  runs : (name : List ℕ) (steps cells : ℕ) (input : List ℕ) (outcome : ObjectOutcome) → left ≡ Some input
+      → Runs (Some files) name steps cells input outcome
+      → Does files left (run name steps cells) (record
+      { status = status_after outcome.answer; printed = outcome.printed; files = files; left = Some outcome.left })
   dumps : (name printed : List ℕ) (answer : Answer) → Dumps (Some files) name printed answer
-      → Does files left (dump name) (record { status = status_after answer; printed = printed; files = files; left = left })
-  counts_big : (procedures workers : ℕ) (answer : CompileAnswer) (printed : List ℕ) → Summarizes (Some files) procedures answer printed
-      → Does files left (big procedures workers) (record { status = status_compiled answer; printed = printed; files = files; left = left })
+      → Does files left (dump name)
+      (record { status = status_after answer; printed = printed; files = files; left = left })
+  counts_big : (procedures workers : ℕ) (answer : CompileAnswer) (printed : List ℕ)
+      → Summarizes (Some files) procedures answer printed
+      → Does files left (big procedures workers)
+      (record { status = status_compiled answer; printed = printed; files = files; left = left })
 
 -- What the words leave.
 pub data Gives (words : List (List ℕ)) (files : Files) (left : Option (List ℕ)) : Effect → Type 0 where
-  no_command : IsNoCommand words → Gives words files left (record { status = NoCommand; printed = usage; files = files; left = left })
-  commanded : (command : Command) (effect : Effect) → Asks words command → Does files left command effect → Gives words files left effect
+  no_command : IsNoCommand words
+      → Gives words files left (record { status = NoCommand; printed = usage; files = files; left = left })
+  commanded : (command : Command) (effect : Effect) → Asks words command → Does files left command effect
+      → Gives words files left effect
 
 -- the source tells its input, where the command reads it
 abbrev pub IsTold : Option (List ℕ) → Command → Type 0
@@ -50,7 +61,8 @@ abbrev pub HasInput : List (List ℕ) → Option (List ℕ) → Type 0
 HasInput words left = (command : Command) → Asks words command → IsTold left command
 
 -- what is left: the status, the files, what was printed behind what was written before, and what is left of the input
-pub record Leaves (given : Effect → Type 0) (status : ℕ) (files : Option Files) (old new left : Option (List ℕ)) : Type 0 where
+pub record Leaves (given : Effect → Type 0) (status : ℕ) (files : Option Files)
+    (old new left : Option (List ℕ)) : Type 0 where
   pub effect : Effect
   pub is_given : given effect
   pub status_is : status ≡ status_number effect.status

@@ -35,4 +35,5 @@ ended_over (Err objects.Memory) = Err stop.Memory
 
 -- what an end without a fault is
 abbrev pub IsWellEnded : List (List ℕ) → Status → Type 0
-IsWellEnded words status = ((command : Command) × Asks words command × Answers command status) ⊎ ((status ≡ NoCommand) × IsNoCommand words)
+IsWellEnded words status =
+    ((command : Command) × Asks words command × Answers command status) ⊎ ((status ≡ NoCommand) × IsNoCommand words)

@@ -8,7 +8,9 @@ use Rattle.m2_io.specs.Files.{Files}
 use Rattle.object_commands.specs.declared.answer.Answer.{Answer as ObjectAnswer}
 use Rattle.object_commands.specs.declared.answer.Answer.TheVariants as objects
 use Rattle.m2c_top.specs.declared.status.Status.{Status}
-use Rattle.m2c_top.specs.declared.status.Status.TheVariants.{Done, Diagnosed, NoCommand, NoText, NoObject, ReadFault, WriteFault, NoMemory, OverLimit, BadObjects, Trapped, StepsSpent}
+use Rattle.m2c_top.specs.declared.status.Status.TheVariants.{Done, Diagnosed, NoCommand, NoText, NoObject, ReadFault}
+use Rattle.m2c_top.specs.declared.status.Status.TheVariants.{WriteFault, NoMemory, OverLimit, BadObjects, Trapped}
+use Rattle.m2c_top.specs.declared.status.Status.TheVariants.{StepsSpent}
 
 abbrev pub status_number : Status → ℕ
 status_number Done = 0
@@ -30,7 +32,8 @@ IsFault status = (status ≡ 4) ⊎ (status ≡ 5) ⊎ (status ≡ 6)
 
 -- what can be answered
 abbrev pub IsStatus : ℕ → Type 0
-IsStatus status = (status ≡ 0) ⊎ (status ≡ 1) ⊎ (status ≡ 2) ⊎ (status ≡ 3) ⊎ (status ≡ 7) ⊎ (status ≡ 8) ⊎ (status ≡ 9) ⊎ (status ≡ 10) ⊎ IsFault status
+IsStatus status = (status ≡ 0) ⊎ (status ≡ 1) ⊎ (status ≡ 2) ⊎ (status ≡ 3) ⊎ (status ≡ 7) ⊎ (status ≡ 8)
+    ⊎ (status ≡ 9) ⊎ (status ≡ 10) ⊎ IsFault status
 
 -- the status of an answer to compiling
 abbrev pub status_compiled : CompileAnswer → Status

@@ -5,7 +5,8 @@ ghost use Rattle.m2c_top.specs.Effects.{Effect, Gives};
 
 /// The words have one outcome over these files, where this is left of the input.
 pub fn one_outcome()
-    ensures { (words : List (List ℕ)) (files : Files) (left : Option (List ℕ)) (these those : Effect) → Gives words files left these → Gives words files left those → these ≡ those }
+    ensures { (words : List (List ℕ)) (files : Files) (left : Option (List ℕ)) (these those : Effect)
+        → Gives words files left these → Gives words files left those → these ≡ those }
 {
     compile_command::one_outcome();
     compile_command::one_summary();

@@ -15,8 +15,11 @@ use Rattle.merge_laws.specs.UnitObject.{object_of}
 abbrev pub unit_diags : UnitTrees → List Diag
 unit_diags u = in_order (flat_map (λ diags. diags) (noted_in u))
 
--- What the texts of a unit come to, of which these are the fronts: what their first faults do, where one has a fault; otherwise they spell
--- the trees of the unit, and come to the diagnostics of all blocks, or where there is none to the object.
+-- What the texts of a unit come to, of which these are the fronts: what their first faults do, where one has a fault;
+-- otherwise they spell the trees of the unit, and come to the diagnostics of all blocks,
+-- or where there is none to the object.
 pub data IsOutcome (front : TextOf → Front) (texts : UnitTexts) : Outcome → Type 0 where
-  of_faults : (faults : List (Option StreamFault)) (outcome : Outcome) → AreFaults texts faults → outcome_of_faults faults ≡ Some outcome → IsOutcome front texts outcome
-  of_trees : (u : UnitTrees) → AreRead texts u → IsOutcome front texts (or_object (unit_diags u) (object_of front texts u))
+  of_faults : (faults : List (Option StreamFault)) (outcome : Outcome) → AreFaults texts faults
+      → outcome_of_faults faults ≡ Some outcome → IsOutcome front texts outcome
+  of_trees : (u : UnitTrees) → AreRead texts u
+      → IsOutcome front texts (or_object (unit_diags u) (object_of front texts u))

@@ -1,5 +1,5 @@
--- What the work on the streams of a unit leaves, by the definitions of its blocks: in whichever order and by however many workers
--- the work was done.
+-- What the work on the streams of a unit leaves, by the definitions of its blocks: in whichever order and by however
+-- many workers the work was done.
 use Rattle.std.specs.Prelude.{◌≡◌, ℕ, List, [], ◌∷◌, drop, length, map, None}
 use Rattle.std.specs.List.{AllZip}
 use Rattle.m2_base.specs.Finished.{AreRead, main_tokens}
@@ -40,7 +40,8 @@ codes_in u = drop (length u.definitions) (of_blocks (λ before b. block_code u.s
 
 -- no block has a diagnostic
 abbrev pub HasNoDiags : UnitTrees → Type 0
-HasNoDiags u = EachBlock (λ before b. block_diags u.source before (unit_rows u) b ≡ []) u.source (standard_rows ∷ []) (blocks_of u)
+HasNoDiags u = EachBlock (λ before b. block_diags u.source before (unit_rows u) b ≡ []) u.source
+    (standard_rows ∷ []) (blocks_of u)
 
 -- ** Outputs
 
@@ -54,9 +55,9 @@ pub record AreCoded (u : UnitTrees) (outputs : List Output) : Type 0 where
   pub headings : headings_by outputs ≡ headings_in u
   pub codes : map (λ o. code_view o.code) (drop (length u.definitions) outputs) ≡ codes_in u
 
--- These are the outputs of a unit that is cut into streams: its main text passes no limit on procedures. Each is of the stream at its
--- place, and tells its fault. Where all texts are read, they have the diagnostics of the unit's blocks, and where there are none, what
--- the blocks make.
+-- These are the outputs of a unit that is cut into streams: its main text passes no limit on procedures. Each is of
+-- the stream at its place, and tells its fault. Where all texts are read, they have the diagnostics of the unit's
+-- blocks, and where there are none, what the blocks make.
 pub record AreOutputs (texts : UnitTexts) (outputs : List Output) : Type 0 where
   pub limits : limit_of (main_tokens texts) ≡ None
   pub each : AllZip IsOutputOf (streams_of texts) outputs

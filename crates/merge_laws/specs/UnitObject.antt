@@ -26,10 +26,10 @@ abbrev pub module_name : List Stream → Option Ident
 module_name [] = None
 module_name (tree ∷ trees) = tree.name
 
--- The object of a unit, by the keys of its definition texts in the order of their scopes. It is of version 2, and has the name of the
--- module. What is of the own definition is its key, its cells, which are the first of the module's, and its headings, which are the
--- exports in their order. The other definition modules are its imports, in the order of their scopes; its procedures are the blocks
--- of the main text in the order of theirs.
+-- The object of a unit, by the keys of its definition texts in the order of their scopes. It is of version 2, and has
+-- the name of the module. What is of the own definition is its key, its cells, which are the first of the module's,
+-- and its headings, which are the exports in their order. The other definition modules are its imports, in the order
+-- of their scopes; its procedures are the blocks of the main text in the order of theirs.
 abbrev pub unit_contents : Keys → UnitTrees → Contents
 unit_contents keys u =
     record {
@@ -38,7 +38,8 @@ unit_contents keys u =
       key = of_own no_key u.own (map (λ k. k.1) keys);
       cells = (unit_world u).cells;
       own_cells = of_own 0 u.own (cells_in u);
-      exports = exports_in (slice_index_or (headings_in u) (length u.definitions) []) (of_own [] u.own (headings_in u));
+      exports =
+          exports_in (slice_index_or (headings_in u) (length u.definitions) []) (of_own [] u.own (headings_in u));
       imports = without_own u.own (keyed keys (definitions_in u));
       procedures = (unit_world u).procedures;
     }

@@ -15,21 +15,26 @@ ghost use Rattle.unit_merge.specs.Outcome.{Outcome};
 
 /// The object of a unit is valid, where nothing is left out of the unit and no block has a diagnostic.
 pub fn unit_objects_are_valid()
-    ensures { (texts : UnitTexts) (u : UnitTrees) (front : TextOf → Front) → IsUnit texts → IsWhole front texts → AreRead texts u → HasNoDiags u
-        → HaveTheirNumbers texts → HaveLowHeights u → IsValid (object_of front texts u) }
+    ensures { (texts : UnitTexts) (u : UnitTrees) (front : TextOf → Front) → IsUnit texts
+        → IsWhole front texts → AreRead texts u → HasNoDiags u → HaveTheirNumbers texts → HaveLowHeights u
+        → IsValid (object_of front texts u) }
 {}
 
 /// The outputs of a unit's streams can be merged.
 pub fn outputs_can_be_merged()
-    ensures { (texts : UnitTexts) (front : TextOf → Front) (outputs : List Output) → IsUnit texts → IsWhole front texts → AreOutputs texts outputs → CanBeMerged texts outputs }
+    ensures { (texts : UnitTexts) (front : TextOf → Front) (outputs : List Output) → IsUnit texts → IsWhole front texts
+        → AreOutputs texts outputs → CanBeMerged texts outputs }
 {}
 
 /// What merging gives of the outputs of a unit's streams is what the unit comes to.
 pub fn merging_gives_the_outcome()
-    ensures { (texts : UnitTexts) (front : TextOf → Front) (outputs : List Output) (outcome : Outcome) → IsUnit texts → IsWhole front texts → AreOutputs texts outputs → IsMerged front texts outputs outcome → IsOutcome front texts outcome }
+    ensures { (texts : UnitTexts) (front : TextOf → Front) (outputs : List Output) (outcome : Outcome)
+        → IsUnit texts → IsWhole front texts → AreOutputs texts outputs → IsMerged front texts outputs outcome
+        → IsOutcome front texts outcome }
 {}
 
 /// A unit of which nothing is left out comes to one outcome at most.
 pub fn unit_has_one_outcome()
-    ensures { (texts : UnitTexts) (front : TextOf → Front) (these those : Outcome) → IsUnit texts → IsWhole front texts → IsOutcome front texts these → IsOutcome front texts those → these ≡ those }
+    ensures { (texts : UnitTexts) (front : TextOf → Front) (these those : Outcome) → IsUnit texts → IsWhole front texts
+        → IsOutcome front texts these → IsOutcome front texts those → these ≡ those }
 {}

@@ -1,9 +1,9 @@
 //! Is what merging gives the outcome of the unit, and is its object valid?
 //!
-//! What a unit comes to is said by the definitions of its texts and its blocks alone (`specs/Outcome`), and so is its object
-//! (`specs/UnitObject`). The outputs of its streams are those of its blocks (`specs/Outputs`). The laws here say that such outputs can be
-//! merged, that merging gives the outcome, and that the object of a unit without diagnostics is valid, so that whoever builds it
-//! tests nothing.
+//! What a unit comes to is said by the definitions of its texts and its blocks alone (`specs/Outcome`), and so is its
+//! object (`specs/UnitObject`). The outputs of its streams are those of its blocks (`specs/Outputs`). The laws here
+//! say that such outputs can be merged, that merging gives the outcome, and that the object of a unit without
+//! diagnostics is valid, so that whoever builds it tests nothing.
 #![tactic(auto)]
 
 mod laws;

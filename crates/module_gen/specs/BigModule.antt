@@ -1,5 +1,5 @@
--- The text of the module Big of so many procedures. Each adds `w` to `v`; the body calls one after another. `w` is declared behind the
--- procedures that use it.
+-- The text of the module Big of so many procedures. Each adds `w` to `v`; the body calls one after another. `w` is
+-- declared behind the procedures that use it.
 use Rattle.std.specs.Prelude.{ℕ, List, [], ◌∷◌, ◌++◌, codes, decimal, map}
 use Rattle.std.specs.List.{flat_map, range_with_len}
 

@@ -11,4 +11,5 @@ use Rattle.object_commands.specs.declared.answer.Answer.TheVariants.{Done}
 
 pub data Dumps (holds : Option Files) (name : List ℕ) : (printed : List ℕ) → Answer → Type 0 where
   dumped : (o : Contents) (text : List ℕ) → Finds holds name o → IsText o text → Dumps holds name text Done
-  failed : (f : Failure) → Stops holds (start name) name f → Dumps holds name (line (failure_text name f)) (failure_answer f)
+  failed : (f : Failure) → Stops holds (start name) name f
+      → Dumps holds name (line (failure_text name f)) (failure_answer f)

@@ -23,7 +23,8 @@ refusal_text (key_differs name) = codes "link key differs " ++ name
 abbrev pub failure_text : (main : List ℕ) → Failure → List ℕ
 failure_text main no_object = codes "no object " ++ main ++ codes ".m2o"
 failure_text main (limited limit) = limit_text limit
-failure_text main (broken name offset code) = codes "bad object " ++ name ++ codes ".m2o at " ++ decimal offset ++ codes " code " ++ decimal code
+failure_text main (broken name offset code) =
+    codes "bad object " ++ name ++ codes ".m2o at " ++ decimal offset ++ codes " code " ++ decimal code
 failure_text main (refused r) = refusal_text r
 
 abbrev pub failure_answer : Failure → Answer

@@ -1,5 +1,5 @@
--- What running a module leaves: what its program prints and reads in at most so many steps, and then a line where it didn't end by itself; or
--- the line that says why there is no program.
+-- What running a module leaves: what its program prints and reads in at most so many steps, and then a line where it
+-- didn't end by itself; or the line that says why there is no program.
 use Rattle.std.specs.Prelude.{◌≡◌, ◌⊎◌, ℕ, ◌<◌, ◌≤◌, List, [], ◌++◌, Option, codes, decimal, map, slice_index_or}
 use Rattle.m2_io.specs.Files.{Files}
 use Rattle.m2_io.specs.Written.{with_bytes, WritesPart}
@@ -34,13 +34,18 @@ pub data Ran : Type 0 where
 abbrev pub before : (input : List ℕ) → Traffic
 before input = record { out = []; input = input }
 
--- how at most so many steps of a program end, from its first state with this input; a body that finds no room traps at once
+-- how at most so many steps of a program end, from its first state with this input;
+-- a body that finds no room traps at once
 pub data Fares (p : Program) (most : ℕ) (input : List ℕ) : Next → Ran → Traffic → Type 0 where
-  ends : {first last : State} {t : Traffic} → run_of p most first (before input) ≡ Halted last t → Fares p most input (Goes first) over t
-  traps_at : {first last : State} {t : Traffic} {c : Trap} {at : ℕ} {place : Origin} → run_of p most first (before input) ≡ Trapped c at last t → AtPlace place p at
+  ends : {first last : State} {t : Traffic} → run_of p most first (before input) ≡ Halted last t
+      → Fares p most input (Goes first) over t
+  traps_at : {first last : State} {t : Traffic} {c : Trap} {at : ℕ} {place : Origin}
+      → run_of p most first (before input) ≡ Trapped c at last t → AtPlace place p at
       → Fares p most input (Goes first) (trapped c place) t
-  spends : {first last : State} {t : Traffic} → run_of p most first (before input) ≡ Unfinished last t → Fares p most input (Goes first) spent t
-  no_frame : {at : ℕ} {place : Origin} → AtPlace place p at → Fares p most input (NoFrame at) (trapped traps.Memory place) (before input)
+  spends : {first last : State} {t : Traffic} → run_of p most first (before input) ≡ Unfinished last t
+      → Fares p most input (Goes first) spent t
+  no_frame : {at : ℕ} {place : Origin} → AtPlace place p at
+      → Fares p most input (NoFrame at) (trapped traps.Memory place) (before input)
 
 -- ** What is said of it
 
@@ -80,14 +85,19 @@ ran_answer spent = answers.StepsSpent
 -- what running a program leaves
 pub data RunsProgram (os : List Contents) (steps cells : ℕ) (input : List ℕ) : Outcome → Type 0 where
   no_room : cells < frames_of os
-      → RunsProgram os steps cells input (record { answer = answers.OverLimit; printed = line (codes "limit cells " ++ decimal cells); left = input })
-  runs : {p : Program} {r : Ran} {t : Traffic} → frames_of os ≤ cells → IsLoaded os p → Fares p steps input (begun os p cells) r t
-      → RunsProgram os steps cells input (record { answer = ran_answer r; printed = t.out ++ ran_text os r; left = t.input })
+      → RunsProgram os steps cells input
+      (record { answer = answers.OverLimit; printed = line (codes "limit cells " ++ decimal cells); left = input })
+  runs : {p : Program} {r : Ran} {t : Traffic} → frames_of os ≤ cells → IsLoaded os p
+      → Fares p steps input (begun os p cells) r t
+      → RunsProgram os steps cells input
+      (record { answer = ran_answer r; printed = t.out ++ ran_text os r; left = t.input })
 
 pub data Runs (holds : Option Files) (name : List ℕ) (steps cells : ℕ) (input : List ℕ) : Outcome → Type 0 where
   failed : (f : Failure) → Loads holds name (fails f)
-      → Runs holds name steps cells input (record { answer = failure_answer f; printed = line (failure_text name f); left = input })
-  loaded : {os : List Contents} {outcome : Outcome} → Loads holds name (linked os) → RunsProgram os steps cells input outcome
+      → Runs holds name steps cells input
+      (record { answer = failure_answer f; printed = line (failure_text name f); left = input })
+  loaded : {os : List Contents} {outcome : Outcome} → Loads holds name (linked os)
+      → RunsProgram os steps cells input outcome
       → Runs holds name steps cells input outcome
 
 -- ** Of the ends of the code
@@ -96,7 +106,8 @@ pub data Runs (holds : Option Files) (name : List ℕ) (steps cells : ℕ) (inpu
 abbrev pub IsRan : End → Ran → Type 0
 IsRan machine.Halted r = r ≡ over
 IsRan machine.StepsSpent r = r ≡ spent
-IsRan (machine.Trapped code m procedure offset) r = (c : Trap) × (code ≡ code_of c) × (r ≡ trapped c (record { «module» = m; procedure = procedure; offset = offset }))
+IsRan (machine.Trapped code m procedure offset) r =
+    (c : Trap) × (code ≡ code_of c) × (r ≡ trapped c (record { «module» = m; procedure = procedure; offset = offset }))
 IsRan machine.ReadFailed r = ⊥
 IsRan machine.WriteFailed r = ⊥
 

@@ -19,9 +19,11 @@ pub fn dump<H: Shelf, P: Sink>(
     shelf: &mut H,
     print: &mut P,
 ) -> Result<Answer, Stop>
-    ensures prints { IfOk result (λ answer. Prints (Dumps (H.holds shelf.old) name.now) answer (P.written print.old) (P.written print.new)) }
+    ensures prints { IfOk result
+        (λ answer. Prints (Dumps (H.holds shelf.old) name.now) answer (P.written print.old) (P.written print.new)) }
     // After a fault a front of it was printed.
-    ensures part { OnErr result (IfSome (H.holds shelf.old) (λ files. PrintsPart (Dumps (Some files) name.now) (P.written print.old) (P.written print.new))) }
+    ensures part { OnErr result (IfSome (H.holds shelf.old)
+        (λ files. PrintsPart (Dumps (Some files) name.now) (P.written print.old) (P.written print.new))) }
     ensures read { IsErrOf result Stop.Read → Rose (H.faults shelf.old) (H.faults shelf.new) }
     ensures write { IsErrOf result Stop.Write → Rose (P.faults print.old) (P.faults print.new) }
     ensures later { P.faults print.old ≤ P.faults print.new }

@@ -8,7 +8,11 @@ ghost use Rattle.object_commands.specs.declared.answer.Answer.{Answer as AnswerO
 
 /// A command over given files has one outcome.
 pub fn one_outcome()
-    ensures dump_prints { (files : Files) (name printed other : List ℕ) (answer another : AnswerOf) → Dumps (Some files) name printed answer → Dumps (Some files) name other another → printed ≡ other }
-    ensures dump_answers { (files : Files) (name printed other : List ℕ) (answer another : AnswerOf) → Dumps (Some files) name printed answer → Dumps (Some files) name other another → answer ≡ another }
-    ensures run { (files : Files) (name input : List ℕ) (steps cells : ℕ) (these those : Outcome) → Runs (Some files) name steps cells input these → Runs (Some files) name steps cells input those → these ≡ those }
+    ensures dump_prints { (files : Files) (name printed other : List ℕ) (answer another : AnswerOf)
+        → Dumps (Some files) name printed answer → Dumps (Some files) name other another → printed ≡ other }
+    ensures dump_answers { (files : Files) (name printed other : List ℕ) (answer another : AnswerOf)
+        → Dumps (Some files) name printed answer → Dumps (Some files) name other another → answer ≡ another }
+    ensures run { (files : Files) (name input : List ℕ) (steps cells : ℕ) (these those : Outcome)
+        → Runs (Some files) name steps cells input these → Runs (Some files) name steps cells input those
+        → these ≡ those }
 {}

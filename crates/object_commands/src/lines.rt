@@ -39,7 +39,8 @@ pub fn no_object_line(alloc: Global, name: &str) -> Result<Vec<u8>, AllocError>
 
 /// The line of a broken object.
 pub fn broken_line(alloc: Global, name: &str, offset: u64, code: u8) -> Result<Vec<u8>, AllocError>
-    ensures { IfOk result (λ text. text.items ≡ line (codes "bad object " ++ name.now ++ codes ".m2o at " ++ decimal offset ++ codes " code " ++ decimal code)) }
+    ensures { IfOk result (λ text. text.items ≡ line (codes "bad object " ++ name.now ++ codes ".m2o at "
+        ++ decimal offset ++ codes " code " ++ decimal code)) }
 {
     let mut text = b"bad object ".to_vec(alloc)?;
     text.extend_from_slice(name.as_bytes())?;
@@ -88,7 +89,9 @@ pub struct Site<'a> {
 
 /// The line of a trap.
 pub fn trap_line(alloc: Global, code: u8, site: &Site) -> Result<Vec<u8>, AllocError>
-    ensures { IfOk result (λ text. (trap : Trap) → code ≡ code_of trap → text.items ≡ line (codes "trap " ++ decimal code ++ codes " " ++ trap_word trap ++ codes " in " ++ site.now.name.now ++ codes " procedure " ++ decimal site.now.procedure ++ codes " at " ++ decimal site.now.offset)) }
+    ensures { IfOk result (λ text. (trap : Trap) → code ≡ code_of trap → text.items
+        ≡ line (codes "trap " ++ decimal code ++ codes " " ++ trap_word trap ++ codes " in " ++ site.now.name.now
+        ++ codes " procedure " ++ decimal site.now.procedure ++ codes " at " ++ decimal site.now.offset)) }
 {
     let mut text = b"trap ".to_vec(alloc)?;
     number(&mut text, code as u64)?;

@@ -30,10 +30,12 @@ fn finish<P: Sink>(
     print: &mut P,
 ) -> Result<Answer, Stop>
     requires within { TrapsWithin end (length machine.now.objects) }
-    ensures finishes { HasCode end → IfOk result (λ answer. Finishes machine.now.objects end answer (P.written print.old) (P.written print.new)) }
+    ensures finishes { HasCode end
+        → IfOk result (λ answer. Finishes machine.now.objects end answer (P.written print.old) (P.written print.new)) }
     ensures part { OnErr result (FinishesPart machine.now.objects end (P.written print.old) (P.written print.new)) }
     ensures read { IsErrOf result Stop.Read → end ≡ End.ReadFailed }
-    ensures write { IsErrOf result Stop.Write → (end ≡ End.WriteFailed) ⊎ Rose (P.faults print.old) (P.faults print.new) }
+    ensures write { IsErrOf result Stop.Write
+        → (end ≡ End.WriteFailed) ⊎ Rose (P.faults print.old) (P.faults print.new) }
     ensures later { P.faults print.old ≤ P.faults print.new }
 {
     match end {
@@ -72,10 +74,11 @@ fn run_program<P: Sink, K: Source>(
     keys: &mut K,
 ) -> Result<Answer, Stop>
     requires { 0 < settings.now.cells }
-    ensures leaves { IfOk result (λ answer. IfSome (K.left keys.old) (λ input.
-        Leaves (RunsProgram program settings.now.steps settings.now.cells input) answer (P.written print.old) (P.written print.new) (K.left keys.new))) }
-    ensures part { OnErr result (IfSome (K.left keys.old) (λ input.
-        LeavesPart (RunsProgram program settings.now.steps settings.now.cells input) (P.written print.old) (P.written print.new))) }
+    ensures leaves { IfOk result
+        (λ answer. IfSome (K.left keys.old) (λ input. Leaves (RunsProgram program settings.now.steps settings.now.cells
+        input) answer (P.written print.old) (P.written print.new) (K.left keys.new))) }
+    ensures part { OnErr result (IfSome (K.left keys.old) (λ input. LeavesPart (RunsProgram program settings.now.steps
+        settings.now.cells input) (P.written print.old) (P.written print.new))) }
     ensures left { IfSome (K.left keys.old) (λ input. ReadsPart input (K.left keys.new)) }
     ensures read { IsErrOf result Stop.Read → Rose (K.faults keys.old) (K.faults keys.new) }
     ensures write { IsErrOf result Stop.Write → Rose (P.faults print.old) (P.faults print.new) }
@@ -95,7 +98,8 @@ fn run_program<P: Sink, K: Source>(
     }
 }
 
-/// Runs the program of a module: what it prints goes to the sink as it comes, and it reads from the source no further than it asks.
+/// Runs the program of a module: what it prints goes to the sink as it comes,
+/// and it reads from the source no further than it asks.
 #[tactic(auto, using(crate::proofs::Rears::nothing_read))]
 pub fn run<H: Shelf, P: Sink, K: Source>(
     alloc: Global,
@@ -105,14 +109,17 @@ pub fn run<H: Shelf, P: Sink, K: Source>(
     keys: &mut K,
 ) -> Result<Answer, Stop>
     requires { 0 < settings.now.cells }
-    ensures leaves { IfOk result (λ answer. IfSome (K.left keys.old) (λ input.
-        Leaves (Runs (H.holds shelf.old) settings.now.name.now settings.now.steps settings.now.cells input) answer (P.written print.old) (P.written print.new) (K.left keys.new))) }
+    ensures leaves { IfOk result (λ answer. IfSome (K.left keys.old)
+        (λ input. Leaves (Runs (H.holds shelf.old) settings.now.name.now settings.now.steps settings.now.cells input)
+        answer (P.written print.old) (P.written print.new) (K.left keys.new))) }
     // After a fault a front of it was printed.
-    ensures part { OnErr result (IfSome (H.holds shelf.old) (λ files. IfSome (K.left keys.old) (λ input.
-        LeavesPart (Runs (Some files) settings.now.name.now settings.now.steps settings.now.cells input) (P.written print.old) (P.written print.new)))) }
+    ensures part { OnErr result (IfSome (H.holds shelf.old)
+        (λ files. IfSome (K.left keys.old) (λ input. LeavesPart (Runs (Some files) settings.now.name.now
+        settings.now.steps settings.now.cells input) (P.written print.old) (P.written print.new)))) }
     // However it ends, a front of the input was read.
     ensures left { IfSome (K.left keys.old) (λ input. ReadsPart input (K.left keys.new)) }
-    ensures read { IsErrOf result Stop.Read → Rose (H.faults shelf.old) (H.faults shelf.new) ⊎ Rose (K.faults keys.old) (K.faults keys.new) }
+    ensures read { IsErrOf result Stop.Read
+        → Rose (H.faults shelf.old) (H.faults shelf.new) ⊎ Rose (K.faults keys.old) (K.faults keys.new) }
     ensures write { IsErrOf result Stop.Write → Rose (P.faults print.old) (P.faults print.new) }
     ensures later { P.faults print.old ≤ P.faults print.new }
     // The shelf stays as it is.

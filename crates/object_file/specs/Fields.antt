@@ -1,5 +1,6 @@
 -- Reading one field from the front of the bytes: its value and the bytes behind it, or why there is none.
-use Rattle.std.specs.Prelude.{◌≡◌, ℕ, zero, suc, Bool, true, List, [], ◌∷◌, ◌++◌, length, take, drop, Result, Ok, Err, nat_lt, ◌==◌, if◌then◌else◌}
+use Rattle.std.specs.Prelude.{◌≡◌, ℕ, zero, suc, Bool, true, List, [], ◌∷◌, ◌++◌, length, take, drop, Result, Ok, Err}
+use Rattle.std.specs.Prelude.{nat_lt, ◌==◌, if◌then◌else◌}
 use Rattle.std.specs.Int.{Width, w32, byte_len, from_le_bytes}
 use Rattle.object_file.specs.declared.fault.Stop.{Stop}
 use Rattle.object_file.specs.declared.fault.Stop.TheVariants as stops
@@ -11,7 +12,8 @@ abbrev pub ◌then◌ : {X Y : Type 0} → Result X Bad → (X → Result Y Bad)
 (Err e) then f = Err e
 
 abbrev pub wide_at : Width → List ℕ → Result (ℕ × List ℕ) Bad
-wide_at w bytes = if nat_lt (length bytes) (byte_len w) then Err ended else Ok (from_le_bytes w (take (byte_len w) bytes), drop (byte_len w) bytes)
+wide_at w bytes = if nat_lt (length bytes) (byte_len w) then Err ended
+    else Ok (from_le_bytes w (take (byte_len w) bytes), drop (byte_len w) bytes)
 
 abbrev pub number_at : List ℕ → Result (ℕ × List ℕ) Bad
 number_at = wide_at w32
@@ -27,7 +29,8 @@ text_at bytes = number_at bytes then λ n. raw_at n.0 n.1
 unfoldable pub match_at : List ℕ → List ℕ → Result (List ℕ) Bad
 match_at [] bytes = Ok bytes
 match_at (c ∷ expected) [] = Err ended
-match_at (c ∷ expected) (b ∷ bytes) = if b == c then match_at expected bytes else Err (record { left = length (b ∷ bytes); code = 3 })
+match_at (c ∷ expected) (b ∷ bytes) =
+    if b == c then match_at expected bytes else Err (record { left = length (b ∷ bytes); code = 3 })
 
 unfoldable pub exact_at : List ℕ → List ℕ → Result (List ℕ) Bad
 exact_at expected bytes = if nat_lt (length bytes) (length expected) then Err ended else match_at expected bytes
@@ -36,11 +39,13 @@ exact_at expected bytes = if nat_lt (length bytes) (length expected) then Err en
 abbrev pub valid_at : Bool → List ℕ → Result Bool Bad
 valid_at ok bytes = if ok then Ok true else Err (not_valid bytes)
 
-unfoldable pub many_at : {A : Type 0} → (List A → List ℕ → Result (A × List ℕ) Bad) → ℕ → List A → List ℕ → Result (List A × List ℕ) Bad
+unfoldable pub many_at : {A : Type 0} → (List A → List ℕ → Result (A × List ℕ) Bad) → ℕ → List A → List ℕ
+    → Result (List A × List ℕ) Bad
 many_at one zero before bytes = Ok (before, bytes)
 many_at one (suc n) before bytes = one before bytes then λ x. many_at one n (before ++ x.0 ∷ []) x.1
 
-unfoldable pub counted_at : {A : Type 0} → (ℕ → Bool) → (List A → List ℕ → Result (A × List ℕ) Bad) → List ℕ → Result (List A × List ℕ) Bad
+unfoldable pub counted_at : {A : Type 0} → (ℕ → Bool) → (List A → List ℕ → Result (A × List ℕ) Bad) → List ℕ
+    → Result (List A × List ℕ) Bad
 counted_at ok one bytes = number_at bytes then λ n. (valid_at (ok n.0) bytes then λ _. many_at one n.0 [] n.1)
 
 -- nothing follows

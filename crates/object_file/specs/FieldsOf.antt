@@ -3,7 +3,8 @@ use Rattle.std.specs.Prelude.{◌≡◌, ◌⊎◌, ℕ, ◌<◌, ◌≤◌, ◌
 use Rattle.code_form.specs.Heights.{Callee}
 use Rattle.code_form.specs.Modules.{Procedure}
 use Rattle.object_file.specs.Contents.{Export, KeyedImport, Contents}
-use Rattle.object_file.specs.ObjectFormat.{key_length, is_identifier, is_new_name, is_export, is_count, is_outer, is_params, is_result, is_locals}
+use Rattle.object_file.specs.ObjectFormat.{key_length, is_identifier, is_new_name, is_export, is_count, is_outer}
+use Rattle.object_file.specs.ObjectFormat.{is_params, is_result, is_locals}
 use Rattle.m2_base.specs.declared.limits.TheConstants.{MOST_CELLS}
 
 -- a number has four bytes

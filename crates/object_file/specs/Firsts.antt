@@ -1,15 +1,18 @@
 -- The first places of a code that fail a test.
-use Rattle.std.specs.Prelude.{◌≡◌, ℕ, ◌+◌, ◌≤◌, ℤ, pos, ◌-ℤ◌, int_le, Bool, true, ◌&&◌, ◌||◌, List, length, nat_lt, Option, Some, None, if◌then◌else◌}
+use Rattle.std.specs.Prelude.{◌≡◌, ℕ, ◌+◌, ◌≤◌, ℤ, pos, ◌-ℤ◌, int_le, Bool, true, ◌&&◌, ◌||◌, List, length, nat_lt}
+use Rattle.std.specs.Prelude.{Option, Some, None, if◌then◌else◌}
 use Rattle.code_form.specs.declared.instr.Instr.{Instr}
 use Rattle.code_form.specs.Bytes.{size}
 use Rattle.code_form.specs.Modules.{Procedure, World}
-use Rattle.code_form.specs.Valid.{Point as PointOf, AreInstrs, callees_of, points, first_not, names_what_is_there, is_end, jump_of, target_passes, same_height, returns_all}
+use Rattle.code_form.specs.Valid.{Point as PointOf, AreInstrs, callees_of, points, first_not, names_what_is_there}
+use Rattle.code_form.specs.Valid.{is_end, jump_of, target_passes, same_height, returns_all}
 use Rattle.object_file.specs.declared.point.Place.{Place}
 use Rattle.object_file.specs.Points.{IsBehind}
 
 -- the operands name what is there, and the last instruction ends
 abbrev pub is_named : World → (k : ℕ) → Procedure → PointOf → Bool
-is_named w k p q = names_what_is_there w k p q.step.instr && (nat_lt (q.at + size q.step.instr) (length p.code) || is_end q.step.instr)
+is_named w k p q = names_what_is_there w k p q.step.instr
+    && (nat_lt (q.at + size q.step.instr) (length p.code) || is_end q.step.instr)
 
 -- the height has what the instruction takes, and a return takes all of it
 abbrev pub is_stocked : PointOf → Bool
@@ -21,7 +24,8 @@ is_landing all q = target_passes all q (λ r gone. true) (jump_of q.step.instr)
 
 -- after a jump the height is that at its target
 abbrev pub is_landing_level : List PointOf → PointOf → Bool
-is_landing_level all q = target_passes all q (λ r gone. same_height (q.height -ℤ pos gone) r.height) (jump_of q.step.instr)
+is_landing_level all q =
+    target_passes all q (λ r gone. same_height (q.height -ℤ pos gone) r.height) (jump_of q.step.instr)
 
 -- the first place that failed: that which is known, or else this one, if it doesn't pass
 abbrev pub kept : Option ℕ → (passes : Bool) → (at : ℕ) → Option ℕ
@@ -46,7 +50,8 @@ earlier (Some m) (Some n) = if nat_lt n m then Some n else Some m
 abbrev pub IsLeft : World → Procedure → (List PointOf → PointOf → Bool) → ℕ → ℤ → Type 0
 IsLeft w p test at h =
     (is : List Instr) → AreInstrs p.code is → (b : IsBehind (callees_of w p) is at h)
-    × (first_not (test (points (callees_of w p) 0 (pos 0) is)) (points (callees_of w p) at h b.later) ≡ first_not (test (points (callees_of w p) 0 (pos 0) is)) (points (callees_of w p) 0 (pos 0) is))
+    × (first_not (test (points (callees_of w p) 0 (pos 0) is)) (points (callees_of w p) at h b.later)
+    ≡ first_not (test (points (callees_of w p) 0 (pos 0) is)) (points (callees_of w p) 0 (pos 0) is))
 
 -- what jumps wrongly stands behind this place
 pub record AreJumpsFrom (w : World) (p : Procedure) (at : ℕ) (h : ℤ) : Type 0 where

@@ -1,6 +1,7 @@
--- Formats: the fields of a file in their order, each with the values that are valid there. Which fields follow may depend
--- on the values of those before.
-use Rattle.std.specs.Prelude.{◌≡◌, ◌≢◌, ℕ, zero, suc, ◌<◌, ◌≤◌, ◌^◌, Bool, true, false, List, [], ◌∷◌, ◌++◌, length, ◌⊎◌}
+-- Formats: the fields of a file in their order, each with the values that are valid there. Which fields follow may
+-- depend on the values of those before.
+use Rattle.std.specs.Prelude.{◌≡◌, ◌≢◌, ℕ, zero, suc, ◌<◌, ◌≤◌, ◌^◌, Bool, true, false, List, [], ◌∷◌, ◌++◌, length}
+use Rattle.std.specs.Prelude.{◌⊎◌}
 use Rattle.object_file.specs.Contents.{u32, with_length}
 
 pub data Format (A : Type 0) : Type 0 where
@@ -54,9 +55,12 @@ counted ok one = number ok (λ n. many one n [])
 abbrev pub Spells : {A : Type 0} → Format A → List ℕ → A → List ℕ → Type 0
 Spells (done x) bytes y rest = (x ≡ y) × (bytes ≡ rest)
 Spells (exact e next) bytes y rest = (mid : List ℕ) × (bytes ≡ e ++ mid) × Spells next mid y rest
-Spells (number ok next) bytes y rest = (n : ℕ) × (mid : List ℕ) × (n < 2 ^ 32) × (bytes ≡ u32 n ++ mid) × (ok n ≡ true) × Spells (next n) mid y rest
-Spells (text ok next) bytes y rest = (t : List ℕ) × (mid : List ℕ) × (length t < 2 ^ 32) × (bytes ≡ with_length t ++ mid) × (ok t ≡ true) × Spells (next t) mid y rest
-Spells (raw n next) bytes y rest = (t : List ℕ) × (mid : List ℕ) × (length t ≡ n) × (bytes ≡ t ++ mid) × Spells (next t) mid y rest
+Spells (number ok next) bytes y rest =
+    (n : ℕ) × (mid : List ℕ) × (n < 2 ^ 32) × (bytes ≡ u32 n ++ mid) × (ok n ≡ true) × Spells (next n) mid y rest
+Spells (text ok next) bytes y rest = (t : List ℕ) × (mid : List ℕ) × (length t < 2 ^ 32)
+    × (bytes ≡ with_length t ++ mid) × (ok t ≡ true) × Spells (next t) mid y rest
+Spells (raw n next) bytes y rest =
+    (t : List ℕ) × (mid : List ℕ) × (length t ≡ n) × (bytes ≡ t ++ mid) × Spells (next t) mid y rest
 
 -- where something is wrong: how many bytes are left there, and the code that is told
 pub record Bad : Type 0 where
@@ -97,8 +101,10 @@ IsBroken (number ok next) bytes bad =
 IsBroken (text ok next) bytes bad =
     ((length bytes < 4) × (bad ≡ ended))
     ⊎ (((n : ℕ) × (mid : List ℕ) × (n < 2 ^ 32) × (bytes ≡ u32 n ++ mid) × (length mid < n) × (bad ≡ ended))
-    ⊎ (((t : List ℕ) × (mid : List ℕ) × (length t < 2 ^ 32) × (bytes ≡ with_length t ++ mid) × (ok t ≡ false) × (bad ≡ not_valid bytes))
-    ⊎ ((t : List ℕ) × (mid : List ℕ) × (length t < 2 ^ 32) × (bytes ≡ with_length t ++ mid) × (ok t ≡ true) × IsBroken (next t) mid bad)))
+    ⊎ (((t : List ℕ) × (mid : List ℕ) × (length t < 2 ^ 32) × (bytes ≡ with_length t ++ mid) × (ok t ≡ false)
+    × (bad ≡ not_valid bytes))
+    ⊎ ((t : List ℕ) × (mid : List ℕ) × (length t < 2 ^ 32) × (bytes ≡ with_length t ++ mid) × (ok t ≡ true)
+    × IsBroken (next t) mid bad)))
 IsBroken (raw n next) bytes bad =
     ((length bytes < n) × (bad ≡ ended))
     ⊎ ((t : List ℕ) × (mid : List ℕ) × (length t ≡ n) × (bytes ≡ t ++ mid) × IsBroken (next t) mid bad)
@@ -107,4 +113,5 @@ IsBroken (raw n next) bytes bad =
 abbrev pub IsBad : {A : Type 0} → Format A → List ℕ → Bad → Type 0
 IsBad {A} f bytes bad =
     IsBroken f bytes bad
-    ⊎ ((x : A) × (rest : List ℕ) × Spells f bytes x rest × (0 < length rest) × (bad ≡ record { left = length rest; code = 2 }))
+    ⊎ ((x : A) × (rest : List ℕ) × Spells f bytes x rest × (0 < length rest)
+    × (bad ≡ record { left = length rest; code = 2 }))

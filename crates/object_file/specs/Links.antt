@@ -14,11 +14,14 @@ pub record AreLinks (w : World) (levels jumps : List ℕ) : Type 0 where
   pub many : length jumps ≡ length levels
   pub low : (k : ℕ) → slice_index levels k ≤ k
   pub top : (k : ℕ) → outer_of w k ≡ 0 → slice_index levels k ≡ 0
-  pub deeper : (k : ℕ) → k < length levels → outer_of w k ≢ 0 → slice_index levels k ≡ suc (slice_index levels (outer_of w k))
+  pub deeper : (k : ℕ) → k < length levels → outer_of w k ≢ 0
+      → slice_index levels k ≡ suc (slice_index levels (outer_of w k))
   pub known : (k : ℕ) → k < length levels → slice_index jumps k ≤ k
   pub near : (k : ℕ) → k < length levels → slice_index levels (slice_index jumps k) ≤ slice_index levels k
-  pub further : (k : ℕ) → k < length levels → outer_of w k ≢ 0 → slice_index levels (slice_index jumps k) < slice_index levels k
-  pub leads : (k : ℕ) → k < length levels → linked w (slice_index levels k - slice_index levels (slice_index jumps k)) k ≡ Some (slice_index jumps k)
+  pub further : (k : ℕ) → k < length levels → outer_of w k ≢ 0
+      → slice_index levels (slice_index jumps k) < slice_index levels k
+  pub leads : (k : ℕ) → k < length levels
+      → linked w (slice_index levels k - slice_index levels (slice_index jumps k)) k ≡ Some (slice_index jumps k)
 
 -- the links of all procedures
 pub record AreLinksOf (w : World) (l : Links) : Type 0 where

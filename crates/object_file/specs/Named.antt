@@ -14,4 +14,5 @@ is_named name key = is_at (λ k. slice_cmp nat_cmp name k.items) key
 
 -- the keys are the names of the imports
 abbrev pub AreNames : List (Vec ℕ) → List KeyedImport → Type 0
-AreNames keys imports = (name : List ℕ) → list_any (is_named name) keys ≡ list_any (λ i. bytes_eq name i.definition.name) imports
+AreNames keys imports =
+    (name : List ℕ) → list_any (is_named name) keys ≡ list_any (λ i. bytes_eq name i.definition.name) imports

@@ -11,7 +11,8 @@ object_named os name = position_from (λ o. bytes_eq name o.name) 0 os
 -- the name of the first of these objects that one before it has, where some objects stand before them
 abbrev pub taken_again : (before : List Contents) → List Contents → Option (List ℕ)
 taken_again before [] = None
-taken_again before (o ∷ os) = if is_some (object_named before o.name) then Some o.name else taken_again (before ++ o ∷ []) os
+taken_again before (o ∷ os) =
+    if is_some (object_named before o.name) then Some o.name else taken_again (before ++ o ∷ []) os
 
 -- the name of the first object whose name one before it has
 abbrev pub name_again : List Contents → Option (List ℕ)

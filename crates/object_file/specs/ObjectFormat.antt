@@ -1,5 +1,6 @@
 -- The format of an object, field by field in the order of the file, with the values that are valid.
-use Rattle.std.specs.Prelude.{ℕ, ◌==◌, Bool, true, false, ◌&&◌, ◌||◌, not, List, [], ◌∷◌, length, drop, nat_le, nat_lt, if◌then◌else◌}
+use Rattle.std.specs.Prelude.{ℕ, ◌==◌, Bool, true, false, ◌&&◌, ◌||◌, not, List, [], ◌∷◌, length, drop, nat_le, nat_lt}
+use Rattle.std.specs.Prelude.{if◌then◌else◌}
 use Rattle.std.specs.List.{list_all, list_any}
 use Rattle.std.specs.Str.{bytes_eq}
 use Rattle.m2_base.specs.Letters.{is_letter, goes_on}
@@ -53,7 +54,8 @@ is_params exports k params = (nat_lt 0 k || params == 0) && as_exported exports 
 
 -- a result is one cell or none, the body has none, an export's is that of its heading
 abbrev pub is_result : List Export → ℕ → ℕ → Bool
-is_result exports k result = nat_le result 1 && (nat_lt 0 k || result == 0) && as_exported exports k (λ e. result == e.2)
+is_result exports k result =
+    nat_le result 1 && (nat_lt 0 k || result == 0) && as_exported exports k (λ e. result == e.2)
 
 -- the parameters are among the cells
 abbrev pub is_locals : ℕ → ℕ → Bool
@@ -96,7 +98,8 @@ procedure_format exports before = do
   high ← numbered any
   bytes ← texted any
   code ← texted any
-  done (record { outer = outer; params = params; result = result; locals = locals; high = high; bytes = bytes; code = code })
+  done (record
+      { outer = outer; params = params; result = result; locals = locals; high = high; bytes = bytes; code = code })
 
 -- the fields behind the version
 unfoldable pub fields_format : (version : ℕ) → Format Contents
@@ -108,7 +111,16 @@ fields_format version = do
   exports ← counted any export_format
   imports ← counted any (import_format version)
   procedures ← counted (is_count exports) (procedure_format exports)
-  done (record { version = version; name = name; key = key; cells = cells; own_cells = own_cells; exports = exports; imports = imports; procedures = procedures })
+  done (record {
+    version = version;
+    name = name;
+    key = key;
+    cells = cells;
+    own_cells = own_cells;
+    exports = exports;
+    imports = imports;
+    procedures = procedures;
+  })
 
 -- the whole object, of this version
 unfoldable pub format_with : (version : ℕ) → Format Contents

@@ -1,18 +1,21 @@
 -- Places and points as the code keeps them.
-use Rattle.std.specs.Prelude.{◌≡◌, ◌⊎◌, ◌+◌, ◌≤◌, ℕ, ℤ, pos, ◌-ℤ◌, ◌+ℤ◌, List, [], ◌∷◌, ◌++◌, length, drop, slice_get, Some, Result, Ok, Err}
+use Rattle.std.specs.Prelude.{◌≡◌, ◌⊎◌, ◌+◌, ◌≤◌, ℕ, ℤ, pos, ◌-ℤ◌, ◌+ℤ◌, List, [], ◌∷◌, ◌++◌, length, drop, slice_get}
+use Rattle.std.specs.Prelude.{Some, Result, Ok, Err}
 use Rattle.std.specs.List.{AllByRecursion}
 use Rattle.code_form.specs.declared.instr.Instr.{Instr}
 use Rattle.code_form.specs.Bytes.{size, BeginsWith}
 use Rattle.code_form.specs.Heights.{Callees, step_among}
 use Rattle.code_form.specs.Modules.{Procedure, World}
-use Rattle.code_form.specs.Valid.{Point as PointOf, AreInstrs, callees_of, points, IsValidCode, IsFault, in_code, of_high}
+use Rattle.code_form.specs.Valid.{Point as PointOf, AreInstrs, callees_of, points, IsValidCode, IsFault, in_code}
+use Rattle.code_form.specs.Valid.{of_high}
 use Rattle.object_file.specs.declared.point.Place.{Place}
 use Rattle.object_file.specs.declared.point.Point.{Point}
 use Rattle.object_file.specs.declared.fault.CodeFault.{CodeFault}
 use Rattle.object_file.specs.declared.fault.CodeFault.TheVariants as faults
 
 abbrev pub point_of : Point → PointOf
-point_of p = record { at = p.at; height = p.height; step = record { instr = p.instr; takes = p.takes; leaves = p.leaves } }
+point_of p =
+    record { at = p.at; height = p.height; step = record { instr = p.instr; takes = p.takes; leaves = p.leaves } }
 
 -- this holds of the points of a procedure's code, if that is instructions
 abbrev pub OfPoints : World → Procedure → (List PointOf → Type 0) → Type 0

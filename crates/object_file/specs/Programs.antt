@@ -10,14 +10,15 @@ use Rattle.object_file.specs.Validity.{IsValid}
 abbrev heading : (params result : ℕ) → Callee
 heading params result = record { params = params; result = result }
 
--- The module that each machine has: its name, its cell Done, and its headings Read, ReadInt, ReadCard, Write, WriteString,
--- WriteLn, WriteInt and WriteCard.
+-- The module that each machine has: its name, its cell Done, and its headings Read, ReadInt, ReadCard, Write,
+-- WriteString, WriteLn, WriteInt and WriteCard.
 abbrev pub in_out : Import
 in_out =
     record {
       name = codes "InOut";
       cells = 1;
-      headings = heading 1 0 ∷ heading 1 0 ∷ heading 1 0 ∷ heading 1 0 ∷ heading 2 0 ∷ heading 0 0 ∷ heading 2 0 ∷ heading 2 0 ∷ [];
+      headings = heading 1 0 ∷ heading 1 0 ∷ heading 1 0 ∷ heading 1 0 ∷ heading 2 0 ∷ heading 0 0 ∷ heading 2 0
+          ∷ heading 2 0 ∷ [];
     }
 
 -- an import that no other object need meet: that of InOut as it is, or one of no cells and no headings
@@ -36,7 +37,8 @@ given_headings exports = map (λ e. heading e.1 e.2) exports
 -- an import that needs no other object, or for which there is one that gives these cells and headings
 pub data IsMet (os : List Contents) (i : Import) : Type 0 where
   apart : IsApart i → IsMet os i
-  by : (k : ℕ) (o : Contents) → slice_get os k ≡ Some o → i.name ≢ in_out.name → o.name ≡ i.name → o.own_cells ≡ i.cells → given_headings o.exports ≡ i.headings → IsMet os i
+  by : (k : ℕ) (o : Contents) → slice_get os k ≡ Some o → i.name ≢ in_out.name → o.name ≡ i.name
+      → o.own_cells ≡ i.cells → given_headings o.exports ≡ i.headings → IsMet os i
 
 abbrev pub AllDiffer : List (List ℕ) → Type 0
 AllDiffer [] = Unit {0}

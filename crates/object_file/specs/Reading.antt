@@ -4,8 +4,10 @@ use Rattle.code_form.specs.Heights.{Callee}
 use Rattle.code_form.specs.Modules.{Procedure}
 use Rattle.object_file.specs.Contents.{Export, KeyedImport, Contents, u32, magic}
 use Rattle.object_file.specs.Formats.{Bad}
-use Rattle.object_file.specs.Fields.{number_at, text_at, raw_at, exact_at, valid_at, counted_at, ends_at, ◌then◌ as ◌>>=◌}
-use Rattle.object_file.specs.ObjectFormat.{any, version_near, key_length, is_cells, is_own_cells, is_identifier, is_new_name, is_export, is_count, is_outer, is_params, is_result, is_locals}
+use Rattle.object_file.specs.Fields.{number_at, text_at, raw_at, exact_at, valid_at, counted_at, ends_at}
+use Rattle.object_file.specs.Fields.{◌then◌ as ◌>>=◌}
+use Rattle.object_file.specs.ObjectFormat.{any, version_near, key_length, is_cells, is_own_cells, is_identifier}
+use Rattle.object_file.specs.ObjectFormat.{is_new_name, is_export, is_count, is_outer, is_params, is_result, is_locals}
 
 unfoldable pub export_at : List Export → List ℕ → Result (Export × List ℕ) Bad
 export_at before bytes = do
@@ -28,7 +30,10 @@ import_at version before bytes = do
   key ← raw_at (key_length version) name.1
   cells ← number_at key.1
   headings ← counted_at any heading_at cells.1
-  Ok (record { key = key.0; definition = record { name = name.0; cells = cells.0; headings = headings.0 } }, headings.1)
+  Ok (
+    record { key = key.0; definition = record { name = name.0; cells = cells.0; headings = headings.0 } },
+    headings.1,
+  )
 
 unfoldable pub procedure_at : List Export → List Procedure → List ℕ → Result (Procedure × List ℕ) Bad
 procedure_at exports before bytes = do
@@ -43,7 +48,18 @@ procedure_at exports before bytes = do
   high ← number_at locals.1
   strings ← text_at high.1
   code ← text_at strings.1
-  Ok (record { outer = outer.0; params = params.0; result = result.0; locals = locals.0; high = high.0; bytes = strings.0; code = code.0 }, code.1)
+  Ok (
+    record {
+      outer = outer.0;
+      params = params.0;
+      result = result.0;
+      locals = locals.0;
+      high = high.0;
+      bytes = strings.0;
+      code = code.0;
+    },
+    code.1,
+  )
 
 -- the fields behind the version
 unfoldable pub fields_at : (version : ℕ) → List ℕ → Result (Contents × List ℕ) Bad
@@ -58,7 +74,19 @@ fields_at version bytes = do
   exports ← counted_at any export_at key.1
   imports ← counted_at any (import_at version) exports.1
   procedures ← counted_at (is_count exports.0) (procedure_at exports.0) imports.1
-  Ok (record { version = version; name = name.0; key = key.0; cells = cells.0; own_cells = own_cells.0; exports = exports.0; imports = imports.0; procedures = procedures.0 }, procedures.1)
+  Ok (
+    record {
+      version = version;
+      name = name.0;
+      key = key.0;
+      cells = cells.0;
+      own_cells = own_cells.0;
+      exports = exports.0;
+      imports = imports.0;
+      procedures = procedures.0;
+    },
+    procedures.1,
+  )
 
 unfoldable pub object_at : List ℕ → Result (Contents × List ℕ) Bad
 object_at bytes = do

@@ -1,7 +1,8 @@
--- The order in which the bodies of objects run: that of a walk from the first object, each after the objects of its imports in
--- their order, and none twice. An object is marked when the walk comes to it, so a circle of imports ends there. Objects to which
--- the walk doesn't come don't run.
-use Rattle.std.specs.Prelude.{◌≡◌, ℕ, Bool, true, false, List, [], ◌∷◌, ◌++◌, Option, Some, None, if◌then◌else◌, length, replicate, slice_get}
+-- The order in which the bodies of objects run: that of a walk from the first object, each after the objects of its
+-- imports in their order, and none twice. An object is marked when the walk comes to it, so a circle of imports ends
+-- there. Objects to which the walk doesn't come don't run.
+use Rattle.std.specs.Prelude.{◌≡◌, ℕ, Bool, true, false, List, [], ◌∷◌, ◌++◌, Option, Some, None, if◌then◌else◌}
+use Rattle.std.specs.Prelude.{length, replicate, slice_get}
 use Rattle.std.specs.List.{slice_set, flat_map}
 use Rattle.std.specs.Option.{option_to_list}
 use Rattle.std.specs.Str.{bytes_eq}
@@ -18,12 +19,15 @@ object_of os i = if bytes_eq i.name in_out.name then None else object_named os i
 abbrev pub objects_of : List Contents → List Import → List ℕ
 objects_of os is = flat_map (λ i. option_to_list (object_of os i)) is
 
--- A walk to objects, one after another: the marks before it and after it, and the objects in the order in which the walk leaves
--- them, each of them behind those to which its imports lead.
-pub data Walks (os : List Contents) : (marks : List Bool) → List ℕ → (after : List Bool) → (order : List ℕ) → Type 0 where
+-- A walk to objects, one after another: the marks before it and after it, and the objects in the order in which the
+-- walk leaves them, each of them behind those to which its imports lead.
+pub data Walks (os : List Contents) : (marks : List Bool) → List ℕ → (after : List Bool) → (order : List ℕ)
+    → Type 0 where
   over : (marks : List Bool) → Walks os marks [] marks []
-  passes : (marks : List Bool) (k : ℕ) (ks : List ℕ) (after : List Bool) (order : List ℕ) → slice_get marks k ≡ Some true → Walks os marks ks after order → Walks os marks (k ∷ ks) after order
-  enters : (marks : List Bool) (k : ℕ) (ks : List ℕ) (o : Contents) (mid after : List Bool) (first others : List ℕ) → slice_get marks k ≡ Some false → slice_get os k ≡ Some o
+  passes : (marks : List Bool) (k : ℕ) (ks : List ℕ) (after : List Bool) (order : List ℕ)
+      → slice_get marks k ≡ Some true → Walks os marks ks after order → Walks os marks (k ∷ ks) after order
+  enters : (marks : List Bool) (k : ℕ) (ks : List ℕ) (o : Contents) (mid after : List Bool) (first others : List ℕ)
+      → slice_get marks k ≡ Some false → slice_get os k ≡ Some o
       → Walks os (slice_set marks k true) (objects_of os (definitions_of o)) mid first → Walks os mid ks after others
       → Walks os marks (k ∷ ks) after (first ++ k ∷ others)
 

@@ -13,7 +13,8 @@ HaveValidCode w k (p ∷ ps) = IsValidCode w k p × HaveValidCode w (suc k) ps
 
 -- the place of a fault in the file, where these procedures follow the one that has it
 abbrev pub bad_of : Procedure → List Procedure → Fault → Bad
-bad_of p others (in_code at c) = record { left = length p.code - at + length (flat_map procedure_bytes others); code = c }
+bad_of p others (in_code at c) =
+    record { left = length p.code - at + length (flat_map procedure_bytes others); code = c }
 bad_of p others of_high = record { left = length (body_bytes p) + length (flat_map procedure_bytes others); code = 8 }
 
 -- the first fault of the first procedure whose code has one
@@ -36,7 +37,8 @@ IsValid o = IsObject (object_bytes o) o
 -- of the code, procedure by procedure.
 pub data IsTold (bytes : List ℕ) (bad : Bad) : Type 0 where
   of_fields : IsBad (format_near bytes) bytes bad → IsTold bytes bad
-  of_code : (o : Contents) → Spells (format_near bytes) bytes o [] → HaveFault (world_of o) 0 o.procedures bad → IsTold bytes bad
+  of_code : (o : Contents) → Spells (format_near bytes) bytes o [] → HaveFault (world_of o) 0 o.procedures bad
+      → IsTold bytes bad
 
 -- the same by the place from the front
 pub record IsBadAt (bytes : List ℕ) (offset code : ℕ) : Type 0 where

@@ -17,7 +17,15 @@ abbrev pub keyed_of : ImportNote → KeyedImport
 keyed_of i = record { key = i.key.items; definition = import_of i }
 
 abbrev pub procedure_of : ProcCode → Procedure
-procedure_of p = record { outer = p.outer; params = p.params; result = p.result; locals = p.locals; high = p.high; bytes = p.bytes.items; code = p.code.items }
+procedure_of p = record {
+  outer = p.outer;
+  params = p.params;
+  result = p.result;
+  locals = p.locals;
+  high = p.high;
+  bytes = p.bytes.items;
+  code = p.code.items;
+}
 
 abbrev pub contents_of : Parts → Contents
 contents_of p =
@@ -34,4 +42,8 @@ contents_of p =
 
 -- what the code of an object with these parts can name
 abbrev pub world_in : Parts → World
-world_in p = record { cells = p.cells; imports = map import_of p.imports.items; procedures = map procedure_of p.procedures.items }
+world_in p = record {
+  cells = p.cells;
+  imports = map import_of p.imports.items;
+  procedures = map procedure_of p.procedures.items;
+}

@@ -2,7 +2,10 @@
 ghost use Rattle.std.specs.Prelude.{◌≡◌, ◌==◌, nat_lt};
 ghost use Rattle.std.specs.List.{list_all};
 ghost use Rattle.m2_base.specs.Letters.{goes_on as spec_goes_on};
-ghost use Rattle.object_file.specs.ObjectFormat.{is_identifier as spec_identifier, is_new_name as spec_new_name, is_count as spec_count, is_outer as spec_outer, is_params as spec_params, is_result as spec_result, is_locals as spec_locals};
+ghost use Rattle.object_file.specs.ObjectFormat.{is_identifier as spec_identifier, is_new_name as spec_new_name};
+ghost use Rattle.object_file.specs.ObjectFormat.{is_count as spec_count, is_outer as spec_outer};
+ghost use Rattle.object_file.specs.ObjectFormat.{is_params as spec_params, is_result as spec_result};
+ghost use Rattle.object_file.specs.ObjectFormat.{is_locals as spec_locals};
 
 use crate::exports::Exports;
 use crate::imports::Imports;

@@ -1,6 +1,7 @@
 //! The exports that were read, with what they ask of each procedure.
 ghost use Rattle.std.specs.Prelude.{◌≡◌, [], ◌∷◌, ◌++◌, ◌==◌, IfOk};
-ghost use Rattle.object_file.specs.Exported.{merged as spec_merged, both as spec_both, agrees as spec_agrees, found_in, admits_outer, admits_params, admits_result};
+ghost use Rattle.object_file.specs.Exported.{merged as spec_merged, both as spec_both, agrees as spec_agrees};
+ghost use Rattle.object_file.specs.Exported.{found_in, admits_outer, admits_params, admits_result};
 ghost use Rattle.object_file.specs.ObjectFormat.{as_exported};
 
 use crate::wanted::Wanted;

@@ -13,7 +13,8 @@ use thiserror::Error;
 pub enum ObjectFault {
     /// They are none: the place where that shows first, and what is wrong there. 1: the bytes end within a field.
     /// 2: bytes follow. 3: the file's first bytes or its version. 4: a field isn't valid. 5: no instruction. 6: an
-    /// operand, a jump or the last instruction isn't valid. 7: a height is wrong. 8: the greatest height is told wrongly.
+    /// operand, a jump or the last instruction isn't valid. 7: a height is wrong. 8:
+    /// the greatest height is told wrongly.
     #[error("bad object at {offset} code {code}")]
     BadObject { offset: u64, code: u8 },
     #[error("out of memory")]

@@ -1,7 +1,8 @@
 //! What a walk over a code finds wherever its jumps go.
 ghost use Rattle.std.specs.Prelude.{◌≡◌, is_some};
 ghost use Rattle.code_form.specs.Valid.{jump_of as spec_jump, same_height, returns_all as spec_returns};
-ghost use Rattle.object_file.specs.Firsts.{kept as spec_kept, first_jump as spec_first, is_named as spec_named, is_stocked as spec_stocked};
+ghost use Rattle.object_file.specs.Firsts.{kept as spec_kept, first_jump as spec_first, is_named as spec_named};
+ghost use Rattle.object_file.specs.Firsts.{is_stocked as spec_stocked};
 ghost use Rattle.object_file.specs.Links.{AreLinksOf};
 ghost use Rattle.object_file.specs.Points.{point_of};
 ghost use Rattle.object_file.specs.Views.{procedure_of, world_in};
@@ -91,7 +92,8 @@ pub(crate) fn with(
     point: &Point,
 ) -> Findings
     requires { AreLinksOf (world_in parts.now) links.now }
-    ensures wrong { result.wrong ≡ spec_kept found.wrong (spec_named (world_in parts.now) k (procedure_of own.now) (point_of point.now)) point.now.at }
+    ensures wrong { result.wrong ≡ spec_kept found.wrong
+        (spec_named (world_in parts.now) k (procedure_of own.now) (point_of point.now)) point.now.at }
     ensures low { result.low ≡ spec_kept found.low (spec_stocked (point_of point.now)) point.now.at }
     ensures jump { result.jump ≡ spec_first found.jump (is_some (spec_jump point.now.instr)) here }
 {

@@ -1,7 +1,8 @@
 //! What is wrong with the jumps of a code.
 ghost use Rattle.std.specs.Prelude.{◌≡◌};
 ghost use Rattle.code_form.specs.Valid.{first_not};
-ghost use Rattle.object_file.specs.Firsts.{kept as spec_kept, earlier as spec_earlier, is_landing, is_landing_level, AreJumpsFrom};
+ghost use Rattle.object_file.specs.Firsts.{kept as spec_kept, earlier as spec_earlier, is_landing, is_landing_level};
+ghost use Rattle.object_file.specs.Firsts.{AreJumpsFrom};
 ghost use Rattle.object_file.specs.Points.{AreMarks, OfPoints};
 ghost use Rattle.object_file.specs.Views.{procedure_of, world_in};
 
@@ -36,8 +37,10 @@ fn with(faults: JumpFaults, lands: bool, level: bool, at: usize) -> JumpFaults
 pub(crate) fn jump_faults(parts: &Parts, own: &ProcCode, marks: &[Place], from: Place) -> JumpFaults
     requires marks { AreMarks (world_in parts.now) (procedure_of own.now) marks.now }
     requires from { AreJumpsFrom (world_in parts.now) (procedure_of own.now) from.at from.height }
-    ensures nowhere { OfPoints (world_in parts.now) (procedure_of own.now) (λ all. result.nowhere ≡ first_not (is_landing all) all) }
-    ensures uneven { OfPoints (world_in parts.now) (procedure_of own.now) (λ all. result.uneven ≡ first_not (is_landing_level all) all) }
+    ensures nowhere { OfPoints (world_in parts.now) (procedure_of own.now)
+        (λ all. result.nowhere ≡ first_not (is_landing all) all) }
+    ensures uneven { OfPoints (world_in parts.now) (procedure_of own.now)
+        (λ all. result.uneven ≡ first_not (is_landing_level all) all) }
 {
     let mut faults = JumpFaults {
         nowhere: None,

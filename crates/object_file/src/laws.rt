@@ -7,13 +7,16 @@ ghost use Rattle.object_file.specs.Validity.{HaveValidCode, IsObject, IsBadAt, I
 /// Bytes are one object at most, and then nothing is wrong with them.
 pub fn one_object()
     ensures object { (bytes : List ℕ) (o o' : Contents) → IsObject bytes o → IsObject bytes o' → o ≡ o' }
-    ensures fine { (bytes : List ℕ) (o : Contents) (offset code : ℕ) → IsObject bytes o → IsBadAt bytes offset code → ⊥ }
+    ensures fine { (bytes : List ℕ) (o : Contents) (offset code : ℕ) → IsObject bytes o → IsBadAt bytes offset code
+        → ⊥ }
 {}
 
 /// Bytes have one first broken place at most.
 pub fn one_fault()
-    ensures place { (bytes : List ℕ) (offset code offset' code' : ℕ) → IsBadAt bytes offset code → IsBadAt bytes offset' code' → offset ≡ offset' }
-    ensures code { (bytes : List ℕ) (offset code offset' code' : ℕ) → IsBadAt bytes offset code → IsBadAt bytes offset' code' → code ≡ code' }
+    ensures place { (bytes : List ℕ) (offset code offset' code' : ℕ) → IsBadAt bytes offset code
+        → IsBadAt bytes offset' code' → offset ≡ offset' }
+    ensures code { (bytes : List ℕ) (offset code offset' code' : ℕ) → IsBadAt bytes offset code
+        → IsBadAt bytes offset' code' → code ≡ code' }
 {}
 
 /// What has the fields that are asked, and valid code, is a valid object.

@@ -15,7 +15,8 @@ use m2_base::ProcCode;
 /// A jump goes to an instruction.
 pub(crate) fn lands(parts: &Parts, own: &ProcCode, marks: &[Place], point: &Point) -> bool
     requires { AreMarks (world_in parts.now) (procedure_of own.now) marks.now }
-    ensures { OfPoints (world_in parts.now) (procedure_of own.now) (λ all. result ≡ is_landing all (point_of point.now)) }
+    ensures { OfPoints (world_in parts.now) (procedure_of own.now)
+        (λ all. result ≡ is_landing all (point_of point.now)) }
 {
     match jump_of(&point.instr) {
         None => true,
@@ -33,7 +34,8 @@ fn agree(point: &Point, gone: u32, other: Place) -> bool
 /// After a jump the height is that at its target.
 pub(crate) fn lands_level(parts: &Parts, own: &ProcCode, marks: &[Place], point: &Point) -> bool
     requires { AreMarks (world_in parts.now) (procedure_of own.now) marks.now }
-    ensures { OfPoints (world_in parts.now) (procedure_of own.now) (λ all. result ≡ is_landing_level all (point_of point.now)) }
+    ensures { OfPoints (world_in parts.now) (procedure_of own.now)
+        (λ all. result ≡ is_landing_level all (point_of point.now)) }
 {
     match jump_of(&point.instr) {
         None => true,

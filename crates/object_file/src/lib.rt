@@ -1,9 +1,9 @@
 //! Which bytes are an object?
 //!
-//! An object is a compiled module in its file. `specs/ObjectFormat` has its fields in their order, each with the values
-//! that are valid there; the code of its procedures is valid by the definition in `code_form`. `read_object` gives the
-//! object that bytes are, or the first place at which they are none (`specs/Validity`), and `write_object` the bytes.
-//! The layers above use those two, and `Object`, each value of which is valid.
+//! An object is a compiled module in its file. `specs/ObjectFormat` has its fields in their order, each with the
+//! values that are valid there; the code of its procedures is valid by the definition in `code_form`. `read_object`
+//! gives the object that bytes are, or the first place at which they are none (`specs/Validity`), and `write_object`
+//! the bytes. The layers above use those two, and `Object`, each value of which is valid.
 #![tactic(auto)]
 
 mod code;

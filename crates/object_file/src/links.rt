@@ -1,9 +1,10 @@
 //! Which procedures enclose a procedure.
 //!
-//! Static links lead from a procedure to the one around it, and so on. Code that names a variable far out isn't to cost a
-//! step for each link, so each procedure has its level and a jump: one of the procedures around it, chosen so that a few
-//! jumps and links lead to any level, in steps about twice the logarithm of the level.
-ghost use Rattle.std.specs.Prelude.{◌≡◌, ◌≢◌, ◌++◌, ◌∷◌, [], ◌<◌, ◌≤◌, ◌+◌, ◌-◌, ◌^◌, length, slice_index, Some, IfOk, OnOk};
+//! Static links lead from a procedure to the one around it, and so on. Code that names a variable far out isn't to
+//! cost a step for each link, so each procedure has its level and a jump: one of the procedures around it, chosen so
+//! that a few jumps and links lead to any level, in steps about twice the logarithm of the level.
+ghost use Rattle.std.specs.Prelude.{◌≡◌, ◌≢◌, ◌++◌, ◌∷◌, [], ◌<◌, ◌≤◌, ◌+◌, ◌-◌, ◌^◌, length, slice_index, Some, IfOk};
+ghost use Rattle.std.specs.Prelude.{OnOk};
 ghost use Rattle.code_form.specs.Valid.{outer_of as spec_outer, linked as spec_linked};
 ghost use Rattle.object_file.specs.Links.{OutersBelow, AreLinks, AreLinksOf, IsNearer, IsJump};
 ghost use Rattle.object_file.specs.Views.{world_in};

@@ -2,7 +2,10 @@
 ghost use Rattle.std.specs.Prelude.{◌≡◌, ◌<◌, ◌==◌, map, slice_get};
 ghost use Rattle.std.specs.Option.{option_map};
 ghost use Rattle.code_form.specs.Heights.{step_among};
-ghost use Rattle.code_form.specs.Valid.{import_of as spec_import, when_there, procedure_or, heading_or, headings_or, outer_of as spec_outer, linked as spec_linked, has_heading as spec_heading, has_cell as spec_cell, is_value as spec_value, can_call as spec_call, has_local as spec_local, names_what_is_there as spec_names, callees_of};
+ghost use Rattle.code_form.specs.Valid.{import_of as spec_import, when_there, procedure_or, heading_or, headings_or};
+ghost use Rattle.code_form.specs.Valid.{outer_of as spec_outer, linked as spec_linked, has_heading as spec_heading};
+ghost use Rattle.code_form.specs.Valid.{has_cell as spec_cell, is_value as spec_value, can_call as spec_call};
+ghost use Rattle.code_form.specs.Valid.{has_local as spec_local, names_what_is_there as spec_names, callees_of};
 ghost use Rattle.object_file.specs.Links.{AreLinksOf};
 ghost use Rattle.object_file.specs.Views.{heading_of, import_of, procedure_of, world_in};
 
@@ -162,7 +165,8 @@ pub(crate) fn names_what_is_there(
 
 /// What a call of an own procedure takes and leaves.
 fn own_callee(parts: &Parts, p: u32) -> (u64, u64)
-    ensures { record { params = result.0; result = result.1 } ≡ procedure_or (slice_get (map procedure_of parts.now.procedures.items) p) }
+    ensures { record { params = result.0; result = result.1 }
+        ≡ procedure_or (slice_get (map procedure_of parts.now.procedures.items) p) }
 {
     match procedure(parts, p) {
         Some(callee) => (callee.params as u64, callee.result as u64),
@@ -171,7 +175,8 @@ fn own_callee(parts: &Parts, p: u32) -> (u64, u64)
 }
 
 fn heading(headings: &[(u32, u32)], k: u32) -> (u64, u64)
-    ensures { record { params = result.0; result = result.1 } ≡ heading_or (slice_get (map heading_of headings.now) k) }
+    ensures { record { params = result.0; result = result.1 }
+        ≡ heading_or (slice_get (map heading_of headings.now) k) }
 {
     match headings.get(k as usize) {
         Some((params, cells)) => (*params as u64, *cells as u64),
@@ -181,7 +186,8 @@ fn heading(headings: &[(u32, u32)], k: u32) -> (u64, u64)
 
 /// What a call of a heading takes and leaves.
 fn import_callee(parts: &Parts, m: u32, k: u32) -> (u64, u64)
-    ensures { record { params = result.0; result = result.1 } ≡ heading_or (slice_get (headings_or (spec_import (world_in parts.now) m)) k) }
+    ensures { record { params = result.0; result = result.1 }
+        ≡ heading_or (slice_get (headings_or (spec_import (world_in parts.now) m)) k) }
 {
     match import(parts, m) {
         Some(i) => heading(&i.headings, k),
@@ -192,7 +198,8 @@ fn import_callee(parts: &Parts, m: u32, k: u32) -> (u64, u64)
 /// What an instruction takes and leaves.
 #[inline(always)]
 pub(crate) fn step(parts: &Parts, own: &ProcCode, instr: &Instr) -> (u64, u64)
-    ensures { record { instr = instr.now; takes = result.0; leaves = result.1 } ≡ step_among (callees_of (world_in parts.now) (procedure_of own.now)) instr.now }
+    ensures { record { instr = instr.now; takes = result.0; leaves = result.1 }
+        ≡ step_among (callees_of (world_in parts.now) (procedure_of own.now)) instr.now }
 {
     match instr.effect() {
         Effect::Changes(takes, leaves) => (takes, leaves),

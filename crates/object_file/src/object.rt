@@ -135,9 +135,11 @@ pub fn read_object(alloc: Global, bytes: &[u8]) -> Result<Object, ObjectFault>
     ensures object { IfOk result (λ o. IsObject bytes.now o) }
     ensures fault { IfErr result (λ e. IsFaultOf bytes.now e) }
     // Where they are one, it is read.
-    ensures only_object { (o : Contents) → IsObject bytes.now o → MatchResult result (λ x. x ≡ o) (λ e. e ≡ ObjectFault.Memory) }
+    ensures only_object { (o : Contents) → IsObject bytes.now o
+        → MatchResult result (λ x. x ≡ o) (λ e. e ≡ ObjectFault.Memory) }
     // Where they are none, the first broken place is told.
-    ensures only_fault { (offset code : ℕ) → IsBadAt bytes.now offset code → MatchResult result (λ x. ⊥) (λ e. (e ≡ ObjectFault.BadObject offset code) ⊎ (e ≡ ObjectFault.Memory)) }
+    ensures only_fault { (offset code : ℕ) → IsBadAt bytes.now offset code
+        → MatchResult result (λ x. ⊥) (λ e. (e ≡ ObjectFault.BadObject offset code) ⊎ (e ≡ ObjectFault.Memory)) }
 {
     match read(alloc, bytes) {
         Ok(parts) => Ok(Object { parts }),

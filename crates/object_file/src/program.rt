@@ -104,11 +104,12 @@ impl Program {
         Ok(Program { objects })
     }
 
-    /// The program of objects, the first of which is the main module's. Those to which no import leads from it aren't of the
-    /// program.
+    /// The program of objects, the first of which is the main module's. Those to which no import leads from it aren't
+    /// of the program.
     pub fn join(alloc: Global, objects: Vec<Object>) -> Result<Program, Memory>
         requires { AreLinked objects.items }
-        ensures { IfOk result (λ p. (order : List ℕ) × IsRunningOrder objects.items order × (p ≡ picked objects.items order)) }
+        ensures { IfOk result
+            (λ p. (order : List ℕ) × IsRunningOrder objects.items order × (p ≡ picked objects.items order)) }
     {
         let order = order_of(alloc, &objects)?;
         let objects = pick(alloc, objects, &order)?;

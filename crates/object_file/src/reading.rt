@@ -1,8 +1,10 @@
 //! The fields of an object, from left to right.
 ghost use Rattle.std.specs.Prelude.{◌≡◌, ◌<◌, ◌^◌, [], map, length};
 ghost use Rattle.object_file.specs.Fields.{Gives, many_at, counted_at};
-ghost use Rattle.object_file.specs.ObjectFormat.{any, version_near as spec_near, key_length as spec_key_length, is_count as spec_count};
-ghost use Rattle.object_file.specs.Reading.{export_at, heading_at, import_at, procedure_at, fields_at, object_at, whole_at};
+ghost use Rattle.object_file.specs.ObjectFormat.{any, version_near as spec_near, key_length as spec_key_length};
+ghost use Rattle.object_file.specs.ObjectFormat.{is_count as spec_count};
+ghost use Rattle.object_file.specs.Reading.{export_at, heading_at, import_at, procedure_at, fields_at, object_at};
+ghost use Rattle.object_file.specs.Reading.{whole_at};
 ghost use Rattle.object_file.specs.Views.{heading_of, keyed_of, procedure_of, contents_of};
 
 use crate::conditions::{
@@ -113,7 +115,8 @@ fn imports_of(
     count: u32,
     bytes: &mut &[u8],
 ) -> Result<Vec<ImportNote>, Stop>
-    ensures { Gives (λ x. (map keyed_of x.items, bytes.new.now)) result (many_at (import_at version) count [] bytes.old.now) }
+    ensures { Gives (λ x. (map keyed_of x.items, bytes.new.now)) result
+        (many_at (import_at version) count [] bytes.old.now) }
 {
     let mut imports = Imports::new(alloc);
     for _ in 0..count {
@@ -125,7 +128,8 @@ fn imports_of(
 
 #[tactic(auto, unfolding(crate::specs::Fields::counted_at))]
 fn imports(alloc: Global, version: u32, bytes: &mut &[u8]) -> Result<Vec<ImportNote>, Stop>
-    ensures { Gives (λ x. (map keyed_of x.items, bytes.new.now)) result (counted_at any (import_at version) bytes.old.now) }
+    ensures { Gives (λ x. (map keyed_of x.items, bytes.new.now)) result
+        (counted_at any (import_at version) bytes.old.now) }
 {
     let count = number(bytes)?;
     imports_of(alloc, version, count, bytes)
@@ -140,7 +144,8 @@ fn procedure(
     bytes: &mut &[u8],
 ) -> Result<ProcCode, Stop>
     requires { length before.now < 2 ^ 32 }
-    ensures { Gives (λ x. (procedure_of x, bytes.new.now)) result (procedure_at exports.now (map procedure_of before.now) bytes.old.now) }
+    ensures { Gives (λ x. (procedure_of x, bytes.new.now)) result
+        (procedure_at exports.now (map procedure_of before.now) bytes.old.now) }
 {
     let k = before.len() as u32;
     let at = *bytes;
@@ -175,7 +180,8 @@ fn procedures_of(
     count: u32,
     bytes: &mut &[u8],
 ) -> Result<Vec<ProcCode>, Stop>
-    ensures { Gives (λ x. (map procedure_of x.items, bytes.new.now)) result (many_at (procedure_at exports.now) count [] bytes.old.now) }
+    ensures { Gives (λ x. (map procedure_of x.items, bytes.new.now)) result
+        (many_at (procedure_at exports.now) count [] bytes.old.now) }
 {
     let mut procedures = Vec::new(alloc);
     for _ in 0..count {
@@ -187,7 +193,8 @@ fn procedures_of(
 
 #[tactic(auto, unfolding(crate::specs::Fields::counted_at))]
 fn procedures(alloc: Global, exports: &Exports, bytes: &mut &[u8]) -> Result<Vec<ProcCode>, Stop>
-    ensures { Gives (λ x. (map procedure_of x.items, bytes.new.now)) result (counted_at (spec_count exports.now) (procedure_at exports.now) bytes.old.now) }
+    ensures { Gives (λ x. (map procedure_of x.items, bytes.new.now)) result
+        (counted_at (spec_count exports.now) (procedure_at exports.now) bytes.old.now) }
 {
     let at = *bytes;
     let count = number(bytes)?;

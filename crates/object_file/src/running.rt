@@ -1,5 +1,6 @@
 //! The order in which the bodies of objects run.
-ghost use Rattle.std.specs.Prelude.{◌≡◌, ◌<◌, ◌+◌, ◌∷◌, [], false, true, replicate, length, slice_get, slice_set, ◌^◌, IfOk, IfSome, OnOk, option_map};
+ghost use Rattle.std.specs.Prelude.{◌≡◌, ◌<◌, ◌+◌, ◌∷◌, [], false, true, replicate, length, slice_get, slice_set, ◌^◌};
+ghost use Rattle.std.specs.Prelude.{IfOk, IfSome, OnOk, option_map};
 ghost use Rattle.object_file.specs.Directories.{IsDirectory, object_in};
 ghost use Rattle.object_file.specs.Running.{IsRunningOrder};
 ghost use Rattle.object_file.specs.Views.{import_of};

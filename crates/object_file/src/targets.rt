@@ -31,7 +31,8 @@ fn start(marks: &[Place], to: usize) -> Place
 /// This place, if an instruction begins there.
 fn place_at(parts: &Parts, own: &ProcCode, marks: &[Place], to: usize) -> Option<Place>
     requires { AreMarks (world_in parts.now) (procedure_of own.now) marks.now }
-    ensures { OfPoints (world_in parts.now) (procedure_of own.now) (λ all. option_map (λ m. m.height) result ≡ height_at all (pos to)) }
+    ensures { OfPoints (world_in parts.now) (procedure_of own.now)
+        (λ all. option_map (λ m. m.height) result ≡ height_at all (pos to)) }
 {
     let mut place = start(marks, to);
     while place.at < to {
@@ -66,7 +67,8 @@ pub(crate) fn target(
     distance: i32,
 ) -> Option<Place>
     requires { AreMarks (world_in parts.now) (procedure_of own.now) marks.now }
-    ensures { OfPoints (world_in parts.now) (procedure_of own.now) (λ all. option_map (λ m. m.height) result ≡ height_at all (pos end +ℤ distance)) }
+    ensures { OfPoints (world_in parts.now) (procedure_of own.now)
+        (λ all. option_map (λ m. m.height) result ≡ height_at all (pos end +ℤ distance)) }
 {
     let Some(to) = place_of(end, distance) else {
         return None;

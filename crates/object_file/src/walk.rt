@@ -24,8 +24,10 @@ pub(crate) fn first() -> Place
 #[inline(always)]
 pub(crate) fn point_at(parts: &Parts, own: &ProcCode, place: Place) -> Option<Point>
     requires { place.at ≤ length own.now.code.items }
-    ensures found { IfSome result (λ q. IsPointAt (world_in parts.now) (procedure_of own.now) place.at place.height q) }
-    ensures none { IfNone result ((i : InstrOf) (rest : List ℕ) → BeginsWith (drop place.at own.now.code.items) i rest → ⊥) }
+    ensures found { IfSome result
+        (λ q. IsPointAt (world_in parts.now) (procedure_of own.now) place.at place.height q) }
+    ensures none { IfNone result
+        ((i : InstrOf) (rest : List ℕ) → BeginsWith (drop place.at own.now.code.items) i rest → ⊥) }
 {
     let (instr, end) = decode(&own.code, place.at)?;
     let (takes, leaves) = step(parts, own, &instr);

@@ -1,7 +1,9 @@
 //! From objects to bytes.
 ghost use Rattle.std.specs.Prelude.{◌≡◌, ◌<◌, ◌^◌, ◌++◌, length, map, flat_map, IfOk, OnOk};
 ghost use Rattle.std.specs.List.{AllByRecursion};
-ghost use Rattle.object_file.specs.Contents.{u32 as u32_bytes, with_length, magic, export_bytes, heading_bytes, import_bytes, procedure_bytes, frame_bytes, body_bytes, opening_bytes, lists_bytes, object_bytes};
+ghost use Rattle.object_file.specs.Contents.{u32 as u32_bytes, with_length, magic, export_bytes, heading_bytes};
+ghost use Rattle.object_file.specs.Contents.{import_bytes, procedure_bytes, frame_bytes, body_bytes, opening_bytes};
+ghost use Rattle.object_file.specs.Contents.{lists_bytes, object_bytes};
 ghost use Rattle.object_file.specs.Short.{Short, ShortImport, ShortProcedure};
 ghost use Rattle.object_file.specs.Views.{heading_of, keyed_of, procedure_of, contents_of};
 

@@ -1,5 +1,5 @@
--- The text of an object: a line for the module, each import, each export and each procedure, and behind a procedure's line one
--- for each of its instructions.
+-- The text of an object: a line for the module, each import, each export and each procedure, and behind a procedure's
+-- line one for each of its instructions.
 use Rattle.std.specs.Prelude.{◌≡◌, ℕ, suc, ◌+◌, ℤ, pos, List, [], ◌∷◌, ◌++◌, length, codes, decimal}
 use Rattle.std.specs.Fmt.{signed_decimal}
 use Rattle.std.specs.List.{flat_map}
@@ -19,20 +19,25 @@ abbrev pub field : List ℕ → ℕ → List ℕ
 field word n = word ++ decimal n
 
 abbrev pub module_line : Contents → List ℕ
-module_line o = codes "module " ++ o.name ++ field (codes " version ") o.version ++ field (codes " cells ") o.cells ++ line_end
+module_line o = codes "module " ++ o.name ++ field (codes " version ") o.version ++ field (codes " cells ") o.cells
+    ++ line_end
 
 abbrev pub import_line : Import → List ℕ
-import_line i = codes "import " ++ i.name ++ field (codes " cells ") i.cells ++ field (codes " headings ") (length i.headings) ++ line_end
+import_line i = codes "import " ++ i.name ++ field (codes " cells ") i.cells
+    ++ field (codes " headings ") (length i.headings) ++ line_end
 
 -- an export with its number
 abbrev pub export_line : ℕ → Export → List ℕ
-export_line k e = field (codes "export ") k ++ field (codes " procedure ") e.0 ++ field (codes " params ") e.1 ++ field (codes " result ") e.2 ++ line_end
+export_line k e = field (codes "export ") k ++ field (codes " procedure ") e.0 ++ field (codes " params ") e.1
+    ++ field (codes " result ") e.2 ++ line_end
 
 -- a procedure with its number
 abbrev pub procedure_line : ℕ → Procedure → List ℕ
 procedure_line k p =
-    field (codes "procedure ") k ++ field (codes " outer ") p.outer ++ field (codes " params ") p.params ++ field (codes " result ") p.result
-    ++ field (codes " locals ") p.locals ++ field (codes " high ") p.high ++ field (codes " data ") (length p.bytes) ++ field (codes " code ") (length p.code) ++ line_end
+    field (codes "procedure ") k ++ field (codes " outer ") p.outer ++ field (codes " params ") p.params
+    ++ field (codes " result ") p.result
+    ++ field (codes " locals ") p.locals ++ field (codes " high ") p.high ++ field (codes " data ") (length p.bytes)
+    ++ field (codes " code ") (length p.code) ++ line_end
 
 -- the operands of an instruction
 abbrev pub operands_of : Instr → List ℤ
@@ -88,7 +93,8 @@ export_lines k (e ∷ es) = export_line k e ++ export_lines (suc k) es
 -- the lines of procedures, the first of which has number k, each followed by its instructions
 abbrev pub AreLines : (k : ℕ) → List Procedure → List ℕ → Type 0
 AreLines k [] text = text ≡ []
-AreLines k (p ∷ ps) text = (is : List Instr) × (rest : List ℕ) × AreInstrs p.code is × AreLines (suc k) ps rest × (text ≡ procedure_line k p ++ instr_lines 0 is ++ rest)
+AreLines k (p ∷ ps) text = (is : List Instr) × (rest : List ℕ) × AreInstrs p.code is × AreLines (suc k) ps rest
+    × (text ≡ procedure_line k p ++ instr_lines 0 is ++ rest)
 
 -- the text of an object
 pub record IsText (o : Contents) (text : List ℕ) : Type 0 where

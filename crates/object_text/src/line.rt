@@ -3,7 +3,9 @@ ghost use Rattle.std.specs.Prelude.{◌≡◌, ◌++◌, ◌∷◌, [], ℤ, OnO
 ghost use Rattle.std.specs.Fmt.{signed_decimal};
 ghost use Rattle.object_file.specs.Views.{import_of, procedure_of};
 ghost use Rattle.object_text.specs.Operands.{numbers_of};
-ghost use Rattle.object_text.specs.Text.{field as spec_field, line_end, module_line as spec_module, import_line as spec_import, export_line as spec_export, procedure_line as spec_procedure, instr_line as spec_instr, numbers_text};
+ghost use Rattle.object_text.specs.Text.{field as spec_field, line_end, module_line as spec_module};
+ghost use Rattle.object_text.specs.Text.{import_line as spec_import, export_line as spec_export};
+ghost use Rattle.object_text.specs.Text.{procedure_line as spec_procedure, instr_line as spec_instr, numbers_text};
 
 use crate::operands::{Numbers, operand_numbers};
 use code_form::Instr;

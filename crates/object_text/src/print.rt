@@ -6,7 +6,8 @@ ghost use Rattle.code_form.specs.declared.instr.Instr.{Instr as InstrOf};
 ghost use Rattle.code_form.specs.Valid.{AreInstrs};
 ghost use Rattle.object_file.specs.Views.{import_of, procedure_of};
 ghost use Rattle.object_text.specs.Printed.{Prints, PrintsPart};
-ghost use Rattle.object_text.specs.Text.{module_line as spec_module, import_lines, export_lines, procedure_line as spec_procedure, instr_lines, AreLines, IsText};
+ghost use Rattle.object_text.specs.Text.{module_line as spec_module, import_lines, export_lines};
+ghost use Rattle.object_text.specs.Text.{procedure_line as spec_procedure, instr_lines, AreLines, IsText};
 
 use crate::fault::PrintFault;
 use crate::line::{export_line, import_line, instr_line, module_line, procedure_line};
@@ -36,8 +37,10 @@ fn print_imports<P: Sink>(
     notes: &[ImportNote],
     print: &mut P,
 ) -> Result<(), PrintFault>
-    ensures ok { OnOk result (P.written print.new ≡ with_bytes (P.written print.old) (import_lines (map import_of notes.now))) }
-    ensures part { OnErr result (WritesPart (P.written print.old) (import_lines (map import_of notes.now)) (P.written print.new)) }
+    ensures ok { OnOk result
+        (P.written print.new ≡ with_bytes (P.written print.old) (import_lines (map import_of notes.now))) }
+    ensures part { OnErr result
+        (WritesPart (P.written print.old) (import_lines (map import_of notes.now)) (P.written print.new)) }
     ensures failed { IsErrOf result PrintFault.Write → Rose (P.faults print.old) (P.faults print.new) }
     ensures later { P.faults print.old ≤ P.faults print.new }
 {
@@ -67,8 +70,10 @@ fn print_exports<P: Sink>(
 
 fn print_instrs<P: Sink>(line: &mut Vec<u8>, code: &[u8], print: &mut P) -> Result<(), PrintFault>
     requires { (is : List InstrOf) × AreInstrs code.now is }
-    ensures ok { OnOk result ((is : List InstrOf) → AreInstrs code.now is → P.written print.new ≡ with_bytes (P.written print.old) (instr_lines 0 is)) }
-    ensures part { OnErr result ((is : List InstrOf) → AreInstrs code.now is → WritesPart (P.written print.old) (instr_lines 0 is) (P.written print.new)) }
+    ensures ok { OnOk result ((is : List InstrOf) → AreInstrs code.now is
+        → P.written print.new ≡ with_bytes (P.written print.old) (instr_lines 0 is)) }
+    ensures part { OnErr result ((is : List InstrOf) → AreInstrs code.now is
+        → WritesPart (P.written print.old) (instr_lines 0 is) (P.written print.new)) }
     ensures failed { IsErrOf result PrintFault.Write → Rose (P.faults print.old) (P.faults print.new) }
     ensures later { P.faults print.old ≤ P.faults print.new }
 {
@@ -91,8 +96,10 @@ fn print_procedure<P: Sink>(
     print: &mut P,
 ) -> Result<(), PrintFault>
     requires { (is : List InstrOf) × AreInstrs own.now.code.items is }
-    ensures ok { OnOk result ((is : List InstrOf) → AreInstrs own.now.code.items is → P.written print.new ≡ with_bytes (P.written print.old) (spec_procedure k (procedure_of own.now) ++ instr_lines 0 is)) }
-    ensures part { OnErr result ((is : List InstrOf) → AreInstrs own.now.code.items is → WritesPart (P.written print.old) (spec_procedure k (procedure_of own.now) ++ instr_lines 0 is) (P.written print.new)) }
+    ensures ok { OnOk result ((is : List InstrOf) → AreInstrs own.now.code.items is → P.written print.new
+        ≡ with_bytes (P.written print.old) (spec_procedure k (procedure_of own.now) ++ instr_lines 0 is)) }
+    ensures part { OnErr result ((is : List InstrOf) → AreInstrs own.now.code.items is → WritesPart
+        (P.written print.old) (spec_procedure k (procedure_of own.now) ++ instr_lines 0 is) (P.written print.new)) }
     ensures failed { IsErrOf result PrintFault.Write → Rose (P.faults print.old) (P.faults print.new) }
     ensures later { P.faults print.old ≤ P.faults print.new }
 {
@@ -107,8 +114,10 @@ fn print_procedures<P: Sink>(
     print: &mut P,
 ) -> Result<(), PrintFault>
     requires { (text : List ℕ) × AreLines 0 (map procedure_of procedures.now) text }
-    ensures ok { OnOk result ((text : List ℕ) → AreLines 0 (map procedure_of procedures.now) text → P.written print.new ≡ with_bytes (P.written print.old) text) }
-    ensures part { OnErr result ((text : List ℕ) → AreLines 0 (map procedure_of procedures.now) text → WritesPart (P.written print.old) text (P.written print.new)) }
+    ensures ok { OnOk result ((text : List ℕ) → AreLines 0 (map procedure_of procedures.now) text
+        → P.written print.new ≡ with_bytes (P.written print.old) text) }
+    ensures part { OnErr result ((text : List ℕ) → AreLines 0 (map procedure_of procedures.now) text
+        → WritesPart (P.written print.old) text (P.written print.new)) }
     ensures failed { IsErrOf result PrintFault.Write → Rose (P.faults print.old) (P.faults print.new) }
     ensures later { P.faults print.old ≤ P.faults print.new }
 {

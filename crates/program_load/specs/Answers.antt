@@ -6,7 +6,8 @@ use Rattle.m2_link.specs.declared.fault.LinkFault.{LinkFault}
 use Rattle.m2_io.specs.declared.shelf.ShelfError.TheVariants as shelf
 use Rattle.m2_io.specs.declared.shelf.ShelfError.{ShelfError}
 use Rattle.program_load.specs.Loads.{Failure, broken, limited, no_object, object_bytes, objects, refused}
-use Rattle.program_load.specs.declared.fault.LoadFault.TheVariants.{NoObject, Read, TooLong, TooMany, Bad, Refused, Memory}
+use Rattle.program_load.specs.declared.fault.LoadFault.TheVariants.{NoObject, Read, TooLong, TooMany, Bad, Refused}
+use Rattle.program_load.specs.declared.fault.LoadFault.TheVariants.{Memory}
 use Rattle.program_load.specs.declared.fault.LoadFault.{LoadFault}
 
 abbrev pub refusal_told : LinkFault → Option Failure

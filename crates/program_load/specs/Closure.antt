@@ -1,5 +1,7 @@
--- The objects of a program, breadth first: which modules the objects read so far import, and which of them is asked for next.
-use Rattle.std.specs.Prelude.{◌≡◌, ℕ, ◌+◌, List, [], ◌∷◌, ◌++◌, Option, String, if◌then◌else◌, map, slice_get, string_bytes}
+-- The objects of a program, breadth first: which modules the objects read so far import,
+-- and which of them is asked for next.
+use Rattle.std.specs.Prelude.{◌≡◌, ℕ, ◌+◌, List, [], ◌∷◌, ◌++◌, Option, String, if◌then◌else◌, map, slice_get}
+use Rattle.std.specs.Prelude.{string_bytes}
 use Rattle.std.specs.BTreeSet.{BTreeSet, contains_text}
 use Rattle.std.specs.Global.{Global}
 use Rattle.std.specs.List.{list_any}
@@ -8,8 +10,8 @@ use Rattle.m2_base.specs.Names.{with_names}
 use Rattle.object_file.specs.Contents.{Contents, KeyedImport}
 use Rattle.object_file.specs.Programs.{in_out}
 
--- How far the objects of a program are read: the modules that are named so far, each once, in the order in which they are named first; the
--- objects in the order in which they were found; and how many of the modules were asked for.
+-- How far the objects of a program are read: the modules that are named so far, each once, in the order in which they
+-- are named first; the objects in the order in which they were found; and how many of the modules were asked for.
 pub record Progress : Type 0 where
   pub names : List (List ℕ)
   pub objects : List Contents
@@ -26,7 +28,8 @@ next_module p = slice_get p.names p.asked
 -- the modules that are imported; InOut is the machine's own
 abbrev pub modules_in : List KeyedImport → List (List ℕ)
 modules_in [] = []
-modules_in (i ∷ is) = if bytes_eq i.definition.name in_out.name then modules_in is else i.definition.name ∷ modules_in is
+modules_in (i ∷ is) =
+    if bytes_eq i.definition.name in_out.name then modules_in is else i.definition.name ∷ modules_in is
 
 -- a module was asked for, and has no object
 abbrev pub passed : Progress → Progress
@@ -34,7 +37,8 @@ passed p = record { names = p.names; objects = p.objects; asked = p.asked + 1 }
 
 -- a module was asked for, and this is its object
 abbrev pub longer : Progress → Contents → Progress
-longer p o = record { names = with_names p.names (modules_in o.imports); objects = p.objects ++ o ∷ []; asked = p.asked + 1 }
+longer p o =
+    record { names = with_names p.names (modules_in o.imports); objects = p.objects ++ o ∷ []; asked = p.asked + 1 }
 
 -- ** What the code has beside it
 

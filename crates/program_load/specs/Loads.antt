@@ -1,5 +1,6 @@
--- What loading the program of a module comes to: its objects in running order, or the first thing that stands against it. The objects are
--- read one after another, and each is asked for its limits before what its bytes say; only then are all of them linked.
+-- What loading the program of a module comes to: its objects in running order, or the first thing that stands against
+-- it. The objects are read one after another, and each is asked for its limits before what its bytes say;
+-- only then are all of them linked.
 use Rattle.std.specs.Prelude.{◌≡◌, ◌≢◌, ℕ, ◌<◌, ◌≤◌, List, [], Option, Some, None, length}
 use Rattle.m2_io.specs.Files.{Files}
 use Rattle.object_file.specs.Contents.{Contents}
@@ -40,34 +41,42 @@ pub record Reads (p : Progress) (bytes : List ℕ) (q : Progress) : Type 0 where
 -- A module is asked for. Only the main module must have an object.
 pub data Asks (holds : Option Files) (p : Progress) (name : List ℕ) : Progress → Type 0 where
   not_there : p.objects ≢ [] → HasObject holds name None → Asks holds p name (passed p)
-  is_there : {bytes : List ℕ} {q : Progress} → HasObject holds name (Some bytes) → Reads p bytes q → Asks holds p name q
+  is_there : {bytes : List ℕ} {q : Progress} → HasObject holds name (Some bytes) → Reads p bytes q
+      → Asks holds p name q
 
 -- These bytes are no object, or too many.
 pub data Spoils (name bytes : List ℕ) : Failure → Type 0 where
   too_long : MOST_OBJECT_BYTES < length bytes → Spoils name bytes (limited object_bytes)
-  bad : {offset code : ℕ} → length bytes ≤ MOST_OBJECT_BYTES → IsBadAt bytes offset code → Spoils name bytes (broken name offset code)
+  bad : {offset code : ℕ} → length bytes ≤ MOST_OBJECT_BYTES → IsBadAt bytes offset code
+      → Spoils name bytes (broken name offset code)
 
 -- The next object has these bytes, and loading ends there.
 pub data Blocks (p : Progress) (name bytes : List ℕ) : Failure → Type 0 where
   too_many : MOST_OBJECTS ≤ length p.objects → Blocks p name bytes (limited objects)
-  spoilt : {failure : Failure} → length p.objects < MOST_OBJECTS → Spoils name bytes failure → Blocks p name bytes failure
+  spoilt : {failure : Failure} → length p.objects < MOST_OBJECTS → Spoils name bytes failure
+      → Blocks p name bytes failure
 
 -- A module is asked for, and loading ends there.
 pub data Stops (holds : Option Files) (p : Progress) (name : List ℕ) : Failure → Type 0 where
   nothing : p.objects ≡ [] → HasObject holds name None → Stops holds p name no_object
-  at_object : {bytes : List ℕ} {failure : Failure} → HasObject holds name (Some bytes) → Blocks p name bytes failure → Stops holds p name failure
+  at_object : {bytes : List ℕ} {failure : Failure} → HasObject holds name (Some bytes) → Blocks p name bytes failure
+      → Stops holds p name failure
 
 -- The objects can be read so far, one module after another.
 pub data Reaches (holds : Option Files) (main : List ℕ) : Progress → Type 0 where
   begins : Reaches holds main (start main)
-  then_asks : {p q : Progress} {name : List ℕ} → Reaches holds main p → next_module p ≡ Some name → Asks holds p name q → Reaches holds main q
+  then_asks : {p q : Progress} {name : List ℕ} → Reaches holds main p → next_module p ≡ Some name → Asks holds p name q
+      → Reaches holds main q
 
 -- What loading the program of a module comes to.
 pub data Loads (holds : Option Files) (main : List ℕ) : Loading → Type 0 where
-  stops : {p : Progress} {name : List ℕ} {failure : Failure} → Reaches holds main p → next_module p ≡ Some name → Stops holds p name failure
+  stops : {p : Progress} {name : List ℕ} {failure : Failure} → Reaches holds main p → next_module p ≡ Some name
+      → Stops holds p name failure
       → Loads holds main (fails failure)
-  refuses : {p : Progress} {r : Refusal} → Reaches holds main p → next_module p ≡ None → refusal p.objects ≡ Some r → Loads holds main (fails (refused r))
-  links : {p : Progress} {program : List Contents} → Reaches holds main p → next_module p ≡ None → AreLinkedTo p.objects program
+  refuses : {p : Progress} {r : Refusal} → Reaches holds main p → next_module p ≡ None → refusal p.objects ≡ Some r
+      → Loads holds main (fails (refused r))
+  links : {p : Progress} {program : List Contents} → Reaches holds main p → next_module p ≡ None
+      → AreLinkedTo p.objects program
       → Loads holds main (linked program)
 
 -- ** A single object

@@ -16,7 +16,8 @@ pub enum LoadFault {
     TooLong,
     #[error("more than 256 objects")]
     TooMany,
-    /// The bytes of the object in this module's file are none: the place where that shows first, and what is wrong there.
+    /// The bytes of the object in this module's file are none: the place where that shows first,
+    /// and what is wrong there.
     #[error("bad object at {offset} code {code}")]
     Bad { name: String, offset: u64, code: u8 },
     #[error("the objects don't fit together")]

@@ -25,7 +25,8 @@ pub fn object_bytes<H: Shelf>(
     shelf: &mut H,
     name: &str,
 ) -> Result<Option<Vec<u8>>, LoadFault>
-    ensures found { IfOk result (λ found. IsReadOf (H.holds shelf.old) name.now (option_map (λ bytes. bytes.items) found)) }
+    ensures found { IfOk result
+        (λ found. IsReadOf (H.holds shelf.old) name.now (option_map (λ bytes. bytes.items) found)) }
     ensures holds { H.holds shelf.new ≡ H.holds shelf.old }
     ensures put_faults { H.put_faults shelf.new ≡ H.put_faults shelf.old }
     ensures later { H.faults shelf.old ≤ H.faults shelf.new }

@@ -7,8 +7,12 @@ ghost use Rattle.program_load.specs.Loads.{Failure, Finds, Loading, Loads, Stops
 
 /// Over given files loading comes to one thing, and so does finding the object of a module.
 pub fn one_loading()
-    ensures program { (files : Files) (main : List ℕ) (this that : Loading) → Loads (Some files) main this → Loads (Some files) main that → this ≡ that }
-    ensures object { (files : Files) (name : List ℕ) (this that : Contents) → Finds (Some files) name this → Finds (Some files) name that → this ≡ that }
-    ensures failure { (files : Files) (name : List ℕ) (this that : Failure) → Stops (Some files) (start name) name this → Stops (Some files) (start name) name that → this ≡ that }
-    ensures either { (files : Files) (name : List ℕ) (object : Contents) (failure : Failure) → Finds (Some files) name object → Stops (Some files) (start name) name failure → ⊥ }
+    ensures program { (files : Files) (main : List ℕ) (this that : Loading) → Loads (Some files) main this
+        → Loads (Some files) main that → this ≡ that }
+    ensures object { (files : Files) (name : List ℕ) (this that : Contents) → Finds (Some files) name this
+        → Finds (Some files) name that → this ≡ that }
+    ensures failure { (files : Files) (name : List ℕ) (this that : Failure) → Stops (Some files) (start name) name this
+        → Stops (Some files) (start name) name that → this ≡ that }
+    ensures either { (files : Files) (name : List ℕ) (object : Contents) (failure : Failure)
+        → Finds (Some files) name object → Stops (Some files) (start name) name failure → ⊥ }
 {}

@@ -51,7 +51,8 @@ fn name_import(
 ) -> Result<(), Memory>
     requires known { AreKnown known.old (texts_of names.old.items) }
     requires identifier { IsTrue (is_identifier note.now.name.items) }
-    ensures named { OnOk result (texts_of names.new.items ≡ with_names (texts_of names.old.items) (modules_in (keyed_of note.now ∷ []))) }
+    ensures named { OnOk result
+        (texts_of names.new.items ≡ with_names (texts_of names.old.items) (modules_in (keyed_of note.now ∷ []))) }
     ensures known { OnOk result (AreKnown known.new (texts_of names.new.items)) }
 {
     if is_in_out(note) {
@@ -72,7 +73,8 @@ pub fn name_imports(
 ) -> Result<(), Memory>
     requires known { AreKnown known.old (texts_of names.old.items) }
     requires identifiers { AllByRecursion (λ i. IsTrue (is_identifier i.definition.name)) (map keyed_of notes.now) }
-    ensures named { OnOk result (texts_of names.new.items ≡ with_names (texts_of names.old.items) (modules_in (map keyed_of notes.now))) }
+    ensures named { OnOk result
+        (texts_of names.new.items ≡ with_names (texts_of names.old.items) (modules_in (map keyed_of notes.now))) }
     ensures known { OnOk result (AreKnown known.new (texts_of names.new.items)) }
 {
     for note in notes {

@@ -1,5 +1,6 @@
 -- What clauses say of a relay and its hands.
-use Rattle.std.specs.Prelude.{◌≡◌, ℕ, ◌<◌, Bool, true, List, [], ◌++◌, All, Option, None, length, map, sum_by, slice_index_or, vec_capacity}
+use Rattle.std.specs.Prelude.{◌≡◌, ℕ, ◌<◌, Bool, true, List, [], ◌++◌, All, Option, None, length, map, sum_by}
+use Rattle.std.specs.Prelude.{slice_index_or, vec_capacity}
 use Rattle.crossbeam_queue.specs.Passes.{view, IsPassOf}
 use Rattle.relay.specs.declared.hand.Hand.{Hand}
 use Rattle.relay.specs.declared.hand.Relay.{Relay}

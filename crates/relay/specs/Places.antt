@@ -1,5 +1,6 @@
 -- Where each job is: in the queue, or out with a pass.
-use Rattle.std.specs.Prelude.{◌≡◌, ℕ, ◌+◌, ◌<◌, ◌≤◌, ◌==◌, Bool, false, List, [], ◌∷◌, ◌++◌, length, map, All, Option, Some, None, sum_by, count_by}
+use Rattle.std.specs.Prelude.{◌≡◌, ℕ, ◌+◌, ◌<◌, ◌≤◌, ◌==◌, Bool, false, List, [], ◌∷◌, ◌++◌, length, map, All, Option}
+use Rattle.std.specs.Prelude.{Some, None, sum_by, count_by}
 use Rattle.std.specs.List.{Contains, range_with_len}
 use mathlib.Core.Option.{some}
 use lib.ListN.{get_elem?}
@@ -41,7 +42,8 @@ abbrev pub ComesFrom : {A : Type 0} → (stays : A → A → Type 0) → List A 
 ComesFrom {A} stays jobs job = (first : A) × Contains jobs first × stays first job
 
 -- what a hand's pass has out are the numbers of its kept jobs, and the one that it holds
-pub record Carries {A : Type 0} (number : A → ℕ) (stays : A → A → Type 0) (v : Knows A) (held : Option ℕ) (kept : List A) (places : ℕ) : Type 0 where
+pub record Carries {A : Type 0} (number : A → ℕ) (stays : A → A → Type 0) (v : Knows A) (held : Option ℕ)
+    (kept : List A) (places : ℕ) : Type 0 where
   pub out : v.out ≡ map number kept ++ those_of held
   pub below : length v.out ≤ length v.jobs
   pub room : length v.jobs ≤ places
@@ -50,7 +52,8 @@ pub record Carries {A : Type 0} (number : A → ℕ) (stays : A → A → Type 0
 -- what a pass is told of what waits
 pub record Told {A : Type 0} (number : A → ℕ) (v : Knows A) (items : List A) : Type 0 where
   pub spread : Spread (map number items) v.out (length v.jobs)
-  pub alone : v.parts ≡ 1024 → (x : ℕ) → times x (map number items) + times x v.out ≡ times x (numbers_to (length v.jobs))
+  pub alone : v.parts ≡ 1024 → (x : ℕ)
+      → times x (map number items) + times x v.out ≡ times x (numbers_to (length v.jobs))
 
 module _ {A : Type 0} (number : A → ℕ) (done : A → Bool) (stays : A → A → Type 0) where
   -- a job that may wait in the queue
@@ -61,7 +64,8 @@ module _ {A : Type 0} (number : A → ℕ) (done : A → Bool) (stays : A → A 
   pub record Placed (items : List A) (views : List (Knows A)) : Type 0 where
     pub jobs : List A
     pub whole : sum_by (λ v. v.parts) views ≡ 1024
-    pub once : (x : ℕ) → times x (map number items) + sum_by (λ v. times x v.out) views ≡ times x (numbers_to (length jobs))
+    pub once : (x : ℕ)
+        → times x (map number items) + sum_by (λ v. times x v.out) views ≡ times x (numbers_to (length jobs))
     pub many : length items + sum_by (λ v. length v.out) views ≡ length jobs
     pub wait : All (MayWait jobs) items
     pub known : (i : ℕ) (v : Knows A) → get_elem? views i ≡ some v → 0 < v.parts → v.jobs ≡ jobs

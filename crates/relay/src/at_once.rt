@@ -36,8 +36,9 @@ fn work_all<J: Job + Send, T: Turns<J> + Sync, R: Threads + Wait + Sync>(
     );
 }
 
-/// Workers take turns at the jobs, each worker in a thread of its own where one can be started, until none of them gets a job
-/// on. Then all jobs are there again, in the order of their numbers, each as the turns left it. Workers have the numbers from 0.
+/// Workers take turns at the jobs, each worker in a thread of its own where one can be started, until none of them
+/// gets a job on. Then all jobs are there again, in the order of their numbers, each as the turns left it.
+/// Workers have the numbers from 0.
 pub fn work_at_once<J: Job + Send, T: Turns<J> + Sync, R: Threads + Wait + Sync>(
     rt: &R,
     alloc: Global,
@@ -59,8 +60,8 @@ pub fn work_at_once<J: Job + Send, T: Turns<J> + Sync, R: Threads + Wait + Sync>
     Ok(relay.close(rt, hands))
 }
 
-/// All jobs, each done, in the order of their numbers: workers take turns at them at once, and then the caller ends what is left,
-/// as the worker whose number follows on theirs.
+/// All jobs, each done, in the order of their numbers: workers take turns at them at once, and then the caller ends
+/// what is left, as the worker whose number follows on theirs.
 pub fn do_all<J: Job + Send, T: Turns<J> + Sync, R: Threads + Wait + Sync>(
     rt: &R,
     alloc: Global,

@@ -57,8 +57,8 @@ fn end_at<J: Job, T: Turns<J>>(
     end(turns, worker, &mut jobs[place])
 }
 
-/// All jobs are ended, in the order of their numbers: each is told what the one before it knows, and gets a turn if it isn't
-/// done. So none has to wait. The turns are those of the worker with this number.
+/// All jobs are ended, in the order of their numbers: each is told what the one before it knows, and gets a turn if it
+/// isn't done. So none has to wait. The turns are those of the worker with this number.
 pub fn finish<J: Job, T: Turns<J>>(turns: &T, worker: u32, jobs: &mut [J]) -> Result<(), Memory>
     requires order { map J.number jobs.old ≡ numbers_to (length jobs.old) }
     requires fits { All (T.fits turns.now) jobs.old }

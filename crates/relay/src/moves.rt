@@ -15,7 +15,8 @@ impl<J: Job> Relay<J> {
         requires free { held hand.old ≡ None }
         ensures hand { IsHandOf J.number J.stays self.now hand.new × (part hand.new ≡ part hand.old) }
         ensures kept { kept hand.new ≡ kept hand.old }
-        ensures some { IfSome result (λ job. (held hand.new ≡ Some (J.number job)) × MayWait J.number J.done J.stays (jobs_of self.now) job) }
+        ensures some { IfSome result
+            (λ job. (held hand.new ≡ Some (J.number job)) × MayWait J.number J.done J.stays (jobs_of self.now) job) }
 
         // None only where the queue was empty: each number was in a hand, or kept.
         ensures none { IfNone result ((held hand.new ≡ None)

@@ -1,5 +1,6 @@
 //! How a relay is opened.
-ghost use Rattle.std.specs.Prelude.{◌≡◌, ◌+◌, ◌++◌, ◌<◌, ◌≤◌, ◌∷◌, [], false, length, map, All, IfOk, None, vec_capacity};
+ghost use Rattle.std.specs.Prelude.{◌≡◌, ◌+◌, ◌++◌, ◌<◌, ◌≤◌, ◌∷◌, [], false, length, map, All, IfOk, None};
+ghost use Rattle.std.specs.Prelude.{vec_capacity};
 ghost use Rattle.crossbeam_queue.specs.Passes.{IsPassOf, IsSamePass, view, ruled_capacity};
 ghost use Rattle.relay.specs.Places.{knows, numbers_to};
 ghost use Rattle.relay.specs.Hands.{jobs_of, many, IsEmpty, AllHands};
@@ -47,7 +48,8 @@ impl<J: Job> Relay<J> {
         requires next { J.number job ≡ length (view pass.old).jobs + 1 }
         requires undone { J.done job ≡ false }
         ensures pass { IsSamePass pass.old pass.new }
-        ensures view { view pass.new ≡ knows (view pass.old).parts ((view pass.old).jobs ++ job ∷ []) (view pass.old).out }
+        ensures view { view pass.new
+            ≡ knows (view pass.old).parts ((view pass.old).jobs ++ job ∷ []) (view pass.old).out }
     {
         let Ok(()) = self.queue.push_as::<Comes, R>(rt, pass, job) else {
             unreachable!()
@@ -95,7 +97,8 @@ fn deal<J: Job>(
     requires pass { IsPassOf relay.now.queue pass × (view pass ≡ knows 1024 (jobs_of relay.now) []) }
     requires order { map J.number (jobs_of relay.now) ≡ numbers_to (many relay.now) }
     requires hands { (0 < hands) × (hands ≤ 64) }
-    ensures { IfOk result (λ all. AllHands J.number J.stays relay.now all.items × All IsEmpty all.items × (length all.items ≡ hands)) }
+    ensures { IfOk result
+        (λ all. AllHands J.number J.stays relay.now all.items × All IsEmpty all.items × (length all.items ≡ hands)) }
 {
     let room = relay.queue.capacity();
     let mut all = Vec::with_capacity(alloc, hands as usize)?;

@@ -4,7 +4,8 @@ use crate::job::Job;
 use crossbeam_queue::protocol::Protocol;
 use std::collections::LinkedList;
 
-/// The parts of the right to close, the jobs as they came, and the numbers that are out with the pass. No value of it is made.
+/// The parts of the right to close, the jobs as they came, and the numbers that are out with the pass.
+/// No value of it is made.
 pub struct Knows<J> {
     pub parts: u64,
     pub jobs: LinkedList<J>,

@@ -19,8 +19,8 @@ fn let_others_run(waited: usize) {
     thread::yield_now();
 }
 
-/// Turns by the worker with this number, until no job waits in the queue, or as many turns in a row as there are jobs brought none
-/// on, or memory ran out.
+/// Turns by the worker with this number, until no job waits in the queue, or as many turns in a row as there are jobs
+/// brought none on, or memory ran out.
 pub fn work_off<J: Job, T: Turns<J>, R: Wait>(
     rt: &R,
     relay: &Relay<J>,

@@ -1,11 +1,13 @@
--- What is said of rows where no declaration had a diagnostic: no part of a row is in error, and what has a name leads to something.
+-- What is said of rows where no declaration had a diagnostic: no part of a row is in error,
+-- and what has a name leads to something.
 use Rattle.std.specs.Prelude.{◌≡◌, ◌≢◌, ℕ, false, List, Some, slice_get}
 use Rattle.m2_base.specs.Lists.{WhereKept}
 use Rattle.m2_base.specs.Rows.{is_same_place, row_meaning}
 use Rattle.m2_base.specs.declared.rows.Place.{Place}
 use Rattle.m2_base.specs.declared.rows.Row.{Row}
 use Rattle.m2_base.specs.declared.rows.RowMeaning.{RowMeaning}
-use Rattle.m2_base.specs.declared.rows.RowMeaning.TheVariants.{Alias, Array, Const, Field, Module, OpenArray, Param, Pointer, Proc, ProcType, Set, Standard, TypeName, Var}
+use Rattle.m2_base.specs.declared.rows.RowMeaning.TheVariants.{Alias, Array, Const, Field, Module, OpenArray, Param}
+use Rattle.m2_base.specs.declared.rows.RowMeaning.TheVariants.{Pointer, Proc, ProcType, Set, Standard, TypeName, Var}
 use Rattle.m2_base.specs.Standard.{broken}
 use Rattle.m2_base.specs.Statics.Contexts.{row_at}
 use Rattle.m2_base.specs.Tables.{rows_at}
@@ -54,7 +56,8 @@ IsNamable m = IsTarget m
 
 -- no type in the row is that of parts in error, an alias leads on, and a row with a name is what may have one
 abbrev pub IsClearRow : List (List Row) → Row → Type 0
-IsClearRow tables r = HasClear (row_meaning r) × LeadsOn tables (row_meaning r) × (r.name ≢ 0 → IsNamable (row_meaning r))
+IsClearRow tables r =
+    HasClear (row_meaning r) × LeadsOn tables (row_meaning r) × (r.name ≢ 0 → IsNamable (row_meaning r))
 
 -- all rows of these scopes are clear
 abbrev pub AreClear : List (List Row) → Type 0

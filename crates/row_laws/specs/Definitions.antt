@@ -27,11 +27,13 @@ pub record IsNoted (scene : Scene) (note : HeadingNote) (t : Place) : Type 0 whe
 
 -- in the statements of each block of the unit that sees this one, the type is the note's
 abbrev pub IsSeenAsNoted : UnitTrees → BlockTree → HeadingNote → Place → Type 0
-IsSeenAsNoted u d note t = (later : BlockTree) → IsIn later (blocks_of u) → d.block.scope ≤ later.block.scope → IsNoted (complete_context u.source (unit_rows u) later.block).scene note t
+IsSeenAsNoted u d note t = (later : BlockTree) → IsIn later (blocks_of u) → d.block.scope ≤ later.block.scope
+    → IsNoted (complete_context u.source (unit_rows u) later.block).scene note t
 
--- A procedure's row is that of a heading: its number is that of the heading's note, which has what its type says. A variable's cells
--- are there, unless the definition has too many.
+-- A procedure's row is that of a heading: its number is that of the heading's note, which has what its type says. A
+-- variable's cells are there, unless the definition has too many.
 abbrev pub IsAsNoted : UnitTrees → BlockTree → BlockEffects → RowMeaning → Type 0
-IsAsNoted u d e (Proc t k s) = (note : HeadingNote) × (slice_get e.headings k ≡ Some note) × (s ≡ 0) × (t.scope ≡ d.block.scope) × IsSeenAsNoted u d note t
+IsAsNoted u d e (Proc t k s) = (note : HeadingNote) × (slice_get e.headings k ≡ Some note) × (s ≡ 0)
+    × (t.scope ≡ d.block.scope) × IsSeenAsNoted u d note t
 IsAsNoted u d e (Var t mode o) = e.cell ≤ most_cells → IsBelow e.cell (Var t mode o)
 IsAsNoted u d e other = Unit {0}

@@ -1,5 +1,5 @@
--- What is asked of the headings of an implementation module and of its own definition, beside that they agree: a parameter in
--- error agrees with every other.
+-- What is asked of the headings of an implementation module and of its own definition, beside that they agree: a
+-- parameter in error agrees with every other.
 use Rattle.std.specs.Prelude.{◌≡◌, ℕ, false}
 use Rattle.m2_base.specs.Lists.{Each, IsIn, WhereKept}
 use Rattle.m2_base.specs.Rows.{row_meaning}
@@ -21,7 +21,9 @@ HasSoundParameters scene other = Unit {0}
 -- of the procedures of this scope, seen from the module's block
 abbrev pub AreSoundFor : UnitTrees → (scope : ℕ) → Type 0
 AreSoundFor u s =
-    (b : BlockTree) → IsIn b (blocks_of u) → b.block.scope ≡ home_of u → Each (λ r. HasSoundParameters (complete_context u.source (unit_rows u) b.block).scene (row_meaning r)) (rows_at (unit_rows u) s)
+    (b : BlockTree) → IsIn b (blocks_of u) → b.block.scope ≡ home_of u
+    → Each (λ r. HasSoundParameters (complete_context u.source (unit_rows u) b.block).scene (row_meaning r))
+    (rows_at (unit_rows u) s)
 
 -- of the procedures of an implementation module and of its own definition no parameter's type is in error
 abbrev pub HasSoundHeadings : UnitTrees → Type 0

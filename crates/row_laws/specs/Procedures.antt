@@ -30,22 +30,29 @@ pub record IsTypeOf (scene : Scene) (h : Heading) (t : Place) : Type 0 where
   pub cells : cells_of_parameters scene (parameters scene t) ≡ parameter_cells h.sections
   pub result : is_some (result_of_type scene t) ≡ is_some h.result
 
--- In a definition the note of this number is the heading's; elsewhere a procedure's number is its scope less the module's.
+-- In a definition the note of this number is the heading's;
+-- elsewhere a procedure's number is its scope less the module's.
 abbrev pub HasNumber : StreamKind → Block → List HeadingNote → Heading → (stream number : ℕ) → Type 0
 HasNumber Definition b notes h stream k =
-    slice_get notes k ≡ Some (record { name = h.name.name; number = k; params = parameter_cells h.sections; result = result_cells h.result })
+    slice_get notes k ≡ Some
+    (record { name = h.name.name; number = k; params = parameter_cells h.sections; result = result_cells h.result })
 HasNumber kind b notes h stream k = k ≡ stream - b.home
 
--- A procedure's row is that of one of these items: it has the item's number, and a type of the block, of which Q holds.
-abbrev pub IsDeclared : (Q : Heading → Place → Type 0) → StreamKind → Block → List HeadingNote → List Item → RowMeaning → Type 0
+-- A procedure's row is that of one of these items: it has the item's number, and a type of the block,
+-- of which Q holds.
+abbrev pub IsDeclared : (Q : Heading → Place → Type 0) → StreamKind → Block → List HeadingNote → List Item → RowMeaning
+    → Type 0
 IsDeclared Q kind b notes items (Proc t k s) =
-    (h : Heading) × (stream : ℕ) × IsIn (proc_item h stream) items × (s ≡ proc_scope kind stream) × HasNumber kind b notes h stream k × (t.scope ≡ b.scope) × Q h t
+    (h : Heading) × (stream : ℕ) × IsIn (proc_item h stream) items × (s ≡ proc_scope kind stream)
+    × HasNumber kind b notes h stream k × (t.scope ≡ b.scope) × Q h t
 IsDeclared Q kind b notes items other = Unit {0}
 
 -- in the statements of each block of the unit that sees this one, the type is the heading's
 abbrev pub IsSeenAs : UnitTrees → BlockTree → Heading → Place → Type 0
-IsSeenAs u b h t = (later : BlockTree) → IsIn later (blocks_of u) → b.block.scope ≤ later.block.scope → IsTypeOf (complete_context u.source (unit_rows u) later.block).scene h t
+IsSeenAs u b h t = (later : BlockTree) → IsIn later (blocks_of u) → b.block.scope ≤ later.block.scope
+    → IsTypeOf (complete_context u.source (unit_rows u) later.block).scene h t
 
 -- each of a block's rows of procedures is that of one of its items
 abbrev pub ProceduresAreDeclared : UnitTrees → BlockTree → Makes BlockEffects → Type 0
-ProceduresAreDeclared u b m = Each (λ r. IsDeclared (IsSeenAs u b) b.tree.kind b.block m.value.headings (items_of b.tree) (row_meaning r)) m.rows
+ProceduresAreDeclared u b m =
+    Each (λ r. IsDeclared (IsSeenAs u b) b.tree.kind b.block m.value.headings (items_of b.tree) (row_meaning r)) m.rows

@@ -17,8 +17,8 @@ use Rattle.m2_base.specs.declared.rows.Row.{Row}
 abbrev pub bound_first : Context → Stream → Heading → Option Place
 bound_first c tree h = (result_type (record c { layout = layout_of tree; item = Some 0 }) h.result).value
 
--- What a heading gives as its result, where nothing of the block is declared yet, is what it binds where all rows of the block
--- count.
+-- What a heading gives as its result, where nothing of the block is declared yet, is what it binds where all rows of
+-- the block count.
 abbrev pub BindsItsResult : UnitTrees → (before : List (List Row)) → BlockTree → Type 0
 BindsItsResult u before b =
     home_of u < b.block.scope → (h : Heading) (cell : ℕ)

@@ -1,5 +1,7 @@
--- What the finished rows keep to, so that a block's code has its operands in their ranges, and names cells that are there.
-use Rattle.std.specs.Prelude.{◌≡◌, ℕ, ◌+◌, ◌^◌, ◌<◌, ◌≤◌, false, List, [], ◌∷◌, ◌++◌, length, Option, Some, None, slice_get}
+-- What the finished rows keep to, so that a block's code has its operands in their ranges,
+-- and names cells that are there.
+use Rattle.std.specs.Prelude.{◌≡◌, ℕ, ◌+◌, ◌^◌, ◌<◌, ◌≤◌, false, List, [], ◌∷◌, ◌++◌, length, Option, Some, None}
+use Rattle.std.specs.Prelude.{slice_get}
 use Rattle.m2_base.specs.Lists.{Each, IsPrefixOf, WhereKept}
 use Rattle.m2_base.specs.Names.{standard_names}
 use Rattle.m2_base.specs.Rows.{IsSmall, IsValue, row_meaning}
@@ -26,8 +28,8 @@ abbrev pub IsIndexRange : Option Range → Type 0
 IsIndexRange None = Unit {0}
 IsIndexRange (Some r) = (1 ≤ count_of r) × (count_of r ≤ most_cells)
 
--- The numbers of a row are operands: values of constants and bounds are values, other numbers have 32 bits, an array and a
--- record have a cell, and an array's index type, unless it is in error, is one.
+-- The numbers of a row are operands: values of constants and bounds are values, other numbers have 32 bits, an array
+-- and a record have a cell, and an array's index type, unless it is in error, is one.
 abbrev pub HasOperands : Scene → RowMeaning → Type 0
 HasOperands scene (Const t v len) = IsValue v × IsSmall len
 HasOperands scene (Var t mode offset) = IsSmall (offset + 1)
@@ -76,20 +78,22 @@ abbrev pub IsCopyBelow : (cells : ℕ) → ParamCopy → Type 0
 IsCopyBelow cells (own_copy own cell size) = (own < cells) × (cell < cells)
 IsCopyBelow cells (open_copy cell size) = cell + 1 < cells
 
--- Unless a block has too many cells, the cells of these rows and of what is copied first are below the next free one. The rows
--- are the block's own, and of an implementation module also its own definition's.
+-- Unless a block has too many cells, the cells of these rows and of what is copied first are below the next free one.
+-- The rows are the block's own, and of an implementation module also its own definition's.
 pub record CellsAreThere (rows : List Row) (e : BlockEffects) : Type 0 where
   pub variables : e.cell ≤ most_cells → Each (λ r. IsBelow e.cell (row_meaning r)) rows
   pub copies : e.cell ≤ most_cells → Each (IsCopyBelow e.cell) e.prologue
 
 -- of an implementation module's block the cells of its own definition's variables are there too
 abbrev pub OwnCellsAreThere : (all : List (List Row)) → BlockTree → BlockEffects → Type 0
-OwnCellsAreThere all b e = (own : ℕ) → b.tree.kind ≡ Main → b.tree.heading ≡ None → b.block.own ≡ Some own → CellsAreThere (rows_at all own) e
+OwnCellsAreThere all b e =
+    (own : ℕ) → b.tree.kind ≡ Main → b.tree.heading ≡ None → b.block.own ≡ Some own → CellsAreThere (rows_at all own) e
 
 -- ** Units
 
--- What is asked of a unit's trees: its names begin with the standard ones and are numbers of 32 bits, its blocks have the scopes
--- from 1 on, and their trees have what tokens have; its own definition comes before the module, and definitions have no heading.
+-- What is asked of a unit's trees: its names begin with the standard ones and are numbers of 32 bits, its blocks have
+-- the scopes from 1 on, and their trees have what tokens have; its own definition comes before the module,
+-- and definitions have no heading.
 pub record IsSoundUnit (names : List (List ℕ)) (u : UnitTrees) : Type 0 where
   pub standard : IsPrefixOf standard_names names
   pub some : 0 < length names
@@ -102,6 +106,8 @@ pub record IsSoundUnit (names : List (List ℕ)) (u : UnitTrees) : Type 0 where
   pub headings : Each (λ b. b.block.scope < home_of u → b.tree.heading ≡ None) (blocks_of u)
 
 -- P of each of these blocks, over the finished scopes before it
-abbrev pub EachBlock : (P : List (List Row) → BlockTree → Type 0) → Source → (before : List (List Row)) → List BlockTree → Type 0
+abbrev pub EachBlock : (P : List (List Row) → BlockTree → Type 0) → Source → (before : List (List Row))
+    → List BlockTree → Type 0
 EachBlock P source before [] = Unit {0}
-EachBlock P source before (b ∷ blocks) = P before b × EachBlock P source (before ++ (declare_block source before b).rows ∷ []) blocks
+EachBlock P source before (b ∷ blocks) =
+    P before b × EachBlock P source (before ++ (declare_block source before b).rows ∷ []) blocks

@@ -14,14 +14,16 @@ LeadsTo P (Module s) = P s
 LeadsTo P (Alias p) = P p.scope
 LeadsTo P other = Unit {0}
 
--- the scopes in sight of a block: those of its chain, and those of the definition modules, which come before its module
+-- the scopes in sight of a block: those of its chain, and those of the definition modules,
+-- which come before its module
 abbrev pub IsInSight : Block → (scope : ℕ) → Type 0
 IsInSight b s = IsIn s b.chain ⊎ (s < b.home)
 
--- A block's own scope and its module's are in its chain, the standard scope is in sight, and every module and alias leads to a
--- scope in sight.
+-- A block's own scope and its module's are in its chain, the standard scope is in sight, and every module and alias
+-- leads to a scope in sight.
 pub record LeadsInSight (scene : Scene) : Type 0 where
   pub own : IsIn scene.block.scope scene.block.chain
   pub of_module : IsIn scene.block.home scene.block.chain
   pub positive : 0 < scene.block.home
-  pub leads : (s o : ℕ) (r : Row) → slice_get (rows_at scene.tables s) o ≡ Some r → LeadsTo (IsInSight scene.block) (row_meaning r)
+  pub leads : (s o : ℕ) (r : Row) → slice_get (rows_at scene.tables s) o ≡ Some r
+      → LeadsTo (IsInSight scene.block) (row_meaning r)

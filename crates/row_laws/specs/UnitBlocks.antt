@@ -28,7 +28,8 @@ pub record IsProcedureIn (outer : BlockTree) (h : Heading) (stream : ℕ) (b : B
 -- each procedure that is declared in a block of the main text is a block of the unit
 abbrev pub HasItsProcedures : UnitTrees → BlockTree → Type 0
 HasItsProcedures u b =
-    home_of u ≤ b.block.scope → (h : Heading) (stream : ℕ) → IsIn (proc_item h stream) (items_of b.tree) → (q : BlockTree) × IsIn q (blocks_of u) × IsProcedureIn b h stream q
+    home_of u ≤ b.block.scope → (h : Heading) (stream : ℕ) → IsIn (proc_item h stream) (items_of b.tree)
+    → (q : BlockTree) × IsIn q (blocks_of u) × IsProcedureIn b h stream q
 
 -- a unit's blocks have their forms and their procedures, and scope 0 is no definition's
 pub record HasItsBlocks (u : UnitTrees) : Type 0 where

@@ -1,8 +1,8 @@
 //! What holds of the numbers in every finished row?
 //!
-//! The static rules of `m2_base` make the rows, and its law `rows_are_right` says that each is well formed: values, sizes
-//! and offsets have 32 bits. The laws here say what else holds of the numbers, by the scene that a row is read in
-//! (`specs/RowRanges`, `Procedures`).
+//! The static rules of `m2_base` make the rows, and its law `rows_are_right` says that each is well formed: values,
+//! sizes and offsets have 32 bits. The laws here say what else holds of the numbers, by the scene that a row is read
+//! in (`specs/RowRanges`, `Procedures`).
 #![tactic(auto)]
 
 mod laws;

@@ -1,5 +1,6 @@
 -- A search between the loads of its heads, and looks that are lawful in tables.
-use Rattle.std.specs.Prelude.{◌≡◌, ℕ, ◌<◌, ◌≤◌, false, List, [], ◌∷◌, ◌++◌, Option, Some, None, length, take, slice_get, slice_set, if◌then◌else◌}
+use Rattle.std.specs.Prelude.{◌≡◌, ℕ, ◌<◌, ◌≤◌, false, List, [], ◌∷◌, ◌++◌, Option, Some, None, length, take}
+use Rattle.std.specs.Prelude.{slice_get, slice_set, if◌then◌else◌}
 use Rattle.m2_base.specs.declared.rows.Row.{Row}
 use Rattle.m2_base.specs.declared.rows.Place.{Place}
 use Rattle.m2_base.specs.Rows.{at_place}
@@ -41,7 +42,8 @@ heads_in (l ∷ loads) = l.head ∷ heads_in loads
 abbrev pub cut_table : Table → Head → Table
 cut_table t h = record { rows = take h.count t.rows; complete = h.complete }
 
--- The tables as these heads show them: of each of their scopes the first rows, as many as the head counts, with its mark.
+-- The tables as these heads show them: of each of their scopes the first rows, as many as the head counts,
+-- with its mark.
 abbrev pub cut : List Table → List Head → List Table
 cut tables [] = tables
 cut tables (h ∷ heads) = slice_set (cut tables heads) h.scope (cut_table (table_at tables h.scope) h)
@@ -63,7 +65,8 @@ AreEqual [] = Unit {0}
 AreEqual (h ∷ heads) = Each (λ k. k.scope ≡ h.scope → k ≡ h) heads × AreEqual heads
 
 -- a look is lawful in tables
-pub record IsLawfulIn (tables : List Table) (chain : List ℕ) (name : ℕ) (heads : List Head) (reply : Reply) : Type 0 where
+pub record IsLawfulIn (tables : List Table) (chain : List ℕ) (name : ℕ) (heads : List Head)
+    (reply : Reply) : Type 0 where
   pub taken : IsTaken chain heads reply
   pub answers : reply ≡ one_thread (cut tables heads) chain name
 

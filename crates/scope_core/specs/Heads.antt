@@ -13,4 +13,5 @@ heads_after t None heads = if t.complete then heads else []
 abbrev pub heads_of : List Table → (chain : List ℕ) → (name : ℕ) → List Head
 heads_of tables [] name = []
 heads_of tables (s ∷ chain) name =
-    head_of s (table_at tables s) ∷ heads_after (table_at tables s) (first_named name (table_at tables s).rows 0) (heads_of tables chain name)
+    head_of s (table_at tables s)
+    ∷ heads_after (table_at tables s) (first_named name (table_at tables s).rows 0) (heads_of tables chain name)

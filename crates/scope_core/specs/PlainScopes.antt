@@ -1,5 +1,6 @@
 -- The Scopes of one thread: tables that nobody else changes.
-use Rattle.std.specs.Prelude.{◌≡◌, ℕ, ◌-◌, ◌<◌, ◌≤◌, ◌^◌, true, List, ◌∷◌, length, slice_set, slice_index, slice_get, replicate, Some, None}
+use Rattle.std.specs.Prelude.{◌≡◌, ℕ, ◌-◌, ◌<◌, ◌≤◌, ◌^◌, true, List, ◌∷◌, length, slice_set, slice_index, slice_get}
+use Rattle.std.specs.Prelude.{replicate, Some, None}
 use Rattle.m2_base.specs.Finished.{WhereFinished}
 use Rattle.m2_base.specs.Lists.{IsPrefixOf, HasNoRepeats}
 use Rattle.m2_base.specs.Rows.{at_place, IsWellFormed}
@@ -21,7 +22,12 @@ abbrev pub state_of : Plain → State
 state_of p =
     record {
       frame = record {
-        setting = record { texts = p.texts; fills = p.fills; areas = p.areas; others = Some (slice_set p.tables p.fills no_rows) };
+        setting = record {
+          texts = p.texts;
+          fills = p.fills;
+          areas = p.areas;
+          others = Some (slice_set p.tables p.fills no_rows);
+        };
         entered = (table_at p.tables p.fills).rows;
         closed = (table_at p.tables p.fills).complete;
       };
@@ -41,7 +47,8 @@ pub record IsSoundly (p : Plain) : Type 0 where
   pub zero_complete : (table_at p.tables 0).complete ≡ true
   pub small : (s : ℕ) → length (table_at p.tables s).rows < 2 ^ 32
   pub once : (s : ℕ) → HasNoRepeats (λ r. r.name) (table_at p.tables s).rows
-  pub formed : (s k : ℕ) (r : Row) → slice_get (table_at p.tables s).rows k ≡ Some r → IsWellFormed (length p.texts.names) (at_place s k) r
+  pub formed : (s k : ℕ) (r : Row) → slice_get (table_at p.tables s).rows k ≡ Some r
+      → IsWellFormed (length p.texts.names) (at_place s k) r
   pub told : WhereFinished p.texts (λ finished. (s : ℕ) → IsBegun (table_at p.tables s) (rows_at finished s))
 
 -- the same, with the room of the code's vectors

@@ -1,11 +1,13 @@
 //! A search between the loads of its heads.
-ghost use Rattle.std.specs.Prelude.{◌≡◌, ◌≢◌, ◌≤◌, ◌==◌, ◌↔◌, ℕ, List, [], length, Some, None, IsSome, IsNone, if◌then◌else◌};
+ghost use Rattle.std.specs.Prelude.{◌≡◌, ◌≢◌, ◌≤◌, ◌==◌, ◌↔◌, ℕ, List, [], length, Some, None, IsSome, IsNone};
+ghost use Rattle.std.specs.Prelude.{if◌then◌else◌};
 ghost use Rattle.m2_base.specs.Lists.{Each};
 ghost use Rattle.m2_base.specs.Scopes.{IsTaken};
 ghost use Rattle.m2_base.specs.Tables.{Table};
 ghost use Rattle.m2_base.specs.declared.replies.Reply.{Reply as ReplyOf};
 ghost use Rattle.m2_base.specs.declared.replies.Reply.TheVariants.{Absent};
-ghost use Rattle.scope_core.specs.Flights.{next_of, reply_by, reply_of, with_load, heads_in, IsHitOf, IsTrueIn, AreEqual, IsLawfulIn};
+ghost use Rattle.scope_core.specs.Flights.{next_of, reply_by, reply_of, with_load, heads_in, IsHitOf, IsTrueIn};
+ghost use Rattle.scope_core.specs.Flights.{AreEqual, IsLawfulIn};
 
 use m2_base::{Head, Place, Reply, Row};
 use std::marker::Model;
@@ -17,8 +19,8 @@ pub struct Load {
     pub hit: Option<(Place, Row)>,
 }
 
-/// A search of a name in a chain, as far as it has come: whoever has one loads the head of the scope that comes next and
-/// looks through the rows that it counts. It takes no memory.
+/// A search of a name in a chain, as far as it has come: whoever has one loads the head of the scope that comes next
+/// and looks through the rows that it counts. It takes no memory.
 #[derive(Drop)]
 pub struct Flight<'c> {
     chain: &'c [u32],
@@ -86,14 +88,17 @@ impl<'c> Flight<'c> {
         self.reply = reply_after(&load, first_reply(&self.chain[self.taken..]));
     }
 
-    /// The reply, once it is there. Its heads are those of the chain's first scopes, and it comes from the last of them. Where
-    /// heads of one scope are equal and each tells what its scope has in some tables, the reply is that of one thread in those
-    /// tables as the heads show them.
+    /// The reply, once it is there. Its heads are those of the chain's first scopes, and it comes from the last of
+    /// them. Where heads of one scope are equal and each tells what its scope has in some tables, the reply is that of
+    /// one thread in those tables as the heads show them.
     pub fn reply(&self) -> Option<Reply>
         ensures reply { result ≡ reply_of self.now.chain self.now.loads }
         ensures next { IsNone result ↔ IsSome (next_of self.now) }
-        ensures taken { (reply : ReplyOf) → result ≡ Some reply → IsTaken self.now.chain (heads_in self.now.loads) reply }
-        ensures lawful { (tables : List Table) (reply : ReplyOf) → result ≡ Some reply → AreEqual (heads_in self.now.loads) → Each (IsTrueIn tables self.now.name) self.now.loads → IsLawfulIn tables self.now.chain self.now.name (heads_in self.now.loads) reply }
+        ensures taken { (reply : ReplyOf) → result ≡ Some reply
+            → IsTaken self.now.chain (heads_in self.now.loads) reply }
+        ensures lawful { (tables : List Table) (reply : ReplyOf) → result ≡ Some reply
+            → AreEqual (heads_in self.now.loads) → Each (IsTrueIn tables self.now.name) self.now.loads
+            → IsLawfulIn tables self.now.chain self.now.name (heads_in self.now.loads) reply }
     {
         self.reply
     }

@@ -1,5 +1,6 @@
 //! What the code keeps of each scope.
-ghost use Rattle.std.specs.Prelude.{◌≡◌, ℕ, ◌+◌, ◌-◌, ◌<◌, ◌≤◌, ◌≢◌, ◌^◌, [], ◌∷◌, length, nat_lt, slice_get, slice_index, OnOk, OnErr, IsOk, IfOk, replicate, if◌then◌else◌};
+ghost use Rattle.std.specs.Prelude.{◌≡◌, ℕ, ◌+◌, ◌-◌, ◌<◌, ◌≤◌, ◌≢◌, ◌^◌, [], ◌∷◌, length, nat_lt, slice_get};
+ghost use Rattle.std.specs.Prelude.{slice_index, OnOk, OnErr, IsOk, IfOk, replicate, if◌then◌else◌};
 ghost use Rattle.std.specs.Option.{option_or};
 ghost use Rattle.indexmap.specs.IndexMap.{get, spare};
 ghost use Rattle.m2_base.specs.Keys.{field_before, first_keyed, is_keyed, is_same_key, one_thread_field};
@@ -33,7 +34,10 @@ impl Model for Kept {
 
     ghost Value = { TableWithRoom };
 
-    ghost view = { λ k. record { table = record { rows = k.rows.items; complete = k.complete }; room = min (vec_capacity k.rows) (length k.rows.items + spare k.index) } };
+    ghost view = { λ k. record {
+      table = record { rows = k.rows.items; complete = k.complete };
+      room = min (vec_capacity k.rows) (length k.rows.items + spare k.index);
+    } };
 
     ghost invariant = { λ k. IsIndexOf (get is_same_key k.index) k.rows.items };
 }
@@ -171,7 +175,8 @@ fn ordinal_of(index: &IndexMap<RowKey, u32>, key: RowKey) -> Option<u32>
 /// Puts an ordinal under a key.
 fn put_ordinal(index: &mut IndexMap<RowKey, u32>, key: RowKey, ordinal: u32)
     requires { 0 < spare index.old }
-    ensures put { (k : Key) → get is_same_key index.new k ≡ (if is_same_key key k then Some ordinal else get is_same_key index.old k) }
+    ensures put { (k : Key)
+        → get is_same_key index.new k ≡ (if is_same_key key k then Some ordinal else get is_same_key index.old k) }
     ensures room { spare index.old ≤ spare index.new + 1 }
 {
     index.insert(key, ordinal).unwrap();
@@ -180,7 +185,8 @@ fn put_ordinal(index: &mut IndexMap<RowKey, u32>, key: RowKey, ordinal: u32)
 /// Puts an ordinal under a key that has none yet.
 fn note_first(index: &mut IndexMap<RowKey, u32>, key: Option<RowKey>, ordinal: u32)
     requires { 0 < spare index.old }
-    ensures noted { (k : Key) → get is_same_key index.new k ≡ option_or (get is_same_key index.old k) (if is_keyed k key then Some ordinal else None) }
+    ensures noted { (k : Key) → get is_same_key index.new k
+        ≡ option_or (get is_same_key index.old k) (if is_keyed k key then Some ordinal else None) }
     ensures room { spare index.old ≤ spare index.new + 1 }
 {
     let Some(key) = key else {
@@ -254,7 +260,8 @@ pub fn add_rows(kept: &mut [Kept], scope: usize, rows: &[Row]) -> Result<(), All
     ensures ok { OnOk result (tables_in kept.new ≡ with_rows (tables_in kept.old) scope rows.now) }
     ensures err { OnErr result (tables_in kept.new ≡ tables_in kept.old) }
     ensures rooms { (k : ℕ) → slice_index (rooms_in kept.old) k ≤ slice_index (rooms_in kept.new) k }
-    ensures succeeds { length (table_at (tables_in kept.old) scope).rows + length rows.now ≤ slice_index (rooms_in kept.old) scope → IsOk result }
+    ensures succeeds { length (table_at (tables_in kept.old) scope).rows + length rows.now
+        ≤ slice_index (rooms_in kept.old) scope → IsOk result }
 {
     kept[scope].add(rows)
 }

@@ -14,8 +14,8 @@ pub fn nothing_is_entered()
     ensures front { (texts : UnitTexts) (sizes : List ℕ) → ShowsFront (state_of (started texts sizes)) }
 {}
 
-/// What is entered is the front of the finished rows: a search leaves it so, and rows that may be entered and a scope that may be
-/// completed make it so.
+/// What is entered is the front of the finished rows: a search leaves it so, and rows that may be entered and a scope
+/// that may be completed make it so.
 pub fn fronts_are_kept()
     ensures searched { (old new : State) (looks : List Look) → Keeps old new looks → ShowsFront old → ShowsFront new }
     ensures entered { (old new : State) (rows : List Row) → CanEnter old rows → Entered old new rows → ShowsFront new }

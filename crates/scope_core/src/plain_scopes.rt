@@ -31,9 +31,15 @@ impl<'u> Model for PlainScopes<'u> {
 
     ghost Value = { Plain };
 
-    ghost view = { λ p. record { texts = p.texts.now; tables = tables_in p.tables.items; areas = p.areas.items; fills = p.fills } };
+    ghost view = { λ p.
+        record { texts = p.texts.now; tables = tables_in p.tables.items; areas = p.areas.items; fills = p.fills } };
 
-    ghost invariant = { λ p. IsHoused (record { texts = p.texts.now; tables = tables_in p.tables.items; areas = p.areas.items; fills = p.fills }) (rooms_in p.tables.items) };
+    ghost invariant = { λ p. IsHoused (record {
+      texts = p.texts.now;
+      tables = tables_in p.tables.items;
+      areas = p.areas.items;
+      fills = p.fills;
+    }) (rooms_in p.tables.items) };
 }
 
 impl<'u> PlainScopes<'u> {

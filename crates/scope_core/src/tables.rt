@@ -69,8 +69,8 @@ pub fn look(tables: &Tables, chain: &[u32], name: u32) -> Reply
     reply_in(&tables.list, chain, name)
 }
 
-/// Lets a run of events happen. A row that a look found before it, or an absence, is what the look answers after it. Where
-/// memory runs out, only the first events of the run have happened.
+/// Lets a run of events happen. A row that a look found before it, or an absence, is what the look answers after it.
+/// Where memory runs out, only the first events of the run have happened.
 pub fn settle(
     alloc: Global,
     tables: &mut Tables,

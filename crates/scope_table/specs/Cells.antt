@@ -1,5 +1,5 @@
--- The index of a scope: cells that lead from a key to the ordinal of its row. A cell is 0 where it is empty, else an ordinal
--- plus 1.
+-- The index of a scope: cells that lead from a key to the ordinal of its row. A cell is 0 where it is empty, else an
+-- ordinal plus 1.
 use Rattle.std.specs.Prelude.{◌≡◌, ◌≢◌, ℕ, ◌+◌, ◌*◌, ◌/◌, ◌%◌, ◌<◌, ◌≤◌, ◌^◌, List, Some, length, slice_index}
 use Rattle.m2_base.specs.Keys.{row_key}
 use Rattle.m2_base.specs.declared.rows.Row.{Row}
@@ -7,7 +7,8 @@ use Rattle.m2_base.specs.declared.rows.RowKey.{RowKey}
 use Rattle.m2_base.specs.declared.rows.RowKey.TheVariants.{Name, Member}
 use Rattle.scope_table.specs.Rows.{row_of}
 
--- A scope with room for so many rows has so many cells: the least power of 2 that is more than twice the rows, and 2 at least.
+-- A scope with room for so many rows has so many cells: the least power of 2 that is more than twice the rows,
+-- and 2 at least.
 pub record IsWidth (size w : ℕ) : Type 0 where
   pub power : ℕ
   pub some : 1 ≤ power
@@ -42,10 +43,11 @@ pub record IsPassed (k : RowKey) (rows : List Row) (cs : List ℕ) (c : ℕ) : T
 -- each cell of the ordinal lies behind an empty one, or behind that of a row of the key
 abbrev pub IsHidden : ℕ → List Row → List ℕ → RowKey → (ordinal : ℕ) → Type 0
 IsHidden w rows cs k o =
-    (d : ℕ) → d < w → slice_index cs (probe w (seed k) d) ≡ o + 1 → ¬ ((e : ℕ) → e < d → IsPassed k rows cs (probe w (seed k) e))
+    (d : ℕ) → d < w → slice_index cs (probe w (seed k) d) ≡ o + 1
+    → ¬ ((e : ℕ) → e < d → IsPassed k rows cs (probe w (seed k) e))
 
--- The first row of every key has a cell, and from its home to that cell no cell is empty, and none is that of another row
--- of the key.
+-- The first row of every key has a cell, and from its home to that cell no cell is empty, and none is that of another
+-- row of the key.
 abbrev pub IsIndexed : ℕ → List Row → List ℕ → Type 0
 IsIndexed w rows cs = (k : RowKey) (i : ℕ) → IsFirstOf k rows i → ¬ IsHidden w rows cs k i
 

@@ -15,7 +15,13 @@ use Rattle.scope_table.specs.declared.view.View.{View}
 
 -- the look of a search that has its reply, for the token `at`
 abbrev pub look_of : ℕ → Flown → Look
-look_of at f = record { at = at; name = f.name; chain = f.chain; heads = heads_in f.loads; reply = unwrap_or (reply_of f.chain f.loads) Absent }
+look_of at f = record {
+  at = at;
+  name = f.name;
+  chain = f.chain;
+  heads = heads_in f.loads;
+  reply = unwrap_or (reply_of f.chain f.loads) Absent;
+}
 
 -- the head was shown by what the view has seen, and the hit is the first row of the name among those that it counts
 pub record IsLoadOf (a : About) (v : View) (name : ℕ) (l : Load) : Type 0 where

@@ -18,7 +18,8 @@ pub record AreBases (bs ms sizes : List ℕ) : Type 0 where
   pub many : length bs ≡ length sizes + 1
   pub all : length ms ≡ length sizes
   pub first : slice_index bs 0 ≡ length sizes
-  pub parts : (k : ℕ) → k < length sizes → IsPart (slice_index sizes k) (slice_index bs k) (slice_index ms k) (slice_index bs (suc k))
+  pub parts : (k : ℕ) → k < length sizes
+      → IsPart (slice_index sizes k) (slice_index bs k) (slice_index ms k) (slice_index bs (suc k))
   pub small : slice_index bs (length sizes) < 4611686018427387904
 
 -- the view has seen no row of any scope

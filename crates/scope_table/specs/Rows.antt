@@ -1,5 +1,6 @@
 -- Rows as words: a row is eight words, in the order of its fields, and a signed number is the word of the same bits.
-use Rattle.std.specs.Prelude.{◌≡◌, ℕ, zero, suc, ◌+◌, ◌/◌, ◌%◌, ◌<◌, List, [], ◌∷◌, length, pos, slice_index, slice_index_or}
+use Rattle.std.specs.Prelude.{◌≡◌, ℕ, zero, suc, ◌+◌, ◌/◌, ◌%◌, ◌<◌, List, [], ◌∷◌, length, pos, slice_index}
+use Rattle.std.specs.Prelude.{slice_index_or}
 use Rattle.std.specs.Int.{cast_unsigned, cast_signed, w64}
 use Rattle.std.specs.Int.RustNames.{FitsSigned}
 use Rattle.m2_base.specs.declared.rows.Row.{Row}
@@ -7,7 +8,8 @@ use Rattle.m2_base.specs.declared.rows.Row.{Row}
 -- the words of a row
 abbrev pub words_of : Row → List ℕ
 words_of r =
-    r.name ∷ r.kind ∷ r.at ∷ cast_unsigned w64 r.a ∷ cast_unsigned w64 r.b ∷ cast_unsigned w64 r.c ∷ cast_unsigned w64 r.d ∷
+    r.name ∷ r.kind ∷ r.at ∷ cast_unsigned w64 r.a ∷ cast_unsigned w64 r.b ∷ cast_unsigned w64 r.c
+    ∷ cast_unsigned w64 r.d ∷
     cast_unsigned w64 r.e ∷ []
 
 -- the row whose words begin at b

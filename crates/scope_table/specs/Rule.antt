@@ -1,5 +1,7 @@
 -- What holds between any two steps, of the words of a table and of what all seats know.
-use Rattle.std.specs.Prelude.{◌≡◌, ◌≢◌, ℕ, zero, suc, ◌+◌, ◌-◌, ◌*◌, ◌/◌, ◌%◌, ◌<◌, ◌≤◌, eqb, Bool, true, false, List, [], ◌∷◌, ◌++◌, Some, None, length, slice_get, slice_index, slice_index_or, take, replicate}
+use Rattle.std.specs.Prelude.{◌≡◌, ◌≢◌, ℕ, zero, suc, ◌+◌, ◌-◌, ◌*◌, ◌/◌, ◌%◌, ◌<◌, ◌≤◌, eqb, Bool, true, false, List}
+use Rattle.std.specs.Prelude.{[], ◌∷◌, ◌++◌, Some, None, length, slice_get, slice_index, slice_index_or, take}
+use Rattle.std.specs.Prelude.{replicate}
 use mathlib.Core.Option.{some}
 use lib.ListN.{get_elem?}
 use Rattle.atomic_table.specs.Table.{State}
@@ -53,7 +55,11 @@ is_odd n = eqb (n % 2) 1
 -- scope j
 abbrev pub table_at : About → List ℕ → ℕ → Shown
 table_at a ws j =
-    record { rows = rows_at ws (base a j) (slice_index ws j / 2); complete = is_odd (slice_index ws j); cells = words_at ws (mid a j) (width a j) }
+    record {
+      rows = rows_at ws (base a j) (slice_index ws j / 2);
+      complete = is_odd (slice_index ws j);
+      cells = words_at ws (mid a j) (width a j);
+    }
 
 abbrev pub nothing : Shown
 nothing = record { rows = []; complete = false; cells = [] }
@@ -66,8 +72,8 @@ shown_at v j = slice_index_or v.seen j nothing
 abbrev pub Begins : {A : Type 0} → List A → List A → Type 0
 Begins {A} xs ys = (rest : List A) × (xs ++ rest ≡ ys)
 
--- The second is the first, or more of the same scope: no row is lost or changed, no cell that isn't empty changes, and after
--- a scope is complete nothing does.
+-- The second is the first, or more of the same scope: no row is lost or changed, no cell that isn't empty changes, and
+-- after a scope is complete nothing does.
 pub record IsBefore (x y : Shown) : Type 0 where
   pub rows : Begins x.rows y.rows
   pub cells : Stays x.cells y.cells
@@ -75,8 +81,8 @@ pub record IsBefore (x y : Shown) : Type 0 where
 
 -- ** What holds of a scope in every state
 
--- No name but 0 is that of two rows. Where no text of the unit has a syntax error, the rows are the first of the finished
--- ones, and all of them where the scope is complete.
+-- No name but 0 is that of two rows. Where no text of the unit has a syntax error, the rows are the first of the
+-- finished ones, and all of them where the scope is complete.
 pub record IsFair (a : About) (j : ℕ) (rows : List Row) (complete : Bool) : Type 0 where
   pub once : HasNoRepeats (λ r. r.name) rows
   pub begun : WhereFinished (texts_in a) (λ finished. take (length rows) (finished_at finished j) ≡ rows)
@@ -84,10 +90,11 @@ pub record IsFair (a : About) (j : ℕ) (rows : List Row) (complete : Bool) : Ty
 
 -- the rows are well formed at their places, the first of which is that of the ordinal n
 abbrev pub AreFormed : About → ℕ → ℕ → List Row → Type 0
-AreFormed a j n rows = (k : ℕ) (r : Row) → slice_get rows k ≡ Some r → IsWellFormed (length (texts_in a).names) (at_place j (n + k)) r
+AreFormed a j n rows =
+    (k : ℕ) (r : Row) → slice_get rows k ≡ Some r → IsWellFormed (length (texts_in a).names) (at_place j (n + k)) r
 
--- The rows have room before the cells, and so have the ordinals of the cells. Each row with a name has a cell that is found
--- from its home, and no row has two.
+-- The rows have room before the cells, and so have the ordinals of the cells. Each row with a name has a cell that is
+-- found from its home, and no row has two.
 pub record IsGood (a : About) (j : ℕ) (t : Shown) : Type 0 where
   pub room : base a j + 8 * length t.rows ≤ mid a j
   pub behind : mid a j < base a (suc j)
@@ -127,8 +134,8 @@ pub record WasShown (n : ℕ) (T : ℕ → Shown) (h : Head) : Type 0 where
   pub done : h.complete ≡ true → (T h.scope).complete ≡ true
   pub all : h.complete ≡ true → length (T h.scope).rows ≡ h.count
 
--- A look is lawful in tables of n scopes: its heads were shown there, are those of the chain's first scopes, and all but the
--- last are complete; the reply comes from the last, and is what the rows that the heads count answer.
+-- A look is lawful in tables of n scopes: its heads were shown there, are those of the chain's first scopes, and all
+-- but the last are complete; the reply comes from the last, and is what the rows that the heads count answer.
 pub record IsLawful (n : ℕ) (T : ℕ → Shown) (l : Look) : Type 0 where
   pub shown : Each (WasShown n T) l.heads
   pub taken : IsTaken l.chain l.heads l.reply
@@ -181,7 +188,14 @@ empty_from a j zero = []
 empty_from a j (suc n) = empty_at a j ∷ empty_from a (suc j) n
 
 abbrev pub first_view : About → View
-first_view a = record { about = a; rights = upto 0 (scopes a); seen = empty_from a 0 (scopes a); put = []; loads = []; looks = [] }
+first_view a = record {
+  about = a;
+  rights = upto 0 (scopes a);
+  seen = empty_from a 0 (scopes a);
+  put = [];
+  loads = [];
+  looks = [];
+}
 
 -- ** What a seat keeps of itself
 

@@ -20,8 +20,8 @@ view s = s.seat.me.0
 abbrev pub scope_of : TableSeat → ℕ
 scope_of s = s.scope
 
--- What always holds of a seat: it has the right to its scope, what it has seen of each scope keeps to the rule, and scope 0
--- is seen complete.
+-- What always holds of a seat: it has the right to its scope, what it has seen of each scope keeps to the rule, and
+-- scope 0 is seen complete.
 pub record IsWhole (s : TableSeat) : Type 0 where
   pub rights : (view s).rights ≡ scope_of s ∷ []
   pub there : scope_of s < scopes (view s).about
@@ -58,7 +58,8 @@ pub record AreFirst (t : ScopeTable) (seats : List TableSeat) (many : ℕ) : Typ
   pub each : (k : ℕ) (d : TableSeat) → k < many → IsFirst t k (slice_index_or seats k d)
   pub all : length seats ≡ many
 
--- A table is opened for these texts: each scope has room for so many rows and the cells to go with them, and a seat of its own.
+-- A table is opened for these texts: each scope has room for so many rows and the cells to go with them,
+-- and a seat of its own.
 pub record IsOpened (t : ScopeTable) (seats : List TableSeat) (texts : UnitTexts) (sizes : List ℕ) : Type 0 where
   pub texts_are : texts_in (key_of t) ≡ texts
   pub many : scopes (key_of t) ≡ length sizes

@@ -1,5 +1,7 @@
 //! The rule of the table, and what each kind of step tells its seat.
-ghost use Rattle.scope_table.specs.Plays.{cell_loaded, cell_put, head_loaded, row_loaded, word_put, rows_shown, is_sealed, look_noted, first_right, other_rights, note_of, same_view, told_of, spent, with_rights, once_each};
+ghost use Rattle.scope_table.specs.Plays.{cell_loaded, cell_put, head_loaded, row_loaded, word_put, rows_shown};
+ghost use Rattle.scope_table.specs.Plays.{is_sealed, look_noted, first_right, other_rights, note_of, same_view};
+ghost use Rattle.scope_table.specs.Plays.{told_of, spent, with_rights, once_each};
 
 use crate::view::{About, View};
 use atomic_table::{Join, Play, Split, TableRule};

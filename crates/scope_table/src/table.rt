@@ -1,11 +1,15 @@
 //! The table and its seats.
-ghost use Rattle.std.specs.Prelude.{◌≡◌, ◌≢◌, ℕ, suc, ◌+◌, ◌-◌, ◌*◌, ◌^◌, ◌<◌, ◌≤◌, ◌∷◌, ◌++◌, ◌⊎◌, [], true, false, length, take, slice_index, MatchOption};
-ghost use Rattle.scope_table.specs.Cells.{probe as probe_of, seed as seed_of, IsAmong, IsIndexed, IsFirstEmpty, IsFull};
+ghost use Rattle.std.specs.Prelude.{◌≡◌, ◌≢◌, ℕ, suc, ◌+◌, ◌-◌, ◌*◌, ◌^◌, ◌<◌, ◌≤◌, ◌∷◌, ◌++◌, ◌⊎◌, [], true, false};
+ghost use Rattle.std.specs.Prelude.{length, take, slice_index, MatchOption};
+ghost use Rattle.scope_table.specs.Cells.{probe as probe_of, seed as seed_of, IsAmong, IsIndexed, IsFirstEmpty};
+ghost use Rattle.scope_table.specs.Cells.{IsFull};
 ghost use Rattle.m2_base.specs.Rows.{at_place, IsWellFormed};
 ghost use Rattle.scope_table.specs.Rows.{words_of, row_of, rows_of};
-ghost use Rattle.scope_table.specs.Rule.{shown_at, empty_at, scopes, base, mid, width, texts_in, times, IsFair, AreFormed, Begins, IsBefore, IsLaid, IsSeated, IsSound};
+ghost use Rattle.scope_table.specs.Rule.{shown_at, empty_at, scopes, base, mid, width, texts_in, times, IsFair};
+ghost use Rattle.scope_table.specs.Rule.{AreFormed, Begins, IsBefore, IsLaid, IsSeated, IsSound};
 ghost use Rattle.scope_table.specs.Looks.{look_of, CanNote};
-ghost use Rattle.scope_table.specs.Plays.{head_in, sees, marks, puts, shows, seals, grown, ended, notes, told_of, IsWordOf, HasRoom, CanPut, CanMark, HasPut};
+ghost use Rattle.scope_table.specs.Plays.{head_in, sees, marks, puts, shows, seals, grown, ended, notes, told_of};
+ghost use Rattle.scope_table.specs.Plays.{IsWordOf, HasRoom, CanPut, CanMark, HasPut};
 
 use crate::law::{
     Law, LoadCell, LoadHead, LoadRow, Note, NoteLook, Noted, OnceEach, PutCell, PutWord, Seal,
@@ -30,7 +34,8 @@ pub struct ScopeTable {
     ghost all_mids: { length table.shared.key.mids.value ≡ scopes table.shared.key },
     ghost behind: { (j : ℕ) → j < scopes table.shared.key → mid table.shared.key j < base table.shared.key (suc j) },
     ghost narrow: { (j : ℕ) → j < scopes table.shared.key → width table.shared.key j ≤ 2 ^ 32 },
-    ghost few: { (j : ℕ) → j < scopes table.shared.key → mid table.shared.key j < base table.shared.key j + 8 * width table.shared.key j },
+    ghost few: { (j : ℕ) → j < scopes table.shared.key
+        → mid table.shared.key j < base table.shared.key j + 8 * width table.shared.key j },
     ghost laid: { IsLaid table.shared.key },
     ghost small: { base table.shared.key (scopes table.shared.key) < 2 ^ 63 },
     ghost wide: { table.shared.table_id.words ≡ base table.shared.key (scopes table.shared.key) },
@@ -58,7 +63,8 @@ pub(crate) fn make_table(
     requires all_mids { length table.shared.key.mids.value ≡ scopes table.shared.key }
     requires behind { (j : ℕ) → j < scopes table.shared.key → mid table.shared.key j < base table.shared.key (suc j) }
     requires narrow { (j : ℕ) → j < scopes table.shared.key → width table.shared.key j ≤ 2 ^ 32 }
-    requires few { (j : ℕ) → j < scopes table.shared.key → mid table.shared.key j < base table.shared.key j + 8 * width table.shared.key j }
+    requires few { (j : ℕ) → j < scopes table.shared.key
+        → mid table.shared.key j < base table.shared.key j + 8 * width table.shared.key j }
     requires laid { IsLaid table.shared.key }
     requires small { base table.shared.key (scopes table.shared.key) < 2 ^ 63 }
     requires wide { table.shared.table_id.words ≡ base table.shared.key (scopes table.shared.key) }
@@ -105,7 +111,8 @@ impl ScopeTable {
     ghost use Rattle.scope_table.specs.Seats.{view, scope_of, key_of, id_of, IsOf, IsSameSeat};
 
     /// The head of a scope, which the seat has seen then, with the rows that it counts. Later the scope has the same
-    /// rows and maybe more, and after it was complete nothing changes. Of the scope that it fills the seat has seen all.
+    /// rows and maybe more, and after it was complete nothing changes.
+    /// Of the scope that it fills the seat has seen all.
     pub fn load_head(&self, seat: &mut TableSeat, scope: u32) -> Head
         requires table { IsOf self.now seat.old }
         requires scope { scope < scopes (key_of self.now) }
@@ -115,7 +122,8 @@ impl ScopeTable {
         ensures mine { scope ≡ scope_of seat.old → shown_at (view seat.new) scope ≡ shown_at (view seat.old) scope }
         ensures sees { view seat.new ≡ sees (view seat.old) scope (shown_at (view seat.new) scope) }
         ensures others { (j : ℕ) → ¬ (j ≡ scope) → shown_at (view seat.new) j ≡ shown_at (view seat.old) j }
-        ensures fair { IsFair (key_of self.now) scope (shown_at (view seat.new) scope).rows (shown_at (view seat.new) scope).complete }
+        ensures fair { IsFair (key_of self.now) scope (shown_at (view seat.new) scope).rows
+            (shown_at (view seat.new) scope).complete }
     {
         let word = self
             .table
@@ -133,7 +141,8 @@ impl ScopeTable {
         requires table { IsOf self.now seat.old }
         requires word { at < (id_of self.now).words }
         ensures same { seat.new ≡ seat.old }
-        ensures word { (j i : ℕ) → j < scopes (key_of self.now) → i < length (shown_at (view seat.old) j).rows → IsWordOf (view seat.old) j i at result }
+        ensures word { (j i : ℕ) → j < scopes (key_of self.now) → i < length (shown_at (view seat.old) j).rows
+            → IsWordOf (view seat.old) j i at result }
     {
         self.table.shared.load::<LoadRow>(&mut seat.seat, at)
     }
@@ -145,7 +154,8 @@ impl ScopeTable {
         requires shown { place.ordinal < length (shown_at (view seat.old) place.scope).rows }
         ensures same { seat.new ≡ seat.old }
         ensures row { result ≡ row_of (shown_at (view seat.old) place.scope).rows place.ordinal }
-        ensures formed { IsWellFormed (length (texts_in (key_of self.now)).names) (at_place place.scope place.ordinal) result }
+        ensures formed { IsWellFormed (length (texts_in (key_of self.now)).names)
+            (at_place place.scope place.ordinal) result }
     {
         let first = (self.bases.at(place.scope) + 8 * place.ordinal as u64) as usize;
         let mut words = [0; 8];
@@ -170,8 +180,12 @@ impl ScopeTable {
         requires scope { scope < scopes (key_of self.now) }
         requires cell { cell < width (key_of self.now) scope }
         ensures same { seat.new ≡ seat.old }
-        ensures found { MatchOption result (slice_index (shown_at (view seat.old) scope).cells cell ≡ 0) (λ o. slice_index (shown_at (view seat.old) scope).cells cell ≢ 0 → slice_index (shown_at (view seat.old) scope).cells cell ≡ o + 1) }
-        ensures mine { scope ≡ scope_of seat.old → MatchOption result (slice_index (shown_at (view seat.old) scope).cells cell ≡ 0) (λ o. slice_index (shown_at (view seat.old) scope).cells cell ≡ o + 1) }
+        ensures found { MatchOption result (slice_index (shown_at (view seat.old) scope).cells cell ≡ 0)
+            (λ o. slice_index (shown_at (view seat.old) scope).cells cell ≢ 0
+            → slice_index (shown_at (view seat.old) scope).cells cell ≡ o + 1) }
+        ensures mine { scope ≡ scope_of seat.old
+            → MatchOption result (slice_index (shown_at (view seat.old) scope).cells cell ≡ 0)
+            (λ o. slice_index (shown_at (view seat.old) scope).cells cell ≡ o + 1) }
     {
         let at = (self.mids.at(scope) + cell as u64) as usize;
         let word = self.table.shared.load::<LoadCell>(&mut seat.seat, at);
@@ -187,7 +201,8 @@ impl ScopeTable {
     pub fn put_cell(&self, seat: &mut TableSeat, cell: u32, ordinal: u32)
         requires table { IsOf self.now seat.old }
         requires going { (shown_at (view seat.old) (scope_of seat.old)).complete ≡ false }
-        requires row { CanMark (width (key_of self.now) (scope_of seat.old)) (view seat.old) (scope_of seat.old) cell ordinal }
+        requires row { CanMark (width (key_of self.now) (scope_of seat.old)) (view seat.old)
+            (scope_of seat.old) cell ordinal }
         ensures same { IsSameSeat seat.old seat.new }
         ensures marked { view seat.new ≡ marks (view seat.old) (scope_of seat.old) cell (ordinal + 1) }
     {
@@ -218,7 +233,8 @@ impl ScopeTable {
         requires room { HasRoom (key_of self.now) (view seat.old) (scope_of seat.old) }
         ensures same { IsSameSeat seat.old seat.new }
         ensures put { view seat.new ≡ puts (view seat.old) (words_of row.now) }
-        ensures rows { (grown (view seat.new) (scope_of seat.old)).rows ≡ (grown (view seat.old) (scope_of seat.old)).rows ++ row.now ∷ [] }
+        ensures rows { (grown (view seat.new) (scope_of seat.old)).rows
+            ≡ (grown (view seat.old) (scope_of seat.old)).rows ++ row.now ∷ [] }
     {
         let first = (self.bases.at(seat.scope) + 8 * (seat.shown + seat.waiting)) as usize;
         self.put_words(&mut seat.seat, first, &to_words(row));
@@ -230,7 +246,10 @@ impl ScopeTable {
     pub fn first_empty(&self, seat: &mut TableSeat, key: RowKey, before: &[Row]) -> Option<u32>
         requires table { IsOf self.now seat.old }
         ensures same { seat.new ≡ seat.old }
-        ensures cell { MatchOption result (IsFull (width (key_of self.now) (scope_of seat.old)) (seed_of key) (shown_at (view seat.old) (scope_of seat.old)).cells ⊎ IsAmong key before.now) (λ c. IsFirstEmpty (width (key_of self.now) (scope_of seat.old)) (seed_of key) c (shown_at (view seat.old) (scope_of seat.old)).cells) }
+        ensures cell { MatchOption result (IsFull (width (key_of self.now) (scope_of seat.old))
+            (seed_of key) (shown_at (view seat.old) (scope_of seat.old)).cells ⊎ IsAmong key before.now)
+            (λ c. IsFirstEmpty (width (key_of self.now) (scope_of seat.old)) (seed_of key) c
+            (shown_at (view seat.old) (scope_of seat.old)).cells) }
     {
         let scope = seat.scope;
         let shown = seat.shown;
@@ -248,17 +267,20 @@ impl ScopeTable {
         None
     }
 
-    /// Puts a row with its cell, if it has a key and none of these rows before it, which were put and aren't shown, has
-    /// the same. Where the rows put before have theirs, all have then.
+    /// Puts a row with its cell, if it has a key and none of these rows before it, which were put and aren't shown,
+    /// has the same. Where the rows put before have theirs, all have then.
     pub fn put_indexed(&self, seat: &mut TableSeat, row: &Row, before: &[Row])
         requires table { IsOf self.now seat.old }
         requires going { (shown_at (view seat.old) (scope_of seat.old)).complete ≡ false }
         requires room { HasRoom (key_of self.now) (view seat.old) (scope_of seat.old) }
         requires before { Begins before.now (rows_of (view seat.old).put) }
-        requires index { IsIndexed (width (key_of self.now) (scope_of seat.old)) (grown (view seat.old) (scope_of seat.old)).rows (grown (view seat.old) (scope_of seat.old)).cells }
+        requires index { IsIndexed (width (key_of self.now) (scope_of seat.old))
+            (grown (view seat.old) (scope_of seat.old)).rows (grown (view seat.old) (scope_of seat.old)).cells }
         ensures same { IsSameSeat seat.old seat.new }
-        ensures rows { (grown (view seat.new) (scope_of seat.old)).rows ≡ (grown (view seat.old) (scope_of seat.old)).rows ++ row.now ∷ [] }
-        ensures index { IsIndexed (width (key_of self.now) (scope_of seat.old)) (grown (view seat.new) (scope_of seat.old)).rows (grown (view seat.new) (scope_of seat.old)).cells }
+        ensures rows { (grown (view seat.new) (scope_of seat.old)).rows
+            ≡ (grown (view seat.old) (scope_of seat.old)).rows ++ row.now ∷ [] }
+        ensures index { IsIndexed (width (key_of self.now) (scope_of seat.old))
+            (grown (view seat.new) (scope_of seat.old)).rows (grown (view seat.new) (scope_of seat.old)).cells }
         ensures put { HasPut (view seat.old) (view seat.new) (scope_of seat.old) row.now }
     {
         let ordinal = seat.shown + seat.waiting;
@@ -276,9 +298,12 @@ impl ScopeTable {
     pub fn show(&self, seat: &mut TableSeat)
         requires table { IsOf self.now seat.old }
         requires going { (shown_at (view seat.old) (scope_of seat.old)).complete ≡ false }
-        requires fair { IsFair (key_of self.now) (scope_of seat.old) (grown (view seat.old) (scope_of seat.old)).rows false }
-        requires formed { AreFormed (key_of self.now) (scope_of seat.old) (length (shown_at (view seat.old) (scope_of seat.old)).rows) (rows_of (view seat.old).put) }
-        requires index { IsIndexed (width (key_of self.now) (scope_of seat.old)) (grown (view seat.old) (scope_of seat.old)).rows (grown (view seat.old) (scope_of seat.old)).cells }
+        requires fair { IsFair (key_of self.now) (scope_of seat.old)
+            (grown (view seat.old) (scope_of seat.old)).rows false }
+        requires formed { AreFormed (key_of self.now) (scope_of seat.old)
+            (length (shown_at (view seat.old) (scope_of seat.old)).rows) (rows_of (view seat.old).put) }
+        requires index { IsIndexed (width (key_of self.now) (scope_of seat.old))
+            (grown (view seat.old) (scope_of seat.old)).rows (grown (view seat.old) (scope_of seat.old)).cells }
         ensures same { IsSameSeat seat.old seat.new }
         ensures shown { view seat.new ≡ shows (view seat.old) (scope_of seat.old) }
     {
@@ -295,7 +320,8 @@ impl ScopeTable {
         requires table { IsOf self.now seat.old }
         requires going { (shown_at (view seat.old) (scope_of seat.old)).complete ≡ false }
         requires none { (view seat.old).put ≡ [] }
-        requires fair { IsFair (key_of self.now) (scope_of seat.old) (ended (view seat.old) (scope_of seat.old)).rows true }
+        requires fair { IsFair (key_of self.now) (scope_of seat.old)
+            (ended (view seat.old) (scope_of seat.old)).rows true }
         ensures same { IsSameSeat seat.old seat.new }
         ensures sealed { view seat.new ≡ seals (view seat.old) (scope_of seat.old) }
     {
@@ -328,7 +354,8 @@ impl ScopeTable {
     fn tell_as<J: Told>(&self, to: &mut TableSeat, note: Seat<(), View>)
         requires table { IsOf self.now to.old }
         requires about { J.about ≡ key_of self.now }
-        requires note { (note.table_id ≡ id_of self.now) × (note.me.1 ≡ []) × (note.me.0.about ≡ J.about) × IsSound note.me.0 }
+        requires note { (note.table_id ≡ id_of self.now) × (note.me.1 ≡ []) × (note.me.0.about ≡ J.about)
+            × IsSound note.me.0 }
         ensures same { IsSameSeat to.old to.new }
         ensures told { view to.new ≡ told_of (view to.old) note.me.0 }
     {
@@ -350,9 +377,11 @@ impl ScopeTable {
 
     fn join_as<J: Told>(&self, one: &mut Seat<(), View>, other: Seat<(), View>)
         requires about { J.about ≡ key_of self.now }
-        requires table { (one.old.table_id ≡ id_of self.now) × (other.table_id ≡ id_of self.now) × (other.me.1 ≡ []) × (0 < (id_of self.now).words) }
+        requires table { (one.old.table_id ≡ id_of self.now) × (other.table_id ≡ id_of self.now) × (other.me.1 ≡ [])
+            × (0 < (id_of self.now).words) }
         requires both { (j : ℕ) × (0 < times j one.old.me.0.rights) × (0 < times j other.me.0.rights) }
-        ensures { (one.new.table_id ≡ one.old.table_id) × (one.new.me.0.rights ≡ one.old.me.0.rights ++ other.me.0.rights) }
+        ensures { (one.new.table_id ≡ one.old.table_id)
+            × (one.new.me.0.rights ≡ one.old.me.0.rights ++ other.me.0.rights) }
     {
         self.table.shared.join_seat::<Together<J>>(one, other);
     }

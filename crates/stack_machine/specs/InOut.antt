@@ -1,5 +1,7 @@
 -- InOut: what its procedures take, print and read.
-use Rattle.std.specs.Prelude.{ℕ, zero, suc, ◌<◌, ◌+◌, ◌-◌, ◌*◌, Bool, true, false, ◌&&◌, ◌||◌, ◌==◌, if◌then◌else◌, ℤ, pos, neg_ℤ, int_lt, int_le, nat_lt, nat_le, List, [], ◌∷◌, ◌++◌, length, take, drop, replicate, slice_get, decimal, unsigned_abs, Option, Some, None}
+use Rattle.std.specs.Prelude.{ℕ, zero, suc, ◌<◌, ◌+◌, ◌-◌, ◌*◌, Bool, true, false, ◌&&◌, ◌||◌, ◌==◌, if◌then◌else◌, ℤ}
+use Rattle.std.specs.Prelude.{pos, neg_ℤ, int_lt, int_le, nat_lt, nat_le, List, [], ◌∷◌, ◌++◌, length, take, drop}
+use Rattle.std.specs.Prelude.{replicate, slice_get, decimal, unsigned_abs, Option, Some, None}
 use Rattle.std.specs.List.{slice_index_or}
 use Rattle.std.specs.Option.{option_to_list}
 use Rattle.stack_machine.specs.declared.op.Kind.TheVariants.{Integer, Cardinal}
@@ -7,7 +9,8 @@ use Rattle.stack_machine.specs.declared.op.Kind.{Kind}
 use Rattle.stack_machine.specs.declared.printing.Char.{Char}
 use Rattle.stack_machine.specs.declared.printing.Char.TheVariants as chars
 use Rattle.stack_machine.specs.declared.op.Service.{Service}
-use Rattle.stack_machine.specs.declared.op.Service.TheVariants.{Read, ReadInt, ReadCard, Write, WriteString, WriteLn, WriteInt, WriteCard}
+use Rattle.stack_machine.specs.declared.op.Service.TheVariants.{Read, ReadInt, ReadCard, Write, WriteString, WriteLn}
+use Rattle.stack_machine.specs.declared.op.Service.TheVariants.{WriteInt, WriteCard}
 use Rattle.stack_machine.specs.Numbers.{in_kind, is_zero, low_bits, count_of}
 use Rattle.stack_machine.specs.Operands.{top_of}
 
@@ -52,7 +55,8 @@ abbrev pub char_in : ℤ → Char
 char_in v = if is_zero v then chars.End else chars.Byte (low_bits 8 v)
 
 abbrev pub char_at : List ℤ → (at : ℕ) → Char
-char_at cells at = if nat_lt 0 at && nat_lt at (length cells) then char_in (slice_index_or cells at (pos 0)) else chars.Missing
+char_at cells at =
+    if nat_lt 0 at && nat_lt at (length cells) then char_in (slice_index_or cells at (pos 0)) else chars.Missing
 
 -- a byte is in one of the cells
 abbrev pub IsThere : Char → (at : ℕ) → List ℤ → Type 0
@@ -93,7 +97,8 @@ abbrev pub is_width : ℤ → Bool
 is_width n = int_le n (pos 4096)
 
 abbrev pub number_text : (operands : List ℤ) → List ℕ
-number_text operands = if is_width (top_of 0 operands) then padded (top_of 0 operands) (number_digits (top_of 1 operands)) else []
+number_text operands =
+    if is_width (top_of 0 operands) then padded (top_of 0 operands) (number_digits (top_of 1 operands)) else []
 
 -- what a procedure prints
 abbrev pub printed : Service → (cells operands : List ℤ) → List ℕ
@@ -184,7 +189,8 @@ number_of kind input =
     let digits = behind_sign kind start in
     let after = behind is_digit digits in
     record {
-      value = if_ended after (nat_lt (length input) most_bytes) (value_of kind (is_negative kind start) (front is_digit digits));
+      value = if_ended after (nat_lt (length input) most_bytes)
+          (value_of kind (is_negative kind start) (front is_digit digits));
       kept = slice_get after 0;
       rest = drop (length (take most_bytes input) - length after + length (take 1 after)) input;
     }

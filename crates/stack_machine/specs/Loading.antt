@@ -1,5 +1,6 @@
 -- From the objects of a program, in running order, to the operations that are executed.
-use Rattle.std.specs.Prelude.{◌≡◌, ℕ, zero, suc, ◌+◌, ◌-◌, ◌==◌, Bool, false, ◌||◌, if◌then◌else◌, ℤ, pos, ◌+ℤ◌, List, [], ◌∷◌, ◌++◌, length, map, replicate, slice_get, codes, Option, Some, None, unwrap_or}
+use Rattle.std.specs.Prelude.{◌≡◌, ℕ, zero, suc, ◌+◌, ◌-◌, ◌==◌, Bool, false, ◌||◌, if◌then◌else◌, ℤ, pos, ◌+ℤ◌, List}
+use Rattle.std.specs.Prelude.{[], ◌∷◌, ◌++◌, length, map, replicate, slice_get, codes, Option, Some, None, unwrap_or}
 use Rattle.std.specs.Str.{bytes_eq}
 use Rattle.std.specs.List.{slice_index_or}
 use Rattle.code_form.specs.declared.instr.Instr.TheVariants as instr
@@ -100,8 +101,8 @@ abbrev pub instr_at : List Spot → ℤ → ℕ
 instr_at [] to = 0
 instr_at (s ∷ ss) to = if same_place to s.at then 0 else suc (instr_at ss to)
 
--- A procedure of the program: the number of its object, that object, its number in it, the first cell of its data, and its
--- instructions.
+-- A procedure of the program: the number of its object, that object, its number in it, the first cell of its data, and
+-- its instructions.
 pub record Block : Type 0 where
   pub «module» : ℕ
   pub object : Contents
@@ -122,13 +123,15 @@ pub record IsBlock (m : ℕ) (o : Contents) (k text : ℕ) (p : Procedure) (b : 
 abbrev pub AreBlocksOf : (m : ℕ) → Contents → (k text : ℕ) → List Procedure → List Block → Type 0
 AreBlocksOf m o k text [] bs = bs ≡ []
 AreBlocksOf m o k text (p ∷ ps) bs =
-    (b : Block) × (rest : List Block) × (bs ≡ b ∷ rest) × IsBlock m o k text p b × AreBlocksOf m o (suc k) (text + length p.bytes) ps rest
+    (b : Block) × (rest : List Block) × (bs ≡ b ∷ rest) × IsBlock m o k text p b
+    × AreBlocksOf m o (suc k) (text + length p.bytes) ps rest
 
 -- the procedures of objects, the first of which has number m and its data in a cell
 abbrev pub AreBlocks : (m text : ℕ) → List Contents → List Block → Type 0
 AreBlocks m text [] bs = bs ≡ []
 AreBlocks m text (o ∷ os) bs =
-    (own : List Block) × (rest : List Block) × (bs ≡ own ++ rest) × AreBlocksOf m o 0 text o.procedures own × AreBlocks (suc m) (text + data_in o.procedures) os rest
+    (own : List Block) × (rest : List Block) × (bs ≡ own ++ rest) × AreBlocksOf m o 0 text o.procedures own
+    × AreBlocks (suc m) (text + data_in o.procedures) os rest
 
 -- what each block gives, from its first place on, one after another
 abbrev pub flat : {A : Type 0} → ((start number : ℕ) → Block → List A) → (start number : ℕ) → List Block → List A
@@ -198,8 +201,8 @@ kind_of (suc n) = kinds.Cardinal
 abbrev pub trap_of : ℕ → Trap
 trap_of c = if c == 7 then traps.Result else traps.Case
 
--- Where an instruction stands: the number of its object, who has what that object's imports name, the first cell of its
--- procedure's data, the first place of its procedure, and that procedure's instructions.
+-- Where an instruction stands: the number of its object, who has what that object's imports name, the first cell of
+-- its procedure's data, the first place of its procedure, and that procedure's instructions.
 pub record Site : Type 0 where
   pub «module» : ℕ
   pub named : List Owner
@@ -268,13 +271,20 @@ op_by os t s instr.Cap = op.Cap
 -- ---- the code
 
 abbrev pub site_of : List Contents → (start : ℕ) → Block → Site
-site_of os start b = record { «module» = b.«module»; named = owners_of os b.object; text = b.text; start = start; all = spots 0 b.instrs }
+site_of os start b = record {
+  «module» = b.«module»;
+  named = owners_of os b.object;
+  text = b.text;
+  start = start;
+  all = spots 0 b.instrs;
+}
 
 abbrev pub block_ops : List Contents → (start number : ℕ) → Block → List Op
 block_ops os start number b = map (λ s. op_by os (site_of os start b) s s.instr) (spots 0 b.instrs)
 
 abbrev pub block_origins : (start number : ℕ) → Block → List Origin
-block_origins start number b = map (λ s. record { «module» = b.«module»; procedure = b.number; offset = s.at }) (spots 0 b.instrs)
+block_origins start number b =
+    map (λ s. record { «module» = b.«module»; procedure = b.number; offset = s.at }) (spots 0 b.instrs)
 
 abbrev pub routine_of : List Contents → (start : ℕ) → Block → Routine
 routine_of os start b =

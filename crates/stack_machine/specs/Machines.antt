@@ -14,7 +14,8 @@ use Rattle.stack_machine.specs.Ready.{Ready, IsSmall}
 use Rattle.stack_machine.specs.Runs.{Ends, AtPlace}
 use Rattle.stack_machine.specs.Stepping.{IsTrapped}
 
--- The objects of a machine's program, their code, and where it stands: in a state, or before a body that finds no room.
+-- The objects of a machine's program, their code, and where it stands: in a state,
+-- or before a body that finds no room.
 pub record Machinery : Type 0 where
   pub objects : List Contents
   pub code : Program
@@ -32,9 +33,11 @@ Stands (Some at) code core = at < length code.origins.items
 
 -- How a run of at most n steps ended, from where a machine stood with this input. A body that finds no room traps, and
 -- nothing is printed or read.
-abbrev pub EndsFrom : End → Program → (n : ℕ) → (first new : Next) → (input : List ℕ) → (w0 w left : Option (List ℕ)) → Type 0
+abbrev pub EndsFrom : End → Program → (n : ℕ) → (first new : Next) → (input : List ℕ) → (w0 w left : Option (List ℕ))
+    → Type 0
 EndsFrom end p n (Goes s) new input w0 w left = (s' : State) × (new ≡ Goes s') × Ends end p n s s' input w0 w left
-EndsFrom end p n (NoFrame at) new input w0 w left = (new ≡ NoFrame at) × IsTrapped end p traps.Memory at × (w ≡ w0) × (left ≡ Some input)
+EndsFrom end p n (NoFrame at) new input w0 w left =
+    (new ≡ NoFrame at) × IsTrapped end p traps.Memory at × (w ≡ w0) × (left ≡ Some input)
 EndsFrom end p n Halts new input w0 w left = ⊥
 EndsFrom end p n (Traps c) new input w0 w left = ⊥
 EndsFrom end p n Stuck new input w0 w left = ⊥
@@ -60,6 +63,7 @@ pub record IsFirst (code : Code) (c : Core) : Type 0 where
 abbrev pub IsPlaced : End → Program → Type 0
 IsPlaced ends.StepsSpent p = Unit {0}
 IsPlaced ends.Halted p = Unit {0}
-IsPlaced (ends.Trapped code m procedure offset) p = (at : ℕ) × AtPlace (record { «module» = m; procedure = procedure; offset = offset }) p at
+IsPlaced (ends.Trapped code m procedure offset) p =
+    (at : ℕ) × AtPlace (record { «module» = m; procedure = procedure; offset = offset }) p at
 IsPlaced ends.ReadFailed p = Unit {0}
 IsPlaced ends.WriteFailed p = Unit {0}

@@ -1,5 +1,6 @@
 -- Numbers: which are INTEGER and which CARDINAL, truth values, sets, and the codes of traps.
-use Rattle.std.specs.Prelude.{ℕ, ◌+◌, ◌-◌, ◌/◌, ◌^◌, Bool, true, false, ◌&&◌, ◌==◌, if◌then◌else◌, ℤ, pos, negsuc, ◌+ℤ◌, int_le, int_lt, nat_lt, Option, Some, None, bit_and, bit_or, bit_xor, unsigned_abs}
+use Rattle.std.specs.Prelude.{ℕ, ◌+◌, ◌-◌, ◌/◌, ◌^◌, Bool, true, false, ◌&&◌, ◌==◌, if◌then◌else◌, ℤ, pos, negsuc}
+use Rattle.std.specs.Prelude.{◌+ℤ◌, int_le, int_lt, nat_lt, Option, Some, None, bit_and, bit_or, bit_xor, unsigned_abs}
 use Rattle.std.specs.Int.{int_rem_euclid}
 use Rattle.stack_machine.specs.declared.op.Kind.{Kind}
 use Rattle.stack_machine.specs.declared.op.Kind.TheVariants.{Integer, Cardinal}

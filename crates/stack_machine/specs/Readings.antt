@@ -1,10 +1,13 @@
 -- What the code's reading gives, and how far it has come.
-use Rattle.std.specs.Prelude.{◌≡◌, ℕ, zero, suc, ◌+◌, ◌-◌, ◌*◌, ◌≤◌, Bool, false, List, [], ◌∷◌, ◌++◌, length, take, drop, min, Option, Some, None, IfSome, ℤ, pos, if◌then◌else◌, unwrap_or, is_none, ◌&&◌, ◌==◌}
+use Rattle.std.specs.Prelude.{◌≡◌, ℕ, zero, suc, ◌+◌, ◌-◌, ◌*◌, ◌≤◌, Bool, false, List, [], ◌∷◌, ◌++◌, length, take}
+use Rattle.std.specs.Prelude.{drop, min, Option, Some, None, IfSome, ℤ, pos, if◌then◌else◌, unwrap_or, is_none, ◌&&◌}
+use Rattle.std.specs.Prelude.{◌==◌}
 use Rattle.std.specs.Option.{option_to_list}
 use Rattle.stack_machine.specs.declared.reading.Reading.{Reading}
 use Rattle.stack_machine.specs.declared.reading.Ahead.{Ahead}
 use Rattle.stack_machine.specs.declared.op.Kind.{Kind}
-use Rattle.stack_machine.specs.InOut.{Got, number_from, signed, if_in_kind, is_sign, is_digit, is_negative, behind, front, behind_sign}
+use Rattle.stack_machine.specs.InOut.{Got, number_from, signed, if_in_kind, is_sign, is_digit, is_negative, behind}
+use Rattle.stack_machine.specs.InOut.{front, behind_sign}
 use Rattle.stack_machine.specs.declared.op.Kind.TheVariants.{Integer, Cardinal}
 
 abbrev pub got_of : Reading → List ℕ → Got
@@ -81,7 +84,8 @@ pub record Passed (test : ℕ → Bool) (a : Ahead) (l : List ℕ) (b : Ahead) (
   pub is : window b moves.rest ≡ behind test (window a l)
 
 -- a sign was taken, if one came
-pub record Signed (kind : Kind) (negative : Bool) (a : Ahead) (l : List ℕ) (b : Ahead) (left : Option (List ℕ)) : Type 0 where
+pub record Signed (kind : Kind) (negative : Bool) (a : Ahead) (l : List ℕ) (b : Ahead)
+    (left : Option (List ℕ)) : Type 0 where
   pub n : ℕ
   pub moves : Moves n a l b left
   pub is : window b moves.rest ≡ behind_sign kind (window a l)
@@ -104,7 +108,8 @@ abbrev pub is_cut : Ahead → Bool
 is_cut a = is_none a.byte && a.more == 0
 
 abbrev pub reading_by : Kind → Bool → Option ℕ → Ahead → Reading
-reading_by kind negative number a = record { value = if is_cut a then None else value_by kind negative number; kept = a.byte }
+reading_by kind negative number a =
+    record { value = if is_cut a then None else value_by kind negative number; kept = a.byte }
 
 -- the code's reading, and what is left
 pub record IsReading (r : Reading) (got : Got) (left : Option (List ℕ)) : Type 0 where

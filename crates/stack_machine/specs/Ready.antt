@@ -1,7 +1,13 @@
 -- Which programs never get stuck, and the states that they come to.
-use Rattle.std.specs.Prelude.{◌≡◌, ℕ, zero, suc, ◌+◌, ◌-◌, ◌*◌, ◌<◌, ◌≤◌, ◌^◌, IsTrue, true, List, length, Option, Some, None, slice_get}
+use Rattle.std.specs.Prelude.{◌≡◌, ℕ, zero, suc, ◌+◌, ◌-◌, ◌*◌, ◌<◌, ◌≤◌, ◌^◌, IsTrue, true, List, length, Option}
+use Rattle.std.specs.Prelude.{Some, None, slice_get}
 use Rattle.stack_machine.specs.declared.op.Op.{Op}
-use Rattle.stack_machine.specs.declared.op.Op.TheVariants.{Push, Local, Load, Store, Move, Dup, Offset, Index, IndexOpen, Check, Nil, Add, Sub, Mul, Div, Mod, Neg, Abs, Not, Eq, Ne, Lt, Le, Gt, Ge, Union, Diff, Inter, SymDiff, Subset, Superset, In, Bit, Span, Jump, JumpFalse, AndJump, OrJump, More, Call, CallService, CallVar, Return, Trap, New, OpenCopy, Halt, Cap}
+use Rattle.stack_machine.specs.declared.op.Op.TheVariants.{Push, Local, Load, Store, Move, Dup, Offset, Index}
+use Rattle.stack_machine.specs.declared.op.Op.TheVariants.{IndexOpen, Check, Nil, Add, Sub, Mul, Div, Mod, Neg, Abs}
+use Rattle.stack_machine.specs.declared.op.Op.TheVariants.{Not, Eq, Ne, Lt, Le, Gt, Ge, Union, Diff, Inter, SymDiff}
+use Rattle.stack_machine.specs.declared.op.Op.TheVariants.{Subset, Superset, In, Bit, Span, Jump, JumpFalse, AndJump}
+use Rattle.stack_machine.specs.declared.op.Op.TheVariants.{OrJump, More, Call, CallService, CallVar, Return, Trap, New}
+use Rattle.stack_machine.specs.declared.op.Op.TheVariants.{OpenCopy, Halt, Cap}
 use Rattle.stack_machine.specs.declared.code.Routine.{Routine}
 use Rattle.stack_machine.specs.declared.code.Code.{Code}
 use Rattle.stack_machine.specs.declared.core_state.Frame.{Frame}
@@ -143,7 +149,8 @@ pub record IsValid (c : Program) (shapes : Shapes) : Type 0 where
   pub origins : length c.origins ≡ length c.ops
   pub small : (q : ℕ) (p : Routine) → slice_get c.routines q ≡ Some p → IsSmall p
   pub enters : (q : ℕ) (p : Routine) → slice_get c.routines q ≡ Some p → Leads shapes p.entry q 0
-  pub bodies : (m k : ℕ) → slice_get c.bodies m ≡ Some k → (q : Routine) × (slice_get c.routines k ≡ Some q) × (q.outer ≡ None) × (q.result ≡ 0)
+  pub bodies : (m k : ℕ) → slice_get c.bodies m ≡ Some k
+      → (q : Routine) × (slice_get c.routines k ≡ Some q) × (q.outer ≡ None) × (q.result ≡ 0)
   pub done : (c.has_in_out ≡ true) → 1 < c.frames_at
   pub owner : (k p h : ℕ) → Leads shapes k p h → Owns c.routines p h
   pub each : (k p h : ℕ) (op : Op) → slice_get c.ops k ≡ Some op → Leads shapes k p h → IsFine c shapes k p h op
@@ -160,8 +167,8 @@ pub record IsAt (routines : List Routine) (shapes : Shapes) (at base top count l
   pub under : low ≤ base
   pub room : base + size_of own ≤ top
 
--- the n outermost callers wait for a procedure that leaves so many operands; behind them all is a body, whose frame is the
--- first
+-- the n outermost callers wait for a procedure that leaves so many operands; behind them all is a body, whose frame is
+-- the first
 abbrev pub Wait : Program → Shapes → List Frame → (n low base result : ℕ) → Type 0
 Wait c shapes frames zero low base result = (result ≡ 0) × (c.frames_at ≤ base)
 Wait c shapes frames (suc n) low base result =
@@ -171,7 +178,8 @@ Wait c shapes frames (suc n) low base result =
 -- the static link of frame d, of procedure p, leads to an earlier frame of the procedure that encloses it
 abbrev pub Linked : List Routine → Shapes → List Frame → (d p link : ℕ) → Type 0
 Linked routines shapes frames d p link =
-    (e : ℕ) → outer_of (slice_get routines p) ≡ Some e → (f : Frame) × (h : ℕ) × (slice_get frames link ≡ Some f) × (link < d) × Leads shapes f.at e h
+    (e : ℕ) → outer_of (slice_get routines p) ≡ Some e
+    → (f : Frame) × (h : ℕ) × (slice_get frames link ≡ Some f) × (link < d) × Leads shapes f.at e h
 
 pub record Fits (c : Program) (shapes : Shapes) (s : State) : Type 0 where
   pub low : ℕ
@@ -179,7 +187,8 @@ pub record Fits (c : Program) (shapes : Shapes) (s : State) : Type 0 where
   pub at : IsAt c.routines shapes s.at s.base s.top (length s.operands) low own
   pub wait : Wait c shapes s.frames (length s.frames) low s.base own.result
   pub link : Linked c.routines shapes s.frames (length s.frames) at.proc s.link
-  pub links : (d p h : ℕ) (f : Frame) → slice_get s.frames d ≡ Some f → Leads shapes f.at p h → Linked c.routines shapes s.frames d p f.link
+  pub links : (d p h : ℕ) (f : Frame) → slice_get s.frames d ≡ Some f → Leads shapes f.at p h
+      → Linked c.routines shapes s.frames d p f.link
 
 -- what a step comes to isn't stuck, and a state that it comes to fits
 abbrev pub GoesOn : Program → Shapes → Next → Type 0
@@ -202,7 +211,8 @@ pub record AsksCall (routines : List Routine) (c : Core) (q links : ℕ) : Type 
   pub is : slice_get routines q ≡ Some callee
   pub params : callee.params ≤ c.sp
   pub small : IsSmall callee
-  pub linked : (e : ℕ) → callee.outer ≡ Some e → (n : ℕ) × (number_out c.frames.items links (length c.frames.items) c.link ≡ Some n)
+  pub linked : (e : ℕ) → callee.outer ≡ Some e
+      → (n : ℕ) × (number_out c.frames.items links (length c.frames.items) c.link ≡ Some n)
 
 pub record AsksReturn (p : Program) (c : Core) : Type 0 where
   pub nested : (f : Frame) → innermost c.frames.items ≡ Some f → Nests f c.heap
@@ -210,7 +220,8 @@ pub record AsksReturn (p : Program) (c : Core) : Type 0 where
   pub bodies : AreBodies p
 
 abbrev pub Asks : Program → Core → Op → Type 0
-Asks p c (Local links o) = (o < 2 ^ 32) × (b : ℕ) × (base_out c.frames.items links c.base c.link ≡ Some b) × (b ≤ c.top)
+Asks p c (Local links o) =
+    (o < 2 ^ 32) × (b : ℕ) × (base_out c.frames.items links c.base c.link ≡ Some b) × (b ≤ c.top)
 Asks p c (New n) = n < 2 ^ 32
 Asks p c (Call q links) = AsksCall p.routines c q links
 Asks p c (CallVar n r) = (q : ℕ) (callee : Routine) → slice_get p.routines q ≡ Some callee → IsSmall callee

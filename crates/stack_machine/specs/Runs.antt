@@ -82,15 +82,17 @@ abbrev pub AtPlace : (place : Origin) → Program → (at : ℕ) → Type 0
 AtPlace place p at = slice_get p.origins at ≡ Some place
 
 -- The steps so far, what they printed, and what is left of the input.
-pub record Came (p : Program) (n : ℕ) (first : State) (input : List ℕ) (w0 w left : Option (List ℕ)) (is : Run → Traffic → Type 0) : Type 0 where
+pub record Came (p : Program) (n : ℕ) (first : State) (input : List ℕ) (w0 w left : Option (List ℕ))
+    (is : Run → Traffic → Type 0) : Type 0 where
   pub t : Traffic
   pub run : is (run_of p n first (record { out = []; input = input })) t
   pub printed : w ≡ with_bytes w0 t.out
   pub left_is : left ≡ Some t.input
 
--- Fewer steps came to this state. Of what the next step prints some first bytes may have been written, and of what it reads
--- some may have been taken.
-pub record Stopped (p : Program) (n : ℕ) (first new : State) (input : List ℕ) (w0 w left : Option (List ℕ)) : Type 0 where
+-- Fewer steps came to this state. Of what the next step prints some first bytes may have been written, and of what it
+-- reads some may have been taken.
+pub record Stopped (p : Program) (n : ℕ) (first new : State) (input : List ℕ)
+    (w0 w left : Option (List ℕ)) : Type 0 where
   pub steps : ℕ
   pub fewer : steps < n
   pub t : Traffic
@@ -100,7 +102,8 @@ pub record Stopped (p : Program) (n : ℕ) (first new : State) (input : List ℕ
   pub left_is : left ≡ Some (drop taken t.input)
 
 -- how a run of at most n steps ended, from a first state with this input
-abbrev pub Ends : End → Program → (n : ℕ) → (first new : State) → (input : List ℕ) → (w0 w left : Option (List ℕ)) → Type 0
+abbrev pub Ends : End → Program → (n : ℕ) → (first new : State) → (input : List ℕ) → (w0 w left : Option (List ℕ))
+    → Type 0
 Ends ends.StepsSpent p n first new input w0 w left = Came p n first input w0 w left (λ r t. r ≡ Unfinished new t)
 Ends ends.Halted p n first new input w0 w left = Came p n first input w0 w left (λ r t. r ≡ Halted new t)
 Ends (ends.Trapped code m procedure offset) p n first new input w0 w left =

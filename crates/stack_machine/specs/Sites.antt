@@ -1,5 +1,6 @@
 -- What the code keeps while it loads a program.
-use Rattle.std.specs.Prelude.{◌≡◌, ◌<◌, ◌≤◌, ◌+◌, ◌^◌, ◌++◌, ℕ, List, [], ◌∷◌, length, map, slice_get, Option, Some, None}
+use Rattle.std.specs.Prelude.{◌≡◌, ◌<◌, ◌≤◌, ◌+◌, ◌^◌, ◌++◌, ℕ, List, [], ◌∷◌, length, map, slice_get, Option, Some}
+use Rattle.std.specs.Prelude.{None}
 use Rattle.std.specs.List.{slice_index_or}
 use Rattle.stack_machine.specs.declared.placed.Placed.{Placed}
 use Rattle.stack_machine.specs.declared.ops.Scene.{Scene as SceneCode}
@@ -11,10 +12,13 @@ use Rattle.stack_machine.specs.declared.code.Routine.{Routine}
 use Rattle.stack_machine.specs.declared.code.Origin.{Origin}
 use Rattle.code_form.specs.Modules.{Procedure}
 use Rattle.object_file.specs.Contents.{Contents}
-use Rattle.stack_machine.specs.Loading.{Spot, Site, Block, IsBlock, AreBlocksOf, AreBlocks, flat, block_ops, block_origins, routines_from, variables_of, bodies_of, count_of, imports_in_out, first_cell, data_at, frames_of, data_in, data_of}
+use Rattle.stack_machine.specs.Loading.{Spot, Site, Block, IsBlock, AreBlocksOf, AreBlocks, flat, block_ops}
+use Rattle.stack_machine.specs.Loading.{block_origins, routines_from, variables_of, bodies_of, count_of}
+use Rattle.stack_machine.specs.Loading.{imports_in_out, first_cell, data_at, frames_of, data_in, data_of}
 
 abbrev pub nothing : Contents
-nothing = record { version = 0; name = []; key = []; cells = 0; own_cells = 0; exports = []; imports = []; procedures = [] }
+nothing =
+    record { version = 0; name = []; key = []; cells = 0; own_cells = 0; exports = []; imports = []; procedures = [] }
 
 abbrev pub contents_or : Option Contents → Contents
 contents_or None = nothing
@@ -32,7 +36,8 @@ abbrev pub Ascend : List Spot → Type 0
 Ascend ss = (i j : ℕ) (x y : Spot) → i < j → slice_get ss i ≡ Some x → slice_get ss j ≡ Some y → x.at < y.at
 
 abbrev pub site_in : SiteCode → Site
-site_in s = record { «module» = s.«module»; named = s.named.now; text = s.text; start = s.start; all = map spot_of s.all.now }
+site_in s =
+    record { «module» = s.«module»; named = s.named.now; text = s.text; start = s.start; all = map spot_of s.all.now }
 
 pub record IsScene (s : SceneCode) : Type 0 where
   pub variables : s.variables.now ≡ variables_of s.objects.now
@@ -60,7 +65,8 @@ pub record Grows (os : List Contents) (bs : List Block) (old new : Listing) : Ty
   pub routines : new.routines.items ≡ old.routines.items ++ routines_from os (length old.ops.items) bs
 
 -- a procedure more
-pub record GrowsBlock (os : List Contents) (m : ℕ) (o : Contents) (k text : ℕ) (p : Procedure) (old new : Listing) : Type 0 where
+pub record GrowsBlock (os : List Contents) (m : ℕ) (o : Contents) (k text : ℕ) (p : Procedure)
+    (old new : Listing) : Type 0 where
   pub block : Block
   pub is : IsBlock m o k text p block
   pub listed : new.ops.items ≡ old.ops.items ++ block_ops os (length old.ops.items) 0 block
@@ -68,7 +74,8 @@ pub record GrowsBlock (os : List Contents) (m : ℕ) (o : Contents) (k text : �
   pub routines : new.routines.items ≡ old.routines.items ++ routines_from os (length old.ops.items) (block ∷ [])
 
 -- procedures of an object more
-pub record GrowsObject (os : List Contents) (m : ℕ) (o : Contents) (text : ℕ) (ps : List Procedure) (old new : Listing) : Type 0 where
+pub record GrowsObject (os : List Contents) (m : ℕ) (o : Contents) (text : ℕ) (ps : List Procedure)
+    (old new : Listing) : Type 0 where
   pub blocks : List Block
   pub are : AreBlocksOf m o 0 text ps blocks
   pub grows : Grows os blocks old new

@@ -1,5 +1,8 @@
 -- One step of a machine, by cases on the operation.
-use Rattle.std.specs.Prelude.{ℕ, zero, suc, ◌+◌, ◌-◌, ◌*◌, ◌^◌, Bool, false, ◌&&◌, ◌==◌, if◌then◌else◌, ℤ, pos, negsuc, ◌+ℤ◌, ◌-ℤ◌, ◌*ℤ◌, neg_ℤ, unsigned_abs, int_le, int_lt, nat_le, nat_lt, List, [], ◌∷◌, ◌++◌, length, take, drop, replicate, slice_get, slice_set, Option, Some, None, unwrap_or, not, is_none}
+use Rattle.std.specs.Prelude.{ℕ, zero, suc, ◌+◌, ◌-◌, ◌*◌, ◌^◌, Bool, false, ◌&&◌, ◌==◌, if◌then◌else◌, ℤ, pos, negsuc}
+use Rattle.std.specs.Prelude.{◌+ℤ◌, ◌-ℤ◌, ◌*ℤ◌, neg_ℤ, unsigned_abs, int_le, int_lt, nat_le, nat_lt, List, [], ◌∷◌}
+use Rattle.std.specs.Prelude.{◌++◌, length, take, drop, replicate, slice_get, slice_set, Option, Some, None, unwrap_or}
+use Rattle.std.specs.Prelude.{not, is_none}
 use Rattle.std.specs.List.{slice_index_or, copy_within}
 use Rattle.std.specs.Int.{int_div_euclid, int_rem_euclid}
 use Rattle.std.specs.Option.{is_some}
@@ -8,7 +11,12 @@ use Rattle.stack_machine.specs.declared.op.Kind.TheVariants.{Integer}
 use Rattle.stack_machine.specs.declared.op.Service.{Service}
 use Rattle.stack_machine.specs.declared.op.Service.TheVariants as service
 use Rattle.stack_machine.specs.declared.op.Op.{Op}
-use Rattle.stack_machine.specs.declared.op.Op.TheVariants.{Push, Local, Load, Store, Move, Dup, Offset, Index, IndexOpen, Check, Nil, Add, Sub, Mul, Div, Mod, Neg, Abs, Not, Eq, Ne, Lt, Le, Gt, Ge, Union, Diff, Inter, SymDiff, Subset, Superset, In, Bit, Span, Jump, JumpFalse, AndJump, OrJump, More, Call, CallService, CallVar, Return, Trap, New, OpenCopy, Halt, Cap}
+use Rattle.stack_machine.specs.declared.op.Op.TheVariants.{Push, Local, Load, Store, Move, Dup, Offset, Index}
+use Rattle.stack_machine.specs.declared.op.Op.TheVariants.{IndexOpen, Check, Nil, Add, Sub, Mul, Div, Mod, Neg, Abs}
+use Rattle.stack_machine.specs.declared.op.Op.TheVariants.{Not, Eq, Ne, Lt, Le, Gt, Ge, Union, Diff, Inter, SymDiff}
+use Rattle.stack_machine.specs.declared.op.Op.TheVariants.{Subset, Superset, In, Bit, Span, Jump, JumpFalse, AndJump}
+use Rattle.stack_machine.specs.declared.op.Op.TheVariants.{OrJump, More, Call, CallService, CallVar, Return, Trap, New}
+use Rattle.stack_machine.specs.declared.op.Op.TheVariants.{OpenCopy, Halt, Cap}
 use Rattle.stack_machine.specs.declared.trap.Trap.{Trap as TrapOf}
 use Rattle.stack_machine.specs.declared.trap.Trap.TheVariants as traps
 use Rattle.stack_machine.specs.declared.code.Routine.{Routine}
@@ -18,11 +26,13 @@ use Rattle.stack_machine.specs.declared.code.Callee.TheVariants as callees
 use Rattle.stack_machine.specs.declared.core_state.Frame.{Frame}
 use Rattle.stack_machine.specs.State.{State, Program}
 use Rattle.stack_machine.specs.Operands.{top_of, without}
-use Rattle.stack_machine.specs.Numbers.{in_kind, truth, is_zero, same, below, count_of, union, difference, intersection, symmetric_difference, is_subset, is_in, set_of, span, has_more, capital}
+use Rattle.stack_machine.specs.Numbers.{in_kind, truth, is_zero, same, below, count_of, union, difference}
+use Rattle.stack_machine.specs.Numbers.{intersection, symmetric_difference, is_subset, is_in, set_of, span, has_more}
+use Rattle.stack_machine.specs.Numbers.{capital}
 use Rattle.stack_machine.specs.InOut.{Got, params_of, services, string_of, is_width}
 
--- What a step comes to: another state; the end of the program; a trap at this operation, or want of memory for the frame
--- of the body that begins at a place; or that something is missing, which no valid program meets.
+-- What a step comes to: another state; the end of the program; a trap at this operation, or want of memory for the
+-- frame of the body that begins at a place; or that something is missing, which no valid program meets.
 pub data Next : Type 0 where
   Goes : State → Next
   Halts : Next
@@ -103,14 +113,24 @@ indexed s n address size (Some k) = made s n (below (length s.cells) (address +�
 unfoldable pub allocated : ℕ → State → Next
 allocated n s =
     if nat_lt s.heap (s.top + n) then Traps traps.Memory else
-    at_cell (cell_at s.cells (top_of 0 s.operands)) (λ a. Goes (record s { at = s.at + 1; operands = without 1 s.operands; heap = s.heap - n; cells = slice_set (cleared s.cells (s.heap - n) n) a (pos (s.heap - n)) }))
+    at_cell (cell_at s.cells (top_of 0 s.operands))
+    (λ a. Goes (record s {
+      at = s.at + 1;
+      operands = without 1 s.operands;
+      heap = s.heap - n;
+      cells = slice_set (cleared s.cells (s.heap - n) n) a (pos (s.heap - n));
+    }))
 
 -- n cells more for the frame, with a copy of those from a place on, whose address the cell o gets
 abbrev pub copied : ℕ → ℕ → Option ℕ → State → Next
 copied n o None s = Traps traps.Address
 copied n o (Some from) s =
     if nat_lt s.top (length s.cells)
-    then Goes (record s { at = s.at + 1; top = s.top + n; cells = slice_set (copy_within s.cells from (from + n) s.top) (s.base + o) (pos s.top) })
+    then Goes (record s {
+      at = s.at + 1;
+      top = s.top + n;
+      cells = slice_set (copy_within s.cells from (from + n) s.top) (s.base + o) (pos s.top);
+    })
     else Traps traps.Address
 
 -- of no cells there is no source
@@ -200,7 +220,8 @@ body_behind p at = body_after p.bodies (slice_get p.origins at)
 -- back to the caller that stands last among the frames
 abbrev pub back_to : State → Option Frame → Next → Next
 back_to s None next = next
-back_to s (Some f) next = Goes (record s { at = f.at; base = f.base; top = f.top; link = f.link; frames = take (length s.frames - 1) s.frames })
+back_to s (Some f) next = Goes
+    (record s { at = f.at; base = f.base; top = f.top; link = f.link; frames = take (length s.frames - 1) s.frames })
 
 abbrev pub innermost : List Frame → Option Frame
 innermost [] = None
@@ -211,7 +232,8 @@ innermost (f ∷ fs) = slice_get (f ∷ fs) (length fs)
 -- a procedure with these parameters and this result, and no other around it
 abbrev pub routine_if : ℕ → (n r : ℕ) → Option Routine → Option Callee
 routine_if k n r None = None
-routine_if k n r (Some p) = if p.params == n && p.result == r && is_none p.outer then Some (callees.Routine k) else None
+routine_if k n r (Some p) =
+    if p.params == n && p.result == r && is_none p.outer then Some (callees.Routine k) else None
 
 abbrev pub service_if : (n r : ℕ) → Option Service → Option Callee
 service_if n r None = None
@@ -230,11 +252,17 @@ callee_of p v n r = if int_lt (pos 0) v then numbered p (unsigned_abs v - 1) n r
 -- the variable at the address on top gets a value and Done gets another, of n operands
 abbrev pub assigned : State → ℕ → Option ℕ → (value done : ℤ) → Next
 assigned s n kept value done =
-    at_cell (cell_at s.cells (top_of 0 s.operands)) (λ a. Goes (record s { at = s.at + 1; operands = without n s.operands; kept = kept; cells = slice_set (slice_set s.cells a value) 1 done }))
+    at_cell (cell_at s.cells (top_of 0 s.operands)) (λ a. Goes (record s {
+      at = s.at + 1;
+      operands = without n s.operands;
+      kept = kept;
+      cells = slice_set (slice_set s.cells a value) 1 done;
+    }))
 
 -- a number that was read, or none
 abbrev pub number_read : State → ℕ → Got → Option ℤ → Next
-number_read s n got None = Goes (record s { at = s.at + 1; operands = without n s.operands; kept = got.kept; cells = slice_set s.cells 1 (pos 0) })
+number_read s n got None = Goes
+    (record s { at = s.at + 1; operands = without n s.operands; kept = got.kept; cells = slice_set s.cells 1 (pos 0) })
 number_read s n got (Some v) = assigned s n got.kept v (pos 1)
 
 -- a procedure of InOut, which takes n operands
@@ -243,7 +271,8 @@ served service.Read n got s = assigned s n got.kept (unwrap_or got.value (pos 0)
 served service.ReadInt n got s = number_read s n got got.value
 served service.ReadCard n got s = number_read s n got got.value
 served service.Write n got s = leaves s n s.cells
-served service.WriteString n got s = if (string_of s.cells s.operands).whole then leaves s n s.cells else Traps traps.Address
+served service.WriteString n got s =
+    if (string_of s.cells s.operands).whole then leaves s n s.cells else Traps traps.Address
 served service.WriteLn n got s = leaves s n s.cells
 served service.WriteInt n got s = if is_width (top_of 0 s.operands) then leaves s n s.cells else Traps traps.Range
 served service.WriteCard n got s = if is_width (top_of 0 s.operands) then leaves s n s.cells else Traps traps.Range
@@ -329,19 +358,25 @@ unfoldable pub does : Program → Got → Op → State → Next
 does p got (Push v) s = gives s 0 v
 does p got (Local h o) s = local_at s (base_out s.frames h s.base s.link) o
 does p got Load s = at_cell (cell_at s.cells (top_of 0 s.operands)) (λ a. gives s 1 (cell_of s.cells a))
-does p got Store s = at_cell (cell_at s.cells (top_of 1 s.operands)) (λ a. leaves s 2 (slice_set s.cells a (top_of 0 s.operands)))
-does p got (Move n) s = if n == 0 then leaves s 2 s.cells else moved s n (part_at s.cells n (top_of 1 s.operands)) (part_at s.cells n (top_of 0 s.operands))
+does p got Store s =
+    at_cell (cell_at s.cells (top_of 1 s.operands)) (λ a. leaves s 2 (slice_set s.cells a (top_of 0 s.operands)))
+does p got (Move n) s = if n == 0 then leaves s 2 s.cells
+    else moved s n (part_at s.cells n (top_of 1 s.operands)) (part_at s.cells n (top_of 0 s.operands))
 does p got Dup s = gives s 0 (top_of 0 s.operands)
 does p got (Offset n) s = made s 1 (below (length s.cells) (top_of 0 s.operands +ℤ pos n))
 does p got (Index low n size) s = indexed s 2 (top_of 1 s.operands) size (below n (top_of 0 s.operands -ℤ low))
-does p got (IndexOpen size) s = indexed s 3 (top_of 2 s.operands) size (below (count_of (top_of 1 s.operands)) (top_of 0 s.operands))
-does p got (Check low high) s = goes_on_if (int_le low (top_of 0 s.operands) && int_le (top_of 0 s.operands) high) s traps.Range
+does p got (IndexOpen size) s =
+    indexed s 3 (top_of 2 s.operands) size (below (count_of (top_of 1 s.operands)) (top_of 0 s.operands))
+does p got (Check low high) s =
+    goes_on_if (int_le low (top_of 0 s.operands) && int_le (top_of 0 s.operands) high) s traps.Range
 does p got Nil s = if is_zero (top_of 0 s.operands) then Traps traps.Nil else Goes (record s { at = s.at + 1 })
 does p got (Add kind) s = checked kind s 2 (top_of 1 s.operands +ℤ top_of 0 s.operands)
 does p got (Sub kind) s = checked kind s 2 (top_of 1 s.operands -ℤ top_of 0 s.operands)
 does p got (Mul kind) s = checked kind s 2 (top_of 1 s.operands *ℤ top_of 0 s.operands)
-does p got (Div kind) s = if int_lt (pos 0) (top_of 0 s.operands) then checked kind s 2 (int_div_euclid (top_of 1 s.operands) (top_of 0 s.operands)) else Traps traps.Divisor
-does p got (Mod kind) s = if int_lt (pos 0) (top_of 0 s.operands) then checked kind s 2 (int_rem_euclid (top_of 1 s.operands) (top_of 0 s.operands)) else Traps traps.Divisor
+does p got (Div kind) s = if int_lt (pos 0) (top_of 0 s.operands) then
+    checked kind s 2 (int_div_euclid (top_of 1 s.operands) (top_of 0 s.operands)) else Traps traps.Divisor
+does p got (Mod kind) s = if int_lt (pos 0) (top_of 0 s.operands) then
+    checked kind s 2 (int_rem_euclid (top_of 1 s.operands) (top_of 0 s.operands)) else Traps traps.Divisor
 does p got Neg s = checked Integer s 1 (neg_ℤ (top_of 0 s.operands))
 does p got Abs s = checked Integer s 1 (pos (unsigned_abs (top_of 0 s.operands)))
 does p got Not s = gives s 1 (truth (is_zero (top_of 0 s.operands)))
@@ -361,7 +396,8 @@ does p got In s = gives s 2 (truth (is_in (below 32 (top_of 1 s.operands)) (set_
 does p got Bit s = bit_made s (below 32 (top_of 0 s.operands))
 does p got Span s = span_made s (below 32 (top_of 1 s.operands)) (below 32 (top_of 0 s.operands))
 does p got (Jump to) s = Goes (record s { at = to })
-does p got (JumpFalse to) s = Goes (record s { at = if is_zero (top_of 0 s.operands) then to else s.at + 1; operands = without 1 s.operands })
+does p got (JumpFalse to) s =
+    Goes (record s { at = if is_zero (top_of 0 s.operands) then to else s.at + 1; operands = without 1 s.operands })
 does p got (AndJump to) s = if is_zero (top_of 0 s.operands) then Goes (record s { at = to }) else leaves s 1 s.cells
 does p got (OrJump to) s = if is_zero (top_of 0 s.operands) then leaves s 1 s.cells else Goes (record s { at = to })
 does p got (More c) s = gives s 2 (truth (has_more (top_of 1 s.operands) c (top_of 0 s.operands)))

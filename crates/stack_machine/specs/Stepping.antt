@@ -26,18 +26,21 @@ pub record Serves (p : Program) (op : Op) (s : State) (v : Service) (n : ℕ) : 
   pub takes_so : n ≡ takes op
 
 -- what a procedure of InOut leaves and reads, where the source tells what it has left
-pub record ServedSo (v : Service) (n : ℕ) (s : State) (next : CodeNext) (new : State) (input : List ℕ) (left : Option (List ℕ)) : Type 0 where
+pub record ServedSo (v : Service) (n : ℕ) (s : State) (next : CodeNext) (new : State) (input : List ℕ)
+    (left : Option (List ℕ)) : Type 0 where
   pub comes : Comes next (served v n (got_by v s.kept input) s) s new
   pub left_is : left ≡ Some (got_by v s.kept input).rest
 
 -- the same with what it prints
-pub record HasServed (v : Service) (n : ℕ) (s : State) (next : CodeNext) (new : State) (input : List ℕ) (w0 w left : Option (List ℕ)) : Type 0 where
+pub record HasServed (v : Service) (n : ℕ) (s : State) (next : CodeNext) (new : State) (input : List ℕ)
+    (w0 w left : Option (List ℕ)) : Type 0 where
   pub comes : Comes next (served v n (got_by v s.kept input) s) s new
   pub written : w ≡ with_bytes w0 (printed v s.cells s.operands)
   pub left_is : left ≡ Some (got_by v s.kept input).rest
 
 -- the same of a step
-pub record Stepped (p : Program) (s : State) (next : CodeNext) (new : State) (input : List ℕ) (w0 w left : Option (List ℕ)) : Type 0 where
+pub record Stepped (p : Program) (s : State) (next : CodeNext) (new : State) (input : List ℕ)
+    (w0 w left : Option (List ℕ)) : Type 0 where
   pub comes : Comes next (step p (gets_by (asked p s) s input) s) s new
   pub written : w ≡ with_bytes w0 (prints_by (asked p s) s)
   pub left_is : left ≡ Some (gets_by (asked p s) s input).rest
@@ -57,7 +60,8 @@ FailedWith failures.Write p0 p1 k0 k1 = Rose p0 p1
 abbrev pub IsTrapped : End → Program → Trap → (at : ℕ) → Type 0
 IsTrapped ends.StepsSpent p c at = ⊥
 IsTrapped ends.Halted p c at = ⊥
-IsTrapped (ends.Trapped code m procedure offset) p c at = (code ≡ code_of c) × AtPlace (record { «module» = m; procedure = procedure; offset = offset }) p at
+IsTrapped (ends.Trapped code m procedure offset) p c at =
+    (code ≡ code_of c) × AtPlace (record { «module» = m; procedure = procedure; offset = offset }) p at
 IsTrapped ends.ReadFailed p c at = ⊥
 IsTrapped ends.WriteFailed p c at = ⊥
 

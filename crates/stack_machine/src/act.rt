@@ -5,7 +5,8 @@ ghost use Rattle.stack_machine.specs.InOut.{Got, params_of, services};
 ghost use Rattle.stack_machine.specs.Ready.{Able, AsksCall, IsSmall};
 ghost use Rattle.stack_machine.specs.Runs.{asked_by};
 ghost use Rattle.stack_machine.specs.State.{Program, state_of, program_of};
-ghost use Rattle.stack_machine.specs.Step.{does, takes, callee_of, numbered as procedure_numbered, routine_if, service_if, number_out, link_of};
+ghost use Rattle.stack_machine.specs.Step.{does, takes, callee_of, numbered as procedure_numbered, routine_if};
+ghost use Rattle.stack_machine.specs.Step.{service_if, number_out, link_of};
 ghost use Rattle.stack_machine.specs.declared.code.Routine.{Routine as RoutineData};
 ghost use Rattle.stack_machine.specs.declared.op.Op.TheVariants.{Call, CallVar};
 
@@ -105,7 +106,8 @@ pub(crate) fn callee(code: &Code, v: i64, n: u32, r: u32) -> Option<Callee>
 /// The number of the frame of the procedure that encloses one.
 fn link_to(core: &Core, outer: Option<usize>, h: u32) -> usize
     requires short { length core.now.frames.items < 2 ^ 32 }
-    requires linked { IfSome outer (λ e. (n : ℕ) × (number_out core.now.frames.items h (length core.now.frames.items) core.now.link ≡ Some n)) }
+    requires linked { IfSome outer
+        (λ e. (n : ℕ) × (number_out core.now.frames.items h (length core.now.frames.items) core.now.link ≡ Some n)) }
     ensures { link_of outer (state_of core.now) h ≡ Some result }
 {
     match outer {
@@ -120,7 +122,8 @@ fn call_routine(code: &Code, core: &mut Core, k: usize, h: u32) -> Next
     requires able { CanDo core.old 0 }
     requires frames { length core.old.frames.items * 4 + 4 ≤ length core.old.cells.items }
     requires asks { AsksCall code.now.routines.items core.old k h }
-    ensures comes { (got : Got) → Comes result (does (program_of code.now) got (Call k h) (state_of core.old)) (state_of core.old) (state_of core.new) }
+    ensures comes { (got : Got) → Comes result (does (program_of code.now) got (Call k h) (state_of core.old))
+        (state_of core.old) (state_of core.new) }
     ensures room { HasRoom core.new }
 {
     let p = &code.routines[k];
@@ -135,7 +138,8 @@ fn call_value(code: &Code, core: &mut Core, n: u32, r: u32) -> Next
     requires frames { length core.old.frames.items * 4 + 4 ≤ length core.old.cells.items }
     requires small { (q : ℕ) (p : RoutineData) → slice_get code.now.routines.items q ≡ Some p → IsSmall p }
     requires asked { asked_by (program_of code.now) (Some (CallVar n r)) (state_of core.old) ≡ None }
-    ensures comes { (got : Got) → Comes result (does (program_of code.now) got (CallVar n r) (state_of core.old)) (state_of core.old) (state_of core.new) }
+    ensures comes { (got : Got) → Comes result (does (program_of code.now) got (CallVar n r) (state_of core.old))
+        (state_of core.old) (state_of core.new) }
     ensures room { HasRoom core.new }
 {
     match callee(code, operand(core, n as usize), n, r) {
@@ -160,7 +164,8 @@ macro_rules! action {
 pub(crate) fn act(code: &Code, core: &mut Core, op: &Op) -> Next
     requires able { Able (program_of code.now) core.old op.now }
     requires asked { asked_by (program_of code.now) (Some op.now) (state_of core.old) ≡ None }
-    ensures comes { (got : Got) → Comes result (does (program_of code.now) got op.now (state_of core.old)) (state_of core.old) (state_of core.new) }
+    ensures comes { (got : Got) → Comes result (does (program_of code.now) got op.now (state_of core.old))
+        (state_of core.old) (state_of core.new) }
     ensures room { HasRoom core.new }
 {
     action!((op, core)

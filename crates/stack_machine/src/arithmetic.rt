@@ -4,7 +4,8 @@ ghost use Rattle.stack_machine.specs.Able.{HasRoom, CanDo, Comes};
 ghost use Rattle.stack_machine.specs.Numbers.{in_kind, truth, is_zero, same, has_more, capital};
 ghost use Rattle.stack_machine.specs.State.{state_of};
 ghost use Rattle.stack_machine.specs.Step.{checked, does, empty, nothing};
-ghost use Rattle.stack_machine.specs.declared.op.Op.TheVariants.{Check, Add, Sub, Mul, Div, Mod, Neg, Abs, Not, Eq, Ne, Lt, Le, Gt, Ge, More, Cap};
+ghost use Rattle.stack_machine.specs.declared.op.Op.TheVariants.{Check, Add, Sub, Mul, Div, Mod, Neg, Abs, Not, Eq};
+ghost use Rattle.stack_machine.specs.declared.op.Op.TheVariants.{Ne, Lt, Le, Gt, Ge, More, Cap};
 
 use crate::core_state::Core;
 use crate::next::Next;
@@ -80,7 +81,8 @@ fn capital_of(v: i64) -> i64
 #[tactic(auto, unfolding(crate::specs::Step::does))]
 pub(crate) fn check(core: &mut Core, low: i64, high: i64) -> Next
     requires able { CanDo core.old 1 }
-    ensures comes { Comes result (does empty nothing (Check low high) (state_of core.old)) (state_of core.old) (state_of core.new) }
+    ensures comes { Comes result (does empty nothing (Check low high) (state_of core.old)) (state_of core.old)
+        (state_of core.new) }
     ensures room { HasRoom core.new }
 {
     let v = operand(core, 0);
@@ -96,7 +98,8 @@ pub(crate) fn check(core: &mut Core, low: i64, high: i64) -> Next
 #[tactic(auto, unfolding(crate::specs::Step::does))]
 pub(crate) fn add(core: &mut Core, kind: Kind) -> Next
     requires able { CanDo core.old 2 }
-    ensures comes { Comes result (does empty nothing (Add kind) (state_of core.old)) (state_of core.old) (state_of core.new) }
+    ensures comes { Comes result (does empty nothing (Add kind) (state_of core.old)) (state_of core.old)
+        (state_of core.new) }
     ensures room { HasRoom core.new }
 {
     match operand(core, 1).checked_add(operand(core, 0)) {
@@ -109,7 +112,8 @@ pub(crate) fn add(core: &mut Core, kind: Kind) -> Next
 #[tactic(auto, unfolding(crate::specs::Step::does))]
 pub(crate) fn subtract(core: &mut Core, kind: Kind) -> Next
     requires able { CanDo core.old 2 }
-    ensures comes { Comes result (does empty nothing (Sub kind) (state_of core.old)) (state_of core.old) (state_of core.new) }
+    ensures comes { Comes result (does empty nothing (Sub kind) (state_of core.old)) (state_of core.old)
+        (state_of core.new) }
     ensures room { HasRoom core.new }
 {
     match operand(core, 1).checked_sub(operand(core, 0)) {
@@ -122,7 +126,8 @@ pub(crate) fn subtract(core: &mut Core, kind: Kind) -> Next
 #[tactic(auto, unfolding(crate::specs::Step::does))]
 pub(crate) fn multiply(core: &mut Core, kind: Kind) -> Next
     requires able { CanDo core.old 2 }
-    ensures comes { Comes result (does empty nothing (Mul kind) (state_of core.old)) (state_of core.old) (state_of core.new) }
+    ensures comes { Comes result (does empty nothing (Mul kind) (state_of core.old)) (state_of core.old)
+        (state_of core.new) }
     ensures room { HasRoom core.new }
 {
     match operand(core, 1).checked_mul(operand(core, 0)) {
@@ -135,7 +140,8 @@ pub(crate) fn multiply(core: &mut Core, kind: Kind) -> Next
 #[tactic(auto, unfolding(crate::specs::Step::does))]
 pub(crate) fn divide(core: &mut Core, kind: Kind) -> Next
     requires able { CanDo core.old 2 }
-    ensures comes { Comes result (does empty nothing (Div kind) (state_of core.old)) (state_of core.old) (state_of core.new) }
+    ensures comes { Comes result (does empty nothing (Div kind) (state_of core.old)) (state_of core.old)
+        (state_of core.new) }
     ensures room { HasRoom core.new }
 {
     let divisor = operand(core, 0);
@@ -150,7 +156,8 @@ pub(crate) fn divide(core: &mut Core, kind: Kind) -> Next
 #[tactic(auto, unfolding(crate::specs::Step::does))]
 pub(crate) fn remainder(core: &mut Core, kind: Kind) -> Next
     requires able { CanDo core.old 2 }
-    ensures comes { Comes result (does empty nothing (Mod kind) (state_of core.old)) (state_of core.old) (state_of core.new) }
+    ensures comes { Comes result (does empty nothing (Mod kind) (state_of core.old)) (state_of core.old)
+        (state_of core.new) }
     ensures room { HasRoom core.new }
 {
     let divisor = operand(core, 0);
@@ -268,7 +275,8 @@ pub(crate) fn at_least(core: &mut Core) -> Next
 #[tactic(auto, unfolding(crate::specs::Step::does))]
 pub(crate) fn more(core: &mut Core, c: i64) -> Next
     requires able { CanDo core.old 2 }
-    ensures comes { Comes result (does empty nothing (More c) (state_of core.old)) (state_of core.old) (state_of core.new) }
+    ensures comes { Comes result (does empty nothing (More c) (state_of core.old)) (state_of core.old)
+        (state_of core.new) }
     ensures room { HasRoom core.new }
 {
     let v = as_value(more_left(operand(core, 1), c, operand(core, 0)));

@@ -9,8 +9,8 @@ pub struct Frame {
     pub link: usize,
 }
 
-/// The state of a machine. No two of the numbers that a step changes are neighbours: the compiler would keep them as a pair,
-/// which is slower.
+/// The state of a machine. No two of the numbers that a step changes are neighbours: the compiler would keep them as a
+/// pair, which is slower.
 #[derive(Drop)]
 pub(crate) struct Core {
     /// The place of the next operation.

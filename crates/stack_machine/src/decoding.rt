@@ -1,5 +1,6 @@
 //! The instructions of a procedure.
-ghost use Rattle.std.specs.Prelude.{◌≡◌, ◌≢◌, ◌+◌, ◌<◌, ◌≤◌, ◌^◌, ◌+ℤ◌, ℕ, List, pos, length, map, slice_get, IfOk, IfSome, IfNone, Some};
+ghost use Rattle.std.specs.Prelude.{◌≡◌, ◌≢◌, ◌+◌, ◌<◌, ◌≤◌, ◌^◌, ◌+ℤ◌, ℕ, List, pos, length, map, slice_get, IfOk};
+ghost use Rattle.std.specs.Prelude.{IfSome, IfNone, Some};
 ghost use Rattle.code_form.specs.declared.instr.Instr.{Instr as InstrData};
 ghost use Rattle.code_form.specs.Valid.{AreInstrs};
 ghost use Rattle.stack_machine.specs.Loading.{instr_at, spots};
@@ -13,7 +14,8 @@ use std::alloc::{AllocError, Global};
 pub(crate) fn instrs(alloc: Global, code: &[u8]) -> Result<Vec<Placed>, AllocError>
     requires instrs { (is : List InstrData) × AreInstrs code.now is }
     requires short { length code.now < 2 ^ 32 }
-    ensures are { IfOk result (λ v. (is : List InstrData) × AreInstrs code.now is × (map spot_of v.items ≡ spots 0 is)) }
+    ensures are { IfOk result
+        (λ v. (is : List InstrData) × AreInstrs code.now is × (map spot_of v.items ≡ spots 0 is)) }
     ensures ascend { IfOk result (λ v. Ascend (map spot_of v.items)) }
 {
     let mut all = Vec::new(alloc);

@@ -3,7 +3,8 @@ ghost use Rattle.std.specs.Prelude.{◌≡◌, ◌<◌, ◌≤◌, ◌-◌, ◌^
 ghost use Rattle.stack_machine.specs.Able.{HasRoom, CanDo, Comes};
 ghost use Rattle.stack_machine.specs.Numbers.{is_zero};
 ghost use Rattle.stack_machine.specs.State.{state_of, program_of};
-ghost use Rattle.stack_machine.specs.Step.{base_out, number_out, written, with_frame_at, called, entered, innermost, body_behind, next_body as body_next, does, empty, nothing};
+ghost use Rattle.stack_machine.specs.Step.{base_out, number_out, written, with_frame_at, called, entered, innermost};
+ghost use Rattle.stack_machine.specs.Step.{body_behind, next_body as body_next, does, empty, nothing};
 ghost use Rattle.stack_machine.specs.Ready.{IsSmall, Nests, AreBodies};
 ghost use Rattle.stack_machine.specs.declared.core_state.Frame.{Frame as FrameData};
 ghost use Rattle.stack_machine.specs.declared.op.Op.TheVariants.{Local, Jump, JumpFalse, AndJump, OrJump, Return};
@@ -20,7 +21,8 @@ use crate::trap::Trap;
 #[tactic(auto, unfolding(crate::specs::Step::does))]
 pub(crate) fn jump(core: &mut Core, to: usize) -> Next
     requires able { CanDo core.old 0 }
-    ensures comes { Comes result (does empty nothing (Jump to) (state_of core.old)) (state_of core.old) (state_of core.new) }
+    ensures comes { Comes result (does empty nothing (Jump to) (state_of core.old)) (state_of core.old)
+        (state_of core.new) }
     ensures room { HasRoom core.new }
 {
     core.at = to;
@@ -31,7 +33,8 @@ pub(crate) fn jump(core: &mut Core, to: usize) -> Next
 #[tactic(auto, using(crate::proofs::OperandLaws::below_is), unfolding(crate::specs::Step::does))]
 pub(crate) fn jump_false(core: &mut Core, to: usize) -> Next
     requires able { CanDo core.old 1 }
-    ensures comes { Comes result (does empty nothing (JumpFalse to) (state_of core.old)) (state_of core.old) (state_of core.new) }
+    ensures comes { Comes result (does empty nothing (JumpFalse to) (state_of core.old)) (state_of core.old)
+        (state_of core.new) }
     ensures room { HasRoom core.new }
 {
     let is_false = zero(operand(core, 0));
@@ -44,7 +47,8 @@ pub(crate) fn jump_false(core: &mut Core, to: usize) -> Next
 #[tactic(auto, unfolding(crate::specs::Step::does))]
 pub(crate) fn and_jump(core: &mut Core, to: usize) -> Next
     requires able { CanDo core.old 1 }
-    ensures comes { Comes result (does empty nothing (AndJump to) (state_of core.old)) (state_of core.old) (state_of core.new) }
+    ensures comes { Comes result (does empty nothing (AndJump to) (state_of core.old)) (state_of core.old)
+        (state_of core.new) }
     ensures room { HasRoom core.new }
 {
     if zero(operand(core, 0)) {
@@ -59,7 +63,8 @@ pub(crate) fn and_jump(core: &mut Core, to: usize) -> Next
 #[tactic(auto, unfolding(crate::specs::Step::does))]
 pub(crate) fn or_jump(core: &mut Core, to: usize) -> Next
     requires able { CanDo core.old 1 }
-    ensures comes { Comes result (does empty nothing (OrJump to) (state_of core.old)) (state_of core.old) (state_of core.new) }
+    ensures comes { Comes result (does empty nothing (OrJump to) (state_of core.old)) (state_of core.old)
+        (state_of core.new) }
     ensures room { HasRoom core.new }
 {
     if zero(operand(core, 0)) {
@@ -105,9 +110,11 @@ fn base_from(core: &Core, h: u32) -> usize
 #[tactic(auto, unfolding(crate::specs::Step::does))]
 pub(crate) fn local(core: &mut Core, h: u32, o: u32) -> Next
     requires able { CanDo core.old 0 }
-    requires linked { (b : ℕ) × (base_out core.old.frames.items h core.old.base core.old.link ≡ Some b) × (b ≤ core.old.top) }
+    requires linked { (b : ℕ) × (base_out core.old.frames.items h core.old.base core.old.link ≡ Some b)
+        × (b ≤ core.old.top) }
     requires short { length core.old.frames.items < 2 ^ 32 }
-    ensures comes { Comes result (does empty nothing (Local h o) (state_of core.old)) (state_of core.old) (state_of core.new) }
+    ensures comes { Comes result (does empty nothing (Local h o) (state_of core.old)) (state_of core.old)
+        (state_of core.new) }
     ensures room { HasRoom core.new }
 {
     let base = base_from(core, h);
@@ -219,7 +226,8 @@ fn next_body(code: &Code, core: &mut Core) -> Next
     requires room { HasRoom core.old }
     requires origin { core.old.at < length code.now.origins.items }
     requires bodies { AreBodies (program_of code.now) }
-    ensures comes { Comes result (body_next (program_of code.now) (body_behind (program_of code.now) core.old.at) (state_of core.old)) (state_of core.old) (state_of core.new) }
+    ensures comes { Comes result (body_next (program_of code.now) (body_behind (program_of code.now) core.old.at)
+        (state_of core.old)) (state_of core.old) (state_of core.new) }
     ensures room { HasRoom core.new }
 {
     match body_after(code, core.at) {
@@ -236,7 +244,8 @@ pub(crate) fn leave(code: &Code, core: &mut Core) -> Next
     requires nested { (f : FrameData) → innermost core.old.frames.items ≡ Some f → Nests f core.old.heap }
     requires origin { core.old.at < length code.now.origins.items }
     requires bodies { AreBodies (program_of code.now) }
-    ensures comes { Comes result (does (program_of code.now) nothing Return (state_of core.old)) (state_of core.old) (state_of core.new) }
+    ensures comes { Comes result (does (program_of code.now) nothing Return (state_of core.old)) (state_of core.old)
+        (state_of core.new) }
     ensures room { HasRoom core.new }
 {
     match core.frames.pop() {

@@ -3,7 +3,8 @@ ghost use Rattle.std.specs.Prelude.{◌≡◌, ◌+◌, ◌<◌, ◌≤◌, ◌^
 ghost use Rattle.object_file.specs.Contents.{definitions_of};
 ghost use Rattle.object_file.specs.Programs.{IsProgram};
 ghost use Rattle.object_file.specs.Views.{import_of, procedure_of};
-ghost use Rattle.stack_machine.specs.Loading.{is_in_out as names_in_out, import_in_out, imports_in_out, first_cell, cells_of, data_in, data_of, data_at, frames_of, variables_from};
+ghost use Rattle.stack_machine.specs.Loading.{is_in_out as names_in_out, import_in_out, imports_in_out, first_cell};
+ghost use Rattle.stack_machine.specs.Loading.{cells_of, data_in, data_of, data_at, frames_of, variables_from};
 
 use m2_base::ProcCode;
 use object_file::{ImportNote, Object};
@@ -119,7 +120,9 @@ fn with_data(taken: usize, objects: &[Object], room: usize) -> Option<usize>
 
 /// Where the cells of a program are, if there are so many.
 pub(crate) fn laid_out(objects: &[Object], room: usize) -> Option<Layout>
-    ensures some { IfSome result (λ l. (l.has_in_out ≡ imports_in_out objects.now) × (l.variables ≡ first_cell objects.now) × (l.texts ≡ data_at objects.now) × (l.frames ≡ frames_of objects.now) × (l.frames ≤ room)) }
+    ensures some { IfSome result
+        (λ l. (l.has_in_out ≡ imports_in_out objects.now) × (l.variables ≡ first_cell objects.now)
+        × (l.texts ≡ data_at objects.now) × (l.frames ≡ frames_of objects.now) × (l.frames ≤ room)) }
     ensures none { IfNone result (room < frames_of objects.now) }
 {
     let has_in_out = any_has_in_out(objects);

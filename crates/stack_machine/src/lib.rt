@@ -1,10 +1,10 @@
 //! What does a program do when it runs?
 //!
-//! The code of a program is a list of operations: instructions whose operands are addresses, places and procedures of the
-//! whole program. `specs/Step` says what one operation does to the plain state of a machine (`specs/State`), and
+//! The code of a program is a list of operations: instructions whose operands are addresses, places and procedures of
+//! the whole program. `specs/Step` says what one operation does to the plain state of a machine (`specs/State`), and
 //! `specs/Runs` what at most so many of them do, print and read. `specs/Ready` says which code never gets stuck, and
-//! `no_step_is_stuck` that it doesn't. Each operation has a function, and `run::steps` makes at most so many steps. `Machine`
-//! loads the objects of a program (`specs/Loading`) and keeps its state from run to run (`specs/Machines`).
+//! `no_step_is_stuck` that it doesn't. Each operation has a function, and `run::steps` makes at most so many steps.
+//! `Machine` loads the objects of a program (`specs/Loading`) and keeps its state from run to run (`specs/Machines`).
 #![tactic(auto)]
 
 mod act;

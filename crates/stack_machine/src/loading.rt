@@ -1,12 +1,15 @@
 //! From objects to the code that is executed.
-ghost use Rattle.std.specs.Prelude.{◌≡◌, ◌+◌, ◌<◌, ◌≤◌, ◌++◌, ◌^◌, ◌==◌, ℕ, List, length, map, IfOk, OnOk, slice_get, Some, None, if◌then◌else◌};
+ghost use Rattle.std.specs.Prelude.{◌≡◌, ◌+◌, ◌<◌, ◌≤◌, ◌++◌, ◌^◌, ◌==◌, ℕ, List, length, map, IfOk, OnOk, slice_get};
+ghost use Rattle.std.specs.Prelude.{Some, None, if◌then◌else◌};
 ghost use Rattle.code_form.specs.declared.instr.Instr.{Instr as InstrData};
 ghost use Rattle.code_form.specs.Valid.{AreInstrs};
 ghost use Rattle.object_file.specs.Programs.{IsProgram};
 ghost use Rattle.m2_base.specs.declared.outputs.ProcCode.{ProcCode as ProcData};
 ghost use Rattle.object_file.specs.Views.{procedure_of};
-ghost use Rattle.stack_machine.specs.Loading.{IsLoaded, op_by, data_in, data_of, count_of, owners_of, bodies_of, number_of};
-ghost use Rattle.stack_machine.specs.Sites.{IsScene, IsOn, spot_of, site_in, GrowsBlock, GrowsObject, GrowsAll, HasLayout, at_object};
+ghost use Rattle.stack_machine.specs.Loading.{IsLoaded, op_by, data_in, data_of, count_of, owners_of, bodies_of};
+ghost use Rattle.stack_machine.specs.Loading.{number_of};
+ghost use Rattle.stack_machine.specs.Sites.{IsScene, IsOn, spot_of, site_in, GrowsBlock, GrowsObject, GrowsAll};
+ghost use Rattle.stack_machine.specs.Sites.{HasLayout, at_object};
 ghost use Rattle.stack_machine.specs.State.{program_of};
 
 use crate::code::{Code, Origin, Routine};
@@ -82,7 +85,8 @@ fn place_behind(ops: &[Op]) -> usize
 fn push_ops(ops: &mut Vec<Op>, scene: &Scene, site: &Site) -> Result<(), AllocError>
     requires scene { IsScene scene.now }
     requires site { IsOn site.now }
-    ensures { OnOk result (ops.new.items ≡ ops.old.items ++ map (λ s. op_by scene.now.objects.now (site_in site.now) s s.instr) (map spot_of site.now.all.now)) }
+    ensures { OnOk result (ops.new.items ≡ ops.old.items
+        ++ map (λ s. op_by scene.now.objects.now (site_in site.now) s s.instr) (map spot_of site.now.all.now)) }
 {
     for from in site.all {
         ops.push(op_of(scene, site, from))?;
@@ -96,7 +100,8 @@ fn push_origins(
     procedure: u32,
     all: &[Placed],
 ) -> Result<(), AllocError>
-    ensures { OnOk result (origins.new.items ≡ origins.old.items ++ map (λ s. record { «module» = m; procedure = procedure; offset = s.at }) (map spot_of all.now)) }
+    ensures { OnOk result (origins.new.items ≡ origins.old.items
+        ++ map (λ s. record { «module» = m; procedure = procedure; offset = s.at }) (map spot_of all.now)) }
 {
     for placed in all {
         origins.push(Origin {
@@ -134,7 +139,8 @@ fn add_procedure(
     requires text { text < 2 ^ 60 }
     requires short { length procedure.now.code.items < 2 ^ 32 }
     requires instrs { (is : List InstrData) × AreInstrs procedure.now.code.items is }
-    ensures { OnOk result (GrowsBlock scene.now.objects.now home.now.«module» home.now.object.now k text (procedure_of procedure.now) listing.old listing.new) }
+    ensures { OnOk result (GrowsBlock scene.now.objects.now home.now.«module» home.now.object.now k text
+        (procedure_of procedure.now) listing.old listing.new) }
 {
     let all = instrs(alloc, &procedure.code)?;
     let start = place_behind(&listing.ops);
@@ -170,8 +176,10 @@ fn add_procedures(
     requires named { home.now.named.now ≡ owners_of scene.now.objects.now home.now.object.now }
     requires text { text + data_in (map procedure_of procedures.now) < 2 ^ 60 }
     requires few { length procedures.now < 2 ^ 32 }
-    requires sound { (k : ℕ) (p : ProcData) → slice_get procedures.now k ≡ Some p → (length p.code.items < 2 ^ 32) × ((is : List InstrData) × AreInstrs p.code.items is) }
-    ensures grows { OnOk result (GrowsObject scene.now.objects.now home.now.«module» home.now.object.now text (map procedure_of procedures.now) listing.old listing.new) }
+    requires sound { (k : ℕ) (p : ProcData) → slice_get procedures.now k ≡ Some p
+        → (length p.code.items < 2 ^ 32) × ((is : List InstrData) × AreInstrs p.code.items is) }
+    ensures grows { OnOk result (GrowsObject scene.now.objects.now home.now.«module» home.now.object.now text
+        (map procedure_of procedures.now) listing.old listing.new) }
     ensures text { IfOk result (λ t. t ≡ text + data_in (map procedure_of procedures.now)) }
 {
     let mut at = text;
@@ -195,7 +203,8 @@ fn add_object(
     requires program { IsProgram scene.now.objects.now }
     requires within { m < length scene.now.objects.now }
     requires text { text + data_in (at_object scene.now.objects.now m).procedures < 2 ^ 60 }
-    ensures grows { OnOk result (GrowsObject scene.now.objects.now m (at_object scene.now.objects.now m) text (at_object scene.now.objects.now m).procedures listing.old listing.new) }
+    ensures grows { OnOk result (GrowsObject scene.now.objects.now m (at_object scene.now.objects.now m) text
+        (at_object scene.now.objects.now m).procedures listing.old listing.new) }
     ensures text { IfOk result (λ t. t ≡ text + data_in (at_object scene.now.objects.now m).procedures) }
 {
     let object = &scene.objects[m];

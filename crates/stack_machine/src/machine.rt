@@ -71,7 +71,8 @@ fn go_on<P: Sink, K: Source>(
 ) -> End
     requires stands { Stands full code.now core.old }
     ensures stands { Stands full code.now core.new }
-    ensures ends { IfSome (K.left keys.old) (λ input. EndsFrom result (program_of code.now) most (now_of full core.old) (now_of full core.new) input (P.written print.old) (P.written print.new) (K.left keys.new)) }
+    ensures ends { IfSome (K.left keys.old) (λ input. EndsFrom result (program_of code.now) most (now_of full core.old)
+        (now_of full core.new) input (P.written print.old) (P.written print.new) (K.left keys.new)) }
     ensures placed { IsPlaced result (program_of code.now) }
     ensures write_failed { result ≡ End.WriteFailed → Rose (P.faults print.old) (P.faults print.new) }
     ensures read_failed { result ≡ End.ReadFailed → Rose (K.faults keys.old) (K.faults keys.new) }
@@ -112,7 +113,8 @@ impl Machine {
 
     /// Makes at most so many steps, and says how they ended.
     pub fn run<P: Sink, K: Source>(&mut self, most: u64, print: &mut P, keys: &mut K) -> End
-        ensures ends { IfSome (K.left keys.old) (λ input. EndsFrom result self.old.code most self.old.now self.new.now input (P.written print.old) (P.written print.new) (K.left keys.new)) }
+        ensures ends { IfSome (K.left keys.old) (λ input. EndsFrom result self.old.code most self.old.now self.new.now
+            input (P.written print.old) (P.written print.new) (K.left keys.new)) }
         ensures trap_within { TrapsWithin result (length self.old.objects) }
         // It fails only where a count of faults rose.
         ensures write_failed { result ≡ End.WriteFailed → Rose (P.faults print.old) (P.faults print.new) }

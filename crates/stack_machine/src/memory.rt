@@ -1,11 +1,14 @@
 //! Cells and addresses.
-ghost use Rattle.std.specs.Prelude.{◌≡◌, ◌<◌, ◌≤◌, ◌-◌, ◌^◌, ◌+◌, ◌*◌, ◌+ℤ◌, ◌-ℤ◌, pos, length, slice_set, Some, IfSome, IfNone, ◌≤ℤ◌, ◌<ℤ◌};
+ghost use Rattle.std.specs.Prelude.{◌≡◌, ◌<◌, ◌≤◌, ◌-◌, ◌^◌, ◌+◌, ◌*◌, ◌+ℤ◌, ◌-ℤ◌, pos, length, slice_set, Some};
+ghost use Rattle.std.specs.Prelude.{IfSome, IfNone, ◌≤ℤ◌, ◌<ℤ◌};
 ghost use Rattle.std.specs.List.{copy_within};
 ghost use Rattle.stack_machine.specs.Able.{HasRoom, CanDo, Comes};
 ghost use Rattle.stack_machine.specs.Numbers.{below, count_of};
 ghost use Rattle.stack_machine.specs.State.{state_of};
-ghost use Rattle.stack_machine.specs.Step.{cell_at, part_at, source_at, cleared, cell_of, made, indexed, allocated, copied, open_copied, does, empty, nothing};
-ghost use Rattle.stack_machine.specs.declared.op.Op.TheVariants.{Load, Store, Move, Offset, Index, IndexOpen, Nil, New, OpenCopy};
+ghost use Rattle.stack_machine.specs.Step.{cell_at, part_at, source_at, cleared, cell_of, made, indexed, allocated};
+ghost use Rattle.stack_machine.specs.Step.{copied, open_copied, does, empty, nothing};
+ghost use Rattle.stack_machine.specs.declared.op.Op.TheVariants.{Load, Store, Move, Offset, Index, IndexOpen, Nil};
+ghost use Rattle.stack_machine.specs.declared.op.Op.TheVariants.{New, OpenCopy};
 
 use crate::arithmetic::zero;
 use crate::core_state::Core;
@@ -30,7 +33,8 @@ pub(crate) fn cell(cells: &[i64], address: i64) -> Option<usize>
 #[tactic(auto, unfolding(crate::specs::Step::does))]
 pub(crate) fn load(core: &mut Core) -> Next
     requires able { CanDo core.old 1 }
-    ensures comes { Comes result (does empty nothing Load (state_of core.old)) (state_of core.old) (state_of core.new) }
+    ensures comes { Comes result (does empty nothing Load (state_of core.old)) (state_of core.old)
+        (state_of core.new) }
     ensures room { HasRoom core.new }
 {
     match cell(&core.cells, operand(core, 0)) {
@@ -46,7 +50,8 @@ pub(crate) fn load(core: &mut Core) -> Next
 #[tactic(auto, using(crate::proofs::OperandLaws::below_is), unfolding(crate::specs::Step::does))]
 pub(crate) fn store(core: &mut Core) -> Next
     requires able { CanDo core.old 2 }
-    ensures comes { Comes result (does empty nothing Store (state_of core.old)) (state_of core.old) (state_of core.new) }
+    ensures comes { Comes result (does empty nothing Store (state_of core.old)) (state_of core.old)
+        (state_of core.new) }
     ensures room { HasRoom core.new }
 {
     match cell(&core.cells, operand(core, 1)) {
@@ -83,7 +88,8 @@ fn copy(cells: &mut [i64], from: usize, n: usize, to: usize)
 #[tactic(auto, unfolding(crate::specs::Step::does))]
 pub(crate) fn copy_cells(core: &mut Core, n: u32) -> Next
     requires able { CanDo core.old 2 }
-    ensures comes { Comes result (does empty nothing (Move n) (state_of core.old)) (state_of core.old) (state_of core.new) }
+    ensures comes { Comes result (does empty nothing (Move n) (state_of core.old)) (state_of core.old)
+        (state_of core.new) }
     ensures room { HasRoom core.new }
 {
     if n == 0 {
@@ -128,7 +134,8 @@ fn give_address(core: &mut Core, n: usize, a: Option<usize>) -> Next
 #[tactic(auto, unfolding(crate::specs::Step::does))]
 pub(crate) fn offset(core: &mut Core, n: u32) -> Next
     requires able { CanDo core.old 1 }
-    ensures comes { Comes result (does empty nothing (Offset n) (state_of core.old)) (state_of core.old) (state_of core.new) }
+    ensures comes { Comes result (does empty nothing (Offset n) (state_of core.old)) (state_of core.old)
+        (state_of core.new) }
     ensures room { HasRoom core.new }
 {
     let a = reach(operand(core, 0), n as u64, core.cells.len());
@@ -157,7 +164,8 @@ fn product(k: u32, size: u32) -> u64
 #[inline(always)]
 fn index_at(core: &mut Core, n: usize, address: i64, size: u32, k: Option<u32>) -> Next
     requires able { CanDo core.old n }
-    ensures comes { Comes result (indexed (state_of core.old) n address size k) (state_of core.old) (state_of core.new) }
+    ensures comes { Comes result (indexed (state_of core.old) n address size k) (state_of core.old)
+        (state_of core.new) }
     ensures room { HasRoom core.new }
 {
     let Some(k) = k else {
@@ -171,7 +179,8 @@ fn index_at(core: &mut Core, n: usize, address: i64, size: u32, k: Option<u32>) 
 #[tactic(auto, unfolding(crate::specs::Step::does))]
 pub(crate) fn index(core: &mut Core, low: i64, n: u32, size: u32) -> Next
     requires able { CanDo core.old 2 }
-    ensures comes { Comes result (does empty nothing (Index low n size) (state_of core.old)) (state_of core.old) (state_of core.new) }
+    ensures comes { Comes result (does empty nothing (Index low n size) (state_of core.old)) (state_of core.old)
+        (state_of core.new) }
     ensures room { HasRoom core.new }
 {
     let k = within(operand(core, 0), low, n);
@@ -194,7 +203,8 @@ fn element(i: i64, high: i64) -> Option<u64>
 fn open_index_at(core: &mut Core, address: i64, size: u32, k: Option<u64>) -> Next
     requires able { CanDo core.old 3 }
     requires small { IfSome k (λ k. k < 2 ^ 63) }
-    ensures comes { Comes result (indexed (state_of core.old) 3 address size k) (state_of core.old) (state_of core.new) }
+    ensures comes { Comes result (indexed (state_of core.old) 3 address size k) (state_of core.old)
+        (state_of core.new) }
     ensures room { HasRoom core.new }
 {
     let Some(k) = k else {
@@ -221,7 +231,8 @@ fn wide_reach(address: i64, far: i128, cells: usize) -> Option<usize>
 #[tactic(auto, unfolding(crate::specs::Step::does))]
 pub(crate) fn open_index(core: &mut Core, size: u32) -> Next
     requires able { CanDo core.old 3 }
-    ensures comes { Comes result (does empty nothing (IndexOpen size) (state_of core.old)) (state_of core.old) (state_of core.new) }
+    ensures comes { Comes result (does empty nothing (IndexOpen size) (state_of core.old)) (state_of core.old)
+        (state_of core.new) }
     ensures room { HasRoom core.new }
 {
     let k = element(operand(core, 0), operand(core, 1));
@@ -336,7 +347,8 @@ fn copy_open(core: &mut Core, n: usize, o: u32, from: usize) -> Next
 pub(crate) fn open_copy(core: &mut Core, o: u32, size: u32) -> Next
     requires able { CanDo core.old 0 }
     requires local { core.old.base + o + 1 < core.old.top }
-    ensures comes { Comes result (does empty nothing (OpenCopy o size) (state_of core.old)) (state_of core.old) (state_of core.new) }
+    ensures comes { Comes result (does empty nothing (OpenCopy o size) (state_of core.old)) (state_of core.old)
+        (state_of core.new) }
     ensures room { HasRoom core.new }
 {
     let cell = core.base + o as usize;

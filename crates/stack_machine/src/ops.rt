@@ -2,7 +2,8 @@
 ghost use Rattle.std.specs.Prelude.{◌≡◌, ◌<◌, ◌+◌, ◌^◌, map, length, slice_get};
 ghost use Rattle.std.specs.List.{slice_index_or};
 ghost use Rattle.stack_machine.specs.InOut.{services};
-ghost use Rattle.stack_machine.specs.Loading.{cell_of, number_of, exported_in, heading_of, heading_value, value_of, service_of, call_of, kind_of, trap_of, target_of, op_by};
+ghost use Rattle.stack_machine.specs.Loading.{cell_of, number_of, exported_in, heading_of, heading_value, value_of};
+ghost use Rattle.stack_machine.specs.Loading.{service_of, call_of, kind_of, trap_of, target_of, op_by};
 ghost use Rattle.stack_machine.specs.Sites.{IsScene, IsOn, spot_of, site_in};
 
 use crate::act::SERVICES;

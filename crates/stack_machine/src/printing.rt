@@ -1,9 +1,11 @@
 //! What InOut prints.
-ghost use Rattle.std.specs.Prelude.{◌≡◌, ◌≤◌, ◌<◌, ◌^◌, ◌∷◌, [], OnOk, OnErr, IfOk, true, ℤ, pos, length, replicate, decimal};
+ghost use Rattle.std.specs.Prelude.{◌≡◌, ◌≤◌, ◌<◌, ◌^◌, ◌∷◌, [], OnOk, OnErr, IfOk, true, ℤ, pos, length, replicate};
+ghost use Rattle.std.specs.Prelude.{decimal};
 ghost use Rattle.m2_io.specs.Causes.{Rose};
 ghost use Rattle.m2_io.specs.Written.{with_bytes, WritesPart};
 ghost use Rattle.stack_machine.specs.Able.{HasRoom};
-ghost use Rattle.stack_machine.specs.InOut.{char_at as character, IsThere, number_digits, text_at, text_from, padded, number_text, string_of, printed, params_of, is_width, can_go_on, Reads};
+ghost use Rattle.stack_machine.specs.InOut.{char_at as character, IsThere, number_digits, text_at, text_from, padded};
+ghost use Rattle.stack_machine.specs.InOut.{number_text, string_of, printed, params_of, is_width, can_go_on, Reads};
 ghost use Rattle.stack_machine.specs.Numbers.{low_bits, count_of};
 ghost use Rattle.stack_machine.specs.Operands.{top_of};
 ghost use Rattle.stack_machine.specs.State.{state_of};
@@ -60,7 +62,8 @@ fn write_text<P: Sink>(print: &mut P, cells: &[i64], n: u64, at: usize) -> Resul
     requires { length cells.now < 2 ^ 32 }
     ensures whole { IfOk result (λ whole. whole ≡ (text_at cells.now n at).whole) }
     ensures ok { OnOk result (P.written print.new ≡ with_bytes (P.written print.old) (text_at cells.now n at).bytes) }
-    ensures err { OnErr result (WritesPart (P.written print.old) (text_at cells.now n at).bytes (P.written print.new)) }
+    ensures err { OnErr result
+        (WritesPart (P.written print.old) (text_at cells.now n at).bytes (P.written print.new)) }
     ensures failed { OnErr result (Rose (P.faults print.old) (P.faults print.new)) }
     ensures later { P.faults print.old ≤ P.faults print.new }
 {
@@ -94,8 +97,10 @@ fn write_from<P: Sink>(
 ) -> Result<bool, SinkError>
     requires { length cells.now < 2 ^ 32 }
     ensures whole { IfOk result (λ whole. whole ≡ (text_from cells.now n address).whole) }
-    ensures ok { OnOk result (P.written print.new ≡ with_bytes (P.written print.old) (text_from cells.now n address).bytes) }
-    ensures err { OnErr result (WritesPart (P.written print.old) (text_from cells.now n address).bytes (P.written print.new)) }
+    ensures ok { OnOk result
+        (P.written print.new ≡ with_bytes (P.written print.old) (text_from cells.now n address).bytes) }
+    ensures err { OnErr result
+        (WritesPart (P.written print.old) (text_from cells.now n address).bytes (P.written print.new)) }
     ensures failed { OnErr result (Rose (P.faults print.old) (P.faults print.new)) }
     ensures later { P.faults print.old ≤ P.faults print.new }
 {
@@ -186,8 +191,10 @@ fn write_number<P: Sink>(print: &mut P, core: &Core) -> Result<bool, SinkError>
     requires there { 2 ≤ core.now.sp }
     requires room { HasRoom core.now }
     ensures width { IfOk result (λ ok. ok ≡ is_width (top_of 0 (state_of core.now).operands)) }
-    ensures ok { OnOk result (P.written print.new ≡ with_bytes (P.written print.old) (number_text (state_of core.now).operands)) }
-    ensures err { OnErr result (WritesPart (P.written print.old) (number_text (state_of core.now).operands) (P.written print.new)) }
+    ensures ok { OnOk result
+        (P.written print.new ≡ with_bytes (P.written print.old) (number_text (state_of core.now).operands)) }
+    ensures err { OnErr result
+        (WritesPart (P.written print.old) (number_text (state_of core.now).operands) (P.written print.new)) }
     ensures failed { OnErr result (Rose (P.faults print.old) (P.faults print.new)) }
     ensures later { P.faults print.old ≤ P.faults print.new }
 {
@@ -203,9 +210,12 @@ fn write_number<P: Sink>(print: &mut P, core: &Core) -> Result<bool, SinkError>
 fn write_string<P: Sink>(print: &mut P, core: &Core) -> Result<bool, SinkError>
     requires there { 2 ≤ core.now.sp }
     requires room { HasRoom core.now }
-    ensures whole { IfOk result (λ whole. whole ≡ (string_of core.now.cells.items (state_of core.now).operands).whole) }
-    ensures ok { OnOk result (P.written print.new ≡ with_bytes (P.written print.old) (string_of core.now.cells.items (state_of core.now).operands).bytes) }
-    ensures err { OnErr result (WritesPart (P.written print.old) (string_of core.now.cells.items (state_of core.now).operands).bytes (P.written print.new)) }
+    ensures whole { IfOk result
+        (λ whole. whole ≡ (string_of core.now.cells.items (state_of core.now).operands).whole) }
+    ensures ok { OnOk result (P.written print.new
+        ≡ with_bytes (P.written print.old) (string_of core.now.cells.items (state_of core.now).operands).bytes) }
+    ensures err { OnErr result (WritesPart (P.written print.old)
+        (string_of core.now.cells.items (state_of core.now).operands).bytes (P.written print.new)) }
     ensures failed { OnErr result (Rose (P.faults print.old) (P.faults print.new)) }
     ensures later { P.faults print.old ≤ P.faults print.new }
 {
@@ -225,7 +235,8 @@ fn hand_on<P: Sink>(print: &mut P) -> Result<bool, SinkError>
     Ok(true)
 }
 
-/// Writes what a procedure prints, or hands on what the sink keeps back where the procedure reads; and says whether it can go on.
+/// Writes what a procedure prints, or hands on what the sink keeps back where the procedure reads;
+/// and says whether it can go on.
 pub(crate) fn print<P: Sink>(
     service: Service,
     print: &mut P,
@@ -234,8 +245,10 @@ pub(crate) fn print<P: Sink>(
     requires there { params_of service ≤ core.now.sp }
     requires room { HasRoom core.now }
     ensures goes { IfOk result (λ ok. ok ≡ can_go_on service core.now.cells.items (state_of core.now).operands) }
-    ensures ok { OnOk result (P.written print.new ≡ with_bytes (P.written print.old) (printed service core.now.cells.items (state_of core.now).operands)) }
-    ensures err { OnErr result (WritesPart (P.written print.old) (printed service core.now.cells.items (state_of core.now).operands) (P.written print.new)) }
+    ensures ok { OnOk result (P.written print.new
+        ≡ with_bytes (P.written print.old) (printed service core.now.cells.items (state_of core.now).operands)) }
+    ensures err { OnErr result (WritesPart (P.written print.old)
+        (printed service core.now.cells.items (state_of core.now).operands) (P.written print.new)) }
     ensures handed { OnOk result (Reads service → P.kept print.new ≡ 0) }
     ensures failed { OnErr result (Rose (P.faults print.old) (P.faults print.new)) }
     ensures later { P.faults print.old ≤ P.faults print.new }

@@ -1,9 +1,13 @@
 //! What InOut reads.
-ghost use Rattle.std.specs.Prelude.{◌≡◌, ◌≢◌, IsTrue, ◌≤◌, ◌<◌, ◌+◌, ◌-◌, ◌*◌, ◌^◌, ◌++◌, ℕ, List, IfOk, OnOk, OnErr, IfSome, Some, None, Option, min, drop, slice_get, option_map, pos};
+ghost use Rattle.std.specs.Prelude.{◌≡◌, ◌≢◌, IsTrue, ◌≤◌, ◌<◌, ◌+◌, ◌-◌, ◌*◌, ◌^◌, ◌++◌, ℕ, List, IfOk, OnOk, OnErr};
+ghost use Rattle.std.specs.Prelude.{IfSome, Some, None, Option, min, drop, slice_get, option_map, pos};
 ghost use Rattle.std.specs.Option.{option_to_list};
 ghost use Rattle.m2_io.specs.Causes.{Rose};
-ghost use Rattle.stack_machine.specs.InOut.{is_blank as blank, is_digit as digit, is_sign as sign, byte_of, got_by, number_of, Reads};
-ghost use Rattle.stack_machine.specs.Readings.{Taken, Moves, IsOver, budget, next_is, most, value_by, number_after, sign_at, digit_at, ahead_by, reading_by, IsReading, Passed, Signed, Digits};
+ghost use Rattle.stack_machine.specs.InOut.{is_blank as blank, is_digit as digit, is_sign as sign, byte_of, got_by};
+ghost use Rattle.stack_machine.specs.InOut.{number_of, Reads};
+ghost use Rattle.stack_machine.specs.Readings.{Taken, Moves, IsOver, budget, next_is, most, value_by, number_after};
+ghost use Rattle.stack_machine.specs.Readings.{sign_at, digit_at, ahead_by, reading_by, IsReading, Passed, Signed};
+ghost use Rattle.stack_machine.specs.Readings.{Digits};
 
 use crate::arithmetic::fits;
 use crate::op::{Kind, Service};
@@ -21,7 +25,8 @@ pub(crate) struct Reading {
 
 /// The next byte, if there is one.
 fn next_byte<K: Source>(keys: &mut K) -> Result<Option<u8>, SourceError>
-    ensures byte { IfOk result (λ o. IfSome (K.left keys.old) (λ l. (o ≡ slice_get l 0) × (K.left keys.new ≡ Some (drop 1 l)))) }
+    ensures byte { IfOk result
+        (λ o. IfSome (K.left keys.old) (λ l. (o ≡ slice_get l 0) × (K.left keys.new ≡ Some (drop 1 l)))) }
     ensures err { OnErr result (K.left keys.new ≡ K.left keys.old) }
     ensures failed { OnErr result (Rose (K.faults keys.old) (K.faults keys.new)) }
     ensures later { K.faults keys.old ≤ K.faults keys.new }
@@ -97,8 +102,10 @@ fn next_is_blank(ahead: Ahead) -> bool
 /// Passes over blanks.
 #[tactic(auto, using(crate::proofs::Taking::passing_starts, crate::proofs::Taking::passed_there))]
 fn pass_blanks<K: Source>(ahead: &mut Ahead, keys: &mut K) -> Result<(), SourceError>
-    ensures passed { OnOk result (IfSome (K.left keys.old) (λ l. IsOver ahead.old l → Passed blank ahead.old l ahead.new (K.left keys.new))) }
-    ensures err { OnErr result (IfSome (K.left keys.old) (λ l. IsOver ahead.old l → (n : ℕ) × (K.left keys.new ≡ Some (drop n l)))) }
+    ensures passed { OnOk result
+        (IfSome (K.left keys.old) (λ l. IsOver ahead.old l → Passed blank ahead.old l ahead.new (K.left keys.new))) }
+    ensures err { OnErr result
+        (IfSome (K.left keys.old) (λ l. IsOver ahead.old l → (n : ℕ) × (K.left keys.new ≡ Some (drop n l)))) }
     ensures failed { OnErr result (Rose (K.faults keys.old) (K.faults keys.new)) }
     ensures later { K.faults keys.old ≤ K.faults keys.new }
 {
@@ -121,8 +128,10 @@ fn next_sign(kind: Kind, ahead: Ahead) -> Option<u8>
 /// Takes a sign, and says whether it is -.
 #[tactic(auto, using(crate::proofs::Taking::sign_there, crate::proofs::Taking::signed_none, crate::proofs::Taking::signed_some))]
 fn take_sign<K: Source>(kind: Kind, ahead: &mut Ahead, keys: &mut K) -> Result<bool, SourceError>
-    ensures signed { IfOk result (λ negative. IfSome (K.left keys.old) (λ l. IsOver ahead.old l → Signed kind negative ahead.old l ahead.new (K.left keys.new))) }
-    ensures err { OnErr result (IfSome (K.left keys.old) (λ l. IsOver ahead.old l → (n : ℕ) × (K.left keys.new ≡ Some (drop n l)))) }
+    ensures signed { IfOk result (λ negative. IfSome (K.left keys.old)
+        (λ l. IsOver ahead.old l → Signed kind negative ahead.old l ahead.new (K.left keys.new))) }
+    ensures err { OnErr result
+        (IfSome (K.left keys.old) (λ l. IsOver ahead.old l → (n : ℕ) × (K.left keys.new ≡ Some (drop n l)))) }
     ensures failed { OnErr result (Rose (K.faults keys.old) (K.faults keys.new)) }
     ensures later { K.faults keys.old ≤ K.faults keys.new }
 {
@@ -159,9 +168,11 @@ fn next_digit(ahead: Ahead) -> Option<u8>
 /// Takes all digits, and gives their number, if there is one.
 #[tactic(auto, using(crate::proofs::Taking::digits_start, crate::proofs::Taking::digit_there, crate::proofs::Taking::digit_is))]
 fn take_digits<K: Source>(ahead: &mut Ahead, keys: &mut K) -> Result<Option<u64>, SourceError>
-    ensures digits { IfOk result (λ number. IfSome (K.left keys.old) (λ l. IsOver ahead.old l → Digits number ahead.old l ahead.new (K.left keys.new))) }
+    ensures digits { IfOk result (λ number.
+        IfSome (K.left keys.old) (λ l. IsOver ahead.old l → Digits number ahead.old l ahead.new (K.left keys.new))) }
     ensures most { IfOk result (λ number. IfSome number (λ n. n ≤ most)) }
-    ensures err { OnErr result (IfSome (K.left keys.old) (λ l. IsOver ahead.old l → (n : ℕ) × (K.left keys.new ≡ Some (drop n l)))) }
+    ensures err { OnErr result
+        (IfSome (K.left keys.old) (λ l. IsOver ahead.old l → (n : ℕ) × (K.left keys.new ≡ Some (drop n l)))) }
     ensures failed { OnErr result (Rose (K.faults keys.old) (K.faults keys.new)) }
     ensures later { K.faults keys.old ≤ K.faults keys.new }
 {
@@ -186,7 +197,8 @@ fn value(kind: Kind, negative: bool, number: Option<u64>) -> Option<i64>
 /// The first byte, which may have been kept.
 #[tactic(auto, using(crate::proofs::Numbering::kept_first))]
 fn first_byte<K: Source>(kept: Option<u8>, keys: &mut K) -> Result<Option<u8>, SourceError>
-    ensures byte { IfOk result (λ o. IfSome (K.left keys.old) (λ l. (o ≡ slice_get (option_to_list kept ++ l) 0) × (K.left keys.new ≡ Some (drop 1 (option_to_list kept ++ l))))) }
+    ensures byte { IfOk result (λ o. IfSome (K.left keys.old) (λ l.
+        (o ≡ slice_get (option_to_list kept ++ l) 0) × (K.left keys.new ≡ Some (drop 1 (option_to_list kept ++ l))))) }
     ensures err { OnErr result (K.left keys.new ≡ K.left keys.old) }
     ensures failed { OnErr result (Rose (K.faults keys.old) (K.faults keys.new)) }
     ensures later { K.faults keys.old ≤ K.faults keys.new }
@@ -235,7 +247,8 @@ fn read_number<K: Source>(
     kept: Option<u8>,
     keys: &mut K,
 ) -> Result<Reading, SourceError>
-    ensures ok { IfOk result (λ r. IfSome (K.left keys.old) (λ l. IsReading r (number_of kind (option_to_list kept ++ l)) (K.left keys.new))) }
+    ensures ok { IfOk result (λ r.
+        IfSome (K.left keys.old) (λ l. IsReading r (number_of kind (option_to_list kept ++ l)) (K.left keys.new))) }
     ensures err { OnErr result (Taken (K.left keys.old) (K.left keys.new)) }
     ensures failed { OnErr result (Rose (K.faults keys.old) (K.faults keys.new)) }
     ensures later { K.faults keys.old ≤ K.faults keys.new }
@@ -256,7 +269,8 @@ pub(crate) fn read<P: Sink, K: Source>(
     keys: &mut K,
 ) -> Result<Reading, SourceError>
     requires handed { Reads service → P.kept print.now ≡ 0 }
-    ensures ok { IfOk result (λ r. IfSome (K.left keys.old) (λ l. IsReading r (got_by service kept l) (K.left keys.new))) }
+    ensures ok { IfOk result
+        (λ r. IfSome (K.left keys.old) (λ l. IsReading r (got_by service kept l) (K.left keys.new))) }
     ensures err { OnErr result (Taken (K.left keys.old) (K.left keys.new)) }
     ensures reads { OnErr result (Reads service) }
     ensures failed { OnErr result (Rose (K.faults keys.old) (K.faults keys.new)) }
@@ -283,7 +297,8 @@ fn none_read(kept: Option<u8>) -> Reading
 
 /// Reads one byte.
 fn read_byte<K: Source>(kept: Option<u8>, keys: &mut K) -> Result<Reading, SourceError>
-    ensures ok { IfOk result (λ r. IfSome (K.left keys.old) (λ l. IsReading r (byte_of (option_to_list kept ++ l)) (K.left keys.new))) }
+    ensures ok { IfOk result
+        (λ r. IfSome (K.left keys.old) (λ l. IsReading r (byte_of (option_to_list kept ++ l)) (K.left keys.new))) }
     ensures err { OnErr result (Taken (K.left keys.old) (K.left keys.new)) }
     ensures failed { OnErr result (Rose (K.faults keys.old) (K.faults keys.new)) }
     ensures later { K.faults keys.old ≤ K.faults keys.new }

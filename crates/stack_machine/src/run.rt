@@ -1,5 +1,6 @@
 //! Runs.
-ghost use Rattle.std.specs.Prelude.{◌≡◌, ◌≤◌, ◌<◌, None, Some, ℕ, List, [], length, slice_get, IfOk, IfErr, OnErr, IfSome, option_map};
+ghost use Rattle.std.specs.Prelude.{◌≡◌, ◌≤◌, ◌<◌, None, Some, ℕ, List, [], length, slice_get, IfOk, IfErr, OnErr};
+ghost use Rattle.std.specs.Prelude.{IfSome, option_map};
 ghost use Rattle.m2_io.specs.Causes.{Rose};
 ghost use Rattle.stack_machine.specs.Able.{HasRoom, CanDo, Comes};
 ghost use Rattle.stack_machine.specs.InOut.{Got, params_of, printed, can_go_on, Reads};
@@ -10,7 +11,8 @@ ghost use Rattle.stack_machine.specs.Ready.{Ready};
 ghost use Rattle.stack_machine.specs.Runs.{asked_by, asked, prints_by, service_in, Ends};
 ghost use Rattle.stack_machine.specs.State.{state_of, program_of};
 ghost use Rattle.stack_machine.specs.Step.{served, step, takes, callee_of};
-ghost use Rattle.stack_machine.specs.Stepping.{Serves, ServedSo, HasServed, Stepped, Broken, FailedWith, IsFramed, IsTrapped, IsEnded, failed_end, is_going};
+ghost use Rattle.stack_machine.specs.Stepping.{Serves, ServedSo, HasServed, Stepped, Broken, FailedWith, IsFramed};
+ghost use Rattle.stack_machine.specs.Stepping.{IsTrapped, IsEnded, failed_end, is_going};
 
 use crate::act::{act, callee};
 use crate::code::{Callee, Code};
@@ -76,8 +78,10 @@ fn service_called(code: &Code, core: &Core, n: u32, r: u32) -> Option<Service>
 fn asked_for(code: &Code, core: &Core, op: &Op) -> Option<Asked>
     requires there { takes op.now ≤ core.now.sp }
     requires room { HasRoom core.now }
-    ensures service { option_map (λ x. x.service) result ≡ asked_by (program_of code.now) (Some op.now) (state_of core.now) }
-    ensures serves { IfSome result (λ x. Serves (program_of code.now) op.now (state_of core.now) x.service x.operands) }
+    ensures service { option_map (λ x. x.service) result
+        ≡ asked_by (program_of code.now) (Some op.now) (state_of core.now) }
+    ensures serves { IfSome result
+        (λ x. Serves (program_of code.now) op.now (state_of core.now) x.service x.operands) }
 {
     match *op {
         Op::CallService(service) => Some(Asked {
@@ -109,8 +113,10 @@ fn read_and_serve<P: Sink, K: Source>(
     requires some { params_of service ≤ n }
     requires done { 1 < length core.old.cells.items }
     requires goes_on { goes_on ≡ can_go_on service core.old.cells.items (state_of core.old).operands }
-    ensures comes { IfOk result (λ next. (got : Got) × Comes next (served service n got (state_of core.old)) (state_of core.old) (state_of core.new)) }
-    ensures told { IfOk result (λ next. IfSome (K.left keys.old) (λ l. ServedSo service n (state_of core.old) next (state_of core.new) l (K.left keys.new))) }
+    ensures comes { IfOk result (λ next.
+        (got : Got) × Comes next (served service n got (state_of core.old)) (state_of core.old) (state_of core.new)) }
+    ensures told { IfOk result (λ next. IfSome (K.left keys.old)
+        (λ l. ServedSo service n (state_of core.old) next (state_of core.new) l (K.left keys.new))) }
     ensures same { OnErr result (state_of core.new ≡ state_of core.old) }
     ensures taken { OnErr result (Taken (K.left keys.old) (K.left keys.new)) }
     ensures which { IfErr result (λ e. e ≡ Failure.Read) }
@@ -136,11 +142,15 @@ fn call_service<P: Sink, K: Source>(
     requires able { CanDo core.old n }
     requires some { params_of service ≤ n }
     requires done { 1 < length core.old.cells.items }
-    ensures comes { IfOk result (λ next. (got : Got) × Comes next (served service n got (state_of core.old)) (state_of core.old) (state_of core.new)) }
-    ensures told { IfOk result (λ next. IfSome (K.left keys.old) (λ l. HasServed service n (state_of core.old) next (state_of core.new) l (P.written print.old) (P.written print.new) (K.left keys.new))) }
+    ensures comes { IfOk result (λ next.
+        (got : Got) × Comes next (served service n got (state_of core.old)) (state_of core.old) (state_of core.new)) }
+    ensures told { IfOk result (λ next. IfSome (K.left keys.old) (λ l. HasServed service n (state_of core.old) next
+        (state_of core.new) l (P.written print.old) (P.written print.new) (K.left keys.new))) }
     ensures same { OnErr result (state_of core.new ≡ state_of core.old) }
-    ensures broken { OnErr result (IfSome (K.left keys.old) (λ l. Broken (printed service core.old.cells.items (state_of core.old).operands) l (P.written print.old) (P.written print.new) (K.left keys.new))) }
-    ensures failed { IfErr result (λ e. FailedWith e (P.faults print.old) (P.faults print.new) (K.faults keys.old) (K.faults keys.new)) }
+    ensures broken { OnErr result (IfSome (K.left keys.old) (λ l. Broken (printed service core.old.cells.items
+        (state_of core.old).operands) l (P.written print.old) (P.written print.new) (K.left keys.new))) }
+    ensures failed { IfErr result
+        (λ e. FailedWith e (P.faults print.old) (P.faults print.new) (K.faults keys.old) (K.faults keys.new)) }
     ensures handed { IfErr result (λ e. e ≡ Failure.Read → P.kept print.new ≡ 0) }
     ensures prints_later { P.faults print.old ≤ P.faults print.new }
     ensures reads_later { K.faults keys.old ≤ K.faults keys.new }
@@ -164,10 +174,14 @@ fn one_step<P: Sink, K: Source>(
     requires ready { Ready code.now core.old }
     ensures ready { Ready code.now core.new }
     ensures framed { IfOk result (λ next. IsFramed next (length code.now.origins.items)) }
-    ensures told { IfOk result (λ next. IfSome (K.left keys.old) (λ l. Stepped (program_of code.now) (state_of core.old) next (state_of core.new) l (P.written print.old) (P.written print.new) (K.left keys.new))) }
+    ensures told { IfOk result
+        (λ next. IfSome (K.left keys.old) (λ l. Stepped (program_of code.now) (state_of core.old) next
+        (state_of core.new) l (P.written print.old) (P.written print.new) (K.left keys.new))) }
     ensures same { OnErr result (state_of core.new ≡ state_of core.old) }
-    ensures broken { OnErr result (IfSome (K.left keys.old) (λ l. Broken (prints_by (asked (program_of code.now) (state_of core.old)) (state_of core.old)) l (P.written print.old) (P.written print.new) (K.left keys.new))) }
-    ensures failed { IfErr result (λ e. FailedWith e (P.faults print.old) (P.faults print.new) (K.faults keys.old) (K.faults keys.new)) }
+    ensures broken { OnErr result (IfSome (K.left keys.old) (λ l. Broken (prints_by (asked (program_of code.now)
+        (state_of core.old)) (state_of core.old)) l (P.written print.old) (P.written print.new) (K.left keys.new))) }
+    ensures failed { IfErr result
+        (λ e. FailedWith e (P.faults print.old) (P.faults print.new) (K.faults keys.old) (K.faults keys.new)) }
     ensures handed { IfErr result (λ e. e ≡ Failure.Read → P.kept print.new ≡ 0) }
     ensures prints_later { P.faults print.old ≤ P.faults print.new }
     ensures reads_later { K.faults keys.old ≤ K.faults keys.new }
@@ -238,7 +252,8 @@ pub(crate) fn steps<P: Sink, K: Source>(
 ) -> End
     requires ready { Ready code.now core.old }
     ensures ready { Ready code.now core.new }
-    ensures ends { IfSome (K.left keys.old) (λ input. Ends result (program_of code.now) most (state_of core.old) (state_of core.new) input (P.written print.old) (P.written print.new) (K.left keys.new)) }
+    ensures ends { IfSome (K.left keys.old) (λ input. Ends result (program_of code.now) most (state_of core.old)
+        (state_of core.new) input (P.written print.old) (P.written print.new) (K.left keys.new)) }
     ensures placed { IsPlaced result (program_of code.now) }
     // It fails only where a count of faults rose.
     ensures write_failed { result ≡ End.WriteFailed → Rose (P.faults print.old) (P.faults print.new) }

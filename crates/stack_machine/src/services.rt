@@ -20,7 +20,8 @@ fn assign(core: &mut Core, n: usize, kept: Option<u8>, value: i64, done: i64) ->
     requires able { CanDo core.old n }
     requires some { 1 ≤ n }
     requires done { 1 < length core.old.cells.items }
-    ensures comes { Comes result (assigned (state_of core.old) n kept value done) (state_of core.old) (state_of core.new) }
+    ensures comes { Comes result (assigned (state_of core.old) n kept value done) (state_of core.old)
+        (state_of core.new) }
     ensures room { HasRoom core.new }
 {
     match cell(&core.cells, operand(core, 0)) {
@@ -39,7 +40,8 @@ fn assign_number(core: &mut Core, n: usize, reading: Reading) -> Next
     requires able { CanDo core.old n }
     requires some { 1 ≤ n }
     requires done { 1 < length core.old.cells.items }
-    ensures comes { Comes result (number_read (state_of core.old) n (got_of reading []) reading.value) (state_of core.old) (state_of core.new) }
+    ensures comes { Comes result (number_read (state_of core.old) n (got_of reading []) reading.value)
+        (state_of core.old) (state_of core.new) }
     ensures room { HasRoom core.new }
 {
     match reading.value {
@@ -64,7 +66,8 @@ pub(crate) fn serve(
     requires some { params_of service ≤ n }
     requires done { 1 < length core.old.cells.items }
     requires goes_on { goes_on ≡ can_go_on service core.old.cells.items (state_of core.old).operands }
-    ensures comes { Comes result (served service n (got_of reading []) (state_of core.old)) (state_of core.old) (state_of core.new) }
+    ensures comes { Comes result (served service n (got_of reading []) (state_of core.old)) (state_of core.old)
+        (state_of core.new) }
     ensures room { HasRoom core.new }
 {
     match service {

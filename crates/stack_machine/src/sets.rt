@@ -1,10 +1,12 @@
 //! Sets: the low 32 bits of a value.
 ghost use Rattle.std.specs.Prelude.{◌≡◌, ◌<◌, ◌≤◌, ◌-◌, ◌^◌, ◌+◌, pos, IfSome};
 ghost use Rattle.stack_machine.specs.Able.{HasRoom, CanDo, Comes};
-ghost use Rattle.stack_machine.specs.Numbers.{truth, below, set_of, union, difference, intersection, symmetric_difference, is_subset, is_in, span as set_span};
+ghost use Rattle.stack_machine.specs.Numbers.{truth, below, set_of, union, difference, intersection};
+ghost use Rattle.stack_machine.specs.Numbers.{symmetric_difference, is_subset, is_in, span as set_span};
 ghost use Rattle.stack_machine.specs.State.{state_of};
 ghost use Rattle.stack_machine.specs.Step.{does, empty, nothing};
-ghost use Rattle.stack_machine.specs.declared.op.Op.TheVariants.{Union, Diff, Inter, SymDiff, Subset, Superset, In, Bit, Span};
+ghost use Rattle.stack_machine.specs.declared.op.Op.TheVariants.{Union, Diff, Inter, SymDiff, Subset, Superset, In};
+ghost use Rattle.stack_machine.specs.declared.op.Op.TheVariants.{Bit, Span};
 
 use crate::arithmetic::as_value;
 use crate::core_state::Core;
@@ -101,7 +103,8 @@ fn bit(k: u32) -> i64
 #[tactic(auto, unfolding(crate::specs::Step::does))]
 pub(crate) fn unite(core: &mut Core) -> Next
     requires able { CanDo core.old 2 }
-    ensures comes { Comes result (does empty nothing Union (state_of core.old)) (state_of core.old) (state_of core.new) }
+    ensures comes { Comes result (does empty nothing Union (state_of core.old)) (state_of core.old)
+        (state_of core.new) }
     ensures room { HasRoom core.new }
 {
     let v = union(operand(core, 1), operand(core, 0));
@@ -112,7 +115,8 @@ pub(crate) fn unite(core: &mut Core) -> Next
 #[tactic(auto, unfolding(crate::specs::Step::does))]
 pub(crate) fn subtract_set(core: &mut Core) -> Next
     requires able { CanDo core.old 2 }
-    ensures comes { Comes result (does empty nothing Diff (state_of core.old)) (state_of core.old) (state_of core.new) }
+    ensures comes { Comes result (does empty nothing Diff (state_of core.old)) (state_of core.old)
+        (state_of core.new) }
     ensures room { HasRoom core.new }
 {
     let v = difference(operand(core, 1), operand(core, 0));
@@ -123,7 +127,8 @@ pub(crate) fn subtract_set(core: &mut Core) -> Next
 #[tactic(auto, unfolding(crate::specs::Step::does))]
 pub(crate) fn intersect(core: &mut Core) -> Next
     requires able { CanDo core.old 2 }
-    ensures comes { Comes result (does empty nothing Inter (state_of core.old)) (state_of core.old) (state_of core.new) }
+    ensures comes { Comes result (does empty nothing Inter (state_of core.old)) (state_of core.old)
+        (state_of core.new) }
     ensures room { HasRoom core.new }
 {
     let v = intersection(operand(core, 1), operand(core, 0));
@@ -134,7 +139,8 @@ pub(crate) fn intersect(core: &mut Core) -> Next
 #[tactic(auto, unfolding(crate::specs::Step::does))]
 pub(crate) fn exclusive(core: &mut Core) -> Next
     requires able { CanDo core.old 2 }
-    ensures comes { Comes result (does empty nothing SymDiff (state_of core.old)) (state_of core.old) (state_of core.new) }
+    ensures comes { Comes result (does empty nothing SymDiff (state_of core.old)) (state_of core.old)
+        (state_of core.new) }
     ensures room { HasRoom core.new }
 {
     let v = symmetric_difference(operand(core, 1), operand(core, 0));
@@ -145,7 +151,8 @@ pub(crate) fn exclusive(core: &mut Core) -> Next
 #[tactic(auto, unfolding(crate::specs::Step::does))]
 pub(crate) fn subset(core: &mut Core) -> Next
     requires able { CanDo core.old 2 }
-    ensures comes { Comes result (does empty nothing Subset (state_of core.old)) (state_of core.old) (state_of core.new) }
+    ensures comes { Comes result (does empty nothing Subset (state_of core.old)) (state_of core.old)
+        (state_of core.new) }
     ensures room { HasRoom core.new }
 {
     let v = as_value(is_subset(operand(core, 1), operand(core, 0)));
@@ -156,7 +163,8 @@ pub(crate) fn subset(core: &mut Core) -> Next
 #[tactic(auto, unfolding(crate::specs::Step::does))]
 pub(crate) fn superset(core: &mut Core) -> Next
     requires able { CanDo core.old 2 }
-    ensures comes { Comes result (does empty nothing Superset (state_of core.old)) (state_of core.old) (state_of core.new) }
+    ensures comes { Comes result (does empty nothing Superset (state_of core.old)) (state_of core.old)
+        (state_of core.new) }
     ensures room { HasRoom core.new }
 {
     let v = as_value(is_subset(operand(core, 0), operand(core, 1)));
@@ -191,7 +199,8 @@ pub(crate) fn single(core: &mut Core) -> Next
 #[tactic(auto, unfolding(crate::specs::Step::does))]
 pub(crate) fn range(core: &mut Core) -> Next
     requires able { CanDo core.old 2 }
-    ensures comes { Comes result (does empty nothing Span (state_of core.old)) (state_of core.old) (state_of core.new) }
+    ensures comes { Comes result (does empty nothing Span (state_of core.old)) (state_of core.old)
+        (state_of core.new) }
     ensures room { HasRoom core.new }
 {
     match (element(operand(core, 1)), element(operand(core, 0))) {

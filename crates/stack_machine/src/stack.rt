@@ -40,7 +40,8 @@ pub(crate) fn give(core: &mut Core, n: usize, v: i64) -> Next
 #[tactic(auto, using(crate::proofs::OperandLaws::below_is))]
 pub(crate) fn take(core: &mut Core, n: usize) -> Next
     requires able { CanDo core.old n }
-    ensures comes { Comes result (leaves (state_of core.old) n core.old.cells.items) (state_of core.old) (state_of core.new) }
+    ensures comes { Comes result (leaves (state_of core.old) n core.old.cells.items) (state_of core.old)
+        (state_of core.new) }
     ensures room { HasRoom core.new }
 {
     core.sp -= n;
@@ -52,7 +53,8 @@ pub(crate) fn take(core: &mut Core, n: usize) -> Next
 #[tactic(auto, unfolding(crate::specs::Step::does))]
 pub(crate) fn push(core: &mut Core, v: i64) -> Next
     requires able { CanDo core.old 0 }
-    ensures comes { Comes result (does empty nothing (Push v) (state_of core.old)) (state_of core.old) (state_of core.new) }
+    ensures comes { Comes result (does empty nothing (Push v) (state_of core.old)) (state_of core.old)
+        (state_of core.new) }
     ensures room { HasRoom core.new }
 {
     give(core, 0, v)

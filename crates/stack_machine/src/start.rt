@@ -3,7 +3,8 @@ ghost use Rattle.std.specs.Prelude.{◌≡◌, ◌<◌, ◌≤◌, ◌++◌, ◌
 ghost use Rattle.object_file.specs.Programs.{IsProgram};
 ghost use Rattle.object_file.specs.Views.{procedure_of};
 ghost use Rattle.stack_machine.specs.Able.{HasRoom};
-ghost use Rattle.stack_machine.specs.Loading.{IsLoaded, data_at, frames_of, data_cells, all_data, first_cells, blank as blank_state};
+ghost use Rattle.stack_machine.specs.Loading.{IsLoaded, data_at, frames_of, data_cells, all_data, first_cells};
+ghost use Rattle.stack_machine.specs.Loading.{blank as blank_state};
 ghost use Rattle.stack_machine.specs.Machines.{IsFirst, now_of};
 ghost use Rattle.stack_machine.specs.Sites.{HasLayout};
 ghost use Rattle.stack_machine.specs.State.{state_of, program_of};
@@ -113,7 +114,8 @@ pub(crate) fn blank(
 /// Begins the first body. The place where it begins, if it finds no room.
 pub(crate) fn begin(code: &Code, core: &mut Core) -> Option<usize>
     requires first { IsFirst code.now core.old }
-    ensures begun { now_of result core.new ≡ next_body (program_of code.now) (slice_get code.now.bodies.items 0) (state_of core.old) }
+    ensures begun { now_of result core.new
+        ≡ next_body (program_of code.now) (slice_get code.now.bodies.items 0) (state_of core.old) }
     ensures room { HasRoom core.new }
 {
     match enter(core, &code.routines[code.bodies[0]]) {

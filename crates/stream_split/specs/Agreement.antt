@@ -31,4 +31,6 @@ fault_at (TooDeep text at) = at
 -- one of the streams has the fault, and the fault of each is the same or at a later token
 pub record IsFirstOfStreams (text : ℕ) (fault : StreamFault) (streams : List StreamOf) : Type 0 where
   pub one : (s : StreamOf) × IsIn s streams × IsFaultOf text fault s
-  pub others : Each (λ s. (other : StreamFault) → IsFaultOf text other s → (other ≡ fault) ⊎ (fault_at fault < fault_at other)) streams
+  pub others : Each
+      (λ s. (other : StreamFault) → IsFaultOf text other s → (other ≡ fault) ⊎ (fault_at fault < fault_at other))
+      streams

@@ -1,5 +1,6 @@
--- What surrounds a block: the scopes that its names are looked up in are its own, those of the procedures round it from the
--- inside out, the module's, and that of the own definition of an implementation module. A definition module has its own alone.
+-- What surrounds a block: the scopes that its names are looked up in are its own, those of the procedures round it
+-- from the inside out, the module's, and that of the own definition of an implementation module.
+-- A definition module has its own alone.
 use Rattle.std.specs.Prelude.{ℕ, zero, suc, List, [], ◌∷◌, slice_get, Option, Some, None}
 use Rattle.m2_base.specs.declared.sites.Around.{Around}
 use Rattle.m2_base.specs.declared.trees.declarations.StreamKind.{StreamKind}
@@ -32,11 +33,19 @@ abbrev pub block_by : StreamKind → (home : ℕ) → (own : Option ℕ) → Lis
 block_by Definition home own streams s =
     record { scope = s.stream; text = s.text; level = 0; home = s.stream; own = None; chain = s.stream ∷ [] }
 block_by kind home own streams s =
-    record { scope = s.stream; text = s.text; level = s.level; home = home; own = own; chain = with_own (chain_from s.level streams s.stream) own }
+    record {
+      scope = s.stream;
+      text = s.text;
+      level = s.level;
+      home = home;
+      own = own;
+      chain = with_own (chain_from s.level streams s.stream) own;
+    }
 
 abbrev pub block_of : (home : ℕ) → (own : Option ℕ) → List StreamOf → StreamOf → Block
 block_of home own streams s = block_by s.kind home own streams s
 
 -- what surrounds a block, as plain data
 abbrev pub around_view : Around → Block
-around_view a = record { scope = a.scope; text = a.text; level = a.level; home = a.module; own = a.own; chain = a.chain }
+around_view a =
+    record { scope = a.scope; text = a.text; level = a.level; home = a.module; own = a.own; chain = a.chain }

@@ -1,11 +1,13 @@
--- Where each token of a main text goes: to the stream of the block that it stands in, and a procedure's heading to that of
--- the procedure, too. The cut is defined one token at a time, so that where the first tokens go depends on them alone.
+-- Where each token of a main text goes: to the stream of the block that it stands in, and a procedure's heading to
+-- that of the procedure, too. The cut is defined one token at a time,
+-- so that where the first tokens go depends on them alone.
 use Rattle.std.specs.Prelude.{ℕ, zero, suc, ◌+◌, ◌==◌, List, [], ◌∷◌, ◌++◌, cond, map, length}
 use Rattle.m2_base.specs.declared.kind.TokenKind.{TokenKind}
 use Rattle.m2_base.specs.declared.kind.TokenKind.TheVariants as kinds
 use Rattle.m2_base.specs.declared.token.Token.{Token}
 use Rattle.stream_split.specs.declared.sorts.Sort.{Sort}
-use Rattle.stream_split.specs.declared.sorts.Sort.TheVariants.{Stop, Word, Procedure, Opener, Closer, Left, Right, Semicolon, Other}
+use Rattle.stream_split.specs.declared.sorts.Sort.TheVariants.{Stop, Word, Procedure, Opener, Closer, Left, Right}
+use Rattle.stream_split.specs.declared.sorts.Sort.TheVariants.{Semicolon, Other}
 use Rattle.stream_split.specs.declared.cutter.Mode.{Mode}
 use Rattle.stream_split.specs.declared.cutter.Mode.TheVariants.{Free, Body}
 
@@ -27,9 +29,9 @@ sort kinds.RightParenthesis = Right
 sort kinds.Semicolon = Semicolon
 sort kind = Other
 
--- How far the current stream is: amid its block; behind a PROCEDURE; in a heading, of which it has these tokens and so many
--- brackets are open; before the last two tokens of a procedure; before the last; at the end of the text. The mode says how
--- many constructs are open in a procedure's block; in the module's nothing is counted.
+-- How far the current stream is: amid its block; behind a PROCEDURE; in a heading, of which it has these tokens and so
+-- many brackets are open; before the last two tokens of a procedure; before the last; at the end of the text. The mode
+-- says how many constructs are open in a procedure's block; in the module's nothing is counted.
 pub data Phase : Type 0 where
   amid : Mode → Phase
   seen : Mode → Token → Phase

@@ -7,7 +7,11 @@ use Rattle.m2_base.specs.Units.{Front, TextOf, UnitTexts}
 
 -- a front, by the names alone
 abbrev pub front_of : fronts.Front → Front
-front_of f = record { name = option_map (λ i. i.name) f.name; implementation = f.implementation; imports = map (λ i. i.name) f.imports }
+front_of f = record {
+  name = option_map (λ i. i.name) f.name;
+  implementation = f.implementation;
+  imports = map (λ i. i.name) f.imports;
+}
 
 -- the front of each text is the one that the grammar tells
 abbrev pub AreFronts : (front : TextOf → Front) → UnitTexts → Type 0

@@ -1,7 +1,9 @@
 -- Why a main text is not cut: the first limit on procedures that it passes.
-use Rattle.std.specs.Prelude.{◌≡◌, ℕ, ◌+◌, ◌==◌, List, [], ◌∷◌, Option, Some, None, if◌then◌else◌, nat_lt, length, Result, Ok, Err}
+use Rattle.std.specs.Prelude.{◌≡◌, ℕ, ◌+◌, ◌==◌, List, [], ◌∷◌, Option, Some, None, if◌then◌else◌, nat_lt, length}
+use Rattle.std.specs.Prelude.{Result, Ok, Err}
 use Rattle.m2_base.specs.declared.token.Token.{Token}
-use Rattle.m2_base.specs.Statics.BlockLimits.{BlockLimit, too_many_procedures, too_deep_procedure, most_procedures, deepest_level}
+use Rattle.m2_base.specs.Statics.BlockLimits.{BlockLimit, too_many_procedures, too_deep_procedure, most_procedures}
+use Rattle.m2_base.specs.Statics.BlockLimits.{deepest_level}
 use Rattle.stream_split.specs.declared.streams.SplitFault.{SplitFault}
 use Rattle.stream_split.specs.declared.streams.SplitFault.TheVariants.{TooManyStreams, TooNested, Memory}
 use Rattle.stream_split.specs.declared.cutter.Mode.{Mode}
@@ -42,4 +44,5 @@ first_of None o = o
 -- the first limit that is passed with these tokens
 abbrev pub passed : ℕ → State → List Token → Option BlockLimit
 passed n s [] = None
-passed n s (t ∷ ts) = first_of (limit_at n s (sort t.kind)) (passed (n + length (opens_by s (sort t.kind))) (next s t) ts)
+passed n s (t ∷ ts) =
+    first_of (limit_at n s (sort t.kind)) (passed (n + length (opens_by s (sort t.kind))) (next s t) ts)

@@ -1,4 +1,5 @@
--- Which streams the procedures of a main text have, where these are told by the tokens alone: also of a text that has a syntax error.
+-- Which streams the procedures of a main text have, where these are told by the tokens alone:
+-- also of a text that has a syntax error.
 use Rattle.std.specs.Prelude.{◌≡◌, ℕ, List, [], ◌∷◌, Option, Some, None, slice_get}
 use Rattle.m2_base.specs.Statics.BlockLimits.{Begun}
 use Rattle.m2_base.specs.declared.token.Token.{Token}
@@ -10,8 +11,8 @@ abbrev pub first_at : List Token → Option ℕ
 first_at [] = None
 first_at (t ∷ tokens) = Some t.at
 
--- The stream is that of this procedure of the main text: it has this number and the procedure's level, and begins with the
--- procedure's first token.
+-- The stream is that of this procedure of the main text: it has this number and the procedure's level, and begins with
+-- the procedure's first token.
 pub record IsStreamOf (number : ℕ) (p : Begun) (s : StreamOf) : Type 0 where
   pub number_is : s.stream ≡ number
   pub text_is : s.text ≡ 0

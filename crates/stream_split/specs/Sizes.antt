@@ -19,8 +19,8 @@ is_begin other = false
 abbrev pub before_begin : List Token → List Token
 before_begin ts = take_while (λ t. not (is_begin t.kind)) ts
 
--- a row may come with a token of this kind: a name, a comma, a semicolon (behind an opaque type), a bracket that opens,
--- or the first word of a type or heading
+-- a row may come with a token of this kind: a name, a comma, a semicolon (behind an opaque type), a bracket that
+-- opens, or the first word of a type or heading
 abbrev pub may_make_row : TokenKind → Bool
 may_make_row kinds.Identifier = true
 may_make_row kinds.Comma = true
@@ -38,8 +38,8 @@ may_make_row other = false
 abbrev pub rows_with : List Token → ℕ
 rows_with ts = length (filter (λ t. may_make_row t.kind) ts)
 
--- how many rows a stream declares at most, by its tokens before BEGIN: no row comes with the first three, which begin a
--- heading or a module
+-- how many rows a stream declares at most, by its tokens before BEGIN: no row comes with the first three, which begin
+-- a heading or a module
 abbrev pub declared_room : List Token → ℕ
 declared_room ts = rows_with (drop 3 ts)
 

@@ -19,7 +19,8 @@ pub record StreamOf : Type 0 where
 
 -- the stream of a procedure
 abbrev pub procedure_stream : ℕ → Enclosed → List Token → StreamOf
-procedure_stream j p ts = record { stream = j; text = 0; outer = p.outer; level = p.level; kind = Procedure; tokens = ts }
+procedure_stream j p ts =
+    record { stream = j; text = 0; outer = p.outer; level = p.level; kind = Procedure; tokens = ts }
 
 -- the streams of procedures from number j on
 abbrev pub procedure_streams : ℕ → List Enclosed → List Event → List StreamOf
@@ -33,7 +34,8 @@ module_stream m ts = record { stream = m; text = 0; outer = 0; level = 0; kind =
 -- the streams of a main text, of which the module's has the number m
 abbrev pub main_streams : ℕ → List Token → List StreamOf
 main_streams m ts =
-    let es : List Event = events (start m) ts in module_stream m (pick m es) ∷ procedure_streams (suc m) (opened (start m) ts) es
+    let es : List Event = events (start m) ts in
+    module_stream m (pick m es) ∷ procedure_streams (suc m) (opened (start m) ts) es
 
 -- the stream of a definition text
 abbrev pub definition_stream : ℕ → ℕ → List Token → StreamOf

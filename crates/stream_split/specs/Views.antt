@@ -12,7 +12,14 @@ use Rattle.stream_split.specs.Cut.{Event, Phase, amid, seen, heading, two_left, 
 use Rattle.stream_split.specs.Streams.{StreamOf}
 
 abbrev pub stream_view : StreamTokens → StreamOf
-stream_view s = record { stream = s.stream; text = s.text; outer = s.outer; level = s.level; kind = s.kind; tokens = s.tokens.items }
+stream_view s = record {
+  stream = s.stream;
+  text = s.text;
+  outer = s.outer;
+  level = s.level;
+  kind = s.kind;
+  tokens = s.tokens.items;
+}
 
 -- a stream without its tokens
 abbrev pub label : StreamTokens → StreamOf
@@ -52,7 +59,8 @@ phase_view OneLeft m hs = one_left
 phase_view Ended m hs = ended
 
 abbrev pub state_view : Cutter → State
-state_view c = state (c.first + c.current) (c.first + length c.streams.items) (frames_view c.first c.around.items) (phase_view c.phase c.mode c.held.items)
+state_view c = state (c.first + c.current) (c.first + length c.streams.items) (frames_view c.first c.around.items)
+    (phase_view c.phase c.mode c.held.items)
 
 -- every stream that is open is there
 pub record Ready (c : Cutter) : Type 0 where

@@ -1,12 +1,16 @@
 //! The cut, one token at a time.
 ghost use Rattle.std.specs.Prelude.{◌≡◌, ◌<◌, ◌+◌, ◌-◌, OnOk, IfOk, IfSome, length, [], ◌∷◌, ◌++◌, suc, map, List};
 ghost use Rattle.std.specs.List.{All};
-ghost use Rattle.stream_split.specs.Cut.{State, deeper, all_end, unless_stop, state, amid_next, amid, Enclosed, opens_by, heading_opens, enclosed, seen, to, cut_at, heading_next, heading_goes, seen_next, next_by, goes_by, ended, heading, one_left, out_of, end_at, start};
+ghost use Rattle.stream_split.specs.Cut.{State, deeper, all_end, unless_stop, state, amid_next, amid, Enclosed};
+ghost use Rattle.stream_split.specs.Cut.{opens_by, heading_opens, enclosed, seen, to, cut_at, heading_next};
+ghost use Rattle.stream_split.specs.Cut.{heading_goes, seen_next, next_by, goes_by, ended, heading, one_left, out_of};
+ghost use Rattle.stream_split.specs.Cut.{end_at, start};
 ghost use Rattle.stream_split.specs.Limits.{Within, heading_limit, seen_limit, limit_at, passed};
 ghost use Rattle.stream_split.specs.Streams.{procedure_streams, main_streams as spec_main_streams};
 ghost use Rattle.m2_base.specs.declared.trees.declarations.StreamKind.TheVariants.{Procedure};
 ghost use Rattle.stream_split.specs.declared.cutter.Mode.TheVariants.{Body};
-ghost use Rattle.stream_split.specs.Views.{stream_view, label, Sent, frames_view, state_view, phase_view, sends_all, Ready};
+ghost use Rattle.stream_split.specs.Views.{stream_view, label, Sent, frames_view, state_view, phase_view, sends_all};
+ghost use Rattle.stream_split.specs.Views.{Ready};
 
 use crate::sorts::{Sort, sort_of};
 use crate::streams::{SplitFault, StreamTokens};
@@ -99,7 +103,8 @@ fn end_around(
     t: Token,
 ) -> Result<(), AllocError>
     requires { All (λ f. f.stream < length streams.old.items) around.now }
-    ensures sent { OnOk result (Sent first streams.old.items (all_end (frames_view first around.now) t) streams.new.items) }
+    ensures sent { OnOk result
+        (Sent first streams.old.items (all_end (frames_view first around.now) t) streams.new.items) }
     ensures labels { OnOk result (map label streams.new.items ≡ map label streams.old.items) }
     ensures count { OnOk result (length streams.new.items ≡ length streams.old.items) }
 {
@@ -167,8 +172,12 @@ impl Cutter {
     /// A token amid the current stream's block.
     fn amid_token(&mut self, t: Token, s: Sort) -> Result<(), AllocError>
         requires { Ready self.old }
-        ensures state { OnOk result (state_view self.new ≡ state (self.old.first + self.old.current) (self.old.first + length self.old.streams.items) (frames_view self.old.first self.old.around.items) (amid_next self.old.mode t s)) }
-        ensures sent { OnOk result (Sent self.old.first self.old.streams.items ((self.old.first + self.old.current, t) ∷ unless_stop s (all_end (frames_view self.old.first self.old.around.items) t) []) self.new.streams.items) }
+        ensures state { OnOk result (state_view self.new
+            ≡ state (self.old.first + self.old.current) (self.old.first + length self.old.streams.items)
+            (frames_view self.old.first self.old.around.items) (amid_next self.old.mode t s)) }
+        ensures sent { OnOk result (Sent self.old.first self.old.streams.items ((self.old.first + self.old.current, t)
+            ∷ unless_stop s (all_end (frames_view self.old.first self.old.around.items) t) [])
+            self.new.streams.items) }
         ensures labels { OnOk result (map label self.new.streams.items ≡ map label self.old.streams.items) }
         ensures first { OnOk result (self.new.first ≡ self.old.first) }
     {
@@ -186,7 +195,16 @@ impl Cutter {
 
     /// The stream of a procedure that is declared in the current one, with these tokens.
     fn new_stream(&self, tokens: Vec<Token>) -> Option<StreamTokens>
-        ensures { IfSome result (λ s. stream_view s ≡ record { stream = self.now.first + length self.now.streams.items; text = 0; outer = self.now.first + self.now.current; level = length self.now.around.items + 1; kind = Procedure; tokens = tokens.items }) }
+        ensures { IfSome result (λ s. stream_view s
+            ≡ record {
+              stream = self.now.first + length self.now.streams.items;
+              text = 0;
+              outer = self.now.first
+                  + self.now.current;
+              level = length self.now.around.items + 1;
+              kind = Procedure;
+              tokens = tokens.items;
+            }) }
     {
         let stream = number_of(self.first, self.streams.len())?;
         let outer = number_of(self.first, self.current)?;
@@ -204,8 +222,11 @@ impl Cutter {
     /// The heading goes on, with so many brackets open.
     fn heading_on(&mut self, t: Token, brackets: u32) -> Result<(), AllocError>
         requires { Ready self.old }
-        ensures state { OnOk result (state_view self.new ≡ state (self.old.first + self.old.current) (self.old.first + length self.old.streams.items) (frames_view self.old.first self.old.around.items) (heading self.old.mode brackets (self.old.held.items ++ (t ∷ [])))) }
-        ensures sent { OnOk result (Sent self.old.first self.old.streams.items ((self.old.first + self.old.current, t) ∷ []) self.new.streams.items) }
+        ensures state { OnOk result (state_view self.new ≡ state (self.old.first + self.old.current)
+            (self.old.first + length self.old.streams.items) (frames_view self.old.first self.old.around.items)
+            (heading self.old.mode brackets (self.old.held.items ++ (t ∷ [])))) }
+        ensures sent { OnOk result (Sent self.old.first self.old.streams.items
+            ((self.old.first + self.old.current, t) ∷ []) self.new.streams.items) }
         ensures labels { OnOk result (map label self.new.streams.items ≡ map label self.old.streams.items) }
         ensures first { OnOk result (self.new.first ≡ self.old.first) }
     {
@@ -217,8 +238,11 @@ impl Cutter {
 
     /// A stream of its own for the heading, whose last token is this one.
     fn open(&mut self, alloc: Global, t: Token) -> Result<(), AllocError>
-        ensures sent { OnOk result (Sent self.old.first self.old.streams.items (to (self.old.first + length self.old.streams.items) (self.old.held.items ++ (t ∷ []))) self.new.streams.items) }
-        ensures labels { OnOk result (map label self.new.streams.items ≡ map label self.old.streams.items ++ procedure_streams (self.old.first + length self.old.streams.items) (enclosed (self.old.first + self.old.current) (frames_view self.old.first self.old.around.items) ∷ []) []) }
+        ensures sent { OnOk result (Sent self.old.first self.old.streams.items (to (self.old.first
+            + length self.old.streams.items) (self.old.held.items ++ (t ∷ []))) self.new.streams.items) }
+        ensures labels { OnOk result (map label self.new.streams.items ≡ map label self.old.streams.items
+            ++ procedure_streams (self.old.first + length self.old.streams.items) (enclosed
+            (self.old.first + self.old.current) (frames_view self.old.first self.old.around.items) ∷ []) []) }
         ensures count { OnOk result (length self.new.streams.items ≡ length self.old.streams.items + 1) }
         ensures rest { OnOk result (self.new ≡ record self.old { streams = self.new.streams; held = self.new.held }) }
     {
@@ -234,9 +258,18 @@ impl Cutter {
     /// The semicolon of a heading: a Cut in the stream round the new one, whose block begins.
     fn begin_block(&mut self, alloc: Global, t: Token) -> Result<(), AllocError>
         requires { Ready self.old }
-        ensures state { OnOk result (state_view self.new ≡ state (self.old.first + length self.old.streams.items) (suc (self.old.first + length self.old.streams.items)) (((self.old.first + self.old.current), self.old.mode) ∷ (frames_view self.old.first self.old.around.items)) (amid (Body 0))) }
-        ensures sent { OnOk result (Sent self.old.first self.old.streams.items (((self.old.first + self.old.current), t) ∷ ((self.old.first + self.old.current), cut_at (self.old.first + length self.old.streams.items) t) ∷ to (self.old.first + length self.old.streams.items) (self.old.held.items ++ (t ∷ []))) self.new.streams.items) }
-        ensures labels { OnOk result (map label self.new.streams.items ≡ map label self.old.streams.items ++ procedure_streams (self.old.first + length self.old.streams.items) (enclosed (self.old.first + self.old.current) (frames_view self.old.first self.old.around.items) ∷ []) []) }
+        ensures state { OnOk result (state_view self.new ≡ state (self.old.first + length self.old.streams.items) (suc
+            (self.old.first + length self.old.streams.items)) (((self.old.first + self.old.current), self.old.mode)
+            ∷ (frames_view self.old.first self.old.around.items)) (amid (Body 0))) }
+        ensures sent { OnOk result (Sent self.old.first self.old.streams.items ((
+          (self.old.first + self.old.current),
+          t,
+        ) ∷ ((self.old.first + self.old.current), cut_at (self.old.first + length self.old.streams.items) t)
+            ∷ to (self.old.first + length self.old.streams.items) (self.old.held.items ++ (t ∷ [])))
+            self.new.streams.items) }
+        ensures labels { OnOk result (map label self.new.streams.items ≡ map label self.old.streams.items
+            ++ procedure_streams (self.old.first + length self.old.streams.items) (enclosed
+            (self.old.first + self.old.current) (frames_view self.old.first self.old.around.items) ∷ []) []) }
         ensures first { OnOk result (self.new.first ≡ self.old.first) }
     {
         let index = self.streams.len();
@@ -264,9 +297,16 @@ impl Cutter {
     /// The text ends within a heading.
     fn end_heading(&mut self, alloc: Global, t: Token) -> Result<(), AllocError>
         requires { Ready self.old }
-        ensures state { OnOk result (state_view self.new ≡ state (self.old.first + self.old.current) (suc (self.old.first + length self.old.streams.items)) (frames_view self.old.first self.old.around.items) ended) }
-        ensures sent { OnOk result (Sent self.old.first self.old.streams.items (((self.old.first + self.old.current), t) ∷ (all_end (frames_view self.old.first self.old.around.items) t ++ to (self.old.first + length self.old.streams.items) (self.old.held.items ++ (t ∷ [])))) self.new.streams.items) }
-        ensures labels { OnOk result (map label self.new.streams.items ≡ map label self.old.streams.items ++ procedure_streams (self.old.first + length self.old.streams.items) (enclosed (self.old.first + self.old.current) (frames_view self.old.first self.old.around.items) ∷ []) []) }
+        ensures state { OnOk result (state_view self.new
+            ≡ state (self.old.first + self.old.current) (suc (self.old.first + length self.old.streams.items))
+            (frames_view self.old.first self.old.around.items) ended) }
+        ensures sent { OnOk result (Sent self.old.first self.old.streams.items
+            (((self.old.first + self.old.current), t) ∷ (all_end (frames_view self.old.first self.old.around.items) t
+            ++ to (self.old.first + length self.old.streams.items) (self.old.held.items ++ (t ∷ []))))
+            self.new.streams.items) }
+        ensures labels { OnOk result (map label self.new.streams.items ≡ map label self.old.streams.items
+            ++ procedure_streams (self.old.first + length self.old.streams.items) (enclosed
+            (self.old.first + self.old.current) (frames_view self.old.first self.old.around.items) ∷ []) []) }
         ensures first { OnOk result (self.new.first ≡ self.old.first) }
     {
         send(&mut self.streams, self.first, self.current, t)?;
@@ -285,9 +325,16 @@ impl Cutter {
         brackets: u32,
     ) -> Result<(), AllocError>
         requires { Ready self.old }
-        ensures state { OnOk result (state_view self.new ≡ heading_next (self.old.first + self.old.current) (self.old.first + length self.old.streams.items) (frames_view self.old.first self.old.around.items) self.old.mode brackets self.old.held.items t s) }
-        ensures sent { OnOk result (Sent self.old.first self.old.streams.items (heading_goes (self.old.first + self.old.current) (self.old.first + length self.old.streams.items) (frames_view self.old.first self.old.around.items) brackets self.old.held.items t s) self.new.streams.items) }
-        ensures labels { OnOk result (map label self.new.streams.items ≡ map label self.old.streams.items ++ procedure_streams (self.old.first + length self.old.streams.items) (heading_opens (self.old.first + self.old.current) (frames_view self.old.first self.old.around.items) brackets s) []) }
+        ensures state { OnOk result (state_view self.new
+            ≡ heading_next (self.old.first + self.old.current) (self.old.first + length self.old.streams.items)
+            (frames_view self.old.first self.old.around.items) self.old.mode brackets self.old.held.items t s) }
+        ensures sent { OnOk result (Sent self.old.first self.old.streams.items
+            (heading_goes (self.old.first + self.old.current) (self.old.first + length self.old.streams.items)
+            (frames_view self.old.first self.old.around.items) brackets self.old.held.items t s)
+            self.new.streams.items) }
+        ensures labels { OnOk result (map label self.new.streams.items ≡ map label self.old.streams.items
+            ++ procedure_streams (self.old.first + length self.old.streams.items) (heading_opens
+            (self.old.first + self.old.current) (frames_view self.old.first self.old.around.items) brackets s) []) }
         ensures first { OnOk result (self.new.first ≡ self.old.first) }
     {
         match s {
@@ -305,8 +352,12 @@ impl Cutter {
     /// The first of the two tokens behind the END that closes a procedure.
     fn two_left(&mut self, t: Token, s: Sort) -> Result<(), AllocError>
         requires { Ready self.old }
-        ensures state { OnOk result (state_view self.new ≡ state (self.old.first + self.old.current) (self.old.first + length self.old.streams.items) (frames_view self.old.first self.old.around.items) (unless_stop s ended one_left)) }
-        ensures sent { OnOk result (Sent self.old.first self.old.streams.items (((self.old.first + self.old.current), t) ∷ unless_stop s (all_end (frames_view self.old.first self.old.around.items) t) []) self.new.streams.items) }
+        ensures state { OnOk result (state_view self.new
+            ≡ state (self.old.first + self.old.current) (self.old.first + length self.old.streams.items)
+            (frames_view self.old.first self.old.around.items) (unless_stop s ended one_left)) }
+        ensures sent { OnOk result
+            (Sent self.old.first self.old.streams.items (((self.old.first + self.old.current), t) ∷ unless_stop s
+            (all_end (frames_view self.old.first self.old.around.items) t) []) self.new.streams.items) }
         ensures labels { OnOk result (map label self.new.streams.items ≡ map label self.old.streams.items) }
         ensures first { OnOk result (self.new.first ≡ self.old.first) }
     {
@@ -324,8 +375,12 @@ impl Cutter {
     #[tactic(auto, using(std::proofs::lemmas::Grind::common_steps, crate::proofs::Items::leave_some, crate::proofs::Items::leave_none))]
     fn leave(&mut self, t: Token) -> Result<(), AllocError>
         requires { Ready self.old }
-        ensures state { OnOk result (state_view self.new ≡ out_of (self.old.first + self.old.current) (self.old.first + length self.old.streams.items) (frames_view self.old.first self.old.around.items)) }
-        ensures sent { OnOk result (Sent self.old.first self.old.streams.items (((self.old.first + self.old.current), t) ∷ ((self.old.first + self.old.current), end_at t) ∷ []) self.new.streams.items) }
+        ensures state { OnOk result (state_view self.new ≡ out_of (self.old.first + self.old.current)
+            (self.old.first + length self.old.streams.items) (frames_view self.old.first self.old.around.items)) }
+        ensures sent { OnOk result (Sent self.old.first self.old.streams.items ((
+          (self.old.first + self.old.current),
+          t,
+        ) ∷ ((self.old.first + self.old.current), end_at t) ∷ []) self.new.streams.items) }
         ensures labels { OnOk result (map label self.new.streams.items ≡ map label self.old.streams.items) }
         ensures first { OnOk result (self.new.first ≡ self.old.first) }
     {
@@ -349,8 +404,15 @@ impl Cutter {
     /// The same, unless the text ends here.
     fn one_left(&mut self, t: Token, s: Sort) -> Result<(), AllocError>
         requires { Ready self.old }
-        ensures state { OnOk result (state_view self.new ≡ unless_stop s (state (self.old.first + self.old.current) (self.old.first + length self.old.streams.items) (frames_view self.old.first self.old.around.items) ended) (out_of (self.old.first + self.old.current) (self.old.first + length self.old.streams.items) (frames_view self.old.first self.old.around.items))) }
-        ensures sent { OnOk result (Sent self.old.first self.old.streams.items (((self.old.first + self.old.current), t) ∷ unless_stop s (all_end (frames_view self.old.first self.old.around.items) t) (((self.old.first + self.old.current), end_at t) ∷ [])) self.new.streams.items) }
+        ensures state { OnOk result (state_view self.new
+            ≡ unless_stop s (state (self.old.first + self.old.current) (self.old.first + length self.old.streams.items)
+            (frames_view self.old.first self.old.around.items) ended) (out_of (self.old.first + self.old.current)
+            (self.old.first + length self.old.streams.items) (frames_view self.old.first self.old.around.items))) }
+        ensures sent { OnOk result (Sent self.old.first self.old.streams.items ((
+          (self.old.first + self.old.current),
+          t,
+        ) ∷ unless_stop s (all_end (frames_view self.old.first self.old.around.items) t)
+            (((self.old.first + self.old.current), end_at t) ∷ [])) self.new.streams.items) }
         ensures labels { OnOk result (map label self.new.streams.items ≡ map label self.old.streams.items) }
         ensures first { OnOk result (self.new.first ≡ self.old.first) }
     {
@@ -367,11 +429,15 @@ impl Cutter {
     /// An identifier behind a PROCEDURE begins a heading.
     fn begin_heading(&mut self, alloc: Global, p: Token, t: Token) -> Result<(), SplitFault>
         requires { Ready self.old }
-        ensures state { OnOk result (state_view self.new ≡ state (self.old.first + self.old.current) (self.old.first + length self.old.streams.items) (frames_view self.old.first self.old.around.items) (heading self.old.mode 0 (p ∷ t ∷ []))) }
-        ensures sent { OnOk result (Sent self.old.first self.old.streams.items (((self.old.first + self.old.current), t) ∷ []) self.new.streams.items) }
+        ensures state { OnOk result (state_view self.new
+            ≡ state (self.old.first + self.old.current) (self.old.first + length self.old.streams.items)
+            (frames_view self.old.first self.old.around.items) (heading self.old.mode 0 (p ∷ t ∷ []))) }
+        ensures sent { OnOk result (Sent self.old.first self.old.streams.items
+            (((self.old.first + self.old.current), t) ∷ []) self.new.streams.items) }
         ensures labels { OnOk result (map label self.new.streams.items ≡ map label self.old.streams.items) }
         ensures first { OnOk result (self.new.first ≡ self.old.first) }
-        ensures limits { Within (heading_limit (length self.old.streams.items - 1) (length (frames_view self.old.first self.old.around.items)) p.at) result }
+        ensures limits { Within (heading_limit (length self.old.streams.items - 1)
+            (length (frames_view self.old.first self.old.around.items)) p.at) result }
     {
         if self.streams.len() - 1 == MOST_PROCEDURES {
             return Err(SplitFault::TooManyStreams);
@@ -391,11 +457,16 @@ impl Cutter {
     /// A token behind a PROCEDURE.
     fn seen_token(&mut self, alloc: Global, p: Token, t: Token, s: Sort) -> Result<(), SplitFault>
         requires { Ready self.old }
-        ensures state { OnOk result (state_view self.new ≡ state (self.old.first + self.old.current) (self.old.first + length self.old.streams.items) (frames_view self.old.first self.old.around.items) (seen_next self.old.mode p t s)) }
-        ensures sent { OnOk result (Sent self.old.first self.old.streams.items (((self.old.first + self.old.current), t) ∷ unless_stop s (all_end (frames_view self.old.first self.old.around.items) t) []) self.new.streams.items) }
+        ensures state { OnOk result (state_view self.new
+            ≡ state (self.old.first + self.old.current) (self.old.first + length self.old.streams.items)
+            (frames_view self.old.first self.old.around.items) (seen_next self.old.mode p t s)) }
+        ensures sent { OnOk result
+            (Sent self.old.first self.old.streams.items (((self.old.first + self.old.current), t) ∷ unless_stop s
+            (all_end (frames_view self.old.first self.old.around.items) t) []) self.new.streams.items) }
         ensures labels { OnOk result (map label self.new.streams.items ≡ map label self.old.streams.items) }
         ensures first { OnOk result (self.new.first ≡ self.old.first) }
-        ensures limits { Within (seen_limit (length self.old.streams.items - 1) (frames_view self.old.first self.old.around.items) p s) result }
+        ensures limits { Within (seen_limit (length self.old.streams.items - 1)
+            (frames_view self.old.first self.old.around.items) p s) result }
     {
         match s {
             Sort::Word => self.begin_heading(alloc, p, t),
@@ -410,8 +481,11 @@ impl Cutter {
     pub fn step(&mut self, alloc: Global, t: Token, s: Sort) -> Result<(), SplitFault>
         requires { Ready self.old }
         ensures state { OnOk result (state_view self.new ≡ next_by (state_view self.old) t s) }
-        ensures sent { OnOk result (Sent self.old.first self.old.streams.items (goes_by (state_view self.old) t s) self.new.streams.items) }
-        ensures labels { OnOk result (map label self.new.streams.items ≡ map label self.old.streams.items ++ procedure_streams (self.old.first + length self.old.streams.items) (opens_by (state_view self.old) s) []) }
+        ensures sent { OnOk result
+            (Sent self.old.first self.old.streams.items (goes_by (state_view self.old) t s) self.new.streams.items) }
+        ensures labels { OnOk result (map label self.new.streams.items
+            ≡ map label self.old.streams.items ++ procedure_streams (self.old.first + length self.old.streams.items)
+            (opens_by (state_view self.old) s) []) }
         ensures first { OnOk result (self.new.first ≡ self.old.first) }
         ensures limits { Within (limit_at (length self.old.streams.items - 1) (state_view self.old) s) result }
     {
@@ -427,8 +501,8 @@ impl Cutter {
     }
 }
 
-/// The streams of a main text, the first of which has this number: the module's, and those of its procedures in the order of
-/// their PROCEDURE tokens.
+/// The streams of a main text, the first of which has this number: the module's, and those of its procedures in the
+/// order of their PROCEDURE tokens.
 pub fn main_streams(
     alloc: Global,
     first: u32,

@@ -1,7 +1,10 @@
 //! How many rows a scope has at most.
 ghost use Rattle.std.specs.Prelude.{◌≡◌, ◌<◌, ◌≤◌, ◌+◌, ◌^◌, ◌∷◌, IfOk, length, map};
 ghost use Rattle.std.specs.List.{All};
-ghost use Rattle.stream_split.specs.Sizes.{before_begin as spec_before_begin, brought_room as spec_brought_room, declared_room as spec_declared_room, has_from as spec_has_from, is_begin as spec_is_begin, is_from as spec_is_from, may_make_row as spec_may_make_row, room_of as spec_room_of, sizes_of};
+ghost use Rattle.stream_split.specs.Sizes.{before_begin as spec_before_begin, brought_room as spec_brought_room};
+ghost use Rattle.stream_split.specs.Sizes.{declared_room as spec_declared_room, has_from as spec_has_from};
+ghost use Rattle.stream_split.specs.Sizes.{is_begin as spec_is_begin, is_from as spec_is_from};
+ghost use Rattle.stream_split.specs.Sizes.{may_make_row as spec_may_make_row, room_of as spec_room_of, sizes_of};
 ghost use Rattle.stream_split.specs.Views.{stream_view};
 
 use crate::streams::StreamTokens;
@@ -23,8 +26,8 @@ fn before_begin(tokens: &[Token]) -> &[Token]
     &tokens[..count]
 }
 
-/// Whether a row may come with a token: with a name, a comma, a semicolon (behind an opaque type), a bracket that opens,
-/// or the first word of a type or heading.
+/// Whether a row may come with a token: with a name, a comma, a semicolon (behind an opaque type), a bracket that
+/// opens, or the first word of a type or heading.
 fn may_make_row(token: &Token) -> bool
     ensures { result ≡ spec_may_make_row token.now.kind }
 {
@@ -43,8 +46,8 @@ fn may_make_row(token: &Token) -> bool
     )
 }
 
-/// How many rows a stream declares at most, by its tokens before BEGIN: no row comes with the first three, which begin a
-/// heading or a module.
+/// How many rows a stream declares at most, by its tokens before BEGIN: no row comes with the first three, which begin
+/// a heading or a module.
 fn declared_room(tokens: &[Token]) -> usize
     ensures room { result ≡ spec_declared_room tokens.now }
     ensures few { result ≤ length tokens.now }
@@ -90,8 +93,9 @@ fn room_of(stream: &StreamTokens) -> usize
     declared_room(tokens) + brought_room(stream.kind, has_from(tokens))
 }
 
-/// How many rows each scope has at most: scope 0 exactly 37, and a block one for each token before its BEGIN with which a
-/// row may come, and where it is a module's and the word FROM stands there 16,384 more, for what its imports bring.
+/// How many rows each scope has at most: scope 0 exactly 37, and a block one for each token before its BEGIN with
+/// which a row may come, and where it is a module's and the word FROM stands there 16,384 more,
+/// for what its imports bring.
 pub fn sizes(alloc: Global, streams: &[StreamTokens]) -> Result<Vec<u32>, Memory>
     requires { All (λ s. length s.tokens.items < 2 ^ 30) streams.now }
     ensures sizes { IfOk result (λ out. out.items ≡ sizes_of (map stream_view streams.now)) }

@@ -3,7 +3,8 @@ ghost use Rattle.std.specs.Prelude.{◌≡◌, ◌<◌, ◌^◌, IfOk, length, m
 ghost use Rattle.std.specs.List.{All};
 ghost use Rattle.m2_base.specs.Statics.BlockLimits.{limit_of};
 ghost use Rattle.stream_split.specs.Limits.{Within};
-ghost use Rattle.stream_split.specs.Streams.{streams_of, main_tokens, definition_stream, definition_streams, tokens_in};
+ghost use Rattle.stream_split.specs.Streams.{streams_of, main_tokens, definition_stream, definition_streams};
+ghost use Rattle.stream_split.specs.Streams.{tokens_in};
 ghost use Rattle.stream_split.specs.Views.{stream_view};
 
 use crate::cutter::{main_streams, number_of};
@@ -18,7 +19,8 @@ fn definition_text(
     stream: u32,
     k: u32,
 ) -> Result<StreamTokens, AllocError>
-    ensures stream { IfOk result (λ s. stream_view s ≡ definition_stream stream k (tokens_in (slice_get texts.now.list k))) }
+    ensures stream { IfOk result
+        (λ s. stream_view s ≡ definition_stream stream k (tokens_in (slice_get texts.now.list k))) }
 {
     let mut tokens = Vec::new(alloc);
     if let Some(text) = texts.list.get(k as usize) {
@@ -36,7 +38,8 @@ fn definition_text(
 
 /// The streams of the definition modules, in dependency order.
 fn definition_texts(alloc: Global, texts: &Texts) -> Result<Vec<StreamTokens>, AllocError>
-    ensures streams { IfOk result (λ out. map stream_view out.items ≡ definition_streams 1 texts.now.list texts.now.order) }
+    ensures streams { IfOk result
+        (λ out. map stream_view out.items ≡ definition_streams 1 texts.now.list texts.now.order) }
 {
     let mut streams = Vec::new(alloc);
     for k in &texts.order {
@@ -74,9 +77,9 @@ fn with_main(
     }
 }
 
-/// The streams of a unit: those of the definition modules in dependency order, of the main module, and of its procedures in
-/// the order of their PROCEDURE tokens. The first has the number 1. There are none where the main text has too many
-/// procedures, or one that is nested too deep. Each stream is short enough for `sizes`, and there are
+/// The streams of a unit: those of the definition modules in dependency order, of the main module, and of its
+/// procedures in the order of their PROCEDURE tokens. The first has the number 1. There are none where the main text
+/// has too many procedures, or one that is nested too deep. Each stream is short enough for `sizes`, and there are
 /// fewer than numbers of 31 bits.
 pub fn cut(alloc: Global, texts: &Texts) -> Result<Vec<StreamTokens>, SplitFault>
     ensures streams { IfOk result (λ out. map stream_view out.items ≡ streams_of texts.now) }

@@ -1,8 +1,10 @@
 //! What surrounds a block.
-ghost use Rattle.std.specs.Prelude.{◌≡◌, ◌<◌, ◌+◌, ◌-◌, ◌≤◌, IfOk, IfSome, Some, None, length, map, slice_get, option_map, [], ◌==◌, position};
+ghost use Rattle.std.specs.Prelude.{◌≡◌, ◌<◌, ◌+◌, ◌-◌, ◌≤◌, IfOk, IfSome, Some, None, length, map, slice_get};
+ghost use Rattle.std.specs.Prelude.{option_map, [], ◌==◌, position};
 ghost use Rattle.m2_base.specs.Statics.Blocks.{with_own as spec_with_own};
 ghost use Rattle.m2_base.specs.declared.trees.declarations.StreamKind.TheVariants.{Main, Definition};
-ghost use Rattle.stream_split.specs.Chains.{outer_of as spec_outer_of, chain_from, scope_in, own_scope as spec_own_scope, block_by, block_of, around_view};
+ghost use Rattle.stream_split.specs.Chains.{outer_of as spec_outer_of, chain_from, scope_in};
+ghost use Rattle.stream_split.specs.Chains.{own_scope as spec_own_scope, block_by, block_of, around_view};
 ghost use Rattle.stream_split.specs.Streams.{main_number};
 ghost use Rattle.stream_split.specs.Views.{stream_view};
 
@@ -102,7 +104,8 @@ fn around_main(
     streams: &[StreamTokens],
     found: &StreamTokens,
 ) -> Result<Around, Memory>
-    ensures { IfOk result (λ a. around_view a ≡ block_by Main (main_number texts.now) (spec_own_scope texts.now) (map stream_view streams.now) (stream_view found.now)) }
+    ensures { IfOk result (λ a. around_view a ≡ block_by Main (main_number texts.now) (spec_own_scope texts.now)
+        (map stream_view streams.now) (stream_view found.now)) }
 {
     let Some(module) = number_of(1, texts.order.len()) else {
         return Err(Memory);
@@ -120,8 +123,8 @@ fn around_main(
     })
 }
 
-/// What surrounds the block of the stream of this number: its chain is the block's scope, those of the procedures round it,
-/// the module's, and the own definition's where there is one.
+/// What surrounds the block of the stream of this number: its chain is the block's scope, those of the procedures
+/// round it, the module's, and the own definition's where there is one.
 pub fn around(
     alloc: Global,
     texts: &Texts,
@@ -130,7 +133,9 @@ pub fn around(
 ) -> Result<Around, Memory>
     requires low { 1 ≤ stream }
     requires there { stream ≤ length streams.now }
-    ensures block { IfOk result (λ a. Some (around_view a) ≡ option_map (block_of (main_number texts.now) (spec_own_scope texts.now) (map stream_view streams.now)) (slice_get (map stream_view streams.now) (stream - 1))) }
+    ensures block { IfOk result
+        (λ a. Some (around_view a) ≡ option_map (block_of (main_number texts.now) (spec_own_scope texts.now)
+        (map stream_view streams.now)) (slice_get (map stream_view streams.now) (stream - 1))) }
 {
     let found = &streams[stream as usize - 1];
     match found.kind {

@@ -16,8 +16,9 @@ use Rattle.task_state.specs.declared.task.Turn.{Turn}
 abbrev pub state_at : Plain → ℕ → State
 state_at p k = state_of (moved p (k + 1))
 
--- The scopes are those of the unit, with the room that its streams ask. Scope 0 has the standard rows, and each other has a front
--- of its finished rows, if the unit has such. There is a task for each stream, and it is as far as its scope.
+-- The scopes are those of the unit, with the room that its streams ask. Scope 0 has the standard rows, and each other
+-- has a front of its finished rows, if the unit has such. There is a task for each stream,
+-- and it is as far as its scope.
 pub record IsStand (u : UnitTexts) (p : Plain) (tasks : List Task) : Type 0 where
   pub texts : p.texts ≡ u
   pub areas : p.areas ≡ sizes_of (streams_of u)
@@ -49,4 +50,5 @@ pub record IsTurned (p q : Plain) (place : ℕ) (old new : List Task) (turn : Tu
 -- Every scope is complete, and has its finished rows, if the unit has such.
 pub record AreFull (p : Plain) : Type 0 where
   pub complete : (s : ℕ) → s < length p.areas → (table_at p.tables s).complete ≡ true
-  pub rows : WhereFinished p.texts (λ tables. (s : ℕ) → s < length p.areas → (table_at p.tables s).rows ≡ rows_at tables s)
+  pub rows : WhereFinished p.texts
+      (λ tables. (s : ℕ) → s < length p.areas → (table_at p.tables s).rows ≡ rows_at tables s)

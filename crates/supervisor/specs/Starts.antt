@@ -19,7 +19,8 @@ first_scopes u = started u (sizes_of (streams_of u))
 
 -- the task stands at this stream, and has done nothing
 abbrev pub IsNew : StreamOf → Around → Task → Type 0
-IsNew s a t = (st : State) → IsOfUnit st.frame.setting s a → st.frame.entered ≡ [] → st.frame.closed ≡ false → IsAsFar st t
+IsNew s a t = (st : State) → IsOfUnit st.frame.setting s a → st.frame.entered ≡ [] → st.frame.closed ≡ false
+    → IsAsFar st t
 
 -- each task is that of the stream at its place, whose block is surrounded so
 abbrev pub AreNew : List StreamTokens → List Around → List Task → Type 0

@@ -31,19 +31,20 @@ block_with a tree = record { block = block_of a; tree = tree }
 abbrev pub row_count : Stream → ℕ
 row_count tree = length (flat_map item_shapes (items_of tree))
 
--- The finished rows of a unit: those of this scope are what its block declares. What the block's own heading gives as the result
--- is what the statements return.
+-- The finished rows of a unit: those of this scope are what its block declares. What the block's own heading gives as
+-- the result is what the statements return.
 pub record IsBlockIn (source : Source) (tables : List (List Row)) (scope : ℕ) (b : BlockTree) : Type 0 where
   pub scopes : scope < length tables
   pub standard : rows_at tables 0 ≡ standard_rows
   pub few : (s : ℕ) → length (rows_at tables s) < 2 ^ 32
   pub rows : rows_at tables scope ≡ (declare_block source (take scope tables) b).rows
   pub returns : (h : Heading) (cell : ℕ) → b.tree.heading ≡ Some h
-      → (declare (at_item (context_of source (take scope tables) b) 0) b.tree.kind (heading_item h) cell).value.result ≡ result_by (complete_context source tables b.block) b.tree
+      → (declare (at_item (context_of source (take scope tables) b) 0) b.tree.kind (heading_item h) cell).value.result
+      ≡ result_by (complete_context source tables b.block) b.tree
 
--- The block is that of the scope that is filled. It can be searched from: what surrounds it comes before it. Its tree was read
--- from tokens, imports from scopes before, and has room for its rows, with those that its imports bring; and the finished rows of
--- its scope are those of the tree.
+-- The block is that of the scope that is filled. It can be searched from: what surrounds it comes before it. Its tree
+-- was read from tokens, imports from scopes before, and has room for its rows, with those that its imports bring; and
+-- the finished rows of its scope are those of the tree.
 pub record IsBlockOf (g : Setting) (a : Around) (tree : Stream) : Type 0 where
   pub unit : IsUnit g.texts
   pub fills : a.scope ≡ g.fills

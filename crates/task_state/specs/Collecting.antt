@@ -1,5 +1,6 @@
 -- What the items of a block have given so far, and what the definition says of the first of them.
-use Rattle.std.specs.Prelude.{◌≡◌, ◌≤◌, ℕ, ◌+◌, ◌==◌, if◌then◌else◌, List, [], ◌∷◌, ◌++◌, Option, Some, None, filter, length, take}
+use Rattle.std.specs.Prelude.{◌≡◌, ◌≤◌, ℕ, ◌+◌, ◌==◌, if◌then◌else◌, List, [], ◌∷◌, ◌++◌, Option, Some, None, filter}
+use Rattle.std.specs.Prelude.{length, take}
 use Rattle.m2_base.specs.Lists.{Each}
 use Rattle.m2_base.specs.Statics.BlockRows.{at_item, context_of, declare_items, first_cell, scene_of}
 use Rattle.m2_base.specs.Statics.Blocks.{BlockTree}
@@ -20,8 +21,9 @@ use Rattle.m2_base.specs.declared.rows.Row.{Row}
 use Rattle.m2_base.specs.declared.trees.declarations.StreamKind.{StreamKind}
 use Rattle.decl_sem.specs.declared.declaring.Declared.{Declared}
 
--- The layout with the names that the items have brought; how many items there are; the next free cell and the number of their procedures; the type of the result that the block's own
--- heading binds; what the body copies first; the notes of headings; and what was noted.
+-- The layout with the names that the items have brought; how many items there are; the next free cell and the number
+-- of their procedures; the type of the result that the block's own heading binds; what the body copies first;
+-- the notes of headings; and what was noted.
 pub record Collected : Type 0 where
   pub layout : Layout
   pub count : ℕ
@@ -36,7 +38,17 @@ pub record Collected : Type 0 where
 -- of no item
 abbrev pub none_from : Layout → (cell : ℕ) → Collected
 none_from l cell =
-    record { layout = l; count = 0; cell = cell; procedures = 0; returns = None; copies = []; headings = []; diags = []; answers = [] }
+    record {
+      layout = l;
+      count = 0;
+      cell = cell;
+      procedures = 0;
+      returns = None;
+      copies = [];
+      headings = [];
+      diags = [];
+      answers = [];
+    }
 
 -- with this as the next free cell
 abbrev pub placed_from : (cell : ℕ) → Collected → Collected
@@ -79,10 +91,12 @@ result_from c kind cell (x ∷ items) = (declare (at_item c 0) kind x cell).valu
 
 -- the type of the result, as the first items of a block give it
 abbrev pub first_result : Source → (before : List (List Row)) → BlockTree → (count : ℕ) → Option Place
-first_result source before b count = result_from (context_of source before b) b.tree.kind (first_cell_of before b) (take count (items_of b.tree))
+first_result source before b count =
+    result_from (context_of source before b) b.tree.kind (first_cell_of before b) (take count (items_of b.tree))
 
 -- All is what the definition says of the first items: the layout, the rows, and what was collected.
-pub record IsMade (source : Source) (before : List (List Row)) (b : BlockTree) (entered : List Row) (m : Collected) : Type 0 where
+pub record IsMade (source : Source) (before : List (List Row)) (b : BlockTree) (entered : List Row)
+    (m : Collected) : Type 0 where
   pub layout : m.layout ≡ extended_by (layout_of b.tree) (first_made source before b m.count).value.brought
   pub rows : entered ≡ (first_made source before b m.count).rows
   pub cell : m.cell ≡ (first_made source before b m.count).value.cell

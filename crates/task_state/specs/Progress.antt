@@ -1,5 +1,6 @@
 -- How far a task is: what a turn needs and leaves.
-use Rattle.std.specs.Prelude.{◌≡◌, ℕ, ◌+◌, ◌≤◌, Bool, true, false, List, [], ◌++◌, Option, None, filter, length, Some, take}
+use Rattle.std.specs.Prelude.{◌≡◌, ℕ, ◌+◌, ◌≤◌, Bool, true, false, List, [], ◌++◌, Option, None, filter, length, Some}
+use Rattle.std.specs.Prelude.{take}
 use Rattle.std.specs.Option.{IfSome}
 use Rattle.m2_base.specs.Finished.{WhereFinished, source_of}
 use Rattle.m2_base.specs.Lists.{Each, WhereKept}
@@ -45,8 +46,8 @@ use Rattle.task_state.specs.declared.task.Turn.TheVariants.{Done, Memory, Parked
 
 -- ** The block
 
--- So many of its items are entered, with what each has brought, as the layout gives them, each field before its record. Where no
--- text has a syntax error, their rows and what was collected of them are the definition's.
+-- So many of its items are entered, with what each has brought, as the layout gives them, each field before its
+-- record. Where no text has a syntax error, their rows and what was collected of them are the definition's.
 pub record HasDeclared (f : Frame) (a : Around) (tree : Stream) (m : Collected) : Type 0 where
   pub within : m.count ≤ length (items_of tree)
   pub brought : List (List Named)
@@ -57,17 +58,20 @@ pub record HasDeclared (f : Frame) (a : Around) (tree : Stream) (m : Collected) 
   pub cells : m.cell ≤ most_cells + 1
   pub procedures : m.procedures ≡ length (filter is_proc f.entered)
   pub there : IfSome m.returns (λ t. IsThere f t)
-  pub told : WhereFinished f.setting.texts (λ tables. IsMade (source_of f.setting.texts) (take f.setting.fills tables) (block_with a tree) f.entered m)
+  pub told : WhereFinished f.setting.texts
+      (λ tables. IsMade (source_of f.setting.texts) (take f.setting.fills tables) (block_with a tree) f.entered m)
 
 -- What was noted of the complete block, and the statements that its body has, are the definition's.
 pub record IsStated (source : Source) (tables : List (List Row)) (b : BlockTree) (x : Stating) : Type 0 where
   pub closing : x.closing.items ≡ closing_diags (complete_context source tables b.block) b.tree
-  pub built : IsBuilt (complete_context source tables b.block) b.tree (declare_block source (take b.block.scope tables) b).value x.body
+  pub built : IsBuilt (complete_context source tables b.block) b.tree
+      (declare_block source (take b.block.scope tables) b).value x.body
 
 -- So many of its statements are made.
 pub record HasStated (f : Frame) (a : Around) (tree : HeldStream) (x : Stating) : Type 0 where
   pub within : x.body.count ≤ length tree.body.items
-  pub told : WhereFinished f.setting.texts (λ tables. IsStated (source_of f.setting.texts) tables (block_with a (stream_view tree)) x)
+  pub told : WhereFinished f.setting.texts
+      (λ tables. IsStated (source_of f.setting.texts) tables (block_with a (stream_view tree)) x)
 
 -- Before the first cell of its variables is known nothing is entered, and nothing collected.
 pub record IsUnplaced (f : Frame) (w : Begun) : Type 0 where
@@ -120,8 +124,8 @@ IsAtStage f s a (Ended o) = HasEnded f s a o
 abbrev pub AreShown : State → Stage → Type 0
 AreShown st stage = WhereKept st.looks (λ looks. Each (IsAmong looks) (answers_in stage))
 
--- A task stands at a stream of the unit, and is as far as the scope that is filled: what is entered is what its items made, and
--- the scope is complete where it has completed it.
+-- A task stands at a stream of the unit, and is as far as the scope that is filled: what is entered is what its items
+-- made, and the scope is complete where it has completed it.
 pub record IsAsFar (st : State) (t : Task) : Type 0 where
   pub stream : StreamOf
   pub number : t.stream ≡ stream.stream
@@ -161,8 +165,8 @@ pub record IsSameTask (old new : Task) : Type 0 where
   pub kind : new.kind ≡ old.kind
   pub around : new.around ≡ old.around
 
--- What a task that is done leaves: its scope is complete, the output is that of its stream, and each of its answers is the
--- reply of a look, where looks are kept.
+-- What a task that is done leaves: its scope is complete, the output is that of its stream, and each of its answers is
+-- the reply of a look, where looks are kept.
 pub record IsLeft (st : State) (t : Task) (o : Output) : Type 0 where
   pub stream : StreamOf
   pub number : number_of t ≡ stream.stream
@@ -170,8 +174,8 @@ pub record IsLeft (st : State) (t : Task) (o : Output) : Type 0 where
   pub ended : HasEnded st.frame stream (around_of t) o
   pub shown : WhereKept st.looks (λ looks. Each (IsAmong looks) o.answers.items)
 
--- How a turn ends: the task is done; or this turn loaded the head of a smaller scope, which was incomplete, and it hadn't
--- been seen complete before.
+-- How a turn ends: the task is done; or this turn loaded the head of a smaller scope, which was incomplete, and it
+-- hadn't been seen complete before.
 abbrev pub Ends : State → State → Task → Turn → Type 0
 Ends old new t Done = is_over t ≡ true
 Ends old new t (Parked head) = Waits old new head

@@ -67,7 +67,8 @@ pub record IsAtWork (st : State) (a : Around) (w : Begun) : Type 0 where
 pub record Leaves (st : State) (a : Around) (tree : HeldStream) (o : Output) : Type 0 where
   pub stream : o.stream ≡ a.scope
   pub sound : o.fault ≡ None
-  pub told : WhereFinished (texts_of st) (λ tables. IsOutputOf (source_of (texts_of st)) tables (block_with a (stream_view tree)) o)
+  pub told : WhereFinished (texts_of st)
+      (λ tables. IsOutputOf (source_of (texts_of st)) tables (block_with a (stream_view tree)) o)
   pub shown : WhereKept st.looks (λ looks. Each (IsAmong looks) o.answers.items)
 
 -- a tree of which nothing is done yet

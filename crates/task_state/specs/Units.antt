@@ -9,9 +9,9 @@ use Rattle.stream_split.specs.Fronts.{AreFronts}
 use Rattle.stream_split.specs.Sizes.{sizes_of}
 use Rattle.stream_split.specs.Streams.{StreamOf, main_number, main_tokens, streams_of}
 
--- The stream is one of a unit's, and its block is surrounded as the streams say; the scopes are the unit's, have the room that
--- the streams ask, and fill the stream's own. Nothing is left out of the unit, by what the grammar tells of the fronts of
--- its texts, and it passes no limit.
+-- The stream is one of a unit's, and its block is surrounded as the streams say; the scopes are the unit's, have the
+-- room that the streams ask, and fill the stream's own. Nothing is left out of the unit, by what the grammar tells of
+-- the fronts of its texts, and it passes no limit.
 pub record IsOfUnit (g : Setting) (s : StreamOf) (a : Around) : Type 0 where
   pub unit : IsUnit g.texts
   pub limits : limit_of (main_tokens g.texts) ≡ None

@@ -43,8 +43,8 @@ fn add_procedures(procedures: u32, rows: &[Row]) -> Result<u32, Memory>
     }
 }
 
-/// Puts names behind those that a layout has from imports, as the next item brings them, and copies behind copies: both, or
-/// neither.
+/// Puts names behind those that a layout has from imports, as the next item brings them, and copies behind copies:
+/// both, or neither.
 fn extend_both(
     layout: &mut Layout,
     item: u32,
@@ -69,9 +69,9 @@ fn extend_both(
     extended
 }
 
-/// What the items so far have given: the layout with the names that they have brought, how many they are, the next free cell and
-/// the number of their procedures, the type of the result that the block's own heading binds, what the body copies first, the
-/// notes of headings, and what was noted.
+/// What the items so far have given: the layout with the names that they have brought, how many they are, the next
+/// free cell and the number of their procedures, the type of the result that the block's own heading binds, what the
+/// body copies first, the notes of headings, and what was noted.
 #[derive(Drop)]
 pub(crate) struct Collected {
     pub layout: Layout,
@@ -134,7 +134,8 @@ impl Collected {
         requires { CanAdd self.old more.now }
         ensures layout { OnOk result (self.new.layout ≡ extended self.old.layout more.now.effect.brought) }
         ensures copies { OnOk result (self.new.copies ≡ self.old.copies ++ more.now.effect.prologue) }
-        ensures headings { OnOk result (self.new.headings ≡ self.old.headings ++ heading_list more.now.effect.heading) }
+        ensures headings { OnOk result
+            (self.new.headings ≡ self.old.headings ++ heading_list more.now.effect.heading) }
         ensures diags { OnOk result (self.new.diags ≡ self.old.diags ++ more.now.notes.diags.items) }
         ensures answers { OnOk result (self.new.answers ≡ self.old.answers ++ more.now.notes.answers.items) }
         ensures same_layout { OnErr result (self.new.layout ≡ self.old.layout) }
@@ -166,7 +167,8 @@ impl Collected {
         requires { CanAdd self.old more.now }
         ensures layout { OnOk result (self.new.layout ≡ extended self.old.layout more.now.effect.brought) }
         ensures copies { OnOk result (self.new.copies ≡ self.old.copies ++ more.now.effect.prologue) }
-        ensures headings { OnOk result (self.new.headings ≡ self.old.headings ++ heading_list more.now.effect.heading) }
+        ensures headings { OnOk result
+            (self.new.headings ≡ self.old.headings ++ heading_list more.now.effect.heading) }
         ensures diags { OnOk result (self.new.diags ≡ self.old.diags ++ more.now.notes.diags.items) }
         ensures answers { OnOk result (self.new.answers ≡ self.old.answers ++ more.now.notes.answers.items) }
         ensures same_layout { OnErr result (self.new.layout ≡ self.old.layout) }

@@ -44,7 +44,8 @@ fn declare_next<S: Scopes>(
     collected: &mut Collected,
 ) -> Result<(), Stop>
     requires far { IsDeclaring (S.state scopes.old) block.now collected.old }
-    requires here { slice_get (items_of (stream_view block.now.tree.now)) collected.old.count ≡ Some (item_view item.now) }
+    requires here { slice_get (items_of (stream_view block.now.tree.now)) collected.old.count
+        ≡ Some (item_view item.now) }
     ensures turns { Turns (S.state scopes.old) (S.state scopes.new) }
     ensures far { IsDeclaring (S.state scopes.new) block.now collected.new }
     ensures stops { Stops (S.state scopes.old) (S.state scopes.new) result }

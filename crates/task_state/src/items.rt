@@ -10,7 +10,8 @@ use std::alloc::Global;
 
 /// The heading of a procedure's block is its first item.
 fn add_heading<'a>(heading: &'a Option<Heading>, items: &mut Vec<Item<'a>>) -> Result<(), Memory>
-    ensures { OnOk result (map item_view items.new.items ≡ map item_view items.old.items ++ heading_items (option_map heading_view heading.now)) }
+    ensures { OnOk result (map item_view items.new.items
+        ≡ map item_view items.old.items ++ heading_items (option_map heading_view heading.now)) }
 {
     let Some(heading) = heading else {
         return Ok(());
@@ -25,7 +26,8 @@ fn add_names<'a>(
     names: &'a [Ident],
     items: &mut Vec<Item<'a>>,
 ) -> Result<(), Memory>
-    ensures { OnOk result (map item_view items.new.items ≡ map item_view items.old.items ++ map (import_item from.now) names.now) }
+    ensures { OnOk result
+        (map item_view items.new.items ≡ map item_view items.old.items ++ map (import_item from.now) names.now) }
 {
     for name in names {
         items.push(Item::Import(from, *name))?;
@@ -35,7 +37,8 @@ fn add_names<'a>(
 
 /// The names of all imports.
 fn add_imports<'a>(imports: &'a [Import], items: &mut Vec<Item<'a>>) -> Result<(), Memory>
-    ensures { OnOk result (map item_view items.new.items ≡ map item_view items.old.items ++ flat_map import_items (map import_view imports.now)) }
+    ensures { OnOk result (map item_view items.new.items
+        ≡ map item_view items.old.items ++ flat_map import_items (map import_view imports.now)) }
 {
     for import in imports {
         add_names(&import.from, &import.names, items)?;
@@ -45,7 +48,8 @@ fn add_imports<'a>(imports: &'a [Import], items: &mut Vec<Item<'a>>) -> Result<(
 
 /// Each declaration is an item.
 fn add_declarations<'a>(declarations: &'a [Decl], items: &mut Vec<Item<'a>>) -> Result<(), Memory>
-    ensures { OnOk result (map item_view items.new.items ≡ map item_view items.old.items ++ map decl_item (map decl_view declarations.now)) }
+    ensures { OnOk result (map item_view items.new.items
+        ≡ map item_view items.old.items ++ map decl_item (map decl_view declarations.now)) }
 {
     for declaration in declarations {
         items.push(Item::Declaration(declaration))?;

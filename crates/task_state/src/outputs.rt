@@ -52,7 +52,8 @@ pub(crate) fn output_of(
     stating: Stating,
 ) -> Result<Output, Memory>
     requires { stating.body.count ≡ length block.now.tree.now.body.items }
-    ensures { IfOk result (λ output. (st : State) → IsStating st block.now collected.now stating → Leaves st block.now.around.now block.now.tree.now output) }
+    ensures { IfOk result (λ output. (st : State) → IsStating st block.now collected.now stating
+        → Leaves st block.now.around.now block.now.tree.now output) }
 {
     let Stating { closing, body } = stating;
     let Stated { piece, notes } = body.end(block.around, block.tree)?;

@@ -38,7 +38,8 @@ fn tree_of(
     kind: StreamKind,
 ) -> Result<Stream, ParseFault>
     ensures tree { IfOk result (λ tree. SpellsStream kind (tree_view tree) tokens.now) }
-    ensures only { (tree : StreamTree) → SpellsStream kind tree tokens.now → Gives cause_of tree_view result (Ok tree) }
+    ensures only { (tree : StreamTree) → SpellsStream kind tree tokens.now
+        → Gives cause_of tree_view result (Ok tree) }
     ensures fault { IfErr result (λ fault. IsFirstFault text kind tokens.now fault) }
 {
     if !values_fit(tokens) {
@@ -75,7 +76,8 @@ fn stated(begun: &Begun) -> usize {
 impl Task {
     /// The task of a stream, whose block is surrounded so. Nothing is done yet.
     pub fn new(stream: StreamTokens, around: Around) -> Task
-        ensures { (st : State) → IsOfUnit st.frame.setting (stream_view stream) around → st.frame.entered ≡ [] → st.frame.closed ≡ false → IsAsFar st result }
+        ensures { (st : State) → IsOfUnit st.frame.setting (stream_view stream) around → st.frame.entered ≡ []
+            → st.frame.closed ≡ false → IsAsFar st result }
     {
         let StreamTokens {
             stream,
@@ -186,8 +188,8 @@ impl Task {
         self.go_on(alloc, texts, scopes)
     }
 
-    /// Goes on with the work until it is done, or has to wait for a scope, or memory is wanted. Nothing of an item or a
-    /// statement that isn't done is kept.
+    /// Goes on with the work until it is done, or has to wait for a scope, or memory is wanted. Nothing of an item or
+    /// a statement that isn't done is kept.
     pub fn turn<S: Scopes>(&mut self, alloc: Global, texts: &Texts, scopes: &mut S) -> Turn
         requires undone { is_over self.old ≡ false }
         requires texts { texts.now ≡ texts_of (S.state scopes.old) }

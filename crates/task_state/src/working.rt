@@ -129,7 +129,8 @@ fn state_rest<S: Scopes>(
     ensures tree { begun.new.tree ≡ begun.old.tree }
     ensures closed { begun.new.closed ≡ true }
     ensures stating { is_some begun.new.stating ≡ is_some begun.old.stating }
-    ensures all { OnOk result (IfSome begun.new.stating (λ stating. stating.body.count ≡ length begun.new.tree.body.items)) }
+    ensures all { OnOk result
+        (IfSome begun.new.stating (λ stating. stating.body.count ≡ length begun.new.tree.body.items)) }
 {
     let block = Block {
         texts,
@@ -148,8 +149,10 @@ fn end(alloc: Global, texts: &Texts, around: &Around, begun: &mut Begun) -> Resu
     requires all { IfSome begun.old.stating (λ stating. stating.body.count ≡ length begun.old.tree.body.items) }
     requires closed { begun.old.closed ≡ true }
     ensures tree { begun.new.tree ≡ begun.old.tree }
-    ensures far { (st : State) → texts.now ≡ texts_of st → IsAtWork st around.now begun.old → IsAtWork st around.now begun.new }
-    ensures left { IfOk result (λ output. (st : State) → texts.now ≡ texts_of st → IsAtWork st around.now begun.old → Leaves st around.now begun.old.tree output) }
+    ensures far { (st : State) → texts.now ≡ texts_of st → IsAtWork st around.now begun.old
+        → IsAtWork st around.now begun.new }
+    ensures left { IfOk result (λ output. (st : State) → texts.now ≡ texts_of st → IsAtWork st around.now begun.old
+        → Leaves st around.now begun.old.tree output) }
 {
     let block = Block {
         texts,

@@ -1,9 +1,9 @@
 //! May the tree of a stream be handed to another thread, or be seen by many?
 //!
-//! It may, since all that it holds may. `Send` and `Sync` are proved for it in `proofs/Crossing`, over its parts, because the
-//! search that finds them of other types gives up at a struct with so many large fields. A crate above that sends what holds
-//! a tree gives its own fields' answers round these (`tree-send`, `tree-sync`). The functions do nothing: that they are proved is
-//! what they say.
+//! It may, since all that it holds may. `Send` and `Sync` are proved for it in `proofs/Crossing`, over its parts,
+//! because the search that finds them of other types gives up at a struct with so many large fields. A crate above
+//! that sends what holds a tree gives its own fields' answers round these (`tree-send`, `tree-sync`). The functions do
+//! nothing: that they are proved is what they say.
 #![tactic(auto)]
 
 use m2_base::Stream;

@@ -2,7 +2,8 @@
 use Rattle.std.specs.Prelude.{Bool, ℕ, not, ◌==◌, ◌&&◌, ◌||◌}
 use Rattle.m2_base.specs.Rows.{is_same_place}
 use Rattle.m2_base.specs.Standard.{character}
-use Rattle.m2_base.specs.Statics.Assignable.{are_both_numbers, is_long_enough, is_open_array, takes_procedure, takes_string}
+use Rattle.m2_base.specs.Statics.Assignable.{are_both_numbers, is_long_enough, is_open_array, takes_procedure}
+use Rattle.m2_base.specs.Statics.Assignable.{takes_string}
 use Rattle.m2_base.specs.Statics.Compatible.{is_compatible}
 use Rattle.m2_base.specs.Statics.Contexts.{Scene}
 use Rattle.m2_base.specs.Statics.Operands.{operand_type}

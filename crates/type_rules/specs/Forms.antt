@@ -1,5 +1,6 @@
 -- Procedure types, as the walk through their parameters sees them.
-use Rattle.std.specs.Prelude.{◌≡◌, ℕ, ◌<◌, ◌≤◌, Bool, true, false, ◌&&◌, ◌||◌, List, [], ◌∷◌, Option, Some, None, filter_map, is_none}
+use Rattle.std.specs.Prelude.{◌≡◌, ℕ, ◌<◌, ◌≤◌, Bool, true, false, ◌&&◌, ◌||◌, List, [], ◌∷◌, Option, Some, None}
+use Rattle.std.specs.Prelude.{filter_map, is_none}
 use Rattle.std.specs.Option.{IfSome}
 use Rattle.m2_base.specs.Rows.{is_same_place}
 use Rattle.m2_base.specs.Standard.{broken}
@@ -45,7 +46,8 @@ parameters_from scene p from = filter_map (parameter_of p.ordinal) (rows_between
 -- a parameter that was read and those after it
 abbrev pub parameters_by : Scene → Place → Option Formal → List Parameter
 parameters_by scene p None = []
-parameters_by scene p (Some formal) = record { typ = formal.typ; by_ref = formal.by_ref } ∷ parameters_from scene p formal.next
+parameters_by scene p (Some formal) =
+    record { typ = formal.typ; by_ref = formal.by_ref } ∷ parameters_from scene p formal.next
 
 -- the walk goes on behind this parameter, whose type can be asked for
 pub record GoesOn (f : Frame) (p : Place) (from : ℕ) (formal : Formal) : Type 0 where
@@ -70,7 +72,8 @@ same_by scene left right = same_kinds scene left.0 right.0 left.1 right.1
 -- whether two lists of parameters are the same, by what one step says
 abbrev pub compared : Scene → (x y : Place) → Compared → Bool
 compared scene x y (Ended same) = same
-compared scene x y (Next left right) = are_same_parameters scene (parameters_from scene x left) (parameters_from scene y right)
+compared scene x y (Next left right) =
+    are_same_parameters scene (parameters_from scene x left) (parameters_from scene y right)
 
 -- two procedure types have the same modes, types and result
 abbrev pub same_forms : Scene → Form → Form → Bool

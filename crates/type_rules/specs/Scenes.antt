@@ -21,8 +21,8 @@ use Rattle.m2_base.specs.declared.sites.Around.{Around}
 abbrev pub block_of : Around → Block
 block_of a = record { scope = a.scope; text = a.text; level = a.level; home = a.module; own = a.own; chain = a.chain }
 
--- What counts beside the rows that are entered: the finished rows, of the scopes before the own one, and rows in hand, which are
--- made but not entered yet.
+-- What counts beside the rows that are entered: the finished rows, of the scopes before the own one, and rows in hand,
+-- which are made but not entered yet.
 pub record Hand : Type 0 where
   pub finished : List (List Row)
   pub rows : List Row
@@ -30,7 +30,8 @@ pub record Hand : Type 0 where
 abbrev pub hand : (finished : List (List Row)) → (rows : List Row) → Hand
 hand finished rows = record { finished = finished; rows = rows }
 
--- The rows that count: of the scopes before the own one all; of the own one those that are entered, and after them those in hand.
+-- The rows that count: of the scopes before the own one all; of the own one those that are entered,
+-- and after them those in hand.
 abbrev pub rows_of : Frame → (made : Hand) → List (List Row)
 rows_of f made = take f.setting.fills made.finished ++ (f.entered ++ made.rows) ∷ []
 
@@ -43,7 +44,8 @@ abbrev pub NamesNoType : RowMeaning → Type 0
 NamesNoType (TypeName t) = ⊥
 NamesNoType other = Unit {0}
 
--- Rows can be in hand: a complete scope has none, and none of them is that of a type's name, which is the last of its item.
+-- Rows can be in hand: a complete scope has none, and none of them is that of a type's name,
+-- which is the last of its item.
 pub record AreInHand (f : Frame) (made : Hand) : Type 0 where
   pub closed : f.closed ≡ true → made.rows ≡ []
   pub types : Each (λ r. NamesNoType (row_meaning r)) made.rows
@@ -52,8 +54,9 @@ pub record AreInHand (f : Frame) (made : Hand) : Type 0 where
 abbrev pub WhereTold : Frame → (Hand → Type 0) → Type 0
 WhereTold f P = (made : Hand) → AreInHand f made → IsFinished f.setting.texts made.finished → P made
 
--- What holds of the scopes and the finished rows: those of the scopes before are there, scope 0 is the standard one, each scope
--- has fewer rows than numbers of 32 bits, and what is entered is the beginning of the own scope's rows, in the end the whole.
+-- What holds of the scopes and the finished rows: those of the scopes before are there, scope 0 is the standard one,
+-- each scope has fewer rows than numbers of 32 bits, and what is entered is the beginning of the own scope's rows,
+-- in the end the whole.
 pub record Agrees (f : Frame) (finished : List (List Row)) : Type 0 where
   pub scopes : f.setting.fills < length finished
   pub standard : rows_at finished 0 ≡ standard_rows
@@ -61,8 +64,8 @@ pub record Agrees (f : Frame) (finished : List (List Row)) : Type 0 where
   pub entered : IsPrefixOf f.entered (rows_at finished f.setting.fills)
   pub whole : f.closed ≡ true → f.entered ≡ rows_at finished f.setting.fills
 
--- The scopes suit a block: they fill its scope, and have all scopes before it; the module and the own definition are no later
--- scopes.
+-- The scopes suit a block: they fill its scope, and have all scopes before it; the module and the own definition are
+-- no later scopes.
 pub record Suits (f : Frame) (a : Around) : Type 0 where
   pub fills : a.scope ≡ f.setting.fills
   pub inner : 0 < f.setting.fills
@@ -73,8 +76,8 @@ pub record Suits (f : Frame) (a : Around) : Type 0 where
   pub own : WhereKept a.own (λ s. s < f.setting.fills)
   pub told : WhereFinished f.setting.texts (Agrees f)
 
--- The place of a type can be asked for: its scope isn't above the block's, and where it is of the own scope, which isn't
--- complete, its row is entered.
+-- The place of a type can be asked for: its scope isn't above the block's, and where it is of the own scope, which
+-- isn't complete, its row is entered.
 pub record IsThere (f : Frame) (p : Place) : Type 0 where
   pub scope : p.scope ≤ f.setting.fills
   pub entered : p.scope ≡ f.setting.fills → f.closed ≡ false → p.ordinal < length f.entered

@@ -1,5 +1,6 @@
 -- Where a name is used, and what a search for it leaves.
-use Rattle.std.specs.Prelude.{◌≡◌, ◌≢◌, ◌⊎◌, ℕ, ◌<◌, ◌≤◌, nat_lt, if◌then◌else◌, true, List, [], ◌∷◌, ◌++◌, Option, Some, None, length, drop}
+use Rattle.std.specs.Prelude.{◌≡◌, ◌≢◌, ◌⊎◌, ℕ, ◌<◌, ◌≤◌, nat_lt, if◌then◌else◌, true, List, [], ◌∷◌, ◌++◌, Option}
+use Rattle.std.specs.Prelude.{Some, None, length, drop}
 use Rattle.std.specs.Option.{IfSome}
 pub use Rattle.m2_base.specs.Finished.{definitions_of, source_of}
 use Rattle.m2_base.specs.Lists.{IsIn, Each, WhereLast}
@@ -26,7 +27,12 @@ use Rattle.type_rules.specs.Scenes.{Hand, Suits, scene_of}
 
 -- the place where a name stands, as the definitions see it
 abbrev pub context_of : Frame → (made : Hand) → Site → Context
-context_of f made s = record { source = source_of s.texts.now; scene = scene_of f made s.around.now; layout = s.layout.now; item = s.item }
+context_of f made s = record {
+  source = source_of s.texts.now;
+  scene = scene_of f made s.around.now;
+  layout = s.layout.now;
+  item = s.item;
+}
 
 -- rows of an item: none has a name that the layout first gives to an earlier item
 pub record AreOfItem (layout : Layout) (item : ℕ) (made : List Row) : Type 0 where
@@ -36,8 +42,8 @@ pub record AreOfItem (layout : Layout) (item : ℕ) (made : List Row) : Type 0 w
 abbrev pub AreOfSite : Site → Hand → Type 0
 AreOfSite s made = IfSome s.item (λ item. AreOfItem s.layout.now item made.rows)
 
--- The scopes suit a site: its texts are theirs, its chain has the own scope and then scopes before it, and where it stands in no
--- declaration the own scope is complete.
+-- The scopes suit a site: its texts are theirs, its chain has the own scope and then scopes before it, and where it
+-- stands in no declaration the own scope is complete.
 pub record SuitsSite (f : Frame) (s : Site) : Type 0 where
   pub around : Suits f s.around.now
   pub texts : s.texts.now ≡ f.setting.texts
@@ -46,8 +52,8 @@ pub record SuitsSite (f : Frame) (s : Site) : Type 0 where
   pub down : Each (λ k. k < f.setting.fills) (drop 1 s.around.now.chain)
   pub done : s.item ≡ None → f.closed ≡ true
 
--- A chain can be searched: its scopes aren't above the own one, and where it has that, the own scope is complete or all that
--- there is.
+-- A chain can be searched: its scopes aren't above the own one, and where it has that, the own scope is complete or
+-- all that there is.
 pub record CanLook (f : Frame) (chain : List ℕ) : Type 0 where
   pub short : length chain ≤ 18
   pub inner : Each (λ s. s ≤ f.setting.fills) chain
@@ -81,14 +87,14 @@ abbrev pub EndsWithAlias : List Answer → (at name : ℕ) → Head → Type 0
 EndsWithAlias answers at name h =
     (front : List Answer) × (e : Entry) × (answers ≡ front ++ answer_of name at e ∷ []) × LeadsTo e.1 h
 
--- The head is that at which the search for this name in this chain stopped, which was the last look; or it doesn't count the row
--- of the target of an alias, which was the last answer noted.
+-- The head is that at which the search for this name in this chain stopped, which was the last look; or it doesn't
+-- count the row of the target of an alias, which was the last answer noted.
 abbrev pub IsAskedIn : State → Notes → (at name : ℕ) → List ℕ → Head → Type 0
 IsAskedIn new notes at name chain h =
     WhereLast new.looks (IsLookFor at name chain (DontKnowYet h)) ⊎ EndsWithAlias notes.answers.items at name h
 
--- the chain in which a name of a declaration is looked up: the own scope alone where the layout gives it to an earlier item,
--- none where to this or a later one, else the scopes outside
+-- the chain in which a name of a declaration is looked up: the own scope alone where the layout gives it to an earlier
+-- item, none where to this or a later one, else the scopes outside
 abbrev pub chain_in_item : Site → (item : ℕ) → Option Named → List ℕ
 chain_in_item s item (Some n) = if nat_lt n.item item then s.around.now.scope ∷ [] else []
 chain_in_item s item None = drop 1 s.around.now.chain

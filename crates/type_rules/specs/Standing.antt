@@ -47,8 +47,8 @@ pub record StopsBehindSearch (new : State) (home name : ℕ) (h : Head) : Type 0
 abbrev pub StopsAtName : State → (home name : ℕ) → Head → Type 0
 StopsAtName new home name h = StopsSearch new home name h ⊎ StopsBehindSearch new home name h
 
--- What an opaque type stands for isn't known at this head: it is one of the block's own definition, and the head doesn't count
--- the row behind it, which has its name, or what the module declares under a name isn't known.
+-- What an opaque type stands for isn't known at this head: it is one of the block's own definition, and the head
+-- doesn't count the row behind it, which has its name, or what the module declares under a name isn't known.
 pub record StopsAtOpaque (new : State) (a : Around) (t : Place) (h : Head) : Type 0 where
   pub own : a.own ≡ Some t.scope
   pub stops : IsShortOf (at_place t.scope (t.ordinal + 1)) h ⊎ ((name : ℕ) × StopsAtName new a.module name h)

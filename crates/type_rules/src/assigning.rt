@@ -3,11 +3,17 @@ ghost use Rattle.std.specs.Prelude.{◌≡◌, option_map};
 ghost use Rattle.std.specs.Option.{IfSome};
 ghost use Rattle.m2_base.specs.Rows.{IsValue};
 ghost use Rattle.m2_base.specs.States.{Waits};
-ghost use Rattle.m2_base.specs.Statics.Assignable.{is_assignable, takes as spec_takes, takes_procedure as spec_takes_procedure, takes_string as spec_takes_string, is_open_array as spec_open_array, is_long_enough as spec_long_enough};
+ghost use Rattle.m2_base.specs.Statics.Assignable.{is_assignable, takes as spec_takes};
+ghost use Rattle.m2_base.specs.Statics.Assignable.{takes_procedure as spec_takes_procedure};
+ghost use Rattle.m2_base.specs.Statics.Assignable.{takes_string as spec_takes_string};
+ghost use Rattle.m2_base.specs.Statics.Assignable.{is_open_array as spec_open_array};
+ghost use Rattle.m2_base.specs.Statics.Assignable.{is_long_enough as spec_long_enough};
 ghost use Rattle.m2_base.specs.Statics.Ranges.{range};
 ghost use Rattle.m2_base.specs.Statics.Types.{stands_for as spec_stands, kind_of};
 ghost use Rattle.type_rules.specs.Asks.{Reads, WhereKnown, WhereWaiting};
-ghost use Rattle.type_rules.specs.Assigning.{takes_char as spec_takes_char, takes_text as spec_takes_text, takes_value as spec_takes_value, takes_other as spec_takes_other, takes_closed as spec_takes_closed, array_takes};
+ghost use Rattle.type_rules.specs.Assigning.{takes_char as spec_takes_char, takes_text as spec_takes_text};
+ghost use Rattle.type_rules.specs.Assigning.{takes_value as spec_takes_value, takes_other as spec_takes_other};
+ghost use Rattle.type_rules.specs.Assigning.{takes_closed as spec_takes_closed, array_takes};
 ghost use Rattle.type_rules.specs.Scenes.{Suits, IsThere, IsOperandThere, IsSaid, scene_of, WhereTold};
 ghost use Rattle.type_rules.specs.Standing.{StopsAtType};
 
@@ -27,7 +33,8 @@ pub fn is_open_array<S: Scopes>(scopes: &mut S, around: &Around, of: Place) -> A
     ensures reads { Reads (S.state scopes.old) (S.state scopes.new) }
     ensures waits { WhereWaiting result (λ head. Waits (S.state scopes.old) (S.state scopes.new) head) }
     ensures told { WhereTold (S.state scopes.old).frame (λ made.
-        WhereKnown result (λ holds. holds ≡ spec_open_array (scene_of (S.state scopes.old).frame made around.now) of)) }
+        WhereKnown result
+        (λ holds. holds ≡ spec_open_array (scene_of (S.state scopes.old).frame made around.now) of)) }
     ensures stops { WhereWaiting result (λ head. StopsAtType (S.state scopes.new) around.now of head) }
 {
     let (_, meaning) = known!(stand(scopes, around, of));
@@ -43,7 +50,8 @@ fn takes_procedure<S: Scopes>(scopes: &mut S, around: &Around, to: Place, of: Pl
     ensures reads { Reads (S.state scopes.old) (S.state scopes.new) }
     ensures waits { WhereWaiting result (λ head. Waits (S.state scopes.old) (S.state scopes.new) head) }
     ensures told { WhereTold (S.state scopes.old).frame (λ made.
-        WhereKnown result (λ holds. holds ≡ spec_takes_procedure (scene_of (S.state scopes.old).frame made around.now) to of)) }
+        WhereKnown result
+        (λ holds. holds ≡ spec_takes_procedure (scene_of (S.state scopes.old).frame made around.now) to of)) }
 {
     let (left, right) = known!(forms_of(scopes, around, to, of));
     let Some(left) = left else {
@@ -84,7 +92,8 @@ fn takes_string<S: Scopes>(
     ensures reads { Reads (S.state scopes.old) (S.state scopes.new) }
     ensures waits { WhereWaiting result (λ head. Waits (S.state scopes.old) (S.state scopes.new) head) }
     ensures told { WhereTold (S.state scopes.old).frame (λ made.
-        WhereKnown result (λ holds. holds ≡ array_takes (scene_of (S.state scopes.old).frame made around.now) length index of)) }
+        WhereKnown result
+        (λ holds. holds ≡ array_takes (scene_of (S.state scopes.old).frame made around.now) length index of)) }
 {
     if !known!(same(scopes, around, of, CHARACTER)) {
         return Ask::Known(false);
@@ -101,7 +110,8 @@ fn array_takes<S: Scopes>(scopes: &mut S, around: &Around, to: Place, length: u3
     ensures reads { Reads (S.state scopes.old) (S.state scopes.new) }
     ensures waits { WhereWaiting result (λ head. Waits (S.state scopes.old) (S.state scopes.new) head) }
     ensures told { WhereTold (S.state scopes.old).frame (λ made.
-        WhereKnown result (λ holds. holds ≡ spec_takes_string (scene_of (S.state scopes.old).frame made around.now) length (kind_of (scene_of (S.state scopes.old).frame made around.now) to))) }
+        WhereKnown result (λ holds. holds ≡ spec_takes_string (scene_of (S.state scopes.old).frame made around.now)
+        length (kind_of (scene_of (S.state scopes.old).frame made around.now) to))) }
 {
     let (_, meaning) = known!(stand(scopes, around, to));
     match meaning {
@@ -118,7 +128,8 @@ fn takes_char<S: Scopes>(scopes: &mut S, around: &Around, to: Place, length: u32
     ensures reads { Reads (S.state scopes.old) (S.state scopes.new) }
     ensures waits { WhereWaiting result (λ head. Waits (S.state scopes.old) (S.state scopes.new) head) }
     ensures told { WhereTold (S.state scopes.old).frame (λ made.
-        WhereKnown result (λ holds. holds ≡ spec_takes_char (scene_of (S.state scopes.old).frame made around.now) to length)) }
+        WhereKnown result
+        (λ holds. holds ≡ spec_takes_char (scene_of (S.state scopes.old).frame made around.now) to length)) }
 {
     if length != 1 {
         return Ask::Known(false);
@@ -135,7 +146,8 @@ fn takes_text<S: Scopes>(scopes: &mut S, around: &Around, to: Place, length: u32
     ensures reads { Reads (S.state scopes.old) (S.state scopes.new) }
     ensures waits { WhereWaiting result (λ head. Waits (S.state scopes.old) (S.state scopes.new) head) }
     ensures told { WhereTold (S.state scopes.old).frame (λ made.
-        WhereKnown result (λ holds. holds ≡ spec_takes_text (scene_of (S.state scopes.old).frame made around.now) to length)) }
+        WhereKnown result
+        (λ holds. holds ≡ spec_takes_text (scene_of (S.state scopes.old).frame made around.now) to length)) }
 {
     if known!(takes_char(scopes, around, to, length)) {
         return Ask::Known(true);
@@ -152,7 +164,8 @@ fn takes_other<S: Scopes>(scopes: &mut S, around: &Around, to: Place, of: Place)
     ensures reads { Reads (S.state scopes.old) (S.state scopes.new) }
     ensures waits { WhereWaiting result (λ head. Waits (S.state scopes.old) (S.state scopes.new) head) }
     ensures told { WhereTold (S.state scopes.old).frame (λ made.
-        WhereKnown result (λ holds. holds ≡ spec_takes_other (scene_of (S.state scopes.old).frame made around.now) to of)) }
+        WhereKnown result
+        (λ holds. holds ≡ spec_takes_other (scene_of (S.state scopes.old).frame made around.now) to of)) }
 {
     let (left, right) = known!(bases_of(scopes, around, to, of));
     if is_integer_or_cardinal(left) && is_integer_or_cardinal(right) {
@@ -175,7 +188,8 @@ fn takes_value<S: Scopes>(
     ensures reads { Reads (S.state scopes.old) (S.state scopes.new) }
     ensures waits { WhereWaiting result (λ head. Waits (S.state scopes.old) (S.state scopes.new) head) }
     ensures told { WhereTold (S.state scopes.old).frame (λ made.
-        WhereKnown result (λ holds. holds ≡ spec_takes_value (scene_of (S.state scopes.old).frame made around.now) to operand.now)) }
+        WhereKnown result
+        (λ holds. holds ≡ spec_takes_value (scene_of (S.state scopes.old).frame made around.now) to operand.now)) }
 {
     if known!(compatible(scopes, around, operand, &Operand::Computed(to))) {
         return Ask::Known(true);
@@ -197,7 +211,8 @@ fn takes_closed<S: Scopes>(
     ensures reads { Reads (S.state scopes.old) (S.state scopes.new) }
     ensures waits { WhereWaiting result (λ head. Waits (S.state scopes.old) (S.state scopes.new) head) }
     ensures told { WhereTold (S.state scopes.old).frame (λ made.
-        WhereKnown result (λ holds. holds ≡ spec_takes_closed (scene_of (S.state scopes.old).frame made around.now) to operand.now)) }
+        WhereKnown result
+        (λ holds. holds ≡ spec_takes_closed (scene_of (S.state scopes.old).frame made around.now) to operand.now)) }
 {
     if known!(is_open_array(scopes, around, operand_type(operand))) {
         return Ask::Known(false);
@@ -214,7 +229,8 @@ fn takes<S: Scopes>(scopes: &mut S, around: &Around, to: Place, operand: &Operan
     ensures reads { Reads (S.state scopes.old) (S.state scopes.new) }
     ensures waits { WhereWaiting result (λ head. Waits (S.state scopes.old) (S.state scopes.new) head) }
     ensures told { WhereTold (S.state scopes.old).frame (λ made.
-        WhereKnown result (λ holds. holds ≡ spec_takes (scene_of (S.state scopes.old).frame made around.now) to operand.now)) }
+        WhereKnown result
+        (λ holds. holds ≡ spec_takes (scene_of (S.state scopes.old).frame made around.now) to operand.now)) }
 {
     match *operand {
         Operand::Procedure(_, of, _, _) => takes_procedure(scopes, around, to, of),
@@ -237,7 +253,8 @@ pub fn assignable<S: Scopes>(
     ensures reads { Reads (S.state scopes.old) (S.state scopes.new) }
     ensures waits { WhereWaiting result (λ head. Waits (S.state scopes.old) (S.state scopes.new) head) }
     ensures told { WhereTold (S.state scopes.old).frame (λ made.
-        WhereKnown result (λ holds. holds ≡ is_assignable (scene_of (S.state scopes.old).frame made around.now) to operand.now)) }
+        WhereKnown result
+        (λ holds. holds ≡ is_assignable (scene_of (S.state scopes.old).frame made around.now) to operand.now)) }
 {
     if known!(is_open_array(scopes, around, to)) {
         return Ask::Known(false);

@@ -2,7 +2,8 @@
 ghost use Rattle.std.specs.Prelude.{◌≡◌, ◌&&◌, ◌||◌, not};
 ghost use Rattle.m2_base.specs.Rows.{is_same_place};
 ghost use Rattle.m2_base.specs.Standard.{character};
-ghost use Rattle.m2_base.specs.Statics.Operands.{is_string as spec_string, is_one_char as spec_one_char, operand_type as spec_type};
+ghost use Rattle.m2_base.specs.Statics.Operands.{is_string as spec_string, is_one_char as spec_one_char};
+ghost use Rattle.m2_base.specs.Statics.Operands.{operand_type as spec_type};
 ghost use Rattle.m2_base.specs.States.{Waits};
 ghost use Rattle.m2_base.specs.Statics.Compatible.{is_compatible, are_compatible_bases, is_pointer as spec_pointer};
 ghost use Rattle.m2_base.specs.Statics.Types.{base_of as spec_base};
@@ -32,8 +33,8 @@ pub fn is_pointer<S: Scopes>(scopes: &mut S, around: &Around, of: Place) -> Ask<
     Ask::Known(matches!(meaning, RowMeaning::Pointer(_) | RowMeaning::Opaque))
 }
 
-/// Whether two bases are compatible: one base, a whole constant's with INTEGER or CARDINAL, NIL's with a pointer or an opaque
-/// type.
+/// Whether two bases are compatible: one base, a whole constant's with INTEGER or CARDINAL, NIL's with a pointer or an
+/// opaque type.
 #[tactic(auto, using(crate::proofs::Reading::reading))]
 fn compatible_bases<S: Scopes>(scopes: &mut S, around: &Around, x: Place, y: Place) -> Ask<bool>
     requires suits { Suits (S.state scopes.old).frame around.now }
@@ -42,7 +43,8 @@ fn compatible_bases<S: Scopes>(scopes: &mut S, around: &Around, x: Place, y: Pla
     ensures reads { Reads (S.state scopes.old) (S.state scopes.new) }
     ensures waits { WhereWaiting result (λ head. Waits (S.state scopes.old) (S.state scopes.new) head) }
     ensures told { WhereTold (S.state scopes.old).frame (λ made.
-        WhereKnown result (λ holds. holds ≡ are_compatible_bases (scene_of (S.state scopes.old).frame made around.now) x y)) }
+        WhereKnown result
+        (λ holds. holds ≡ are_compatible_bases (scene_of (S.state scopes.old).frame made around.now) x y)) }
     ensures stops { WhereWaiting result (λ head. StopsAtEither (S.state scopes.new) around.now x y head) }
 {
     if x == y {
@@ -86,7 +88,8 @@ pub fn bases_of<S: Scopes>(
         WhereKnown result (λ bases. bases.0 ≡ spec_base (scene_of (S.state scopes.old).frame made around.now) x)) }
     ensures right { WhereTold (S.state scopes.old).frame (λ made.
         WhereKnown result (λ bases. bases.1 ≡ spec_base (scene_of (S.state scopes.old).frame made around.now) y)) }
-    ensures there { WhereKnown result (λ bases. IsThere (S.state scopes.old).frame bases.0 × IsThere (S.state scopes.old).frame bases.1) }
+    ensures there { WhereKnown result
+        (λ bases. IsThere (S.state scopes.old).frame bases.0 × IsThere (S.state scopes.old).frame bases.1) }
     ensures stops { WhereWaiting result (λ head. StopsAtEither (S.state scopes.new) around.now x y head) }
 {
     let left = known!(base_of(scopes, around, x));
@@ -94,7 +97,8 @@ pub fn bases_of<S: Scopes>(
     Ask::Known((left, right))
 }
 
-/// Whether two operands whose types have these bases are compatible: the same base, or one of the other pairs that go together.
+/// Whether two operands whose types have these bases are compatible: the same base,
+/// or one of the other pairs that go together.
 #[tactic(auto, using(crate::proofs::Reading::reading))]
 pub fn compatible_with<S: Scopes>(
     scopes: &mut S,
@@ -110,7 +114,9 @@ pub fn compatible_with<S: Scopes>(
     ensures reads { Reads (S.state scopes.old) (S.state scopes.new) }
     ensures waits { WhereWaiting result (λ head. Waits (S.state scopes.old) (S.state scopes.new) head) }
     ensures told { WhereTold (S.state scopes.old).frame (λ made.
-        WhereKnown result (λ holds. let scene = scene_of (S.state scopes.old).frame made around.now in left ≡ spec_base scene (spec_type x.now) → right ≡ spec_base scene (spec_type y.now) → holds ≡ is_compatible scene x.now y.now)) }
+        WhereKnown result (λ holds. let scene = scene_of (S.state scopes.old).frame made around.now in
+        left ≡ spec_base scene (spec_type x.now) → right ≡ spec_base scene (spec_type y.now)
+        → holds ≡ is_compatible scene x.now y.now)) }
     ensures stops { WhereWaiting result (λ head. StopsAtEither (S.state scopes.new) around.now left right head) }
 {
     if is_char_beside(x, left, y, right) {
@@ -128,7 +134,8 @@ pub fn compatible<S: Scopes>(scopes: &mut S, around: &Around, x: &Operand, y: &O
     ensures reads { Reads (S.state scopes.old) (S.state scopes.new) }
     ensures waits { WhereWaiting result (λ head. Waits (S.state scopes.old) (S.state scopes.new) head) }
     ensures told { WhereTold (S.state scopes.old).frame (λ made.
-        WhereKnown result (λ holds. holds ≡ is_compatible (scene_of (S.state scopes.old).frame made around.now) x.now y.now)) }
+        WhereKnown result
+        (λ holds. holds ≡ is_compatible (scene_of (S.state scopes.old).frame made around.now) x.now y.now)) }
 {
     let (left, right) = known!(bases_of(scopes, around, operand_type(x), operand_type(y)));
     compatible_with(scopes, around, x, left, y, right)

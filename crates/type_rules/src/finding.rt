@@ -14,8 +14,8 @@ ghost use Rattle.type_rules.specs.Standing.{StopsSearch};
 
 use m2_base::{Around, Ask, Place, Reply, Row, Scopes};
 
-/// The first row of the module's scope that has a name. What the own scope has not yet is answered as nothing: no row in hand
-/// is that of a type.
+/// The first row of the module's scope that has a name. What the own scope has not yet is answered as nothing: no row
+/// in hand is that of a type.
 #[tactic(auto, using(crate::proofs::Reading::reading))]
 pub(crate) fn declared<S: Scopes>(
     scopes: &mut S,
@@ -28,9 +28,12 @@ pub(crate) fn declared<S: Scopes>(
     ensures waits { WhereWaiting result (λ head. Waits (S.state scopes.old) (S.state scopes.new) head) }
     ensures told { WhereTold (S.state scopes.old).frame (λ made.
         WhereKnown result (λ entry. (t : Spot) → named_or (scene_of (S.state scopes.old).frame made around.now) t entry
-        ≡ named_or (scene_of (S.state scopes.old).frame made around.now) t (entry_in (rows_of (S.state scopes.old).frame made) around.now.module name))) }
-    ensures row { WhereKnown result (λ entry. IfSome entry (λ entry. IsRowOf (S.state scopes.old).frame entry.0 entry.1)) }
-    ensures found { WhereKnown result (λ entry. IfSome entry (λ entry. WhereLast (S.state scopes.new).looks (IsLookFor 0 name (around.now.module ∷ []) (Found entry.0 entry.1)))) }
+        ≡ named_or (scene_of (S.state scopes.old).frame made around.now) t
+        (entry_in (rows_of (S.state scopes.old).frame made) around.now.module name))) }
+    ensures row { WhereKnown result
+        (λ entry. IfSome entry (λ entry. IsRowOf (S.state scopes.old).frame entry.0 entry.1)) }
+    ensures found { WhereKnown result (λ entry. IfSome entry (λ entry.
+        WhereLast (S.state scopes.new).looks (IsLookFor 0 name (around.now.module ∷ []) (Found entry.0 entry.1)))) }
     ensures stops { WhereWaiting result (λ head. StopsSearch (S.state scopes.new) around.now.module name head) }
 {
     match scopes.search(0, &[around.module], name) {
@@ -54,8 +57,10 @@ pub fn entry_of_module<S: Scopes>(
     ensures reads { Reads (S.state scopes.old) (S.state scopes.new) }
     ensures waits { WhereWaiting result (λ head. Waits (S.state scopes.old) (S.state scopes.new) head) }
     ensures told { WhereTold (S.state scopes.old).frame (λ made.
-        WhereKnown result (λ entry. entry ≡ entry_in (rows_of (S.state scopes.old).frame made) around.now.module name)) }
-    ensures row { WhereKnown result (λ entry. IfSome entry (λ entry. IsRowOf (S.state scopes.old).frame entry.0 entry.1)) }
+        WhereKnown result
+        (λ entry. entry ≡ entry_in (rows_of (S.state scopes.old).frame made) around.now.module name)) }
+    ensures row { WhereKnown result
+        (λ entry. IfSome entry (λ entry. IsRowOf (S.state scopes.old).frame entry.0 entry.1)) }
     ensures stops { WhereWaiting result (λ head. StopsSearch (S.state scopes.new) around.now.module name head) }
 {
     match scopes.search(0, &[around.module], name) {

@@ -1,6 +1,8 @@
 //! The value of an operator on two constants.
 ghost use Rattle.std.specs.Prelude.{◌≡◌};
-ghost use Rattle.m2_base.specs.Statics.Folding.{fold as spec_fold, fold_number as spec_number, fold_bits as spec_bits, fold_ordinals as spec_ordinals, fold_by_kind as spec_by_kind, is_relation as spec_relation, low_bits as spec_low, truth, where_in};
+ghost use Rattle.m2_base.specs.Statics.Folding.{fold as spec_fold, fold_number as spec_number, fold_bits as spec_bits};
+ghost use Rattle.m2_base.specs.Statics.Folding.{fold_ordinals as spec_ordinals, fold_by_kind as spec_by_kind};
+ghost use Rattle.m2_base.specs.Statics.Folding.{is_relation as spec_relation, low_bits as spec_low, truth, where_in};
 ghost use Rattle.m2_base.specs.Statics.Ranges.{range};
 
 use m2_base::{FoldKind, GREATEST_CARDINAL, GREATEST_INTEGER, LEAST_INTEGER, Operator};

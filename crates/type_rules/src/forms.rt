@@ -4,11 +4,15 @@ ghost use Rattle.std.specs.Option.{IfSome};
 ghost use Rattle.m2_base.specs.Rows.{row_meaning, HasSmallNumbers};
 ghost use Rattle.m2_base.specs.declared.rows.Place.{Place as Spot};
 ghost use Rattle.m2_base.specs.States.{Waits};
-ghost use Rattle.m2_base.specs.Statics.SameForm.{is_same_part as spec_same_part, is_same_parameter_type as spec_same_parameter, are_same_parameters, is_same_result as spec_same_result};
+ghost use Rattle.m2_base.specs.Statics.SameForm.{is_same_part as spec_same_part};
+ghost use Rattle.m2_base.specs.Statics.SameForm.{is_same_parameter_type as spec_same_parameter, are_same_parameters};
+ghost use Rattle.m2_base.specs.Statics.SameForm.{is_same_result as spec_same_result};
 ghost use Rattle.m2_base.specs.Statics.TypeParts.{Parameter, parameter_of as spec_parameter};
 ghost use Rattle.m2_base.specs.Statics.Types.{stands_for as spec_stands, kind_of};
 ghost use Rattle.type_rules.specs.Asks.{Reads, WhereKnown, WhereWaiting};
-ghost use Rattle.type_rules.specs.Forms.{form_by, are_same_places, same_by as spec_same_by, IsFormHere, parameters_from, parameters_by, GoesOn, Progresses, GoesLater, same_forms, compared};
+ghost use Rattle.type_rules.specs.Forms.{form_by, are_same_places, same_by as spec_same_by, IsFormHere};
+ghost use Rattle.type_rules.specs.Forms.{parameters_from, parameters_by, GoesOn, Progresses, GoesLater, same_forms};
+ghost use Rattle.type_rules.specs.Forms.{compared};
 ghost use Rattle.type_rules.specs.Scenes.{Suits, IsThere, IsStood, IsStoodHere, scene_of, WhereTold};
 ghost use Rattle.type_rules.specs.Standing.{IsShortBefore, StopsAtEither, StopsAtType};
 
@@ -47,8 +51,9 @@ pub fn form_of<S: Scopes>(scopes: &mut S, around: &Around, of: Place) -> Ask<Opt
     requires there { IsThere (S.state scopes.old).frame of }
     ensures reads { Reads (S.state scopes.old) (S.state scopes.new) }
     ensures waits { WhereWaiting result (λ head. Waits (S.state scopes.old) (S.state scopes.new) head) }
-    ensures told { WhereTold (S.state scopes.old).frame (λ made. WhereKnown result (λ form.
-        form ≡ form_by (spec_stands (scene_of (S.state scopes.old).frame made around.now) of) (kind_of (scene_of (S.state scopes.old).frame made around.now) of))) }
+    ensures told { WhereTold (S.state scopes.old).frame (λ made.
+        WhereKnown result (λ form. form ≡ form_by (spec_stands (scene_of (S.state scopes.old).frame made around.now)
+        of) (kind_of (scene_of (S.state scopes.old).frame made around.now) of))) }
     ensures here { WhereKnown result (λ form. IfSome form (λ form. IsFormHere (S.state scopes.old).frame form)) }
     ensures stops { WhereWaiting result (λ head. StopsAtType (S.state scopes.new) around.now of head) }
 {
@@ -103,9 +108,11 @@ pub fn next_parameter<S: Scopes>(
     requires there { IsThere (S.state scopes.old).frame of }
     ensures reads { Reads (S.state scopes.old) (S.state scopes.new) }
     ensures waits { WhereWaiting result (λ head. Waits (S.state scopes.old) (S.state scopes.new) head) }
-    ensures told { WhereTold (S.state scopes.old).frame (λ made. WhereKnown result (λ formal.
-        parameters_from (scene_of (S.state scopes.old).frame made around.now) of start ≡ parameters_by (scene_of (S.state scopes.old).frame made around.now) of formal)) }
-    ensures goes_on { WhereKnown result (λ formal. IfSome formal (λ formal. GoesOn (S.state scopes.old).frame of start formal)) }
+    ensures told { WhereTold (S.state scopes.old).frame (λ made.
+        WhereKnown result (λ formal. parameters_from (scene_of (S.state scopes.old).frame made around.now) of start
+        ≡ parameters_by (scene_of (S.state scopes.old).frame made around.now) of formal)) }
+    ensures goes_on { WhereKnown result
+        (λ formal. IfSome formal (λ formal. GoesOn (S.state scopes.old).frame of start formal)) }
     ensures stops { WhereWaiting result (λ head. IsShortBefore of head) }
 {
     for ordinal in start..of.ordinal {
@@ -142,7 +149,8 @@ fn stand_both<S: Scopes>(
         WhereKnown result (λ both. IsStood (scene_of (S.state scopes.old).frame made around.now) x both.0)) }
     ensures right { WhereTold (S.state scopes.old).frame (λ made.
         WhereKnown result (λ both. IsStood (scene_of (S.state scopes.old).frame made around.now) y both.1)) }
-    ensures here { WhereKnown result (λ both. IsStoodHere (S.state scopes.old).frame both.0 × IsStoodHere (S.state scopes.old).frame both.1) }
+    ensures here { WhereKnown result
+        (λ both. IsStoodHere (S.state scopes.old).frame both.0 × IsStoodHere (S.state scopes.old).frame both.1) }
     ensures stops { WhereWaiting result (λ head. StopsAtEither (S.state scopes.new) around.now x y head) }
 {
     let left = known!(stand(scopes, around, x));
@@ -171,7 +179,8 @@ fn same_by<S: Scopes>(
     ensures reads { Reads (S.state scopes.old) (S.state scopes.new) }
     ensures waits { WhereWaiting result (λ head. Waits (S.state scopes.old) (S.state scopes.new) head) }
     ensures told { WhereTold (S.state scopes.old).frame (λ made.
-        WhereKnown result (λ same. same ≡ spec_same_by (scene_of (S.state scopes.old).frame made around.now) left right)) }
+        WhereKnown result
+        (λ same. same ≡ spec_same_by (scene_of (S.state scopes.old).frame made around.now) left right)) }
 {
     match (left.1, right.1) {
         (RowMeaning::OpenArray(x), RowMeaning::OpenArray(y)) => same_part(scopes, around, x, y),
@@ -190,7 +199,8 @@ fn same_parameter<S: Scopes>(scopes: &mut S, around: &Around, x: Place, y: Place
     ensures reads { Reads (S.state scopes.old) (S.state scopes.new) }
     ensures waits { WhereWaiting result (λ head. Waits (S.state scopes.old) (S.state scopes.new) head) }
     ensures told { WhereTold (S.state scopes.old).frame (λ made.
-        WhereKnown result (λ same. same ≡ spec_same_parameter (scene_of (S.state scopes.old).frame made around.now) x y)) }
+        WhereKnown result
+        (λ same. same ≡ spec_same_parameter (scene_of (S.state scopes.old).frame made around.now) x y)) }
 {
     let (left, right) = known!(stand_both(scopes, around, x, y));
     same_by(scopes, around, left, right)
@@ -211,10 +221,12 @@ fn next_pair<S: Scopes>(
     requires y { IsThere (S.state scopes.old).frame y }
     ensures reads { Reads (S.state scopes.old) (S.state scopes.new) }
     ensures waits { WhereWaiting result (λ head. Waits (S.state scopes.old) (S.state scopes.new) head) }
-    ensures left { WhereTold (S.state scopes.old).frame (λ made. WhereKnown result (λ pair.
-        parameters_from (scene_of (S.state scopes.old).frame made around.now) x left ≡ parameters_by (scene_of (S.state scopes.old).frame made around.now) x pair.0)) }
-    ensures right { WhereTold (S.state scopes.old).frame (λ made. WhereKnown result (λ pair.
-        parameters_from (scene_of (S.state scopes.old).frame made around.now) y right ≡ parameters_by (scene_of (S.state scopes.old).frame made around.now) y pair.1)) }
+    ensures left { WhereTold (S.state scopes.old).frame (λ made.
+        WhereKnown result (λ pair. parameters_from (scene_of (S.state scopes.old).frame made around.now) x left
+        ≡ parameters_by (scene_of (S.state scopes.old).frame made around.now) x pair.0)) }
+    ensures right { WhereTold (S.state scopes.old).frame (λ made.
+        WhereKnown result (λ pair. parameters_from (scene_of (S.state scopes.old).frame made around.now) y right
+        ≡ parameters_by (scene_of (S.state scopes.old).frame made around.now) y pair.1)) }
     ensures left_goes_on { WhereKnown result (λ pair. IfSome pair.0 (GoesOn (S.state scopes.old).frame x left)) }
     ensures right_goes_on { WhereKnown result (λ pair. IfSome pair.1 (GoesOn (S.state scopes.old).frame y right)) }
     ensures stops { WhereWaiting result (λ head. IsShortBefore x head ⊎ IsShortBefore y head) }
@@ -237,8 +249,11 @@ fn compare<S: Scopes>(
     requires second { IsThere (S.state scopes.old).frame second.typ }
     ensures reads { Reads (S.state scopes.old) (S.state scopes.new) }
     ensures waits { WhereWaiting result (λ head. Waits (S.state scopes.old) (S.state scopes.new) head) }
-    ensures told { WhereTold (S.state scopes.old).frame (λ made. (x y : Spot) → WhereKnown result (λ step.
-        are_same_parameters (scene_of (S.state scopes.old).frame made around.now) (parameters_by (scene_of (S.state scopes.old).frame made around.now) x (Some first)) (parameters_by (scene_of (S.state scopes.old).frame made around.now) y (Some second)) ≡ compared (scene_of (S.state scopes.old).frame made around.now) x y step)) }
+    ensures told { WhereTold (S.state scopes.old).frame (λ made.
+        (x y : Spot) → WhereKnown result (λ step. are_same_parameters (scene_of (S.state scopes.old).frame
+        made around.now) (parameters_by (scene_of (S.state scopes.old).frame made around.now) x (Some first))
+        (parameters_by (scene_of (S.state scopes.old).frame made around.now) y (Some second))
+        ≡ compared (scene_of (S.state scopes.old).frame made around.now) x y step)) }
     ensures next { WhereKnown result (λ step. Progresses first.next step) }
 {
     if first.by_ref != second.by_ref {
@@ -266,8 +281,11 @@ fn compare_next<S: Scopes>(
     requires y { IsThere (S.state scopes.old).frame y }
     ensures reads { Reads (S.state scopes.old) (S.state scopes.new) }
     ensures waits { WhereWaiting result (λ head. Waits (S.state scopes.old) (S.state scopes.new) head) }
-    ensures told { WhereTold (S.state scopes.old).frame (λ made. WhereKnown result (λ step.
-        are_same_parameters (scene_of (S.state scopes.old).frame made around.now) (parameters_from (scene_of (S.state scopes.old).frame made around.now) x left) (parameters_from (scene_of (S.state scopes.old).frame made around.now) y right) ≡ compared (scene_of (S.state scopes.old).frame made around.now) x y step)) }
+    ensures told { WhereTold (S.state scopes.old).frame (λ made.
+        WhereKnown result (λ step. are_same_parameters (scene_of (S.state scopes.old).frame made around.now)
+        (parameters_from (scene_of (S.state scopes.old).frame made around.now) x left)
+        (parameters_from (scene_of (S.state scopes.old).frame made around.now) y right)
+        ≡ compared (scene_of (S.state scopes.old).frame made around.now) x y step)) }
     ensures later { WhereKnown result (λ step. GoesLater left x.ordinal step) }
 {
     match known!(next_pair(scopes, around, x, left, y, right)) {
@@ -286,7 +304,9 @@ fn same_parameters<S: Scopes>(scopes: &mut S, around: &Around, x: Form, y: Form)
     ensures reads { Reads (S.state scopes.old) (S.state scopes.new) }
     ensures waits { WhereWaiting result (λ head. Waits (S.state scopes.old) (S.state scopes.new) head) }
     ensures told { WhereTold (S.state scopes.old).frame (λ made.
-        WhereKnown result (λ same. same ≡ are_same_parameters (scene_of (S.state scopes.old).frame made around.now) (parameters_from (scene_of (S.state scopes.old).frame made around.now) x.of x.first) (parameters_from (scene_of (S.state scopes.old).frame made around.now) y.of y.first))) }
+        WhereKnown result (λ same. same ≡ are_same_parameters (scene_of (S.state scopes.old).frame made around.now)
+        (parameters_from (scene_of (S.state scopes.old).frame made around.now) x.of x.first)
+        (parameters_from (scene_of (S.state scopes.old).frame made around.now) y.of y.first))) }
 {
     let mut left = x.first;
     let mut right = y.first;
@@ -315,7 +335,8 @@ fn same_result<S: Scopes>(
     ensures reads { Reads (S.state scopes.old) (S.state scopes.new) }
     ensures waits { WhereWaiting result (λ head. Waits (S.state scopes.old) (S.state scopes.new) head) }
     ensures told { WhereTold (S.state scopes.old).frame (λ made.
-        WhereKnown result (λ same. same ≡ spec_same_result (scene_of (S.state scopes.old).frame made around.now) x y)) }
+        WhereKnown result
+        (λ same. same ≡ spec_same_result (scene_of (S.state scopes.old).frame made around.now) x y)) }
 {
     match (x, y) {
         (None, None) => Ask::Known(true),
@@ -355,10 +376,13 @@ pub(crate) fn forms_of<S: Scopes>(
     ensures reads { Reads (S.state scopes.old) (S.state scopes.new) }
     ensures waits { WhereWaiting result (λ head. Waits (S.state scopes.old) (S.state scopes.new) head) }
     ensures left { WhereTold (S.state scopes.old).frame (λ made.
-        WhereKnown result (λ forms. forms.0 ≡ form_by (spec_stands (scene_of (S.state scopes.old).frame made around.now) x) (kind_of (scene_of (S.state scopes.old).frame made around.now) x))) }
+        WhereKnown result (λ forms. forms.0 ≡ form_by (spec_stands (scene_of (S.state scopes.old).frame made
+        around.now) x) (kind_of (scene_of (S.state scopes.old).frame made around.now) x))) }
     ensures right { WhereTold (S.state scopes.old).frame (λ made.
-        WhereKnown result (λ forms. forms.1 ≡ form_by (spec_stands (scene_of (S.state scopes.old).frame made around.now) y) (kind_of (scene_of (S.state scopes.old).frame made around.now) y))) }
-    ensures here { WhereKnown result (λ forms. IfSome forms.0 (IsFormHere (S.state scopes.old).frame) × IfSome forms.1 (IsFormHere (S.state scopes.old).frame)) }
+        WhereKnown result (λ forms. forms.1 ≡ form_by (spec_stands (scene_of (S.state scopes.old).frame made
+        around.now) y) (kind_of (scene_of (S.state scopes.old).frame made around.now) y))) }
+    ensures here { WhereKnown result (λ forms. IfSome forms.0 (IsFormHere (S.state scopes.old).frame)
+        × IfSome forms.1 (IsFormHere (S.state scopes.old).frame)) }
     ensures stops { WhereWaiting result (λ head. StopsAtEither (S.state scopes.new) around.now x y head) }
 {
     let left = known!(form_of(scopes, around, x));

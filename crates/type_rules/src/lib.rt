@@ -1,8 +1,8 @@
 //! What are a type's base, range, size and parts, when are two types the same, and what does a name stand for?
 //!
 //! Each question is asked of rows that others may still be adding to: its answer is the definition's
-//! (`m2_base`'s `specs/Statics`), or that it isn't known yet. A `told` clause says the first, whatever further rows the
-//! asker has in hand: those that an item makes before it enters them all at once. `waits` says of which scope the
+//! (`m2_base`'s `specs/Statics`), or that it isn't known yet. A `told` clause says the first, whatever further rows
+//! the asker has in hand: those that an item makes before it enters them all at once. `waits` says of which scope the
 //! second, and `reads` what the question leaves as before. A type is the place of its row. A row that is missing or of
 //! another kind counts as that of a part in error, in every unit.
 #![tactic(auto)]

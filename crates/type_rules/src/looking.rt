@@ -24,11 +24,13 @@ pub(crate) fn look_up<S: Scopes>(
     requires named { name ≢ 0 }
     ensures looked { Looked (S.state scopes.old) (S.state scopes.new) at name result }
     ensures waits { WhereWaiting result (λ head. Waits (S.state scopes.old) (S.state scopes.new) head) }
-    ensures asked { WhereWaiting result (λ head. WhereLast (S.state scopes.new).looks (IsLookFor at name chain.now (Unknown head))) }
+    ensures asked { WhereWaiting result
+        (λ head. WhereLast (S.state scopes.new).looks (IsLookFor at name chain.now (Unknown head))) }
     ensures told { WhereTold (S.state scopes.old).frame (λ made.
         (IsIn (fills_of (S.state scopes.old)) chain.now → Lacks made.rows name) →
         WhereKnown result (λ entry. entry ≡ lookup (rows_of (S.state scopes.old).frame made) chain.now name)) }
-    ensures row { WhereKnown result (λ entry. IfSome entry (λ entry. IsRowOf (S.state scopes.old).frame entry.0 entry.1)) }
+    ensures row { WhereKnown result
+        (λ entry. IfSome entry (λ entry. IsRowOf (S.state scopes.old).frame entry.0 entry.1)) }
     ensures within { WhereKnown result (λ entry. IfSome entry (λ entry. IsWithin chain.now entry.0)) }
 {
     match scopes.search(at, chain, name) {

@@ -3,7 +3,8 @@ ghost use Rattle.std.specs.Prelude.{◌≡◌, ◌≤◌, find};
 ghost use Rattle.std.specs.Option.{IfSome};
 ghost use Rattle.m2_base.specs.Rows.{row_meaning, HasSmallNumbers};
 ghost use Rattle.m2_base.specs.States.{Waits};
-ghost use Rattle.m2_base.specs.Statics.TypeParts.{field_of as spec_field, index_of as spec_index, is_field as spec_is_field, rows_between};
+ghost use Rattle.m2_base.specs.Statics.TypeParts.{field_of as spec_field, index_of as spec_index};
+ghost use Rattle.m2_base.specs.Statics.TypeParts.{is_field as spec_is_field, rows_between};
 ghost use Rattle.type_rules.specs.Asks.{Reads, WhereKnown, WhereWaiting};
 ghost use Rattle.type_rules.specs.Members.{IsFieldThere};
 ghost use Rattle.type_rules.specs.Scenes.{Suits, IsThere, IsHere, scene_of, WhereTold};
@@ -56,9 +57,11 @@ fn walk_to_field<S: Scopes>(
     ensures reads { Reads (S.state scopes.old) (S.state scopes.new) }
     ensures waits { WhereWaiting result (λ head. Waits (S.state scopes.old) (S.state scopes.new) head) }
     ensures told { WhereTold (S.state scopes.old).frame (λ made.
-        WhereKnown result (λ row. row ≡ find (spec_is_field of.ordinal name) (rows_between (scene_of (S.state scopes.old).frame made around.now) of.scope first of.ordinal))) }
+        WhereKnown result (λ row. row ≡ find (spec_is_field of.ordinal name)
+        (rows_between (scene_of (S.state scopes.old).frame made around.now) of.scope first of.ordinal))) }
     ensures here { WhereKnown result (λ row. IfSome row (λ row. IsHere (S.state scopes.old).frame row)) }
-    ensures typed { WhereKnown result (λ row. IfSome row (λ row. IsFieldThere (S.state scopes.old).frame (row_meaning row))) }
+    ensures typed { WhereKnown result
+        (λ row. IfSome row (λ row. IsFieldThere (S.state scopes.old).frame (row_meaning row))) }
 {
     for ordinal in first..of.ordinal {
         let place = Place {
@@ -87,9 +90,11 @@ fn field_among<S: Scopes>(
     ensures reads { Reads (S.state scopes.old) (S.state scopes.new) }
     ensures waits { WhereWaiting result (λ head. Waits (S.state scopes.old) (S.state scopes.new) head) }
     ensures told { WhereTold (S.state scopes.old).frame (λ made.
-        WhereKnown result (λ row. row ≡ find (spec_is_field of.ordinal name) (rows_between (scene_of (S.state scopes.old).frame made around.now) of.scope first of.ordinal))) }
+        WhereKnown result (λ row. row ≡ find (spec_is_field of.ordinal name)
+        (rows_between (scene_of (S.state scopes.old).frame made around.now) of.scope first of.ordinal))) }
     ensures here { WhereKnown result (λ row. IfSome row (λ row. IsHere (S.state scopes.old).frame row)) }
-    ensures typed { WhereKnown result (λ row. IfSome row (λ row. IsFieldThere (S.state scopes.old).frame (row_meaning row))) }
+    ensures typed { WhereKnown result
+        (λ row. IfSome row (λ row. IsFieldThere (S.state scopes.old).frame (row_meaning row))) }
 {
     let Some((ordinal, row)) = known!(scopes.select(of, name)) else {
         return Ask::Known(None);
@@ -116,7 +121,8 @@ pub fn field_of<S: Scopes>(
     ensures told { WhereTold (S.state scopes.old).frame (λ made.
         WhereKnown result (λ row. row ≡ spec_field (scene_of (S.state scopes.old).frame made around.now) of name)) }
     ensures here { WhereKnown result (λ row. IfSome row (λ row. IsHere (S.state scopes.old).frame row)) }
-    ensures typed { WhereKnown result (λ row. IfSome row (λ row. IsFieldThere (S.state scopes.old).frame (row_meaning row))) }
+    ensures typed { WhereKnown result
+        (λ row. IfSome row (λ row. IsFieldThere (S.state scopes.old).frame (row_meaning row))) }
 {
     let (stood, meaning) = known!(stand(scopes, around, of));
     match meaning {

@@ -1,6 +1,7 @@
 //! The types of operands, and the standard types.
 ghost use Rattle.std.specs.Prelude.{◌≡◌};
-ghost use Rattle.m2_base.specs.Statics.Operands.{operand_type as spec_type, is_string as spec_string, is_one_char as spec_one_char};
+ghost use Rattle.m2_base.specs.Statics.Operands.{operand_type as spec_type, is_string as spec_string};
+ghost use Rattle.m2_base.specs.Statics.Operands.{is_one_char as spec_one_char};
 ghost use Rattle.m2_base.specs.Statics.Compatible.{is_integer_or_cardinal as spec_integer_or_cardinal};
 
 use m2_base::{Operand, Place};

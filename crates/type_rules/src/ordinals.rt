@@ -5,7 +5,8 @@ ghost use Rattle.m2_base.specs.Rows.{Fits, IsValue};
 ghost use Rattle.m2_base.specs.declared.rows.Place.{Place as Spot};
 ghost use Rattle.m2_base.specs.States.{Frame, Waits};
 ghost use Rattle.m2_base.specs.Statics.Ranges.{range};
-ghost use Rattle.m2_base.specs.Statics.Types.{base_by as spec_base_by, base_of as spec_base, range_by as spec_by, range_of as spec_range};
+ghost use Rattle.m2_base.specs.Statics.Types.{base_by as spec_base_by, base_of as spec_base, range_by as spec_by};
+ghost use Rattle.m2_base.specs.Statics.Types.{range_of as spec_range};
 ghost use Rattle.type_rules.specs.Asks.{Reads, WhereKnown, WhereWaiting};
 ghost use Rattle.type_rules.specs.Scenes.{IsSaid, Suits, IsThere, scene_of, WhereTold};
 ghost use Rattle.type_rules.specs.Standing.{StopsAtType};
@@ -46,7 +47,8 @@ pub fn base_of<S: Scopes>(scopes: &mut S, around: &Around, of: Place) -> Ask<Pla
 /// The least and the greatest value of an ordinal type, by what its row says.
 pub fn range_by(meaning: RowMeaning) -> Option<(i64, i64)>
     ensures ends { option_map (λ ends. range ends.0 ends.1) result ≡ spec_by meaning }
-    ensures values { (names : ℕ) (p : Spot) → Fits names p meaning → IfSome result (λ ends. IsValue ends.0 × IsValue ends.1) }
+    ensures values { (names : ℕ) (p : Spot) → Fits names p meaning
+        → IfSome result (λ ends. IsValue ends.0 × IsValue ends.1) }
 {
     match meaning {
         RowMeaning::Integer => Some((LEAST_INTEGER, GREATEST_INTEGER)),
@@ -66,7 +68,8 @@ pub fn range_of<S: Scopes>(scopes: &mut S, around: &Around, of: Place) -> Ask<Op
     ensures reads { Reads (S.state scopes.old) (S.state scopes.new) }
     ensures waits { WhereWaiting result (λ head. Waits (S.state scopes.old) (S.state scopes.new) head) }
     ensures told { WhereTold (S.state scopes.old).frame (λ made.
-        WhereKnown result (λ ends. option_map (λ ends. range ends.0 ends.1) ends ≡ spec_range (scene_of (S.state scopes.old).frame made around.now) of)) }
+        WhereKnown result (λ ends. option_map (λ ends. range ends.0 ends.1) ends
+        ≡ spec_range (scene_of (S.state scopes.old).frame made around.now) of)) }
     ensures values { WhereKnown result (λ ends. IfSome ends (λ ends. IsValue ends.0 × IsValue ends.1)) }
     ensures stops { WhereWaiting result (λ head. StopsAtType (S.state scopes.new) around.now of head) }
 {

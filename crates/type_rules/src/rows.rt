@@ -39,9 +39,11 @@ pub fn row_before<S: Scopes>(scopes: &mut S, around: &Around, place: Place) -> A
     ensures reads { Reads (S.state scopes.old) (S.state scopes.new) }
     ensures waits { WhereWaiting result (λ head. Waits (S.state scopes.old) (S.state scopes.new) head) }
     ensures told { WhereTold (S.state scopes.old).frame (λ made.
-        WhereKnown result (λ row. row ≡ slice_get (rows_at (rows_of (S.state scopes.old).frame made) place.scope) place.ordinal)) }
+        WhereKnown result
+        (λ row. row ≡ slice_get (rows_at (rows_of (S.state scopes.old).frame made) place.scope) place.ordinal)) }
     ensures row { WhereKnown result (λ row. IfSome row (λ row. IsRowOf (S.state scopes.old).frame place row)) }
-    ensures named { WhereKnown result (λ row. IfSome row (λ row. row.name < length (S.state scopes.old).frame.setting.texts.names)) }
+    ensures named { WhereKnown result
+        (λ row. IfSome row (λ row. row.name < length (S.state scopes.old).frame.setting.texts.names)) }
     ensures of { WhereWaiting result (λ head. head.scope ≡ place.scope) }
     ensures stops { WhereWaiting result (λ head. head.count ≤ place.ordinal) }
 {
@@ -57,7 +59,8 @@ pub fn meaning_at<S: Scopes>(scopes: &mut S, around: &Around, place: Place) -> A
     ensures reads { Reads (S.state scopes.old) (S.state scopes.new) }
     ensures waits { WhereWaiting result (λ head. Waits (S.state scopes.old) (S.state scopes.new) head) }
     ensures told { WhereTold (S.state scopes.old).frame (λ made.
-        WhereKnown result (λ meaning. meaning ≡ row_meaning (spec_row (rows_of (S.state scopes.old).frame made) place))) }
+        WhereKnown result
+        (λ meaning. meaning ≡ row_meaning (spec_row (rows_of (S.state scopes.old).frame made) place))) }
     ensures said { WhereKnown result (λ meaning. IsSaid (S.state scopes.old).frame place meaning) }
     ensures of { WhereWaiting result (λ head. head.scope ≡ place.scope) }
     ensures stops { WhereWaiting result (λ head. head.count ≤ place.ordinal) }

@@ -1,11 +1,13 @@
-//! The row that a type stands for. Inside an implementation module an opaque type of its own definition stands for the type
-//! that the module declares under that name.
+//! The row that a type stands for. Inside an implementation module an opaque type of its own definition stands for the
+//! type that the module declares under that name.
 ghost use Rattle.std.specs.Prelude.{◌≡◌, ◌≢◌, Some};
 ghost use Rattle.std.specs.Option.{IfSome};
 ghost use Rattle.m2_base.specs.Rows.{row_meaning};
 ghost use Rattle.m2_base.specs.States.{Waits};
 ghost use Rattle.m2_base.specs.declared.rows.Place.{Place as Spot};
-ghost use Rattle.m2_base.specs.Statics.Types.{stands_for as spec_stands, kind_of, meaning_at as spec_meaning, opaque_as as spec_opaque, declared_as as spec_declared, type_named as spec_named};
+ghost use Rattle.m2_base.specs.Statics.Types.{stands_for as spec_stands, kind_of, meaning_at as spec_meaning};
+ghost use Rattle.m2_base.specs.Statics.Types.{opaque_as as spec_opaque, declared_as as spec_declared};
+ghost use Rattle.m2_base.specs.Statics.Types.{type_named as spec_named};
 ghost use Rattle.type_rules.specs.Asks.{Reads, WhereKnown, WhereWaiting};
 ghost use Rattle.type_rules.specs.Scenes.{Suits, IsThere, IsRowOf, IsStoodHere, IsSaid, scene_of, WhereTold};
 ghost use Rattle.type_rules.specs.Standing.{IsShortOfNamed, StopsAtName, StopsAtOpaque, StopsAtType, found_or};
@@ -30,9 +32,11 @@ fn type_named<S: Scopes>(
     ensures reads { Reads (S.state scopes.old) (S.state scopes.new) }
     ensures waits { WhereWaiting result (λ head. Waits (S.state scopes.old) (S.state scopes.new) head) }
     ensures told { WhereTold (S.state scopes.old).frame (λ made.
-        WhereKnown result (λ found. (of : Spot) → found_or of found ≡ spec_named (scene_of (S.state scopes.old).frame made around.now) of (row_meaning row.now))) }
+        WhereKnown result (λ found. (of : Spot) → found_or of found
+        ≡ spec_named (scene_of (S.state scopes.old).frame made around.now) of (row_meaning row.now))) }
     ensures meant { WhereTold (S.state scopes.old).frame (λ made.
-        WhereKnown result (λ found. IfSome found (λ stood. stood.1 ≡ spec_meaning (scene_of (S.state scopes.old).frame made around.now) stood.0))) }
+        WhereKnown result (λ found. IfSome found
+        (λ stood. stood.1 ≡ spec_meaning (scene_of (S.state scopes.old).frame made around.now) stood.0))) }
     ensures here { WhereKnown result (λ found. IfSome found (IsStoodHere (S.state scopes.old).frame)) }
     ensures stops { WhereWaiting result (λ head. IsShortOfNamed row.now head) }
     ensures looks { (S.state scopes.new).looks ≡ (S.state scopes.old).looks }
@@ -54,9 +58,11 @@ fn declared_as<S: Scopes>(scopes: &mut S, around: &Around, name: u32) -> Ask<Opt
     ensures reads { Reads (S.state scopes.old) (S.state scopes.new) }
     ensures waits { WhereWaiting result (λ head. Waits (S.state scopes.old) (S.state scopes.new) head) }
     ensures told { WhereTold (S.state scopes.old).frame (λ made.
-        WhereKnown result (λ found. (of : Spot) → found_or of found ≡ spec_declared (scene_of (S.state scopes.old).frame made around.now) of name)) }
+        WhereKnown result (λ found. (of : Spot)
+        → found_or of found ≡ spec_declared (scene_of (S.state scopes.old).frame made around.now) of name)) }
     ensures meant { WhereTold (S.state scopes.old).frame (λ made.
-        WhereKnown result (λ found. IfSome found (λ stood. stood.1 ≡ spec_meaning (scene_of (S.state scopes.old).frame made around.now) stood.0))) }
+        WhereKnown result (λ found. IfSome found
+        (λ stood. stood.1 ≡ spec_meaning (scene_of (S.state scopes.old).frame made around.now) stood.0))) }
     ensures here { WhereKnown result (λ found. IfSome found (IsStoodHere (S.state scopes.old).frame)) }
     ensures stops { WhereWaiting result (λ head. StopsAtName (S.state scopes.new) around.now.module name head) }
 {
@@ -77,9 +83,11 @@ fn opaque_as<S: Scopes>(scopes: &mut S, around: &Around, of: Place) -> Ask<Optio
     ensures reads { Reads (S.state scopes.old) (S.state scopes.new) }
     ensures waits { WhereWaiting result (λ head. Waits (S.state scopes.old) (S.state scopes.new) head) }
     ensures told { WhereTold (S.state scopes.old).frame (λ made.
-        WhereKnown result (λ found. found_or of found ≡ spec_opaque (scene_of (S.state scopes.old).frame made around.now) of around.now.own)) }
+        WhereKnown result (λ found.
+        found_or of found ≡ spec_opaque (scene_of (S.state scopes.old).frame made around.now) of around.now.own)) }
     ensures meant { WhereTold (S.state scopes.old).frame (λ made.
-        WhereKnown result (λ found. IfSome found (λ stood. stood.1 ≡ spec_meaning (scene_of (S.state scopes.old).frame made around.now) stood.0))) }
+        WhereKnown result (λ found. IfSome found
+        (λ stood. stood.1 ≡ spec_meaning (scene_of (S.state scopes.old).frame made around.now) stood.0))) }
     ensures here { WhereKnown result (λ found. IfSome found (IsStoodHere (S.state scopes.old).frame)) }
     ensures stops { WhereWaiting result (λ head. StopsAtOpaque (S.state scopes.new) around.now of head) }
 {

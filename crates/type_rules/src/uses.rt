@@ -1,5 +1,6 @@
 //! What a name stands for where it is used.
-ghost use Rattle.std.specs.Prelude.{◌≡◌, ◌≢◌, ◌+◌, ◌<◌, ◌≤◌, ◌∷◌, ◌++◌, ◌==◌, ◌&&◌, ◌⊎◌, [], drop, length, nat_lt, slice_get, IfOk, OnErr, MatchOption, true};
+ghost use Rattle.std.specs.Prelude.{◌≡◌, ◌≢◌, ◌+◌, ◌<◌, ◌≤◌, ◌∷◌, ◌++◌, ◌==◌, ◌&&◌, ◌⊎◌, [], drop, length, nat_lt};
+ghost use Rattle.std.specs.Prelude.{slice_get, IfOk, OnErr, MatchOption, true};
 ghost use Rattle.std.specs.Option.{IfSome};
 ghost use Rattle.m2_base.specs.Asks.{IfKnown, IfWaits};
 ghost use Rattle.m2_base.specs.Diagnostics.{code_of};
@@ -11,12 +12,15 @@ ghost use Rattle.m2_base.specs.States.{Works, Waits, fills_of};
 ghost use Rattle.m2_base.specs.Statics.Contexts.{text_of_scope as spec_text};
 ghost use Rattle.m2_base.specs.Statics.Diagnostics.{used_before};
 ghost use Rattle.m2_base.specs.Statics.Lookup.{entry_at, first_entry};
-ghost use Rattle.m2_base.specs.Statics.Uses.{answer_of, followed, bound_or as spec_bound_or, bound_outside as spec_bound_outside, use_in_item as spec_use_in_item, use_of as spec_use_of};
+ghost use Rattle.m2_base.specs.Statics.Uses.{answer_of, followed, bound_or as spec_bound_or};
+ghost use Rattle.m2_base.specs.Statics.Uses.{bound_outside as spec_bound_outside, use_in_item as spec_use_in_item};
+ghost use Rattle.m2_base.specs.Statics.Uses.{use_of as spec_use_of};
 ghost use Rattle.m2_base.specs.Standard.{standard_place, standard_rows as spec_rows};
 ghost use Rattle.m2_base.specs.Tables.{Lacks, lookup};
 ghost use Rattle.type_rules.specs.Asks.{Reads, WhereKnown, WhereWaiting};
 ghost use Rattle.type_rules.specs.Scenes.{Suits, IsRowOf, rows_of, scene_of, WhereTold};
-ghost use Rattle.type_rules.specs.Sites.{AreOfItem, AreOfSite, SuitsSite, CanLook, context_of, source_of, IsAskedIn, IsWithin, LeadsTo, chain_of, chain_in_item};
+ghost use Rattle.type_rules.specs.Sites.{AreOfItem, AreOfSite, SuitsSite, CanLook, context_of, source_of, IsAskedIn};
+ghost use Rattle.type_rules.specs.Sites.{IsWithin, LeadsTo, chain_of, chain_in_item};
 
 use crate::looking::look_up;
 use crate::rows::row_at;
@@ -30,7 +34,8 @@ type Entry = (Place, Row);
 
 /// Notes an answer.
 fn answer(notes: &mut Notes, name: u32, at: u32, entry: &Entry) -> Result<(), Memory>
-    ensures noted { IfOk result (λ _. notes.new.answers.items ≡ notes.old.answers.items ++ answer_of name at entry.now ∷ []) }
+    ensures noted { IfOk result
+        (λ _. notes.new.answers.items ≡ notes.old.answers.items ++ answer_of name at entry.now ∷ []) }
     ensures kept { OnErr result (notes.new.answers.items ≡ notes.old.answers.items) }
     ensures diags { notes.new.diags.items ≡ notes.old.diags.items }
 {
@@ -94,13 +99,16 @@ fn bind<S: Scopes>(
     requires suits { Suits (S.state scopes.old).frame around.now }
     requires row { IsRowOf (S.state scopes.old).frame entry.0 entry.1 }
     ensures reads { Reads (S.state scopes.old) (S.state scopes.new) }
-    ensures noted { IfOk result (λ _. notes.new.answers.items ≡ notes.old.answers.items ++ answer_of name at entry ∷ []) }
+    ensures noted { IfOk result
+        (λ _. notes.new.answers.items ≡ notes.old.answers.items ++ answer_of name at entry ∷ []) }
     ensures kept { OnErr result (notes.new.answers.items ≡ notes.old.answers.items) }
     ensures diags { notes.new.diags.items ≡ notes.old.diags.items }
     ensures waits { IfWaits result (λ head. Waits (S.state scopes.old) (S.state scopes.new) head) }
     ensures told { WhereTold (S.state scopes.old).frame (λ made.
-        IfKnown result (λ found. found ≡ Some (followed (scene_of (S.state scopes.old).frame made around.now) entry))) }
-    ensures row { IfKnown result (λ found. MatchOption found ⊥ (λ found. IsRowOf (S.state scopes.old).frame found.0 found.1)) }
+        IfKnown result
+        (λ found. found ≡ Some (followed (scene_of (S.state scopes.old).frame made around.now) entry))) }
+    ensures row { IfKnown result
+        (λ found. MatchOption found ⊥ (λ found. IsRowOf (S.state scopes.old).frame found.0 found.1)) }
     ensures upto { IfKnown result (λ found. MatchOption found ⊥ (λ found. found.0.scope ≤ entry.0.scope)) }
     ensures of { IfWaits result (λ head. LeadsTo entry.1 head) }
 {
@@ -129,10 +137,13 @@ fn bound_or<S: Scopes>(
     ensures asked { IfWaits result (λ head. IsAskedIn (S.state scopes.new) notes.new at name chain.now head) }
     ensures quiet { IfWaits result (λ head. notes.new.diags.items ≡ notes.old.diags.items) }
     ensures told { WhereTold (S.state scopes.old).frame (λ made.
-        (IsIn (fills_of (S.state scopes.old)) chain.now → Lacks made.rows name) →
-        IfKnown result (λ entry. Adds notes.old notes.new (spec_bound_or (context_of (S.state scopes.old).frame made site.now) (code_of diagnostic) name at (lookup (rows_of (S.state scopes.old).frame made) chain.now name)) entry)) }
-    ensures none { IfKnown result (λ entry. MatchOption entry (length notes.new.diags.items ≡ length notes.old.diags.items + 1) (λ _. notes.new.diags.items ≡ notes.old.diags.items)) }
-    ensures row { IfKnown result (λ entry. IfSome entry (λ entry. IsRowOf (S.state scopes.old).frame entry.0 entry.1)) }
+        (IsIn (fills_of (S.state scopes.old)) chain.now → Lacks made.rows name) → IfKnown result
+        (λ entry. Adds notes.old notes.new (spec_bound_or (context_of (S.state scopes.old).frame made site.now)
+        (code_of diagnostic) name at (lookup (rows_of (S.state scopes.old).frame made) chain.now name)) entry)) }
+    ensures none { IfKnown result (λ entry. MatchOption entry (length notes.new.diags.items
+        ≡ length notes.old.diags.items + 1) (λ _. notes.new.diags.items ≡ notes.old.diags.items)) }
+    ensures row { IfKnown result
+        (λ entry. IfSome entry (λ entry. IsRowOf (S.state scopes.old).frame entry.0 entry.1)) }
     ensures within { IfKnown result (λ entry. IfSome entry (λ entry. IsWithin chain.now entry.0)) }
 {
     match look_up(scopes, site.around, chain, name, at) {
@@ -147,7 +158,8 @@ fn bound_or<S: Scopes>(
 
 /// Whether an entry stands in the text of a site, after this token.
 fn stands_later(site: &Site, entry: &Entry, at: u32) -> bool
-    ensures { result ≡ ((spec_text (source_of site.now.texts.now) entry.now.0.scope == site.now.around.now.text) && nat_lt at entry.now.1.at) }
+    ensures { result ≡ ((spec_text (source_of site.now.texts.now) entry.now.0.scope == site.now.around.now.text)
+        && nat_lt at entry.now.1.at) }
 {
     text_of_scope(site.texts, entry.0.scope) == site.around.text && at < entry.1.at
 }
@@ -160,9 +172,11 @@ fn refuse_later(
     at: u32,
     entry: &Entry,
 ) -> Result<(), Memory>
-    ensures noted { IfOk result (λ _. notes.new.answers.items ≡ notes.old.answers.items ++ answer_of name at entry.now ∷ []) }
+    ensures noted { IfOk result
+        (λ _. notes.new.answers.items ≡ notes.old.answers.items ++ answer_of name at entry.now ∷ []) }
     ensures refused { IfOk result (λ _. IsRefused notes.old notes.new text at used_before) }
-    ensures answers { (notes.new.answers.items ≡ notes.old.answers.items ++ answer_of name at entry.now ∷ []) ⊎ (notes.new.answers.items ≡ notes.old.answers.items) }
+    ensures answers { (notes.new.answers.items ≡ notes.old.answers.items ++ answer_of name at entry.now ∷ [])
+        ⊎ (notes.new.answers.items ≡ notes.old.answers.items) }
     ensures kept { OnErr result (notes.new.diags.items ≡ notes.old.diags.items) }
 {
     answer(notes, name, at, entry)?;
@@ -181,12 +195,17 @@ fn bound_outside<S: Scopes>(
     requires named { name ≢ 0 }
     ensures works { Works (S.state scopes.old) (S.state scopes.new) notes.old notes.new }
     ensures waits { IfWaits result (λ head. Waits (S.state scopes.old) (S.state scopes.new) head) }
-    ensures asked { IfWaits result (λ head. IsAskedIn (S.state scopes.new) notes.new at name (drop 1 site.now.around.now.chain) head) }
+    ensures asked { IfWaits result
+        (λ head. IsAskedIn (S.state scopes.new) notes.new at name (drop 1 site.now.around.now.chain) head) }
     ensures quiet { IfWaits result (λ head. notes.new.diags.items ≡ notes.old.diags.items) }
     ensures told { WhereTold (S.state scopes.old).frame (λ made.
-        IfKnown result (λ entry. Adds notes.old notes.new (spec_bound_outside (context_of (S.state scopes.old).frame made site.now) name at (lookup (rows_of (S.state scopes.old).frame made) (drop 1 site.now.around.now.chain) name)) entry)) }
-    ensures none { IfKnown result (λ entry. MatchOption entry (length notes.new.diags.items ≡ length notes.old.diags.items + 1) (λ _. notes.new.diags.items ≡ notes.old.diags.items)) }
-    ensures row { IfKnown result (λ entry. IfSome entry (λ entry. IsRowOf (S.state scopes.old).frame entry.0 entry.1)) }
+        IfKnown result
+        (λ entry. Adds notes.old notes.new (spec_bound_outside (context_of (S.state scopes.old).frame made site.now)
+        name at (lookup (rows_of (S.state scopes.old).frame made) (drop 1 site.now.around.now.chain) name)) entry)) }
+    ensures none { IfKnown result (λ entry. MatchOption entry (length notes.new.diags.items
+        ≡ length notes.old.diags.items + 1) (λ _. notes.new.diags.items ≡ notes.old.diags.items)) }
+    ensures row { IfKnown result
+        (λ entry. IfSome entry (λ entry. IsRowOf (S.state scopes.old).frame entry.0 entry.1)) }
 {
     let outer = &site.around.chain.scopes()[1..];
     match look_up(scopes, site.around, outer, name, at) {
@@ -205,7 +224,8 @@ fn bound_outside<S: Scopes>(
     }
 }
 
-/// What a name stands for in the declaration of an item. One that the block declares must be declared by an earlier item.
+/// What a name stands for in the declaration of an item. One that the block declares must
+/// be declared by an earlier item.
 #[tactic(auto, using(m2_base::proofs::Kept::kept))]
 fn use_in_item<S: Scopes>(
     scopes: &mut S,
@@ -219,13 +239,17 @@ fn use_in_item<S: Scopes>(
     requires named { name ≢ 0 }
     ensures works { Works (S.state scopes.old) (S.state scopes.new) notes.old notes.new }
     ensures waits { IfWaits result (λ head. Waits (S.state scopes.old) (S.state scopes.new) head) }
-    ensures asked { IfWaits result (λ head. IsAskedIn (S.state scopes.new) notes.new at name (chain_in_item site.now item (first_entry site.now.layout.now name)) head) }
+    ensures asked { IfWaits result (λ head. IsAskedIn (S.state scopes.new) notes.new at name
+        (chain_in_item site.now item (first_entry site.now.layout.now name)) head) }
     ensures quiet { IfWaits result (λ head. notes.new.diags.items ≡ notes.old.diags.items) }
     ensures told { WhereTold (S.state scopes.old).frame (λ made.
-        AreOfItem site.now.layout.now item made.rows →
-        IfKnown result (λ entry. Adds notes.old notes.new (spec_use_in_item (context_of (S.state scopes.old).frame made site.now) item name at (first_entry site.now.layout.now name)) entry)) }
-    ensures none { IfKnown result (λ entry. MatchOption entry (length notes.new.diags.items ≡ length notes.old.diags.items + 1) (λ _. notes.new.diags.items ≡ notes.old.diags.items)) }
-    ensures row { IfKnown result (λ entry. IfSome entry (λ entry. IsRowOf (S.state scopes.old).frame entry.0 entry.1)) }
+        AreOfItem site.now.layout.now item made.rows → IfKnown result
+        (λ entry. Adds notes.old notes.new (spec_use_in_item (context_of (S.state scopes.old).frame made site.now) item
+        name at (first_entry site.now.layout.now name)) entry)) }
+    ensures none { IfKnown result (λ entry. MatchOption entry (length notes.new.diags.items
+        ≡ length notes.old.diags.items + 1) (λ _. notes.new.diags.items ≡ notes.old.diags.items)) }
+    ensures row { IfKnown result
+        (λ entry. IfSome entry (λ entry. IsRowOf (S.state scopes.old).frame entry.0 entry.1)) }
 {
     match site.layout.first(name) {
         Some(named) if named.item < item => {
@@ -260,8 +284,9 @@ fn standard_entry(name: u32) -> Entry
     (place, standard_row(name))
 }
 
-/// What a name stands for where it is used at a token, with the place of its row; none with a diagnostic. A name after a
-/// module's point or in a FROM list is looked up `within` that module's scope alone. What waits has noted no diagnostic.
+/// What a name stands for where it is used at a token, with the place of its row; none with a diagnostic. A name after
+/// a module's point or in a FROM list is looked up `within` that module's scope alone.
+/// What waits has noted no diagnostic.
 pub fn use_name<S: Scopes>(
     scopes: &mut S,
     site: &Site,
@@ -275,13 +300,16 @@ pub fn use_name<S: Scopes>(
     requires named { name ≢ 0 }
     ensures works { Works (S.state scopes.old) (S.state scopes.new) notes.old notes.new }
     ensures waits { IfWaits result (λ head. Waits (S.state scopes.old) (S.state scopes.new) head) }
-    ensures asked { IfWaits result (λ head. IsAskedIn (S.state scopes.new) notes.new at name (chain_of site.now within name) head) }
+    ensures asked { IfWaits result
+        (λ head. IsAskedIn (S.state scopes.new) notes.new at name (chain_of site.now within name) head) }
     ensures quiet { IfWaits result (λ head. notes.new.diags.items ≡ notes.old.diags.items) }
     ensures told { WhereTold (S.state scopes.old).frame (λ made.
-        AreOfSite site.now made →
-        IfKnown result (λ entry. Adds notes.old notes.new (spec_use_of (context_of (S.state scopes.old).frame made site.now) within name at) entry)) }
-    ensures none { IfKnown result (λ entry. MatchOption entry (length notes.new.diags.items ≡ length notes.old.diags.items + 1) (λ _. notes.new.diags.items ≡ notes.old.diags.items)) }
-    ensures row { IfKnown result (λ entry. IfSome entry (λ entry. IsRowOf (S.state scopes.old).frame entry.0 entry.1)) }
+        AreOfSite site.now made → IfKnown result (λ entry. Adds notes.old notes.new
+        (spec_use_of (context_of (S.state scopes.old).frame made site.now) within name at) entry)) }
+    ensures none { IfKnown result (λ entry. MatchOption entry (length notes.new.diags.items
+        ≡ length notes.old.diags.items + 1) (λ _. notes.new.diags.items ≡ notes.old.diags.items)) }
+    ensures row { IfKnown result
+        (λ entry. IfSome entry (λ entry. IsRowOf (S.state scopes.old).frame entry.0 entry.1)) }
     ensures within { IfKnown result (λ entry. IfSome entry (λ entry. IfSome within (λ scope. entry.0.scope ≤ scope))) }
 {
     if let Some(scope) = within {

@@ -1,6 +1,7 @@
--- The object that outputs make: which module it is of, what it gives to other modules and what it asks of them, and the code of the
--- blocks of the main text.
-use Rattle.std.specs.Prelude.{◌≡◌, ℕ, ◌-◌, ◌^◌, ◌<◌, ◌==◌, if◌then◌else◌, List, [], ◌∷◌, ◌++◌, drop, length, map, slice_get, slice_index_or, take, unwrap_or, Option, Some, None}
+-- The object that outputs make: which module it is of, what it gives to other modules and what it asks of them, and
+-- the code of the blocks of the main text.
+use Rattle.std.specs.Prelude.{◌≡◌, ℕ, ◌-◌, ◌^◌, ◌<◌, ◌==◌, if◌then◌else◌, List, [], ◌∷◌, ◌++◌, drop, length, map}
+use Rattle.std.specs.Prelude.{slice_get, slice_index_or, take, unwrap_or, Option, Some, None}
 use Rattle.code_form.specs.Heights.{Callee}
 use Rattle.definition_keys.specs.Keys.{Keys}
 use Rattle.m2_base.specs.Finished.{no_text, own_scope}
@@ -88,10 +89,10 @@ cells_by outputs = map (λ o. o.cells) outputs
 abbrev pub headings_by : List Output → List (List HeadingNote)
 headings_by outputs = map (λ o. o.headings.items) outputs
 
--- The object of a unit, by the keys of its definition texts in the order of their scopes, and its outputs. It is of version 2, and has the
--- name of the main text. What is of the own definition is its key, its cells, which are the first of the module's, and its
--- headings, which are the exports in their order. The other definition modules are its imports, in the order of their scopes; its
--- procedures are the blocks of the main text in the order of theirs.
+-- The object of a unit, by the keys of its definition texts in the order of their scopes, and its outputs. It is of
+-- version 2, and has the name of the main text. What is of the own definition is its key, its cells, which are the
+-- first of the module's, and its headings, which are the exports in their order. The other definition modules are its
+-- imports, in the order of their scopes; its procedures are the blocks of the main text in the order of theirs.
 abbrev pub contents_from : Keys → UnitTexts → List Output → Contents
 contents_from keys texts outputs =
     record {
@@ -100,7 +101,8 @@ contents_from keys texts outputs =
       key = of_own no_key (own_scope texts) (map (λ k. k.1) keys);
       cells = slice_index_or (cells_by outputs) (length texts.order) 0;
       own_cells = of_own 0 (own_scope texts) (cells_by outputs);
-      exports = exports_in (slice_index_or (headings_by outputs) (length texts.order) []) (of_own [] (own_scope texts) (headings_by outputs));
+      exports = exports_in (slice_index_or (headings_by outputs) (length texts.order) [])
+          (of_own [] (own_scope texts) (headings_by outputs));
       imports = without_own (own_scope texts) (imports_from texts.names keys outputs);
       procedures = map (λ o. procedure_of o.code) (drop (length texts.order) outputs);
     }

@@ -31,7 +31,8 @@ or_refusals (Some outcome) diags = Some outcome
 or_refusals None [] = None
 or_refusals None (diag ∷ diags) = Some (diagnostics (diag ∷ diags))
 
--- What these faults of the texts come to, if there is one: a text that is nested too deep comes before all syntax faults.
+-- What these faults of the texts come to, if there is one:
+-- a text that is nested too deep comes before all syntax faults.
 abbrev pub outcome_of_faults : List (Option StreamFault) → Option Outcome
 outcome_of_faults faults = or_refusals (first_too_deep faults) (refusals faults)
 

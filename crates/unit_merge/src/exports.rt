@@ -2,7 +2,8 @@
 ghost use Rattle.std.specs.Prelude.{◌≡◌, ℕ, ◌+◌, [], length, map, nat_eq, option_map, unwrap_or, IfOk};
 ghost use Rattle.indexmap.specs.IndexMap.{get};
 ghost use Rattle.object_file.specs.Contents.{no_key};
-ghost use Rattle.unit_merge.specs.Objects.{IsPlaceIn, cells_by, exports_in, headings_by, number_of as spec_number_of, of_own};
+ghost use Rattle.unit_merge.specs.Objects.{IsPlaceIn, cells_by, exports_in, headings_by, number_of as spec_number_of};
+ghost use Rattle.unit_merge.specs.Objects.{of_own};
 
 use crate::imports::Key;
 use indexmap::IndexMap;
@@ -76,9 +77,11 @@ pub(crate) fn own_part(
 ) -> Result<OwnPart, Memory>
     requires long { length outputs.now ≡ length keys.now }
     requires own { IsPlaceIn keys.now own }
-    ensures key { IfOk result (λ part. part.key.items ≡ of_own no_key (option_map (λ n. n + 1) own) (map (λ k. k.1) keys.now)) }
+    ensures key { IfOk result
+        (λ part. part.key.items ≡ of_own no_key (option_map (λ n. n + 1) own) (map (λ k. k.1) keys.now)) }
     ensures cells { IfOk result (λ part. part.cells ≡ of_own 0 (option_map (λ n. n + 1) own) (cells_by outputs.now)) }
-    ensures exports { IfOk result (λ part. part.exports.items ≡ exports_in headings.now (of_own [] (option_map (λ n. n + 1) own) (headings_by outputs.now))) }
+    ensures exports { IfOk result (λ part. part.exports.items
+        ≡ exports_in headings.now (of_own [] (option_map (λ n. n + 1) own) (headings_by outputs.now))) }
 {
     match own {
         Some(place) => {

@@ -1,7 +1,8 @@
 //! The faults of a unit's texts, by what its streams tell.
 ghost use Rattle.std.specs.Prelude.{◌≡◌, ◌<◌, length, option_map, IfOk};
 ghost use Rattle.stream_split.specs.Agreement.{fault_at};
-ghost use Rattle.unit_merge.specs.Earliest.{AreOf, earlier as spec_earlier, earliest, text_of as spec_text_of, with_fault};
+ghost use Rattle.unit_merge.specs.Earliest.{AreOf, earlier as spec_earlier, earliest, text_of as spec_text_of};
+ghost use Rattle.unit_merge.specs.Earliest.{with_fault};
 ghost use Rattle.unit_merge.specs.Outcome.{first_too_deep as spec_first_too_deep, refusals as spec_refusals, too_deep};
 ghost use Rattle.unit_merge.specs.Outputs.{told_by};
 

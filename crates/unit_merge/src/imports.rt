@@ -46,7 +46,8 @@ fn all_imports(
 ) -> Result<Vec<ImportNote>, Memory>
     requires named { Each (λ k. k.0 < length names.now) keys.now }
     requires long { length outputs.now ≡ length keys.now }
-    ensures imports { IfOk result (λ imports. map keyed_of imports.items ≡ imports_from names.now keys.now outputs.now) }
+    ensures imports { IfOk result
+        (λ imports. map keyed_of imports.items ≡ imports_from names.now keys.now outputs.now) }
     ensures numbers { IfOk result (λ _. Each (λ k. HasItsNumber names.now k.0) keys.now) }
 {
     let mut imports = Vec::new(alloc);
@@ -67,7 +68,8 @@ pub(crate) fn other_imports(
     requires named { Each (λ k. k.0 < length names.now) keys.now }
     requires long { length outputs.now ≡ length keys.now }
     requires own { IsPlaceIn keys.now own }
-    ensures imports { IfOk result (λ imports. map keyed_of imports.items ≡ without_own (option_map (λ n. n + 1) own) (imports_from names.now keys.now outputs.now)) }
+    ensures imports { IfOk result (λ imports. map keyed_of imports.items
+        ≡ without_own (option_map (λ n. n + 1) own) (imports_from names.now keys.now outputs.now)) }
     ensures numbers { IfOk result (λ _. Each (λ k. HasItsNumber names.now k.0) keys.now) }
 {
     let mut imports = all_imports(alloc, names, keys, outputs)?;

@@ -17,17 +17,19 @@ use std::alloc::Global;
 pub enum Merged {
     /// The object of the unit, of version 2.
     Code(Object),
-    /// The syntax faults, one for each text that has one, or else the diagnostics of all blocks: by text, token and code, each once.
+    /// The syntax faults, one for each text that has one, or else the diagnostics of all blocks: by text,
+    /// token and code, each once.
     Diags(Vec<Diag>),
     /// The first text that is nested too deep, and the token.
     TooDeep { text: u32, at: u32 },
 }
 
-/// What a unit comes to, by the outputs of its streams: one for each, in their order. It takes a time linear in the code, and n log n in the
-/// diagnostics; code is moved, and none of it is copied.
+/// What a unit comes to, by the outputs of its streams: one for each, in their order. It takes a time linear in the
+/// code, and n log n in the diagnostics; code is moved, and none of it is copied.
 pub fn merge(alloc: Global, texts: &Texts, outputs: Vec<Output>) -> Result<Merged, Memory>
     requires { CanBeMerged texts.now outputs.items }
-    ensures { (front : TextOf → Front) → AreFronts front texts.now → IfOk result (λ merged. IsMerged front texts.now outputs.items (outcome_view merged)) }
+    ensures { (front : TextOf → Front) → AreFronts front texts.now
+        → IfOk result (λ merged. IsMerged front texts.now outputs.items (outcome_view merged)) }
 {
     let faults = text_faults(alloc, texts.list.len(), &outputs)?;
     if let Some((text, at)) = first_too_deep(&faults) {

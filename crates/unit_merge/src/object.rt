@@ -36,7 +36,8 @@ fn own_place(texts: &Texts) -> Option<usize>
 
 /// The code of each output. It is moved, and none of it is copied.
 fn procedures_of(alloc: Global, outputs: Vec<Output>) -> Result<Vec<ProcCode>, Memory>
-    ensures codes { IfOk result (λ procedures. map procedure_of procedures.items ≡ map (λ o. procedure_of o.code) outputs.items) }
+    ensures codes { IfOk result
+        (λ procedures. map procedure_of procedures.items ≡ map (λ o. procedure_of o.code) outputs.items) }
     ensures heights { IfOk result (λ _. Each (λ o. o.code.high < 2 ^ 32) outputs.items) }
 {
     let mut procedures = Vec::with_capacity(alloc, outputs.len())?;
@@ -51,7 +52,8 @@ fn procedures_of(alloc: Global, outputs: Vec<Output>) -> Result<Vec<ProcCode>, M
 /// What the object of a unit says, by the outputs of its streams.
 fn unit_parts(alloc: Global, texts: &Texts, outputs: Vec<Output>) -> Result<Parts, Memory>
     requires { CanBeMerged texts.now outputs.items }
-    ensures contents { (front : TextOf → Front) → AreFronts front texts.now → IfOk result (λ parts. contents_of parts ≡ contents_from (spec_unit_keys front texts.now) texts.now outputs.items) }
+    ensures contents { (front : TextOf → Front) → AreFronts front texts.now → IfOk result
+        (λ parts. contents_of parts ≡ contents_from (spec_unit_keys front texts.now) texts.now outputs.items) }
     ensures numbers { IfOk result (λ _. HaveTheirNumbers texts.now) }
     ensures heights { IfOk result (λ _. HaveLowHeights texts.now outputs.items) }
 {
@@ -86,7 +88,8 @@ pub(crate) fn unit_object(
     requires mergeable { CanBeMerged texts.now outputs.items }
     requires faultless { HaveNoFaults texts.now }
     requires none { output_diags outputs.items ≡ [] }
-    ensures { (front : TextOf → Front) → AreFronts front texts.now → IfOk result (λ object. object ≡ contents_from (spec_unit_keys front texts.now) texts.now outputs.items) }
+    ensures { (front : TextOf → Front) → AreFronts front texts.now
+        → IfOk result (λ object. object ≡ contents_from (spec_unit_keys front texts.now) texts.now outputs.items) }
 {
     let parts = unit_parts(alloc, texts, outputs)?;
     Ok(Object::build(parts))

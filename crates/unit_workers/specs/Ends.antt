@@ -24,8 +24,9 @@ pub record IsEnd (table : Option ScopeTable) (st : State) (t : Task) (f : Finish
   pub front : ShowsFront (state_of f.scopes)
   pub left : (at : State) → IsAsFar at t → IsLeft at t f.output
 
--- What a stream of a unit leaves: its output, and the handle on the table that has filled its scope. The scope is complete; where the
--- unit has finished rows, all of its rows are entered. Each answer of the output is the reply of a look of this very handle.
+-- What a stream of a unit leaves: its output, and the handle on the table that has filled its scope. The scope is
+-- complete; where the unit has finished rows, all of its rows are entered.
+-- Each answer of the output is the reply of a look of this very handle.
 pub record IsFinished (t : ScopeTable) (u : UnitTexts) (s : StreamOf) (f : Finished SeatScopes) : Type 0 where
   pub output : IsOutputIn u s f.output
   pub table : table_in f.scopes ≡ t

@@ -14,14 +14,15 @@ use Rattle.task_state.specs.declared.task.Turn.TheVariants.{Done, Memory, Parked
 abbrev pub SeesAll : State → Type 0
 SeesAll st = (s : ℕ) → s < fills_of st → (st.seen s).complete ≡ true
 
--- Turns of it may be made: it is of the unit with these texts, and as far as its scope. The first one has nothing to wait for.
+-- Turns of it may be made: it is of the unit with these texts, and as far as its scope.
+-- The first one has nothing to wait for.
 pub record Fits (u : UnitTexts) (st : State) (t : Task) : Type 0 where
   pub texts : texts_of st ≡ u
   pub first : fills_of st ≡ 1 → SeesAll st
   pub far : IsAsFar st t
 
--- What a turn leaves of it, and what it is told: it fills the same scope of the same unit, what it has seen complete stays so, and
--- it stays as far as its scope.
+-- What a turn leaves of it, and what it is told: it fills the same scope of the same unit, what it has seen complete
+-- stays so, and it stays as far as its scope.
 pub record Stays (old : State) (before : Task) (new : State) (after : Task) : Type 0 where
   pub setting : new.frame.setting ≡ old.frame.setting
   pub seen : (s : ℕ) → (old.seen s).complete ≡ true → (new.seen s).complete ≡ true
@@ -39,8 +40,10 @@ becomes Memory further = NoMemory
 pub same_stays : {st : State} {t : Task} → Stays st t st t
 same_stays = record { setting = refl; seen = λ s done. done; far = λ f. f }
 
-pub both_stay : {old mid new : State} {before between after : Task} → Stays old before mid between → Stays mid between new after → Stays old before new after
-both_stay a b = record { setting = b.setting ∙ a.setting; seen = λ s done. b.seen s (a.seen s done); far = λ f. b.far (a.far f) }
+pub both_stay : {old mid new : State} {before between after : Task} → Stays old before mid between
+    → Stays mid between new after → Stays old before new after
+both_stay a b =
+    record { setting = b.setting ∙ a.setting; seen = λ s done. b.seen s (a.seen s done); far = λ f. b.far (a.far f) }
 
 pub fills_stays : {old new : State} {before after : Task} → Stays old before new after → fills_of new ≡ fills_of old
 fills_stays a = ap (λ (g : Setting). g.fills) a.setting
@@ -48,7 +51,8 @@ fills_stays a = ap (λ (g : Setting). g.fills) a.setting
 pub sees_on : {old new : State} {before after : Task} → SeesAll old → Stays old before new after → SeesAll new
 sees_on sees a s low = a.seen s (sees s (subst (λ (n : ℕ). s < n) (fills_stays a) low))
 
-pub fits_on : {u : UnitTexts} {old new : State} {before after : Task} → Fits u old before → Stays old before new after → Fits u new after
+pub fits_on : {u : UnitTexts} {old new : State} {before after : Task} → Fits u old before → Stays old before new after
+    → Fits u new after
 fits_on fits a =
     record {
       texts = ap (λ (g : Setting). g.texts) a.setting ∙ fits.texts;

@@ -12,8 +12,8 @@ use Rattle.task_state.specs.Progress.{is_over}
 use Rattle.task_state.specs.declared.task.Task.{Task}
 use Rattle.unit_workers.specs.Jobs.{Fits}
 
--- The table is opened for a unit, with the room that its streams ask, and these are its seats without that of scope 0, as they were
--- given.
+-- The table is opened for a unit, with the room that its streams ask, and these are its seats without that of scope 0,
+-- as they were given.
 pub record AreOthers (t : ScopeTable) (u : UnitTexts) (seats : List TableSeat) : Type 0 where
   pub zero : TableSeat
   pub opened : IsOpened t (zero ∷ seats) u (sizes_of (streams_of u))

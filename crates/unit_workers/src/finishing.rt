@@ -39,7 +39,8 @@ pub(crate) fn all_finished<'t, J: OfTable>(
     jobs: Vec<StreamJob<'t, J>>,
 ) -> Result<Vec<Finished<SeatScopes<'t>>>, Memory>
     requires { All (λ job. is_over job.parts.value.task ≡ true) jobs.items }
-    ensures { IfOk result (λ all. AllZip (λ job end. IsEnd J.table (state_of job.parts.value.scopes.scopes) job.parts.value.task end) jobs.entry.items all.items) }
+    ensures { IfOk result (λ all. AllZip (λ job end.
+        IsEnd J.table (state_of job.parts.value.scopes.scopes) job.parts.value.task end) jobs.entry.items all.items) }
 {
     let mut all = Vec::with_capacity(alloc, jobs.len())?;
     for job in jobs {

@@ -1,6 +1,7 @@
 //! Handles on one table.
 ghost use Rattle.std.specs.Prelude.{◌≡◌, ◌≢◌, ◌<◌, Some};
-ghost use Rattle.m2_base.specs.Scopes.{CanSearch, Searched, CanFetch, Fetched, Selected, CanEnter, Entered, CanComplete, Completed};
+ghost use Rattle.m2_base.specs.Scopes.{CanSearch, Searched, CanFetch, Fetched, Selected, CanEnter, Entered};
+ghost use Rattle.m2_base.specs.Scopes.{CanComplete, Completed};
 ghost use Rattle.m2_base.specs.States.{IsSound, fills_of};
 ghost use Rattle.scope_core.specs.Fronts.{ShowsFront};
 ghost use Rattle.scope_table.specs.Rule.{texts_in};

@@ -27,7 +27,8 @@ impl<'t, J: OfTable> StreamJob<'t, J> {
         task: Task,
         scopes: TableScopes<'t, J>,
     ) -> Result<StreamJob<'t, J>, Memory>
-        ensures { IfOk result (λ job. (job.parts.value.task ≡ task) × (state_of job.parts.value.scopes.scopes ≡ state_of scopes.entry.scopes)) }
+        ensures { IfOk result (λ job.
+            (job.parts.value.task ≡ task) × (state_of job.parts.value.scopes.scopes ≡ state_of scopes.entry.scopes)) }
     {
         let parts = Box::new(alloc, JobParts { task, scopes })?;
         Ok(StreamJob { parts })
@@ -44,7 +45,8 @@ impl<'t, J: OfTable> relay::Job for StreamJob<'t, J> {
 
     ghost done = { λ job. is_over job.parts.value.task };
 
-    ghost stays = { λ job later. Stays (state_of job.parts.value.scopes.scopes) job.parts.value.task (state_of later.parts.value.scopes.scopes) later.parts.value.task };
+    ghost stays = { λ job later. Stays (state_of job.parts.value.scopes.scopes) job.parts.value.task
+        (state_of later.parts.value.scopes.scopes) later.parts.value.task };
 
     fn number(&self) -> u32 {
         self.parts.scopes.filled()

@@ -48,8 +48,8 @@ fn outputs_alone(alloc: Global, all: Vec<Finished<SeatScopes>>) -> Result<Vec<Ou
     Ok(outputs)
 }
 
-/// What the streams of a unit leave, each its output, in their order, when a crew makes turns of their tasks at once over a table that is
-/// opened for them. Each turn passes the gate.
+/// What the streams of a unit leave, each its output, in their order, when a crew makes turns of their tasks at once
+/// over a table that is opened for them. Each turn passes the gate.
 pub fn outputs_by<R: Threads + Wait + Sync, G: Gate>(
     crew: &Crew<R, G>,
     alloc: Global,

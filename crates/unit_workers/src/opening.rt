@@ -28,7 +28,9 @@ pub(crate) fn jobs_of<'t, J: OfTable>(
     requires unit { CanBeRun texts.now }
     requires streams { map stream_view streams.items ≡ streams_of texts.now }
     requires seats { AreOthers table.now texts.now seats.items }
-    ensures { IfOk result (λ jobs. AllZip (λ s job. IsBegun texts.now s (state_of job.parts.value.scopes.scopes) job.parts.value.task) (streams_of texts.now) jobs.items) }
+    ensures { IfOk result
+        (λ jobs. AllZip (λ s job. IsBegun texts.now s (state_of job.parts.value.scopes.scopes) job.parts.value.task)
+        (streams_of texts.now) jobs.items) }
 {
     let _main = texts.main();
     let arounds = surroundings(alloc, texts, &streams)?;

@@ -38,7 +38,8 @@ fn run_as<'t, 'g, J: OfTable + Send, G: Gate, R: Threads + Wait + Sync>(
     requires streams { map stream_view streams.items ≡ streams_of making.now.texts.now }
     requires table { AreOthers table.now making.now.texts.now seats.items }
     requires workers { (0 < workers) × (workers ≤ 64) }
-    ensures { IfOk result (λ all. AllZip (IsFinished table.now making.now.texts.now) (streams_of making.now.texts.now) all.items) }
+    ensures { IfOk result
+        (λ all. AllZip (IsFinished table.now making.now.texts.now) (streams_of making.now.texts.now) all.items) }
 {
     let _main = making.texts.main();
     let jobs: Vec<StreamJob<'t, J>> = jobs_of(making.alloc, making.texts, table, streams, seats)?;
@@ -46,11 +47,12 @@ fn run_as<'t, 'g, J: OfTable + Send, G: Gate, R: Threads + Wait + Sync>(
     all_finished(making.alloc, done)
 }
 
-/// What the streams of a unit leave, when so many workers make turns of their tasks at once: of each stream its output, and the handle that
-/// filled its scope, in the order of the streams. The table was opened for these texts and the sizes of these streams, and the seats are its
-/// own without that of scope 0. Workers have the numbers from 0; what they leave is ended by the caller, as the worker with the next number.
-/// Each turn passes the gate directly before and directly after, with its worker, its stream, and how many items and statements are finished.
-/// A worker that can't be started is no fault: the others do its work.
+/// What the streams of a unit leave, when so many workers make turns of their tasks at once: of each stream its
+/// output, and the handle that filled its scope, in the order of the streams. The table was opened for these texts and
+/// the sizes of these streams, and the seats are its own without that of scope 0. Workers have the numbers from 0;
+/// what they leave is ended by the caller, as the worker with the next number. Each turn passes the gate directly
+/// before and directly after, with its worker, its stream, and how many items and statements are finished. A worker
+/// that can't be started is no fault: the others do its work.
 pub fn run_unit<'t, G: Gate, R: Threads + Wait + Sync>(
     rt: &R,
     alloc: Global,

@@ -1,5 +1,6 @@
 -- Arrays and sets: their index types and bases, and the rows of arrays.
-use Rattle.std.specs.Prelude.{Bool, List, None, Option, Some, [], false, int_le, nat_lt, pos, ℕ, ◌+◌, if◌then◌else◌, ◌∷◌, ◌&&◌, ◌*◌, ◌||◌, max}
+use Rattle.std.specs.Prelude.{Bool, List, None, Option, Some, [], false, int_le, nat_lt, pos, ℕ, ◌+◌, if◌then◌else◌}
+use Rattle.std.specs.Prelude.{◌∷◌, ◌&&◌, ◌*◌, ◌||◌, max}
 use Rattle.m2_base.specs.Gives.{Gives, gives}
 use Rattle.m2_base.specs.Rows.{Array, Place}
 use Rattle.m2_base.specs.Standard.{broken}

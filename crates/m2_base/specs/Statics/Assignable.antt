@@ -27,7 +27,8 @@ is_long_enough len (Some r) = nat_le len (count_of r)
 
 -- an array of CHAR at least as long
 abbrev pub takes_string : Scene → ℕ → RowMeaning → Bool
-takes_string scene len (Array index elem size) = is_same scene elem character && is_long_enough len (range_of scene index)
+takes_string scene len (Array index elem size) =
+    is_same scene elem character && is_long_enough len (range_of scene index)
 takes_string scene len other = false
 
 -- the meaning of a procedure type's row

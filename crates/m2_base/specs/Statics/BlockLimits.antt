@@ -1,13 +1,16 @@
 -- How many procedures a main text has, and how deep they are nested, by its tokens alone: also of a text that has a
 -- syntax error.
-use Rattle.std.specs.Prelude.{ℕ, zero, suc, ◌+◌, ◌-◌, ◌==◌, Bool, true, false, ◌&&◌, if◌then◌else◌, List, [], ◌∷◌, length, nat_lt, Option, Some, None}
+use Rattle.std.specs.Prelude.{ℕ, zero, suc, ◌+◌, ◌-◌, ◌==◌, Bool, true, false, ◌&&◌, if◌then◌else◌, List, [], ◌∷◌}
+use Rattle.std.specs.Prelude.{length, nat_lt, Option, Some, None}
 use Rattle.m2_base.specs.declared.kind.TokenKind.{TokenKind}
-use Rattle.m2_base.specs.declared.kind.TokenKind.TheVariants.{Identifier, Case, End, For, If, Loop, Procedure, Record, While, With, Semicolon, LeftParenthesis, RightParenthesis}
+use Rattle.m2_base.specs.declared.kind.TokenKind.TheVariants.{Identifier, Case, End, For, If, Loop, Procedure, Record}
+use Rattle.m2_base.specs.declared.kind.TokenKind.TheVariants.{While, With, Semicolon, LeftParenthesis}
+use Rattle.m2_base.specs.declared.kind.TokenKind.TheVariants.{RightParenthesis}
 use Rattle.m2_base.specs.declared.token.Token.{Token}
 use Rattle.m2_base.specs.declared.limits.TheConstants.{DEEPEST_LEVEL, MOST_PROCEDURES}
 
--- Where a token stands: in a block; in the heading of a procedure, behind so many open brackets; or behind the END that
--- closes a procedure's block, where its name and a semicolon come.
+-- Where a token stands: in a block; in the heading of a procedure, behind so many open brackets; or behind the END
+-- that closes a procedure's block, where its name and a semicolon come.
 pub data Standing : Type 0 where
   in_block : Standing
   in_heading : (brackets : ℕ) → Standing

@@ -1,7 +1,8 @@
 -- The blocks of a unit, in the order of their scopes: the definition modules, the main module, and its procedures in
 -- the order of their PROCEDURE tokens.
 use Rattle.std.specs.List.{list_any}
-use Rattle.std.specs.Prelude.{Bool, List, None, Option, Some, [], false, find, length, ℕ, ◌+◌, ◌∷◌, ◌++◌, ◌==◌, drop, ◌<◌}
+use Rattle.std.specs.Prelude.{Bool, List, None, Option, Some, [], false, find, length, ℕ, ◌+◌, ◌∷◌, ◌++◌, ◌==◌, drop}
+use Rattle.std.specs.Prelude.{◌<◌}
 use Rattle.m2_base.specs.Lists.{Each}
 use Rattle.m2_base.specs.Statics.Contexts.{Block, DefinitionModule, Source}
 use Rattle.m2_base.specs.Trees.{Decl, Stream, proc_decl}
@@ -41,7 +42,14 @@ with_own chain (Some s) = chain ++ s ∷ []
 abbrev pub main_block : UnitTrees → Stream → BlockTree
 main_block u tree =
     record {
-      block = record { scope = home_of u; text = 0; level = 0; home = home_of u; own = u.own; chain = with_own (home_of u ∷ []) u.own };
+      block = record {
+        scope = home_of u;
+        text = 0;
+        level = 0;
+        home = home_of u;
+        own = u.own;
+        chain = with_own (home_of u ∷ []) u.own;
+      };
       tree = tree;
     }
 

@@ -1,7 +1,8 @@
 -- The standard procedures, by the numbers of their names.
 use Rattle.std.specs.Prelude.{ℕ, ◌==◌, if◌then◌else◌}
 use Rattle.m2_base.specs.declared.builtins.Builtin.{Builtin}
-use Rattle.m2_base.specs.declared.builtins.Builtin.TheVariants.{Abs, Cap, Chr, Dec, Dispose, Excl, Halt, High, Inc, Incl, Max, Min, New, Odd, Ord, Size, Val}
+use Rattle.m2_base.specs.declared.builtins.Builtin.TheVariants.{Abs, Cap, Chr, Dec, Dispose, Excl, Halt, High, Inc}
+use Rattle.m2_base.specs.declared.builtins.Builtin.TheVariants.{Incl, Max, Min, New, Odd, Ord, Size, Val}
 
 -- the standard procedure whose name has this number; of other numbers nobody asks
 abbrev pub builtin_of : ℕ → Builtin

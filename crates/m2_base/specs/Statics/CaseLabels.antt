@@ -1,6 +1,7 @@
 -- Labels: the values that an arm of a CASE, or a variant of a record, stands for.
 use Rattle.std.specs.List.{list_any}
-use Rattle.std.specs.Prelude.{Bool, List, None, Option, Some, [], false, int_le, true, ℕ, ℤ, if◌then◌else◌, ◌∷◌, ◌++◌, ◌&&◌}
+use Rattle.std.specs.Prelude.{Bool, List, None, Option, Some, [], false, int_le, true, ℕ, ℤ, if◌then◌else◌, ◌∷◌, ◌++◌}
+use Rattle.std.specs.Prelude.{◌&&◌}
 use Rattle.m2_base.specs.Gives.{Gives, and_then, gives}
 use Rattle.m2_base.specs.Rows.{Place}
 use Rattle.m2_base.specs.Statics.Compatible.{is_compatible, taken_beside}

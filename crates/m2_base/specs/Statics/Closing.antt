@@ -1,7 +1,9 @@
 -- What is checked when a block's scope is complete: its closing name, and in an implementation module that it has all
 -- that its definition promises.
-use Rattle.std.specs.Prelude.{Bool, List, None, Option, Some, [], false, is_some, true, ℕ, ◌+◌, if◌then◌else◌, ◌∷◌, ◌++◌, ◌==◌, ◌||◌}
-use Rattle.m2_base.specs.Rows.{Opaque, Place, Pointer, Proc, Row, RowMeaning, Set, TypeName, at_place, is_same_place, row_meaning}
+use Rattle.std.specs.Prelude.{Bool, List, None, Option, Some, [], false, is_some, true, ℕ, ◌+◌, if◌then◌else◌, ◌∷◌}
+use Rattle.std.specs.Prelude.{◌++◌, ◌==◌, ◌||◌}
+use Rattle.m2_base.specs.Rows.{Opaque, Place, Pointer, Proc, Row, RowMeaning, Set, TypeName, at_place, is_same_place}
+use Rattle.m2_base.specs.Rows.{row_meaning}
 use Rattle.m2_base.specs.Statics.Contexts.{Context, Scene, diag}
 use Rattle.m2_base.specs.Statics.Diagnostics.{closing_name_differs, heading_differs, not_implemented}
 use Rattle.m2_base.specs.Statics.Lookup.{Entry, entry_in}
@@ -73,7 +75,8 @@ implemented scene own o name (TypeName t) =
     if is_opaque_before scene own o t (meaning_at scene t) then
     type_implemented scene (entry_in scene.tables scene.block.home name)
     else is_implemented
-implemented scene own o name (Proc t number s) = implements_heading scene t (entry_in scene.tables scene.block.home name)
+implemented scene own o name (Proc t number s) =
+    implements_heading scene t (entry_in scene.tables scene.block.home name)
 implemented scene own o name other = is_implemented
 
 -- how the module implements the rows from this ordinal on; a nameless row had its diagnostic

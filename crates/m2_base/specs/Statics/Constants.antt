@@ -14,10 +14,17 @@ use Rattle.m2_base.specs.Statics.Operands.{string_length}
 use Rattle.m2_base.specs.Statics.Operations.{apply_one, operate}
 use Rattle.m2_base.specs.Statics.Sets.{element_of, no_elements, set_base, set_type_of, with_elements}
 use Rattle.m2_base.specs.Statics.Uses.{use_of}
-use Rattle.m2_base.specs.Trees.{Designator, Expr, ExprForm, Exprs, Ident, Label, Labels, Next, Nexts, Selector, Selectors, call_form, char_form, deref_selector, designator, designator_at, expr, expr_at, field_selector, index_selector, many_form, more_exprs, more_labels, more_nexts, more_selectors, name_form, next, no_exprs, no_labels, no_nexts, no_selectors, number_form, one_form, one_label, range_label, set_form, string_form, typed_set_form}
-use Rattle.m2_base.specs.declared.builtins.Builtin.TheVariants.{Abs, Cap, Chr, Dec, Dispose, Excl, Halt, High, Inc, Incl, Max, Min, New, Odd, Ord, Size, Val}
+use Rattle.m2_base.specs.Trees.{Designator, Expr, ExprForm, Exprs, Ident, Label, Labels, Next, Nexts, Selector}
+use Rattle.m2_base.specs.Trees.{Selectors, call_form, char_form, deref_selector, designator, designator_at, expr}
+use Rattle.m2_base.specs.Trees.{expr_at, field_selector, index_selector, many_form, more_exprs, more_labels}
+use Rattle.m2_base.specs.Trees.{more_nexts, more_selectors, name_form, next, no_exprs, no_labels, no_nexts}
+use Rattle.m2_base.specs.Trees.{no_selectors, number_form, one_form, one_label, range_label, set_form, string_form}
+use Rattle.m2_base.specs.Trees.{typed_set_form}
+use Rattle.m2_base.specs.declared.builtins.Builtin.TheVariants.{Abs, Cap, Chr, Dec, Dispose, Excl, Halt, High, Inc}
+use Rattle.m2_base.specs.declared.builtins.Builtin.TheVariants.{Incl, Max, Min, New, Odd, Ord, Size, Val}
 use Rattle.m2_base.specs.declared.builtins.Builtin.{Builtin}
-use Rattle.m2_base.specs.declared.operands.Operand.TheVariants.{Constant, InError, ModuleName, NamedType, NotConstant, Procedure, StandardProcedure, StringConstant, Variable}
+use Rattle.m2_base.specs.declared.operands.Operand.TheVariants.{Constant, InError, ModuleName, NamedType, NotConstant}
+use Rattle.m2_base.specs.declared.operands.Operand.TheVariants.{Procedure, StandardProcedure, StringConstant, Variable}
 use Rattle.m2_base.specs.declared.operands.Operand.{Operand}
 
 -- a variable is no constant

@@ -1,6 +1,7 @@
 -- Where a name, a type or an expression stands: what surrounds its block, the rows that count there, and the block's
 -- layout.
-use Rattle.std.specs.Prelude.{ℕ, ◌+◌, ◌-◌, ◌==◌, List, [], ◌∷◌, ◌++◌, map, take, position, slice_index_or, Option, unwrap_or, option_map}
+use Rattle.std.specs.Prelude.{ℕ, ◌+◌, ◌-◌, ◌==◌, List, [], ◌∷◌, ◌++◌, map, take, position, slice_index_or, Option}
+use Rattle.std.specs.Prelude.{unwrap_or, option_map}
 use Rattle.m2_base.specs.Gives.{Gives, gives_with}
 use Rattle.m2_base.specs.Rows.{Row, row_of, Broken, Place}
 use Rattle.m2_base.specs.Tables.{rows_at}
@@ -8,8 +9,8 @@ use Rattle.m2_base.specs.declared.notes.Diag.{Diag}
 pub use Rattle.m2_base.specs.declared.sites.Named.{Named}
 
 -- The layout of a block. Of the names that its syntax declares each has the ordinal that its row would have if nothing
--- were brought, and its kind, token and item; `firsts` has the first ordinal of each item so, and the number of all rows
--- last; `brought` has the names that the block's imports have brought so far, with the ordinals of their rows.
+-- were brought, and its kind, token and item; `firsts` has the first ordinal of each item so, and the number of all
+-- rows last; `brought` has the names that the block's imports have brought so far, with the ordinals of their rows.
 pub record Layout : Type 0 where
   pub names : List Named
   pub firsts : List ℕ
@@ -35,8 +36,8 @@ pub record DefinitionModule : Type 0 where
   pub name : ℕ
   pub text : ℕ
 
--- What the definitions read of a unit's texts: the bytes of each name, and the definition modules in the order of their
--- scopes, which are 1, 2 and so on.
+-- What the definitions read of a unit's texts: the bytes of each name, and the definition modules in the order of
+-- their scopes, which are 1, 2 and so on.
 pub record Source : Type 0 where
   pub spellings : List (List ℕ)
   pub definitions : List DefinitionModule

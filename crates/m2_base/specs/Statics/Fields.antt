@@ -21,7 +21,8 @@ field_with c own i t offset ds = one_row c (row_of 0 i.at (Field t offset own i.
 -- a field; the second of a name in a record is refused
 abbrev pub field_row : Context → (own : ℕ) → Ident → Place → (offset : ℕ) → Makes Place
 field_row c own i t offset =
-    field_with c own i t offset (if list_any (is_field own i.name) (own_rows c) then diag c i.at declared_twice ∷ [] else [])
+    field_with c own i t offset
+    (if list_any (is_field own i.name) (own_rows c) then diag c i.at declared_twice ∷ [] else [])
 
 -- fields of one type from this offset on; the value is the offset after them
 abbrev pub plain_rows : Context → (own : ℕ) → Place → (offset : ℕ) → List Ident → Makes ℕ

@@ -1,12 +1,15 @@
 -- The value of an operator on two constants.
-use Rattle.std.specs.Prelude.{Bool, None, Option, Some, bit_and, bit_or, bit_xor, false, int_le, int_lt, negsuc, not, pos, true, ℕ, ℤ, if◌then◌else◌, ◌-◌, ◌==◌, ◌^◌, ◌&&◌, ◌||◌, ◌-ℤ◌, ◌/◌, ◌%◌, ◌+ℤ◌, ◌*ℤ◌}
+use Rattle.std.specs.Prelude.{Bool, None, Option, Some, bit_and, bit_or, bit_xor, false, int_le, int_lt, negsuc, not}
+use Rattle.std.specs.Prelude.{pos, true, ℕ, ℤ, if◌then◌else◌, ◌-◌, ◌==◌, ◌^◌, ◌&&◌, ◌||◌, ◌-ℤ◌, ◌/◌, ◌%◌, ◌+ℤ◌, ◌*ℤ◌}
 use Rattle.m2_base.specs.Rows.{Place, is_same_place, natural}
 use Rattle.m2_base.specs.Standard.{cardinal, integer, whole}
 use Rattle.m2_base.specs.Statics.Ranges.{Range, cardinal_range, integer_range, is_in, whole_range}
 use Rattle.m2_base.specs.Trees.{Operator}
 use Rattle.m2_base.specs.declared.operands.FoldKind.TheVariants as kinds
 use Rattle.m2_base.specs.declared.operands.FoldKind.{FoldKind}
-use Rattle.m2_base.specs.declared.trees.operators.Operator.TheVariants.{And, Div, Equal, Greater, GreaterEqual, Less, LessEqual, Minus, Mod, Or, Plus, Slash, Times, Unequal}
+use Rattle.m2_base.specs.declared.trees.operators.Operator.TheVariants.{And, Div, Equal, Greater, GreaterEqual, Less}
+use Rattle.m2_base.specs.declared.trees.operators.Operator.TheVariants.{LessEqual, Minus, Mod, Or, Plus, Slash, Times}
+use Rattle.m2_base.specs.declared.trees.operators.Operator.TheVariants.{Unequal}
 
 -- the operators that give a number of two numbers
 abbrev pub is_arithmetic : Operator → Bool
@@ -106,7 +109,8 @@ fold k op x y = fold_by_kind k op x y
 
 -- the kind of a base type of numbers
 abbrev pub number_kind : Place → FoldKind
-number_kind t = if is_same_place t integer then kinds.Integer else if is_same_place t cardinal then kinds.Cardinal else kinds.Whole
+number_kind t =
+    if is_same_place t integer then kinds.Integer else if is_same_place t cardinal then kinds.Cardinal else kinds.Whole
 
 -- the type of numbers of a kind
 abbrev pub number_type : FoldKind → Place

@@ -1,7 +1,9 @@
 -- What the rows of a block need so that all are well formed, and what else then holds of them.
-use Rattle.std.specs.Prelude.{◌≡◌, ℕ, ◌+◌, ◌^◌, ◌<◌, ◌≤◌, List, [], ◌∷◌, length, flat_map, slice_get, Option, Some, None}
+use Rattle.std.specs.Prelude.{◌≡◌, ℕ, ◌+◌, ◌^◌, ◌<◌, ◌≤◌, List, [], ◌∷◌, length, flat_map, slice_get, Option, Some}
+use Rattle.std.specs.Prelude.{None}
 use Rattle.m2_base.specs.Lists.{Each}
-use Rattle.m2_base.specs.Rows.{Row, Place, at_place, row_meaning, RowMeaning, Array, Record, IsWellFormed, HasSmallOrdinals}
+use Rattle.m2_base.specs.Rows.{Row, Place, at_place, row_meaning, RowMeaning, Array, Record, IsWellFormed}
+use Rattle.m2_base.specs.Rows.{HasSmallOrdinals}
 use Rattle.m2_base.specs.Standard.{standard_rows}
 use Rattle.m2_base.specs.Statics.Blocks.{BlockTree}
 use Rattle.m2_base.specs.Statics.Contexts.{Source, scope_of_module, spelling}
@@ -35,15 +37,17 @@ abbrev pub IsImportedBefore : Source → (scope : ℕ) → Item → Type 0
 IsImportedBefore source s (import_item from i) = scope_of_module source (imported_module from i).name < s
 IsImportedBefore source s other = Unit {0}
 
--- A block over finished scopes: those before it are there and their rows are right, scope 0 is the standard one, the block
--- has not too many rows, with those that its imports bring, its numbers and names are those that tokens have, and modules are imported from scopes before.
+-- A block over finished scopes: those before it are there and their rows are right, scope 0 is the standard one, the
+-- block has not too many rows, with those that its imports bring, its numbers and names are those that tokens have,
+-- and modules are imported from scopes before.
 pub record IsReady (names : ℕ) (source : Source) (tables : List (List Row)) (b : BlockTree) : Type 0 where
   pub some_names : 0 < names
   pub few_names : names ≤ 2 ^ 32
   pub positive : 0 < b.block.scope
   pub before : b.block.scope ≤ length tables
   pub standard : rows_at tables 0 ≡ standard_rows
-  pub right : (s o : ℕ) (r : Row) → s < b.block.scope → slice_get (rows_at tables s) o ≡ Some r → (o < 2 ^ 32) × IsRight names (at_place s o) r
+  pub right : (s o : ℕ) (r : Row) → s < b.block.scope → slice_get (rows_at tables s) o ≡ Some r
+      → (o < 2 ^ 32) × IsRight names (at_place s o) r
   pub few : length (flat_map item_shapes (items_of b.tree)) + MOST_BROUGHT < 2 ^ 31
   pub short : (n : ℕ) → string_length source n < 2 ^ 32
   pub bytes : (n : ℕ) → first_of (spelling source n) < 256
@@ -68,4 +72,5 @@ AreConsecutive n (b ∷ blocks) = (b.block.scope ≡ n) × AreConsecutive (n + 1
 
 -- all rows are right at their places
 abbrev pub AreRight : (names : ℕ) → List (List Row) → Type 0
-AreRight names tables = (s o : ℕ) (r : Row) → slice_get (rows_at tables s) o ≡ Some r → (o < 2 ^ 32) × IsRight names (at_place s o) r
+AreRight names tables =
+    (s o : ℕ) (r : Row) → slice_get (rows_at tables s) o ≡ Some r → (o < 2 ^ 32) × IsRight names (at_place s o) r

@@ -1,5 +1,6 @@
 -- The standard functions that constants may have, on operands: what each takes and gives.
-use Rattle.std.specs.Prelude.{Bool, None, Option, Some, int_le, is_none, nat_abs, negsuc, not, pos, ℕ, ℤ, if◌then◌else◌, ◌-◌, ◌&&◌, ◌%◌}
+use Rattle.std.specs.Prelude.{Bool, None, Option, Some, int_le, is_none, nat_abs, negsuc, not, pos, ℕ, ℤ}
+use Rattle.std.specs.Prelude.{if◌then◌else◌, ◌-◌, ◌&&◌, ◌%◌}
 use Rattle.m2_base.specs.Gives.{Gives, and_then, gives}
 use Rattle.m2_base.specs.Rows.{Place, is_same_place, natural}
 use Rattle.m2_base.specs.Standard.{boolean, broken, cardinal, character, integer}
@@ -12,7 +13,8 @@ use Rattle.m2_base.specs.Statics.Operands.{char_or_same, is_bad}
 use Rattle.m2_base.specs.Statics.Operations.{base_type, is_ordinal}
 use Rattle.m2_base.specs.Statics.Ranges.{Range, integer_range, is_within}
 use Rattle.m2_base.specs.Statics.Types.{is_broken, range_of, size_of}
-use Rattle.m2_base.specs.declared.operands.Operand.TheVariants.{Computed, Constant, InError, NamedType, NotConstant, Variable}
+use Rattle.m2_base.specs.declared.operands.Operand.TheVariants.{Computed, Constant, InError, NamedType, NotConstant}
+use Rattle.m2_base.specs.declared.operands.Operand.TheVariants.{Variable}
 use Rattle.m2_base.specs.declared.operands.Operand.{Operand}
 
 -- a wrong argument
@@ -21,7 +23,8 @@ wrong_at c at = refuse c at wrong_argument InError
 
 -- a number, or refused
 abbrev pub number_argument : Context → (at : ℕ) → Operand → Gives Operand
-number_argument c at o = if is_bad o then gives o else if is_number_type (base_type c o) then gives o else wrong_at c at
+number_argument c at o =
+    if is_bad o then gives o else if is_number_type (base_type c o) then gives o else wrong_at c at
 
 -- a value of an ordinal type, or refused; a string of one character is a CHAR
 abbrev pub ordinal_argument : Context → (at : ℕ) → Operand → Gives Operand

@@ -34,11 +34,14 @@ parameter_row c s elem t f i =
     make_then c (makes_named c i.name i.at (Var t Open f.cell)) (λ d p.
     makes (placing (capped (f.cell + 2)) f.own (f.copies ++ open_copies s.by_ref f.cell (size_of c.scene elem)))) else
     if s.by_ref then
-    make_then c (makes_named c i.name i.at (Var t ByAddress f.cell)) (λ d p. makes (placing (capped (f.cell + 1)) f.own f.copies)) else
+    make_then c (makes_named c i.name i.at (Var t ByAddress f.cell))
+    (λ d p. makes (placing (capped (f.cell + 1)) f.own f.copies)) else
     if is_structured c t then
     make_then c (makes_named c i.name i.at (Var t Plain f.own)) (λ d p.
-    makes (placing (capped (f.cell + 1)) (capped (f.own + size_of c.scene t)) (f.copies ++ own_copy f.own f.cell (size_of c.scene t) ∷ [])))
-    else make_then c (makes_named c i.name i.at (Var t Plain f.cell)) (λ d p. makes (placing (capped (f.cell + 1)) f.own f.copies))
+    makes (placing (capped (f.cell + 1)) (capped (f.own + size_of c.scene t))
+    (f.copies ++ own_copy f.own f.cell (size_of c.scene t) ∷ [])))
+    else make_then c (makes_named c i.name i.at (Var t Plain f.cell))
+    (λ d p. makes (placing (capped (f.cell + 1)) f.own f.copies))
 
 -- the variables of parameters of one type
 abbrev pub parameter_rows : Context → Section → (elem t : Place) → Placing → List Ident → Makes Placing

@@ -1,7 +1,9 @@
 -- The constants that an imported enumeration type brings.
-use Rattle.std.specs.Prelude.{ℕ, ◌+◌, ◌==◌, nat_lt, Bool, true, false, not, ◌&&◌, ◌||◌, if◌then◌else◌, List, [], ◌∷◌, length, map, take, drop, Option, Some, None, unwrap_or}
+use Rattle.std.specs.Prelude.{ℕ, ◌+◌, ◌==◌, nat_lt, Bool, true, false, not, ◌&&◌, ◌||◌, if◌then◌else◌, List, [], ◌∷◌}
+use Rattle.std.specs.Prelude.{length, map, take, drop, Option, Some, None, unwrap_or}
 use Rattle.std.specs.List.{list_any}
-use Rattle.m2_base.specs.Rows.{Alias, Const, Enum, Place, Row, RowMeaning, TypeName, alias_kind, at_place, is_same_place, row_meaning, row_of}
+use Rattle.m2_base.specs.Rows.{Alias, Const, Enum, Place, Row, RowMeaning, TypeName, alias_kind, at_place}
+use Rattle.m2_base.specs.Rows.{is_same_place, row_meaning, row_of}
 use Rattle.m2_base.specs.Standard.{is_standard}
 use Rattle.m2_base.specs.Statics.Contexts.{Context, Named, Scene, diag}
 use Rattle.m2_base.specs.Statics.Diagnostics.{declared_twice, too_many_constants}
@@ -109,7 +111,7 @@ brings c at members new =
       answers = [];
     }
 
--- What an import brings whose identifier is this token, where it leads to a type with these constants: an alias of each
--- whose name the block hasn't yet; none, and a diagnostic, where they would be too many.
+-- What an import brings whose identifier is this token, where it leads to a type with these constants: an alias of
+-- each whose name the block hasn't yet; none, and a diagnostic, where they would be too many.
 abbrev pub brought_by : Context → (at : ℕ) → List Member → Makes (List Named)
 brought_by c at members = brings c at members (new_members c [] members)

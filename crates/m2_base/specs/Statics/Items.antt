@@ -1,6 +1,7 @@
 -- What declares in a block: its items, in text order.
 use Rattle.std.specs.Prelude.{List, None, Option, Some, [], flat_map, map, ℕ, ◌∷◌, ◌++◌}
-use Rattle.m2_base.specs.Trees.{Decl, Expr, Heading, Ident, Import, Stream, TypeExpr, const_decl, proc_decl, type_decl, vars_decl}
+use Rattle.m2_base.specs.Trees.{Decl, Expr, Heading, Ident, Import, Stream, TypeExpr, const_decl, proc_decl, type_decl}
+use Rattle.m2_base.specs.Trees.{vars_decl}
 
 -- what declares: the heading of the block itself, a name of an import, a constant, a type, a group of variables, a
 -- procedure

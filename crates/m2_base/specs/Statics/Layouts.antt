@@ -1,5 +1,6 @@
 -- The layout of a block: what follows from the syntax alone, and how it grows by the names that imports bring.
-use Rattle.std.specs.Prelude.{◌≡◌, ◌<◌, ◌≤◌, ◌^◌, List, [], flat_map, length, map, nat_eq, ℕ, ◌+◌, if◌then◌else◌, Option, option_map, slice_get, ◌∷◌, ◌++◌, ◌==◌}
+use Rattle.std.specs.Prelude.{◌≡◌, ◌<◌, ◌≤◌, ◌^◌, List, [], flat_map, length, map, nat_eq, ℕ, ◌+◌, if◌then◌else◌}
+use Rattle.std.specs.Prelude.{Option, option_map, slice_get, ◌∷◌, ◌++◌, ◌==◌}
 use Rattle.indexmap.specs.IndexMap.{IndexMap, get}
 use Rattle.m2_base.specs.Lists.{Each}
 pub use Rattle.m2_base.specs.Statics.Contexts.{Layout}

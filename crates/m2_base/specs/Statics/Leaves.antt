@@ -1,11 +1,26 @@
 -- Trees of which each leaf has a property: each token that they name, and each value that comes from one.
 use Rattle.std.specs.Prelude.{ℕ, List, Option, Some, None}
 use Rattle.m2_base.specs.Lists.{Each}
-use Rattle.m2_base.specs.Statics.Items.{Item, const_item, heading_item, import_item, items_of, proc_item, type_item, vars_item}
-use Rattle.m2_base.specs.Trees.{CaseArm, CaseArms, CaseElse, Designator, Expr, ExprForm, Exprs, FieldList, FieldLists, Heading, Ident, IfArm, IfArms, Label, Labels, Next, Nexts, Qual, Section, Selector, Selectors, Statement, Statements, StmtForm, Stream, TypeExpr, TypeExprs, TypeForm, VariantArm, VariantArms, array_type, assign_form, call_form, call_statement, case_arm, case_else, case_fields, case_form, char_form, deref_selector, designator, empty_form, enum_type, exit_form, expr, field_selector, for_form, if_arm, if_form, index_selector, loop_form, many_form, more_case_arms, more_exprs, more_fields, more_if_arms, more_labels, more_nexts, more_selectors, more_statements, more_types, more_variant_arms, name_form, named_type, next, no_case_arms, no_case_else, no_exprs, no_fields, no_if_arms, no_labels, no_nexts, no_selectors, no_statements, no_types, no_variant_arms, number_form, one_form, one_label, plain_fields, pointer_type, proc_type, range_label, record_type, repeat_form, return_form, set_form, set_type, statement, string_form, sub_type, type_expr, typed_set_form, variant_arm, while_form, with_form}
+use Rattle.m2_base.specs.Statics.Items.{Item, const_item, heading_item, import_item, items_of, proc_item, type_item}
+use Rattle.m2_base.specs.Statics.Items.{vars_item}
+use Rattle.m2_base.specs.Trees.{CaseArm, CaseArms, CaseElse, Designator, Expr, ExprForm, Exprs, FieldList, FieldLists}
+use Rattle.m2_base.specs.Trees.{Heading, Ident, IfArm, IfArms, Label, Labels, Next, Nexts, Qual, Section, Selector}
+use Rattle.m2_base.specs.Trees.{Selectors, Statement, Statements, StmtForm, Stream, TypeExpr, TypeExprs, TypeForm}
+use Rattle.m2_base.specs.Trees.{VariantArm, VariantArms, array_type, assign_form, call_form, call_statement, case_arm}
+use Rattle.m2_base.specs.Trees.{case_else, case_fields, case_form, char_form, deref_selector, designator, empty_form}
+use Rattle.m2_base.specs.Trees.{enum_type, exit_form, expr, field_selector, for_form, if_arm, if_form, index_selector}
+use Rattle.m2_base.specs.Trees.{loop_form, many_form, more_case_arms, more_exprs, more_fields, more_if_arms}
+use Rattle.m2_base.specs.Trees.{more_labels, more_nexts, more_selectors, more_statements, more_types}
+use Rattle.m2_base.specs.Trees.{more_variant_arms, name_form, named_type, next, no_case_arms, no_case_else, no_exprs}
+use Rattle.m2_base.specs.Trees.{no_fields, no_if_arms, no_labels, no_nexts, no_selectors, no_statements, no_types}
+use Rattle.m2_base.specs.Trees.{no_variant_arms, number_form, one_form, one_label, plain_fields, pointer_type}
+use Rattle.m2_base.specs.Trees.{proc_type, range_label, record_type, repeat_form, return_form, set_form, set_type}
+use Rattle.m2_base.specs.Trees.{statement, string_form, sub_type, type_expr, typed_set_form, variant_arm, while_form}
+use Rattle.m2_base.specs.Trees.{with_form}
 use Rattle.m2_base.specs.declared.trees.types.Formal.{Formal}
 
--- a leaf: a token, by its number; a name; the value of a number, a character or a string; the number of a procedure's stream
+-- a leaf: a token, by its number; a name; the value of a number, a character or a string;
+-- the number of a procedure's stream
 pub data Leaf : Type 0 where
   token_leaf : ℕ → Leaf
   name_leaf : Ident → Leaf

@@ -1,5 +1,6 @@
 -- What a name stands for in one scope or in a chain of scopes: the first row of that name, with its place.
-use Rattle.std.specs.Prelude.{ℕ, ◌+◌, ◌==◌, nat_lt, Bool, List, [], ◌∷◌, Option, Some, None, is_some, find, filter, length, option_map}
+use Rattle.std.specs.Prelude.{ℕ, ◌+◌, ◌==◌, nat_lt, Bool, List, [], ◌∷◌, Option, Some, None, is_some, find, filter}
+use Rattle.std.specs.Prelude.{length, option_map}
 use Rattle.m2_base.specs.Rows.{Row, Place}
 use Rattle.m2_base.specs.Tables.{lookup}
 use Rattle.m2_base.specs.Statics.Contexts.{Layout, Named, Scene, row_at}
@@ -37,7 +38,7 @@ abbrev pub entry_or : Option Named → Option Named → Option Named
 entry_or (Some n) other = Some n
 entry_or None other = other
 
--- The first entry of a layout under a name. No import brings a name that an earlier item gives, so what is brought comes
--- before what the syntax declares.
+-- The first entry of a layout under a name. No import brings a name that an earlier item gives, so what is brought
+-- comes before what the syntax declares.
 abbrev pub first_entry : Layout → (name : ℕ) → Option Named
 first_entry l name = entry_or (entry_named l.brought name) (option_map (moved l.brought) (entry_named l.names name))

@@ -61,7 +61,8 @@ one_row c r ds = record { value = next_place c; rows = r ∷ []; diags = ds; ans
 abbrev pub makes_row : Context → (at : ℕ) → RowMeaning → Makes Place
 makes_row c at m = one_row c (row_of 0 at m) []
 
--- A row with a name. One that declares a standard name, and the second of a name in its scope, is nameless and refused.
+-- A row with a name. One that declares a standard name, and the second of a name in its scope,
+-- is nameless and refused.
 abbrev pub makes_named : Context → (name at : ℕ) → RowMeaning → Makes Place
 makes_named c name at m =
     if is_standard name then one_row c (row_of 0 at m) (diag c at standard_declared ∷ []) else

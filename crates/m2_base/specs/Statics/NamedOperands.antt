@@ -1,11 +1,13 @@
 -- What a name stands for that is bound to a row: its operand.
 use Rattle.std.specs.Prelude.{Bool, None, Option, Some, false, ℕ, if◌then◌else◌, ◌||◌}
-use Rattle.m2_base.specs.Rows.{Const, Module, OpenArray, Place, Proc, RowMeaning, Standard, TypeName, Var, is_same_place, natural, row_meaning}
+use Rattle.m2_base.specs.Rows.{Const, Module, OpenArray, Place, Proc, RowMeaning, Standard, TypeName, Var}
+use Rattle.m2_base.specs.Rows.{is_same_place, natural, row_meaning}
 use Rattle.m2_base.specs.Standard.{text_type}
 use Rattle.m2_base.specs.Statics.Contexts.{Scene}
 use Rattle.m2_base.specs.Statics.Lookup.{Entry}
 use Rattle.m2_base.specs.Statics.Types.{is_broken, kind_of}
-use Rattle.m2_base.specs.declared.operands.Operand.TheVariants.{Constant, InError, ModuleName, NamedType, Procedure, StandardProcedure, StringConstant, Variable}
+use Rattle.m2_base.specs.declared.operands.Operand.TheVariants.{Constant, InError, ModuleName, NamedType, Procedure}
+use Rattle.m2_base.specs.declared.operands.Operand.TheVariants.{StandardProcedure, StringConstant, Variable}
 use Rattle.m2_base.specs.declared.operands.Operand.{Operand}
 
 -- an open array of what is in error

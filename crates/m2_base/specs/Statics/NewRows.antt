@@ -12,4 +12,5 @@ IsNew scene r = (r.name ≡ 0) ⊎ (has_name scene.tables scene.block.scope r.na
 -- each row is new after those before it
 pub data AreNew : Scene → List Row → Type 0 where
   no_new : {scene : Scene} → AreNew scene []
-  more_new : {scene : Scene} {r : Row} {rows : List Row} → IsNew scene r → AreNew (scene_with scene (r ∷ [])) rows → AreNew scene (r ∷ rows)
+  more_new : {scene : Scene} {r : Row} {rows : List Row} → IsNew scene r → AreNew (scene_with scene (r ∷ [])) rows
+      → AreNew scene (r ∷ rows)

@@ -1,9 +1,11 @@
 -- Operands: what a designator or an expression stands for.
-use Rattle.std.specs.Prelude.{Bool, List, None, Option, Some, [], false, length, pos, true, ℕ, ℤ, if◌then◌else◌, ◌∷◌, ◌==◌}
+use Rattle.std.specs.Prelude.{Bool, List, None, Option, Some, [], false, length, pos, true, ℕ, ℤ, if◌then◌else◌, ◌∷◌}
+use Rattle.std.specs.Prelude.{◌==◌}
 use Rattle.m2_base.specs.Rows.{Place}
 use Rattle.m2_base.specs.Standard.{broken, character, text_type}
 use Rattle.m2_base.specs.Statics.Contexts.{Source, spelling}
-use Rattle.m2_base.specs.declared.operands.Operand.TheVariants.{Computed, Constant, InError, NotConstant, Procedure, StringConstant, Variable}
+use Rattle.m2_base.specs.declared.operands.Operand.TheVariants.{Computed, Constant, InError, NotConstant, Procedure}
+use Rattle.m2_base.specs.declared.operands.Operand.TheVariants.{StringConstant, Variable}
 use Rattle.m2_base.specs.declared.operands.Operand.{Operand}
 
 -- the type of a value or a variable

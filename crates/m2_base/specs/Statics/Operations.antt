@@ -1,13 +1,16 @@
 -- What an operator gives of its operands: which types it takes, the type that it gives, and the value where all
 -- operands are constant.
-use Rattle.std.specs.Prelude.{Bool, None, Option, Some, false, is_some, neg_ℤ, pos, true, ℕ, ℤ, if◌then◌else◌, ◌==◌, ◌^◌, ◌&&◌, ◌||◌, ◌/◌, ◌%◌}
+use Rattle.std.specs.Prelude.{Bool, None, Option, Some, false, is_some, neg_ℤ, pos, true, ℕ, ℤ, if◌then◌else◌, ◌==◌}
+use Rattle.std.specs.Prelude.{◌^◌, ◌&&◌, ◌||◌, ◌/◌, ◌%◌}
 use Rattle.m2_base.specs.Gives.{Gives, and_then, gives}
 use Rattle.m2_base.specs.Rows.{Place, RowMeaning, Set, is_same_place, natural}
 use Rattle.m2_base.specs.Standard.{boolean, integer, whole}
-use Rattle.m2_base.specs.Statics.Compatible.{is_compatible, is_integer_or_cardinal, is_number_type, is_pointer, taken_beside}
+use Rattle.m2_base.specs.Statics.Compatible.{is_compatible, is_integer_or_cardinal, is_number_type, is_pointer}
+use Rattle.m2_base.specs.Statics.Compatible.{taken_beside}
 use Rattle.m2_base.specs.Statics.Contexts.{Context, refuse}
 use Rattle.m2_base.specs.Statics.Diagnostics.{out_of_range, wrong_operands}
-use Rattle.m2_base.specs.Statics.Folding.{fold, is_arithmetic, is_equal, is_equality, is_relation, number_kind, number_type, truth, where_in}
+use Rattle.m2_base.specs.Statics.Folding.{fold, is_arithmetic, is_equal, is_equality, is_relation, number_kind}
+use Rattle.m2_base.specs.Statics.Folding.{number_type, truth, where_in}
 use Rattle.m2_base.specs.Statics.Operands.{constant_of_operand, is_bad, is_procedure, operand_type, worse}
 use Rattle.m2_base.specs.Statics.Ranges.{Range, integer_range, is_in, is_within, whole_range}
 use Rattle.m2_base.specs.Statics.Types.{base_of, is_broken, is_same, kind_of, range_of}
@@ -16,7 +19,8 @@ use Rattle.m2_base.specs.declared.operands.FoldKind.TheVariants as kinds
 use Rattle.m2_base.specs.declared.operands.FoldKind.{FoldKind}
 use Rattle.m2_base.specs.declared.operands.Operand.TheVariants.{Computed, Constant, InError}
 use Rattle.m2_base.specs.declared.operands.Operand.{Operand}
-use Rattle.m2_base.specs.declared.trees.operators.Operator.TheVariants.{And, Equal, GreaterEqual, In, LessEqual, Minus, Not, Or, Plus, Slash, Times, Unequal}
+use Rattle.m2_base.specs.declared.trees.operators.Operator.TheVariants.{And, Equal, GreaterEqual, In, LessEqual, Minus}
+use Rattle.m2_base.specs.declared.trees.operators.Operator.TheVariants.{Not, Or, Plus, Slash, Times, Unequal}
 use Rattle.m2_base.specs.declared.limits.TheConstants.{GREATEST_ELEMENT}
 
 -- union, difference, intersection and symmetric difference
@@ -67,7 +71,8 @@ is_boolean c o = is_same_place (base_type c o) boolean
 abbrev pub is_ordinal : Context → Operand → Bool
 is_ordinal c o = is_same_place (operand_type o) whole || is_some (range_of c.scene (operand_type o))
 
--- a whole constant takes the other operand's type, INTEGER or CARDINAL; outside its range it is refused at its first token
+-- a whole constant takes the other operand's type, INTEGER or CARDINAL;
+-- outside its range it is refused at its first token
 abbrev pub as_number : Context → (at : ℕ) → (other : Place) → Operand → Gives Operand
 as_number c at t (Constant u v) =
     if is_same_place u whole && is_integer_or_cardinal t then
@@ -118,11 +123,13 @@ abbrev pub on_scalars : Context → Operator → (op_at : ℕ) → Operand → O
 on_scalars c op op_at x y =
     let ordinals = is_some (range_of c.scene (base_type c x)) && is_some (range_of c.scene (base_type c y)) in
     let pointers = is_pointer c.scene (base_type c x) || is_pointer c.scene (base_type c y) in
-    if (is_relation op && ordinals) || (is_equality op && pointers) then gives_result c op_at kinds.Ordinal op boolean x y
+    if (is_relation op && ordinals) || (is_equality op && pointers) then
+    gives_result c op_at kinds.Ordinal op boolean x y
     else wrong c op_at
 
 -- two compatible operands
-abbrev pub on_compatible : Context → Operator → (op_at : ℕ) → Operand → (x_at : ℕ) → Operand → (y_at : ℕ) → Gives Operand
+abbrev pub on_compatible : Context → Operator → (op_at : ℕ) → Operand → (x_at : ℕ) → Operand → (y_at : ℕ)
+    → Gives Operand
 on_compatible c op op_at x x_at y y_at =
     if is_number_type (base_type c x) && is_number_type (base_type c y) then on_numbers c op op_at x x_at y y_at
     else on_scalars c op op_at x y
@@ -167,7 +174,8 @@ operate_by c In op_at x x_at y y_at = membership c op_at x x_at y (kind_of c.sce
 operate_by c op op_at x x_at y y_at = on_alike c op op_at x x_at y y_at
 
 -- What an operator between two operands gives. A bad operand gives no diagnostic; a procedure has no operator.
-abbrev pub operate : Context → (op : Operator) → (op_at : ℕ) → Operand → (x_at : ℕ) → Operand → (y_at : ℕ) → Gives Operand
+abbrev pub operate : Context → (op : Operator) → (op_at : ℕ) → Operand → (x_at : ℕ) → Operand → (y_at : ℕ)
+    → Gives Operand
 operate c op op_at x x_at y y_at =
     if is_bad x || is_bad y then gives (worse x y) else
     if is_procedure x || is_procedure y then wrong c op_at else

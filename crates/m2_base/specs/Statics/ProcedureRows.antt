@@ -1,8 +1,10 @@
 -- The rows of a procedure's heading in the scope round it.
-use Rattle.std.specs.Prelude.{Bool, List, None, Option, Some, [], false, filter, length, true, ℕ, ◌+◌, if◌then◌else◌, ◌∷◌, ◌-◌, ◌*◌}
+use Rattle.std.specs.Prelude.{Bool, List, None, Option, Some, [], false, filter, length, true, ℕ, ◌+◌, if◌then◌else◌}
+use Rattle.std.specs.Prelude.{◌∷◌, ◌-◌, ◌*◌}
 use Rattle.m2_base.specs.Rows.{Param, Place, Proc, ProcType, Row, RowMeaning, row_meaning}
 use Rattle.m2_base.specs.Statics.Contexts.{Context}
-use Rattle.m2_base.specs.Statics.Makes.{Makes, make_then, makes, makes_named, makes_row, next_place, only_gives, own_rows}
+use Rattle.m2_base.specs.Statics.Makes.{Makes, make_then, makes, makes_named, makes_row, next_place, only_gives}
+use Rattle.m2_base.specs.Statics.Makes.{own_rows}
 use Rattle.m2_base.specs.Statics.ProcedureTypes.{parameter_type, result_type}
 use Rattle.m2_base.specs.Statics.Shapes.{section_shapes}
 use Rattle.m2_base.specs.Trees.{Definition, Heading, Ident, Procedure, Qual, Section, StreamKind}
@@ -70,7 +72,8 @@ result_cells (Some q) = 1
 abbrev pub heading_note : StreamKind → Heading → (number : ℕ) → Option HeadingNote
 heading_note Procedure h number = None
 heading_note kind h number =
-    Some (record { name = h.name.name; number = number; params = parameter_cells h.sections; result = result_cells h.result })
+    Some (record
+    { name = h.name.name; number = number; params = parameter_cells h.sections; result = result_cells h.result })
 
 -- open arrays and parameters, the procedure's type, and the procedure
 abbrev pub proc_rows : Context → StreamKind → Heading → (stream : ℕ) → Makes (Option HeadingNote)

@@ -1,8 +1,12 @@
--- What every tree of statements has that was read from the tokens of a text: its expressions and designators are read, and a
--- FOR has a name.
+-- What every tree of statements has that was read from the tokens of a text: its expressions and designators are read,
+-- and a FOR has a name.
 use Rattle.std.specs.Prelude.{◌≢◌, ℕ, List, Option, Some, None}
 use Rattle.m2_base.specs.Statics.ReadTrees.{AreReadExprs, AreReadLabels, IsReadDesignator, IsReadExpr}
-use Rattle.m2_base.specs.Trees.{CaseArm, CaseArms, CaseElse, Expr, IfArm, IfArms, Statement, Statements, StmtForm, assign_form, call_statement, case_arm, case_else, case_form, empty_form, exit_form, for_form, if_arm, if_form, loop_form, more_case_arms, more_if_arms, more_statements, no_case_arms, no_case_else, no_if_arms, no_statements, repeat_form, return_form, statement, while_form, with_form}
+use Rattle.m2_base.specs.Trees.{CaseArm, CaseArms, CaseElse, Expr, IfArm, IfArms, Statement, Statements, StmtForm}
+use Rattle.m2_base.specs.Trees.{assign_form, call_statement, case_arm, case_else, case_form, empty_form, exit_form}
+use Rattle.m2_base.specs.Trees.{for_form, if_arm, if_form, loop_form, more_case_arms, more_if_arms, more_statements}
+use Rattle.m2_base.specs.Trees.{no_case_arms, no_case_else, no_if_arms, no_statements, repeat_form, return_form}
+use Rattle.m2_base.specs.Trees.{statement, while_form, with_form}
 
 -- an expression that stands or doesn't
 abbrev pub IsReadExprOption : (names : List (List ℕ)) → Option Expr → Type 0
@@ -21,11 +25,13 @@ abbrev mutual
   IsReadStmtForm names (if_form arms other) = AreReadIfArms names arms × AreReadStatements names other
   IsReadStmtForm names (loop_form body) = AreReadStatements names body
   IsReadStmtForm names exit_form = Unit {0}
-  IsReadStmtForm names (case_form e arms other) = IsReadExpr names e × AreReadCaseArms names arms × IsReadCaseElse names other
+  IsReadStmtForm names (case_form e arms other) =
+      IsReadExpr names e × AreReadCaseArms names arms × IsReadCaseElse names other
   IsReadStmtForm names (while_form e body) = IsReadExpr names e × AreReadStatements names body
   IsReadStmtForm names (repeat_form body e) = AreReadStatements names body × IsReadExpr names e
   IsReadStmtForm names (for_form i first last by body) =
-      (i.name ≢ 0) × IsReadExpr names first × IsReadExpr names last × IsReadExprOption names by × AreReadStatements names body
+      (i.name ≢ 0) × IsReadExpr names first × IsReadExpr names last × IsReadExprOption names by
+      × AreReadStatements names body
   IsReadStmtForm names (with_form d body) = IsReadDesignator names d × AreReadStatements names body
   IsReadStmtForm names (return_form e) = IsReadExprOption names e
   IsReadStmtForm names empty_form = Unit {0}

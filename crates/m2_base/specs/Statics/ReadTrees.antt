@@ -1,10 +1,18 @@
--- What every tree has that was read from the tokens of a text: its numbers, characters and strings are those that tokens
--- have, and its names are names of the unit. An analyser asks no more of a tree.
+-- What every tree has that was read from the tokens of a text: its numbers, characters and strings are those that
+-- tokens have, and its names are names of the unit. An analyser asks no more of a tree.
 use Rattle.std.specs.Prelude.{◌≡◌, ◌≢◌, ℕ, ◌<◌, ◌^◌, List, [], length, slice_index_or, Option, Some, None}
 use Rattle.m2_base.specs.KindNumbers.{kind_number}
 use Rattle.m2_base.specs.Lists.{Each}
 use Rattle.m2_base.specs.Statics.Items.{Item, const_item, heading_item, import_item, proc_item, type_item, vars_item}
-use Rattle.m2_base.specs.Trees.{Designator, Expr, ExprForm, Exprs, FieldList, FieldLists, Heading, Ident, Label, Labels, Next, Nexts, Qual, Section, Selector, Selectors, TypeExpr, TypeExprs, TypeForm, VariantArm, VariantArms, array_type, call_form, case_fields, char_form, deref_selector, designator, enum_type, expr, field_selector, index_selector, many_form, more_exprs, more_fields, more_labels, more_nexts, more_selectors, more_types, more_variant_arms, name_form, named_type, next, no_exprs, no_fields, no_labels, no_nexts, no_selectors, no_types, no_variant_arms, number_form, one_form, one_label, plain_fields, pointer_type, proc_type, range_label, record_type, set_form, set_type, string_form, sub_type, type_expr, typed_set_form, variant_arm}
+use Rattle.m2_base.specs.Trees.{Designator, Expr, ExprForm, Exprs, FieldList, FieldLists, Heading, Ident, Label}
+use Rattle.m2_base.specs.Trees.{Labels, Next, Nexts, Qual, Section, Selector, Selectors, TypeExpr, TypeExprs, TypeForm}
+use Rattle.m2_base.specs.Trees.{VariantArm, VariantArms, array_type, call_form, case_fields, char_form, deref_selector}
+use Rattle.m2_base.specs.Trees.{designator, enum_type, expr, field_selector, index_selector, many_form, more_exprs}
+use Rattle.m2_base.specs.Trees.{more_fields, more_labels, more_nexts, more_selectors, more_types, more_variant_arms}
+use Rattle.m2_base.specs.Trees.{name_form, named_type, next, no_exprs, no_fields, no_labels, no_nexts, no_selectors}
+use Rattle.m2_base.specs.Trees.{no_types, no_variant_arms, number_form, one_form, one_label, plain_fields}
+use Rattle.m2_base.specs.Trees.{pointer_type, proc_type, range_label, record_type, set_form, set_type, string_form}
+use Rattle.m2_base.specs.Trees.{sub_type, type_expr, typed_set_form, variant_arm}
 use Rattle.m2_base.specs.declared.kind.TokenKind.TheVariants.{Character, Cut, Identifier, Number, String}
 use Rattle.m2_base.specs.declared.token.Token.{Token}
 use Rattle.m2_base.specs.declared.trees.types.Formal.{Formal}
@@ -114,7 +122,8 @@ abbrev mutual
   pub IsReadTypeForm : (names : List (List ℕ)) → TypeForm → Type 0
   IsReadTypeForm names (named_type q) = IsReadQual names q
   IsReadTypeForm names (enum_type idents) = AreReadNames names idents
-  IsReadTypeForm names (sub_type base low high) = IsReadQualOption names base × IsReadExpr names low × IsReadExpr names high
+  IsReadTypeForm names (sub_type base low high) =
+      IsReadQualOption names base × IsReadExpr names low × IsReadExpr names high
   IsReadTypeForm names (array_type index of) = AreReadTypes names index × IsReadType names of
   IsReadTypeForm names (record_type fields) = AreReadFields names fields
   IsReadTypeForm names (set_type of) = IsReadType names of
@@ -134,7 +143,8 @@ abbrev mutual
   -- fields of one type, or a variant part
   pub IsReadField : (names : List (List ℕ)) → FieldList → Type 0
   IsReadField names (plain_fields idents t) = AreReadNames names idents × IsReadType names t
-  IsReadField names (case_fields tag of arms other) = IsReadOption names tag × IsReadQual names of × AreReadArms names arms × AreReadFields names other
+  IsReadField names (case_fields tag of arms other) =
+      IsReadOption names tag × IsReadQual names of × AreReadArms names arms × AreReadFields names other
 
   -- the variants
   pub AreReadArms : (names : List (List ℕ)) → VariantArms → Type 0

@@ -15,7 +15,8 @@ use Rattle.m2_base.specs.declared.operands.Operand.{Operand}
 
 -- the type before the brackets of a set, by its operand and that one's first token
 abbrev pub set_type_of : Context → (at : ℕ) → Operand → Gives Place
-set_type_of c at (NamedType t) = if is_set_kind (kind_of c.scene t) then gives (stands_for c.scene t) else refuse c at wrong_index broken
+set_type_of c at (NamedType t) =
+    if is_set_kind (kind_of c.scene t) then gives (stands_for c.scene t) else refuse c at wrong_index broken
 set_type_of c at InError = gives broken
 set_type_of c at other = refuse c at not_a_type broken
 

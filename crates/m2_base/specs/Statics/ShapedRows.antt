@@ -12,4 +12,5 @@ pub record IsShaped (s : Shape) (r : Row) : Type 0 where
 -- there are as many rows as shapes, and each row has its shape
 pub data AreShaped : List Shape → List Row → Type 0 where
   none_of : AreShaped [] []
-  more_of : {s : Shape} {ss : List Shape} {r : Row} {rs : List Row} → IsShaped s r → AreShaped ss rs → AreShaped (s ∷ ss) (r ∷ rs)
+  more_of : {s : Shape} {ss : List Shape} {r : Row} {rs : List Row} → IsShaped s r → AreShaped ss rs
+      → AreShaped (s ∷ ss) (r ∷ rs)

@@ -1,8 +1,13 @@
 -- The rows that each part of a declaration makes, by the syntax alone: how many, and of each its name, kind and token.
 use Rattle.std.specs.Prelude.{Bool, List, None, Option, Some, [], false, flat_map, map, true, ℕ, ◌∷◌, ◌++◌}
-use Rattle.m2_base.specs.Rows.{alias_kind, array_kind, const_kind, enum_kind, field_kind, module_kind, opaque_kind, open_array_kind, param_kind, pointer_kind, proc_kind, proc_type_kind, record_kind, set_kind, subrange_kind, type_name_kind, var_kind}
+use Rattle.m2_base.specs.Rows.{alias_kind, array_kind, const_kind, enum_kind, field_kind, module_kind, opaque_kind}
+use Rattle.m2_base.specs.Rows.{open_array_kind, param_kind, pointer_kind, proc_kind, proc_type_kind, record_kind}
+use Rattle.m2_base.specs.Rows.{set_kind, subrange_kind, type_name_kind, var_kind}
 use Rattle.m2_base.specs.Statics.Items.{Item, const_item, heading_item, import_item, proc_item, type_item, vars_item}
-use Rattle.m2_base.specs.Trees.{FieldList, FieldLists, Formal, Ident, Qual, Section, TypeExpr, TypeExprs, TypeForm, VariantArm, VariantArms, array_type, case_fields, enum_type, more_fields, more_types, more_variant_arms, named_type, no_fields, no_types, no_variant_arms, plain_fields, pointer_type, proc_type, record_type, set_type, sub_type, type_expr, variant_arm}
+use Rattle.m2_base.specs.Trees.{FieldList, FieldLists, Formal, Ident, Qual, Section, TypeExpr, TypeExprs, TypeForm}
+use Rattle.m2_base.specs.Trees.{VariantArm, VariantArms, array_type, case_fields, enum_type, more_fields, more_types}
+use Rattle.m2_base.specs.Trees.{more_variant_arms, named_type, no_fields, no_types, no_variant_arms, plain_fields}
+use Rattle.m2_base.specs.Trees.{pointer_type, proc_type, record_type, set_type, sub_type, type_expr, variant_arm}
 
 -- a row's name (0: none), kind and token
 pub record Shape : Type 0 where

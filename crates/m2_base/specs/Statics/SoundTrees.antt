@@ -1,10 +1,16 @@
--- What every tree keeps that is read from the tokens of a text: its numbers are those that tokens have, and its names have
--- numbers below the count of the unit's names. What stands in a designator, and the labels of variants, make no rows and
--- aren't asked.
+-- What every tree keeps that is read from the tokens of a text: its numbers are those that tokens have, and its names
+-- have numbers below the count of the unit's names. What stands in a designator, and the labels of variants, make no
+-- rows and aren't asked.
 use Rattle.std.specs.Prelude.{ℕ, ◌^◌, ◌<◌, List, Option, Some, None}
 use Rattle.m2_base.specs.Lists.{Each}
 use Rattle.m2_base.specs.Statics.Items.{Item, heading_item, import_item, const_item, type_item, vars_item, proc_item}
-use Rattle.m2_base.specs.Trees.{Ident, Expr, expr, ExprForm, number_form, char_form, string_form, set_form, typed_set_form, name_form, call_form, one_form, many_form, Exprs, no_exprs, more_exprs, Next, next, Nexts, no_nexts, more_nexts, Label, one_label, range_label, Labels, no_labels, more_labels, TypeExpr, type_expr, TypeForm, named_type, enum_type, sub_type, array_type, record_type, set_type, pointer_type, proc_type, TypeExprs, no_types, more_types, FieldList, plain_fields, case_fields, FieldLists, no_fields, more_fields, VariantArm, variant_arm, VariantArms, no_variant_arms, more_variant_arms, Section}
+use Rattle.m2_base.specs.Trees.{Ident, Expr, expr, ExprForm, number_form, char_form, string_form, set_form}
+use Rattle.m2_base.specs.Trees.{typed_set_form, name_form, call_form, one_form, many_form, Exprs, no_exprs, more_exprs}
+use Rattle.m2_base.specs.Trees.{Next, next, Nexts, no_nexts, more_nexts, Label, one_label, range_label, Labels}
+use Rattle.m2_base.specs.Trees.{no_labels, more_labels, TypeExpr, type_expr, TypeForm, named_type, enum_type, sub_type}
+use Rattle.m2_base.specs.Trees.{array_type, record_type, set_type, pointer_type, proc_type, TypeExprs, no_types}
+use Rattle.m2_base.specs.Trees.{more_types, FieldList, plain_fields, case_fields, FieldLists, no_fields, more_fields}
+use Rattle.m2_base.specs.Trees.{VariantArm, variant_arm, VariantArms, no_variant_arms, more_variant_arms, Section}
 
 abbrev mutual
   -- an expression whose numbers, characters and strings are right
@@ -85,7 +91,8 @@ abbrev mutual
   -- fields of one type, or a variant part
   pub IsSoundField : (names : ℕ) → FieldList → Type 0
   IsSoundField names (plain_fields idents t) = AreSoundNames names idents × IsSoundType names t
-  IsSoundField names (case_fields tag of arms other) = IsSoundTag names tag × AreSoundArms names arms × AreSoundFields names other
+  IsSoundField names (case_fields tag of arms other) =
+      IsSoundTag names tag × AreSoundArms names arms × AreSoundFields names other
 
   -- the variants
   pub AreSoundArms : (names : ℕ) → VariantArms → Type 0

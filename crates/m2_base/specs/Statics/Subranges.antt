@@ -1,5 +1,6 @@
 -- Subranges: their base and their bounds.
-use Rattle.std.specs.Prelude.{Bool, None, Option, Some, false, int_le, int_lt, pos, true, ℕ, ℤ, if◌then◌else◌, ◌&&◌, ◌||◌}
+use Rattle.std.specs.Prelude.{Bool, None, Option, Some, false, int_le, int_lt, pos, true, ℕ, ℤ, if◌then◌else◌, ◌&&◌}
+use Rattle.std.specs.Prelude.{◌||◌}
 use Rattle.m2_base.specs.Gives.{Gives, and_then, gives}
 use Rattle.m2_base.specs.Rows.{Place, Subrange, is_same_place}
 use Rattle.m2_base.specs.Standard.{broken, cardinal, integer, whole}
@@ -22,7 +23,8 @@ pub record Bounds : Type 0 where
   pub low : ℤ
   pub high : ℤ
 
--- The type of two bounds: the base of their types; a whole bound beside an INTEGER or CARDINAL one has that one's type.
+-- The type of two bounds: the base of their types; a whole bound beside an INTEGER or
+-- CARDINAL one has that one's type.
 abbrev pub common_type : Place → Place → Option Place
 common_type t u =
     if is_same_place t u then Some t else
@@ -65,12 +67,14 @@ within_base c low_at high_at low high (Some base) =
     gives (subrange_if base low high good))))
 
 -- bounds of one type; bounds of two types are refused at the upper one
-abbrev pub of_common : Context → Option Place → (low_at high_at : ℕ) → (low high : ℤ) → Option Place → Gives (Option Bounds)
+abbrev pub of_common : Context → Option Place → (low_at high_at : ℕ) → (low high : ℤ) → Option Place
+    → Gives (Option Bounds)
 of_common c base low_at high_at low high None = refuse c high_at wrong_operands None
 of_common c base low_at high_at low high (Some t) = within_base c low_at high_at low high (subrange_base c base t low)
 
 -- the values of both bounds
-abbrev pub of_values : Context → Option Place → (low_at high_at : ℕ) → Operand → Operand → Option ℤ → Option ℤ → Gives (Option Bounds)
+abbrev pub of_values : Context → Option Place → (low_at high_at : ℕ) → Operand → Operand → Option ℤ → Option ℤ
+    → Gives (Option Bounds)
 of_values c base low_at high_at x y (Some low) (Some high) =
     of_common c base low_at high_at low high
     (common_type (base_of c.scene (operand_type x)) (base_of c.scene (operand_type y)))
@@ -89,7 +93,8 @@ is_broken_base c None = false
 is_broken_base c (Some t) = is_broken c.scene t
 
 -- without a bound, or with a base in error, there is no subrange
-abbrev pub of_bounds : Context → Option Place → (low_at high_at : ℕ) → Option Operand → Option Operand → Gives (Option Bounds)
+abbrev pub of_bounds : Context → Option Place → (low_at high_at : ℕ) → Option Operand → Option Operand
+    → Gives (Option Bounds)
 of_bounds c base low_at high_at (Some x) (Some y) =
     if is_broken_base c base then gives None
     else of_ordinals c base low_at high_at (char_or_same c.source x) (char_or_same c.source y)

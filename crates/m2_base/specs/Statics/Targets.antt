@@ -12,7 +12,8 @@ use Rattle.m2_base.specs.Trees.{Ident, TypeExpr, named_type, type_expr}
 
 -- the name alone after POINTER TO, where the block's layout has it and it is no standard name
 abbrev pub target_name : Context → TypeExpr → Option Ident
-target_name c (type_expr at (named_type q)) = if is_none q.second && not (is_standard q.first.name) then Some q.first else None
+target_name c (type_expr at (named_type q)) =
+    if is_none q.second && not (is_standard q.first.name) then Some q.first else None
 target_name c other = None
 
 -- an imported name's target by its row's place and meaning: a type's name, as such

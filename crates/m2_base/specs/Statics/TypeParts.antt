@@ -1,7 +1,9 @@
 -- The parts of a type: a record's fields, an array's index and elements, a pointer's target, and the parameters and
 -- the result of a procedure type.
-use Rattle.std.specs.Prelude.{Bool, List, None, Option, Some, [], drop, false, filter_map, find, take, ℕ, if◌then◌else◌, ◌-◌, ◌==◌, ◌&&◌}
-use Rattle.m2_base.specs.Rows.{Array, Field, Param, Place, Pointer, ProcType, Record, Row, RowMeaning, TypeName, row_meaning}
+use Rattle.std.specs.Prelude.{Bool, List, None, Option, Some, [], drop, false, filter_map, find, take, ℕ}
+use Rattle.std.specs.Prelude.{if◌then◌else◌, ◌-◌, ◌==◌, ◌&&◌}
+use Rattle.m2_base.specs.Rows.{Array, Field, Param, Place, Pointer, ProcType, Record, Row, RowMeaning, TypeName}
+use Rattle.m2_base.specs.Rows.{row_meaning}
 use Rattle.m2_base.specs.Standard.{broken}
 use Rattle.m2_base.specs.Statics.Contexts.{Scene, row_at}
 use Rattle.m2_base.specs.Statics.Types.{kind_of, meaning_at, stands_for}

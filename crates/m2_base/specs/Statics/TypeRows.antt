@@ -14,7 +14,10 @@ use Rattle.m2_base.specs.Statics.Shapes.{fields_shapes}
 use Rattle.m2_base.specs.Statics.Subranges.{subrange_of, subrange_row}
 use Rattle.m2_base.specs.Statics.Targets.{target_by_name, target_name, target_or}
 use Rattle.m2_base.specs.Statics.TypeNames.{type_of_qual}
-use Rattle.m2_base.specs.Trees.{FieldList, FieldLists, TypeExpr, TypeExprs, TypeForm, VariantArms, array_type, case_fields, enum_type, labels, more_fields, more_types, more_variant_arms, named_type, no_fields, no_types, no_variant_arms, plain_fields, pointer_type, proc_type, record_type, set_type, sub_type, type_at, type_expr, variant_arm}
+use Rattle.m2_base.specs.Trees.{FieldList, FieldLists, TypeExpr, TypeExprs, TypeForm, VariantArms, array_type}
+use Rattle.m2_base.specs.Trees.{case_fields, enum_type, labels, more_fields, more_types, more_variant_arms, named_type}
+use Rattle.m2_base.specs.Trees.{no_fields, no_types, no_variant_arms, plain_fields, pointer_type, proc_type}
+use Rattle.m2_base.specs.Trees.{record_type, set_type, sub_type, type_at, type_expr, variant_arm}
 
 abbrev mutual
   -- the value is the type
@@ -42,7 +45,8 @@ abbrev mutual
       make_then d (only_gives (checked_base d (type_at of) t)) (λ e base.
       makes_row e at (Set base)))
   form_rows c at (pointer_type of) =
-      make_then c (target_or (target_by_name c (target_name c of)) (type_rows c of)) (λ d t. makes_row d at (Pointer t))
+      make_then c (target_or (target_by_name c (target_name c of)) (type_rows c of))
+      (λ d t. makes_row d at (Pointer t))
   form_rows c at (proc_type formals result) =
       let first = (next_place c).ordinal in
       make_then c (formal_rows c (first + formals_length formals) formals) (λ d none.

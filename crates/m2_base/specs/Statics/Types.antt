@@ -1,6 +1,7 @@
 -- What a type is: the row that it stands for, its base, its range and its size. A type is the place of its row.
 use Rattle.std.specs.Prelude.{Bool, None, Option, Some, pos, ℕ, ◌+◌, if◌then◌else◌, ◌-◌, ◌==◌}
-use Rattle.m2_base.specs.Rows.{Array, Cardinal, Character, Enum, Integer, Opaque, Place, Record, RowMeaning, Subrange, TypeName, at_place, is_same_place, row_meaning}
+use Rattle.m2_base.specs.Rows.{Array, Cardinal, Character, Enum, Integer, Opaque, Place, Record, RowMeaning, Subrange}
+use Rattle.m2_base.specs.Rows.{TypeName, at_place, is_same_place, row_meaning}
 use Rattle.m2_base.specs.Standard.{broken}
 use Rattle.m2_base.specs.Statics.Contexts.{Scene, row_at}
 use Rattle.m2_base.specs.Statics.Lookup.{Entry, entry_in}
