@@ -13,7 +13,7 @@ pub enum StreamKind {
 }
 
 /// The tree of one stream.
-#[derive(Debug, Drop, PartialEq)]
+#[derive(Drop)]
 pub struct Stream {
     pub kind: StreamKind,
     pub implementation: bool,
@@ -28,14 +28,14 @@ pub struct Stream {
 }
 
 /// Names of modules, or after FROM names of that module.
-#[derive(Debug, Drop, PartialEq)]
+#[derive(Drop)]
 pub struct Import {
     pub from: Option<Ident>,
     pub names: Vec<Ident>,
 }
 
 /// A declaration.
-#[derive(Debug, Drop, PartialEq)]
+#[derive(Drop)]
 pub enum Decl {
     Const { name: Ident, value: Expr },
     Types { name: Ident, typ: Option<TypeExpr> },
@@ -45,7 +45,7 @@ pub enum Decl {
 }
 
 /// The heading of a procedure.
-#[derive(Debug, Drop, PartialEq)]
+#[derive(Drop)]
 pub struct Heading {
     pub name: Ident,
     pub sections: Vec<Section>,
@@ -53,7 +53,7 @@ pub struct Heading {
 }
 
 /// Parameters of one mode and one type.
-#[derive(Debug, Drop, PartialEq)]
+#[derive(Drop)]
 pub struct Section {
     pub by_ref: bool,
     pub names: Vec<Ident>,

@@ -4,7 +4,7 @@ use crate::trees::operators::Operator;
 
 /// An expression and its first token, which may be a round bracket.
 #[cycle(expressions)]
-#[derive(Debug, Drop, PartialEq)]
+#[derive(Drop)]
 pub struct Expr {
     pub at: u32,
     pub form: ExprForm,
@@ -12,7 +12,7 @@ pub struct Expr {
 
 /// What an expression is.
 #[cycle(expressions)]
-#[derive(Debug, Drop, PartialEq)]
+#[derive(Drop)]
 pub enum ExprForm {
     Number(u64),
     Char(u64),
@@ -42,7 +42,7 @@ pub enum ExprForm {
 
 /// An operator, its token, and what stands on its right.
 #[cycle(expressions)]
-#[derive(Debug, Drop, PartialEq)]
+#[derive(Drop)]
 pub struct Next {
     pub op: Operator,
     pub op_at: u32,
@@ -51,7 +51,7 @@ pub struct Next {
 
 /// A name with its selectors.
 #[cycle(expressions)]
-#[derive(Debug, Drop, PartialEq)]
+#[derive(Drop)]
 pub struct Designator {
     pub first: Ident,
     pub rest: Vec<Selector>,
@@ -60,7 +60,7 @@ pub struct Designator {
 /// A field of a record or a name of a module, an element of an array, or what a pointer points to. The number
 /// is the token of `.`, `[` or `^`.
 #[cycle(expressions)]
-#[derive(Debug, Drop, PartialEq)]
+#[derive(Drop)]
 pub enum Selector {
     Field(Ident, u32),
     Index(Vec<Expr>, u32),
@@ -69,7 +69,7 @@ pub enum Selector {
 
 /// One value or a range, as a label of a case or an element of a set.
 #[cycle(expressions)]
-#[derive(Debug, Drop, PartialEq)]
+#[derive(Drop)]
 pub struct Label {
     pub low: Expr,
     pub high: Option<Expr>,

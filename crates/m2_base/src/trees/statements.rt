@@ -4,7 +4,7 @@ use crate::trees::expressions::{Designator, Expr, Label};
 
 /// A statement and its first token, of an empty one the token after it.
 #[cycle(statements)]
-#[derive(Debug, Drop, PartialEq)]
+#[derive(Drop)]
 pub struct Statement {
     pub at: u32,
     pub form: StmtForm,
@@ -12,7 +12,7 @@ pub struct Statement {
 
 /// What a statement is.
 #[cycle(statements)]
-#[derive(Debug, Drop, PartialEq)]
+#[derive(Drop)]
 pub enum StmtForm {
     Assign {
         to: Designator,
@@ -59,7 +59,7 @@ pub enum StmtForm {
 
 /// The test after IF or ELSIF, and what is done where it holds.
 #[cycle(statements)]
-#[derive(Debug, Drop, PartialEq)]
+#[derive(Drop)]
 pub struct IfArm {
     pub test: Expr,
     pub body: Vec<Statement>,
@@ -67,7 +67,7 @@ pub struct IfArm {
 
 /// The labels of one arm of a CASE, and what is done there.
 #[cycle(statements)]
-#[derive(Debug, Drop, PartialEq)]
+#[derive(Drop)]
 pub struct CaseArm {
     pub labels: Vec<Label>,
     pub body: Vec<Statement>,

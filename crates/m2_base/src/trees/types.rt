@@ -4,7 +4,7 @@ use crate::trees::{Ident, Qual};
 
 /// A type and its first token.
 #[cycle(types)]
-#[derive(Debug, Drop, PartialEq)]
+#[derive(Drop)]
 pub struct TypeExpr {
     pub at: u32,
     pub form: TypeForm,
@@ -12,7 +12,7 @@ pub struct TypeExpr {
 
 /// What a type is.
 #[cycle(types)]
-#[derive(Debug, Drop, PartialEq)]
+#[derive(Drop)]
 pub enum TypeForm {
     Named(Qual),
     Enum(Vec<Ident>),
@@ -44,7 +44,7 @@ pub struct Formal {
 
 /// Fields of one type, or a variant part with what stands after ELSE.
 #[cycle(types)]
-#[derive(Debug, Drop, PartialEq)]
+#[derive(Drop)]
 pub enum FieldList {
     Plain {
         names: Vec<Ident>,
@@ -60,7 +60,7 @@ pub enum FieldList {
 
 /// The labels of a variant, and its fields.
 #[cycle(types)]
-#[derive(Debug, Drop, PartialEq)]
+#[derive(Drop)]
 pub struct VariantArm {
     pub labels: Vec<Label>,
     pub fields: Vec<FieldList>,
