@@ -1,8 +1,10 @@
 //! Instructions.
-ghost use Rattle.std.specs.Prelude.{◌≡◌};
-ghost use Rattle.code_form.specs.Instructions.{line_of};
+ghost use Rattle.std.specs.Prelude.{◌≡◌, ◌≤◌, ◌↔◌, IsTrue};
+ghost use Rattle.code_form.specs.Bytes.{size as spec_size};
+ghost use Rattle.code_form.specs.Instructions.{IsInstr, line_of};
 
 use crate::effect::Effect;
+use crate::operand::{Operand, operand};
 use crate::table::instructions;
 
 /// An instruction with its operands.
@@ -77,6 +79,22 @@ macro_rules! name_arms {
     };
 }
 
+macro_rules! size_arms {
+    (($i:ident) $($code:literal $name:ident $(($($x:ident: $kind:ident),*))? => $effect:expr;)*) => {
+        match $i {
+            $(Instr::$name $(($($x),*))? => 1 $($(+ operand!($kind *$x).width())*)?,)*
+        }
+    };
+}
+
+macro_rules! range_arms {
+    (($i:ident) $($code:literal $name:ident $(($($x:ident: $kind:ident),*))? => $effect:expr;)*) => {
+        match $i {
+            $(Instr::$name $(($($x),*))? => true $($(&& operand!($kind *$x).is_in_range())*)?,)*
+        }
+    };
+}
+
 impl Instr {
     /// What it does to the stack's height.
     #[inline(always)]
@@ -91,5 +109,21 @@ impl Instr {
         ensures { result.now ≡ (line_of self.now).word }
     {
         instructions!(name_arms(self))
+    }
+
+    /// How many bytes spell it: the opcode and its operands. It is the same whatever the operands are.
+    #[inline(always)]
+    pub fn size(&self) -> u64
+        ensures size { result ≡ spec_size self.now }
+        ensures short { result ≤ 17 }
+    {
+        instructions!(size_arms(self))
+    }
+
+    /// Whether each of its operands is in the range of its kind, which `encode` asks for.
+    pub fn has_valid_operands(&self) -> bool
+        ensures { IsTrue result ↔ IsInstr self.now }
+    {
+        instructions!(range_arms(self))
     }
 }

@@ -5,8 +5,8 @@ ghost use Rattle.code_form.specs.Bytes.{spelling, BeginsWith};
 ghost use Rattle.code_form.specs.Reading.{Reads, number_at, distance_at, value_at, flag_at, trap_at, count_at, instr_at, decoded};
 
 use crate::instr::Instr;
+use crate::operand::Operand;
 use crate::table::instructions;
-use m2_base::{GREATEST_CARDINAL, LEAST_INTEGER};
 
 #[inline(always)]
 fn number(bytes: &mut &[u8]) -> Option<u32>
@@ -40,7 +40,7 @@ fn value(bytes: &mut &[u8]) -> Option<i64>
     let number = i64::from_le_bytes([
         front[0], front[1], front[2], front[3], front[4], front[5], front[6], front[7],
     ]);
-    if number < LEAST_INTEGER || number > GREATEST_CARDINAL {
+    if !Operand::Value(number).is_in_range() {
         return None;
     }
     *bytes = rest;
@@ -53,7 +53,7 @@ fn flag(bytes: &mut &[u8]) -> Option<u8>
     ensures { Reads (λ x. (x, bytes.new.now)) result (flag_at bytes.old.now) }
 {
     match *bytes {
-        [b, rest @ ..] if *b < 2 => {
+        [b, rest @ ..] if Operand::Flag(*b).is_in_range() => {
             *bytes = rest;
             Some(*b)
         }
@@ -67,7 +67,7 @@ fn trap(bytes: &mut &[u8]) -> Option<u8>
     ensures { Reads (λ x. (x, bytes.new.now)) result (trap_at bytes.old.now) }
 {
     match *bytes {
-        [b, rest @ ..] if *b == 7 || *b == 8 => {
+        [b, rest @ ..] if Operand::Trap(*b).is_in_range() => {
             *bytes = rest;
             Some(*b)
         }
@@ -81,7 +81,7 @@ fn count(bytes: &mut &[u8]) -> Option<u32>
     ensures { Reads (λ x. (x, bytes.new.now)) result (count_at bytes.old.now) }
 {
     let number = number(bytes)?;
-    if number == 0 {
+    if !Operand::Count(number).is_in_range() {
         return None;
     }
     Some(number)
