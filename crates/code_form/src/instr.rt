@@ -1,5 +1,5 @@
 //! Instructions.
-ghost use Rattle.std.specs.Prelude.{◌≡◌, ◌↔◌, IsTrue};
+ghost use Rattle.std.specs.Prelude.{◌≡◌, ◌≤◌, ◌↔◌, IsTrue};
 ghost use Rattle.code_form.specs.Bytes.{size as spec_size};
 ghost use Rattle.code_form.specs.Instructions.{IsInstr, line_of};
 
@@ -114,7 +114,8 @@ impl Instr {
     /// How many bytes spell it: the opcode and its operands. It is the same whatever the operands are.
     #[inline(always)]
     pub fn size(&self) -> u64
-        ensures { result ≡ spec_size self.now }
+        ensures size { result ≡ spec_size self.now }
+        ensures short { result ≤ 17 }
     {
         instructions!(size_arms(self))
     }

@@ -1,9 +1,10 @@
 //! What is an instruction, and which bytes spell it?
 //!
 //! One table (`specs/Instructions`, `src/table.rt`) gives each instruction's opcode, name, operands and effect on the
-//! stack's height. From it come the bytes that spell an instruction, the instruction that bytes begin with, and its
-//! effect. No spelling begins another, so code is one list of instructions at most. The layers above use `encode` and
-//! `decode`, and the definition of valid code (`specs/Valid`).
+//! stack's height. From it come the bytes that spell an instruction, the instruction that bytes begin with, its size,
+//! its effect, and whether its operands are in their ranges. No spelling begins another, so code is one list of
+//! instructions at most. The layers above use `encode`, `decode`, the methods of `Instr`, and the definition of valid
+//! code (`specs/Valid`).
 #![tactic(auto)]
 
 mod effect;

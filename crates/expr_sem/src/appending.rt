@@ -124,13 +124,7 @@ fn push_jump(piece: &mut Piece, connective: Connective, size: u64) -> Result<(),
     let Ok(distance) = i32::try_from(size) else {
         return Err(Memory);
     };
-    push_instr(
-        piece,
-        match connective {
-            Connective::And => Instr::AndJump(distance),
-            Connective::Or => Instr::OrJump(distance),
-        },
-    )
+    push_instr(piece, connective.jump(distance))
 }
 
 /// Appends a form's own part; the fragments that it is made of are put on the stack, the first one last.

@@ -16,6 +16,18 @@ pub enum Connective {
     Or,
 }
 
+impl Connective {
+    /// The jump by this distance, over a right side that isn't evaluated.
+    pub(crate) fn jump(self, distance: i32) -> Instr
+        ensures { result ≡ jump_of self distance }
+    {
+        match self {
+            Connective::And => Instr::AndJump(distance),
+            Connective::Or => Instr::OrJump(distance),
+        }
+    }
+}
+
 /// A fragment among those made so far, by the number of its node; or no code at all.
 #[derive(Clone, Copy, Debug, PartialEq, Eq)]
 pub enum Fragment {
@@ -135,7 +147,8 @@ impl Fragments {
         ensures made { IsMade self.old.nodes.items self.new.nodes.items result (spec_skip (jump_of connective) (part self.old.nodes.items skipped)) }
     {
         let skipped = self.own(skipped);
-        let Some(size) = self.size(skipped).checked_add(5) else {
+        let jump = connective.jump(0).size();
+        let Some(size) = self.size(skipped).checked_add(jump) else {
             return Err(Memory);
         };
         self.push(Form::Skip(connective, skipped), size)
@@ -145,20 +158,23 @@ impl Fragments {
     pub fn text(&mut self, characters: Vec<u8>) -> Result<Fragment, Memory>
         ensures made { IsMade self.old.nodes.items self.new.nodes.items result (spec_text characters.items) }
     {
-        self.push(Form::Text(characters), 5)
+        self.push(Form::Text(characters), Instr::Str(0).size())
     }
 
     /// The address of so many temporary cells with a copy of these characters.
     pub fn string_copy(&mut self, size: u32, characters: Vec<u8>) -> Result<Fragment, Memory>
         ensures made { IsMade self.old.nodes.items self.new.nodes.items result (spec_copy size characters.items) }
     {
-        self.push(Form::StringCopy(size, characters), 28)
+        let address = Instr::Local(0, 0).size();
+        let moved = Instr::Str(0).size() + Instr::Move(size).size();
+        self.push(Form::StringCopy(size, characters), address + moved + address)
     }
 
     /// The address of the record of an open WITH, of which 0 is the innermost.
     pub fn with_record(&mut self, number: u32) -> Result<Fragment, Memory>
         ensures made { IsMade self.old.nodes.items self.new.nodes.items result (spec_record number) }
     {
-        self.push(Form::WithRecord(number), 10)
+        let size = Instr::Local(0, 0).size() + Instr::Load.size();
+        self.push(Form::WithRecord(number), size)
     }
 }

@@ -34,17 +34,6 @@ impl Step {
     pub fn size(self) -> u64
         ensures { result ≡ spec_size self.instr }
     {
-        match self.instr {
-            Instr::Index(..) | Instr::Check(..) => 17,
-            Instr::Push(_) | Instr::More(_) => 9,
-            Instr::Local(..) | Instr::Global(..) | Instr::Proc(..) | Instr::OpenCopy(..) => 9,
-            Instr::Call(..) | Instr::CallX(..) | Instr::CallVar(..) => 9,
-            Instr::Str(_) | Instr::Move(_) | Instr::Offset(_) | Instr::IndexOpen(_) => 5,
-            Instr::Jump(_) | Instr::JumpFalse(_) | Instr::AndJump(_) | Instr::OrJump(_) => 5,
-            Instr::New(_) => 5,
-            Instr::Add(_) | Instr::Sub(_) | Instr::Mul(_) | Instr::Div(_) | Instr::Mod(_) => 2,
-            Instr::Trap(_) => 2,
-            _ => 1,
-        }
+        self.instr.size()
     }
 }

@@ -1,9 +1,8 @@
 //! The code of a procedure, from what its block made.
-ghost use Rattle.std.specs.Prelude.{◌≡◌, ◌≤ℤ◌, pos, negsuc, true, IfOk, IfSome, map, option_map};
+ghost use Rattle.std.specs.Prelude.{◌≡◌, IfOk, IfSome, map, option_map};
 ghost use Rattle.std.specs.List.{flat_map};
 ghost use Rattle.code_form.specs.Bytes.{spelling};
 ghost use Rattle.code_form.specs.Heights.{greatest};
-ghost use Rattle.code_form.specs.Instructions.{IsInstr};
 ghost use Rattle.expr_sem.specs.Fragments.{step_view};
 ghost use Rattle.m2_base.specs.Statics.ProcedureRows.{parameter_cells as spec_cells, section_cells as spec_section, result_cells as spec_result};
 ghost use Rattle.m2_base.specs.Views.{heading_view, section_view, stream_view};
@@ -13,40 +12,10 @@ ghost use Rattle.stmt_sem.specs.Flows.{Run};
 ghost use Rattle.stmt_sem.specs.ProcedureCodes.{code_view};
 ghost use Rattle.type_rules.specs.Scenes.{block_of};
 
-use code_form::{Instr, encode};
+use code_form::encode;
 use expr_sem::{Piece, Step};
-use m2_base::{
-    Around, GREATEST_CARDINAL, Heading, LEAST_INTEGER, Memory, ProcCode, Section, Stream,
-};
+use m2_base::{Around, Heading, Memory, ProcCode, Section, Stream};
 use std::alloc::Global;
-
-/// Whether a value can be an operand.
-fn is_value(value: i64) -> bool
-    ensures low { result ≡ true → negsuc 2147483647 ≤ℤ value }
-    ensures high { result ≡ true → value ≤ℤ pos 4294967295 }
-{
-    LEAST_INTEGER <= value && value <= GREATEST_CARDINAL
-}
-
-/// Whether all operands are in their ranges.
-fn is_in_range(instr: Instr) -> bool
-    ensures { result ≡ true → IsInstr instr }
-{
-    match instr {
-        Instr::Push(value) => is_value(value),
-        Instr::More(change) => is_value(change),
-        Instr::Index(low, _, _) => is_value(low),
-        Instr::Check(low, high) => is_value(low) && is_value(high),
-        Instr::Add(kind) => kind < 2,
-        Instr::Sub(kind) => kind < 2,
-        Instr::Mul(kind) => kind < 2,
-        Instr::Div(kind) => kind < 2,
-        Instr::Mod(kind) => kind < 2,
-        Instr::Trap(code) => code == 7 || code == 8,
-        Instr::New(cells) => cells >= 1,
-        _ => true,
-    }
-}
 
 /// The bytes of instructions one after another. One whose operands are out of their ranges finds no memory.
 #[tactic(auto, using(crate::proofs::ProcedureCodes::spelling_on))]
@@ -55,7 +24,7 @@ fn encoded(alloc: Global, steps: &[Step]) -> Result<Vec<u8>, Memory>
 {
     let mut code = Vec::new(alloc);
     for step in steps {
-        if !is_in_range(step.instr) {
+        if !step.instr.has_valid_operands() {
             return Err(Memory);
         }
         encode(&step.instr, &mut code)?;
