@@ -9,7 +9,7 @@ ghost use Rattle.m2_base.specs.Statics.CaseLabels.{overlaps as spec_overlaps};
 ghost use Rattle.m2_base.specs.Statics.Ranges.{range};
 ghost use Rattle.case_labels.specs.Steps.{AreSteps, BeginsWithin, LoseWithin, NoneWithin, Reaches, Rises};
 
-use m2_base::Memory;
+use m2_base::{Memory, Place};
 use std::alloc::Global;
 use std::collections::BTreeMap;
 use std::marker::Model;
@@ -24,6 +24,13 @@ pub struct Covered {
     ranges: Vec<(i64, i64)>,
     /// Those that reach further than all that begin before them or with them.
     steps: Steps,
+}
+
+/// What labels cover of a type, which is that of a CASE's selector or of a record's tag.
+#[derive(Drop)]
+pub struct Coverage {
+    pub of: Place,
+    pub covered: Covered,
 }
 
 impl Model for Covered {
@@ -96,6 +103,11 @@ impl Covered {
             ranges: Vec::new(alloc),
             steps: BTreeMap::new(alloc),
         }
+    }
+
+    /// Where the ranges are kept.
+    pub(crate) fn allocator(&self) -> Global {
+        *self.ranges.allocator()
     }
 
     /// Whether one of the values from low to high is covered.

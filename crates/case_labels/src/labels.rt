@@ -13,12 +13,11 @@ ghost use Rattle.case_labels.specs.Seen.{AreAny, answer_as, known_as, labels_see
 ghost use Rattle.type_rules.specs.Scenes.{IsThere};
 ghost use Rattle.type_rules.specs.Sites.{SuitsSite};
 
-use crate::covered::Covered;
+use crate::covered::{Coverage, Covered};
 use crate::noting::{refuse, refuse_if};
 use crate::tests::{LabelTest, test_of, test_unless};
 use crate::values::{LabelValues, label_values};
-use m2_base::{Ask, Label, Memory, Notes, Place, Scopes, Site};
-use std::alloc::Global;
+use m2_base::{Ask, Label, Memory, Notes, Scopes, Site};
 
 /// The labels of one arm: whether all are right, the tests of those that are, and the values that are covered with them.
 #[derive(Drop)]
@@ -166,26 +165,27 @@ fn with_label(
     Ok(more)
 }
 
-/// The labels of one arm, of a CASE or of variants, beside a value of the type `of`, where earlier arms cover
-/// `covered`. By the report they are constants compatible with that type, "and no value must occur more than once"; one
+/// The labels of one arm, of a CASE or of variants, beside a value of the coverage's type, some of whose values earlier
+/// arms cover. By the report they are constants compatible with that type, "and no value must occur more than once"; one
 /// that isn't right is refused at its first token. It waits for names and types.
 pub fn case_labels<S: Scopes>(
-    alloc: Global,
     scopes: &mut S,
     site: &Site,
-    of: Place,
-    covered: Covered,
+    coverage: Coverage,
     labels: &[Label],
     notes: &mut Notes,
 ) -> Result<Ask<CaseLabels>, Memory>
     requires suits { SuitsSite (S.state scopes.old).frame site.now }
-    requires of { IsThere (S.state scopes.old).frame of }
+    requires of { IsThere (S.state scopes.old).frame coverage.of }
     requires read { AreReadLabels site.now.texts.now.names (plain_labels (map label_view labels.now)) }
-    ensures { Analysed (S.state scopes.old) (S.state scopes.new) notes.old notes.new site.now (answer_as labels_seen result) AreAny (λ c. labels_of c of covered (plain_labels (map label_view labels.now))) }
+    ensures { Analysed (S.state scopes.old) (S.state scopes.new) notes.old notes.new site.now
+        (answer_as labels_seen result) AreAny
+        (λ c. labels_of c coverage.of coverage.covered (plain_labels (map label_view labels.now))) }
 {
+    let Coverage { of, covered } = coverage;
     let mut found = CaseLabels {
         good: true,
-        tests: Vec::new(alloc),
+        tests: Vec::new(covered.allocator()),
         covered,
     };
     for label in labels {

@@ -55,6 +55,6 @@ mod noting;
 mod tests;
 mod values;
 
-pub use covered::Covered;
+pub use covered::{Coverage, Covered};
 pub use labels::{CaseLabels, case_labels};
 pub use tests::LabelTest;

@@ -1,14 +1,14 @@
 -- Where no row that a constant expression uses has a part in error, the expression is in error only with a diagnostic, and without
 -- one there is a constant: by induction on the syntax.
-use Rattle.std.specs.Prelude.{◌≡◌, ◌≢◌, ℕ, Bool, true, false, List, [], ◌∷◌, ◌++◌, Option, Some, None, nat_lt}
+use Rattle.std.specs.Prelude.{◌≡◌, ◌≢◌, ℕ, false, List, [], ◌∷◌, ◌++◌, Option, Some, None, nat_lt}
 use Rattle.std.proofs.Common.{◌∙◌, subst, sym}
 use Rattle.std.proofs.lemmas.List.{append-nil, append_cancel_left}
 use Rattle.m2_base.specs.Gives.{Adds, Gives, and_then, gives}
 use Rattle.m2_base.specs.Lists.{Each}
-use Rattle.m2_base.specs.Standard.{bitset, is_standard, standard_place}
+use Rattle.m2_base.specs.Standard.{bitset, is_standard}
 use Rattle.m2_base.specs.Statics.Builtins.{builtin_of}
-use Rattle.m2_base.specs.Statics.Constants.{Argument, arguments_in, builtin_call, call_of, constant_of, constant_or_refused, designator_in, element_in, elements_in, field_operand, form_in, in_constant, indices_in, many_in, name_operand, next_in, no_constant, operand_in, selected, selector_in, selectors_in, spoilt_by, value_argument, value_wanted}
-use Rattle.m2_base.specs.Statics.Contexts.{Context, Layout}
+use Rattle.m2_base.specs.Statics.Constants.{Argument, arguments_in, builtin_call, call_of, constant_of, constant_or_refused, designator_in, element_in, elements_in, field_operand, form_in, in_constant, indices_in, many_in, name_operand, next_in, no_constant, operand_in, selector_in, selectors_in, spoilt_by, value_argument}
+use Rattle.m2_base.specs.Statics.Contexts.{Context}
 use Rattle.m2_base.specs.Statics.Lookup.{Entry, entry_in, first_entry}
 use Rattle.m2_base.specs.Statics.Functions.{abs_of, cap_of, chr_of, max_of, min_of, odd_of, ord_of, size_value, val_of}
 use Rattle.m2_base.specs.Statics.NamedOperands.{operand_of_use}
@@ -31,7 +31,7 @@ use Rattle.const_eval.specs.Causes.{IsCaused, IsWholeOperand, IsWholeUse}
 use Rattle.const_eval.specs.Standard.{HasStandardRows}
 use Rattle.const_eval.proofs.Spoilt.{UnlessSpoilt, answered, by_test, given, in_turn, noted, weaker}
 use Rattle.const_eval.proofs.Standard.{bitset_base, bitset_whole, character_whole, standard_used, whole_whole}
-use Rattle.const_eval.proofs.WholeConstants.{IsSound, IsWholeSet, abs-sound, apply_one-sound, cap-sound, chr-sound, element_of-sound, max-sound, min-sound, no_elements-sound, odd-sound, operate-sound, ord-sound, selected-whole, set_type-whole, size-sound, sound_whole, spoilt-whole, val-sound, value-sound, with_elements-sound}
+use Rattle.const_eval.proofs.WholeConstants.{IsSound, abs-sound, apply_one-sound, cap-sound, chr-sound, element_of-sound, max-sound, min-sound, no_elements-sound, odd-sound, operate-sound, ord-sound, selected-whole, set_type-whole, size-sound, sound_whole, spoilt-whole, val-sound, value-sound, with_elements-sound}
 
 module _ (c : Context) (there : HasStandardRows c) where
   abbrev Whole : Gives Operand → Type 0

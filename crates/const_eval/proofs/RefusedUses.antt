@@ -1,5 +1,5 @@
 -- Rules that note nothing and use no row in error, or whose value is wrong; uses of names among them.
-use Rattle.std.specs.Prelude.{◌≡◌, ◌++◌, ℕ, List, [], ◌∷◌, Bool, true, false, if◌then◌else◌, Option, Some, None, drop, nat_lt}
+use Rattle.std.specs.Prelude.{◌≡◌, ◌++◌, ℕ, [], Bool, true, false, if◌then◌else◌, Option, Some, None, drop, nat_lt}
 use Rattle.std.proofs.Common.{◌∙◌, ap, refl, subst, sym}
 use Rattle.m2_base.specs.Gives.{Gives, and_then, gives, gives_answer}
 use Rattle.m2_base.specs.Lists.{Each}

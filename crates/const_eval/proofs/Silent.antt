@@ -1,17 +1,17 @@
 -- The static rules of operands bind no use: they note no answer.
-use Rattle.std.specs.Prelude.{◌≡◌, refl, ℕ, ℤ, Bool, true, false, not, ◌&&◌, ◌||◌, if◌then◌else◌, is_none, List, [], ◌++◌, Option, Some, None}
+use Rattle.std.specs.Prelude.{◌≡◌, refl, ℕ, ℤ, Bool, true, false, ◌||◌, if◌then◌else◌, [], ◌++◌, Option, Some, None}
 use Rattle.std.proofs.Common.{◌∙◌, ap}
 use Rattle.m2_base.specs.Gives.{Gives, and_then, gives}
-use Rattle.m2_base.specs.Standard.{boolean, cardinal, character}
+use Rattle.m2_base.specs.Standard.{cardinal, character}
 use Rattle.m2_base.specs.Statics.Compatible.{taken_beside}
 use Rattle.m2_base.specs.Statics.Contexts.{Context}
 use Rattle.m2_base.specs.Statics.Folding.{is_arithmetic, is_relation, number_kind, number_type}
 use Rattle.m2_base.specs.Statics.Functions.{abs_of, absolute, cap_of, chr_of, converted, end_value, max_of, min_of, number_argument, odd_of, oddness, ord_of, ordinal_argument, ordinal_type, ordinal_type_argument, size_value, type_argument, val_as, val_of}
-use Rattle.m2_base.specs.Statics.Operands.{constant_of_operand, is_bad, operand_type}
+use Rattle.m2_base.specs.Statics.Operands.{operand_type}
 use Rattle.m2_base.specs.Statics.Operations.{apply_one, apply_one_by, as_number, base_type, folded, gives_result, logical, member_of_set, membership, membership_in, number_operation, on_alike, on_compatible, on_numbers, on_scalars, operate, operate_by, result_of, set_operation, sign_of, with_sign, wrong as wrong_operands}
 use Rattle.m2_base.specs.Statics.Ranges.{Range}
 use Rattle.m2_base.specs.Statics.Sets.{checked_element, element_of, set_type_of}
-use Rattle.m2_base.specs.Statics.Types.{base_of, is_broken, kind_of, range_of}
+use Rattle.m2_base.specs.Statics.Types.{base_of, kind_of, range_of}
 use Rattle.m2_base.specs.declared.operands.FoldKind.{FoldKind}
 use Rattle.m2_base.specs.declared.operands.Operand.TheVariants.{Computed, Constant, InError, NamedType, NotConstant, Variable}
 use Rattle.m2_base.specs.declared.operands.Operand.{Operand}

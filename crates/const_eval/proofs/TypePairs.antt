@@ -6,7 +6,7 @@ use Rattle.m2_base.specs.Statics.Contexts.{Context, Scene}
 use Rattle.m2_base.specs.Statics.Operands.{operand_type}
 use Rattle.m2_base.specs.Statics.Operations.{are_sets_alike, is_set_kind}
 use Rattle.m2_base.specs.Statics.Ranges.{range}
-use Rattle.m2_base.specs.Statics.Types.{kind_of, range_of, stands_for}
+use Rattle.m2_base.specs.Statics.Types.{kind_of, stands_for}
 use Rattle.m2_base.specs.declared.operands.Operand.{Operand}
 use Rattle.m2_base.specs.declared.rows.Place.{Place}
 use Rattle.m2_base.specs.declared.rows.RowMeaning.{RowMeaning}

@@ -1,17 +1,16 @@
 -- What operators, functions and sets give of operands that aren't in error, whose sets have bases that aren't, is such an operand too,
 -- unless a diagnostic was noted.
-use Rattle.std.specs.Prelude.{◌≡◌, ℕ, ◌&&◌, ◌||◌, not, Bool, true, false, if◌then◌else◌, is_none, is_some, nat_abs, ℤ, pos, List, [], ◌∷◌, Option, Some, None}
-use Rattle.std.proofs.Common.{refl, ap, sym, subst, ◌∙◌}
+use Rattle.std.specs.Prelude.{◌≡◌, ℕ, ◌&&◌, ◌||◌, not, Bool, true, false, if◌then◌else◌, is_none, is_some, nat_abs, ℤ, pos, Option, Some, None}
+use Rattle.std.proofs.Common.{refl, ap, ◌∙◌}
 use Rattle.std.proofs.lemmas.Bool.{false≢true, or_from, true≢false}
-use Rattle.m2_base.specs.Gives.{Gives, and_then, gives}
+use Rattle.m2_base.specs.Gives.{gives}
 use Rattle.m2_base.specs.Rows.{is_same_place}
 use Rattle.m2_base.specs.Standard.{boolean, cardinal, character, integer, whole}
-use Rattle.m2_base.specs.Statics.Assignable.{is_open_array}
 use Rattle.m2_base.specs.Statics.Compatible.{is_beside_char, is_compatible, is_integer_or_cardinal, is_number_type, is_pointer, taken_beside}
 use Rattle.m2_base.specs.Statics.Constants.{selected, spoilt_by, value_wanted}
 use Rattle.m2_base.specs.Statics.Contexts.{Context, Scene, Source}
 use Rattle.m2_base.specs.Statics.Folding.{fold, is_arithmetic, is_equality, is_relation, number_kind, number_type, where_in}
-use Rattle.m2_base.specs.Statics.Functions.{abs_of, absolute, cap_of, capital, chr_of, converted, end_value, max_of, min_of, number_argument, odd_of, oddness, ord_of, ordinal_argument, ordinal_type, ordinal_type_argument, size_value, type_argument, val_as, val_of}
+use Rattle.m2_base.specs.Statics.Functions.{abs_of, absolute, cap_of, capital, chr_of, converted, end_value, max_of, min_of, number_argument, odd_of, oddness, ord_of, ordinal_argument, ordinal_type, ordinal_type_argument, size_value, type_argument, val_of}
 use Rattle.m2_base.specs.Statics.Operands.{as_char, char_or_same, constant_of_operand, is_bad, is_one_char, is_procedure, operand_type, worse}
 use Rattle.m2_base.specs.Statics.Operations.{apply_one, apply_one_by, are_sets_alike, as_number, base_type, compares_sets, folded, gives_result, is_boolean, is_ordinal, is_set_kind, logical, makes_set, member_of_set, membership, membership_in, negated, number_operation, on_alike, on_compatible, on_numbers, on_scalars, operate, operate_by, result_of, set_operation, sign_of, signed, with_sign}
 use Rattle.m2_base.specs.Statics.Ranges.{Range, integer_range, is_within, whole_range}

@@ -1,8 +1,8 @@
 //! What an expression stands for in a constant.
 ghost use Rattle.std.specs.Prelude.{map};
-ghost use Rattle.m2_base.specs.Gives.{and_then, gives};
-ghost use Rattle.m2_base.specs.Statics.Constants.{call_of as spec_call, designator_in as spec_designator, element_in as spec_element, elements_in as spec_elements, indices_in as spec_indices, many_in as spec_many, next_in as spec_next, operand_in as spec_operand, selector_in as spec_selector, selectors_in as spec_selectors};
-ghost use Rattle.m2_base.specs.Statics.Sets.{no_elements as spec_none, set_base as spec_base, set_type_of as spec_set_type, with_elements as spec_with_elements};
+ghost use Rattle.m2_base.specs.Gives.{and_then};
+ghost use Rattle.m2_base.specs.Statics.Constants.{designator_in as spec_designator, element_in as spec_element, elements_in as spec_elements, indices_in as spec_indices, many_in as spec_many, next_in as spec_next, operand_in as spec_operand, selector_in as spec_selector, selectors_in as spec_selectors};
+ghost use Rattle.m2_base.specs.Statics.Sets.{no_elements as spec_none, set_base as spec_base, set_type_of as spec_set_type};
 ghost use Rattle.m2_base.specs.Trees.{designator_at, exprs, labels, nexts, selectors};
 ghost use Rattle.m2_base.specs.Views.{designator_view, expr_view, label_view, next_view, selector_view};
 ghost use Rattle.const_eval.specs.Analyses.{Analysed};

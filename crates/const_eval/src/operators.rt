@@ -1,11 +1,11 @@
 //! What an operator gives of its operands: which it takes, the type that it gives, and the value where all are constant.
-ghost use Rattle.std.specs.Prelude.{◌≡◌, ◌||◌, ◌&&◌, true, IfOk, if◌then◌else◌, is_some};
+ghost use Rattle.std.specs.Prelude.{◌≡◌, ◌||◌, ◌&&◌, IfOk, if◌then◌else◌, is_some};
 ghost use Rattle.m2_base.specs.Rows.{is_same_place};
 ghost use Rattle.m2_base.specs.Standard.{boolean, character};
 ghost use Rattle.m2_base.specs.States.{Frame, Waits};
 ghost use Rattle.m2_base.specs.Statics.Contexts.{Context};
 ghost use Rattle.m2_base.specs.Statics.Operands.{is_bad as spec_bad, is_procedure as spec_procedure, worse as spec_worse};
-ghost use Rattle.m2_base.specs.Gives.{Gives, and_then, gives};
+ghost use Rattle.m2_base.specs.Gives.{Gives, gives};
 ghost use Rattle.m2_base.specs.Statics.Compatible.{is_compatible, is_number_type, is_pointer_kind, taken_beside as spec_taken};
 ghost use Rattle.m2_base.specs.Statics.Folding.{is_arithmetic as spec_arithmetic, is_equality as spec_equality, is_relation as spec_relation};
 ghost use Rattle.m2_base.specs.Statics.Operations.{apply_one as spec_apply_one, logical as spec_logical, on_numbers as spec_on_numbers, on_scalars as spec_on_scalars, on_compatible as spec_on_compatible, on_alike as spec_on_alike, operate as spec_operate, operate_by as spec_operate_by, wrong as spec_wrong};

@@ -1,6 +1,5 @@
 //! What one step of an expression gives, with its diagnostic.
-ghost use Rattle.std.specs.Prelude.{◌≡◌, ◌≢◌, ◌<◌, ◌^◌, [], length, slice_index_or, IfOk};
-ghost use Rattle.m2_base.specs.Gives.{gives};
+ghost use Rattle.std.specs.Prelude.{◌≡◌, ◌≢◌, ◌<◌, ◌^◌, [], length, slice_index_or};
 ghost use Rattle.m2_base.specs.States.{Frame, State, Waits};
 ghost use Rattle.m2_base.specs.Statics.Constants.{field_operand as spec_field, selected as spec_selected};
 ghost use Rattle.m2_base.specs.Statics.Contexts.{Source};

@@ -17,9 +17,8 @@ ghost use Rattle.type_rules.specs.Scenes.{IsThere};
 use crate::cells::fit;
 use crate::fields::{put_tag, tag_in};
 use crate::making::{Made, put_plain};
-use case_labels::{Covered, case_labels};
+use case_labels::{Coverage, Covered, case_labels};
 use m2_base::{Ask, Ident, Label, Memory, Place, Qual, RowMeaning, Scopes, Site};
-use std::alloc::Global;
 
 /// Where the variants behind a tag stand: the ordinal of their record's row, the offset at which each begins, and the type of
 /// the tag.
@@ -56,22 +55,23 @@ pub(crate) fn begin_variants<S: Scopes>(
     }))
 }
 
-/// The labels of one variant, whose tag is of this type. The value is what is covered with them.
+/// The labels of one variant, beside the type of its tag, some of whose values earlier variants cover. The value is what
+/// is covered with them.
 pub(crate) fn labels_in<S: Scopes>(
-    alloc: Global,
     scopes: &mut S,
     site: &Site,
-    of: Place,
-    covered: Covered,
+    coverage: Coverage,
     labels: &[Label],
     made: &mut Made,
 ) -> Result<Ask<Covered>, Memory>
     requires making { IsMaking (S.state scopes.old).frame site.now made.old [] }
-    requires of { IsThere (S.state scopes.old).frame of }
+    requires of { IsThere (S.state scopes.old).frame coverage.of }
     requires read { AreReadLabels site.now.texts.now.names (plain_labels (map label_view labels.now)) }
-    ensures { Declares (S.state scopes.old) (S.state scopes.new) made.old made.new site.now result [] IsAny (λ c. only_gives (covered_of (labels_of c of covered (plain_labels (map label_view labels.now))))) }
+    ensures { Declares (S.state scopes.old) (S.state scopes.new) made.old made.new site.now result [] IsAny
+        (λ c. only_gives (covered_of
+        (labels_of c coverage.of coverage.covered (plain_labels (map label_view labels.now))))) }
 {
-    let found = analysed!(case_labels(alloc, scopes, site, of, covered, labels, &mut made.notes));
+    let found = analysed!(case_labels(scopes, site, coverage, labels, &mut made.notes));
     Ok(Ask::Known(found.covered))
 }
 

@@ -24,7 +24,7 @@ use crate::sets::make_set;
 use crate::shapes::count_fields;
 use crate::subranges::subrange_in;
 use crate::targets::{pointer_row, target_in};
-use case_labels::Covered;
+use case_labels::{Coverage, Covered};
 use m2_base::{Ask, FieldList, Memory, Place, Qual, Scopes, Site, TypeExpr, TypeForm, VariantArm};
 use std::alloc::Global;
 
@@ -270,7 +270,8 @@ fn arms_in<S: Scopes>(
     let mut covered = Covered::new(alloc);
     let mut end = offset;
     for arm in arms {
-        covered = analysed!(labels_in(alloc, scopes, site, tag, covered, &arm.labels, made));
+        let coverage = Coverage { of: tag, covered };
+        covered = analysed!(labels_in(scopes, site, coverage, &arm.labels, made));
         let after = analysed!(fields_in(alloc, scopes, site, own, offset, &arm.fields, made));
         end = end.max(after);
     }

@@ -18,14 +18,14 @@ use Rattle.case_labels.proofs.labels.case_labels.Goals as goal
 
 pub loop-label-init : goal.loop-label-init
 loop-label-init g c =
-    value_everywhere (g.S.Scopes.state c.args.scopes.now) c.args.notes.now c.args.site.now (case_labels true (map test_seen c.new.result.items) c.args.covered) AreAny (λ k. gives (case_labels true [] c.args.covered)) tt
-    (λ k. ap (λ (tests : List LabelTest). gives (case_labels true (map test_seen tests) c.args.covered)) c.new.ensures.items)
+    value_everywhere (g.S.Scopes.state c.args.scopes.now) c.args.notes.now c.args.site.now (case_labels true (map test_seen c.new.result.items) c.args.coverage.covered) AreAny (λ k. gives (case_labels true [] c.args.coverage.covered)) tt
+    (λ k. ap (λ (tests : List LabelTest). gives (case_labels true (map test_seen tests) c.args.coverage.covered)) c.new.ensures.items)
 
 pub label_values-requires-clause-suits : goal.label_values-requires-clause-suits
 label_values-requires-clause-suits g c = stays_after (λ (f : Frame). SuitsSite f c.args.site.now) c.loop-label.invariant c.requires.suits
 
 pub label_values-requires-clause-of : goal.label_values-requires-clause-of
-label_values-requires-clause-of g c = stays_after (λ (f : Frame). IsThere f c.args.of) c.loop-label.invariant c.requires.of
+label_values-requires-clause-of g c = stays_after (λ (f : Frame). IsThere f c.args.coverage.of) c.loop-label.invariant c.requires.of
 
 pub label_values-requires-clause-read : goal.label_values-requires-clause-read
 label_values-requires-clause-read g c =
@@ -36,10 +36,10 @@ loop-label-preserved g c =
     let l = label_view c.label-item.result in
     let before = labels_seen c.loop-label.found in
     let answer = Ok (Known (labels_seen c.in-Ok-with_label.value)) in
-    let one = and_after (λ k. and_then (ends_in k l) (λ ends. gives (values_in k c.args.of ends))) (λ values k. and_then (covered_by k (label_at l) (is_ranged l) before.covered values) (λ one. gives (joined before one))) answer
+    let one = and_after (λ k. and_then (ends_in k l) (λ ends. gives (values_in k c.args.coverage.of ends))) (λ values k. and_then (covered_by k (label_at l) (is_ranged l) before.covered values) (λ one. gives (joined before one))) answer
     (rw c.in-Known.is at c.in-Ok.ensures) (c.in-Ok-with_label.ensures (g.S.Scopes.state c.label_values.new.scopes)) in
-    one_more (λ k labels i. with_label k c.args.of labels (label_view i)) (case_labels true [] c.args.covered) c.args.labels.now c.loop-label.label-index c.label-item.result c.loop-label-test.true c.label-item.is c.loop-label.invariant
-    (described answer one (λ k. label_joined k c.args.of before l))
+    one_more (λ k labels i. with_label k c.args.coverage.of labels (label_view i)) (case_labels true [] c.args.coverage.covered) c.args.labels.now c.loop-label.label-index c.label-item.result c.loop-label-test.true c.label-item.is c.loop-label.invariant
+    (described answer one (λ k. label_joined k c.args.coverage.of before l))
 
 pub returns-in-DontKnowYet : goal.returns-in-DontKnowYet
 returns-in-DontKnowYet g c = waiting_after c.loop-label.invariant (rw c.in-DontKnowYet.is at c.in-Ok.ensures)
@@ -52,10 +52,10 @@ returns-in-Err-with_label g c =
     let l = label_view c.label-item.result in
     let before = labels_seen c.loop-label.found in
     failed_after c.loop-label.invariant
-    (and_after (λ k. and_then (ends_in k l) (λ ends. gives (values_in k c.args.of ends))) (λ values k. and_then (covered_by k (label_at l) (is_ranged l) before.covered values) (λ one. gives (joined before one))) _
+    (and_after (λ k. and_then (ends_in k l) (λ ends. gives (values_in k c.args.coverage.of ends))) (λ values k. and_then (covered_by k (label_at l) (is_ranged l) before.covered values) (λ one. gives (joined before one))) _
     (rw c.in-Known.is at c.in-Ok.ensures) (c.in-Err-with_label.ensures (g.S.Scopes.state c.label_values.new.scopes))) _
 
 pub returns : goal.returns
 returns g c =
-    whole (λ k labels i. with_label k c.args.of labels (label_view i)) (case_labels true [] c.args.covered) c.args.labels.now c.loop-label.label-index
-    (λ k. labels_of k c.args.of c.args.covered (labels (map label_view c.args.labels.now))) c.loop-label-test.false c.loop-label.invariant (λ k. labels_folded k label_view c.args.of c.args.covered c.args.labels.now)
+    whole (λ k labels i. with_label k c.args.coverage.of labels (label_view i)) (case_labels true [] c.args.coverage.covered) c.args.labels.now c.loop-label.label-index
+    (λ k. labels_of k c.args.coverage.of c.args.coverage.covered (labels (map label_view c.args.labels.now))) c.loop-label-test.false c.loop-label.invariant (λ k. labels_folded k label_view c.args.coverage.of c.args.coverage.covered c.args.labels.now)

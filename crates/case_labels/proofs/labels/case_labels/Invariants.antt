@@ -10,4 +10,4 @@ use Rattle.case_labels.proofs.labels.case_labels.Given as goal
 
 abbrev pub invariant-loop-label : goal.invariant-loop-label
 invariant-loop-label g l =
-    Analysed (g.S.Scopes.state l.fn.scopes) (g.S.Scopes.state l.scopes) l.fn.notes l.notes l.site (Ok (Known (labels_seen l.found))) AreAny (λ k. folded (λ labels label. with_label k l.of labels (label_view label)) (case_labels true [] l.fn.covered) (take l.label-index l.labels))
+    Analysed (g.S.Scopes.state l.fn.scopes) (g.S.Scopes.state l.scopes) l.fn.notes l.notes l.site (Ok (Known (labels_seen l.found))) AreAny (λ k. folded (λ labels label. with_label k l.of labels (label_view label)) (case_labels true [] l.fn.coverage.covered) (take l.label-index l.labels))

@@ -1,13 +1,9 @@
-use Rattle.std.proofs.Common.{◌≡◌, ◌∙◌, ℕ, sym, ap, subst}
+use Rattle.std.proofs.Common.{◌∙◌, sym, ap, subst}
 use Rattle.m2_base.specs.Gives.{gives}
-use Rattle.m2_base.specs.Statics.Contexts.{Context}
-use Rattle.m2_base.specs.declared.operands.Operand.{Operand}
-use Rattle.m2_base.specs.declared.operands.Operand.TheVariants.{InError, StandardProcedure}
+use Rattle.m2_base.specs.declared.operands.Operand.TheVariants.{InError}
 use Rattle.const_eval.specs.Calls.{call_kind, call_with, called}
 use Rattle.const_eval.specs.Sites.{IsCall, IsOperand}
-use Rattle.const_eval.specs.declared.arguments.Arguments.{Arguments}
 use Rattle.const_eval.specs.declared.calls.Call.{Call}
-use Rattle.const_eval.specs.declared.calls.Call.TheVariants.{OfNone, OfType, OfTypeAndValue, OfValue, WrongCount}
 use Rattle.const_eval.proofs.Analysing.{described, value_everywhere}
 use Rattle.const_eval.proofs.CallKinds.{call_there, other_called}
 use Rattle.const_eval.proofs.calls.call_with.Goals as goal

@@ -1,10 +1,6 @@
 use Rattle.std.proofs.Common.{◌≡◌, ◌∙◌, ap, subst, sym}
 use Rattle.m2_base.specs.Statics.Compatible.{is_compatible}
-use Rattle.m2_base.specs.Statics.Operands.{operand_type}
-use Rattle.m2_base.specs.Statics.Operations.{base_type}
 use Rattle.m2_base.specs.Statics.Types.{base_by, kind_of, stands_for}
-use Rattle.m2_base.specs.declared.rows.Place.{Place}
-use Rattle.m2_base.specs.declared.rows.RowMeaning.{RowMeaning}
 use Rattle.type_rules.specs.Scenes.{scene_of}
 use Rattle.type_rules.specs.Sites.{context_of}
 use Rattle.type_rules.proofs.Later.{Suits_read, Waits_asked}

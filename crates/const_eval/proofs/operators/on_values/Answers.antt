@@ -1,5 +1,5 @@
 use Rattle.std.proofs.Common.{◌≡◌, ◌∙◌, ap, false, rules, subst, sym, true}
-use Rattle.m2_base.specs.Statics.Compatible.{is_compatible, taken_beside}
+use Rattle.m2_base.specs.Statics.Compatible.{is_compatible}
 use Rattle.m2_base.specs.Statics.Operations.{on_compatible}
 use Rattle.type_rules.specs.Sites.{context_of}
 use Rattle.m2_base.specs.States.{Frame}

@@ -9,12 +9,12 @@ use Rattle.decl_sem.proofs.records.labels_in.Goals as goal
 
 pub returns-in-Err : goal.returns-in-Err
 returns-in-Err g c =
-    labels_covered (λ k. labels_of k c.args.of c.args.covered (labels (map label_view c.args.labels.now))) (Err c.in-Err.memory) c.requires.making refl refl (failed c.in-Err.ensures c.in-Err.memory)
+    labels_covered (λ k. labels_of k c.args.coverage.of c.args.coverage.covered (labels (map label_view c.args.labels.now))) (Err c.in-Err.memory) c.requires.making refl refl (failed c.in-Err.ensures c.in-Err.memory)
 
 pub returns-in-DontKnowYet : goal.returns-in-DontKnowYet
 returns-in-DontKnowYet g c =
-    labels_covered (λ k. labels_of k c.args.of c.args.covered (labels (map label_view c.args.labels.now))) (Ok (DontKnowYet c.in-DontKnowYet.head)) c.requires.making refl refl (waiting (rw c.in-DontKnowYet.is at c.in-Ok.ensures))
+    labels_covered (λ k. labels_of k c.args.coverage.of c.args.coverage.covered (labels (map label_view c.args.labels.now))) (Ok (DontKnowYet c.in-DontKnowYet.head)) c.requires.making refl refl (waiting (rw c.in-DontKnowYet.is at c.in-Ok.ensures))
 
 pub returns : goal.returns
 returns g c =
-    labels_covered (λ k. labels_of k c.args.of c.args.covered (labels (map label_view c.args.labels.now))) (Ok (Known c.in-Known.value.covered)) c.requires.making refl refl (covered_alone (rw c.in-Known.is at c.in-Ok.ensures))
+    labels_covered (λ k. labels_of k c.args.coverage.of c.args.coverage.covered (labels (map label_view c.args.labels.now))) (Ok (Known c.in-Known.value.covered)) c.requires.making refl refl (covered_alone (rw c.in-Known.is at c.in-Ok.ensures))
