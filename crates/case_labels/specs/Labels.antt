@@ -1,5 +1,6 @@
 -- The labels of an arm, as the code looks at them.
-use Rattle.std.specs.Prelude.{ℕ, ℤ, Bool, true, false, List, [], ◌∷◌, Option, Some, None, if◌then◌else◌, ◌&&◌, option_map}
+use Rattle.std.specs.Prelude.{ℕ, ℤ, Bool, true, false, List, [], ◌∷◌, Option, Some, None, if◌then◌else◌, ◌&&◌}
+use Rattle.std.specs.Prelude.{option_map}
 use Rattle.m2_base.specs.Gives.{Gives, and_then, gives}
 use Rattle.m2_base.specs.States.{Frame}
 use Rattle.m2_base.specs.Statics.CaseLabels.{CaseLabels, LabelTest, case_labels, cover, taken_label}
@@ -27,7 +28,8 @@ IsAny f v = Unit {0}
 -- the constants of a label: both ends of a range, or one value twice
 abbrev pub ends_in : Context → Label → Gives (Option Operand × Option Operand)
 ends_in c (one_label e) = and_then (constant_of c e) (λ x. gives (x, x))
-ends_in c (range_label low high) = and_then (constant_of c low) (λ x. and_then (constant_of c high) (λ y. gives (x, y)))
+ends_in c (range_label low high) =
+    and_then (constant_of c low) (λ x. and_then (constant_of c high) (λ y. gives (x, y)))
 
 -- the first token of a label
 abbrev pub label_at : Label → ℕ

@@ -13,7 +13,8 @@ Reaches steps from to = (low : ℤ) × (high : ℤ) × (steps low ≡ Some high)
 
 -- a step that begins later reaches further
 abbrev pub Rises : Steps → Type 0
-Rises steps = (low high later further : ℤ) → steps low ≡ Some high → steps later ≡ Some further → low <ℤ later → high <ℤ further
+Rises steps = (low high later further : ℤ) → steps low ≡ Some high → steps later ≡ Some further → low <ℤ later
+    → high <ℤ further
 
 -- each step is one of the ranges, each range lies within a step, and the steps rise
 pub record AreSteps (steps : Steps) (ranges : List (ℤ × ℤ)) : Type 0 where

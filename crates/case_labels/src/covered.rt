@@ -61,7 +61,8 @@ fn reaches(steps: &Steps, from: i64, to: i64) -> bool
 /// Where a step begins that lies within the range from low to high, if there is one.
 fn begins_within(steps: &Steps, low: i64, high: i64) -> Option<i64>
     requires { Rises (get int_cmp steps.now) }
-    ensures { MatchOption result (NoneWithin (get int_cmp steps.now) low high) (BeginsWithin (get int_cmp steps.now) low high) }
+    ensures { MatchOption result (NoneWithin (get int_cmp steps.now) low high)
+        (BeginsWithin (get int_cmp steps.now) low high) }
 {
     match steps.range(low..).next() {
         Some((from, to)) => if *to <= high { Some(*from) } else { None },
@@ -83,7 +84,8 @@ fn lose_within(steps: &mut Steps, low: i64, high: i64)
 /// The steps of ranges with one more.
 fn with_range(steps: Steps, low: i64, high: i64) -> Result<Steps, Memory>
     requires { Rises (get int_cmp steps) }
-    ensures { (ranges : List (ℤ × ℤ)) → AreSteps (get int_cmp steps) ranges → IfOk result (λ more. AreSteps (get int_cmp more) (ranges ++ (low, high) ∷ [])) }
+    ensures { (ranges : List (ℤ × ℤ)) → AreSteps (get int_cmp steps) ranges
+        → IfOk result (λ more. AreSteps (get int_cmp more) (ranges ++ (low, high) ∷ [])) }
 {
     let mut more = steps;
     if reaches(&more, low, high) {

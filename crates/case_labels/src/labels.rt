@@ -2,7 +2,8 @@
 ghost use Rattle.std.specs.Prelude.{◌≡◌, List, int_le, map, true, IfOk};
 ghost use Rattle.m2_base.specs.States.{State};
 ghost use Rattle.m2_base.specs.Gives.{and_then, gives};
-ghost use Rattle.m2_base.specs.Statics.CaseLabels.{case_labels as spec_labels, cover as spec_cover, joined as spec_joined, labels_of};
+ghost use Rattle.m2_base.specs.Statics.CaseLabels.{case_labels as spec_labels, cover as spec_cover};
+ghost use Rattle.m2_base.specs.Statics.CaseLabels.{joined as spec_joined, labels_of};
 ghost use Rattle.m2_base.specs.Statics.Ranges.{Range, range};
 ghost use Rattle.m2_base.specs.Statics.ReadTrees.{AreReadLabels};
 ghost use Rattle.m2_base.specs.Trees.{labels as plain_labels};
@@ -19,7 +20,8 @@ use crate::tests::{LabelTest, test_of, test_unless};
 use crate::values::{LabelValues, label_values};
 use m2_base::{Ask, Label, Memory, Notes, Scopes, Site};
 
-/// The labels of one arm: whether all are right, the tests of those that are, and the values that are covered with them.
+/// The labels of one arm: whether all are right, the tests of those that are,
+/// and the values that are covered with them.
 #[derive(Drop)]
 pub struct CaseLabels {
     pub good: bool,
@@ -34,7 +36,8 @@ struct OneLabel {
     covered: Covered,
 }
 
-/// A label that goes with the type: its first token, its test, and the least and the greatest value that it stands for.
+/// A label that goes with the type: its first token, its test,
+/// and the least and the greatest value that it stands for.
 #[derive(Clone, Copy)]
 struct FittingLabel {
     at: u32,
@@ -51,7 +54,8 @@ fn cover_some(
     notes: &mut Notes,
 ) -> Result<OneLabel, Memory>
     requires { int_le label.low label.high ≡ true }
-    ensures { (a : State) → Analysed a a notes.old notes.new site.now (known_as one_seen result) AreAny (λ c. spec_cover c label.at (test_seen label.test) (range label.low label.high) covered) }
+    ensures { (a : State) → Analysed a a notes.old notes.new site.now (known_as one_seen result) AreAny
+        (λ c. spec_cover c label.at (test_seen label.test) (range label.low label.high) covered) }
 {
     let twice = covered.overlaps(label.low, label.high);
     let more = put!(covered.with(label.low, label.high));
@@ -76,7 +80,8 @@ fn cover_range(
     covered: Covered,
     notes: &mut Notes,
 ) -> Result<OneLabel, Memory>
-    ensures { (a : State) → Analysed a a notes.old notes.new site.now (known_as one_seen result) AreAny (λ c. spec_cover c label.at (test_seen label.test) (range label.low label.high) covered) }
+    ensures { (a : State) → Analysed a a notes.old notes.new site.now (known_as one_seen result) AreAny
+        (λ c. spec_cover c label.at (test_seen label.test) (range label.low label.high) covered) }
 {
     if has_values(label.low, label.high) {
         cover_some(site, label, covered, notes)
@@ -96,7 +101,8 @@ fn cover(
     covered: Covered,
     notes: &mut Notes,
 ) -> Result<OneLabel, Memory>
-    ensures { (a : State) → Analysed a a notes.old notes.new site.now (known_as one_seen result) AreAny (λ c. covered_by c (label_at (label_view label.now)) (is_ranged (label_view label.now)) covered values) }
+    ensures { (a : State) → Analysed a a notes.old notes.new site.now (known_as one_seen result) AreAny
+        (λ c. covered_by c (label_at (label_view label.now)) (is_ranged (label_view label.now)) covered values) }
 {
     match values {
         LabelValues::Nothing => Ok(OneLabel {
@@ -125,7 +131,8 @@ fn cover(
 
 /// The labels of an arm with one more, by what all cover.
 fn joined(good: bool, tests: Vec<LabelTest>, one: OneLabel) -> Result<CaseLabels, Memory>
-    ensures { (before : List Range) → IfOk result (λ labels. labels_seen labels ≡ spec_joined (spec_labels good (map test_seen tests.items) before) (one_seen one)) }
+    ensures { (before : List Range) → IfOk result (λ labels.
+        labels_seen labels ≡ spec_joined (spec_labels good (map test_seen tests.items) before) (one_seen one)) }
 {
     match one.test {
         Some(test) => {
@@ -153,7 +160,9 @@ fn with_label(
     values: LabelValues,
     notes: &mut Notes,
 ) -> Result<CaseLabels, Memory>
-    ensures { (a : State) → Analysed a a notes.old notes.new site.now (known_as labels_seen result) AreAny (λ c. and_then (covered_by c (label_at (label_view label.now)) (is_ranged (label_view label.now)) labels.covered values) (λ one. gives (spec_joined (labels_seen labels) one))) }
+    ensures { (a : State) → Analysed a a notes.old notes.new site.now (known_as labels_seen result) AreAny
+        (λ c. and_then (covered_by c (label_at (label_view label.now)) (is_ranged (label_view label.now))
+        labels.covered values) (λ one. gives (spec_joined (labels_seen labels) one))) }
 {
     let CaseLabels {
         good,
@@ -165,9 +174,9 @@ fn with_label(
     Ok(more)
 }
 
-/// The labels of one arm, of a CASE or of variants, beside a value of the coverage's type, some of whose values earlier
-/// arms cover. By the report they are constants compatible with that type, "and no value must occur more than once"; one
-/// that isn't right is refused at its first token. It waits for names and types.
+/// The labels of one arm, of a CASE or of variants, beside a value of the coverage's type, some of whose values
+/// earlier arms cover. By the report they are constants compatible with that type, "and no value must occur more than
+/// once"; one that isn't right is refused at its first token. It waits for names and types.
 pub fn case_labels<S: Scopes>(
     scopes: &mut S,
     site: &Site,

@@ -18,7 +18,8 @@ pub(crate) fn refuse(site: &Site, at: u32, notes: &mut Notes) -> Result<(), Memo
 
 /// Notes a label, if it is wrong.
 pub(crate) fn refuse_if(site: &Site, at: u32, wrong: bool, notes: &mut Notes) -> Result<(), Memory>
-    ensures noted { IfOk result (λ _. notes.new.diags.items ≡ notes.old.diags.items ++ (if wrong then label_fault site.now.around.now.text at ∷ [] else [])) }
+    ensures noted { IfOk result (λ _. notes.new.diags.items
+        ≡ notes.old.diags.items ++ (if wrong then label_fault site.now.around.now.text at ∷ [] else [])) }
     ensures diags { IsPrefixOf notes.old.diags.items notes.new.diags.items }
     ensures answers { notes.new.answers.items ≡ notes.old.answers.items }
 {

@@ -7,7 +7,8 @@ ghost use Rattle.m2_base.specs.Statics.ReadTrees.{IsReadLabel};
 ghost use Rattle.m2_base.specs.Views.{label_view};
 ghost use Rattle.const_eval.specs.Analyses.{Analysed};
 ghost use Rattle.const_eval.specs.Sites.{IsOperand};
-ghost use Rattle.case_labels.specs.Labels.{IsAny, ends_in as spec_ends, values_beside as spec_beside, values_by as spec_by, values_in as spec_values};
+ghost use Rattle.case_labels.specs.Labels.{IsAny, ends_in as spec_ends, values_beside as spec_beside};
+ghost use Rattle.case_labels.specs.Labels.{values_by as spec_by, values_in as spec_values};
 ghost use Rattle.type_rules.specs.Asks.{Reads, WhereKnown, WhereWaiting};
 ghost use Rattle.type_rules.specs.Scenes.{IsThere, WhereTold};
 ghost use Rattle.type_rules.specs.Sites.{SuitsSite, context_of};
@@ -38,7 +39,9 @@ fn ends_in<S: Scopes>(
 ) -> Result<Ask<Ends>, Memory>
     requires suits { SuitsSite (S.state scopes.old).frame site.now }
     requires read { IsReadLabel site.now.texts.now.names (label_view label.now) }
-    ensures { Analysed (S.state scopes.old) (S.state scopes.new) notes.old notes.new site.now result (λ f ends. IfSome ends.0 (λ x. IsOperand f x) × IfSome ends.1 (λ y. IsOperand f y)) (λ c. spec_ends c (label_view label.now)) }
+    ensures { Analysed (S.state scopes.old) (S.state scopes.new) notes.old notes.new site.now result
+        (λ f ends. IfSome ends.0 (λ x. IsOperand f x) × IfSome ends.1 (λ y. IsOperand f y))
+        (λ c. spec_ends c (label_view label.now)) }
 {
     let low = analysed!(constant(scopes, site, &label.low, notes));
     match &label.high {
@@ -79,7 +82,8 @@ fn values_beside<S: Scopes>(
     ensures reads { Reads (S.state scopes.old) (S.state scopes.new) }
     ensures waits { WhereWaiting result (λ head. Waits (S.state scopes.old) (S.state scopes.new) head) }
     ensures told { WhereTold (S.state scopes.old).frame (λ made.
-        WhereKnown result (λ values. values ≡ spec_beside (context_of (S.state scopes.old).frame made site.now) of x y)) }
+        WhereKnown result
+        (λ values. values ≡ spec_beside (context_of (S.state scopes.old).frame made site.now) of x y)) }
 {
     let low = known!(compatible_pair(scopes, site, x, Operand::Computed(of)));
     let high = known!(compatible_pair(scopes, site, y, Operand::Computed(of)));
@@ -96,7 +100,8 @@ fn values_in<S: Scopes>(scopes: &mut S, site: &Site, of: Place, ends: Ends) -> A
     ensures reads { Reads (S.state scopes.old) (S.state scopes.new) }
     ensures waits { WhereWaiting result (λ head. Waits (S.state scopes.old) (S.state scopes.new) head) }
     ensures told { WhereTold (S.state scopes.old).frame (λ made.
-        WhereKnown result (λ values. values ≡ spec_values (context_of (S.state scopes.old).frame made site.now) of ends)) }
+        WhereKnown result
+        (λ values. values ≡ spec_values (context_of (S.state scopes.old).frame made site.now) of ends)) }
 {
     let Some(low) = ends.0 else {
         return Ask::Known(LabelValues::Nothing);
@@ -121,7 +126,8 @@ pub(crate) fn label_values<S: Scopes>(
     requires suits { SuitsSite (S.state scopes.old).frame site.now }
     requires of { IsThere (S.state scopes.old).frame of }
     requires read { IsReadLabel site.now.texts.now.names (label_view label.now) }
-    ensures { Analysed (S.state scopes.old) (S.state scopes.new) notes.old notes.new site.now result IsAny (λ c. and_then (spec_ends c (label_view label.now)) (λ ends. gives (spec_values c of ends))) }
+    ensures { Analysed (S.state scopes.old) (S.state scopes.new) notes.old notes.new site.now result IsAny
+        (λ c. and_then (spec_ends c (label_view label.now)) (λ ends. gives (spec_values c of ends))) }
 {
     let ends = analysed!(ends_in(scopes, site, label, notes));
     let values = asked!(values_in(scopes, site, of, ends));

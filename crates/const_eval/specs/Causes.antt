@@ -18,7 +18,8 @@ use Rattle.m2_base.specs.declared.rows.Place.{Place}
 abbrev pub HasWholeBase : Scene → Place → Type 0
 HasWholeBase scene t = is_set_kind (kind_of scene t) ≡ true → is_broken scene (set_base_by (kind_of scene t)) ≡ false
 
--- What a name stands for in a constant expression isn't in error; nor is the base of its type. A variable is no constant there.
+-- What a name stands for in a constant expression isn't in error; nor is the base of its type.
+-- A variable is no constant there.
 abbrev pub IsWholeOperand : Scene → Operand → Type 0
 IsWholeOperand scene (Constant t v) = HasWholeBase scene t
 IsWholeOperand scene (Computed t) = HasWholeBase scene t
@@ -41,10 +42,12 @@ IsSoundUse scene a = used_operand scene a ≢ InError
 
 -- without a constant a diagnostic was added, where each answer added is of a row without a part in error
 abbrev pub IsCaused : Scene → (before after : Notes) → Option Operand → Type 0
-IsCaused scene before after None = (added : List Answer) → after.answers.items ≡ before.answers.items ++ added → Each (IsWholeUse scene) added → after.diags.items ≢ before.diags.items
+IsCaused scene before after None = (added : List Answer) → after.answers.items ≡ before.answers.items ++ added
+    → Each (IsWholeUse scene) added → after.diags.items ≢ before.diags.items
 IsCaused scene before after (Some o) = Unit {0}
 
 -- with a constant each answer added is of a row that isn't in error
 abbrev pub IsUnspoilt : Scene → (before after : Notes) → Option Operand → Type 0
 IsUnspoilt scene before after None = Unit {0}
-IsUnspoilt scene before after (Some o) = (added : List Answer) → after.answers.items ≡ before.answers.items ++ added → Each (IsSoundUse scene) added
+IsUnspoilt scene before after (Some o) =
+    (added : List Answer) → after.answers.items ≡ before.answers.items ++ added → Each (IsSoundUse scene) added

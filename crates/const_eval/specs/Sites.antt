@@ -3,7 +3,8 @@ use Rattle.std.specs.Prelude.{ℕ, ◌<◌, List, length}
 use Rattle.m2_base.specs.Rows.{IsValue}
 use Rattle.m2_base.specs.States.{Frame}
 use Rattle.m2_base.specs.declared.operands.Operand.{Operand}
-use Rattle.m2_base.specs.declared.operands.Operand.TheVariants.{Computed, Constant, ModuleName, NamedType, Procedure, StringConstant, Variable}
+use Rattle.m2_base.specs.declared.operands.Operand.TheVariants.{Computed, Constant, ModuleName, NamedType, Procedure}
+use Rattle.m2_base.specs.declared.operands.Operand.TheVariants.{StringConstant, Variable}
 use Rattle.type_rules.specs.Scenes.{IsThere}
 use Rattle.const_eval.specs.declared.calls.Call.{Call}
 use Rattle.const_eval.specs.declared.calls.Call.TheVariants.{OfType, OfTypeAndValue, OfValue}

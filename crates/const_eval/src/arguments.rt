@@ -1,7 +1,8 @@
 //! The arguments of a call, as far as functions of constants look at them.
 ghost use Rattle.std.specs.Prelude.{◌≡◌, ◌++◌, ◌∷◌, [], List};
 ghost use Rattle.m2_base.specs.States.{Frame};
-ghost use Rattle.const_eval.specs.Calls.{IsSummary, instead_of, is_in_error as spec_in_error, with_argument as spec_with};
+ghost use Rattle.const_eval.specs.Calls.{IsSummary, instead_of, is_in_error as spec_in_error};
+ghost use Rattle.const_eval.specs.Calls.{with_argument as spec_with};
 ghost use Rattle.const_eval.specs.Parts.{with_more};
 ghost use Rattle.const_eval.specs.Sites.{AreArguments, IsOperand};
 

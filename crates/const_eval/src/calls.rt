@@ -5,10 +5,13 @@ ghost use Rattle.m2_base.specs.Gives.{and_then};
 ghost use Rattle.m2_base.specs.States.{State, Waits};
 ghost use Rattle.m2_base.specs.Statics.Constants.{call_of as spec_call, value_wanted as spec_value_wanted};
 ghost use Rattle.m2_base.specs.Statics.Contexts.{refuse};
-ghost use Rattle.m2_base.specs.Statics.Functions.{ordinal_argument as spec_ordinal_argument, ordinal_type_argument as spec_ordinal_type_argument, val_as as spec_val_as, val_of as spec_val};
+ghost use Rattle.m2_base.specs.Statics.Functions.{ordinal_argument as spec_ordinal_argument};
+ghost use Rattle.m2_base.specs.Statics.Functions.{ordinal_type_argument as spec_ordinal_type_argument};
+ghost use Rattle.m2_base.specs.Statics.Functions.{val_as as spec_val_as, val_of as spec_val};
 ghost use Rattle.m2_base.specs.declared.operands.Operand.TheVariants as operands;
 ghost use Rattle.const_eval.specs.Analyses.{Analysed};
-ghost use Rattle.const_eval.specs.Calls.{IsSummary, argument, call_kind as spec_kind, call_with as spec_call_with, of_type as spec_of_type, of_value as spec_of_value, with_one, with_two};
+ghost use Rattle.const_eval.specs.Calls.{IsSummary, argument, call_kind as spec_kind, call_with as spec_call_with};
+ghost use Rattle.const_eval.specs.Calls.{of_type as spec_of_type, of_value as spec_of_value, with_one, with_two};
 ghost use Rattle.const_eval.specs.Judgements.{judged};
 ghost use Rattle.const_eval.specs.Sites.{AreArguments, IsOperand};
 ghost use Rattle.const_eval.specs.declared.calls.Call.TheVariants as calls;
@@ -120,7 +123,8 @@ pub(crate) fn of_value<S: Scopes>(
     ensures reads { Reads (S.state scopes.old) (S.state scopes.new) }
     ensures waits { WhereWaiting result (λ head. Waits (S.state scopes.old) (S.state scopes.new) head) }
     ensures told { WhereTold (S.state scopes.old).frame (λ made.
-        WhereKnown result (λ given. let c = context_of (S.state scopes.old).frame made site.now in judged c given ≡ spec_of_value c function at x)) }
+        WhereKnown result (λ given. let c = context_of (S.state scopes.old).frame made site.now in
+        judged c given ≡ spec_of_value c function at x)) }
     ensures there { WhereKnown result (λ given. IfOk given (λ operand. IsOperand (S.state scopes.old).frame operand)) }
 {
     match function {
@@ -146,7 +150,8 @@ pub(crate) fn of_type<S: Scopes>(
     ensures reads { Reads (S.state scopes.old) (S.state scopes.new) }
     ensures waits { WhereWaiting result (λ head. Waits (S.state scopes.old) (S.state scopes.new) head) }
     ensures told { WhereTold (S.state scopes.old).frame (λ made.
-        WhereKnown result (λ given. let c = context_of (S.state scopes.old).frame made site.now in judged c given ≡ spec_of_type c function at x)) }
+        WhereKnown result (λ given. let c = context_of (S.state scopes.old).frame made site.now in
+        judged c given ≡ spec_of_type c function at x)) }
     ensures there { WhereKnown result (λ given. IfOk given (λ operand. IsOperand (S.state scopes.old).frame operand)) }
 {
     match function {
@@ -163,7 +168,8 @@ pub(crate) fn value_noted(
     operand: Operand,
     notes: &mut Notes,
 ) -> Result<Ask<Operand>, Memory>
-    ensures { (now : State) → IsOperand now.frame operand → Analysed now now notes.old notes.new site.now result IsOperand (λ c. spec_value_wanted c at operand) }
+    ensures { (now : State) → IsOperand now.frame operand
+        → Analysed now now notes.old notes.new site.now result IsOperand (λ c. spec_value_wanted c at operand) }
 {
     note(
         site.around.text,
@@ -183,7 +189,8 @@ pub fn of_value_noted<S: Scopes>(
 ) -> Result<Ask<Operand>, Memory>
     requires suits { SuitsSite (S.state scopes.old).frame site.now }
     requires x { IsOperand (S.state scopes.old).frame x.operand }
-    ensures { Analysed (S.state scopes.old) (S.state scopes.new) notes.old notes.new site.now result IsOperand (λ c. spec_of_value c function x.at x.operand) }
+    ensures { Analysed (S.state scopes.old) (S.state scopes.new) notes.old notes.new site.now result IsOperand
+        (λ c. spec_of_value c function x.at x.operand) }
 {
     let given = of_value(scopes, site, function, x.at, x.operand);
     note(site.around.text, given, notes)
@@ -200,7 +207,8 @@ pub fn of_type_noted<S: Scopes>(
 ) -> Result<Ask<Operand>, Memory>
     requires suits { SuitsSite (S.state scopes.old).frame site.now }
     requires x { IsOperand (S.state scopes.old).frame x.operand }
-    ensures { Analysed (S.state scopes.old) (S.state scopes.new) notes.old notes.new site.now result IsOperand (λ c. spec_of_type c function x.at x.operand) }
+    ensures { Analysed (S.state scopes.old) (S.state scopes.new) notes.old notes.new site.now result IsOperand
+        (λ c. spec_of_type c function x.at x.operand) }
 {
     let given = of_type(scopes, site, function, x.at, x.operand);
     note(site.around.text, given, notes)
@@ -216,7 +224,8 @@ fn call_of_value<S: Scopes>(
 ) -> Result<Ask<Operand>, Memory>
     requires suits { SuitsSite (S.state scopes.old).frame site.now }
     requires arg { IsOperand (S.state scopes.old).frame arg.operand }
-    ensures { Analysed (S.state scopes.old) (S.state scopes.new) notes.old notes.new site.now result IsOperand (λ c. and_then (spec_value_wanted c arg.at arg.operand) (spec_of_value c function arg.at)) }
+    ensures { Analysed (S.state scopes.old) (S.state scopes.new) notes.old notes.new site.now result IsOperand
+        (λ c. and_then (spec_value_wanted c arg.at arg.operand) (spec_of_value c function arg.at)) }
 {
     let operand = analysed!(value_noted(site, arg.at, arg.operand, notes));
     let x = Argument {
@@ -235,7 +244,8 @@ fn ordinal_type_noted<S: Scopes>(
 ) -> Result<Ask<Place>, Memory>
     requires suits { SuitsSite (S.state scopes.old).frame site.now }
     requires arg { IsOperand (S.state scopes.old).frame arg.operand }
-    ensures { Analysed (S.state scopes.old) (S.state scopes.new) notes.old notes.new site.now result IsThere (λ c. spec_ordinal_type_argument c arg.at arg.operand) }
+    ensures { Analysed (S.state scopes.old) (S.state scopes.new) notes.old notes.new site.now result IsThere
+        (λ c. spec_ordinal_type_argument c arg.at arg.operand) }
 {
     let of = ordinal_type_argument(scopes, site, arg.at, arg.operand);
     note_type(site.around.text, of, notes)
@@ -252,7 +262,8 @@ fn val_noted<S: Scopes>(
     requires suits { SuitsSite (S.state scopes.old).frame site.now }
     requires of { IsThere (S.state scopes.old).frame of }
     requires x { IsOperand (S.state scopes.old).frame x.operand }
-    ensures { Analysed (S.state scopes.old) (S.state scopes.new) notes.old notes.new site.now result IsOperand (λ c. and_then (spec_ordinal_argument c x.at x.operand) (λ v. spec_val_as c x.at of v)) }
+    ensures { Analysed (S.state scopes.old) (S.state scopes.new) notes.old notes.new site.now result IsOperand
+        (λ c. and_then (spec_ordinal_argument c x.at x.operand) (λ v. spec_val_as c x.at of v)) }
 {
     let given = val_of(scopes, site, x.at, of, x.operand);
     note(site.around.text, given, notes)
@@ -270,7 +281,8 @@ pub fn val_of_operand<S: Scopes>(
     requires suits { SuitsSite (S.state scopes.old).frame site.now }
     requires of { IsOperand (S.state scopes.old).frame of.operand }
     requires x { IsOperand (S.state scopes.old).frame x.operand }
-    ensures { Analysed (S.state scopes.old) (S.state scopes.new) notes.old notes.new site.now result IsOperand (λ c. spec_val c of.at of.operand x.at x.operand) }
+    ensures { Analysed (S.state scopes.old) (S.state scopes.new) notes.old notes.new site.now result IsOperand
+        (λ c. spec_val c of.at of.operand x.at x.operand) }
 {
     let place = analysed!(ordinal_type_noted(scopes, site, of, notes));
     val_noted(scopes, site, place, x, notes)
@@ -287,7 +299,8 @@ fn call_of_type_and_value<S: Scopes>(
     requires suits { SuitsSite (S.state scopes.old).frame site.now }
     requires of { IsOperand (S.state scopes.old).frame of.operand }
     requires arg { IsOperand (S.state scopes.old).frame arg.operand }
-    ensures { Analysed (S.state scopes.old) (S.state scopes.new) notes.old notes.new site.now result IsOperand (λ c. and_then (spec_value_wanted c arg.at arg.operand) (spec_val c of.at of.operand arg.at)) }
+    ensures { Analysed (S.state scopes.old) (S.state scopes.new) notes.old notes.new site.now result IsOperand
+        (λ c. and_then (spec_value_wanted c arg.at arg.operand) (spec_val c of.at of.operand arg.at)) }
 {
     let operand = analysed!(value_noted(site, arg.at, arg.operand, notes));
     let x = Argument {
@@ -304,7 +317,8 @@ pub(crate) fn fault_noted(
     kind: Diagnostic,
     notes: &mut Notes,
 ) -> Result<Ask<Operand>, Memory>
-    ensures { (now : State) → Analysed now now notes.old notes.new site.now result IsOperand (λ c. refuse c at (code_of kind) operands.InError) }
+    ensures { (now : State) → Analysed now now notes.old notes.new site.now result IsOperand
+        (λ c. refuse c at (code_of kind) operands.InError) }
 {
     note(site.around.text, Ask::Known(Err(Fault { at, kind })), notes)
 }
@@ -319,7 +333,8 @@ pub(crate) fn call_with<S: Scopes>(
 ) -> Result<Ask<Operand>, Memory>
     requires suits { SuitsSite (S.state scopes.old).frame site.now }
     requires args { AreArguments (S.state scopes.old).frame args }
-    ensures { Analysed (S.state scopes.old) (S.state scopes.new) notes.old notes.new site.now result IsOperand (λ c. spec_call_with c to.at to.operand args) }
+    ensures { Analysed (S.state scopes.old) (S.state scopes.new) notes.old notes.new site.now result IsOperand
+        (λ c. spec_call_with c to.at to.operand args) }
 {
     match to.operand {
         Operand::StandardProcedure(name) => match call_kind(standard_procedure(name), args.shape) {
@@ -346,7 +361,8 @@ pub fn call_of<S: Scopes>(
 ) -> Result<Ask<Operand>, Memory>
     requires suits { SuitsSite (S.state scopes.old).frame site.now }
     requires args { AreArguments (S.state scopes.old).frame args }
-    ensures { (list : List Argument) → IsSummary args list → Analysed (S.state scopes.old) (S.state scopes.new) notes.old notes.new site.now result IsOperand (λ c. spec_call c to.at to.operand (map argument list)) }
+    ensures { (list : List Argument) → IsSummary args list → Analysed (S.state scopes.old) (S.state scopes.new)
+        notes.old notes.new site.now result IsOperand (λ c. spec_call c to.at to.operand (map argument list)) }
 {
     call_with(scopes, site, to, args, notes)
 }

@@ -27,15 +27,17 @@ fn is_text(of: Place) -> bool
     of == TEXT
 }
 
-/// The constant; what is in error gives nothing more, anything else is no constant. No text asks for a constant of the type of
-/// strings that is no string.
+/// The constant; what is in error gives nothing more, anything else is no constant. No text asks for a constant of the
+/// type of strings that is no string.
 fn constant_or_refused(
     site: &Site,
     at: u32,
     operand: Operand,
     notes: &mut Notes,
 ) -> Result<Ask<Option<Operand>>, Memory>
-    ensures { (now : State) → IsOperand now.frame operand → Analysed now now notes.old notes.new site.now result (λ f constant. IfSome constant (λ operand. IsOperand f operand × IsNamedText f operand)) (λ c. spec_constant c at operand) }
+    ensures { (now : State) → IsOperand now.frame operand → Analysed now now notes.old notes.new site.now result
+        (λ f constant. IfSome constant (λ operand. IsOperand f operand × IsNamedText f operand))
+        (λ c. spec_constant c at operand) }
 {
     match operand {
         Operand::Constant(of, _) => {
@@ -64,10 +66,18 @@ pub fn constant<S: Scopes>(
 ) -> Result<Ask<Option<Operand>>, Memory>
     requires suits { SuitsSite (S.state scopes.old).frame site.now }
     requires read { IsReadExpr site.now.texts.now.names (expr_view e.now) }
-    ensures analysed { Analysed (S.state scopes.old) (S.state scopes.new) notes.old notes.new site.now result (λ f constant. IfSome constant (λ operand. IsOperand f operand × IsNamedText f operand)) (λ c. constant_of c (expr_view e.now)) }
-    ensures unrefused { WhereTold (S.state scopes.old).frame (λ made. AreOfSite site.now made → IfKnown result (λ o. IfSome o (λ p. notes.new.diags.items ≡ notes.old.diags.items))) }
-    ensures unspoilt { WhereTold (S.state scopes.old).frame (λ made. AreOfSite site.now made → IfKnown result (λ o. IsUnspoilt (context_of (S.state scopes.old).frame made site.now).scene notes.old notes.new o)) }
-    ensures caused { WhereTold (S.state scopes.old).frame (λ made. AreOfSite site.now made → IfKnown result (λ o. IsCaused (context_of (S.state scopes.old).frame made site.now).scene notes.old notes.new o)) }
+    ensures analysed { Analysed (S.state scopes.old) (S.state scopes.new) notes.old notes.new site.now result
+        (λ f constant. IfSome constant (λ operand. IsOperand f operand × IsNamedText f operand))
+        (λ c. constant_of c (expr_view e.now)) }
+    ensures unrefused { WhereTold (S.state scopes.old).frame (λ made.
+        AreOfSite site.now made
+        → IfKnown result (λ o. IfSome o (λ p. notes.new.diags.items ≡ notes.old.diags.items))) }
+    ensures unspoilt { WhereTold (S.state scopes.old).frame (λ made.
+        AreOfSite site.now made → IfKnown result
+        (λ o. IsUnspoilt (context_of (S.state scopes.old).frame made site.now).scene notes.old notes.new o)) }
+    ensures caused { WhereTold (S.state scopes.old).frame (λ made.
+        AreOfSite site.now made → IfKnown result
+        (λ o. IsCaused (context_of (S.state scopes.old).frame made site.now).scene notes.old notes.new o)) }
 {
     let operand = analysed!(value_in(scopes, site, e, notes));
     constant_or_refused(site, e.at, operand, notes)

@@ -1,13 +1,21 @@
 //! What an expression stands for in a constant.
 ghost use Rattle.std.specs.Prelude.{map};
 ghost use Rattle.m2_base.specs.Gives.{and_then};
-ghost use Rattle.m2_base.specs.Statics.Constants.{designator_in as spec_designator, element_in as spec_element, elements_in as spec_elements, indices_in as spec_indices, many_in as spec_many, next_in as spec_next, operand_in as spec_operand, selector_in as spec_selector, selectors_in as spec_selectors};
-ghost use Rattle.m2_base.specs.Statics.Sets.{no_elements as spec_none, set_base as spec_base, set_type_of as spec_set_type};
+ghost use Rattle.m2_base.specs.Statics.Constants.{designator_in as spec_designator, element_in as spec_element};
+ghost use Rattle.m2_base.specs.Statics.Constants.{elements_in as spec_elements, indices_in as spec_indices};
+ghost use Rattle.m2_base.specs.Statics.Constants.{many_in as spec_many, next_in as spec_next};
+ghost use Rattle.m2_base.specs.Statics.Constants.{operand_in as spec_operand, selector_in as spec_selector};
+ghost use Rattle.m2_base.specs.Statics.Constants.{selectors_in as spec_selectors};
+ghost use Rattle.m2_base.specs.Statics.Sets.{no_elements as spec_none, set_base as spec_base};
+ghost use Rattle.m2_base.specs.Statics.Sets.{set_type_of as spec_set_type};
 ghost use Rattle.m2_base.specs.Trees.{designator_at, exprs, labels, nexts, selectors};
 ghost use Rattle.m2_base.specs.Views.{designator_view, expr_view, label_view, next_view, selector_view};
 ghost use Rattle.const_eval.specs.Analyses.{Analysed};
-ghost use Rattle.const_eval.specs.Parts.{arguments_in as spec_arguments, called_in as spec_called, index_in as spec_index, member_in as spec_member, value_in as spec_value};
-ghost use Rattle.m2_base.specs.Statics.ReadTrees.{AreReadExprs, AreReadLabels, AreReadNexts, AreReadSelectors, IsReadDesignator, IsReadExpr, IsReadLabel, IsReadNext, IsReadSelector};
+ghost use Rattle.const_eval.specs.Parts.{arguments_in as spec_arguments, called_in as spec_called};
+ghost use Rattle.const_eval.specs.Parts.{index_in as spec_index, member_in as spec_member, value_in as spec_value};
+ghost use Rattle.m2_base.specs.Statics.ReadTrees.{AreReadExprs, AreReadLabels, AreReadNexts, AreReadSelectors};
+ghost use Rattle.m2_base.specs.Statics.ReadTrees.{IsReadDesignator, IsReadExpr, IsReadLabel, IsReadNext};
+ghost use Rattle.m2_base.specs.Statics.ReadTrees.{IsReadSelector};
 ghost use Rattle.const_eval.specs.Sites.{AreArguments, IsOperand};
 ghost use Rattle.type_rules.specs.Scenes.{IsThere};
 ghost use Rattle.type_rules.specs.Sites.{SuitsSite};
@@ -37,7 +45,8 @@ fn operand_in<S: Scopes>(
 ) -> Result<Ask<Operand>, Memory>
     requires suits { SuitsSite (S.state scopes.old).frame site.now }
     requires read { IsReadExpr site.now.texts.now.names (expr_view e.now) }
-    ensures { Analysed (S.state scopes.old) (S.state scopes.new) notes.old notes.new site.now result IsOperand (λ c. spec_operand c (expr_view e.now)) }
+    ensures { Analysed (S.state scopes.old) (S.state scopes.new) notes.old notes.new site.now result IsOperand
+        (λ c. spec_operand c (expr_view e.now)) }
 {
     match &e.form {
         ExprForm::Number(value) => Ok(Ask::Known(Operand::Constant(WHOLE, *value as i64))),
@@ -85,7 +94,8 @@ pub fn value_in<S: Scopes>(
 ) -> Result<Ask<Operand>, Memory>
     requires suits { SuitsSite (S.state scopes.old).frame site.now }
     requires read { IsReadExpr site.now.texts.now.names (expr_view e.now) }
-    ensures { Analysed (S.state scopes.old) (S.state scopes.new) notes.old notes.new site.now result IsOperand (λ c. spec_value c (expr_view e.now)) }
+    ensures { Analysed (S.state scopes.old) (S.state scopes.new) notes.old notes.new site.now result IsOperand
+        (λ c. spec_value c (expr_view e.now)) }
 {
     let operand = analysed!(operand_in(scopes, site, e, notes));
     value_noted(site, e.at, operand, notes)
@@ -103,7 +113,8 @@ fn nexts_in<S: Scopes>(
     requires suits { SuitsSite (S.state scopes.old).frame site.now }
     requires first { IsOperand (S.state scopes.old).frame first.operand }
     requires read { AreReadNexts site.now.texts.now.names (nexts (map next_view rest.now)) }
-    ensures { Analysed (S.state scopes.old) (S.state scopes.new) notes.old notes.new site.now result IsOperand (λ c. spec_many c first.at first.operand (nexts (map next_view rest.now))) }
+    ensures { Analysed (S.state scopes.old) (S.state scopes.new) notes.old notes.new site.now result IsOperand
+        (λ c. spec_many c first.at first.operand (nexts (map next_view rest.now))) }
 {
     let at = first.at;
     let mut operand = first.operand;
@@ -125,7 +136,8 @@ fn next_in<S: Scopes>(
     requires suits { SuitsSite (S.state scopes.old).frame site.now }
     requires left { IsOperand (S.state scopes.old).frame left.operand }
     requires read { IsReadNext site.now.texts.now.names (next_view next.now) }
-    ensures { Analysed (S.state scopes.old) (S.state scopes.new) notes.old notes.new site.now result IsOperand (λ c. spec_next c left.at left.operand (next_view next.now)) }
+    ensures { Analysed (S.state scopes.old) (S.state scopes.new) notes.old notes.new site.now result IsOperand
+        (λ c. spec_next c left.at left.operand (next_view next.now)) }
 {
     let operand = analysed!(value_in(scopes, site, &next.right, notes));
     let right = Argument {
@@ -151,7 +163,8 @@ fn set_in<S: Scopes>(
     requires suits { SuitsSite (S.state scopes.old).frame site.now }
     requires of { IsThere (S.state scopes.old).frame of }
     requires read { AreReadLabels site.now.texts.now.names (labels (map label_view items.now)) }
-    ensures { Analysed (S.state scopes.old) (S.state scopes.new) notes.old notes.new site.now result IsOperand (λ c. spec_elements c (spec_base c of) (spec_none c of) (labels (map label_view items.now))) }
+    ensures { Analysed (S.state scopes.old) (S.state scopes.new) notes.old notes.new site.now result IsOperand
+        (λ c. spec_elements c (spec_base c of) (spec_none c of) (labels (map label_view items.now))) }
 {
     let empty = match set_start(scopes, site, of) {
         Ask::Known(empty) => empty,
@@ -170,7 +183,9 @@ fn set_type_in<S: Scopes>(
 ) -> Result<Ask<Place>, Memory>
     requires suits { SuitsSite (S.state scopes.old).frame site.now }
     requires read { IsReadDesignator site.now.texts.now.names (designator_view of.now) }
-    ensures { Analysed (S.state scopes.old) (S.state scopes.new) notes.old notes.new site.now result IsThere (λ c. and_then (spec_designator c (designator_view of.now)) (λ o. spec_set_type c (designator_at (designator_view of.now)) o)) }
+    ensures { Analysed (S.state scopes.old) (S.state scopes.new) notes.old notes.new site.now result IsThere
+        (λ c. and_then (spec_designator c (designator_view of.now))
+        (λ o. spec_set_type c (designator_at (designator_view of.now)) o)) }
 {
     let operand = analysed!(designator_in(scopes, site, of, notes));
     set_type(scopes, site, of.first.at, operand, notes)
@@ -189,7 +204,8 @@ fn elements_in<S: Scopes>(
     requires base { IsThere (S.state scopes.old).frame of.base }
     requires set { IsOperand (S.state scopes.old).frame of.set }
     requires read { AreReadLabels site.now.texts.now.names (labels (map label_view items.now)) }
-    ensures { Analysed (S.state scopes.old) (S.state scopes.new) notes.old notes.new site.now result IsOperand (λ c. spec_elements c of.base of.set (labels (map label_view items.now))) }
+    ensures { Analysed (S.state scopes.old) (S.state scopes.new) notes.old notes.new site.now result IsOperand
+        (λ c. spec_elements c of.base of.set (labels (map label_view items.now))) }
 {
     let base = of.base;
     let mut set = of.set;
@@ -212,7 +228,8 @@ fn element_in<S: Scopes>(
     requires base { IsThere (S.state scopes.old).frame of.base }
     requires set { IsOperand (S.state scopes.old).frame of.set }
     requires read { IsReadLabel site.now.texts.now.names (label_view label.now) }
-    ensures { Analysed (S.state scopes.old) (S.state scopes.new) notes.old notes.new site.now result IsOperand (λ c. spec_element c of.base of.set (label_view label.now)) }
+    ensures { Analysed (S.state scopes.old) (S.state scopes.new) notes.old notes.new site.now result IsOperand
+        (λ c. spec_element c of.base of.set (label_view label.now)) }
 {
     let low = analysed!(member_in(scopes, site, of.base, &label.low, notes));
     match &label.high {
@@ -236,7 +253,8 @@ fn member_in<S: Scopes>(
     requires suits { SuitsSite (S.state scopes.old).frame site.now }
     requires base { IsThere (S.state scopes.old).frame base }
     requires read { IsReadExpr site.now.texts.now.names (expr_view e.now) }
-    ensures { Analysed (S.state scopes.old) (S.state scopes.new) notes.old notes.new site.now result IsOperand (λ c. spec_member c base (expr_view e.now)) }
+    ensures { Analysed (S.state scopes.old) (S.state scopes.new) notes.old notes.new site.now result IsOperand
+        (λ c. spec_member c base (expr_view e.now)) }
 {
     let operand = analysed!(value_in(scopes, site, e, notes));
     taken(scopes, site, base, Argument { at: e.at, operand }, notes)
@@ -252,7 +270,8 @@ fn designator_in<S: Scopes>(
 ) -> Result<Ask<Operand>, Memory>
     requires suits { SuitsSite (S.state scopes.old).frame site.now }
     requires read { IsReadDesignator site.now.texts.now.names (designator_view of.now) }
-    ensures { Analysed (S.state scopes.old) (S.state scopes.new) notes.old notes.new site.now result IsOperand (λ c. spec_designator c (designator_view of.now)) }
+    ensures { Analysed (S.state scopes.old) (S.state scopes.new) notes.old notes.new site.now result IsOperand
+        (λ c. spec_designator c (designator_view of.now)) }
 {
     let operand = analysed!(name_operand(scopes, site, None, of.first, notes));
     let first = Argument {
@@ -274,7 +293,8 @@ fn selectors_in<S: Scopes>(
     requires suits { SuitsSite (S.state scopes.old).frame site.now }
     requires of { IsOperand (S.state scopes.old).frame of.operand }
     requires read { AreReadSelectors site.now.texts.now.names (selectors (map selector_view rest.now)) }
-    ensures { Analysed (S.state scopes.old) (S.state scopes.new) notes.old notes.new site.now result IsOperand (λ c. spec_selectors c of.at of.operand (selectors (map selector_view rest.now))) }
+    ensures { Analysed (S.state scopes.old) (S.state scopes.new) notes.old notes.new site.now result IsOperand
+        (λ c. spec_selectors c of.at of.operand (selectors (map selector_view rest.now))) }
 {
     let at = of.at;
     let mut operand = of.operand;
@@ -296,7 +316,8 @@ fn selector_in<S: Scopes>(
     requires suits { SuitsSite (S.state scopes.old).frame site.now }
     requires of { IsOperand (S.state scopes.old).frame of.operand }
     requires read { IsReadSelector site.now.texts.now.names (selector_view selector.now) }
-    ensures { Analysed (S.state scopes.old) (S.state scopes.new) notes.old notes.new site.now result IsOperand (λ c. spec_selector c of.at of.operand (selector_view selector.now)) }
+    ensures { Analysed (S.state scopes.old) (S.state scopes.new) notes.old notes.new site.now result IsOperand
+        (λ c. spec_selector c of.at of.operand (selector_view selector.now)) }
 {
     match selector {
         Selector::Field(ident, _) => field_operand(scopes, site, of, *ident, notes),
@@ -317,7 +338,8 @@ fn indices_in<S: Scopes>(
     requires suits { SuitsSite (S.state scopes.old).frame site.now }
     requires of { IsOperand (S.state scopes.old).frame of.operand }
     requires read { AreReadExprs site.now.texts.now.names (exprs (map expr_view es.now)) }
-    ensures { Analysed (S.state scopes.old) (S.state scopes.new) notes.old notes.new site.now result IsOperand (λ c. spec_indices c of.at of.operand (exprs (map expr_view es.now))) }
+    ensures { Analysed (S.state scopes.old) (S.state scopes.new) notes.old notes.new site.now result IsOperand
+        (λ c. spec_indices c of.at of.operand (exprs (map expr_view es.now))) }
 {
     let at = of.at;
     let mut operand = of.operand;
@@ -338,7 +360,8 @@ fn index_in<S: Scopes>(
 ) -> Result<Ask<Operand>, Memory>
     requires suits { SuitsSite (S.state scopes.old).frame site.now }
     requires read { IsReadExpr site.now.texts.now.names (expr_view e.now) }
-    ensures { Analysed (S.state scopes.old) (S.state scopes.new) notes.old notes.new site.now result IsOperand (λ c. spec_index c of.at of.operand (expr_view e.now)) }
+    ensures { Analysed (S.state scopes.old) (S.state scopes.new) notes.old notes.new site.now result IsOperand
+        (λ c. spec_index c of.at of.operand (expr_view e.now)) }
 {
     let index = analysed!(value_in(scopes, site, e, notes));
     with_index(site, of.at, of.operand, index, notes)
@@ -354,7 +377,8 @@ fn arguments_in<S: Scopes>(
 ) -> Result<Ask<Arguments>, Memory>
     requires suits { SuitsSite (S.state scopes.old).frame site.now }
     requires read { AreReadExprs site.now.texts.now.names (exprs (map expr_view es.now)) }
-    ensures { Analysed (S.state scopes.old) (S.state scopes.new) notes.old notes.new site.now result AreArguments (λ c. spec_arguments c (exprs (map expr_view es.now))) }
+    ensures { Analysed (S.state scopes.old) (S.state scopes.new) notes.old notes.new site.now result AreArguments
+        (λ c. spec_arguments c (exprs (map expr_view es.now))) }
 {
     let mut args = Arguments::new();
     for e in es.iter() {
@@ -376,7 +400,8 @@ fn called_in<S: Scopes>(
     requires suits { SuitsSite (S.state scopes.old).frame site.now }
     requires to { IsOperand (S.state scopes.old).frame to.operand }
     requires read { AreReadExprs site.now.texts.now.names (exprs (map expr_view es.now)) }
-    ensures { Analysed (S.state scopes.old) (S.state scopes.new) notes.old notes.new site.now result IsOperand (λ c. spec_called c to.at to.operand (exprs (map expr_view es.now))) }
+    ensures { Analysed (S.state scopes.old) (S.state scopes.new) notes.old notes.new site.now result IsOperand
+        (λ c. spec_called c to.at to.operand (exprs (map expr_view es.now))) }
 {
     let args = analysed!(arguments_in(scopes, site, es, notes));
     call_with(scopes, site, to, args, notes)

@@ -6,7 +6,9 @@ ghost use Rattle.m2_base.specs.Rows.{IsValue};
 ghost use Rattle.m2_base.specs.Standard.{cardinal};
 ghost use Rattle.m2_base.specs.States.{Frame, Waits};
 ghost use Rattle.m2_base.specs.Statics.Contexts.{Context};
-ghost use Rattle.m2_base.specs.Statics.Functions.{end_value as spec_end, ordinal_type_argument as spec_ordinal_type_argument, size_value as spec_size, wrong_at};
+ghost use Rattle.m2_base.specs.Statics.Functions.{end_value as spec_end};
+ghost use Rattle.m2_base.specs.Statics.Functions.{ordinal_type_argument as spec_ordinal_type_argument};
+ghost use Rattle.m2_base.specs.Statics.Functions.{size_value as spec_size, wrong_at};
 ghost use Rattle.m2_base.specs.Statics.Ranges.{range};
 ghost use Rattle.m2_base.specs.Statics.Types.{range_of as spec_range, size_of as spec_size_of};
 ghost use Rattle.const_eval.specs.Judgements.{judged};
@@ -31,7 +33,8 @@ pub enum Extreme {
 /// An end of a type's range, as a constant of the type; in error where it has none.
 fn end_value(of: Place, extreme: Extreme, ends: Option<(i64, i64)>) -> Operand
     requires { IfSome ends (λ ends. IsValue ends.0 × IsValue ends.1) }
-    ensures told { (c : Context) → result ≡ spec_end c of (end_in extreme) (option_map (λ ends. range ends.0 ends.1) ends) }
+    ensures told { (c : Context)
+        → result ≡ spec_end c of (end_in extreme) (option_map (λ ends. range ends.0 ends.1) ends) }
     ensures there { (f : Frame) → IsThere f of → IsOperand f result }
 {
     let Some((low, high)) = ends else {
@@ -51,15 +54,16 @@ fn end_of_type<S: Scopes>(scopes: &mut S, site: &Site, extreme: Extreme, of: Pla
     ensures reads { Reads (S.state scopes.old) (S.state scopes.new) }
     ensures waits { WhereWaiting result (λ head. Waits (S.state scopes.old) (S.state scopes.new) head) }
     ensures told { WhereTold (S.state scopes.old).frame (λ made.
-        WhereKnown result (λ given. let c = context_of (S.state scopes.old).frame made site.now in given ≡ spec_end c of (end_in extreme) (spec_range c.scene of))) }
+        WhereKnown result (λ given. let c = context_of (S.state scopes.old).frame made site.now in
+        given ≡ spec_end c of (end_in extreme) (spec_range c.scene of))) }
     ensures there { WhereKnown result (λ given. IsOperand (S.state scopes.old).frame given) }
 {
     let ends = known!(range_of(scopes, site.around, of));
     Ask::Known(end_value(of, extreme, ends))
 }
 
-/// Judges MIN(T), "the minimum value of type T", or MAX(T), the maximum: a constant of T. `x` stands for T, and `at` is
-/// its first token, where a fault is if it is no ordinal type (`ordinal_type_argument`). It waits for T's row.
+/// Judges MIN(T), "the minimum value of type T", or MAX(T), the maximum: a constant of T. `x` stands for T, and `at`
+/// is its first token, where a fault is if it is no ordinal type (`ordinal_type_argument`). It waits for T's row.
 #[tactic(auto, using(type_rules::proofs::Reading::reading, crate::proofs::TypesThere::there))]
 pub fn extreme_of<S: Scopes>(
     scopes: &mut S,
@@ -73,7 +77,9 @@ pub fn extreme_of<S: Scopes>(
     ensures reads { Reads (S.state scopes.old) (S.state scopes.new) }
     ensures waits { WhereWaiting result (λ head. Waits (S.state scopes.old) (S.state scopes.new) head) }
     ensures told { WhereTold (S.state scopes.old).frame (λ made.
-        WhereKnown result (λ given. let c = context_of (S.state scopes.old).frame made site.now in judged c given ≡ and_then (spec_ordinal_type_argument c at x) (λ of. gives (spec_end c of (end_in extreme) (spec_range c.scene of))))) }
+        WhereKnown result (λ given. let c = context_of (S.state scopes.old).frame made site.now in
+        judged c given ≡ and_then (spec_ordinal_type_argument c at x)
+        (λ of. gives (spec_end c of (end_in extreme) (spec_range c.scene of))))) }
     ensures there { WhereKnown result (λ given. IfOk given (λ operand. IsOperand (S.state scopes.old).frame operand)) }
 {
     match known!(ordinal_type_argument(scopes, site, at, x)) {
@@ -84,7 +90,8 @@ pub fn extreme_of<S: Scopes>(
 
 /// The size of a variable that is no open array.
 fn size_unless_open(at: u32, open_array: bool) -> Result<Operand, Fault>
-    ensures told { (c : Context) → judged c result ≡ (if open_array then wrong_at c at else gives (Operand.Computed cardinal)) }
+    ensures told { (c : Context)
+        → judged c result ≡ (if open_array then wrong_at c at else gives (Operand.Computed cardinal)) }
     ensures there { (f : Frame) → IsThere f cardinal → IfOk result (λ operand. IsOperand f operand) }
 {
     if open_array {
@@ -107,7 +114,8 @@ fn variable_size<S: Scopes>(
     ensures reads { Reads (S.state scopes.old) (S.state scopes.new) }
     ensures waits { WhereWaiting result (λ head. Waits (S.state scopes.old) (S.state scopes.new) head) }
     ensures told { WhereTold (S.state scopes.old).frame (λ made.
-        WhereKnown result (λ given. let c = context_of (S.state scopes.old).frame made site.now in judged c given ≡ spec_size c at (Operand.Variable of))) }
+        WhereKnown result (λ given. let c = context_of (S.state scopes.old).frame made site.now in
+        judged c given ≡ spec_size c at (Operand.Variable of))) }
     ensures there { WhereKnown result (λ given. IfOk given (λ operand. IsOperand (S.state scopes.old).frame operand)) }
 {
     let open_array = known!(is_open_array(scopes, site.around, of));
@@ -131,15 +139,17 @@ fn type_size<S: Scopes>(scopes: &mut S, site: &Site, of: Place) -> Ask<Operand>
     ensures reads { Reads (S.state scopes.old) (S.state scopes.new) }
     ensures waits { WhereWaiting result (λ head. Waits (S.state scopes.old) (S.state scopes.new) head) }
     ensures told { WhereTold (S.state scopes.old).frame (λ made.
-        WhereKnown result (λ given. let c = context_of (S.state scopes.old).frame made site.now in given ≡ Operand.Constant cardinal (pos (spec_size_of c.scene of)))) }
+        WhereKnown result (λ given. let c = context_of (S.state scopes.old).frame made site.now in
+        given ≡ Operand.Constant cardinal (pos (spec_size_of c.scene of)))) }
     ensures there { WhereKnown result (λ given. IsOperand (S.state scopes.old).frame given) }
 {
     let size = known!(size_of(scopes, site.around, of));
     Ask::Known(size_constant(size))
 }
 
-/// Judges SIZE of `x`, whose first token is `at`: the number of its cells, a CARDINAL, which is constant for a type but
-/// not for a variable. An open array, and what is neither type nor variable, is a fault. It waits for the type's row.
+/// Judges SIZE of `x`, whose first token is `at`: the number of its cells, a CARDINAL, which is constant for a type
+/// but not for a variable. An open array, and what is neither type nor variable, is a fault.
+/// It waits for the type's row.
 #[tactic(auto, using(type_rules::proofs::Reading::reading, crate::proofs::TypesThere::there))]
 pub fn size_value<S: Scopes>(
     scopes: &mut S,
@@ -152,7 +162,8 @@ pub fn size_value<S: Scopes>(
     ensures reads { Reads (S.state scopes.old) (S.state scopes.new) }
     ensures waits { WhereWaiting result (λ head. Waits (S.state scopes.old) (S.state scopes.new) head) }
     ensures told { WhereTold (S.state scopes.old).frame (λ made.
-        WhereKnown result (λ given. let c = context_of (S.state scopes.old).frame made site.now in judged c given ≡ spec_size c at x)) }
+        WhereKnown result (λ given. let c = context_of (S.state scopes.old).frame made site.now in
+        judged c given ≡ spec_size c at x)) }
     ensures there { WhereKnown result (λ given. IfOk given (λ operand. IsOperand (S.state scopes.old).frame operand)) }
 {
     match x {

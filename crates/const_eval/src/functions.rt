@@ -11,7 +11,15 @@ ghost use Rattle.m2_base.specs.Statics.Operands.{char_or_same as spec_char_or_sa
 ghost use Rattle.m2_base.specs.Statics.Operations.{base_type};
 ghost use Rattle.m2_base.specs.Statics.Ranges.{range};
 ghost use Rattle.m2_base.specs.Statics.Types.{range_of as spec_range};
-ghost use Rattle.m2_base.specs.Statics.Functions.{abs_of as spec_abs, absolute as spec_absolute, cap_of as spec_cap, capital as spec_capital, chr_of as spec_chr, converted as spec_converted, number_argument as spec_number, odd_of as spec_odd, oddness as spec_oddness, ord_of as spec_ord, ordinal_argument as spec_ordinal_argument, ordinal_type as spec_ordinal_type, ordinal_type_argument as spec_ordinal_type_argument, type_argument as spec_type_argument, val_as as spec_val_as, wrong_at};
+ghost use Rattle.m2_base.specs.Statics.Functions.{abs_of as spec_abs, absolute as spec_absolute, cap_of as spec_cap};
+ghost use Rattle.m2_base.specs.Statics.Functions.{capital as spec_capital, chr_of as spec_chr};
+ghost use Rattle.m2_base.specs.Statics.Functions.{converted as spec_converted, number_argument as spec_number};
+ghost use Rattle.m2_base.specs.Statics.Functions.{odd_of as spec_odd, oddness as spec_oddness, ord_of as spec_ord};
+ghost use Rattle.m2_base.specs.Statics.Functions.{ordinal_argument as spec_ordinal_argument};
+ghost use Rattle.m2_base.specs.Statics.Functions.{ordinal_type as spec_ordinal_type};
+ghost use Rattle.m2_base.specs.Statics.Functions.{ordinal_type_argument as spec_ordinal_type_argument};
+ghost use Rattle.m2_base.specs.Statics.Functions.{type_argument as spec_type_argument, val_as as spec_val_as};
+ghost use Rattle.m2_base.specs.Statics.Functions.{wrong_at};
 ghost use Rattle.const_eval.specs.Judgements.{judged, judged_or};
 ghost use Rattle.const_eval.specs.Sites.{IsNamed, IsOperand, IsSmallConstant};
 ghost use Rattle.type_rules.specs.Asks.{Reads, WhereKnown, WhereWaiting};
@@ -52,7 +60,8 @@ fn number_argument<S: Scopes>(
     ensures reads { Reads (S.state scopes.old) (S.state scopes.new) }
     ensures waits { WhereWaiting result (λ head. Waits (S.state scopes.old) (S.state scopes.new) head) }
     ensures told { WhereTold (S.state scopes.old).frame (λ made.
-        WhereKnown result (λ given. let c = context_of (S.state scopes.old).frame made site.now in judged c given ≡ spec_number c at x)) }
+        WhereKnown result (λ given. let c = context_of (S.state scopes.old).frame made site.now in
+        judged c given ≡ spec_number c at x)) }
     ensures there { WhereKnown result (λ given. IfOk given (λ operand. IsOperand (S.state scopes.old).frame operand)) }
 {
     if is_bad(x) {
@@ -62,11 +71,12 @@ fn number_argument<S: Scopes>(
     Ask::Known(kept_or_refused(is_number(base), at, x))
 }
 
-/// The same as `char_or_same`, by the names of the site: a string of one character is that CHAR, anything else is as it
-/// is. It asks no scope.
+/// The same as `char_or_same`, by the names of the site: a string of one character is that CHAR, anything else is as
+/// it is. It asks no scope.
 pub fn char_of_string(site: &Site, x: Operand) -> Operand
     requires { IsNamed site.now.texts.now.names x }
-    ensures told { (source : Source) → source.spellings ≡ site.now.texts.now.names → result ≡ spec_char_or_same source x }
+    ensures told { (source : Source) → source.spellings ≡ site.now.texts.now.names
+        → result ≡ spec_char_or_same source x }
     ensures there { (f : Frame) → IsThere f character → IsOperand f x → IsOperand f result }
 {
     let texts = site.texts;
@@ -86,7 +96,8 @@ pub(crate) fn ordinal_argument<S: Scopes>(
     ensures reads { Reads (S.state scopes.old) (S.state scopes.new) }
     ensures waits { WhereWaiting result (λ head. Waits (S.state scopes.old) (S.state scopes.new) head) }
     ensures told { WhereTold (S.state scopes.old).frame (λ made.
-        WhereKnown result (λ given. let c = context_of (S.state scopes.old).frame made site.now in judged c given ≡ spec_ordinal_argument c at x)) }
+        WhereKnown result (λ given. let c = context_of (S.state scopes.old).frame made site.now in
+        judged c given ≡ spec_ordinal_argument c at x)) }
     ensures there { WhereKnown result (λ given. IfOk given (λ operand. IsOperand (S.state scopes.old).frame operand)) }
 {
     if is_bad(x) {
@@ -116,7 +127,9 @@ fn type_with_range(
     broken: bool,
     ends: Option<(i64, i64)>,
 ) -> Result<Place, Fault>
-    ensures told { (c : Context) → judged_or c broken_type result ≡ (if not broken && is_none (option_map (λ ends. range ends.0 ends.1) ends) then refuse c at wrong_argument broken_type else gives of) }
+    ensures told { (c : Context) → judged_or c broken_type result
+        ≡ (if not broken && is_none (option_map (λ ends. range ends.0 ends.1) ends) then
+        refuse c at wrong_argument broken_type else gives of) }
     ensures there { (f : Frame) → IsThere f of → IfOk result (λ of. IsThere f of) }
 {
     if broken {
@@ -141,7 +154,8 @@ fn ordinal_type<S: Scopes>(
     ensures reads { Reads (S.state scopes.old) (S.state scopes.new) }
     ensures waits { WhereWaiting result (λ head. Waits (S.state scopes.old) (S.state scopes.new) head) }
     ensures told { WhereTold (S.state scopes.old).frame (λ made.
-        WhereKnown result (λ given. let c = context_of (S.state scopes.old).frame made site.now in judged_or c broken_type given ≡ spec_ordinal_type c at of)) }
+        WhereKnown result (λ given. let c = context_of (S.state scopes.old).frame made site.now in
+        judged_or c broken_type given ≡ spec_ordinal_type c at of)) }
     ensures there { WhereKnown result (λ given. IfOk given (λ of. IsThere (S.state scopes.old).frame of)) }
 {
     let broken = known!(is_broken(scopes, site.around, of));
@@ -163,7 +177,8 @@ pub fn ordinal_type_argument<S: Scopes>(
     ensures reads { Reads (S.state scopes.old) (S.state scopes.new) }
     ensures waits { WhereWaiting result (λ head. Waits (S.state scopes.old) (S.state scopes.new) head) }
     ensures told { WhereTold (S.state scopes.old).frame (λ made.
-        WhereKnown result (λ given. let c = context_of (S.state scopes.old).frame made site.now in judged_or c broken_type given ≡ spec_ordinal_type_argument c at x)) }
+        WhereKnown result (λ given. let c = context_of (S.state scopes.old).frame made site.now in
+        judged_or c broken_type given ≡ spec_ordinal_type_argument c at x)) }
     ensures there { WhereKnown result (λ given. IfOk given (λ of. IsThere (S.state scopes.old).frame of)) }
 {
     match type_argument(at, x) {
@@ -179,7 +194,8 @@ fn converted_within(
     ends: Option<(i64, i64)>,
     x: Operand,
 ) -> Result<Operand, Fault>
-    ensures told { (c : Context) → option_map (λ ends. range ends.0 ends.1) ends ≡ spec_range c.scene of → judged c result ≡ spec_converted c at of x }
+    ensures told { (c : Context) → option_map (λ ends. range ends.0 ends.1) ends ≡ spec_range c.scene of
+        → judged c result ≡ spec_converted c at of x }
     ensures there { (f : Frame) → IsThere f of → IsOperand f x → IfOk result (λ operand. IsOperand f operand) }
 {
     match x {
@@ -210,7 +226,8 @@ pub(crate) fn converted<S: Scopes>(
     ensures reads { Reads (S.state scopes.old) (S.state scopes.new) }
     ensures waits { WhereWaiting result (λ head. Waits (S.state scopes.old) (S.state scopes.new) head) }
     ensures told { WhereTold (S.state scopes.old).frame (λ made.
-        WhereKnown result (λ given. let c = context_of (S.state scopes.old).frame made site.now in judged c given ≡ spec_converted c at of x)) }
+        WhereKnown result (λ given. let c = context_of (S.state scopes.old).frame made site.now in
+        judged c given ≡ spec_converted c at of x)) }
     ensures there { WhereKnown result (λ given. IfOk given (λ operand. IsOperand (S.state scopes.old).frame operand)) }
 {
     let ends = known!(range_of(scopes, site.around, of));
@@ -249,7 +266,8 @@ fn number_absolute<S: Scopes>(
     ensures reads { Reads (S.state scopes.old) (S.state scopes.new) }
     ensures waits { WhereWaiting result (λ head. Waits (S.state scopes.old) (S.state scopes.new) head) }
     ensures told { WhereTold (S.state scopes.old).frame (λ made.
-        WhereKnown result (λ given. let c = context_of (S.state scopes.old).frame made site.now in judged c given ≡ spec_absolute c at (spec_number_type (spec_number_kind (base_type c x))) x)) }
+        WhereKnown result (λ given. let c = context_of (S.state scopes.old).frame made site.now in
+        judged c given ≡ spec_absolute c at (spec_number_type (spec_number_kind (base_type c x))) x)) }
     ensures there { WhereKnown result (λ given. IfOk given (λ operand. IsOperand (S.state scopes.old).frame operand)) }
 {
     let base = known!(base_of(scopes, site.around, operand_type(&x)));
@@ -270,7 +288,8 @@ pub fn abs_of<S: Scopes>(
     ensures reads { Reads (S.state scopes.old) (S.state scopes.new) }
     ensures waits { WhereWaiting result (λ head. Waits (S.state scopes.old) (S.state scopes.new) head) }
     ensures told { WhereTold (S.state scopes.old).frame (λ made.
-        WhereKnown result (λ given. let c = context_of (S.state scopes.old).frame made site.now in judged c given ≡ spec_abs c at x)) }
+        WhereKnown result (λ given. let c = context_of (S.state scopes.old).frame made site.now in
+        judged c given ≡ spec_abs c at x)) }
     ensures there { WhereKnown result (λ given. IfOk given (λ operand. IsOperand (S.state scopes.old).frame operand)) }
 {
     match known!(number_argument(scopes, site, at, x)) {
@@ -295,7 +314,8 @@ fn capital(x: Operand) -> Operand
 
 /// The capital of an operand whose base is CHAR; any other is refused.
 fn capital_or_refused(at: u32, base: Place, x: Operand) -> Result<Operand, Fault>
-    ensures told { (c : Context) → judged c result ≡ (if is_same_place base character then gives (spec_capital x) else wrong_at c at) }
+    ensures told { (c : Context)
+        → judged c result ≡ (if is_same_place base character then gives (spec_capital x) else wrong_at c at) }
     ensures there { (f : Frame) → IsThere f character → IsOperand f x → IfOk result (λ operand. IsOperand f operand) }
 {
     if base == CHARACTER {
@@ -319,7 +339,8 @@ pub fn cap_of<S: Scopes>(
     ensures reads { Reads (S.state scopes.old) (S.state scopes.new) }
     ensures waits { WhereWaiting result (λ head. Waits (S.state scopes.old) (S.state scopes.new) head) }
     ensures told { WhereTold (S.state scopes.old).frame (λ made.
-        WhereKnown result (λ given. let c = context_of (S.state scopes.old).frame made site.now in judged c given ≡ spec_cap c at x)) }
+        WhereKnown result (λ given. let c = context_of (S.state scopes.old).frame made site.now in
+        judged c given ≡ spec_cap c at x)) }
     ensures there { WhereKnown result (λ given. IfOk given (λ operand. IsOperand (S.state scopes.old).frame operand)) }
 {
     if is_bad(x) {
@@ -344,7 +365,8 @@ pub fn chr_of<S: Scopes>(
     ensures reads { Reads (S.state scopes.old) (S.state scopes.new) }
     ensures waits { WhereWaiting result (λ head. Waits (S.state scopes.old) (S.state scopes.new) head) }
     ensures told { WhereTold (S.state scopes.old).frame (λ made.
-        WhereKnown result (λ given. let c = context_of (S.state scopes.old).frame made site.now in judged c given ≡ spec_chr c at x)) }
+        WhereKnown result (λ given. let c = context_of (S.state scopes.old).frame made site.now in
+        judged c given ≡ spec_chr c at x)) }
     ensures there { WhereKnown result (λ given. IfOk given (λ operand. IsOperand (S.state scopes.old).frame operand)) }
 {
     match known!(number_argument(scopes, site, at, x)) {
@@ -379,7 +401,8 @@ pub fn odd_of<S: Scopes>(
     ensures reads { Reads (S.state scopes.old) (S.state scopes.new) }
     ensures waits { WhereWaiting result (λ head. Waits (S.state scopes.old) (S.state scopes.new) head) }
     ensures told { WhereTold (S.state scopes.old).frame (λ made.
-        WhereKnown result (λ given. let c = context_of (S.state scopes.old).frame made site.now in judged c given ≡ spec_odd c at x)) }
+        WhereKnown result (λ given. let c = context_of (S.state scopes.old).frame made site.now in
+        judged c given ≡ spec_odd c at x)) }
     ensures there { WhereKnown result (λ given. IfOk given (λ operand. IsOperand (S.state scopes.old).frame operand)) }
 {
     match known!(number_argument(scopes, site, at, x)) {
@@ -389,7 +412,8 @@ pub fn odd_of<S: Scopes>(
 }
 
 /// Judges ORD(x), "ordinal number (of type CARDINAL) of x", for an `x` whose first token is `at`; a string of one
-/// character is a CHAR. What isn't of an ordinal type is a fault, and so is a negative constant. It waits for the type.
+/// character is a CHAR. What isn't of an ordinal type is a fault, and so is a negative constant.
+/// It waits for the type.
 #[tactic(auto, using(type_rules::proofs::Reading::reading, crate::proofs::TypesThere::there))]
 pub fn ord_of<S: Scopes>(
     scopes: &mut S,
@@ -402,7 +426,8 @@ pub fn ord_of<S: Scopes>(
     ensures reads { Reads (S.state scopes.old) (S.state scopes.new) }
     ensures waits { WhereWaiting result (λ head. Waits (S.state scopes.old) (S.state scopes.new) head) }
     ensures told { WhereTold (S.state scopes.old).frame (λ made.
-        WhereKnown result (λ given. let c = context_of (S.state scopes.old).frame made site.now in judged c given ≡ spec_ord c at x)) }
+        WhereKnown result (λ given. let c = context_of (S.state scopes.old).frame made site.now in
+        judged c given ≡ spec_ord c at x)) }
     ensures there { WhereKnown result (λ given. IfOk given (λ operand. IsOperand (S.state scopes.old).frame operand)) }
 {
     match known!(ordinal_argument(scopes, site, at, x)) {
@@ -426,7 +451,8 @@ fn val_as<S: Scopes>(
     ensures reads { Reads (S.state scopes.old) (S.state scopes.new) }
     ensures waits { WhereWaiting result (λ head. Waits (S.state scopes.old) (S.state scopes.new) head) }
     ensures told { WhereTold (S.state scopes.old).frame (λ made.
-        WhereKnown result (λ given. let c = context_of (S.state scopes.old).frame made site.now in judged c given ≡ spec_val_as c at of x)) }
+        WhereKnown result (λ given. let c = context_of (S.state scopes.old).frame made site.now in
+        judged c given ≡ spec_val_as c at of x)) }
     ensures there { WhereKnown result (λ given. IfOk given (λ operand. IsOperand (S.state scopes.old).frame operand)) }
 {
     let broken = known!(is_broken(scopes, site.around, of));
@@ -452,7 +478,8 @@ pub fn val_of<S: Scopes>(
     ensures reads { Reads (S.state scopes.old) (S.state scopes.new) }
     ensures waits { WhereWaiting result (λ head. Waits (S.state scopes.old) (S.state scopes.new) head) }
     ensures told { WhereTold (S.state scopes.old).frame (λ made.
-        WhereKnown result (λ given. let c = context_of (S.state scopes.old).frame made site.now in judged c given ≡ and_then (spec_ordinal_argument c at x) (λ x. spec_val_as c at of x))) }
+        WhereKnown result (λ given. let c = context_of (S.state scopes.old).frame made site.now in
+        judged c given ≡ and_then (spec_ordinal_argument c at x) (λ x. spec_val_as c at of x))) }
     ensures there { WhereKnown result (λ given. IfOk given (λ operand. IsOperand (S.state scopes.old).frame operand)) }
 {
     match known!(ordinal_argument(scopes, site, at, x)) {

@@ -2,8 +2,8 @@
 //!
 //! The answer is the definition's (`m2_base`'s `specs/Statics/Constants`), or that it isn't known yet. What operators
 //! and standard functions give of operands is judged first: a judgement is the operand, or a fault at a token
-//! (`specs/Judgements`). It stands on the questions of `type_rules`, and its clauses have their names: `told` says that
-//! the answer is the definition's, `waits` of which scope it isn't known yet, `reads` what stays as before.
+//! (`specs/Judgements`). It stands on the questions of `type_rules`, and its clauses have their names: `told` says
+//! that the answer is the definition's, `waits` of which scope it isn't known yet, `reads` what stays as before.
 //!
 //! What judges notes nothing: `apply_one`, `operate`, `element_of`, `set_type_of`, and each standard function by its
 //! name. What is handed the notes makes a diagnostic of the fault, and an operand in error: `applied_one`, `operated`,

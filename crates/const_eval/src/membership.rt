@@ -8,7 +8,9 @@ ghost use Rattle.m2_base.specs.Statics.Contexts.{Context};
 ghost use Rattle.m2_base.specs.Gives.{and_then, gives};
 ghost use Rattle.m2_base.specs.Statics.Compatible.{is_compatible, taken_beside as spec_taken};
 ghost use Rattle.m2_base.specs.Statics.Operands.{operand_type as spec_operand_type};
-ghost use Rattle.m2_base.specs.Statics.Operations.{as_number as spec_as_number, is_ordinal as spec_ordinal, member_of_set as spec_member, membership as spec_membership, membership_in as spec_membership_in};
+ghost use Rattle.m2_base.specs.Statics.Operations.{as_number as spec_as_number, is_ordinal as spec_ordinal};
+ghost use Rattle.m2_base.specs.Statics.Operations.{member_of_set as spec_member, membership as spec_membership};
+ghost use Rattle.m2_base.specs.Statics.Operations.{membership_in as spec_membership_in};
 ghost use Rattle.m2_base.specs.Statics.Types.{base_of as spec_base, kind_of};
 ghost use Rattle.const_eval.specs.Judgements.{judged};
 ghost use Rattle.const_eval.specs.Sites.{IsOperand};
@@ -33,7 +35,8 @@ fn kept_if(holds: bool, x: Operand) -> Option<Operand>
     if holds { Some(x) } else { None }
 }
 
-/// An operand as it is taken beside a set's base, where it is compatible with that and ordinal. `whole` is the base of that base.
+/// An operand as it is taken beside a set's base, where it is compatible with that and ordinal.
+/// `whole` is the base of that base.
 #[tactic(auto, using(type_rules::proofs::Reading::reading, crate::proofs::TypesThere::there))]
 fn ordinal_element<S: Scopes>(
     scopes: &mut S,
@@ -48,8 +51,11 @@ fn ordinal_element<S: Scopes>(
     ensures reads { Reads (S.state scopes.old) (S.state scopes.new) }
     ensures waits { WhereWaiting result (λ head. Waits (S.state scopes.old) (S.state scopes.new) head) }
     ensures told { WhereTold (S.state scopes.old).frame (λ made.
-        WhereKnown result (λ given. let c = context_of (S.state scopes.old).frame made site.now in whole ≡ spec_base c.scene base → given ≡ (let element = spec_taken c.source c.scene x (Operand.Computed base) in if is_compatible c.scene x (Operand.Computed base) && spec_ordinal c element then Some element else None))) }
-    ensures there { WhereKnown result (λ given. IfSome given (λ element. IsOperand (S.state scopes.old).frame element)) }
+        WhereKnown result (λ given. let c = context_of (S.state scopes.old).frame made site.now in whole
+        ≡ spec_base c.scene base → given ≡ (let element = spec_taken c.source c.scene x (Operand.Computed base) in
+        if is_compatible c.scene x (Operand.Computed base) && spec_ordinal c element then Some element else None))) }
+    ensures there { WhereKnown result
+        (λ given. IfSome given (λ element. IsOperand (S.state scopes.old).frame element)) }
 {
     let around = site.around;
     let beside = Operand::Computed(base);
@@ -65,8 +71,10 @@ fn ordinal_element<S: Scopes>(
 
 /// Whether an ordinal is in a set whose base has this base.
 fn member(x_at: u32, whole: Place, element: Operand, y: Operand) -> Result<Operand, Fault>
-    ensures told { (c : Context) → HasStandardRows c → judged c result ≡ and_then (spec_as_number c x_at whole element) (λ e. gives (spec_member e y)) }
-    ensures there { (f : Frame) → IsThere f whole → IsThere f boolean → IsOperand f element → IfOk result (λ operand. IsOperand f operand) }
+    ensures told { (c : Context) → HasStandardRows c
+        → judged c result ≡ and_then (spec_as_number c x_at whole element) (λ e. gives (spec_member e y)) }
+    ensures there { (f : Frame) → IsThere f whole → IsThere f boolean → IsOperand f element
+        → IfOk result (λ operand. IsOperand f operand) }
 {
     match as_number(x_at, whole, element) {
         Ok(element) => Ok(member_of_set(element, y)),
@@ -96,7 +104,8 @@ fn membership_in<S: Scopes>(
     ensures reads { Reads (S.state scopes.old) (S.state scopes.new) }
     ensures waits { WhereWaiting result (λ head. Waits (S.state scopes.old) (S.state scopes.new) head) }
     ensures told { WhereTold (S.state scopes.old).frame (λ made.
-        WhereKnown result (λ given. let c = context_of (S.state scopes.old).frame made site.now in judged c given ≡ spec_membership_in c operator_at x.operand x.at of.set of.base)) }
+        WhereKnown result (λ given. let c = context_of (S.state scopes.old).frame made site.now in
+        judged c given ≡ spec_membership_in c operator_at x.operand x.at of.set of.base)) }
     ensures there { WhereKnown result (λ given. IfOk given (λ operand. IsOperand (S.state scopes.old).frame operand)) }
 {
     let (stood, meaning) = known!(stand(scopes, site.around, of.base));
@@ -125,7 +134,8 @@ pub(crate) fn membership<S: Scopes>(
     ensures reads { Reads (S.state scopes.old) (S.state scopes.new) }
     ensures waits { WhereWaiting result (λ head. Waits (S.state scopes.old) (S.state scopes.new) head) }
     ensures told { WhereTold (S.state scopes.old).frame (λ made.
-        WhereKnown result (λ given. let c = context_of (S.state scopes.old).frame made site.now in judged c given ≡ spec_membership c operator_at x.operand x.at y (kind_of c.scene (spec_operand_type y)))) }
+        WhereKnown result (λ given. let c = context_of (S.state scopes.old).frame made site.now in
+        judged c given ≡ spec_membership c operator_at x.operand x.at y (kind_of c.scene (spec_operand_type y)))) }
     ensures there { WhereKnown result (λ given. IfOk given (λ operand. IsOperand (S.state scopes.old).frame operand)) }
 {
     match known!(set_row(scopes, site.around, operand_type(&y))) {

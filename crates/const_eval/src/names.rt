@@ -5,7 +5,9 @@ ghost use Rattle.m2_base.specs.Rows.{is_same_place, natural as spec_natural, row
 ghost use Rattle.m2_base.specs.Standard.{text_type};
 ghost use Rattle.m2_base.specs.States.{Waits, fills_of};
 ghost use Rattle.m2_base.specs.Statics.Constants.{in_constant as spec_in_constant, name_operand as spec_name};
-ghost use Rattle.m2_base.specs.Statics.NamedOperands.{is_in_error as spec_in_error, is_open_of_broken as spec_open_of_broken, operand_by, operand_of_use};
+ghost use Rattle.m2_base.specs.Statics.NamedOperands.{is_in_error as spec_in_error};
+ghost use Rattle.m2_base.specs.Statics.NamedOperands.{is_open_of_broken as spec_open_of_broken, operand_by};
+ghost use Rattle.m2_base.specs.Statics.NamedOperands.{operand_of_use};
 ghost use Rattle.m2_base.specs.Statics.Types.{is_broken as spec_broken, kind_of};
 ghost use Rattle.const_eval.specs.Analyses.{Analysed};
 ghost use Rattle.const_eval.specs.Sites.{IsOperand};
@@ -28,7 +30,8 @@ fn is_open_of_broken<S: Scopes>(scopes: &mut S, around: &Around, of: Place) -> A
     ensures reads { Reads (S.state scopes.old) (S.state scopes.new) }
     ensures waits { WhereWaiting result (λ head. Waits (S.state scopes.old) (S.state scopes.new) head) }
     ensures told { WhereTold (S.state scopes.old).frame (λ made.
-        WhereKnown result (λ holds. let scene = scene_of (S.state scopes.old).frame made around.now in holds ≡ spec_open_of_broken scene (kind_of scene of))) }
+        WhereKnown result (λ holds. let scene = scene_of (S.state scopes.old).frame made around.now in
+        holds ≡ spec_open_of_broken scene (kind_of scene of))) }
 {
     let (_, meaning) = known!(stand(scopes, around, of));
     match meaning {
@@ -57,7 +60,8 @@ pub fn is_in_error<S: Scopes>(scopes: &mut S, around: &Around, of: Place) -> Ask
 /// The operand of a constant's row whose type isn't in error: one of the type of strings is a string.
 fn constant_operand(of: Place, value: i64, length: u32) -> Operand
     requires { of ≡ text_type → spec_natural value < 2 ^ 32 }
-    ensures { result ≡ (if is_same_place of text_type then Operand.StringConstant (spec_natural value) length else Operand.Constant of value) }
+    ensures { result ≡ (if is_same_place of text_type then Operand.StringConstant (spec_natural value) length
+        else Operand.Constant of value) }
 {
     if of != TEXT {
         return Operand::Constant(of, value);
@@ -80,7 +84,8 @@ fn unless_broken<S: Scopes>(
     ensures reads { Reads (S.state scopes.old) (S.state scopes.new) }
     ensures waits { WhereWaiting result (λ head. Waits (S.state scopes.old) (S.state scopes.new) head) }
     ensures told { WhereTold (S.state scopes.old).frame (λ made.
-        WhereKnown result (λ given. given ≡ (if spec_broken (scene_of (S.state scopes.old).frame made around.now) of then Operand.InError else operand))) }
+        WhereKnown result (λ given. given ≡ (if spec_broken (scene_of (S.state scopes.old).frame made around.now)
+        of then Operand.InError else operand))) }
     ensures there { WhereKnown result (λ given. IsOperand (S.state scopes.old).frame given) }
 {
     if known!(is_broken(scopes, around, of)) {
@@ -98,7 +103,8 @@ fn variable<S: Scopes>(scopes: &mut S, around: &Around, of: Place) -> Ask<Operan
     ensures reads { Reads (S.state scopes.old) (S.state scopes.new) }
     ensures waits { WhereWaiting result (λ head. Waits (S.state scopes.old) (S.state scopes.new) head) }
     ensures told { WhereTold (S.state scopes.old).frame (λ made.
-        WhereKnown result (λ given. given ≡ (if spec_in_error (scene_of (S.state scopes.old).frame made around.now) of then Operand.InError else Operand.Variable of))) }
+        WhereKnown result (λ given. given ≡ (if spec_in_error (scene_of (S.state scopes.old).frame made around.now)
+        of then Operand.InError else Operand.Variable of))) }
     ensures there { WhereKnown result (λ given. IsOperand (S.state scopes.old).frame given) }
 {
     if known!(is_in_error(scopes, around, of)) {
@@ -122,7 +128,8 @@ pub fn operand_of<S: Scopes>(
     ensures reads { Reads (S.state scopes.old) (S.state scopes.new) }
     ensures waits { WhereWaiting result (λ head. Waits (S.state scopes.old) (S.state scopes.new) head) }
     ensures told { WhereTold (S.state scopes.old).frame (λ made.
-        WhereKnown result (λ given. given ≡ operand_by (scene_of (S.state scopes.old).frame made around.now) row.name (row_meaning row))) }
+        WhereKnown result (λ given.
+        given ≡ operand_by (scene_of (S.state scopes.old).frame made around.now) row.name (row_meaning row))) }
     ensures there { WhereKnown result (λ given. IsOperand (S.state scopes.old).frame given) }
 {
     let _place = place.scope;
@@ -153,7 +160,8 @@ fn bound_operand<S: Scopes>(
     ensures reads { Reads (S.state scopes.old) (S.state scopes.new) }
     ensures waits { WhereWaiting result (λ head. Waits (S.state scopes.old) (S.state scopes.new) head) }
     ensures told { WhereTold (S.state scopes.old).frame (λ made.
-        WhereKnown result (λ given. given ≡ spec_in_constant (operand_of_use (scene_of (S.state scopes.old).frame made around.now) bound))) }
+        WhereKnown result (λ given.
+        given ≡ spec_in_constant (operand_of_use (scene_of (S.state scopes.old).frame made around.now) bound))) }
     ensures there { WhereKnown result (λ given. IsOperand (S.state scopes.old).frame given) }
 {
     match bound {
@@ -165,8 +173,8 @@ fn bound_operand<S: Scopes>(
     }
 }
 
-/// What a name stands for in a constant; `within` is the scope of the module before its point, if there is one. Its use
-/// is noted, or refused, and in error then; a variable is no constant. It waits for the name and its type.
+/// What a name stands for in a constant; `within` is the scope of the module before its point, if there is one. Its
+/// use is noted, or refused, and in error then; a variable is no constant. It waits for the name and its type.
 pub fn name_operand<S: Scopes>(
     scopes: &mut S,
     site: &Site,
@@ -177,7 +185,8 @@ pub fn name_operand<S: Scopes>(
     requires suits { SuitsSite (S.state scopes.old).frame site.now }
     requires within { IfSome within (λ scope. scope < fills_of (S.state scopes.old)) }
     requires named { ident.name ≢ 0 }
-    ensures { Analysed (S.state scopes.old) (S.state scopes.new) notes.old notes.new site.now result IsOperand (λ c. spec_name c within ident) }
+    ensures { Analysed (S.state scopes.old) (S.state scopes.new) notes.old notes.new site.now result IsOperand
+        (λ c. spec_name c within ident) }
 {
     let bound = analysed!(use_name(scopes, site, within, ident.name, ident.at, notes));
     Ok(bound_operand(scopes, site.around, bound))

@@ -21,7 +21,8 @@ use type_rules::BROKEN;
 /// Notes a fault in this text.
 fn refuse(text: u32, fault: Fault, notes: &mut Notes) -> Result<(), Memory>
     ensures answers { notes.new.answers.items ≡ notes.old.answers.items }
-    ensures noted { IfOk result (λ _. notes.new.diags.items ≡ notes.old.diags.items ++ record { text = text; at = fault.at; code = code_of fault.kind } ∷ []) }
+    ensures noted { IfOk result (λ _. notes.new.diags.items
+        ≡ notes.old.diags.items ++ record { text = text; at = fault.at; code = code_of fault.kind } ∷ []) }
     ensures kept { OnErr result (notes.new.diags.items ≡ notes.old.diags.items) }
 {
     notes.refuse(text, fault.at, fault.kind)
@@ -37,8 +38,11 @@ pub fn note(
     ensures answers { notes.new.answers.items ≡ notes.old.answers.items }
     ensures diags { IsPrefixOf notes.old.diags.items notes.new.diags.items }
     ensures waits { IfWaits result (λ head. asked ≡ asks.DontKnowYet head) }
-    ensures there { (f : Frame) → WhereKnown asked (λ judgement. IfOk judgement (λ operand. IsOperand f operand)) → IfKnown result (λ operand. IsOperand f operand) }
-    ensures told { (c : Context) (given : Gives Operand) → c.scene.block.text ≡ text → WhereKnown asked (λ judgement. judged c judgement ≡ given) → IfKnown result (λ operand. Adds notes.old notes.new given operand) }
+    ensures there { (f : Frame) → WhereKnown asked (λ judgement. IfOk judgement (λ operand. IsOperand f operand))
+        → IfKnown result (λ operand. IsOperand f operand) }
+    ensures told { (c : Context) (given : Gives Operand) → c.scene.block.text ≡ text
+        → WhereKnown asked (λ judgement. judged c judgement ≡ given)
+        → IfKnown result (λ operand. Adds notes.old notes.new given operand) }
 {
     match asked {
         Ask::Known(Ok(operand)) => Ok(Ask::Known(operand)),
@@ -60,8 +64,11 @@ pub fn note_type(
     ensures answers { notes.new.answers.items ≡ notes.old.answers.items }
     ensures diags { IsPrefixOf notes.old.diags.items notes.new.diags.items }
     ensures waits { IfWaits result (λ head. asked ≡ asks.DontKnowYet head) }
-    ensures there { (f : Frame) → IsThere f broken → WhereKnown asked (λ judgement. IfOk judgement (λ of. IsThere f of)) → IfKnown result (λ of. IsThere f of) }
-    ensures told { (c : Context) (given : Gives Spot) → c.scene.block.text ≡ text → WhereKnown asked (λ judgement. judged_or c broken judgement ≡ given) → IfKnown result (λ of. Adds notes.old notes.new given of) }
+    ensures there { (f : Frame) → IsThere f broken
+        → WhereKnown asked (λ judgement. IfOk judgement (λ of. IsThere f of)) → IfKnown result (λ of. IsThere f of) }
+    ensures told { (c : Context) (given : Gives Spot) → c.scene.block.text ≡ text
+        → WhereKnown asked (λ judgement. judged_or c broken judgement ≡ given)
+        → IfKnown result (λ of. Adds notes.old notes.new given of) }
 {
     match asked {
         Ask::Known(Ok(of)) => Ok(Ask::Known(of)),

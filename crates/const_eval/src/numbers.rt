@@ -4,8 +4,14 @@ ghost use Rattle.m2_base.specs.Lists.{WhereKept};
 ghost use Rattle.m2_base.specs.Rows.{IsValue};
 ghost use Rattle.m2_base.specs.States.{Frame};
 ghost use Rattle.m2_base.specs.Statics.Contexts.{Context};
-ghost use Rattle.m2_base.specs.Statics.Folding.{is_arithmetic as spec_arithmetic, is_equality as spec_equality, number_kind as spec_kind, number_type as spec_type, where_in};
-ghost use Rattle.m2_base.specs.Statics.Operations.{apply_one_by, base_type, compares_sets as spec_compares_sets, folded as spec_folded, gives_result, makes_set as spec_makes_set, is_member as spec_is_member, member_of_set as spec_member, number_operation as spec_number_operation, signed as spec_signed, set_operation as spec_set_operation, negated as spec_negated, with_sign as spec_with_sign};
+ghost use Rattle.m2_base.specs.Statics.Folding.{is_arithmetic as spec_arithmetic, is_equality as spec_equality};
+ghost use Rattle.m2_base.specs.Statics.Folding.{number_kind as spec_kind, number_type as spec_type, where_in};
+ghost use Rattle.m2_base.specs.Statics.Operations.{apply_one_by, base_type, compares_sets as spec_compares_sets};
+ghost use Rattle.m2_base.specs.Statics.Operations.{folded as spec_folded, gives_result, makes_set as spec_makes_set};
+ghost use Rattle.m2_base.specs.Statics.Operations.{is_member as spec_is_member, member_of_set as spec_member};
+ghost use Rattle.m2_base.specs.Statics.Operations.{number_operation as spec_number_operation, signed as spec_signed};
+ghost use Rattle.m2_base.specs.Statics.Operations.{set_operation as spec_set_operation, negated as spec_negated};
+ghost use Rattle.m2_base.specs.Statics.Operations.{with_sign as spec_with_sign};
 ghost use Rattle.m2_base.specs.Standard.{boolean, cardinal, integer, whole};
 ghost use Rattle.m2_base.specs.Statics.Ranges.{range};
 ghost use Rattle.m2_base.proofs.SoundOperands.{AreValues};
@@ -128,7 +134,8 @@ pub(crate) fn set_operation(
     y: Operand,
 ) -> Result<Operand, Fault>
     ensures told { (c : Context) → judged c result ≡ spec_set_operation c operator.operator operator.at x y }
-    ensures there { (f : Frame) → IsThere f (spec_operand_type x) → IsThere f boolean → IfOk result (λ operand. IsOperand f operand) }
+    ensures there { (f : Frame) → IsThere f (spec_operand_type x) → IsThere f boolean
+        → IfOk result (λ operand. IsOperand f operand) }
 {
     if makes_set(operator.operator) {
         return combined(operator, FoldKind::Set, operand_type(&x), x, y);
@@ -147,8 +154,10 @@ pub(crate) fn number_operation(
     x: Operand,
     y: Operand,
 ) -> Result<Operand, Fault>
-    ensures told { (c : Context) → base ≡ base_type c x → judged c result ≡ spec_number_operation c operator.operator operator.at x y }
-    ensures there { (f : Frame) → IsThere f integer → IsThere f cardinal → IsThere f whole → IsThere f boolean → IfOk result (λ operand. IsOperand f operand) }
+    ensures told { (c : Context) → base ≡ base_type c x
+        → judged c result ≡ spec_number_operation c operator.operator operator.at x y }
+    ensures there { (f : Frame) → IsThere f integer → IsThere f cardinal → IsThere f whole → IsThere f boolean
+        → IfOk result (λ operand. IsOperand f operand) }
 {
     let kind = number_kind(base);
     if is_arithmetic(operator.operator) {
@@ -197,7 +206,8 @@ fn with_sign(
     operand: Operand,
 ) -> Result<Operand, Fault>
     requires { AreValues (range low high) }
-    ensures told { (c : Context) → judged c result ≡ spec_with_sign c operator.operator operator.at of (range low high) operand }
+    ensures told { (c : Context)
+        → judged c result ≡ spec_with_sign c operator.operator operator.at of (range low high) operand }
     ensures there { (f : Frame) → IsThere f of → IfOk result (λ operand. IsOperand f operand) }
 {
     match operand {
@@ -217,8 +227,10 @@ pub(crate) fn applied(
     base: Place,
     operand: Operand,
 ) -> Result<Operand, Fault>
-    ensures told { (c : Context) → base ≡ base_type c operand → judged c result ≡ apply_one_by c operator.operator operator.at operand }
-    ensures there { (f : Frame) → IsThere f integer → IsThere f whole → IsThere f boolean → IfOk result (λ operand. IsOperand f operand) }
+    ensures told { (c : Context) → base ≡ base_type c operand
+        → judged c result ≡ apply_one_by c operator.operator operator.at operand }
+    ensures there { (f : Frame) → IsThere f integer → IsThere f whole → IsThere f boolean
+        → IfOk result (λ operand. IsOperand f operand) }
 {
     match operator.operator {
         Operator::Not if base == BOOLEAN => Ok(negated(operand)),

@@ -1,7 +1,9 @@
 //! What operands are, and their constants.
 ghost use Rattle.std.specs.Prelude.{◌≡◌, pos};
 ghost use Rattle.m2_base.specs.Statics.Contexts.{Source};
-ghost use Rattle.m2_base.specs.Statics.Operands.{first_of, is_bad as spec_bad, is_procedure as spec_procedure, constant_of_operand, worse as spec_worse, as_char as spec_as_char, char_or_same as spec_char_or_same};
+ghost use Rattle.m2_base.specs.Statics.Operands.{first_of, is_bad as spec_bad, is_procedure as spec_procedure};
+ghost use Rattle.m2_base.specs.Statics.Operands.{constant_of_operand, worse as spec_worse, as_char as spec_as_char};
+ghost use Rattle.m2_base.specs.Statics.Operands.{char_or_same as spec_char_or_same};
 ghost use Rattle.m2_base.specs.Rows.{IsValue};
 ghost use Rattle.m2_base.specs.Standard.{character};
 ghost use Rattle.m2_base.specs.States.{Frame};

@@ -1,14 +1,22 @@
-//! What an operator gives of its operands: which it takes, the type that it gives, and the value where all are constant.
+//! What an operator gives of its operands: which it takes, the type that it gives,
+//! and the value where all are constant.
 ghost use Rattle.std.specs.Prelude.{◌≡◌, ◌||◌, ◌&&◌, IfOk, if◌then◌else◌, is_some};
 ghost use Rattle.m2_base.specs.Rows.{is_same_place};
 ghost use Rattle.m2_base.specs.Standard.{boolean, character};
 ghost use Rattle.m2_base.specs.States.{Frame, Waits};
 ghost use Rattle.m2_base.specs.Statics.Contexts.{Context};
-ghost use Rattle.m2_base.specs.Statics.Operands.{is_bad as spec_bad, is_procedure as spec_procedure, worse as spec_worse};
+ghost use Rattle.m2_base.specs.Statics.Operands.{is_bad as spec_bad, is_procedure as spec_procedure};
+ghost use Rattle.m2_base.specs.Statics.Operands.{worse as spec_worse};
 ghost use Rattle.m2_base.specs.Gives.{Gives, gives};
-ghost use Rattle.m2_base.specs.Statics.Compatible.{is_compatible, is_number_type, is_pointer_kind, taken_beside as spec_taken};
-ghost use Rattle.m2_base.specs.Statics.Folding.{is_arithmetic as spec_arithmetic, is_equality as spec_equality, is_relation as spec_relation};
-ghost use Rattle.m2_base.specs.Statics.Operations.{apply_one as spec_apply_one, logical as spec_logical, on_numbers as spec_on_numbers, on_scalars as spec_on_scalars, on_compatible as spec_on_compatible, on_alike as spec_on_alike, operate as spec_operate, operate_by as spec_operate_by, wrong as spec_wrong};
+ghost use Rattle.m2_base.specs.Statics.Compatible.{is_compatible, is_number_type, is_pointer_kind};
+ghost use Rattle.m2_base.specs.Statics.Compatible.{taken_beside as spec_taken};
+ghost use Rattle.m2_base.specs.Statics.Folding.{is_arithmetic as spec_arithmetic, is_equality as spec_equality};
+ghost use Rattle.m2_base.specs.Statics.Folding.{is_relation as spec_relation};
+ghost use Rattle.m2_base.specs.Statics.Operations.{apply_one as spec_apply_one, logical as spec_logical};
+ghost use Rattle.m2_base.specs.Statics.Operations.{on_numbers as spec_on_numbers, on_scalars as spec_on_scalars};
+ghost use Rattle.m2_base.specs.Statics.Operations.{on_compatible as spec_on_compatible, on_alike as spec_on_alike};
+ghost use Rattle.m2_base.specs.Statics.Operations.{operate as spec_operate, operate_by as spec_operate_by};
+ghost use Rattle.m2_base.specs.Statics.Operations.{wrong as spec_wrong};
 ghost use Rattle.m2_base.specs.Statics.Types.{base_by as spec_base_by, kind_of, range_by as spec_range_by};
 ghost use Rattle.m2_base.specs.declared.sites.Around.{Around as Surroundings};
 ghost use Rattle.std.specs.Option.{IfSome};
@@ -94,7 +102,8 @@ pub fn apply_one<S: Scopes>(
     ensures reads { Reads (S.state scopes.old) (S.state scopes.new) }
     ensures waits { WhereWaiting result (λ head. Waits (S.state scopes.old) (S.state scopes.new) head) }
     ensures told { WhereTold (S.state scopes.old).frame (λ made.
-        WhereKnown result (λ given. let c = context_of (S.state scopes.old).frame made site.now in judged c given ≡ spec_apply_one c operator.operator operator.at operand)) }
+        WhereKnown result (λ given. let c = context_of (S.state scopes.old).frame made site.now in
+        judged c given ≡ spec_apply_one c operator.operator operator.at operand)) }
     ensures there { WhereKnown result (λ given. IfOk given (λ operand. IsOperand (S.state scopes.old).frame operand)) }
 {
     if is_bad(operand) {
@@ -119,7 +128,8 @@ fn logical<S: Scopes>(
     ensures reads { Reads (S.state scopes.old) (S.state scopes.new) }
     ensures waits { WhereWaiting result (λ head. Waits (S.state scopes.old) (S.state scopes.new) head) }
     ensures told { WhereTold (S.state scopes.old).frame (λ made.
-        WhereKnown result (λ given. let c = context_of (S.state scopes.old).frame made site.now in judged c given ≡ spec_logical c operator.operator operator.at x y)) }
+        WhereKnown result (λ given. let c = context_of (S.state scopes.old).frame made site.now in
+        judged c given ≡ spec_logical c operator.operator operator.at x y)) }
     ensures there { WhereKnown result (λ given. IfOk given (λ operand. IsOperand (S.state scopes.old).frame operand)) }
 {
     let (left, right) = known!(bases_of(scopes, site.around, operand_type(&x), operand_type(&y)));
@@ -153,8 +163,10 @@ fn with_base(x: Argument, stood: Place, meaning: RowMeaning) -> Based
 fn taken(names: &Names, x: Based, y: Based) -> Based
     requires { IsNamed names.now x.operand }
     ensures at { result.at ≡ x.at }
-    ensures told { (c : Context) → c.source.spellings ≡ names.now → IsBased c y → result.operand ≡ spec_taken c.source c.scene x.operand y.operand }
-    ensures based { (c : Context) → c.source.spellings ≡ names.now → HasStandardRows c → IsBased c x → IsBased c y → IsBased c result }
+    ensures told { (c : Context) → c.source.spellings ≡ names.now → IsBased c y
+        → result.operand ≡ spec_taken c.source c.scene x.operand y.operand }
+    ensures based { (c : Context) → c.source.spellings ≡ names.now → HasStandardRows c → IsBased c x → IsBased c y
+        → IsBased c result }
     ensures there { (f : Frame) → IsThere f character → IsBasedHere f x → IsBasedHere f result }
 {
     Based {
@@ -166,8 +178,10 @@ fn taken(names: &Names, x: Based, y: Based) -> Based
 
 /// Two numbers, of which a whole constant takes the other's base.
 fn on_numbers(operator: PlacedOperator, x: Based, y: Based) -> Result<Operand, Fault>
-    ensures told { (c : Context) → HasStandardRows c → IsBased c x → IsBased c y → judged c result ≡ spec_on_numbers c operator.operator operator.at x.operand x.at y.operand y.at }
-    ensures there { (f : Frame) (a : Surroundings) → Suits f a → IsBasedHere f x → IsBasedHere f y → IfOk result (λ operand. IsOperand f operand) }
+    ensures told { (c : Context) → HasStandardRows c → IsBased c x → IsBased c y
+        → judged c result ≡ spec_on_numbers c operator.operator operator.at x.operand x.at y.operand y.at }
+    ensures there { (f : Frame) (a : Surroundings) → Suits f a → IsBasedHere f x → IsBasedHere f y
+        → IfOk result (λ operand. IsOperand f operand) }
 {
     if !takes_numbers(operator.operator) {
         return fault!(operator.at, WrongOperands);
@@ -206,7 +220,8 @@ fn is_pointer_row(meaning: RowMeaning) -> bool
 
 /// Whether an operator compares two scalars with bases of these rows.
 fn compares(operator: Operator, left: RowMeaning, right: RowMeaning) -> bool
-    ensures { result ≡ ((spec_relation operator && (is_some (spec_range_by left) && is_some (spec_range_by right))) || (spec_equality operator && (is_pointer_kind left || is_pointer_kind right))) }
+    ensures { result ≡ ((spec_relation operator && (is_some (spec_range_by left) && is_some (spec_range_by right)))
+        || (spec_equality operator && (is_pointer_kind left || is_pointer_kind right))) }
 {
     let ordinal = both(is_ordinal_row(left), is_ordinal_row(right));
     let pointer = either(is_pointer_row(left), is_pointer_row(right));
@@ -227,10 +242,13 @@ fn kinds_of<S: Scopes>(
     ensures reads { Reads (S.state scopes.old) (S.state scopes.new) }
     ensures waits { WhereWaiting result (λ head. Waits (S.state scopes.old) (S.state scopes.new) head) }
     ensures left { WhereTold (S.state scopes.old).frame (λ made.
-        WhereKnown result (λ kinds. kinds.0 ≡ kind_of (scene_of (S.state scopes.old).frame made site.now.around.now) left)) }
+        WhereKnown result
+        (λ kinds. kinds.0 ≡ kind_of (scene_of (S.state scopes.old).frame made site.now.around.now) left)) }
     ensures right { WhereTold (S.state scopes.old).frame (λ made.
-        WhereKnown result (λ kinds. kinds.1 ≡ kind_of (scene_of (S.state scopes.old).frame made site.now.around.now) right)) }
-    ensures stops { WhereWaiting result (λ head. StopsAtEither (S.state scopes.new) site.now.around.now left right head) }
+        WhereKnown result
+        (λ kinds. kinds.1 ≡ kind_of (scene_of (S.state scopes.old).frame made site.now.around.now) right)) }
+    ensures stops { WhereWaiting result
+        (λ head. StopsAtEither (S.state scopes.new) site.now.around.now left right head) }
 {
     let (_, first) = known!(stand(scopes, site.around, left));
     let (_, second) = known!(stand(scopes, site.around, right));
@@ -252,7 +270,8 @@ fn on_scalars<S: Scopes>(
     ensures reads { Reads (S.state scopes.old) (S.state scopes.new) }
     ensures waits { WhereWaiting result (λ head. Waits (S.state scopes.old) (S.state scopes.new) head) }
     ensures told { WhereTold (S.state scopes.old).frame (λ made.
-        WhereKnown result (λ given. let c = context_of (S.state scopes.old).frame made site.now in IsBased c x → IsBased c y → judged c given ≡ spec_on_scalars c operator.operator operator.at x.operand y.operand)) }
+        WhereKnown result (λ given. let c = context_of (S.state scopes.old).frame made site.now in IsBased c x
+        → IsBased c y → judged c given ≡ spec_on_scalars c operator.operator operator.at x.operand y.operand)) }
     ensures there { WhereKnown result (λ given. IfOk given (λ operand. IsOperand (S.state scopes.old).frame operand)) }
 {
     let (left, right) = known!(kinds_of(scopes, site, x.base, y.base));
@@ -279,7 +298,9 @@ fn on_compatible<S: Scopes>(
     ensures reads { Reads (S.state scopes.old) (S.state scopes.new) }
     ensures waits { WhereWaiting result (λ head. Waits (S.state scopes.old) (S.state scopes.new) head) }
     ensures told { WhereTold (S.state scopes.old).frame (λ made.
-        WhereKnown result (λ given. let c = context_of (S.state scopes.old).frame made site.now in IsBased c x → IsBased c y → judged c given ≡ spec_on_compatible c operator.operator operator.at x.operand x.at y.operand y.at)) }
+        WhereKnown result (λ given. let c = context_of (S.state scopes.old).frame made site.now in
+        IsBased c x → IsBased c y
+        → judged c given ≡ spec_on_compatible c operator.operator operator.at x.operand x.at y.operand y.at)) }
     ensures there { WhereKnown result (λ given. IfOk given (λ operand. IsOperand (S.state scopes.old).frame operand)) }
 {
     if are_numbers(x.base, y.base) {
@@ -304,7 +325,10 @@ fn on_values<S: Scopes>(
     ensures reads { Reads (S.state scopes.old) (S.state scopes.new) }
     ensures waits { WhereWaiting result (λ head. Waits (S.state scopes.old) (S.state scopes.new) head) }
     ensures told { WhereTold (S.state scopes.old).frame (λ made.
-        WhereKnown result (λ given. let c = context_of (S.state scopes.old).frame made site.now in IsBased c x → IsBased c y → judged c given ≡ (if is_compatible c.scene x.operand y.operand then spec_on_compatible c operator.operator operator.at (spec_taken c.source c.scene x.operand y.operand) x.at (spec_taken c.source c.scene y.operand x.operand) y.at else spec_wrong c operator.at))) }
+        WhereKnown result (λ given. let c = context_of (S.state scopes.old).frame made site.now in
+        IsBased c x → IsBased c y → judged c given ≡ (if is_compatible c.scene x.operand y.operand then
+        spec_on_compatible c operator.operator operator.at (spec_taken c.source c.scene x.operand y.operand) x.at
+        (spec_taken c.source c.scene y.operand x.operand) y.at else spec_wrong c operator.at))) }
     ensures there { WhereKnown result (λ given. IfOk given (λ operand. IsOperand (S.state scopes.old).frame operand)) }
 {
     let around = site.around;
@@ -339,7 +363,8 @@ fn on_alike<S: Scopes>(
     ensures reads { Reads (S.state scopes.old) (S.state scopes.new) }
     ensures waits { WhereWaiting result (λ head. Waits (S.state scopes.old) (S.state scopes.new) head) }
     ensures told { WhereTold (S.state scopes.old).frame (λ made.
-        WhereKnown result (λ given. let c = context_of (S.state scopes.old).frame made site.now in judged c given ≡ spec_on_alike c operator.operator operator.at x.operand x.at y.operand y.at)) }
+        WhereKnown result (λ given. let c = context_of (S.state scopes.old).frame made site.now in
+        judged c given ≡ spec_on_alike c operator.operator operator.at x.operand x.at y.operand y.at)) }
     ensures there { WhereKnown result (λ given. IfOk given (λ operand. IsOperand (S.state scopes.old).frame operand)) }
 {
     let left = known!(stand(scopes, site.around, operand_type(&x.operand)));
@@ -354,7 +379,8 @@ fn on_alike<S: Scopes>(
 
 /// What is given without a look at types: a bad operand gives no fault, and a procedure has no operator.
 fn settled(operator_at: u32, x: Operand, y: Operand) -> Option<Result<Operand, Fault>>
-    ensures told { (c : Context) (rest : Gives Operand) → settled_or c result rest ≡ (if spec_bad x || spec_bad y then gives (spec_worse x y) else if spec_procedure x || spec_procedure y then spec_wrong c operator_at else rest) }
+    ensures told { (c : Context) (rest : Gives Operand) → settled_or c result rest ≡ (if spec_bad x || spec_bad y then
+        gives (spec_worse x y) else if spec_procedure x || spec_procedure y then spec_wrong c operator_at else rest) }
     ensures there { (f : Frame) → IfSome result (λ judgement. IfOk judgement (λ operand. IsOperand f operand)) }
 {
     if is_bad(x) || is_bad(y) {
@@ -382,7 +408,8 @@ fn operate_by<S: Scopes>(
     ensures reads { Reads (S.state scopes.old) (S.state scopes.new) }
     ensures waits { WhereWaiting result (λ head. Waits (S.state scopes.old) (S.state scopes.new) head) }
     ensures told { WhereTold (S.state scopes.old).frame (λ made.
-        WhereKnown result (λ given. let c = context_of (S.state scopes.old).frame made site.now in judged c given ≡ spec_operate_by c operator.operator operator.at x.operand x.at y.operand y.at)) }
+        WhereKnown result (λ given. let c = context_of (S.state scopes.old).frame made site.now in
+        judged c given ≡ spec_operate_by c operator.operator operator.at x.operand x.at y.operand y.at)) }
     ensures there { WhereKnown result (λ given. IfOk given (λ operand. IsOperand (S.state scopes.old).frame operand)) }
 {
     match operator.operator {
@@ -410,7 +437,8 @@ pub fn operate<S: Scopes>(
     ensures reads { Reads (S.state scopes.old) (S.state scopes.new) }
     ensures waits { WhereWaiting result (λ head. Waits (S.state scopes.old) (S.state scopes.new) head) }
     ensures told { WhereTold (S.state scopes.old).frame (λ made.
-        WhereKnown result (λ given. let c = context_of (S.state scopes.old).frame made site.now in judged c given ≡ spec_operate c operator.operator operator.at x.operand x.at y.operand y.at)) }
+        WhereKnown result (λ given. let c = context_of (S.state scopes.old).frame made site.now in
+        judged c given ≡ spec_operate c operator.operator operator.at x.operand x.at y.operand y.at)) }
     ensures there { WhereKnown result (λ given. IfOk given (λ operand. IsOperand (S.state scopes.old).frame operand)) }
 {
     match settled(operator.at, x.operand, y.operand) {

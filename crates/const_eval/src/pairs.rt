@@ -5,9 +5,12 @@ ghost use Rattle.m2_base.specs.Rows.{is_same_place};
 ghost use Rattle.m2_base.specs.Standard.{character, whole};
 ghost use Rattle.m2_base.specs.States.{Frame, Waits};
 ghost use Rattle.m2_base.specs.Gives.{gives};
-ghost use Rattle.m2_base.specs.Statics.Compatible.{is_beside_char as spec_beside_char, is_compatible, is_integer_or_cardinal as is_number_base, taken_beside as spec_taken};
+ghost use Rattle.m2_base.specs.Statics.Compatible.{is_beside_char as spec_beside_char, is_compatible};
+ghost use Rattle.m2_base.specs.Statics.Compatible.{is_integer_or_cardinal as is_number_base};
+ghost use Rattle.m2_base.specs.Statics.Compatible.{taken_beside as spec_taken};
 ghost use Rattle.m2_base.specs.Statics.Contexts.{Context};
-ghost use Rattle.m2_base.specs.Statics.Operands.{is_one_char as spec_one_char, is_string as spec_string, operand_type as spec_operand_type};
+ghost use Rattle.m2_base.specs.Statics.Operands.{is_one_char as spec_one_char, is_string as spec_string};
+ghost use Rattle.m2_base.specs.Statics.Operands.{operand_type as spec_operand_type};
 ghost use Rattle.m2_base.specs.Statics.Operations.{as_number as spec_as_number, base_type, is_ordinal as spec_ordinal};
 ghost use Rattle.m2_base.specs.Statics.Ranges.{is_within as spec_within, range};
 ghost use Rattle.m2_base.specs.Statics.Types.{range_of as spec_range};
@@ -59,8 +62,10 @@ pub fn is_ordinal<S: Scopes>(scopes: &mut S, site: &Site, x: Operand) -> Ask<boo
     ensures reads { Reads (S.state scopes.old) (S.state scopes.new) }
     ensures waits { WhereWaiting result (λ head. Waits (S.state scopes.old) (S.state scopes.new) head) }
     ensures told { WhereTold (S.state scopes.old).frame (λ made.
-        WhereKnown result (λ given. let c = context_of (S.state scopes.old).frame made site.now in given ≡ spec_ordinal c x)) }
-    ensures stops { WhereWaiting result (λ head. StopsAtType (S.state scopes.new) site.now.around.now (spec_operand_type x) head) }
+        WhereKnown result (λ given. let c = context_of (S.state scopes.old).frame made site.now in
+        given ≡ spec_ordinal c x)) }
+    ensures stops { WhereWaiting result
+        (λ head. StopsAtType (S.state scopes.new) site.now.around.now (spec_operand_type x) head) }
 {
     let of = operand_type(&x);
     if is_whole(of) {
@@ -95,10 +100,12 @@ fn is_beside_char(x: &Operand, y: &Operand, base: Place) -> bool
     }
 }
 
-/// An operand as it is taken beside another, whose type has this base: a string of one character beside a CHAR is a CHAR.
+/// An operand as it is taken beside another, whose type has this base:
+/// a string of one character beside a CHAR is a CHAR.
 pub(crate) fn taken_beside(names: &Names, x: Operand, y: &Operand, base: Place) -> Operand
     requires { IsNamed names.now x }
-    ensures told { (c : Context) → c.source.spellings ≡ names.now → base ≡ base_type c y.now → result ≡ spec_taken c.source c.scene x y.now }
+    ensures told { (c : Context) → c.source.spellings ≡ names.now → base ≡ base_type c y.now
+        → result ≡ spec_taken c.source c.scene x y.now }
     ensures there { (f : Frame) → IsThere f character → IsOperand f x → IsOperand f result }
 {
     if is_beside_char(&x, y, base) {
@@ -110,7 +117,8 @@ pub(crate) fn taken_beside(names: &Names, x: Operand, y: &Operand, base: Place) 
 
 /// The base of an operand as it is taken beside another, where their types have these bases.
 pub(crate) fn base_beside(x: &Operand, left: Place, y: &Operand, right: Place) -> Place
-    ensures told { (c : Context) → HasStandardRows c → left ≡ base_type c x.now → right ≡ base_type c y.now → result ≡ base_type c (spec_taken c.source c.scene x.now y.now) }
+    ensures told { (c : Context) → HasStandardRows c → left ≡ base_type c x.now → right ≡ base_type c y.now
+        → result ≡ base_type c (spec_taken c.source c.scene x.now y.now) }
     ensures there { (f : Frame) → IsThere f character → IsThere f left → IsThere f result }
 {
     if is_beside_char(x, y, right) {
@@ -120,8 +128,8 @@ pub(crate) fn base_beside(x: &Operand, left: Place, y: &Operand, right: Place) -
     }
 }
 
-/// Two operands as they are taken beside each other, if they are compatible: a string of one character beside a CHAR is
-/// a CHAR, all else is as it is. It waits for the rows of both types.
+/// Two operands as they are taken beside each other, if they are compatible: a string of one character beside a CHAR
+/// is a CHAR, all else is as it is. It waits for the rows of both types.
 #[tactic(auto, using(type_rules::proofs::Reading::reading, crate::proofs::TypesThere::there))]
 pub fn compatible_pair<S: Scopes>(
     scopes: &mut S,
@@ -135,8 +143,11 @@ pub fn compatible_pair<S: Scopes>(
     ensures reads { Reads (S.state scopes.old) (S.state scopes.new) }
     ensures waits { WhereWaiting result (λ head. Waits (S.state scopes.old) (S.state scopes.new) head) }
     ensures told { WhereTold (S.state scopes.old).frame (λ made.
-        WhereKnown result (λ given. let c = context_of (S.state scopes.old).frame made site.now in given ≡ (if is_compatible c.scene x y then Some (spec_taken c.source c.scene x y, spec_taken c.source c.scene y x) else None))) }
-    ensures there { WhereKnown result (λ given. IfSome given (λ pair. IsOperand (S.state scopes.old).frame pair.0 × IsOperand (S.state scopes.old).frame pair.1)) }
+        WhereKnown result (λ given. let c = context_of (S.state scopes.old).frame made site.now in
+        given ≡ (if is_compatible c.scene x y then
+        Some (spec_taken c.source c.scene x y, spec_taken c.source c.scene y x) else None))) }
+    ensures there { WhereKnown result (λ given. IfSome given
+        (λ pair. IsOperand (S.state scopes.old).frame pair.0 × IsOperand (S.state scopes.old).frame pair.1)) }
 {
     let around = site.around;
     let (left, right) = known!(bases_of(scopes, around, operand_type(&x), operand_type(&y)));
@@ -166,7 +177,8 @@ fn number_within(
     ends: Option<(i64, i64)>,
     x: Operand,
 ) -> Result<Operand, Fault>
-    ensures told { (c : Context) → spec_takes x other ≡ true → option_map (λ ends. range ends.0 ends.1) ends ≡ spec_range c.scene other → judged c result ≡ spec_as_number c at other x }
+    ensures told { (c : Context) → spec_takes x other ≡ true → option_map (λ ends. range ends.0 ends.1) ends
+        ≡ spec_range c.scene other → judged c result ≡ spec_as_number c at other x }
     ensures there { (f : Frame) → IsThere f other → IsOperand f x → IfOk result (λ operand. IsOperand f operand) }
 {
     match x {
@@ -183,7 +195,8 @@ fn number_within(
 
 /// The least and the greatest value of INTEGER or CARDINAL.
 fn number_ends(base: Place) -> (i64, i64)
-    ensures { (c : Context) → HasStandardRows c → is_number_base base ≡ true → Some (range result.0 result.1) ≡ spec_range c.scene base }
+    ensures { (c : Context) → HasStandardRows c → is_number_base base ≡ true
+        → Some (range result.0 result.1) ≡ spec_range c.scene base }
 {
     if base == INTEGER {
         (LEAST_INTEGER, GREATEST_INTEGER)
@@ -206,7 +219,8 @@ pub(crate) fn as_number(at: u32, other: Place, x: Operand) -> Result<Operand, Fa
 
 /// The base of an operand with this base as it is taken as a number beside another.
 pub(crate) fn number_base(x: Operand, base: Place, other: Place) -> Place
-    ensures { (c : Context) (at : ℕ) (y : Taken) → HasStandardRows c → base ≡ base_type c x → gives y ≡ spec_as_number c at other x → result ≡ base_type c y }
+    ensures { (c : Context) (at : ℕ) (y : Taken) → HasStandardRows c → base ≡ base_type c x
+        → gives y ≡ spec_as_number c at other x → result ≡ base_type c y }
 {
     if takes_base(x, other) { other } else { base }
 }

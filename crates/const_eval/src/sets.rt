@@ -7,7 +7,9 @@ ghost use Rattle.m2_base.specs.Statics.Contexts.{Context, refuse};
 ghost use Rattle.std.specs.Option.{IfSome};
 ghost use Rattle.const_eval.specs.Structures.{base_by, type_by};
 ghost use Rattle.m2_base.specs.Statics.Diagnostics.{not_assignable};
-ghost use Rattle.m2_base.specs.Statics.Sets.{checked_element as spec_checked, element_of as spec_element, no_elements as spec_no_elements, set_base as spec_base, set_type_of as spec_set_type};
+ghost use Rattle.m2_base.specs.Statics.Sets.{checked_element as spec_checked, element_of as spec_element};
+ghost use Rattle.m2_base.specs.Statics.Sets.{no_elements as spec_no_elements, set_base as spec_base};
+ghost use Rattle.m2_base.specs.Statics.Sets.{set_type_of as spec_set_type};
 ghost use Rattle.m2_base.specs.Statics.Ranges.{range};
 ghost use Rattle.m2_base.specs.Statics.Types.{range_of as spec_range};
 ghost use Rattle.m2_base.specs.declared.rows.Place.{Place as Spot};
@@ -60,7 +62,8 @@ fn named_set_type<S: Scopes>(
     ensures reads { Reads (S.state scopes.old) (S.state scopes.new) }
     ensures waits { WhereWaiting result (λ head. Waits (S.state scopes.old) (S.state scopes.new) head) }
     ensures told { WhereTold (S.state scopes.old).frame (λ made.
-        WhereKnown result (λ given. let c = context_of (S.state scopes.old).frame made site.now in judged_or c broken given ≡ spec_set_type c at (Operand.NamedType of))) }
+        WhereKnown result (λ given. let c = context_of (S.state scopes.old).frame made site.now in
+        judged_or c broken given ≡ spec_set_type c at (Operand.NamedType of))) }
     ensures there { WhereKnown result (λ given. IfOk given (λ of. IsThere (S.state scopes.old).frame of)) }
     ensures stops { WhereWaiting result (λ head. StopsAtType (S.state scopes.new) site.now.around.now of head) }
 {
@@ -81,7 +84,8 @@ pub fn set_type_of<S: Scopes>(
     ensures reads { Reads (S.state scopes.old) (S.state scopes.new) }
     ensures waits { WhereWaiting result (λ head. Waits (S.state scopes.old) (S.state scopes.new) head) }
     ensures told { WhereTold (S.state scopes.old).frame (λ made.
-        WhereKnown result (λ given. let c = context_of (S.state scopes.old).frame made site.now in judged_or c broken given ≡ spec_set_type c at x)) }
+        WhereKnown result (λ given. let c = context_of (S.state scopes.old).frame made site.now in
+        judged_or c broken given ≡ spec_set_type c at x)) }
     ensures there { WhereKnown result (λ given. IfOk given (λ of. IsThere (S.state scopes.old).frame of)) }
 {
     match x {
@@ -100,7 +104,8 @@ pub fn set_base<S: Scopes>(scopes: &mut S, site: &Site, of: Place) -> Ask<Place>
     ensures reads { Reads (S.state scopes.old) (S.state scopes.new) }
     ensures waits { WhereWaiting result (λ head. Waits (S.state scopes.old) (S.state scopes.new) head) }
     ensures told { WhereTold (S.state scopes.old).frame (λ made.
-        WhereKnown result (λ given. let c = context_of (S.state scopes.old).frame made site.now in given ≡ spec_base c of)) }
+        WhereKnown result (λ given. let c = context_of (S.state scopes.old).frame made site.now in
+        given ≡ spec_base c of)) }
     ensures there { WhereKnown result (λ given. IsThere (S.state scopes.old).frame given) }
     ensures stops { WhereWaiting result (λ head. StopsAtType (S.state scopes.new) site.now.around.now of head) }
 {
@@ -128,7 +133,8 @@ pub fn no_elements<S: Scopes>(scopes: &mut S, site: &Site, of: Place) -> Ask<Ope
     ensures reads { Reads (S.state scopes.old) (S.state scopes.new) }
     ensures waits { WhereWaiting result (λ head. Waits (S.state scopes.old) (S.state scopes.new) head) }
     ensures told { WhereTold (S.state scopes.old).frame (λ made.
-        WhereKnown result (λ given. let c = context_of (S.state scopes.old).frame made site.now in given ≡ spec_no_elements c of)) }
+        WhereKnown result (λ given. let c = context_of (S.state scopes.old).frame made site.now in
+        given ≡ spec_no_elements c of)) }
     ensures there { WhereKnown result (λ given. IsOperand (S.state scopes.old).frame given) }
 {
     let base = known!(set_base(scopes, site, of));
@@ -138,7 +144,8 @@ pub fn no_elements<S: Scopes>(scopes: &mut S, site: &Site, of: Place) -> Ask<Ope
 
 /// An element of a base with these ends: a constant outside them is refused.
 fn element_within(at: u32, ends: Option<(i64, i64)>, x: Operand) -> Result<Operand, Fault>
-    ensures told { (c : Context) (base : Spot) → option_map (λ ends. range ends.0 ends.1) ends ≡ spec_range c.scene base → judged c result ≡ spec_checked c base at x }
+    ensures told { (c : Context) (base : Spot) → option_map (λ ends. range ends.0 ends.1) ends
+        ≡ spec_range c.scene base → judged c result ≡ spec_checked c base at x }
     ensures there { (f : Frame) → IsOperand f x → IfOk result (λ operand. IsOperand f operand) }
 {
     match x {
@@ -168,7 +175,8 @@ fn checked_element<S: Scopes>(
     ensures reads { Reads (S.state scopes.old) (S.state scopes.new) }
     ensures waits { WhereWaiting result (λ head. Waits (S.state scopes.old) (S.state scopes.new) head) }
     ensures told { WhereTold (S.state scopes.old).frame (λ made.
-        WhereKnown result (λ given. let c = context_of (S.state scopes.old).frame made site.now in judged c given ≡ spec_checked c base at x)) }
+        WhereKnown result (λ given. let c = context_of (S.state scopes.old).frame made site.now in
+        judged c given ≡ spec_checked c base at x)) }
     ensures there { WhereKnown result (λ given. IfOk given (λ operand. IsOperand (S.state scopes.old).frame operand)) }
 {
     let ends = known!(range_of(scopes, site.around, base));
@@ -190,7 +198,9 @@ fn taken_element<S: Scopes>(
     ensures reads { Reads (S.state scopes.old) (S.state scopes.new) }
     ensures waits { WhereWaiting result (λ head. Waits (S.state scopes.old) (S.state scopes.new) head) }
     ensures told { WhereTold (S.state scopes.old).frame (λ made.
-        WhereKnown result (λ given. let c = context_of (S.state scopes.old).frame made site.now in judged c given ≡ (if is_compatible c.scene x (Operand.Computed base) then spec_checked c base at (spec_taken c.source c.scene x (Operand.Computed base)) else refuse c at not_assignable Operand.InError))) }
+        WhereKnown result (λ given. let c = context_of (S.state scopes.old).frame made site.now in
+        judged c given ≡ (if is_compatible c.scene x (Operand.Computed base) then spec_checked c base at
+        (spec_taken c.source c.scene x (Operand.Computed base)) else refuse c at not_assignable Operand.InError))) }
     ensures there { WhereKnown result (λ given. IfOk given (λ operand. IsOperand (S.state scopes.old).frame operand)) }
 {
     match known!(compatible_pair(scopes, site, x, Operand::Computed(base))) {
@@ -215,7 +225,8 @@ pub fn element_of<S: Scopes>(
     ensures reads { Reads (S.state scopes.old) (S.state scopes.new) }
     ensures waits { WhereWaiting result (λ head. Waits (S.state scopes.old) (S.state scopes.new) head) }
     ensures told { WhereTold (S.state scopes.old).frame (λ made.
-        WhereKnown result (λ given. let c = context_of (S.state scopes.old).frame made site.now in judged c given ≡ spec_element c base at x)) }
+        WhereKnown result (λ given. let c = context_of (S.state scopes.old).frame made site.now in
+        judged c given ≡ spec_element c base at x)) }
     ensures there { WhereKnown result (λ given. IfOk given (λ operand. IsOperand (S.state scopes.old).frame operand)) }
 {
     if is_bad(x) {

@@ -5,7 +5,8 @@ ghost use Rattle.m2_base.specs.Statics.Constants.{field_operand as spec_field, s
 ghost use Rattle.m2_base.specs.Statics.Contexts.{Source};
 ghost use Rattle.m2_base.specs.Statics.Operands.{string_length as spec_length};
 ghost use Rattle.m2_base.specs.Statics.Operations.{apply_one as spec_apply, operate as spec_operate};
-ghost use Rattle.m2_base.specs.Statics.Sets.{element_of as spec_element, no_elements as spec_none, set_base as spec_base, set_type_of as spec_set_type};
+ghost use Rattle.m2_base.specs.Statics.Sets.{element_of as spec_element, no_elements as spec_none};
+ghost use Rattle.m2_base.specs.Statics.Sets.{set_base as spec_base, set_type_of as spec_set_type};
 ghost use Rattle.const_eval.specs.Analyses.{Analysed};
 ghost use Rattle.const_eval.specs.Parts.{with_index as spec_index};
 ghost use Rattle.const_eval.specs.Sites.{IsOperand};
@@ -40,7 +41,8 @@ fn string_length(names: &Names, name: u32) -> u32
 pub fn string_constant(site: &Site, name: u32) -> Operand
     requires named { name < length site.now.texts.now.names }
     requires short { length (slice_index_or site.now.texts.now.names name []) < 2 ^ 32 }
-    ensures told { (source : Source) → source.spellings ≡ site.now.texts.now.names → result ≡ Operand.StringConstant name (spec_length source name) }
+    ensures told { (source : Source) → source.spellings ≡ site.now.texts.now.names
+        → result ≡ Operand.StringConstant name (spec_length source name) }
     ensures there { (f : Frame) → site.now.texts.now ≡ f.setting.texts → IsOperand f result }
 {
     let texts = site.texts;
@@ -54,7 +56,8 @@ pub fn picked(
     operand: Operand,
     notes: &mut Notes,
 ) -> Result<Ask<Operand>, Memory>
-    ensures { (state : State) → Analysed state state notes.old notes.new site.now result IsOperand (λ c. spec_selected c at operand) }
+    ensures { (state : State)
+        → Analysed state state notes.old notes.new site.now result IsOperand (λ c. spec_selected c at operand) }
 {
     note(site.around.text, Ask::Known(selected(at, operand)), notes)
 }
@@ -67,7 +70,8 @@ pub fn with_index(
     index: Operand,
     notes: &mut Notes,
 ) -> Result<Ask<Operand>, Memory>
-    ensures { (state : State) → Analysed state state notes.old notes.new site.now result IsOperand (λ c. spec_index c at operand index) }
+    ensures { (state : State)
+        → Analysed state state notes.old notes.new site.now result IsOperand (λ c. spec_index c at operand index) }
 {
     let part = analysed!(picked(site, at, operand, notes));
     Ok(Ask::Known(spoilt_by(index, part)))
@@ -84,7 +88,8 @@ pub fn field_operand<S: Scopes>(
     requires suits { SuitsSite (S.state scopes.old).frame site.now }
     requires x { IsOperand (S.state scopes.old).frame x.operand }
     requires named { ident.name ≢ 0 }
-    ensures { Analysed (S.state scopes.old) (S.state scopes.new) notes.old notes.new site.now result IsOperand (λ c. spec_field c x.at x.operand ident) }
+    ensures { Analysed (S.state scopes.old) (S.state scopes.new) notes.old notes.new site.now result IsOperand
+        (λ c. spec_field c x.at x.operand ident) }
 {
     match x.operand {
         Operand::ModuleName(scope) => name_operand(scopes, site, Some(scope), ident, notes),
@@ -103,7 +108,8 @@ pub fn applied_one<S: Scopes>(
 ) -> Result<Ask<Operand>, Memory>
     requires suits { SuitsSite (S.state scopes.old).frame site.now }
     requires operand { IsOperand (S.state scopes.old).frame operand }
-    ensures { Analysed (S.state scopes.old) (S.state scopes.new) notes.old notes.new site.now result IsOperand (λ c. spec_apply c operator.operator operator.at operand) }
+    ensures { Analysed (S.state scopes.old) (S.state scopes.new) notes.old notes.new site.now result IsOperand
+        (λ c. spec_apply c operator.operator operator.at operand) }
 {
     let given = apply_one(scopes, site, operator, operand);
     note(site.around.text, given, notes)
@@ -121,7 +127,8 @@ pub fn operated<S: Scopes>(
     requires suits { SuitsSite (S.state scopes.old).frame site.now }
     requires x { IsOperand (S.state scopes.old).frame sides.0.operand }
     requires y { IsOperand (S.state scopes.old).frame sides.1.operand }
-    ensures { Analysed (S.state scopes.old) (S.state scopes.new) notes.old notes.new site.now result IsOperand (λ c. spec_operate c operator.operator operator.at sides.0.operand sides.0.at sides.1.operand sides.1.at) }
+    ensures { Analysed (S.state scopes.old) (S.state scopes.new) notes.old notes.new site.now result IsOperand
+        (λ c. spec_operate c operator.operator operator.at sides.0.operand sides.0.at sides.1.operand sides.1.at) }
 {
     let given = operate(scopes, site, operator, sides.0, sides.1);
     note(site.around.text, given, notes)
@@ -139,7 +146,8 @@ pub fn taken<S: Scopes>(
     requires suits { SuitsSite (S.state scopes.old).frame site.now }
     requires base { IsThere (S.state scopes.old).frame base }
     requires x { IsOperand (S.state scopes.old).frame x.operand }
-    ensures { Analysed (S.state scopes.old) (S.state scopes.new) notes.old notes.new site.now result IsOperand (λ c. spec_element c base x.at x.operand) }
+    ensures { Analysed (S.state scopes.old) (S.state scopes.new) notes.old notes.new site.now result IsOperand
+        (λ c. spec_element c base x.at x.operand) }
 {
     let given = element_of(scopes, site, base, x.at, x.operand);
     note(site.around.text, given, notes)
@@ -155,7 +163,8 @@ pub fn set_type<S: Scopes>(
 ) -> Result<Ask<Place>, Memory>
     requires suits { SuitsSite (S.state scopes.old).frame site.now }
     requires operand { IsOperand (S.state scopes.old).frame operand }
-    ensures { Analysed (S.state scopes.old) (S.state scopes.new) notes.old notes.new site.now result IsThere (λ c. spec_set_type c at operand) }
+    ensures { Analysed (S.state scopes.old) (S.state scopes.new) notes.old notes.new site.now result IsThere
+        (λ c. spec_set_type c at operand) }
 {
     let given = set_type_of(scopes, site, at, operand);
     note_type(site.around.text, given, notes)
@@ -169,8 +178,10 @@ pub(crate) fn set_start<S: Scopes>(scopes: &mut S, site: &Site, of: Place) -> As
     ensures reads { Reads (S.state scopes.old) (S.state scopes.new) }
     ensures waits { WhereWaiting result (λ head. Waits (S.state scopes.old) (S.state scopes.new) head) }
     ensures told { WhereTold (S.state scopes.old).frame (λ made.
-        WhereKnown result (λ given. let c = context_of (S.state scopes.old).frame made site.now in given ≡ record { base = spec_base c of; set = spec_none c of })) }
-    ensures there { WhereKnown result (λ given. IsThere (S.state scopes.old).frame given.base × IsOperand (S.state scopes.old).frame given.set) }
+        WhereKnown result (λ given. let c = context_of (S.state scopes.old).frame made site.now in
+        given ≡ record { base = spec_base c of; set = spec_none c of })) }
+    ensures there { WhereKnown result
+        (λ given. IsThere (S.state scopes.old).frame given.base × IsOperand (S.state scopes.old).frame given.set) }
 {
     let base = known!(set_base(scopes, site, of));
     let set = known!(no_elements(scopes, site, of));

@@ -59,8 +59,10 @@ pub(crate) fn set_row<S: Scopes>(
     ensures reads { Reads (S.state scopes.old) (S.state scopes.new) }
     ensures waits { WhereWaiting result (λ head. Waits (S.state scopes.old) (S.state scopes.new) head) }
     ensures told { WhereTold (S.state scopes.old).frame (λ made.
-        WhereKnown result (λ row. let scene = scene_of (S.state scopes.old).frame made around.now in row ≡ set_row_by (stands_for scene of) (kind_of scene of))) }
-    ensures there { WhereKnown result (λ row. IfSome row (λ row. IsThere (S.state scopes.old).frame row.0 × IsThere (S.state scopes.old).frame row.1)) }
+        WhereKnown result (λ row. let scene = scene_of (S.state scopes.old).frame made around.now in
+        row ≡ set_row_by (stands_for scene of) (kind_of scene of))) }
+    ensures there { WhereKnown result (λ row.
+        IfSome row (λ row. IsThere (S.state scopes.old).frame row.0 × IsThere (S.state scopes.old).frame row.1)) }
     ensures stops { WhereWaiting result (λ head. StopsAtType (S.state scopes.new) around.now of head) }
 {
     let (place, meaning) = known!(stand(scopes, around, of));

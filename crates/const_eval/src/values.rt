@@ -1,7 +1,8 @@
 //! What may stand where a value is wanted, or before a selector.
 ghost use Rattle.std.specs.Prelude.{◌≡◌, IfOk};
 ghost use Rattle.m2_base.specs.States.{Frame};
-ghost use Rattle.m2_base.specs.Statics.Constants.{in_constant as spec_in_constant, selected as spec_selected, spoilt_by as spec_spoilt, value_wanted as spec_value_wanted};
+ghost use Rattle.m2_base.specs.Statics.Constants.{in_constant as spec_in_constant, selected as spec_selected};
+ghost use Rattle.m2_base.specs.Statics.Constants.{spoilt_by as spec_spoilt, value_wanted as spec_value_wanted};
 ghost use Rattle.m2_base.specs.Statics.Contexts.{Context};
 ghost use Rattle.const_eval.specs.Judgements.{judged};
 ghost use Rattle.const_eval.specs.Sites.{IsOperand};

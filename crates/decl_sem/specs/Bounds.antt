@@ -18,7 +18,8 @@ use Rattle.decl_sem.specs.declared.bounds.Choice.{Choice}
 use Rattle.decl_sem.specs.declared.bounds.Choice.TheVariants.{Chosen, Nothing as NothingChosen, Wrong as WrongChoice}
 use Rattle.decl_sem.specs.declared.bounds.End.{End}
 use Rattle.decl_sem.specs.declared.bounds.Verdict.{Verdict}
-use Rattle.decl_sem.specs.declared.bounds.Verdict.TheVariants.{BothOutside, HighOutside, LowOutside, Nothing, Right, Wrong}
+use Rattle.decl_sem.specs.declared.bounds.Verdict.TheVariants.{BothOutside, HighOutside, LowOutside, Nothing, Right}
+use Rattle.decl_sem.specs.declared.bounds.Verdict.TheVariants.{Wrong}
 
 -- bounds, as the definitions see them
 abbrev pub bounds_view : Bounds → plain.Bounds
@@ -49,7 +50,8 @@ abbrev pub given_by : Context → (low_at high_at : ℕ) → Verdict → Gives (
 given_by c low_at high_at (Right b) = gives (Some b)
 given_by c low_at high_at LowOutside = refuse c low_at out_of_range None
 given_by c low_at high_at HighOutside = refuse c high_at out_of_range None
-given_by c low_at high_at BothOutside = and_then (refuse c low_at out_of_range None) (λ none. refuse c high_at out_of_range none)
+given_by c low_at high_at BothOutside =
+    and_then (refuse c low_at out_of_range None) (λ none. refuse c high_at out_of_range none)
 given_by c low_at high_at Wrong = refuse c high_at wrong_operands None
 given_by c low_at high_at Nothing = gives None
 

@@ -1,5 +1,6 @@
 -- The names that an item brings.
-use Rattle.std.specs.Prelude.{◌≡◌, ◌≤◌, ℕ, ◌+◌, ◌-◌, Bool, if◌then◌else◌, List, [], ◌∷◌, ◌++◌, length, map, unwrap_or, Result, Ok, Err}
+use Rattle.std.specs.Prelude.{◌≡◌, ◌≤◌, ℕ, ◌+◌, ◌-◌, Bool, if◌then◌else◌, List, [], ◌∷◌, ◌++◌, length, map, unwrap_or}
+use Rattle.std.specs.Prelude.{Result, Ok, Err}
 use Rattle.std.specs.declared.alloc.Global.{Global}
 use Rattle.std.specs.declared.vec.Vec.{Vec}
 use Rattle.m2_base.specs.Asks.{IfKnown, IfWaits}
@@ -27,25 +28,30 @@ use Rattle.decl_sem.specs.declared.making.Made.{Made}
 
 -- ** What an item makes with the names that it brings
 
--- The rows in hand have grown by rows of these shapes, as the layout gives them, and then by rows of names that are new behind them;
--- the block's imports bring not too many.
-pub record GrownWith (f : Frame) (s : Site) (before after : Made) (shapes : List Shape) (brought : List Named) : Type 0 where
+-- The rows in hand have grown by rows of these shapes, as the layout gives them, and then by rows of names that are
+-- new behind them; the block's imports bring not too many.
+pub record GrownWith (f : Frame) (s : Site) (before after : Made) (shapes : List Shape)
+    (brought : List Named) : Type 0 where
   pub own : List Row
   pub rows : List Row
   pub more : after.rows.items ≡ before.rows.items ++ (own ++ rows)
   pub laid : AreLaid s.layout.now (next_ordinal before) shapes own
   pub of_names : AreRowsOf brought rows
-  pub names : AreNewNames s.layout.now (unwrap_or s.item 0) (next_ordinal before + length shapes) (next_ordinal before + length shapes) brought
+  pub names : AreNewNames s.layout.now (unwrap_or s.item 0) (next_ordinal before + length shapes)
+      (next_ordinal before + length shapes) brought
   pub few : length brought ≤ MOST_BROUGHT - length s.layout.now.brought
   pub new : AreNewRows f (item_end s) (next_ordinal before) (own ++ rows)
 
 -- as a piece of an item declares (Pieces), with the names that are brought
-pub record DeclaresWith {T : Type 0} (old new : State) (before after : Made) (s : Site) (answer : Result (Ask T) Memory) (shapes : List Shape) (names : T → List Named) (MayStand : Frame → (next : ℕ) → T → Type 0) (given : Context → Makes T) : Type 0 where
+pub record DeclaresWith {T : Type 0} (old new : State) (before after : Made) (s : Site)
+    (answer : Result (Ask T) Memory) (shapes : List Shape) (names : T → List Named)
+    (MayStand : Frame → (next : ℕ) → T → Type 0) (given : Context → Makes T) : Type 0 where
   pub works : Works old new before.notes after.notes
   pub waits : IfWaits answer (λ h. Waits old new h)
   pub first : after.first ≡ before.first
   pub grown : IfKnown answer (λ v. GrownWith old.frame s before after shapes (names v))
-  pub told : WhereMaking old.frame before (λ hand. IfKnown answer (λ v. MakesAll before after (given (context_of old.frame hand s)) v))
+  pub told : WhereMaking old.frame before (λ hand.
+      IfKnown answer (λ v. MakesAll before after (given (context_of old.frame hand s)) v))
   pub there : IfKnown answer (λ v. MayStand old.frame (next_ordinal after) v)
 
 -- the names of which an answer has a list

@@ -1,7 +1,8 @@
 -- The constants of an enumeration that an import names, as the code finds them.
 use Rattle.std.specs.HashSet.{contains}
 use Rattle.std.specs.List.{list_any}
-use Rattle.std.specs.Prelude.{◌≡◌, ◌≢◌, ◌<◌, ◌^◌, ℕ, ◌+◌, ◌-◌, ◌==◌, ◌||◌, ◌&&◌, nat_eq, Bool, false, not, if◌then◌else◌, List, [], ◌∷◌, ◌++◌, length, map, take, drop, Option, None, Some}
+use Rattle.std.specs.Prelude.{◌≡◌, ◌≢◌, ◌<◌, ◌^◌, ℕ, ◌+◌, ◌-◌, ◌==◌, ◌||◌, ◌&&◌, nat_eq, Bool, false, not}
+use Rattle.std.specs.Prelude.{if◌then◌else◌, List, [], ◌∷◌, ◌++◌, length, map, take, drop, Option, None, Some}
 use Rattle.m2_base.specs.Lists.{Each}
 use Rattle.m2_base.specs.Rows.{at_place, row_meaning}
 use Rattle.m2_base.specs.Standard.{is_standard}
@@ -29,7 +30,8 @@ member_view m = record { name = m.name; place = m.place }
 
 -- the constant in a row at this place, if it has a name
 abbrev pub constant_by : Place → Row → Option plain.Member
-constant_by p r = if is_constant (row_meaning r) && not (r.name == 0) then Some (record { name = r.name; place = p }) else None
+constant_by p r =
+    if is_constant (row_meaning r) && not (r.name == 0) then Some (record { name = r.name; place = p }) else None
 
 -- with one more constant, if there is one
 abbrev pub with_member : Option plain.Member → List plain.Member → List plain.Member
@@ -39,7 +41,8 @@ with_member (Some m) rest = m ∷ rest
 -- the constants of an enumeration at this place that has so many, if there is one
 abbrev pub constants_of : Scene → Option (Place × ℕ) → List plain.Member
 constants_of scene None = []
-constants_of scene (Some e) = constants_from e.0.scope (e.0.ordinal + 1) (take e.1 (drop (e.0.ordinal + 1) (rows_at scene.tables e.0.scope)))
+constants_of scene (Some e) =
+    constants_from e.0.scope (e.0.ordinal + 1) (take e.1 (drop (e.0.ordinal + 1) (rows_at scene.tables e.0.scope)))
 
 -- those in the rows of a scope from one ordinal up to the end
 abbrev pub constants_left : (scope o end : ℕ) → Context → List plain.Member
@@ -74,7 +77,8 @@ pub record AreNewMembers (f : Frame) (s : Site) (made : Made) (members : List Me
   pub differ : Differ members
 
 -- What is found of all these constants, where the rest is to come.
-pub record AreFound (f : Frame) (s : Site) (made : Made) (all rest : Context → List plain.Member) (found : Found) : Type 0 where
+pub record AreFound (f : Frame) (s : Site) (made : Made) (all rest : Context → List plain.Member)
+    (found : Found) : Type 0 where
   pub new : AreNewMembers f s made found.members.items
   pub names : List ℕ
   pub same : (n : ℕ) → list_any (λ k. k == n) names ≡ list_any (λ m. m.name == n) found.members.items
@@ -85,6 +89,8 @@ pub record AreFound (f : Frame) (s : Site) (made : Made) (all rest : Context →
       ≡ (found.hidden || list_any (is_hidden (context_of f hand s)) (rest (context_of f hand s))))
 
 -- all of these constants are seen, or so many that the block's imports would bring too many
-pub record AreSeen (f : Frame) (s : Site) (made : Made) (all : Context → List plain.Member) (found : Found) : Type 0 where
+pub record AreSeen (f : Frame) (s : Site) (made : Made) (all : Context → List plain.Member)
+    (found : Found) : Type 0 where
   pub new : AreNewMembers f s made found.members.items
-  pub told : (at : ℕ) → WhereMaking f made (λ hand. let c = context_of f hand s in plain.brought_by c at (all c) ≡ brings_new c at (map member_view found.members.items) found.hidden)
+  pub told : (at : ℕ) → WhereMaking f made (λ hand. let c = context_of f hand s in
+      plain.brought_by c at (all c) ≡ brings_new c at (map member_view found.members.items) found.hidden)

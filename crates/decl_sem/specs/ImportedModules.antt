@@ -1,5 +1,6 @@
 -- The modules that an item imports.
-use Rattle.std.specs.Prelude.{ℕ, ◌+◌, ◌<◌, ◌==◌, Bool, if◌then◌else◌, List, [], ◌∷◌, slice_index_or, Option, Some, None}
+use Rattle.std.specs.Prelude.{ℕ, ◌+◌, ◌<◌, ◌==◌, Bool, if◌then◌else◌, List, [], ◌∷◌, slice_index_or, Option, Some}
+use Rattle.std.specs.Prelude.{None}
 use Rattle.m2_base.specs.Statics.Contexts.{Context, Source, scope_of_module}
 use Rattle.m2_base.specs.Statics.ImportRows.{alias_row, place_or_broken}
 use Rattle.m2_base.specs.Statics.ImportedConstants.{brought_by, members_of}

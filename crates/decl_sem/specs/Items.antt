@@ -53,8 +53,9 @@ pub record IsEffectOf (x : items.Item) (f : Frame) (next : ℕ) (e : Effect) : T
   pub effect : IsEffect f next e
   pub only : BringsIts x e.brought
 
--- The site is in an item of the block: the rows of the items before, with those of the names that each has brought, are entered,
--- as the layout gives them, each field before its record; the item was read from tokens, and its modules stand before.
+-- The site is in an item of the block: the rows of the items before, with those of the names that each has brought,
+-- are entered, as the layout gives them, each field before its record; the item was read from tokens,
+-- and its modules stand before.
 pub record IsAtItem (f : Frame) (s : Site) (stream : Stream) (x : items.Item) (cell procedures : ℕ) : Type 0 where
   pub suits : SuitsSite f s
   pub small : f.setting.fills < 2 ^ 31

@@ -1,5 +1,6 @@
 -- Rows as the layout gives them: each has the kind and the token of its shape, and its name or none.
-use Rattle.std.specs.Prelude.{◌≡◌, ◌≢◌, ℕ, ◌+◌, ◌==◌, Bool, false, if◌then◌else◌, List, [], ◌∷◌, ◌++◌, Option, None, Some, option_map}
+use Rattle.std.specs.Prelude.{◌≡◌, ◌≢◌, ℕ, ◌+◌, ◌==◌, Bool, false, if◌then◌else◌, List, [], ◌∷◌, ◌++◌, Option, None}
+use Rattle.std.specs.Prelude.{Some, option_map}
 use Rattle.m2_base.specs.declared.rows.Row.{Row}
 use Rattle.m2_base.specs.Standard.{is_standard}
 use Rattle.m2_base.specs.declared.sites.Named.{Named}
@@ -12,8 +13,8 @@ abbrev pub is_of : (ordinal : ℕ) → Option Named → Bool
 is_of o None = false
 is_of o (Some n) = n.ordinal == o
 
--- the name that the row with this ordinal keeps: none, where it is a standard name, or where the layout has an earlier row of
--- that name
+-- the name that the row with this ordinal keeps: none, where it is a standard name, or where the layout has an earlier
+-- row of that name
 abbrev pub kept_name : Layout → (ordinal name : ℕ) → ℕ
 kept_name l o name = if is_standard name then 0 else if is_of o (first_entry l name) then name else 0
 
@@ -36,7 +37,8 @@ first_shape name (s ∷ ss) o = if s.name == name then Some o else first_shape n
 
 -- the layout has the first of each name among the shapes
 abbrev pub HasFirsts : Layout → List Shape → Type 0
-HasFirsts l shapes = (name : ℕ) → name ≢ 0 → option_map (λ n. n.ordinal) (first_entry l name) ≡ first_shape name shapes 0
+HasFirsts l shapes =
+    (name : ℕ) → name ≢ 0 → option_map (λ n. n.ordinal) (first_entry l name) ≡ first_shape name shapes 0
 
 -- These rows of the block are made, as the layout gives them, and these shapes are the next.
 pub record IsAhead (l : Layout) (rows : List Row) (ahead : List Shape) : Type 0 where

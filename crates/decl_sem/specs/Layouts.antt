@@ -15,9 +15,9 @@ use Rattle.decl_sem.specs.LaidRows.{HasFirsts}
 abbrev pub rows_before : Stream → (brought : List (List Named)) → ℕ
 rows_before stream brought = length (laid_shapes (take (length brought) (items_of stream)) brought)
 
--- The layout of a block, as many items of which are declared as there are lists of names that they have brought. It has the
--- first of each name among all rows; only names of modules have brought any, and what is brought stands before the rows of the next
--- item.
+-- The layout of a block, as many items of which are declared as there are lists of names that they have brought. It
+-- has the first of each name among all rows; only names of modules have brought any, and what is brought stands before
+-- the rows of the next item.
 pub record IsLayoutAt (l : Layout) (stream : Stream) (brought : List (List Named)) : Type 0 where
   pub layout : l ≡ extended_by (layout_of stream) brought
   pub only : AllZip BringsIts (take (length brought) (items_of stream)) brought

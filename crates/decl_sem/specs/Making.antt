@@ -36,7 +36,8 @@ pub record IsInHand (c : Context) (s : Site) (made : Made) : Type 0 where
 -- One of the rows so far has the name of the next row exactly where the layout has it at an earlier ordinal.
 abbrev pub IsNext : Context → (name : ℕ) → Type 0
 IsNext c name =
-    is_standard name ≡ false → is_some (first_named name (own_rows c) 0) ≡ not (is_of (length (own_rows c)) (first_entry c.layout name))
+    is_standard name ≡ false
+    → is_some (first_named name (own_rows c) 0) ≡ not (is_of (length (own_rows c)) (first_entry c.layout name))
 
 -- The value is the definition's, and the rows and the notes have grown by what it makes.
 pub record MakesAll {T : Type 0} (before after : Made) (given : Makes T) (value : T) : Type 0 where

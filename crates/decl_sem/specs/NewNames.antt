@@ -17,8 +17,8 @@ ordinal_before next (Some n) = if nat_lt n.ordinal next then Some n.ordinal else
 abbrev pub earlier_row : Layout → (next name : ℕ) → Option ℕ
 earlier_row l next name = if is_standard name then None else ordinal_before next (first_entry l name)
 
--- An alias that an item brings, in the row with this ordinal. Its name is no standard one, and the layout has no row of that name
--- before the limit.
+-- An alias that an item brings, in the row with this ordinal. Its name is no standard one, and the layout has no row
+-- of that name before the limit.
 pub record IsNewName (l : Layout) (item limit o : ℕ) (b : Named) : Type 0 where
   pub named : b.name ≢ 0
   pub plain : is_standard b.name ≡ false
@@ -30,7 +30,8 @@ pub record IsNewName (l : Layout) (item limit o : ℕ) (b : Named) : Type 0 wher
 -- aliases that an item brings, one row after another from this ordinal on; their names differ
 abbrev pub AreNewNames : Layout → (item limit o : ℕ) → List Named → Type 0
 AreNewNames l i limit o [] = Unit {0}
-AreNewNames l i limit o (b ∷ brought) = IsNewName l i limit o b × (Each (λ d. d.name ≢ b.name) brought × AreNewNames l i limit (o + 1) brought)
+AreNewNames l i limit o (b ∷ brought) =
+    IsNewName l i limit o b × (Each (λ d. d.name ≢ b.name) brought × AreNewNames l i limit (o + 1) brought)
 
 -- rows of these names
 abbrev pub AreRowsOf : List Named → List Row → Type 0

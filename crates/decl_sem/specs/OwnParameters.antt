@@ -43,7 +43,8 @@ placed_row i t m cell next c = make_then c (makes_named c i.name i.at (Var t m c
 -- a VAR parameter: an open array in two cells, any other by its address
 abbrev pub ref_row : (is_open : Bool) → Ident → Place → Placing → Context → Makes Placing
 ref_row is_open i t p c =
-    if is_open then placed_row i t Open p.cell (after_cells 2 p) c else placed_row i t ByAddress p.cell (after_cells 1 p) c
+    if is_open then placed_row i t Open p.cell (after_cells 2 p) c
+    else placed_row i t ByAddress p.cell (after_cells 1 p) c
 
 -- an open array by value, whose elements have this size
 abbrev pub open_row : (size : ℕ) → Ident → Place → Placing → Context → Makes Placing

@@ -1,9 +1,11 @@
--- A piece of an item: what making it needs, leaves and gives. The rows of an item are in hand until all are made, and are
--- then entered at once.
-use Rattle.std.specs.Prelude.{◌≡◌, ◌≢◌, ℕ, ◌+◌, ◌<◌, ◌≤◌, ◌^◌, false, List, [], ◌∷◌, ◌++◌, length, Option, Some, None, unwrap_or, Result, Ok, Err}
+-- A piece of an item: what making it needs, leaves and gives. The rows of an item are in hand until all are made, and
+-- are then entered at once.
+use Rattle.std.specs.Prelude.{◌≡◌, ◌≢◌, ℕ, ◌+◌, ◌<◌, ◌≤◌, ◌^◌, false, List, [], ◌∷◌, ◌++◌, length, Option, Some, None}
+use Rattle.std.specs.Prelude.{unwrap_or, Result, Ok, Err}
 use Rattle.m2_base.specs.Asks.{IfKnown, IfWaits}
 use Rattle.m2_base.specs.Lists.{Each, IsIn}
-use Rattle.m2_base.specs.Rows.{Fits, HasSmallOrdinals, HasSmallScopes, alias_kind, at_place, numbers_of, pointer_kind, row_meaning}
+use Rattle.m2_base.specs.Rows.{Fits, HasSmallOrdinals, HasSmallScopes, alias_kind, at_place, numbers_of, pointer_kind}
+use Rattle.m2_base.specs.Rows.{row_meaning}
 use Rattle.m2_base.specs.States.{Frame, State, Waits, Works}
 use Rattle.m2_base.specs.Statics.Contexts.{Context, Layout}
 use Rattle.m2_base.specs.Statics.FormedRows.{IsFilled, IsRight}
@@ -57,8 +59,8 @@ abbrev pub AreNewRows : Frame → (limit o : ℕ) → List Row → Type 0
 AreNewRows f limit o [] = Unit {0}
 AreNewRows f limit o (r ∷ rows) = IsNewRow f limit o r × AreNewRows f limit (o + 1) rows
 
--- A type stands before the row with this ordinal: its scope isn't above the block's, and in the own scope it is entered or in
--- hand.
+-- A type stands before the row with this ordinal: its scope isn't above the block's, and in the own scope it is
+-- entered or in hand.
 pub record IsBehind (f : Frame) (next : ℕ) (p : Place) : Type 0 where
   pub small : p.ordinal < 2 ^ 32
   pub scope : p.scope ≤ f.setting.fills
@@ -98,11 +100,12 @@ pub record BeginsAt (layout : Layout) (item first : ℕ) : Type 0 where
 
 -- the aliases that the layout gives stand before this ordinal
 abbrev pub AreAliasesBefore : Layout → (first : ℕ) → Type 0
-AreAliasesBefore l first = (name : ℕ) (e : Named) → first_entry l name ≡ Some e → e.kind ≡ alias_kind → e.ordinal < first
+AreAliasesBefore l first =
+    (name : ℕ) (e : Named) → first_entry l name ≡ Some e → e.kind ≡ alias_kind → e.ordinal < first
 
--- The rows of the site's item are being made: these are in hand, and rows of these shapes are the next. The scope isn't complete;
--- as many rows are entered as the first in hand has its ordinal; the item has room for the shapes. An item that makes the row of a
--- pointer stands behind all imports.
+-- The rows of the site's item are being made: these are in hand, and rows of these shapes are the next. The scope
+-- isn't complete; as many rows are entered as the first in hand has its ordinal; the item has room for the shapes. An
+-- item that makes the row of a pointer stands behind all imports.
 pub record IsMaking (f : Frame) (s : Site) (made : Made) (shapes : List Shape) : Type 0 where
   pub suits : SuitsSite f s
   pub small : f.setting.fills < 2 ^ 31
@@ -137,15 +140,17 @@ WhereMaking f made P = WhereTold f (λ held. held.rows ≡ made.rows.items → P
 abbrev pub holding : Hand → List Row → Hand
 holding held more = hand held.finished (held.rows ++ more)
 
--- Previous notes stay, and each answer noted was found by a search. The scope that the answer waits for is incomplete, and
--- before the own one. Where the answer is known, rows of these shapes are made, and the value may stand behind them; where the
--- texts are told, the rows, the value and what is noted are the definition's.
-pub record Declares {T : Type 0} (old new : State) (before after : Made) (s : Site) (answer : Result (Ask T) Memory) (shapes : List Shape) (MayStand : Frame → (next : ℕ) → T → Type 0) (given : Context → Makes T) : Type 0 where
+-- Previous notes stay, and each answer noted was found by a search. The scope that the answer waits for is incomplete,
+-- and before the own one. Where the answer is known, rows of these shapes are made, and the value may stand behind
+-- them; where the texts are told, the rows, the value and what is noted are the definition's.
+pub record Declares {T : Type 0} (old new : State) (before after : Made) (s : Site) (answer : Result (Ask T) Memory)
+    (shapes : List Shape) (MayStand : Frame → (next : ℕ) → T → Type 0) (given : Context → Makes T) : Type 0 where
   pub works : Works old new before.notes after.notes
   pub waits : IfWaits answer (λ h. Waits old new h)
   pub first : after.first ≡ before.first
   pub grown : IfKnown answer (λ v. Grown old.frame s before after shapes)
-  pub told : WhereMaking old.frame before (λ hand. IfKnown answer (λ v. MakesAll before after (given (context_of old.frame hand s)) v))
+  pub told : WhereMaking old.frame before (λ hand.
+      IfKnown answer (λ v. MakesAll before after (given (context_of old.frame hand s)) v))
   pub there : IfKnown answer (λ v. MayStand old.frame (next_ordinal after) v)
 
 -- an answer that never waits
@@ -154,6 +159,8 @@ known_of (Ok v) = Ok (Known v)
 known_of (Err m) = Err m
 
 -- a piece that asks nothing, at any state of the scopes in which it can be made
-abbrev pub Puts : {T : Type 0} → (before after : Made) → Site → Result T Memory → List Shape → (Frame → (next : ℕ) → T → Type 0) → (Context → Makes T) → Type 0
+abbrev pub Puts : {T : Type 0} → (before after : Made) → Site → Result T Memory → List Shape
+    → (Frame → (next : ℕ) → T → Type 0) → (Context → Makes T) → Type 0
 Puts before after s result shapes MayStand given =
-    (a : State) → IsMaking a.frame s before shapes → Declares a a before after s (known_of result) shapes MayStand given
+    (a : State) → IsMaking a.frame s before shapes
+    → Declares a a before after s (known_of result) shapes MayStand given

@@ -17,4 +17,5 @@ IsCell f next cell = cell ≤ most_cells + 1
 abbrev pub sized_rows : Context → Place → (size cell : ℕ) → List Ident → Makes ℕ
 sized_rows c t size cell [] = makes cell
 sized_rows c t size cell (i ∷ names) =
-    make_then c (makes_named c i.name i.at (Var t Plain cell)) (λ d p. sized_rows d t size (capped (cell + size)) names)
+    make_then c (makes_named c i.name i.at (Var t Plain cell))
+    (λ d p. sized_rows d t size (capped (cell + size)) names)

@@ -4,7 +4,9 @@ ghost use Rattle.std.specs.Option.{IfSome};
 ghost use Rattle.m2_base.specs.Lists.{Each};
 ghost use Rattle.m2_base.specs.Rows.{IsValue, array_kind};
 ghost use Rattle.m2_base.specs.States.{Waits};
-ghost use Rattle.m2_base.specs.Statics.Arrays.{array_rows as spec_rows, array_size as spec_size, checked_index as spec_index, count_by as spec_count_by, is_index_range as spec_is_index_range};
+ghost use Rattle.m2_base.specs.Statics.Arrays.{array_rows as spec_rows, array_size as spec_size};
+ghost use Rattle.m2_base.specs.Statics.Arrays.{checked_index as spec_index, count_by as spec_count_by};
+ghost use Rattle.m2_base.specs.Statics.Arrays.{is_index_range as spec_is_index_range};
 ghost use Rattle.m2_base.specs.Statics.Cells.{capped as spec_capped};
 ghost use Rattle.m2_base.specs.Statics.Makes.{only_gives};
 ghost use Rattle.m2_base.specs.Statics.Ranges.{count_of as spec_count, range};
@@ -121,7 +123,8 @@ pub(crate) fn checked_index<S: Scopes>(
 ) -> Result<Ask<Place>, Memory>
     requires making { IsMaking (S.state scopes.old).frame site.now made.old [] }
     requires there { IsBehind (S.state scopes.old).frame (next_ordinal made.old) of }
-    ensures { Declares (S.state scopes.old) (S.state scopes.new) made.old made.new site.now result [] IsBehind (λ c. only_gives (spec_index c at of)) }
+    ensures { Declares (S.state scopes.old) (S.state scopes.new) made.old made.new site.now result [] IsBehind
+        (λ c. only_gives (spec_index c at of)) }
 {
     let stood = asked!(stand_in(scopes, site, made, of));
     let keep = may_be_index(stood);
@@ -141,7 +144,8 @@ fn put_array<S: Scopes>(
     requires making { IsMaking (S.state scopes.old).frame site.now made.old (nameless array_kind at ∷ []) }
     requires index { IsBehind (S.state scopes.old).frame (next_ordinal made.old) index }
     requires of { IsBehind (S.state scopes.old).frame (next_ordinal made.old) of }
-    ensures { Declares (S.state scopes.old) (S.state scopes.new) made.old made.new site.now result (nameless array_kind at ∷ []) IsBehind (λ c. array_row c at index of) }
+    ensures { Declares (S.state scopes.old) (S.state scopes.new) made.old made.new site.now result
+        (nameless array_kind at ∷ []) IsBehind (λ c. array_row c at index of) }
 {
     let size = asked!(array_cells(scopes, site, made, index, of));
     let array = put!(put_plain(site, made, at, RowMeaning::Array(index, of, size)));
@@ -161,7 +165,8 @@ pub(crate) fn put_arrays<S: Scopes>(
     requires making { IsMaking (S.state scopes.old).frame site.now made.old (arrays_at at (reverse indexes.now)) }
     requires indexes { Each (IsBehind (S.state scopes.old).frame (next_ordinal made.old)) indexes.now }
     requires of { IsBehind (S.state scopes.old).frame (next_ordinal made.old) of }
-    ensures { Declares (S.state scopes.old) (S.state scopes.new) made.old made.new site.now result (arrays_at at (reverse indexes.now)) IsBehind (λ c. spec_rows c at (reverse indexes.now) of) }
+    ensures { Declares (S.state scopes.old) (S.state scopes.new) made.old made.new site.now result
+        (arrays_at at (reverse indexes.now)) IsBehind (λ c. spec_rows c at (reverse indexes.now) of) }
 {
     let mut array = of;
     for index in indexes.iter().rev() {

@@ -1,5 +1,6 @@
 //! Bounds of subranges: which two operands may be bounds, and of which base.
-ghost use Rattle.std.specs.Prelude.{◌≡◌, ◌++◌, ◌∷◌, [], ◌&&◌, ℕ, ℤ, Option, None, Some, IfOk, if◌then◌else◌, int_lt, not, option_map};
+ghost use Rattle.std.specs.Prelude.{◌≡◌, ◌++◌, ◌∷◌, [], ◌&&◌, ℕ, ℤ, Option, None, Some, IfOk, if◌then◌else◌, int_lt};
+ghost use Rattle.std.specs.Prelude.{not, option_map};
 ghost use Rattle.std.specs.Option.{IfSome};
 ghost use Rattle.m2_base.specs.Gives.{Adds, gives};
 ghost use Rattle.m2_base.specs.Lists.{IsPrefixOf};
@@ -11,7 +12,9 @@ ghost use Rattle.m2_base.specs.Statics.Contexts.{Context};
 ghost use Rattle.m2_base.specs.Statics.Operands.{constant_of_operand};
 ghost use Rattle.m2_base.specs.Statics.Ranges.{Range as Values, is_within as spec_within, range};
 ghost use Rattle.m2_base.specs.Statics.Diagnostics.{out_of_range};
-ghost use Rattle.m2_base.specs.Statics.Subranges.{common_type as spec_common, is_broken_base, of_ordinals, of_values, subrange_base as spec_base, whole_base as spec_whole_base, within_base};
+ghost use Rattle.m2_base.specs.Statics.Subranges.{common_type as spec_common, is_broken_base, of_ordinals, of_values};
+ghost use Rattle.m2_base.specs.Statics.Subranges.{subrange_base as spec_base, whole_base as spec_whole_base};
+ghost use Rattle.m2_base.specs.Statics.Subranges.{within_base};
 ghost use Rattle.m2_base.specs.Statics.Types.{range_of, stands_for};
 ghost use Rattle.m2_base.specs.declared.operands.Operand.{Operand as Value};
 ghost use Rattle.m2_base.specs.declared.rows.Place.{Place as Spot};
@@ -104,7 +107,8 @@ fn own_base(of: Place, low: i64) -> Place
 
 /// The base that is named, by what it stands for, where bounds of this type fit it.
 fn named_base(named: Place, of: Place) -> Option<Place>
-    ensures told { (c : Context) (base : Spot) (low : ℤ) → named ≡ stands_for c.scene base → result ≡ spec_base c (Some base) of low }
+    ensures told { (c : Context) (base : Spot) (low : ℤ) → named ≡ stands_for c.scene base
+        → result ≡ spec_base c (Some base) of low }
     ensures there { (f : Frame) → IsThere f named → IfSome result (λ base. IsThere f base) }
 {
     if named == of || is_whole_beside(of, named) {
@@ -116,8 +120,10 @@ fn named_base(named: Place, of: Place) -> Option<Place>
 
 /// The base of bounds of this type, by what the named one stands for, if one is named.
 fn subrange_base(named: Option<Place>, of: Place, low: i64) -> Option<Place>
-    ensures told { (c : Context) (base : Option Spot) → named ≡ option_map (stands_for c.scene) base → result ≡ spec_base c base of low }
-    ensures there { (f : Frame) → IsThere f integer → IsThere f cardinal → IsThere f of → IfSome named (λ base. IsThere f base) → IfSome result (λ base. IsThere f base) }
+    ensures told { (c : Context) (base : Option Spot) → named ≡ option_map (stands_for c.scene) base
+        → result ≡ spec_base c base of low }
+    ensures there { (f : Frame) → IsThere f integer → IsThere f cardinal → IsThere f of
+        → IfSome named (λ base. IsThere f base) → IfSome result (λ base. IsThere f base) }
 {
     match named {
         Some(named) => named_base(named, of),
@@ -127,8 +133,11 @@ fn subrange_base(named: Option<Place>, of: Place, low: i64) -> Option<Place>
 
 /// The bounds of two values whose type is this.
 fn choose_values(named: Option<Place>, of: Place, low: i64, high: i64) -> Choice
-    ensures told { (c : Context) (base : Option Spot) (low_at high_at : ℕ) → named ≡ option_map (stands_for c.scene) base → chosen c low_at high_at result ≡ within_base c low_at high_at low high (spec_base c base of low) }
-    ensures there { (f : Frame) → IsThere f integer → IsThere f cardinal → IsThere f of → IsValue low → IsValue high → IfSome named (λ base. IsThere f base) → IsChoice f result }
+    ensures told { (c : Context) (base : Option Spot) (low_at high_at : ℕ)
+        → named ≡ option_map (stands_for c.scene) base
+        → chosen c low_at high_at result ≡ within_base c low_at high_at low high (spec_base c base of low) }
+    ensures there { (f : Frame) → IsThere f integer → IsThere f cardinal → IsThere f of → IsValue low → IsValue high
+        → IfSome named (λ base. IsThere f base) → IsChoice f result }
 {
     match subrange_base(named, of, low) {
         Some(base) => Choice::Chosen(Bounds { base, low, high }),
@@ -138,8 +147,11 @@ fn choose_values(named: Option<Place>, of: Place, low: i64, high: i64) -> Choice
 
 /// The bounds of two ordinal operands.
 fn choose_ordinals(named: Option<Place>, low: End, high: End) -> Choice
-    ensures told { (c : Context) (base : Option Spot) (x y : Value) (low_at high_at : ℕ) → named ≡ option_map (stands_for c.scene) base → IsEndOf c x low → IsEndOf c y high → chosen c low_at high_at result ≡ of_values c base low_at high_at x y (constant_of_operand x) (constant_of_operand y) }
-    ensures there { (f : Frame) → IsThere f integer → IsThere f cardinal → IsEnd f low → IsEnd f high → IfSome named (λ base. IsThere f base) → IsChoice f result }
+    ensures told { (c : Context) (base : Option Spot) (x y : Value) (low_at high_at : ℕ) → named
+        ≡ option_map (stands_for c.scene) base → IsEndOf c x low → IsEndOf c y high → chosen c low_at high_at result
+        ≡ of_values c base low_at high_at x y (constant_of_operand x) (constant_of_operand y) }
+    ensures there { (f : Frame) → IsThere f integer → IsThere f cardinal → IsEnd f low → IsEnd f high
+        → IfSome named (λ base. IsThere f base) → IsChoice f result }
 {
     let (Some(first), Some(last)) = (low.value, high.value) else {
         return Choice::Nothing;
@@ -152,8 +164,11 @@ fn choose_ordinals(named: Option<Place>, low: End, high: End) -> Choice
 
 /// The bounds of two operands, by what the named base stands for, if one is named.
 pub(crate) fn choose(named: Option<Place>, low: End, high: End) -> Choice
-    ensures told { (c : Context) (base : Option Spot) (x y : Value) (low_at high_at : ℕ) → named ≡ option_map (stands_for c.scene) base → IsEndOf c x low → IsEndOf c y high → chosen c low_at high_at result ≡ (if is_broken_base c base then gives None else of_ordinals c base low_at high_at x y) }
-    ensures there { (f : Frame) → IsThere f integer → IsThere f cardinal → IsEnd f low → IsEnd f high → IfSome named (λ base. IsThere f base) → IsChoice f result }
+    ensures told { (c : Context) (base : Option Spot) (x y : Value) (low_at high_at : ℕ) → named
+        ≡ option_map (stands_for c.scene) base → IsEndOf c x low → IsEndOf c y high → chosen c low_at high_at result
+        ≡ (if is_broken_base c base then gives None else of_ordinals c base low_at high_at x y) }
+    ensures there { (f : Frame) → IsThere f integer → IsThere f cardinal → IsEnd f low → IsEnd f high
+        → IfSome named (λ base. IsThere f base) → IsChoice f result }
 {
     if named == Some(BROKEN) {
         return Choice::Nothing;
@@ -168,8 +183,10 @@ pub(crate) fn choose(named: Option<Place>, low: End, high: End) -> Choice
 
 /// Whether the low bound and the high one lie in the range of their base, which has these ends.
 pub(crate) fn are_within(bounds: Bounds, ends: Option<(i64, i64)>) -> (bool, bool)
-    ensures low { (r : Option Values) → option_map (λ ends. range ends.0 ends.1) ends ≡ r → result.0 ≡ spec_within r bounds.low }
-    ensures high { (r : Option Values) → option_map (λ ends. range ends.0 ends.1) ends ≡ r → result.1 ≡ spec_within r bounds.high }
+    ensures low { (r : Option Values) → option_map (λ ends. range ends.0 ends.1) ends ≡ r
+        → result.0 ≡ spec_within r bounds.low }
+    ensures high { (r : Option Values) → option_map (λ ends. range ends.0 ends.1) ends ≡ r
+        → result.1 ≡ spec_within r bounds.high }
 {
     (is_within(ends, bounds.low), is_within(ends, bounds.high))
 }
@@ -183,7 +200,10 @@ fn is_ordered(bounds: Bounds) -> bool
 
 /// What bounds are, of which the low one and the high one may lie in the range of their base.
 pub(crate) fn judge(bounds: Bounds, within: (bool, bool)) -> Verdict
-    ensures told { (c : Context) (low_at high_at : ℕ) → within.0 ≡ spec_within (range_of c.scene bounds.base) bounds.low → within.1 ≡ spec_within (range_of c.scene bounds.base) bounds.high → given_by c low_at high_at result ≡ kept (within_base c low_at high_at bounds.low bounds.high (Some bounds.base)) }
+    ensures told { (c : Context) (low_at high_at : ℕ)
+        → within.0 ≡ spec_within (range_of c.scene bounds.base) bounds.low
+        → within.1 ≡ spec_within (range_of c.scene bounds.base) bounds.high → given_by c low_at high_at result
+        ≡ kept (within_base c low_at high_at bounds.low bounds.high (Some bounds.base)) }
     ensures there { (f : Frame) → AreBounds f bounds → IsVerdict f result }
 {
     let ordered = is_ordered(bounds);
@@ -205,7 +225,9 @@ pub(crate) fn judge(bounds: Bounds, within: (bool, bool)) -> Verdict
 fn note_both(site: &Site, low_at: u32, high_at: u32, notes: &mut Notes) -> Result<(), Memory>
     ensures answers { notes.new.answers.items ≡ notes.old.answers.items }
     ensures diags { IsPrefixOf notes.old.diags.items notes.new.diags.items }
-    ensures noted { IfOk result (λ _. notes.new.diags.items ≡ (notes.old.diags.items ++ diag_in site.now.around.now.text low_at out_of_range ∷ []) ++ diag_in site.now.around.now.text high_at out_of_range ∷ []) }
+    ensures noted { IfOk result
+        (λ _. notes.new.diags.items ≡ (notes.old.diags.items ++ diag_in site.now.around.now.text low_at out_of_range
+        ∷ []) ++ diag_in site.now.around.now.text high_at out_of_range ∷ []) }
 {
     put!(refuse(site, low_at, Diagnostic::OutOfRange, notes));
     refuse(site, high_at, Diagnostic::OutOfRange, notes)
@@ -221,8 +243,10 @@ pub(crate) fn note_verdict(
 ) -> Result<Option<Bounds>, Memory>
     ensures answers { notes.new.answers.items ≡ notes.old.answers.items }
     ensures diags { IsPrefixOf notes.old.diags.items notes.new.diags.items }
-    ensures told { (c : Context) → c.scene.block.text ≡ site.now.around.now.text → IfOk result (λ given. Adds notes.old notes.new (given_by c low_at high_at verdict) given) }
-    ensures there { (f : Frame) → IsVerdict f verdict → IfOk result (λ given. IfSome given (λ bounds. AreBounds f bounds)) }
+    ensures told { (c : Context) → c.scene.block.text ≡ site.now.around.now.text
+        → IfOk result (λ given. Adds notes.old notes.new (given_by c low_at high_at verdict) given) }
+    ensures there { (f : Frame) → IsVerdict f verdict
+        → IfOk result (λ given. IfSome given (λ bounds. AreBounds f bounds)) }
 {
     match verdict {
         Verdict::Right(bounds) => return Ok(Some(bounds)),

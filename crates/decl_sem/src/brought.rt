@@ -2,14 +2,16 @@
 ghost use Rattle.std.specs.HashSet.{contains};
 ghost use Rattle.std.specs.List.{list_any};
 ghost use Rattle.std.specs.Option.{IfSome};
-ghost use Rattle.std.specs.Prelude.{◌≡◌, ◌<◌, ◌≤◌, ◌+◌, ◌++◌, ◌∷◌, ◌||◌, ◌^◌, ℕ, List, [], length, map, nat_eq, nat_lt, option_map, true, false, cond, not, ◌≢◌, Some, IfOk};
+ghost use Rattle.std.specs.Prelude.{◌≡◌, ◌<◌, ◌≤◌, ◌+◌, ◌++◌, ◌∷◌, ◌||◌, ◌^◌, ℕ, List, [], length, map, nat_eq};
+ghost use Rattle.std.specs.Prelude.{nat_lt, option_map, true, false, cond, not, ◌≢◌, Some, IfOk};
 ghost use Rattle.m2_base.specs.Asks.{IfKnown, IfWaits};
 ghost use Rattle.m2_base.specs.Rows.{Fits, HasSmallNumbers, at_place, is_same_place, row_meaning};
 ghost use Rattle.m2_base.specs.Standard.{is_standard as spec_is_standard};
 ghost use Rattle.m2_base.specs.States.{Frame, Waits};
 ghost use Rattle.m2_base.specs.declared.sites.Around.{Around as Surroundings};
 ghost use Rattle.m2_base.specs.Statics.Contexts.{Context, Scene, row_at};
-ghost use Rattle.m2_base.specs.Statics.ImportedConstants.{Member as PlainMember, leads_elsewhere, members_of, members_of_row};
+ghost use Rattle.m2_base.specs.Statics.ImportedConstants.{Member as PlainMember, leads_elsewhere, members_of};
+ghost use Rattle.m2_base.specs.Statics.ImportedConstants.{members_of_row};
 ghost use Rattle.m2_base.specs.Statics.Lookup.{entry_at, entry_in};
 ghost use Rattle.m2_base.specs.Statics.Uses.{followed};
 ghost use Rattle.m2_base.specs.Tables.{rows_at};
@@ -17,7 +19,8 @@ ghost use Rattle.m2_base.specs.declared.limits.TheConstants as limits;
 ghost use Rattle.type_rules.specs.Asks.{Reads, WhereKnown, WhereWaiting};
 ghost use Rattle.type_rules.specs.Scenes.{IsRowOf, IsThere, Suits, WhereTold, rows_of, scene_of};
 ghost use Rattle.type_rules.specs.Sites.{SuitsSite};
-ghost use Rattle.decl_sem.specs.FoundConstants.{AreFound, AreSeen, IsMember, constant_by, constants_left, constants_of, member_view, members_of_named, with_member};
+ghost use Rattle.decl_sem.specs.FoundConstants.{AreFound, AreSeen, IsMember, constant_by, constants_left};
+ghost use Rattle.decl_sem.specs.FoundConstants.{constants_of, member_view, members_of_named, with_member};
 ghost use Rattle.decl_sem.specs.Making.{next_ordinal};
 ghost use Rattle.decl_sem.specs.NewNames.{earlier_row};
 ghost use Rattle.decl_sem.specs.Pieces.{IsMaking, WhereMaking};
@@ -40,8 +43,8 @@ pub(crate) struct Member {
     pub(crate) place: Place,
 }
 
-/// What is found so far among the constants of an enumeration: those that are new in the block, an index of their names,
-/// and whether one of the others is hidden behind another row of the block.
+/// What is found so far among the constants of an enumeration: those that are new in the block, an index of their
+/// names, and whether one of the others is hidden behind another row of the block.
 #[derive(Drop)]
 pub(crate) struct Found {
     pub(crate) members: Vec<Member>,
@@ -65,9 +68,13 @@ impl Found {
 
     /// One more constant, unless its name is a standard one or that of a new one.
     fn add(&mut self, member: Member) -> Result<(), Memory>
-        ensures given { IfOk result (λ _. (spec_is_standard member.name || contains nat_eq self.old.names member.name) ≡ true → self.new ≡ self.old) }
-        ensures items { IfOk result (λ _. (spec_is_standard member.name || contains nat_eq self.old.names member.name) ≡ false → self.new.members.items ≡ self.old.members.items ++ member ∷ []) }
-        ensures names { IfOk result (λ _. (spec_is_standard member.name || contains nat_eq self.old.names member.name) ≡ false → (n : ℕ) → contains nat_eq self.new.names n ≡ cond (nat_eq member.name n) true (contains nat_eq self.old.names n)) }
+        ensures given { IfOk result (λ _. (spec_is_standard member.name
+            || contains nat_eq self.old.names member.name) ≡ true → self.new ≡ self.old) }
+        ensures items { IfOk result (λ _. (spec_is_standard member.name || contains nat_eq self.old.names member.name)
+            ≡ false → self.new.members.items ≡ self.old.members.items ++ member ∷ []) }
+        ensures names { IfOk result
+            (λ _. (spec_is_standard member.name || contains nat_eq self.old.names member.name) ≡ false → (n : ℕ)
+            → contains nat_eq self.new.names n ≡ cond (nat_eq member.name n) true (contains nat_eq self.old.names n)) }
         ensures hidden { IfOk result (λ _. self.new.hidden ≡ self.old.hidden) }
     {
         if is_standard(member.name) || self.names.contains(&member.name) {
@@ -111,7 +118,8 @@ fn leads_to<S: Scopes>(scopes: &mut S, site: &Site, made: &Made, ordinal: u32) -
     ensures reads { Reads (S.state scopes.old) (S.state scopes.new) }
     ensures waits { WhereWaiting result (λ head. Waits (S.state scopes.old) (S.state scopes.new) head) }
     ensures told { WhereMaking (S.state scopes.old).frame made.now (λ hand.
-        WhereKnown result (λ place. let scene = scene_of (S.state scopes.old).frame hand site.now.around.now in place ≡ (followed scene (entry_at scene (at_place site.now.around.now.scope ordinal))).0)) }
+        WhereKnown result (λ place. let scene = scene_of (S.state scopes.old).frame hand site.now.around.now in
+        place ≡ (followed scene (entry_at scene (at_place site.now.around.now.scope ordinal))).0)) }
 {
     let scope = site.around.scope;
     let own = Place { scope, ordinal };
@@ -141,7 +149,8 @@ pub(crate) fn is_hidden<S: Scopes>(
     ensures reads { Reads (S.state scopes.old) (S.state scopes.new) }
     ensures waits { WhereWaiting result (λ head. Waits (S.state scopes.old) (S.state scopes.new) head) }
     ensures told { WhereMaking (S.state scopes.old).frame made.now (λ hand.
-        WhereKnown result (λ hidden. let scene = scene_of (S.state scopes.old).frame hand site.now.around.now in hidden ≡ leads_elsewhere scene place (entry_in scene.tables scene.block.scope name))) }
+        WhereKnown result (λ hidden. let scene = scene_of (S.state scopes.old).frame hand site.now.around.now in
+        hidden ≡ leads_elsewhere scene place (entry_in scene.tables scene.block.scope name))) }
 {
     let Some(ordinal) = earlier(site, made, name) else {
         return Ask::Known(false);
@@ -162,7 +171,9 @@ fn take_member<S: Scopes>(
     requires member { IsMember (S.state scopes.old).frame member }
     ensures reads { Reads (S.state scopes.old) (S.state scopes.new) }
     ensures waits { IfWaits result (λ head. Waits (S.state scopes.old) (S.state scopes.new) head) }
-    ensures found { IfKnown result (λ _. (all rest : Context → List PlainMember) → AreFound (S.state scopes.old).frame site.now made.now all (λ c. member_view member ∷ rest c) found.old → AreFound (S.state scopes.old).frame site.now made.now all rest found.new) }
+    ensures found { IfKnown result (λ _. (all rest : Context → List PlainMember)
+        → AreFound (S.state scopes.old).frame site.now made.now all (λ c. member_view member ∷ rest c) found.old
+        → AreFound (S.state scopes.old).frame site.now made.now all rest found.new) }
 {
     let Some(ordinal) = earlier(site, made, member.name) else {
         put!(found.add(member));
@@ -194,7 +205,8 @@ fn constant_at<S: Scopes>(scopes: &mut S, site: &Site, place: Place) -> Ask<Opti
     ensures reads { Reads (S.state scopes.old) (S.state scopes.new) }
     ensures waits { WhereWaiting result (λ head. Waits (S.state scopes.old) (S.state scopes.new) head) }
     ensures told { WhereTold (S.state scopes.old).frame (λ made.
-        WhereKnown result (λ member. option_map member_view member ≡ constant_by place (row_at (rows_of (S.state scopes.old).frame made) place))) }
+        WhereKnown result (λ member.
+        option_map member_view member ≡ constant_by place (row_at (rows_of (S.state scopes.old).frame made) place))) }
     ensures member { WhereKnown result (λ member. IfSome member (λ m. IsMember (S.state scopes.old).frame m)) }
 {
     match known!(row_before(scopes, site.around, place)) {
@@ -215,7 +227,9 @@ fn take_place<S: Scopes>(
     requires before { place.scope < (S.state scopes.old).frame.setting.fills }
     ensures reads { Reads (S.state scopes.old) (S.state scopes.new) }
     ensures waits { IfWaits result (λ head. Waits (S.state scopes.old) (S.state scopes.new) head) }
-    ensures found { IfKnown result (λ _. (all rest : Context → List PlainMember) → AreFound (S.state scopes.old).frame site.now made.now all (λ c. with_member (constant_by place (row_at c.scene.tables place)) (rest c)) found.old → AreFound (S.state scopes.old).frame site.now made.now all rest found.new) }
+    ensures found { IfKnown result (λ _. (all rest : Context → List PlainMember) → AreFound (S.state scopes.old).frame
+        site.now made.now all (λ c. with_member (constant_by place (row_at c.scene.tables place)) (rest c)) found.old
+        → AreFound (S.state scopes.old).frame site.now made.now all rest found.new) }
 {
     let Some(member) = asked!(constant_at(scopes, site, place)) else {
         return Ok(Ask::Known(()));
@@ -225,7 +239,8 @@ fn take_place<S: Scopes>(
 
 /// Whether the block's imports would bring too many with these.
 pub(crate) fn is_full(site: &Site, found: &Found) -> bool
-    ensures { result ≡ nat_lt limits.MOST_BROUGHT (length site.now.layout.now.brought + length found.now.members.items) }
+    ensures { result
+        ≡ nat_lt limits.MOST_BROUGHT (length site.now.layout.now.brought + length found.now.members.items) }
 {
     MOST_BROUGHT
         < site
@@ -234,7 +249,8 @@ pub(crate) fn is_full(site: &Site, found: &Found) -> bool
             .saturating_add(found.members.len())
 }
 
-/// The constants of an enumeration at this place of a scope before that has so many, or so many of them that they are too many.
+/// The constants of an enumeration at this place of a scope before that has so many,
+/// or so many of them that they are too many.
 fn constants_in<S: Scopes>(
     alloc: Global,
     scopes: &mut S,
@@ -247,7 +263,8 @@ fn constants_in<S: Scopes>(
     requires before { of.scope < (S.state scopes.old).frame.setting.fills }
     ensures reads { Reads (S.state scopes.old) (S.state scopes.new) }
     ensures waits { IfWaits result (λ head. Waits (S.state scopes.old) (S.state scopes.new) head) }
-    ensures seen { IfKnown result (λ found. AreSeen (S.state scopes.old).frame site.now made.now (λ c. constants_of c.scene (Some (of, count))) found) }
+    ensures seen { IfKnown result (λ found.
+        AreSeen (S.state scopes.old).frame site.now made.now (λ c. constants_of c.scene (Some (of, count))) found) }
 {
     let mut found = Found::new(alloc);
     let (first, end) = ordinals_of(of, count);
@@ -262,9 +279,11 @@ fn constants_in<S: Scopes>(
     Ok(Ask::Known(found))
 }
 
-/// The ordinals of an enumeration's constants: the first, and that behind the last. No row stands behind the greatest ordinal.
+/// The ordinals of an enumeration's constants: the first, and that behind the last.
+/// No row stands behind the greatest ordinal.
 fn ordinals_of(of: Place, count: u32) -> (u32, u32)
-    ensures { (c : Context) → length (rows_at c.scene.tables of.scope) < 2 ^ 32 → constants_of c.scene (Some (of, count)) ≡ constants_left of.scope result.0 result.1 c }
+    ensures { (c : Context) → length (rows_at c.scene.tables of.scope) < 2 ^ 32
+        → constants_of c.scene (Some (of, count)) ≡ constants_left of.scope result.0 result.1 c }
 {
     let first = of.ordinal.saturating_add(1);
     let end = first.saturating_add(count);
@@ -275,7 +294,8 @@ fn ordinals_of(of: Place, count: u32) -> (u32, u32)
 fn named_type(row: &Row, place: Place) -> Option<Place>
     requires small { HasSmallNumbers (row_meaning row.now) }
     ensures told { (scene : Scene) → members_of_row scene (row_meaning row.now) ≡ members_of_named scene result }
-    ensures there { (f : Frame) (a : Surroundings) (n : ℕ) → Suits f a → IsThere f place → Fits n place (row_meaning row.now) → IfSome result (λ t. IsThere f t) }
+    ensures there { (f : Frame) (a : Surroundings) (n : ℕ) → Suits f a → IsThere f place
+        → Fits n place (row_meaning row.now) → IfSome result (λ t. IsThere f t) }
     ensures upto { (n : ℕ) → Fits n place (row_meaning row.now) → IfSome result (λ t. t.scope ≤ place.scope) }
 {
     let _place = small_place(place);
@@ -285,8 +305,8 @@ fn named_type(row: &Row, place: Place) -> Option<Place>
     }
 }
 
-/// The enumeration to whose name an entry of a scope before leads: its place, and the number of its constants. The standard scope's
-/// brings nothing.
+/// The enumeration to whose name an entry of a scope before leads: its place, and the number of its constants. The
+/// standard scope's brings nothing.
 fn enumeration_of<S: Scopes>(
     scopes: &mut S,
     site: &Site,
@@ -299,7 +319,8 @@ fn enumeration_of<S: Scopes>(
     ensures waits { WhereWaiting result (λ head. Waits (S.state scopes.old) (S.state scopes.new) head) }
     ensures before { WhereKnown result (λ of. IfSome of (λ e. e.0.scope < (S.state scopes.old).frame.setting.fills)) }
     ensures told { WhereTold (S.state scopes.old).frame (λ made.
-        WhereKnown result (λ of. let scene = scene_of (S.state scopes.old).frame made site.now.around.now in members_of scene entry ≡ constants_of scene of)) }
+        WhereKnown result (λ of. let scene = scene_of (S.state scopes.old).frame made site.now.around.now in
+        members_of scene entry ≡ constants_of scene of)) }
 {
     let Some((place, row)) = entry else {
         return Ask::Known(None);
@@ -326,7 +347,8 @@ pub(crate) fn members_in<S: Scopes>(
     requires before { IfSome entry (λ e. e.0.scope < (S.state scopes.old).frame.setting.fills) }
     ensures reads { Reads (S.state scopes.old) (S.state scopes.new) }
     ensures waits { IfWaits result (λ head. Waits (S.state scopes.old) (S.state scopes.new) head) }
-    ensures seen { IfKnown result (λ found. AreSeen (S.state scopes.old).frame site.now made.now (λ c. members_of c.scene entry) found) }
+    ensures seen { IfKnown result
+        (λ found. AreSeen (S.state scopes.old).frame site.now made.now (λ c. members_of c.scene entry) found) }
 {
     let Some((of, count)) = asked!(enumeration_of(scopes, site, entry)) else {
         return Ok(Ask::Known(Found::new(alloc)));

@@ -30,7 +30,9 @@ pub(crate) fn fit(
     of: Place,
     made: &mut Made,
 ) -> Result<Place, Memory>
-    ensures { (a : State) → IsMaking a.frame site.now made.old [] → IsBehind a.frame (next_ordinal made.old) of → Declares a a made.old made.new site.now (known_of result) [] IsBehind (λ c. only_gives (fitting c at size of)) }
+    ensures { (a : State) → IsMaking a.frame site.now made.old [] → IsBehind a.frame (next_ordinal made.old) of
+        → Declares a a made.old made.new site.now (known_of result) [] IsBehind
+        (λ c. only_gives (fitting c at size of)) }
 {
     if size < TOO_MANY_CELLS {
         return Ok(of);

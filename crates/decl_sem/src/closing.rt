@@ -1,9 +1,10 @@
-//! What is checked when the scope of a block is complete: its closing name, and in an implementation module that it has all
-//! that its definition promises.
+//! What is checked when the scope of a block is complete: its closing name, and in an implementation module that it
+//! has all that its definition promises.
 ghost use Rattle.std.specs.Prelude.{◌≡◌, ◌<◌, ◌++◌, ◌||◌, [], IfOk, None, Some, true};
 ghost use Rattle.m2_base.specs.Asks.{IfKnown, IfWaits};
 ghost use Rattle.m2_base.specs.States.{Waits, fills_of};
-ghost use Rattle.m2_base.specs.Statics.Closing.{all_implemented, block_name as spec_block_name, closing_diags, implementation_diags, name_diags, own_diags};
+ghost use Rattle.m2_base.specs.Statics.Closing.{all_implemented, block_name as spec_block_name, closing_diags};
+ghost use Rattle.m2_base.specs.Statics.Closing.{implementation_diags, name_diags, own_diags};
 ghost use Rattle.m2_base.specs.Statics.Contexts.{Context};
 ghost use Rattle.m2_base.specs.Tables.{rows_at};
 ghost use Rattle.m2_base.specs.Views.{stream_view};
@@ -34,7 +35,8 @@ fn check_name(
     name: Option<Ident>,
     diags: &mut Vec<Diag>,
 ) -> Result<(), Memory>
-    ensures { IfOk result (λ _. (c : Context) → c.scene.block.text ≡ text → diags.new.items ≡ diags.old.items ++ name_diags c close name) }
+    ensures { IfOk result (λ _.
+        (c : Context) → c.scene.block.text ≡ text → diags.new.items ≡ diags.old.items ++ name_diags c close name) }
 {
     let Some(name) = name else {
         return Ok(());
@@ -47,8 +49,8 @@ fn check_name(
     Ok(())
 }
 
-/// Checks a row of the definition: whether nothing implements it. A procedure that differs from its heading is refused at
-/// its name.
+/// Checks a row of the definition: whether nothing implements it. A procedure that differs from its heading is refused
+/// at its name.
 #[tactic(auto, using(type_rules::proofs::Reading::reading))]
 fn check_row<S: Scopes>(
     scopes: &mut S,
@@ -62,8 +64,9 @@ fn check_row<S: Scopes>(
     requires row { IsRowOf (S.state scopes.old).frame place row.now }
     ensures reads { Reads (S.state scopes.old) (S.state scopes.new) }
     ensures waits { IfWaits result (λ head. Waits (S.state scopes.old) (S.state scopes.new) head) }
-    ensures told { WhereTold (S.state scopes.old).frame (λ made. let c = context_of (S.state scopes.old).frame made site.now in
-        IfKnown result (λ missing. AreChecked c (row_implemented c place row.now) notes.old.diags.items notes.new.diags.items missing)) }
+    ensures told { WhereTold (S.state scopes.old).frame (λ made.
+        let c = context_of (S.state scopes.old).frame made site.now in IfKnown result (λ missing.
+        AreChecked c (row_implemented c place row.now) notes.old.diags.items notes.new.diags.items missing)) }
     ensures answers { notes.new.answers.items ≡ notes.old.answers.items }
 {
     if row.name == 0 {
@@ -99,8 +102,10 @@ fn check_rows<S: Scopes>(
     requires before { own < fills_of (S.state scopes.old) }
     ensures reads { Reads (S.state scopes.old) (S.state scopes.new) }
     ensures waits { IfWaits result (λ head. Waits (S.state scopes.old) (S.state scopes.new) head) }
-    ensures told { WhereTold (S.state scopes.old).frame (λ made. let c = context_of (S.state scopes.old).frame made site.now in
-        IfKnown result (λ missing. AreChecked c (all_implemented c.scene own 0 (rows_at c.scene.tables own)) notes.old.diags.items notes.new.diags.items missing)) }
+    ensures told { WhereTold (S.state scopes.old).frame (λ made.
+        let c = context_of (S.state scopes.old).frame made site.now in
+        IfKnown result (λ missing. AreChecked c (all_implemented c.scene own 0 (rows_at c.scene.tables own))
+        notes.old.diags.items notes.new.diags.items missing)) }
     ensures answers { notes.new.answers.items ≡ notes.old.answers.items }
 {
     let mut missing = false;
@@ -132,8 +137,10 @@ fn check_own<S: Scopes>(
     requires before { own < fills_of (S.state scopes.old) }
     ensures reads { Reads (S.state scopes.old) (S.state scopes.new) }
     ensures waits { IfWaits result (λ head. Waits (S.state scopes.old) (S.state scopes.new) head) }
-    ensures told { WhereTold (S.state scopes.old).frame (λ made. let c = context_of (S.state scopes.old).frame made site.now in
-        IfKnown result (λ _. notes.new.diags.items ≡ notes.old.diags.items ++ implementation_diags c (Some name) (all_implemented c.scene own 0 (rows_at c.scene.tables own)))) }
+    ensures told { WhereTold (S.state scopes.old).frame (λ made.
+        let c = context_of (S.state scopes.old).frame made site.now in
+        IfKnown result (λ _. notes.new.diags.items ≡ notes.old.diags.items
+        ++ implementation_diags c (Some name) (all_implemented c.scene own 0 (rows_at c.scene.tables own)))) }
     ensures answers { notes.new.answers.items ≡ notes.old.answers.items }
 {
     let missing = analysed!(check_rows(scopes, site, own, notes));
@@ -156,8 +163,9 @@ fn check_definition<S: Scopes>(
     requires complete { (S.state scopes.old).frame.closed ≡ true }
     ensures reads { Reads (S.state scopes.old) (S.state scopes.new) }
     ensures waits { IfWaits result (λ head. Waits (S.state scopes.old) (S.state scopes.new) head) }
-    ensures told { WhereTold (S.state scopes.old).frame (λ made. let c = context_of (S.state scopes.old).frame made site.now in
-        IfKnown result (λ _. notes.new.diags.items ≡ notes.old.diags.items ++ own_diags c (stream_view stream.now) site.now.around.now.own)) }
+    ensures told { WhereTold (S.state scopes.old).frame (λ made.
+        let c = context_of (S.state scopes.old).frame made site.now in IfKnown result (λ _. notes.new.diags.items
+        ≡ notes.old.diags.items ++ own_diags c (stream_view stream.now) site.now.around.now.own)) }
     ensures answers { notes.new.answers.items ≡ notes.old.answers.items }
 {
     if site.around.level != 0 {
@@ -174,7 +182,8 @@ fn check_definition<S: Scopes>(
 
 /// What is noted of the closing name of a block.
 fn check_closing(alloc: Global, text: u32, stream: &Stream) -> Result<Notes, Memory>
-    ensures told { IfOk result (λ notes. (c : Context) → c.scene.block.text ≡ text → notes.diags.items ≡ name_diags c stream.now.close (spec_block_name (stream_view stream.now))) }
+    ensures told { IfOk result (λ notes. (c : Context) → c.scene.block.text ≡ text
+        → notes.diags.items ≡ name_diags c stream.now.close (spec_block_name (stream_view stream.now))) }
     ensures answers { IfOk result (λ notes. notes.answers.items ≡ []) }
 {
     let mut notes = Notes::new(alloc);
@@ -196,7 +205,8 @@ pub fn close_check<S: Scopes>(
     ensures reads { Reads (S.state scopes.old) (S.state scopes.new) }
     ensures waits { IfWaits result (λ head. Waits (S.state scopes.old) (S.state scopes.new) head) }
     ensures told { WhereTold (S.state scopes.old).frame (λ made.
-        IfKnown result (λ notes. notes.diags.items ≡ closing_diags (context_of (S.state scopes.old).frame made site.now) (stream_view stream.now))) }
+        IfKnown result (λ notes. notes.diags.items
+        ≡ closing_diags (context_of (S.state scopes.old).frame made site.now) (stream_view stream.now))) }
     ensures answers { IfKnown result (λ notes. notes.answers.items ≡ []) }
 {
     let mut notes = check_closing(alloc, site.around.text, stream)?;

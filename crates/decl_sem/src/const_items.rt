@@ -36,7 +36,8 @@ fn put_value<S: Scopes>(
     requires value { IsOperand (S.state scopes.now).frame (Constant of value) }
     requires text { IsNamedText (S.state scopes.now).frame (Constant of value) }
     requires small { of.ordinal < 2 ^ 32 }
-    ensures { Declares (S.state scopes.now) (S.state scopes.now) made.old made.new site.now (known_of result) (named const_kind name ∷ []) IsBehind (λ c. spec_named c name.name name.at (Const of value 0)) }
+    ensures { Declares (S.state scopes.now) (S.state scopes.now) made.old made.new site.now (known_of result)
+        (named const_kind name ∷ []) IsBehind (λ c. spec_named c name.name name.at (Const of value 0)) }
 {
     name_row(scopes, site, made, name, RowMeaning::Const(of, value, 0))
 }
@@ -53,7 +54,9 @@ fn put_string<S: Scopes>(
     requires making { IsMaking (S.state scopes.now).frame site.now made.old (named const_kind name ∷ []) }
     requires read { IsReadName site.now.texts.now.names name }
     requires value { IsOperand (S.state scopes.now).frame (StringConstant text length) }
-    ensures { Declares (S.state scopes.now) (S.state scopes.now) made.old made.new site.now (known_of result) (named const_kind name ∷ []) IsBehind (λ c. spec_named c name.name name.at (Const text_type (pos text) length)) }
+    ensures { Declares (S.state scopes.now) (S.state scopes.now) made.old made.new site.now
+        (known_of result) (named const_kind name ∷ []) IsBehind
+        (λ c. spec_named c name.name name.at (Const text_type (pos text) length)) }
 {
     let value = text as i64;
     name_row(
@@ -74,7 +77,8 @@ fn put_broken<S: Scopes>(
 ) -> Result<Place, Memory>
     requires making { IsMaking (S.state scopes.now).frame site.now made.old (named const_kind name ∷ []) }
     requires read { IsReadName site.now.texts.now.names name }
-    ensures { Declares (S.state scopes.now) (S.state scopes.now) made.old made.new site.now (known_of result) (named const_kind name ∷ []) IsBehind (λ c. spec_named c name.name name.at (Const broken (pos 0) 0)) }
+    ensures { Declares (S.state scopes.now) (S.state scopes.now) made.old made.new site.now (known_of result)
+        (named const_kind name ∷ []) IsBehind (λ c. spec_named c name.name name.at (Const broken (pos 0) 0)) }
 {
     name_row(scopes, site, made, name, RowMeaning::Const(BROKEN, 0, 0))
 }
@@ -89,8 +93,10 @@ fn put_constant<S: Scopes>(
 ) -> Result<Place, Memory>
     requires making { IsMaking (S.state scopes.now).frame site.now made.old (named const_kind name ∷ []) }
     requires read { IsReadName site.now.texts.now.names name }
-    requires constant { IfSome constant (λ operand. IsOperand (S.state scopes.now).frame operand × IsNamedText (S.state scopes.now).frame operand) }
-    ensures { Declares (S.state scopes.now) (S.state scopes.now) made.old made.new site.now (known_of result) (named const_kind name ∷ []) IsBehind (λ c. spec_named c name.name name.at (spec_meaning constant)) }
+    requires constant { IfSome constant
+        (λ operand. IsOperand (S.state scopes.now).frame operand × IsNamedText (S.state scopes.now).frame operand) }
+    ensures { Declares (S.state scopes.now) (S.state scopes.now) made.old made.new site.now (known_of result)
+        (named const_kind name ∷ []) IsBehind (λ c. spec_named c name.name name.at (spec_meaning constant)) }
 {
     match constant {
         Some(Operand::Constant(of, value)) => {
@@ -114,7 +120,8 @@ pub(crate) fn const_rows<S: Scopes>(
     requires making { IsMaking (S.state scopes.old).frame site.now made.old (named const_kind name ∷ []) }
     requires read { IsReadExpr site.now.texts.now.names (expr_view value.now) }
     requires named { IsReadName site.now.texts.now.names name }
-    ensures { Declares (S.state scopes.old) (S.state scopes.new) made.old made.new site.now result (named const_kind name ∷ []) IsBehind (λ c. spec_rows c name (expr_view value.now)) }
+    ensures { Declares (S.state scopes.old) (S.state scopes.new) made.old made.new site.now result
+        (named const_kind name ∷ []) IsBehind (λ c. spec_rows c name (expr_view value.now)) }
 {
     match constant(scopes, site, value, &mut made.notes) {
         Ok(Ask::Known(constant)) => match put_constant(scopes, site, made, name, constant) {

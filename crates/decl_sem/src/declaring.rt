@@ -39,8 +39,10 @@ pub fn declare<S: Scopes>(
     item: &Item,
     before: Before,
 ) -> Result<Ask<Declared>, Memory>
-    requires { IsAtItem (S.state scopes.old).frame site.now (stream_view stream.now) (item_view item.now) before.cell before.procedures }
-    ensures { DeclaresItem (S.state scopes.old) (S.state scopes.new) site.now (stream_view stream.now) result (item_shapes (item_view item.now)) (λ c. spec_declare c stream.now.kind (item_view item.now) before.cell) }
+    requires { IsAtItem (S.state scopes.old).frame site.now (stream_view stream.now)
+        (item_view item.now) before.cell before.procedures }
+    ensures { DeclaresItem (S.state scopes.old) (S.state scopes.new) site.now (stream_view stream.now) result
+        (item_shapes (item_view item.now)) (λ c. spec_declare c stream.now.kind (item_view item.now) before.cell) }
 {
     let Some(first) = first_ordinal(site) else {
         unreachable!()

@@ -33,7 +33,13 @@ impl Model for Effect {
 
     ghost Value = { PlainEffect };
 
-    ghost view = { λ e. record { cell = e.cell; prologue = map copy_view e.prologue.items; result = e.result; heading = e.heading; brought = e.brought.items } };
+    ghost view = { λ e. record {
+      cell = e.cell;
+      prologue = map copy_view e.prologue.items;
+      result = e.result;
+      heading = e.heading;
+      brought = e.brought.items;
+    } };
 }
 
 /// The next free cell, and nothing else.

@@ -30,7 +30,8 @@ use type_rules::{BROKEN, range_by};
 
 /// Notes a second field of a name.
 fn note_second(site: &Site, at: u32, second: bool, notes: &mut Notes) -> Result<(), Memory>
-    ensures noted { IfOk result (λ _. notes.new.diags.items ≡ notes.old.diags.items ++ (if second then diag_in site.now.around.now.text at declared_twice ∷ [] else [])) }
+    ensures noted { IfOk result (λ _. notes.new.diags.items
+        ≡ notes.old.diags.items ++ (if second then diag_in site.now.around.now.text at declared_twice ∷ [] else [])) }
     ensures diags { IsPrefixOf notes.old.diags.items notes.new.diags.items }
     ensures answers { notes.new.answers.items ≡ notes.old.answers.items }
 {
@@ -56,7 +57,8 @@ fn put_field<S: Scopes>(
     requires behind { made.old.first ≤ own }
     requires within { own < item_end site.now }
     requires offset { offset ≤ most_cells + 1 }
-    ensures { Declares (S.state scopes.now) (S.state scopes.now) made.old made.new site.now (known_of result) (nameless field_kind name.at ∷ []) IsBehind (λ c. field_row c own name of offset) }
+    ensures { Declares (S.state scopes.now) (S.state scopes.now) made.old made.new site.now (known_of result)
+        (nameless field_kind name.at ∷ []) IsBehind (λ c. field_row c own name of offset) }
 {
     let second = made.rows.has_field(own, name.name);
     put!(note_second(site, name.at, second, &mut made.notes));
@@ -75,13 +77,15 @@ fn put_sized<S: Scopes>(
     offset: u32,
     names: &[Ident],
 ) -> Result<u32, Memory>
-    requires making { IsMaking (S.state scopes.now).frame site.now made.old (map (λ i. nameless field_kind i.at) names.now) }
+    requires making { IsMaking (S.state scopes.now).frame site.now made.old
+        (map (λ i. nameless field_kind i.at) names.now) }
     requires of { IsBehind (S.state scopes.now).frame (next_ordinal made.old) of }
     requires read { AreReadNames site.now.texts.now.names names.now }
     requires owner { IsOwner site.now made.old (map (λ i. nameless field_kind i.at) names.now) own }
     requires size { size < 2 ^ 32 }
     requires offset { offset ≤ most_cells + 1 }
-    ensures { Declares (S.state scopes.now) (S.state scopes.now) made.old made.new site.now (known_of result) (map (λ i. nameless field_kind i.at) names.now) IsOffset (λ c. sized_fields c own of size offset names.now) }
+    ensures { Declares (S.state scopes.now) (S.state scopes.now) made.old made.new site.now (known_of result)
+        (map (λ i. nameless field_kind i.at) names.now) IsOffset (λ c. sized_fields c own of size offset names.now) }
 {
     let mut next = offset;
     for name in names {
@@ -93,8 +97,8 @@ fn put_sized<S: Scopes>(
     Ok(next)
 }
 
-/// Fields of one type that is made, from this offset on, of the record whose row has this ordinal. The value is the offset
-/// behind them.
+/// Fields of one type that is made, from this offset on, of the record whose row has this ordinal. The value is the
+/// offset behind them.
 pub(crate) fn put_fields<S: Scopes>(
     scopes: &mut S,
     site: &Site,
@@ -104,12 +108,14 @@ pub(crate) fn put_fields<S: Scopes>(
     offset: u32,
     names: &[Ident],
 ) -> Result<Ask<u32>, Memory>
-    requires making { IsMaking (S.state scopes.old).frame site.now made.old (map (λ i. nameless field_kind i.at) names.now) }
+    requires making { IsMaking (S.state scopes.old).frame site.now made.old
+        (map (λ i. nameless field_kind i.at) names.now) }
     requires of { IsBehind (S.state scopes.old).frame (next_ordinal made.old) of }
     requires read { AreReadNames site.now.texts.now.names names.now }
     requires owner { IsOwner site.now made.old (map (λ i. nameless field_kind i.at) names.now) own }
     requires offset { offset ≤ most_cells + 1 }
-    ensures { Declares (S.state scopes.old) (S.state scopes.new) made.old made.new site.now result (map (λ i. nameless field_kind i.at) names.now) IsOffset (λ c. plain_rows c own of offset names.now) }
+    ensures { Declares (S.state scopes.old) (S.state scopes.new) made.old made.new site.now result
+        (map (λ i. nameless field_kind i.at) names.now) IsOffset (λ c. plain_rows c own of offset names.now) }
 {
     match cells_of(scopes, site, made, of) {
         Ask::Known(size) => match put_sized(scopes, site, made, own, of, size, offset, names) {
@@ -130,7 +136,9 @@ fn is_no_tag(stood: (Place, RowMeaning)) -> bool
 
 /// A tag's type that is kept, or refused and then in error.
 fn keep_tag(site: &Site, at: u32, wrong: bool, of: Place, made: &mut Made) -> Result<Place, Memory>
-    ensures { (a : State) → IsMaking a.frame site.now made.old [] → IsTagType a.frame (next_ordinal made.old) of → Declares a a made.old made.new site.now (known_of result) [] IsTagType (λ c. only_gives (if wrong then refuses c at wrong_operands broken else gives of)) }
+    ensures { (a : State) → IsMaking a.frame site.now made.old [] → IsTagType a.frame (next_ordinal made.old) of
+        → Declares a a made.old made.new site.now (known_of result) [] IsTagType
+        (λ c. only_gives (if wrong then refuses c at wrong_operands broken else gives of)) }
 {
     if wrong {
         put!(refuse(site, at, Diagnostic::WrongOperands, &mut made.notes));
@@ -149,7 +157,8 @@ fn checked_tag<S: Scopes>(
 ) -> Result<Ask<Place>, Memory>
     requires making { IsMaking (S.state scopes.old).frame site.now made.old [] }
     requires there { IsTagType (S.state scopes.old).frame (next_ordinal made.old) of }
-    ensures { Declares (S.state scopes.old) (S.state scopes.new) made.old made.new site.now result [] IsTagType (λ c. only_gives (spec_checked c at of)) }
+    ensures { Declares (S.state scopes.old) (S.state scopes.new) made.old made.new site.now result [] IsTagType
+        (λ c. only_gives (spec_checked c at of)) }
 {
     let stood = asked!(stand_in(scopes, site, made, of));
     let wrong = is_no_tag(stood);
@@ -166,7 +175,8 @@ fn named_tag<S: Scopes>(
 ) -> Result<Ask<Place>, Memory>
     requires making { IsMaking (S.state scopes.old).frame site.now made.old [] }
     requires read { IsReadQual site.now.texts.now.names qual }
-    ensures { Declares (S.state scopes.old) (S.state scopes.new) made.old made.new site.now result [] IsTagType (λ c. only_gives (spec_type_of c qual)) }
+    ensures { Declares (S.state scopes.old) (S.state scopes.new) made.old made.new site.now result [] IsTagType
+        (λ c. only_gives (spec_type_of c qual)) }
 {
     let named = analysed!(type_of_qual(scopes, site, qual, &mut made.notes));
     let of = small_place(named);
@@ -182,14 +192,15 @@ pub(crate) fn tag_in<S: Scopes>(
 ) -> Result<Ask<Place>, Memory>
     requires making { IsMaking (S.state scopes.old).frame site.now made.old [] }
     requires read { IsReadQual site.now.texts.now.names qual }
-    ensures { Declares (S.state scopes.old) (S.state scopes.new) made.old made.new site.now result [] IsTagType (λ c. only_gives (tag_type c qual)) }
+    ensures { Declares (S.state scopes.old) (S.state scopes.new) made.old made.new site.now result [] IsTagType
+        (λ c. only_gives (tag_type c qual)) }
 {
     let of = analysed!(named_tag(scopes, site, qual, made));
     checked_tag(scopes, site, qual.first.at, of, made)
 }
 
-/// The tag of a variant part, where it has a name, at this offset, of the record whose row has this ordinal. The value is the
-/// offset behind it.
+/// The tag of a variant part, where it has a name, at this offset, of the record whose row has this ordinal. The value
+/// is the offset behind it.
 pub(crate) fn put_tag<S: Scopes>(
     scopes: &S,
     site: &Site,
@@ -204,7 +215,8 @@ pub(crate) fn put_tag<S: Scopes>(
     requires read { IsReadOption site.now.texts.now.names tag }
     requires owner { IsOwner site.now made.old (tag_shapes tag) own }
     requires offset { offset ≤ most_cells + 1 }
-    ensures { Declares (S.state scopes.now) (S.state scopes.now) made.old made.new site.now (known_of result) (tag_shapes tag) IsOffset (λ c. tag_rows c own offset of tag) }
+    ensures { Declares (S.state scopes.now) (S.state scopes.now) made.old made.new site.now (known_of result)
+        (tag_shapes tag) IsOffset (λ c. tag_rows c own offset of tag) }
 {
     let Some(name) = tag else {
         return Ok(offset);

@@ -29,7 +29,8 @@ fn cell_after<S: Scopes>(
     ensures reads { Reads (S.state scopes.old) (S.state scopes.new) }
     ensures waits { WhereWaiting result (λ head. Waits (S.state scopes.old) (S.state scopes.new) head) }
     ensures told { WhereTold (S.state scopes.old).frame (λ made.
-        WhereKnown result (λ next. next ≡ spec_after (scene_of (S.state scopes.old).frame made around.now) cell (row_meaning row.now))) }
+        WhereKnown result
+        (λ next. next ≡ spec_after (scene_of (S.state scopes.old).frame made around.now) cell (row_meaning row.now))) }
     ensures cell { WhereKnown result (λ next. next ≤ most_cells + 1) }
 {
     let _scope = place.scope;
@@ -48,7 +49,8 @@ fn cell_behind<S: Scopes>(scopes: &mut S, around: &Around, own: u32) -> Ask<u32>
     ensures reads { Reads (S.state scopes.old) (S.state scopes.new) }
     ensures waits { WhereWaiting result (λ head. Waits (S.state scopes.old) (S.state scopes.new) head) }
     ensures told { WhereTold (S.state scopes.old).frame (λ made.
-        WhereKnown result (λ cell. cell ≡ cells_after (scene_of (S.state scopes.old).frame made around.now) 0 (rows_at (rows_of (S.state scopes.old).frame made) own))) }
+        WhereKnown result (λ cell. cell ≡ cells_after (scene_of (S.state scopes.old).frame made around.now) 0
+        (rows_at (rows_of (S.state scopes.old).frame made) own))) }
     ensures cell { WhereKnown result (λ cell. cell ≤ most_cells + 1) }
 {
     let mut cell = 0;
@@ -73,7 +75,8 @@ pub fn first_cell<S: Scopes>(scopes: &mut S, around: &Around, kind: StreamKind) 
     ensures reads { Reads (S.state scopes.old) (S.state scopes.new) }
     ensures waits { WhereWaiting result (λ head. Waits (S.state scopes.old) (S.state scopes.new) head) }
     ensures told { WhereTold (S.state scopes.old).frame (λ made.
-        WhereKnown result (λ cell. cell ≡ spec_first (scene_of (S.state scopes.old).frame made around.now) kind around.now.own)) }
+        WhereKnown result
+        (λ cell. cell ≡ spec_first (scene_of (S.state scopes.old).frame made around.now) kind around.now.own)) }
     ensures cell { WhereKnown result (λ cell. cell ≤ most_cells + 1) }
 {
     match (kind, around.own) {

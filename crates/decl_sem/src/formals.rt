@@ -24,7 +24,9 @@ fn open_in(
 ) -> Result<Place, Memory>
     requires room { next_ordinal made.old < 2 ^ 32 }
     requires scope { IsSmallScope of }
-    ensures { (a : State) → IsMaking a.frame site.now made.old (open_shapes is_open qual) → IsBehind a.frame (next_ordinal made.old) of → Declares a a made.old made.new site.now (known_of result) (open_shapes is_open qual) IsBehind (λ c. open_array_row c qual.first.at is_open of) }
+    ensures { (a : State) → IsMaking a.frame site.now made.old (open_shapes is_open qual)
+        → IsBehind a.frame (next_ordinal made.old) of → Declares a a made.old made.new site.now (known_of result)
+        (open_shapes is_open qual) IsBehind (λ c. open_array_row c qual.first.at is_open of) }
 {
     if is_open {
         put_plain(site, made, qual.first.at, RowMeaning::OpenArray(of))
@@ -44,7 +46,8 @@ fn parameter_type<S: Scopes>(
     requires making { IsMaking (S.state scopes.old).frame site.now made.old (open_shapes is_open qual) }
     requires room { next_ordinal made.old < 2 ^ 32 }
     requires read { IsReadQual site.now.texts.now.names qual }
-    ensures { Declares (S.state scopes.old) (S.state scopes.new) made.old made.new site.now result (open_shapes is_open qual) IsBehind (λ c. spec_type c is_open qual) }
+    ensures { Declares (S.state scopes.old) (S.state scopes.new) made.old made.new site.now result
+        (open_shapes is_open qual) IsBehind (λ c. spec_type c is_open qual) }
 {
     let of = analysed!(name_in(scopes, site, qual, made));
     let typ = put!(open_in(site, made, qual, is_open, of));
@@ -61,7 +64,9 @@ pub(crate) fn formal_in<S: Scopes>(
 ) -> Result<Ask<Place>, Memory>
     requires making { IsMaking (S.state scopes.old).frame site.now made.old (formal_shapes formal.now) }
     requires read { IsReadQual site.now.texts.now.names formal.now.of }
-    ensures { Declares (S.state scopes.old) (S.state scopes.new) made.old made.new site.now result (formal_shapes formal.now) IsBehind (λ c. make_then c (spec_type c formal.now.is_open formal.now.of) (λ d t. makes_row d formal.now.of.first.at (meanings.Param t formal.now.by_ref own))) }
+    ensures { Declares (S.state scopes.old) (S.state scopes.new) made.old made.new site.now result
+        (formal_shapes formal.now) IsBehind (λ c. make_then c (spec_type c formal.now.is_open formal.now.of)
+        (λ d t. makes_row d formal.now.of.first.at (meanings.Param t formal.now.by_ref own))) }
 {
     let of = analysed!(parameter_type(scopes, site, formal.of, formal.is_open, made));
     let meaning = RowMeaning::Param(of, formal.by_ref, own);
@@ -79,7 +84,8 @@ pub(crate) fn formals_in<S: Scopes>(
 ) -> Result<Ask<()>, Memory>
     requires making { IsMaking (S.state scopes.old).frame site.now made.old (flat_map formal_shapes formals.now) }
     requires read { AreReadFormals site.now.texts.now.names formals.now }
-    ensures { Declares (S.state scopes.old) (S.state scopes.new) made.old made.new site.now result (flat_map formal_shapes formals.now) IsAny (λ c. formal_rows c own formals.now) }
+    ensures { Declares (S.state scopes.old) (S.state scopes.new) made.old made.new site.now result
+        (flat_map formal_shapes formals.now) IsAny (λ c. formal_rows c own formals.now) }
 {
     for formal in formals {
         analysed!(formal_in(scopes, site, own, formal, made));

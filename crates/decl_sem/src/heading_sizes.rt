@@ -1,12 +1,14 @@
 //! How many parameters, cells and rows a heading has, by its syntax.
 ghost use Rattle.std.specs.Prelude.{◌≡◌, ◌+◌, ◌*◌, ◌<◌, ◌≤◌, ◌^◌, if◌then◌else◌, length, map};
-ghost use Rattle.m2_base.specs.Statics.ProcedureRows.{heading_note as spec_note, parameter_cells, parameter_count, result_cells as spec_result, section_cells, sections_length};
+ghost use Rattle.m2_base.specs.Statics.ProcedureRows.{heading_note as spec_note, parameter_cells, parameter_count};
+ghost use Rattle.m2_base.specs.Statics.ProcedureRows.{result_cells as spec_result, section_cells, sections_length};
 ghost use Rattle.m2_base.specs.Statics.Shapes.{section_shapes};
 ghost use Rattle.m2_base.specs.Views.{heading_view, section_view};
 
 use m2_base::{Heading, HeadingNote, Qual, Section, StreamKind};
 
-/// The numbers of the parameters, of the cells in which they arrive, and of their rows in the scope round the procedure.
+/// The numbers of the parameters, of the cells in which they arrive,
+/// and of their rows in the scope round the procedure.
 #[derive(Clone, Copy)]
 pub(crate) struct HeadingSizes {
     pub(crate) count: u32,

@@ -4,7 +4,9 @@ ghost use Rattle.std.specs.Option.{IfSome};
 ghost use Rattle.m2_base.specs.Rows.{is_same_place, row_meaning};
 ghost use Rattle.m2_base.specs.Standard.{broken};
 ghost use Rattle.m2_base.specs.States.{Waits};
-ghost use Rattle.m2_base.specs.Statics.Closing.{implemented as spec_implemented, implements_heading, implements_opaque as spec_opaque, is_opaque_before as spec_before, type_implemented as spec_type};
+ghost use Rattle.m2_base.specs.Statics.Closing.{implemented as spec_implemented, implements_heading};
+ghost use Rattle.m2_base.specs.Statics.Closing.{implements_opaque as spec_opaque, is_opaque_before as spec_before};
+ghost use Rattle.m2_base.specs.Statics.Closing.{type_implemented as spec_type};
 ghost use Rattle.m2_base.specs.Statics.Types.{meaning_at as spec_meaning, range_by as spec_range};
 ghost use Rattle.type_rules.specs.Asks.{Reads, WhereKnown, WhereWaiting};
 ghost use Rattle.type_rules.specs.Scenes.{IsRowOf, IsThere, Suits, WhereTold, scene_of};
@@ -47,7 +49,8 @@ fn implements_opaque<S: Scopes>(scopes: &mut S, around: &Around, of: Place) -> A
     ensures reads { Reads (S.state scopes.old) (S.state scopes.new) }
     ensures waits { WhereWaiting result (λ head. Waits (S.state scopes.old) (S.state scopes.new) head) }
     ensures told { WhereTold (S.state scopes.old).frame (λ made.
-        WhereKnown result (λ holds. holds ≡ spec_opaque (scene_of (S.state scopes.old).frame made around.now) of (spec_meaning (scene_of (S.state scopes.old).frame made around.now) of))) }
+        WhereKnown result (λ holds. holds ≡ spec_opaque (scene_of (S.state scopes.old).frame made around.now) of
+        (spec_meaning (scene_of (S.state scopes.old).frame made around.now) of))) }
 {
     match known!(meaning_at(scopes, around, of)) {
         RowMeaning::Opaque => Ask::Known(false),
@@ -71,7 +74,8 @@ fn type_implemented<S: Scopes>(
     ensures reads { Reads (S.state scopes.old) (S.state scopes.new) }
     ensures waits { WhereWaiting result (λ head. Waits (S.state scopes.old) (S.state scopes.new) head) }
     ensures told { WhereTold (S.state scopes.old).frame (λ made.
-        WhereKnown result (λ how. implemented_view how ≡ spec_type (scene_of (S.state scopes.old).frame made around.now) entry)) }
+        WhereKnown result
+        (λ how. implemented_view how ≡ spec_type (scene_of (S.state scopes.old).frame made around.now) entry)) }
 {
     let Some((_, row)) = entry else {
         return Ask::Known(Implemented::Missing);
@@ -100,7 +104,8 @@ fn heading_implemented<S: Scopes>(
     ensures reads { Reads (S.state scopes.old) (S.state scopes.new) }
     ensures waits { WhereWaiting result (λ head. Waits (S.state scopes.old) (S.state scopes.new) head) }
     ensures told { WhereTold (S.state scopes.old).frame (λ made.
-        WhereKnown result (λ how. implemented_view how ≡ implements_heading (scene_of (S.state scopes.old).frame made around.now) heading entry)) }
+        WhereKnown result (λ how. implemented_view how
+        ≡ implements_heading (scene_of (S.state scopes.old).frame made around.now) heading entry)) }
 {
     let Some((_, row)) = entry else {
         return Ask::Known(Implemented::Missing);
@@ -128,7 +133,8 @@ fn is_opaque_before<S: Scopes>(
     ensures reads { Reads (S.state scopes.old) (S.state scopes.new) }
     ensures waits { WhereWaiting result (λ head. Waits (S.state scopes.old) (S.state scopes.new) head) }
     ensures told { WhereTold (S.state scopes.old).frame (λ made.
-        WhereKnown result (λ holds. holds ≡ spec_before (scene_of (S.state scopes.old).frame made around.now) place.scope place.ordinal of (spec_meaning (scene_of (S.state scopes.old).frame made around.now) of))) }
+        WhereKnown result (λ holds. holds ≡ spec_before (scene_of (S.state scopes.old).frame made around.now)
+        place.scope place.ordinal of (spec_meaning (scene_of (S.state scopes.old).frame made around.now) of))) }
 {
     let meaning = known!(meaning_at(scopes, around, of));
     let next = of.scope == place.scope && of.ordinal as u64 + 1 == place.ordinal as u64;
@@ -150,7 +156,8 @@ pub(crate) fn implementation_of<S: Scopes>(
     ensures reads { Reads (S.state scopes.old) (S.state scopes.new) }
     ensures waits { WhereWaiting result (λ head. Waits (S.state scopes.old) (S.state scopes.new) head) }
     ensures told { WhereTold (S.state scopes.old).frame (λ made.
-        WhereKnown result (λ how. implemented_view how ≡ spec_implemented (scene_of (S.state scopes.old).frame made around.now) place.scope place.ordinal row.now.name (row_meaning row.now))) }
+        WhereKnown result (λ how. implemented_view how ≡ spec_implemented (scene_of (S.state scopes.old).frame made
+        around.now) place.scope place.ordinal row.now.name (row_meaning row.now))) }
 {
     match read_row(row) {
         RowMeaning::TypeName(of) => {

@@ -1,5 +1,6 @@
 //! The rows of an import.
-ghost use Rattle.std.specs.Prelude.{◌≡◌, ◌≢◌, ◌∷◌, ◌++◌, ◌-◌, [], ◌<◌, ◌+◌, ◌^◌, ◌≤◌, map, is_some, true, length, if◌then◌else◌, unwrap_or, None, Some, IfOk};
+ghost use Rattle.std.specs.Prelude.{◌≡◌, ◌≢◌, ◌∷◌, ◌++◌, ◌-◌, [], ◌<◌, ◌+◌, ◌^◌, ◌≤◌, map, is_some, true, length};
+ghost use Rattle.std.specs.Prelude.{if◌then◌else◌, unwrap_or, None, Some, IfOk};
 ghost use Rattle.std.specs.Option.{IfSome};
 ghost use Rattle.m2_base.specs.Rows.{alias_kind, module_kind};
 ghost use Rattle.m2_base.specs.Statics.Contexts.{scope_of_module};
@@ -9,7 +10,8 @@ ghost use Rattle.m2_base.specs.Statics.Lookup.{entry_named};
 ghost use Rattle.type_rules.specs.Asks.{Reads, WhereKnown, WhereWaiting};
 ghost use Rattle.m2_base.specs.Statics.Contexts.{diag};
 ghost use Rattle.m2_base.specs.Statics.Diagnostics.{declared_twice};
-ghost use Rattle.m2_base.specs.Statics.ImportRows.{again_diags, alias_row, import_rows as spec_rows, place_or_broken as spec_target};
+ghost use Rattle.m2_base.specs.Statics.ImportRows.{again_diags, alias_row, import_rows as spec_rows};
+ghost use Rattle.m2_base.specs.Statics.ImportRows.{place_or_broken as spec_target};
 ghost use Rattle.m2_base.specs.Statics.ImportedConstants.{brought_by, brought_names, brought_row, members_of};
 ghost use Rattle.m2_base.specs.Lists.{Each, IsPrefixOf};
 ghost use Rattle.m2_base.specs.Statics.Makes.{make_then, one_row};
@@ -83,8 +85,11 @@ fn put_module<S: Scopes>(
 ) -> Result<Place, Memory>
     requires making { IsMaking (S.state scopes.now).frame site.now made.old (named module_kind name ∷ []) }
     requires named { IsReadName site.now.texts.now.names name }
-    requires before { scope_of_module (source_of site.now.texts.now) name.name < (S.state scopes.now).frame.setting.fills }
-    ensures { Declares (S.state scopes.now) (S.state scopes.now) made.old made.new site.now (known_of result) (named module_kind name ∷ []) IsBehind (λ c. spec_named c name.name name.at (Module (scope_of_module (source_of site.now.texts.now) name.name))) }
+    requires before { scope_of_module (source_of site.now.texts.now) name.name
+        < (S.state scopes.now).frame.setting.fills }
+    ensures { Declares (S.state scopes.now) (S.state scopes.now) made.old made.new site.now
+        (known_of result) (named module_kind name ∷ []) IsBehind
+        (λ c. spec_named c name.name name.at (Module (scope_of_module (source_of site.now.texts.now) name.name))) }
 {
     let scope = module_scope(site.texts, name.name);
     name_row(scopes, site, made, name, RowMeaning::Module(scope))
@@ -111,13 +116,15 @@ fn put_alias<S: Scopes>(
     requires making { IsMaking (S.state scopes.now).frame site.now made.old (named alias_kind name ∷ []) }
     requires named { IsReadName site.now.texts.now.names name }
     requires row { IfSome entry (λ e. IsRowOf (S.state scopes.now).frame e.0 e.1) }
-    ensures { Declares (S.state scopes.now) (S.state scopes.now) made.old made.new site.now (known_of result) (named alias_kind name ∷ []) IsBehind (λ c. spec_named c name.name name.at (Alias (spec_target entry))) }
+    ensures { Declares (S.state scopes.now) (S.state scopes.now) made.old made.new site.now (known_of result)
+        (named alias_kind name ∷ []) IsBehind (λ c. spec_named c name.name name.at (Alias (spec_target entry))) }
 {
     let target = small_place(place_or_broken(entry));
     name_row(scopes, site, made, name, RowMeaning::Alias(target))
 }
 
-/// Whether the name of an alias that an import has brought before is declared twice: it leads elsewhere, and isn't in error.
+/// Whether the name of an alias that an import has brought before is declared twice: it leads elsewhere,
+/// and isn't in error.
 fn is_again<S: Scopes>(
     scopes: &mut S,
     site: &Site,
@@ -130,7 +137,8 @@ fn is_again<S: Scopes>(
     ensures reads { Reads (S.state scopes.old) (S.state scopes.new) }
     ensures waits { WhereWaiting result (λ head. Waits (S.state scopes.old) (S.state scopes.new) head) }
     ensures told { WhereMaking (S.state scopes.old).frame made.now (λ hand.
-        WhereKnown result (λ again. let c = context_of (S.state scopes.old).frame hand site.now in again_diags c name target ≡ (if again then diag c name.at declared_twice ∷ [] else []))) }
+        WhereKnown result (λ again. let c = context_of (S.state scopes.old).frame hand site.now in
+        again_diags c name target ≡ (if again then diag c name.at declared_twice ∷ [] else []))) }
 {
     if !differ(target, BROKEN) {
         return Ask::Known(false);
@@ -150,7 +158,9 @@ fn put_again<S: Scopes>(
     requires making { IsMaking (S.state _scopes.now).frame site.now made.old (named alias_kind name ∷ []) }
     requires brought { is_some (entry_named site.now.layout.now.brought name.name) ≡ true }
     requires target { IsBehind (S.state _scopes.now).frame (next_ordinal made.old) target }
-    ensures { Declares (S.state _scopes.now) (S.state _scopes.now) made.old made.new site.now (known_of result) (named alias_kind name ∷ []) IsBehind (λ c. one_row c (row_of 0 name.at (Alias target)) (if again then diag c name.at declared_twice ∷ [] else [])) }
+    ensures { Declares (S.state _scopes.now) (S.state _scopes.now) made.old made.new site.now
+        (known_of result) (named alias_kind name ∷ []) IsBehind
+        (λ c. one_row c (row_of 0 name.at (Alias target)) (if again then diag c name.at declared_twice ∷ [] else [])) }
 {
     make_again(site, made, name.at, RowMeaning::Alias(target), again)
 }
@@ -167,7 +177,9 @@ fn again_row<S: Scopes>(
     requires named { name.name ≢ 0 }
     requires brought { is_some (entry_named site.now.layout.now.brought name.name) ≡ true }
     requires target { IsBehind (S.state scopes.old).frame (next_ordinal made.old) target }
-    ensures { Declares (S.state scopes.old) (S.state scopes.new) made.old made.new site.now result (named alias_kind name ∷ []) IsBehind (λ c. one_row c (row_of 0 name.at (Alias target)) (again_diags c name target)) }
+    ensures { Declares (S.state scopes.old) (S.state scopes.new) made.old made.new site.now result
+        (named alias_kind name ∷ []) IsBehind
+        (λ c. one_row c (row_of 0 name.at (Alias target)) (again_diags c name target)) }
 {
     let again = asked!(is_again(scopes, site, name, target, made));
     match put_again(scopes, site, name, target, again, made) {
@@ -187,7 +199,8 @@ fn own_row<S: Scopes>(
     requires making { IsMaking (S.state scopes.old).frame site.now made.old (named alias_kind name ∷ []) }
     requires named { IsReadName site.now.texts.now.names name }
     requires row { IfSome entry (λ e. IsRowOf (S.state scopes.old).frame e.0 e.1) }
-    ensures { Declares (S.state scopes.old) (S.state scopes.new) made.old made.new site.now result (named alias_kind name ∷ []) IsBehind (λ c. alias_row c name (spec_target entry)) }
+    ensures { Declares (S.state scopes.old) (S.state scopes.new) made.old made.new site.now result
+        (named alias_kind name ∷ []) IsBehind (λ c. alias_row c name (spec_target entry)) }
 {
     match site.layout.brought(name.name) {
         Some(_) => {
@@ -211,8 +224,10 @@ fn put_members(
 ) -> Result<Vec<Named>, Memory>
     requires room { next_ordinal made.old + length members.now < 2 ^ 32 }
     requires places { Each (λ m. m.place.scope < 2 ^ 31) members.now }
-    ensures names { IfOk result (λ brought. brought.items ≡ brought_names (unwrap_or site.now.item 0) (next_ordinal made.old) at (map member_view members.now)) }
-    ensures rows { IfOk result (λ brought. made.new.rows.items ≡ made.old.rows.items ++ map (brought_row at) (map member_view members.now)) }
+    ensures names { IfOk result (λ brought. brought.items
+        ≡ brought_names (unwrap_or site.now.item 0) (next_ordinal made.old) at (map member_view members.now)) }
+    ensures rows { IfOk result
+        (λ brought. made.new.rows.items ≡ made.old.rows.items ++ map (brought_row at) (map member_view members.now)) }
     ensures notes { made.new.notes ≡ made.old.notes }
     ensures first { made.new.first ≡ made.old.first }
 {
@@ -236,7 +251,8 @@ fn put_members(
 
 /// Notes that one of the constants is hidden.
 fn note_hidden(site: &Site, at: u32, hidden: bool, notes: &mut Notes) -> Result<(), Memory>
-    ensures noted { IfOk result (λ _. notes.new.diags.items ≡ notes.old.diags.items ++ (if hidden then diag_in site.now.around.now.text at declared_twice ∷ [] else [])) }
+    ensures noted { IfOk result (λ _. notes.new.diags.items
+        ≡ notes.old.diags.items ++ (if hidden then diag_in site.now.around.now.text at declared_twice ∷ [] else [])) }
     ensures diags { IsPrefixOf notes.old.diags.items notes.new.diags.items }
     ensures answers { notes.new.answers.items ≡ notes.old.answers.items }
 {
@@ -256,7 +272,10 @@ fn put_found(
 ) -> Result<Vec<Named>, Memory>
     requires room { next_ordinal made.old < 2 ^ 32 - 16384 }
     requires places { Each (λ m. m.place.scope < 2 ^ 31) found.now.members.items }
-    ensures { (a : State) → IsMaking a.frame site.now made.old [] → AreNewMembers a.frame site.now made.old found.now.members.items → DeclaresWith a a made.old made.new site.now (known_of (listed_of result)) [] all_names IsAny (λ c. brings_new c at (map member_view found.now.members.items) found.now.hidden) }
+    ensures { (a : State) → IsMaking a.frame site.now made.old []
+        → AreNewMembers a.frame site.now made.old found.now.members.items
+        → DeclaresWith a a made.old made.new site.now (known_of (listed_of result)) [] all_names IsAny
+        (λ c. brings_new c at (map member_view found.now.members.items) found.now.hidden) }
 {
     if is_full(site, found) {
         put!(refuse(site, at, Diagnostic::TooManyConstants, &mut made.notes));
@@ -278,7 +297,8 @@ fn bring<S: Scopes>(
     requires making { IsMaking (S.state scopes.old).frame site.now made.old [] }
     requires row { IfSome entry (λ e. IsRowOf (S.state scopes.old).frame e.0 e.1) }
     requires before { IfSome entry (λ e. e.0.scope < (S.state scopes.old).frame.setting.fills) }
-    ensures { DeclaresWith (S.state scopes.old) (S.state scopes.new) made.old made.new site.now (listed result) [] all_names IsAny (λ c. brought_by c at (members_of c.scene entry)) }
+    ensures { DeclaresWith (S.state scopes.old) (S.state scopes.new) made.old made.new site.now
+        (listed result) [] all_names IsAny (λ c. brought_by c at (members_of c.scene entry)) }
 {
     let found = analysed!(members_in(alloc, scopes, site, entry, made));
     let brought = put!(put_found(alloc, site, at, &found, made));
@@ -298,7 +318,9 @@ fn entry_rows<S: Scopes>(
     requires named { IsReadName site.now.texts.now.names name }
     requires row { IfSome entry (λ e. IsRowOf (S.state scopes.old).frame e.0 e.1) }
     requires before { IfSome entry (λ e. e.0.scope < (S.state scopes.old).frame.setting.fills) }
-    ensures { DeclaresWith (S.state scopes.old) (S.state scopes.new) made.old made.new site.now (listed result) (named alias_kind name ∷ []) all_names IsAny (λ c. make_then c (alias_row c name (spec_target entry)) (λ d p. brought_by d name.at (members_of d.scene entry))) }
+    ensures { DeclaresWith (S.state scopes.old) (S.state scopes.new) made.old made.new site.now
+        (listed result) (named alias_kind name ∷ []) all_names IsAny (λ c.
+        make_then c (alias_row c name (spec_target entry)) (λ d p. brought_by d name.at (members_of d.scene entry))) }
 {
     let _place = analysed!(own_row(scopes, site, name, entry, made));
     bring(alloc, scopes, site, name.at, entry, made)
@@ -316,7 +338,8 @@ fn from_rows<S: Scopes>(
     requires making { IsMaking (S.state scopes.old).frame site.now made.old (named alias_kind name ∷ []) }
     requires named { IsReadName site.now.texts.now.names name }
     requires before { scope < (S.state scopes.old).frame.setting.fills }
-    ensures { DeclaresWith (S.state scopes.old) (S.state scopes.new) made.old made.new site.now (listed result) (named alias_kind name ∷ []) all_names IsAny (λ c. alias_rows c scope name) }
+    ensures { DeclaresWith (S.state scopes.old) (S.state scopes.new) made.old made.new site.now (listed result)
+        (named alias_kind name ∷ []) all_names IsAny (λ c. alias_rows c scope name) }
 {
     let entry = analysed!(use_name(
         scopes,
@@ -339,8 +362,10 @@ fn module_rows<S: Scopes>(
 ) -> Result<Ask<Vec<Named>>, Memory>
     requires making { IsMaking (S.state scopes.old).frame site.now made.old (named module_kind name ∷ []) }
     requires named { IsReadName site.now.texts.now.names name }
-    requires before { scope_of_module (source_of site.now.texts.now) name.name < (S.state scopes.old).frame.setting.fills }
-    ensures { DeclaresWith (S.state scopes.old) (S.state scopes.new) made.old made.new site.now (listed result) (named module_kind name ∷ []) all_names (BringAny (import_item None name)) (λ c. spec_rows c None name) }
+    requires before { scope_of_module (source_of site.now.texts.now) name.name
+        < (S.state scopes.old).frame.setting.fills }
+    ensures { DeclaresWith (S.state scopes.old) (S.state scopes.new) made.old made.new site.now (listed result)
+        (named module_kind name ∷ []) all_names (BringAny (import_item None name)) (λ c. spec_rows c None name) }
 {
     match put_module(scopes, site, name, made) {
         Ok(_place) => Ok(Ask::Known(Vec::new(alloc))),
@@ -360,8 +385,11 @@ fn member_rows<S: Scopes>(
     requires making { IsMaking (S.state scopes.old).frame site.now made.old (named alias_kind name ∷ []) }
     requires read { IsReadName site.now.texts.now.names outer }
     requires named { IsReadName site.now.texts.now.names name }
-    requires before { scope_of_module (source_of site.now.texts.now) outer.name < (S.state scopes.old).frame.setting.fills }
-    ensures { DeclaresWith (S.state scopes.old) (S.state scopes.new) made.old made.new site.now (listed result) (named alias_kind name ∷ []) all_names (BringAny (import_item (Some outer) name)) (λ c. spec_rows c (Some outer) name) }
+    requires before { scope_of_module (source_of site.now.texts.now) outer.name
+        < (S.state scopes.old).frame.setting.fills }
+    ensures { DeclaresWith (S.state scopes.old) (S.state scopes.new) made.old made.new site.now
+        (listed result) (named alias_kind name ∷ []) all_names (BringAny (import_item (Some outer) name))
+        (λ c. spec_rows c (Some outer) name) }
 {
     let scope = module_scope(site.texts, outer.name);
     from_rows(alloc, scopes, site, scope, name, made)
@@ -379,8 +407,11 @@ pub(crate) fn import_rows<S: Scopes>(
     requires making { IsMaking (S.state scopes.old).frame site.now made.old (named (import_kind from.now) name ∷ []) }
     requires read { IsReadOption site.now.texts.now.names from.now }
     requires named { IsReadName site.now.texts.now.names name }
-    requires before { IsFromBefore (source_of site.now.texts.now) (S.state scopes.old).frame.setting.fills (import_item from.now name) }
-    ensures { DeclaresWith (S.state scopes.old) (S.state scopes.new) made.old made.new site.now (listed result) (named (import_kind from.now) name ∷ []) all_names (BringAny (import_item from.now name)) (λ c. spec_rows c from.now name) }
+    requires before { IsFromBefore (source_of site.now.texts.now) (S.state scopes.old).frame.setting.fills
+        (import_item from.now name) }
+    ensures { DeclaresWith (S.state scopes.old) (S.state scopes.new) made.old made.new site.now (listed result)
+        (named (import_kind from.now) name ∷ []) all_names (BringAny (import_item from.now name))
+        (λ c. spec_rows c from.now name) }
 {
     match from {
         Some(module) => member_rows(alloc, scopes, site, *module, name, made),

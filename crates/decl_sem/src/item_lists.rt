@@ -11,7 +11,8 @@ use std::alloc::Global;
 
 /// The heading of a procedure's block is its first item.
 fn add_heading<'a>(heading: &'a Option<Heading>, items: &mut Vec<Item<'a>>) -> Result<(), Memory>
-    ensures { OnOk result (map item_view items.new.items ≡ map item_view items.old.items ++ heading_items (option_map heading_view heading.now)) }
+    ensures { OnOk result (map item_view items.new.items
+        ≡ map item_view items.old.items ++ heading_items (option_map heading_view heading.now)) }
 {
     let Some(heading) = heading else {
         return Ok(());
@@ -26,7 +27,8 @@ fn add_names<'a>(
     names: &'a [Ident],
     items: &mut Vec<Item<'a>>,
 ) -> Result<(), Memory>
-    ensures { OnOk result (map item_view items.new.items ≡ map item_view items.old.items ++ map (import_item from.now) names.now) }
+    ensures { OnOk result
+        (map item_view items.new.items ≡ map item_view items.old.items ++ map (import_item from.now) names.now) }
 {
     for name in names {
         items.push(Item::Import(from, *name))?;
@@ -36,7 +38,8 @@ fn add_names<'a>(
 
 /// The names of all imports.
 fn add_imports<'a>(imports: &'a [Import], items: &mut Vec<Item<'a>>) -> Result<(), Memory>
-    ensures { OnOk result (map item_view items.new.items ≡ map item_view items.old.items ++ flat_map import_items (map import_view imports.now)) }
+    ensures { OnOk result (map item_view items.new.items
+        ≡ map item_view items.old.items ++ flat_map import_items (map import_view imports.now)) }
 {
     for import in imports {
         add_names(&import.from, &import.names, items)?;
@@ -46,7 +49,8 @@ fn add_imports<'a>(imports: &'a [Import], items: &mut Vec<Item<'a>>) -> Result<(
 
 /// Each declaration is an item.
 fn add_declarations<'a>(declarations: &'a [Decl], items: &mut Vec<Item<'a>>) -> Result<(), Memory>
-    ensures { OnOk result (map item_view items.new.items ≡ map item_view items.old.items ++ map decl_item (map decl_view declarations.now)) }
+    ensures { OnOk result (map item_view items.new.items
+        ≡ map item_view items.old.items ++ map decl_item (map decl_view declarations.now)) }
 {
     for declaration in declarations {
         items.push(Item::Declaration(declaration))?;
@@ -68,7 +72,8 @@ fn all_items<'a>(alloc: Global, stream: &'a Stream) -> Result<Vec<Item<'a>>, Mem
 /// The items of a block, in text order, each of which is at its place.
 pub fn block_items<'a>(alloc: Global, stream: &'a Stream) -> Result<Vec<Item<'a>>, Memory>
     ensures all { IfOk result (λ items. map item_view items.items ≡ items_of (stream_view stream.now)) }
-    ensures at { IfOk result (λ items. (k : ℕ) (x : HeldItem) → slice_get items.items k ≡ Some x → IsItemAt (stream_view stream.now) k (item_view x)) }
+    ensures at { IfOk result (λ items. (k : ℕ) (x : HeldItem) → slice_get items.items k ≡ Some x
+        → IsItemAt (stream_view stream.now) k (item_view x)) }
 {
     let items = all_items(alloc, stream)?;
     Ok(items)

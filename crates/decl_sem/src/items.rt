@@ -2,7 +2,8 @@
 ghost use Rattle.std.specs.Prelude.{◌≡◌, ◌≤◌, [], filter, length, option_map, ◌+◌};
 ghost use Rattle.m2_base.specs.Statics.Cells.{most_cells};
 ghost use Rattle.m2_base.specs.Statics.Declarations.{declare as spec_declare};
-ghost use Rattle.m2_base.specs.Statics.Items.{const_item as spec_const, decl_item, import_item as spec_import, proc_item as spec_proc, type_item as spec_type, vars_item as spec_vars};
+ghost use Rattle.m2_base.specs.Statics.Items.{const_item as spec_const, decl_item, import_item as spec_import};
+ghost use Rattle.m2_base.specs.Statics.Items.{proc_item as spec_proc, type_item as spec_type, vars_item as spec_vars};
 ghost use Rattle.m2_base.specs.Statics.ProcedureRows.{is_proc};
 ghost use Rattle.m2_base.specs.Statics.Shapes.{item_shapes};
 ghost use Rattle.m2_base.specs.Views.{decl_view, expr_view, heading_view, type_view};
@@ -54,9 +55,12 @@ fn import_item<S: Scopes>(
 ) -> Result<Ask<Effect>, Memory>
     requires making { IsMaking (S.state scopes.old).frame site.now made.old (item_shapes (spec_import from.now name)) }
     requires read { IsReadItem site.now.texts.now.names (spec_import from.now name) }
-    requires before { IsFromBefore (source_of site.now.texts.now) (S.state scopes.old).frame.setting.fills (spec_import from.now name) }
+    requires before { IsFromBefore (source_of site.now.texts.now) (S.state scopes.old).frame.setting.fills
+        (spec_import from.now name) }
     requires cell { cell ≤ most_cells + 1 }
-    ensures { DeclaresWith (S.state scopes.old) (S.state scopes.new) made.old made.new site.now result (item_shapes (spec_import from.now name)) (λ e. e.brought) (IsEffectOf (spec_import from.now name)) (λ c. spec_declare c kind (spec_import from.now name) cell) }
+    ensures { DeclaresWith (S.state scopes.old) (S.state scopes.new) made.old made.new site.now result
+        (item_shapes (spec_import from.now name)) (λ e. e.brought) (IsEffectOf (spec_import from.now name))
+        (λ c. spec_declare c kind (spec_import from.now name) cell) }
 {
     let _kind = kind;
     match import_rows(alloc, scopes, site, from, name, made) {
@@ -77,10 +81,13 @@ fn const_item<S: Scopes>(
     cell: u32,
     made: &mut Made,
 ) -> Result<Ask<Effect>, Memory>
-    requires making { IsMaking (S.state scopes.old).frame site.now made.old (item_shapes (spec_const name (expr_view value.now))) }
+    requires making { IsMaking (S.state scopes.old).frame site.now made.old
+        (item_shapes (spec_const name (expr_view value.now))) }
     requires read { IsReadItem site.now.texts.now.names (spec_const name (expr_view value.now)) }
     requires cell { cell ≤ most_cells + 1 }
-    ensures { Declares (S.state scopes.old) (S.state scopes.new) made.old made.new site.now result (item_shapes (spec_const name (expr_view value.now))) IsLoneEffect (λ c. spec_declare c kind (spec_const name (expr_view value.now)) cell) }
+    ensures { Declares (S.state scopes.old) (S.state scopes.new) made.old made.new site.now result
+        (item_shapes (spec_const name (expr_view value.now))) IsLoneEffect
+        (λ c. spec_declare c kind (spec_const name (expr_view value.now)) cell) }
 {
     let _kind = kind;
     match const_rows(scopes, site, name, value, made) {
@@ -101,10 +108,13 @@ fn type_item<S: Scopes>(
     cell: u32,
     made: &mut Made,
 ) -> Result<Ask<Effect>, Memory>
-    requires making { IsMaking (S.state scopes.old).frame site.now made.old (item_shapes (spec_type name (option_map type_view typ.now))) }
+    requires making { IsMaking (S.state scopes.old).frame site.now made.old
+        (item_shapes (spec_type name (option_map type_view typ.now))) }
     requires read { IsReadItem site.now.texts.now.names (spec_type name (option_map type_view typ.now)) }
     requires cell { cell ≤ most_cells + 1 }
-    ensures { Declares (S.state scopes.old) (S.state scopes.new) made.old made.new site.now result (item_shapes (spec_type name (option_map type_view typ.now))) IsLoneEffect (λ c. spec_declare c kind (spec_type name (option_map type_view typ.now)) cell) }
+    ensures { Declares (S.state scopes.old) (S.state scopes.new) made.old made.new site.now result
+        (item_shapes (spec_type name (option_map type_view typ.now))) IsLoneEffect
+        (λ c. spec_declare c kind (spec_type name (option_map type_view typ.now)) cell) }
 {
     let _kind = kind;
     match type_name_rows(alloc, scopes, site, name, typ, made) {
@@ -125,10 +135,13 @@ fn vars_item<S: Scopes>(
     cell: u32,
     made: &mut Made,
 ) -> Result<Ask<Effect>, Memory>
-    requires making { IsMaking (S.state scopes.old).frame site.now made.old (item_shapes (spec_vars names.now (type_view typ.now))) }
+    requires making { IsMaking (S.state scopes.old).frame site.now made.old
+        (item_shapes (spec_vars names.now (type_view typ.now))) }
     requires read { IsReadItem site.now.texts.now.names (spec_vars names.now (type_view typ.now)) }
     requires cell { cell ≤ most_cells + 1 }
-    ensures { Declares (S.state scopes.old) (S.state scopes.new) made.old made.new site.now result (item_shapes (spec_vars names.now (type_view typ.now))) IsLoneEffect (λ c. spec_declare c kind (spec_vars names.now (type_view typ.now)) cell) }
+    ensures { Declares (S.state scopes.old) (S.state scopes.new) made.old made.new site.now result
+        (item_shapes (spec_vars names.now (type_view typ.now))) IsLoneEffect
+        (λ c. spec_declare c kind (spec_vars names.now (type_view typ.now)) cell) }
 {
     let _kind = kind;
     match vars_rows(alloc, scopes, site, names, typ, cell, made) {
@@ -149,12 +162,15 @@ fn proc_item<S: Scopes>(
     before: Before,
     made: &mut Made,
 ) -> Result<Ask<Effect>, Memory>
-    requires making { IsMaking (S.state scopes.old).frame site.now made.old (item_shapes (spec_proc (heading_view heading.now) stream)) }
+    requires making { IsMaking (S.state scopes.old).frame site.now made.old
+        (item_shapes (spec_proc (heading_view heading.now) stream)) }
     requires begun { made.old.rows.items ≡ [] }
     requires read { IsReadItem site.now.texts.now.names (spec_proc (heading_view heading.now) stream) }
     requires cell { before.cell ≤ most_cells + 1 }
     requires number { before.procedures ≡ length (filter is_proc (S.state scopes.old).frame.entered) }
-    ensures { Declares (S.state scopes.old) (S.state scopes.new) made.old made.new site.now result (item_shapes (spec_proc (heading_view heading.now) stream)) IsLoneEffect (λ c. spec_declare c kind (spec_proc (heading_view heading.now) stream) before.cell) }
+    ensures { Declares (S.state scopes.old) (S.state scopes.new) made.old made.new site.now result
+        (item_shapes (spec_proc (heading_view heading.now) stream)) IsLoneEffect
+        (λ c. spec_declare c kind (spec_proc (heading_view heading.now) stream) before.cell) }
 {
     let cell = before.cell;
     match proc_rows(scopes, site, kind, heading, stream, before.procedures, made) {
@@ -174,12 +190,15 @@ fn declaration<S: Scopes>(
     before: Before,
     made: &mut Made,
 ) -> Result<Ask<Effect>, Memory>
-    requires making { IsMaking (S.state scopes.old).frame site.now made.old (item_shapes (decl_item (decl_view declaration.now))) }
+    requires making { IsMaking (S.state scopes.old).frame site.now made.old
+        (item_shapes (decl_item (decl_view declaration.now))) }
     requires begun { made.old.rows.items ≡ [] }
     requires read { IsReadItem site.now.texts.now.names (decl_item (decl_view declaration.now)) }
     requires cell { before.cell ≤ most_cells + 1 }
     requires number { before.procedures ≡ length (filter is_proc (S.state scopes.old).frame.entered) }
-    ensures { Declares (S.state scopes.old) (S.state scopes.new) made.old made.new site.now result (item_shapes (decl_item (decl_view declaration.now))) IsLoneEffect (λ c. spec_declare c kind (decl_item (decl_view declaration.now)) before.cell) }
+    ensures { Declares (S.state scopes.old) (S.state scopes.new) made.old made.new site.now result
+        (item_shapes (decl_item (decl_view declaration.now))) IsLoneEffect
+        (λ c. spec_declare c kind (decl_item (decl_view declaration.now)) before.cell) }
 {
     let cell = before.cell;
     match declaration {
@@ -207,10 +226,13 @@ pub(crate) fn item_rows<S: Scopes>(
     requires making { IsMaking (S.state scopes.old).frame site.now made.old (item_shapes (item_view item.now)) }
     requires begun { made.old.rows.items ≡ [] }
     requires read { IsReadItem site.now.texts.now.names (item_view item.now) }
-    requires before { IsFromBefore (source_of site.now.texts.now) (S.state scopes.old).frame.setting.fills (item_view item.now) }
+    requires before { IsFromBefore (source_of site.now.texts.now) (S.state scopes.old).frame.setting.fills
+        (item_view item.now) }
     requires cell { before.cell ≤ most_cells + 1 }
     requires number { before.procedures ≡ length (filter is_proc (S.state scopes.old).frame.entered) }
-    ensures { DeclaresWith (S.state scopes.old) (S.state scopes.new) made.old made.new site.now result (item_shapes (item_view item.now)) (λ e. e.brought) (IsEffectOf (item_view item.now)) (λ c. spec_declare c kind (item_view item.now) before.cell) }
+    ensures { DeclaresWith (S.state scopes.old) (S.state scopes.new) made.old made.new site.now result
+        (item_shapes (item_view item.now)) (λ e. e.brought) (IsEffectOf (item_view item.now))
+        (λ c. spec_declare c kind (item_view item.now) before.cell) }
 {
     match item {
         Item::Heading(heading) => heading_rows(alloc, scopes, site, heading, made),

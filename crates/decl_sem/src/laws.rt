@@ -8,5 +8,6 @@ ghost use Rattle.decl_sem.specs.LaidRows.{AreLaid};
 
 /// Rows that are as a layout gives them have no name twice, in every unit.
 pub fn laid_rows_differ()
-    ensures { (layout : Layout) (shapes : List Shape) (rows : List Row) → AreLaid layout 0 shapes rows → HasNoRepeats (λ r. r.name) rows }
+    ensures { (layout : Layout) (shapes : List Shape) (rows : List Row) → AreLaid layout 0 shapes rows
+        → HasNoRepeats (λ r. r.name) rows }
 {}

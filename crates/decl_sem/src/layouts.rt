@@ -1,5 +1,5 @@
-//! The layout of a block: each name that it declares, with the ordinal, kind, token and item of its row. It follows from
-//! the syntax alone.
+//! The layout of a block: each name that it declares, with the ordinal, kind, token and item of its row. It follows
+//! from the syntax alone.
 ghost use Rattle.std.specs.Prelude.{◌≡◌, ◌∷◌, ◌++◌, [], ◌+◌, ◌<◌, ◌≤◌, flat_map, map, option_map, IfOk, IfSome, OnOk};
 ghost use Rattle.m2_base.specs.Lists.{Each};
 ghost use Rattle.m2_base.specs.Statics.Items.{heading_items, import_item, import_items, decl_item};

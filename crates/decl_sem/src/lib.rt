@@ -4,8 +4,8 @@
 //! rows say comes from the rows of the items before and of the scopes round the block. The definitions are `m2_base`'s
 //! (`specs/Statics`). When a block's scope is complete, its closing name is checked (`close_check`).
 //!
-//! `declare` has the rows of an item. The heading of a procedure has rows in the scope round it (`procedures`) and in its own
-//! (`own_headings`).
+//! `declare` has the rows of an item. The heading of a procedure has rows in the scope round it (`procedures`) and in
+//! its own (`own_headings`).
 #![tactic(auto)]
 
 /// The value of what asks nothing, or the end of the function where memory is wanted.

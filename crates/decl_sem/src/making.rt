@@ -62,7 +62,8 @@ fn kept_name(
     notes: &mut Notes,
 ) -> Result<u32, Memory>
     ensures kept { IfOk result (λ kept. kept ≡ spec_kept_name site.now.layout.now ordinal name) }
-    ensures diags { IfOk result (λ kept. notes.new.diags.items ≡ notes.old.diags.items ++ name_refusals site.now.around.now.text site.now.layout.now ordinal name at) }
+    ensures diags { IfOk result (λ kept. notes.new.diags.items
+        ≡ notes.old.diags.items ++ name_refusals site.now.around.now.text site.now.layout.now ordinal name at) }
     ensures unchanged { OnErr result (notes.new.diags.items ≡ notes.old.diags.items) }
     ensures answers { notes.new.answers.items ≡ notes.old.answers.items }
 {
@@ -102,7 +103,8 @@ pub(crate) fn make_row(
 ) -> Result<Place, Memory>
     requires room { next_ordinal made.old < 2 ^ 32 }
     requires scopes { HasSmallScopes meaning }
-    ensures made { IfOk result (λ place. (c : Context) → IsInHand c site.now made.old → MakesAll made.old made.new (spec_row c at meaning) place) }
+    ensures made { IfOk result (λ place.
+        (c : Context) → IsInHand c site.now made.old → MakesAll made.old made.new (spec_row c at meaning) place) }
     ensures place { IfOk result (λ place. place ≡ at_place site.now.around.now.scope (next_ordinal made.old)) }
     ensures rows { IfOk result (λ place. made.new.rows.items ≡ made.old.rows.items ++ row_of 0 at meaning ∷ []) }
     ensures notes { made.new.notes ≡ made.old.notes }
@@ -112,7 +114,8 @@ pub(crate) fn make_row(
     put_row(site, made, write_row(0, at, meaning), field)
 }
 
-/// A row with a name. One that declares a standard name, and the second of a name in its scope, is nameless and refused.
+/// A row with a name. One that declares a standard name, and the second of a name in its scope,
+/// is nameless and refused.
 #[tactic(auto, using(crate::proofs::NextRows::by_layout))]
 pub(crate) fn make_named(
     site: &Site,
@@ -123,9 +126,11 @@ pub(crate) fn make_named(
 ) -> Result<Place, Memory>
     requires room { next_ordinal made.old < 2 ^ 32 }
     requires scopes { HasSmallScopes meaning }
-    ensures made { IfOk result (λ place. (c : Context) → IsInHand c site.now made.old → IsNext c name → MakesAll made.old made.new (spec_named c name at meaning) place) }
+    ensures made { IfOk result (λ place. (c : Context) → IsInHand c site.now made.old → IsNext c name
+        → MakesAll made.old made.new (spec_named c name at meaning) place) }
     ensures place { IfOk result (λ place. place ≡ at_place site.now.around.now.scope (next_ordinal made.old)) }
-    ensures rows { IfOk result (λ place. made.new.rows.items ≡ made.old.rows.items ++ row_of (spec_kept_name site.now.layout.now (next_ordinal made.old) name) at meaning ∷ []) }
+    ensures rows { IfOk result (λ place. made.new.rows.items ≡ made.old.rows.items
+        ++ row_of (spec_kept_name site.now.layout.now (next_ordinal made.old) name) at meaning ∷ []) }
     ensures diags { IsPrefixOf made.old.notes.diags.items made.new.notes.diags.items }
     ensures answers { made.new.notes.answers.items ≡ made.old.notes.answers.items }
     ensures first { made.new.first ≡ made.old.first }
@@ -146,7 +151,8 @@ pub(crate) fn make_again(
 ) -> Result<Place, Memory>
     requires room { next_ordinal made.old < 2 ^ 32 }
     requires scopes { HasSmallScopes meaning }
-    ensures made { IfOk result (λ place. (c : Context) → IsInHand c site.now made.old → MakesAll made.old made.new (one_row c (row_of 0 at meaning) (if elsewhere then diag c at declared_twice ∷ [] else [])) place) }
+    ensures made { IfOk result (λ place. (c : Context) → IsInHand c site.now made.old → MakesAll made.old made.new
+        (one_row c (row_of 0 at meaning) (if elsewhere then diag c at declared_twice ∷ [] else [])) place) }
     ensures place { IfOk result (λ place. place ≡ at_place site.now.around.now.scope (next_ordinal made.old)) }
     ensures rows { IfOk result (λ place. made.new.rows.items ≡ made.old.rows.items ++ row_of 0 at meaning ∷ []) }
     ensures diags { IsPrefixOf made.old.notes.diags.items made.new.notes.diags.items }
@@ -189,7 +195,9 @@ pub(crate) fn put_plain(
 ) -> Result<Place, Memory>
     requires room { next_ordinal made.old < 2 ^ 32 }
     requires scopes { HasSmallScopes meaning }
-    ensures piece { (a : State) → IsMaking a.frame site.now made.old (nameless (kind_number meaning) at ∷ []) → IsNewMeaning a.frame site.now (next_ordinal made.old) meaning → Declares a a made.old made.new site.now (known_of result) (nameless (kind_number meaning) at ∷ []) IsBehind (λ c. spec_row c at meaning) }
+    ensures piece { (a : State) → IsMaking a.frame site.now made.old (nameless (kind_number meaning) at ∷ [])
+        → IsNewMeaning a.frame site.now (next_ordinal made.old) meaning → Declares a a made.old made.new site.now
+        (known_of result) (nameless (kind_number meaning) at ∷ []) IsBehind (λ c. spec_row c at meaning) }
     ensures place { IfOk result (λ place. place ≡ at_place site.now.around.now.scope (next_ordinal made.old)) }
     ensures count { IfOk result (λ _. next_ordinal made.new ≡ next_ordinal made.old + 1) }
 {
@@ -205,7 +213,11 @@ pub(crate) fn put_named(
 ) -> Result<Place, Memory>
     requires room { next_ordinal made.old < 2 ^ 32 }
     requires scopes { HasSmallScopes meaning }
-    ensures piece { (a : State) → IsMaking a.frame site.now made.old (named (kind_number meaning) ident ∷ []) → ident.name ≢ 0 → ident.name < length a.frame.setting.texts.names → IsNewMeaning a.frame site.now (next_ordinal made.old) meaning → Declares a a made.old made.new site.now (known_of result) (named (kind_number meaning) ident ∷ []) IsBehind (λ c. spec_named c ident.name ident.at meaning) }
+    ensures piece { (a : State) → IsMaking a.frame site.now made.old (named (kind_number meaning) ident ∷ [])
+        → ident.name ≢ 0 → ident.name < length a.frame.setting.texts.names
+        → IsNewMeaning a.frame site.now (next_ordinal made.old) meaning
+        → Declares a a made.old made.new site.now (known_of result) (named (kind_number meaning) ident ∷ []) IsBehind
+        (λ c. spec_named c ident.name ident.at meaning) }
     ensures place { IfOk result (λ place. place ≡ at_place site.now.around.now.scope (next_ordinal made.old)) }
     ensures count { IfOk result (λ _. next_ordinal made.new ≡ next_ordinal made.old + 1) }
 {

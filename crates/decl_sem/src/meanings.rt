@@ -19,7 +19,8 @@ pub(crate) fn proc_scope(kind: StreamKind, stream: u32) -> u32
 /// A heading in a definition is numbered by those before it. Elsewhere a procedure's number is its scope less the
 /// module's.
 pub(crate) fn proc_number(kind: StreamKind, stream: u32, home: u32, procedures: u32) -> u32
-    ensures { (c : Context) → c.scene.block.home ≡ home → length (filter is_proc (own_rows c)) ≡ procedures → spec_number c kind stream ≡ result }
+    ensures { (c : Context) → c.scene.block.home ≡ home → length (filter is_proc (own_rows c)) ≡ procedures
+        → spec_number c kind stream ≡ result }
 {
     match kind {
         StreamKind::Definition => procedures,

@@ -7,7 +7,9 @@ ghost use Rattle.m2_base.specs.Lists.{IsPrefixOf};
 ghost use Rattle.m2_base.specs.Rows.{Fits, HasSmallNumbers, row_meaning};
 ghost use Rattle.m2_base.specs.States.{Frame, State};
 ghost use Rattle.m2_base.specs.Statics.Contexts.{Context};
-ghost use Rattle.m2_base.specs.Statics.TypeNames.{entry_of_qual as spec_entry, member_of as spec_member, qualified as spec_qualified, type_by, type_of_entry as spec_type, type_of_qual as spec_type_of};
+ghost use Rattle.m2_base.specs.Statics.TypeNames.{entry_of_qual as spec_entry, member_of as spec_member};
+ghost use Rattle.m2_base.specs.Statics.TypeNames.{qualified as spec_qualified, type_by, type_of_entry as spec_type};
+ghost use Rattle.m2_base.specs.Statics.TypeNames.{type_of_qual as spec_type_of};
 ghost use Rattle.m2_base.specs.declared.rows.Place.{Place as Spot};
 ghost use Rattle.m2_base.specs.declared.sites.Around.{Around as Surroundings};
 ghost use Rattle.m2_base.specs.declared.trees.Ident.{Ident as Name};
@@ -52,7 +54,8 @@ pub(crate) fn refuse(
 /// The type in the row of a type's name, and that of what is in error; anything else is no type.
 #[tactic(auto, using(crate::proofs::Uses::uses))]
 fn type_in_row(meaning: RowMeaning) -> Option<Place>
-    ensures there { (f : Frame) (a : Surroundings) (n : ℕ) (p : Spot) → Suits f a → p.ordinal < 2 ^ 32 → IsThere f p → Fits n p meaning → IfSome result (λ t. IsThere f t) }
+    ensures there { (f : Frame) (a : Surroundings) (n : ℕ) (p : Spot) → Suits f a → p.ordinal < 2 ^ 32 → IsThere f p
+        → Fits n p meaning → IfSome result (λ t. IsThere f t) }
     ensures told { (c : Context) (at : ℕ) → type_by c at meaning ≡ type_or c at result }
 {
     match meaning {
@@ -93,7 +96,8 @@ fn type_of_entry(
     notes: &mut Notes,
 ) -> Result<Place, Memory>
     requires { IfSome entry (λ e. HasSmallNumbers (row_meaning e.1)) }
-    ensures { (a : State) → SuitsSite a.frame site.now → IfSome entry (λ e. IsRowOf a.frame e.0 e.1) → Analysed a a notes.old notes.new site.now (known_of result) IsThere (λ c. spec_type c at entry) }
+    ensures { (a : State) → SuitsSite a.frame site.now → IfSome entry (λ e. IsRowOf a.frame e.0 e.1)
+        → Analysed a a notes.old notes.new site.now (known_of result) IsThere (λ c. spec_type c at entry) }
 {
     let Some(entry) = entry else {
         return Ok(BROKEN);
@@ -121,7 +125,8 @@ fn member_of<S: Scopes>(
     requires suits { SuitsSite (S.state scopes.old).frame site.now }
     requires row { IsRowOf (S.state scopes.old).frame outer.0 outer.1 }
     requires named { member.name ≢ 0 }
-    ensures { Analysed (S.state scopes.old) (S.state scopes.new) notes.old notes.new site.now result (λ f found. IfSome found (λ e. IsRowOf f e.0 e.1)) (λ c. spec_member c at member (row_meaning outer.1)) }
+    ensures { Analysed (S.state scopes.old) (S.state scopes.new) notes.old notes.new site.now result
+        (λ f found. IfSome found (λ e. IsRowOf f e.0 e.1)) (λ c. spec_member c at member (row_meaning outer.1)) }
 {
     match qualifier_of(read_row(&outer.1)) {
         Qualifier::Scope(scope) => {
@@ -147,7 +152,8 @@ fn qualified<S: Scopes>(
     requires suits { SuitsSite (S.state scopes.old).frame site.now }
     requires row { IfSome first (λ e. IsRowOf (S.state scopes.old).frame e.0 e.1) }
     requires named { IfSome second (λ i. i.name ≢ 0) }
-    ensures { Analysed (S.state scopes.old) (S.state scopes.new) notes.old notes.new site.now result (λ f found. IfSome found (λ e. IsRowOf f e.0 e.1)) (λ c. spec_qualified c at second first) }
+    ensures { Analysed (S.state scopes.old) (S.state scopes.new) notes.old notes.new site.now result
+        (λ f found. IfSome found (λ e. IsRowOf f e.0 e.1)) (λ c. spec_qualified c at second first) }
 {
     let Some(outer) = first else {
         return Ok(Ask::Known(None));
@@ -167,7 +173,8 @@ fn entry_of_qual<S: Scopes>(
 ) -> Result<Ask<Option<Entry>>, Memory>
     requires suits { SuitsSite (S.state scopes.old).frame site.now }
     requires read { IsReadQual site.now.texts.now.names qual }
-    ensures { Analysed (S.state scopes.old) (S.state scopes.new) notes.old notes.new site.now result (λ f found. IfSome found (λ e. IsRowOf f e.0 e.1)) (λ c. spec_entry c qual) }
+    ensures { Analysed (S.state scopes.old) (S.state scopes.new) notes.old notes.new site.now result
+        (λ f found. IfSome found (λ e. IsRowOf f e.0 e.1)) (λ c. spec_entry c qual) }
 {
     let first = analysed!(use_name(scopes, site, None, qual.first.name, qual.first.at, notes));
     qualified(scopes, site, qual.first.at, qual.second, first, notes)
@@ -182,7 +189,8 @@ pub(crate) fn type_of_qual<S: Scopes>(
 ) -> Result<Ask<Place>, Memory>
     requires suits { SuitsSite (S.state scopes.old).frame site.now }
     requires read { IsReadQual site.now.texts.now.names qual }
-    ensures { Analysed (S.state scopes.old) (S.state scopes.new) notes.old notes.new site.now result IsThere (λ c. spec_type_of c qual) }
+    ensures { Analysed (S.state scopes.old) (S.state scopes.new) notes.old notes.new site.now result IsThere
+        (λ c. spec_type_of c qual) }
 {
     let entry = analysed!(entry_of_qual(scopes, site, qual, notes));
     let of = put!(type_of_entry(site, qual.first.at, entry, notes));

@@ -6,7 +6,8 @@ ghost use Rattle.m2_base.specs.States.{State};
 ghost use Rattle.m2_base.specs.Statics.Contexts.{refuse as refuses};
 ghost use Rattle.m2_base.specs.Statics.Diagnostics.{result_not_scalar};
 ghost use Rattle.m2_base.specs.Statics.Makes.{only_gives};
-ghost use Rattle.m2_base.specs.Statics.ProcedureTypes.{checked_result as spec_checked, is_structured_kind, result_type};
+ghost use Rattle.m2_base.specs.Statics.ProcedureTypes.{checked_result as spec_checked, is_structured_kind};
+ghost use Rattle.m2_base.specs.Statics.ProcedureTypes.{result_type};
 ghost use Rattle.m2_base.specs.declared.rows.RowMeaning.TheVariants as meanings;
 ghost use Rattle.decl_sem.specs.Making.{next_ordinal};
 ghost use Rattle.decl_sem.specs.Pieces.{Declares, IsBehind, IsMaking, IsOptionBehind, known_of};
@@ -34,7 +35,9 @@ fn scalar_or_refuse(
     of: Place,
     made: &mut Made,
 ) -> Result<Option<Place>, Memory>
-    ensures { (a : State) → IsMaking a.frame site.now made.old [] → IsBehind a.frame (next_ordinal made.old) of → Declares a a made.old made.new site.now (known_of result) [] IsOptionBehind (λ c. only_gives (if structured then refuses c at result_not_scalar (Some broken) else gives (Some of))) }
+    ensures { (a : State) → IsMaking a.frame site.now made.old [] → IsBehind a.frame (next_ordinal made.old) of
+        → Declares a a made.old made.new site.now (known_of result) [] IsOptionBehind
+        (λ c. only_gives (if structured then refuses c at result_not_scalar (Some broken) else gives (Some of))) }
 {
     if structured {
         put!(refuse(site, at, Diagnostic::ResultNotScalar, &mut made.notes));
@@ -53,7 +56,8 @@ fn checked_result<S: Scopes>(
 ) -> Result<Ask<Option<Place>>, Memory>
     requires making { IsMaking (S.state scopes.old).frame site.now made.old [] }
     requires there { IsBehind (S.state scopes.old).frame (next_ordinal made.old) of }
-    ensures { Declares (S.state scopes.old) (S.state scopes.new) made.old made.new site.now result [] IsOptionBehind (λ c. only_gives (spec_checked c at of)) }
+    ensures { Declares (S.state scopes.old) (S.state scopes.new) made.old made.new site.now result [] IsOptionBehind
+        (λ c. only_gives (spec_checked c at of)) }
 {
     let stood = asked!(stand_in(scopes, site, made, of));
     let structured = is_structured(stood.1);
@@ -70,7 +74,8 @@ pub(crate) fn result_in<S: Scopes>(
 ) -> Result<Ask<Option<Place>>, Memory>
     requires making { IsMaking (S.state scopes.old).frame site.now made.old [] }
     requires read { IsReadQualOption site.now.texts.now.names qual }
-    ensures { Declares (S.state scopes.old) (S.state scopes.new) made.old made.new site.now result [] IsOptionBehind (λ c. only_gives (result_type c qual)) }
+    ensures { Declares (S.state scopes.old) (S.state scopes.new) made.old made.new site.now result [] IsOptionBehind
+        (λ c. only_gives (result_type c qual)) }
 {
     let Some(qual) = qual else {
         return Ok(Ask::Known(None));

@@ -1,7 +1,8 @@
 //! The rows of a procedure's heading in its own scope, and where its parameters are.
 ghost use Rattle.std.specs.Prelude.{[], flat_map, map};
 ghost use Rattle.m2_base.specs.Lists.{Each};
-ghost use Rattle.m2_base.specs.Statics.HeadingRows.{heading_rows as spec_rows, own_section_rows as spec_section, own_sections_rows as spec_sections};
+ghost use Rattle.m2_base.specs.Statics.HeadingRows.{heading_rows as spec_rows, own_section_rows as spec_section};
+ghost use Rattle.m2_base.specs.Statics.HeadingRows.{own_sections_rows as spec_sections};
 ghost use Rattle.m2_base.specs.Statics.Shapes.{own_section_shapes};
 ghost use Rattle.m2_base.specs.Views.{heading_view, section_view};
 ghost use Rattle.decl_sem.specs.Items.{IsLoneEffect};
@@ -31,11 +32,13 @@ fn named_section<S: Scopes>(
     elem: Place,
     from: Placing,
 ) -> Result<Ask<Placing>, Memory>
-    requires making { IsMaking (S.state scopes.old).frame site.now made.old (own_section_shapes (section_view section.now)) }
+    requires making { IsMaking (S.state scopes.old).frame site.now made.old
+        (own_section_shapes (section_view section.now)) }
     requires elem { IsBehind (S.state scopes.old).frame (next_ordinal made.old) elem }
     requires read { AreReadNames site.now.texts.now.names section.now.names.items }
     requires cells { AreCells from }
-    ensures { Declares (S.state scopes.old) (S.state scopes.new) made.old made.new site.now result (own_section_shapes (section_view section.now)) IsPlaced (section_given (section_view section.now) elem from) }
+    ensures { Declares (S.state scopes.old) (S.state scopes.new) made.old made.new site.now result
+        (own_section_shapes (section_view section.now)) IsPlaced (section_given (section_view section.now) elem from) }
 {
     match put_open(scopes, site, made, section.is_open, section.of, elem) {
         Ok(of) => parameters_in(scopes, site, made, section, elem, of, from, &section.names),
@@ -51,10 +54,13 @@ fn section_in<S: Scopes>(
     section: &Section,
     from: Placing,
 ) -> Result<Ask<Placing>, Memory>
-    requires making { IsMaking (S.state scopes.old).frame site.now made.old (own_section_shapes (section_view section.now)) }
+    requires making { IsMaking (S.state scopes.old).frame site.now made.old
+        (own_section_shapes (section_view section.now)) }
     requires read { IsReadSection site.now.texts.now.names (section_view section.now) }
     requires cells { AreCells from }
-    ensures { Declares (S.state scopes.old) (S.state scopes.new) made.old made.new site.now result (own_section_shapes (section_view section.now)) IsPlaced (λ c. spec_section c from (section_view section.now)) }
+    ensures { Declares (S.state scopes.old) (S.state scopes.new) made.old made.new site.now result
+        (own_section_shapes (section_view section.now)) IsPlaced
+        (λ c. spec_section c from (section_view section.now)) }
 {
     match name_in(scopes, site, section.of, made) {
         Ok(Ask::Known(elem)) => named_section(scopes, site, made, section, elem, from),
@@ -71,10 +77,13 @@ fn sections_in<S: Scopes>(
     sections: &[Section],
     from: Placing,
 ) -> Result<Ask<Placing>, Memory>
-    requires making { IsMaking (S.state scopes.old).frame site.now made.old (flat_map own_section_shapes (map section_view sections.now)) }
+    requires making { IsMaking (S.state scopes.old).frame site.now made.old
+        (flat_map own_section_shapes (map section_view sections.now)) }
     requires read { Each (IsReadSection site.now.texts.now.names) (map section_view sections.now) }
     requires cells { AreCells from }
-    ensures { Declares (S.state scopes.old) (S.state scopes.new) made.old made.new site.now result (flat_map own_section_shapes (map section_view sections.now)) IsPlaced (λ c. spec_sections c from (map section_view sections.now)) }
+    ensures { Declares (S.state scopes.old) (S.state scopes.new) made.old made.new site.now result
+        (flat_map own_section_shapes (map section_view sections.now)) IsPlaced
+        (λ c. spec_sections c from (map section_view sections.now)) }
 {
     let mut next = from;
     for section in sections {
@@ -95,7 +104,8 @@ fn effect_in<S: Scopes>(
     requires making { IsMaking (S.state scopes.old).frame site.now made.old [] }
     requires read { IsReadQualOption site.now.texts.now.names qual }
     requires cells { AreCells from }
-    ensures { Declares (S.state scopes.old) (S.state scopes.new) made.old made.new site.now result [] IsLoneEffect (heading_effect qual from) }
+    ensures { Declares (S.state scopes.old) (S.state scopes.new) made.old made.new site.now result [] IsLoneEffect
+        (heading_effect qual from) }
 {
     match result_in(scopes, site, qual, made) {
         Ok(Ask::Known(of)) => Ok(Ask::Known(from.into_effect(alloc, of))),
@@ -112,9 +122,12 @@ pub(crate) fn heading_rows<S: Scopes>(
     heading: &Heading,
     made: &mut Made,
 ) -> Result<Ask<Effect>, Memory>
-    requires making { IsMaking (S.state scopes.old).frame site.now made.old (flat_map own_section_shapes (heading_view heading.now).sections) }
+    requires making { IsMaking (S.state scopes.old).frame site.now made.old
+        (flat_map own_section_shapes (heading_view heading.now).sections) }
     requires read { IsReadHeading site.now.texts.now.names (heading_view heading.now) }
-    ensures { Declares (S.state scopes.old) (S.state scopes.new) made.old made.new site.now result (flat_map own_section_shapes (heading_view heading.now).sections) IsLoneEffect (λ c. spec_rows c (heading_view heading.now)) }
+    ensures { Declares (S.state scopes.old) (S.state scopes.new) made.old made.new site.now result
+        (flat_map own_section_shapes (heading_view heading.now).sections) IsLoneEffect
+        (λ c. spec_rows c (heading_view heading.now)) }
 {
     let sizes = heading_sizes(&heading.sections);
     let first = Placing::new(alloc, capped(sizes.cells as u64));

@@ -43,7 +43,8 @@ fn put_parameter<S: Scopes>(
     requires of { IsBehind (S.state scopes.now).frame (next_ordinal made.old) of }
     requires read { IsReadName site.now.texts.now.names name }
     requires cells { AreCells next }
-    ensures { Declares (S.state scopes.now) (S.state scopes.now) made.old made.new site.now (known_of result) (named var_kind name ∷ []) IsPlaced (placed_row name of mode cell next) }
+    ensures { Declares (S.state scopes.now) (S.state scopes.now) made.old made.new site.now (known_of result)
+        (named var_kind name ∷ []) IsPlaced (placed_row name of mode cell next) }
 {
     let meaning = RowMeaning::Var(of, mode, cell);
     match name_row(scopes, site, made, name, meaning) {
@@ -66,7 +67,8 @@ fn put_by_ref<S: Scopes>(
     requires of { IsBehind (S.state scopes.now).frame (next_ordinal made.old) of }
     requires read { IsReadName site.now.texts.now.names name }
     requires cells { AreCells from }
-    ensures { Declares (S.state scopes.now) (S.state scopes.now) made.old made.new site.now (known_of result) (named var_kind name ∷ []) IsPlaced (ref_row is_open name of from) }
+    ensures { Declares (S.state scopes.now) (S.state scopes.now) made.old made.new site.now (known_of result)
+        (named var_kind name ∷ []) IsPlaced (ref_row is_open name of from) }
 {
     let cell = from.cell();
     if is_open {
@@ -92,7 +94,8 @@ fn put_open_value<S: Scopes>(
     requires of { IsBehind (S.state scopes.now).frame (next_ordinal made.old) of }
     requires read { IsReadName site.now.texts.now.names name }
     requires cells { AreCells from }
-    ensures { Declares (S.state scopes.now) (S.state scopes.now) made.old made.new site.now (known_of result) (named var_kind name ∷ []) IsPlaced (open_row size name of from) }
+    ensures { Declares (S.state scopes.now) (S.state scopes.now) made.old made.new site.now (known_of result)
+        (named var_kind name ∷ []) IsPlaced (open_row size name of from) }
 {
     let cell = from.cell();
     match from.after_open(size) {
@@ -115,7 +118,8 @@ fn put_structured<S: Scopes>(
     requires of { IsBehind (S.state scopes.now).frame (next_ordinal made.old) of }
     requires read { IsReadName site.now.texts.now.names name }
     requires cells { AreCells from }
-    ensures { Declares (S.state scopes.now) (S.state scopes.now) made.old made.new site.now (known_of result) (named var_kind name ∷ []) IsPlaced (own_row size name of from) }
+    ensures { Declares (S.state scopes.now) (S.state scopes.now) made.old made.new site.now (known_of result)
+        (named var_kind name ∷ []) IsPlaced (own_row size name of from) }
 {
     let own = from.own();
     match from.after_own(size) {
@@ -139,7 +143,8 @@ fn put_value<S: Scopes>(
     requires of { IsBehind (S.state scopes.now).frame (next_ordinal made.old) of }
     requires read { IsReadName site.now.texts.now.names name }
     requires cells { AreCells from }
-    ensures { Declares (S.state scopes.now) (S.state scopes.now) made.old made.new site.now (known_of result) (named var_kind name ∷ []) IsPlaced (value_row structured size name of from) }
+    ensures { Declares (S.state scopes.now) (S.state scopes.now) made.old made.new site.now (known_of result)
+        (named var_kind name ∷ []) IsPlaced (value_row structured size name of from) }
 {
     if structured {
         put_structured(scopes, site, made, name, of, size, from)
@@ -165,7 +170,8 @@ fn open_value<S: Scopes>(
     requires of { IsBehind (S.state scopes.old).frame (next_ordinal made.old) of }
     requires read { IsReadName site.now.texts.now.names name }
     requires cells { AreCells from }
-    ensures { Declares (S.state scopes.old) (S.state scopes.new) made.old made.new site.now result (named var_kind name ∷ []) IsPlaced (λ c. open_row (size_of c.scene elem) name of from c) }
+    ensures { Declares (S.state scopes.old) (S.state scopes.new) made.old made.new site.now result
+        (named var_kind name ∷ []) IsPlaced (λ c. open_row (size_of c.scene elem) name of from c) }
 {
     match stand_in(scopes, site, made, elem) {
         Ask::Known(stood) => {
@@ -192,7 +198,8 @@ fn value_in<S: Scopes>(
     requires of { IsBehind (S.state scopes.old).frame (next_ordinal made.old) of }
     requires read { IsReadName site.now.texts.now.names name }
     requires cells { AreCells from }
-    ensures { Declares (S.state scopes.old) (S.state scopes.new) made.old made.new site.now result (named var_kind name ∷ []) IsPlaced (λ c. value_row (spec_structured c of) (size_of c.scene of) name of from c) }
+    ensures { Declares (S.state scopes.old) (S.state scopes.new) made.old made.new site.now result (named var_kind name
+        ∷ []) IsPlaced (λ c. value_row (spec_structured c of) (size_of c.scene of) name of from c) }
 {
     match stand_in(scopes, site, made, of) {
         Ask::Known(stood) => {
@@ -223,7 +230,8 @@ fn parameter_in<S: Scopes>(
     requires of { IsBehind (S.state scopes.old).frame (next_ordinal made.old) of }
     requires read { IsReadName site.now.texts.now.names name }
     requires cells { AreCells from }
-    ensures { Declares (S.state scopes.old) (S.state scopes.new) made.old made.new site.now result (named var_kind name ∷ []) IsPlaced (λ c. parameter_row c (section_view section.now) elem of from name) }
+    ensures { Declares (S.state scopes.old) (S.state scopes.new) made.old made.new site.now result
+        (named var_kind name ∷ []) IsPlaced (λ c. parameter_row c (section_view section.now) elem of from name) }
 {
     if section.by_ref {
         match put_by_ref(scopes, site, made, section.is_open, name, of, from) {
@@ -253,7 +261,9 @@ pub(crate) fn parameters_in<S: Scopes>(
     requires of { IsBehind (S.state scopes.old).frame (next_ordinal made.old) of }
     requires read { AreReadNames site.now.texts.now.names names.now }
     requires cells { AreCells from }
-    ensures { Declares (S.state scopes.old) (S.state scopes.new) made.old made.new site.now result (map (named var_kind) names.now) IsPlaced (λ c. parameter_rows c (section_view section.now) elem of from names.now) }
+    ensures { Declares (S.state scopes.old) (S.state scopes.new) made.old made.new site.now result
+        (map (named var_kind) names.now) IsPlaced
+        (λ c. parameter_rows c (section_view section.now) elem of from names.now) }
 {
     let mut next = from;
     for name in names {

@@ -1,7 +1,8 @@
 //! Where the parameters of a procedure are, one after another.
 ghost use Rattle.std.specs.Prelude.{◌≡◌, [], IfOk, None};
 ghost use Rattle.m2_base.specs.Statics.HeadingRows.{placing as spec_placing};
-ghost use Rattle.decl_sem.specs.OwnParameters.{after_cells as spec_cells, after_open as spec_open, after_own as spec_own};
+ghost use Rattle.decl_sem.specs.OwnParameters.{after_cells as spec_cells, after_open as spec_open};
+ghost use Rattle.decl_sem.specs.OwnParameters.{after_own as spec_own};
 
 use crate::cells::capped;
 use crate::effects::{Effect, ParamCopy};
@@ -9,7 +10,8 @@ use m2_base::{Memory, Place};
 use std::alloc::Global;
 use std::marker::Model;
 
-/// The cell in which the next parameter arrives, the next free cell behind all of them, and what the body copies first.
+/// The cell in which the next parameter arrives, the next free cell behind all of them,
+/// and what the body copies first.
 #[derive(Drop)]
 pub(crate) struct Placing {
     cell: u32,
@@ -91,7 +93,8 @@ impl Placing {
 
     /// What the heading gives, behind all parameters, with this result.
     pub(crate) fn into_effect(self, alloc: Global, of: Option<Place>) -> Effect
-        ensures { result ≡ record { cell = self.own; prologue = self.copies; result = of; heading = None; brought = [] } }
+        ensures { result
+            ≡ record { cell = self.own; prologue = self.copies; result = of; heading = None; brought = [] } }
     {
         Effect {
             cell: self.own,

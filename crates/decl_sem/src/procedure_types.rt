@@ -48,7 +48,9 @@ pub(crate) fn proc_row<S: Scopes>(
     requires making { IsMaking (S.state scopes.old).frame site.now made.old (nameless proc_type_kind at ∷ []) }
     requires read { IsReadQualOption site.now.texts.now.names qual }
     requires first { first ≤ next_ordinal made.old }
-    ensures { Declares (S.state scopes.old) (S.state scopes.new) made.old made.new site.now result (nameless proc_type_kind at ∷ []) IsBehind (λ c. make_then c (only_gives (result_type c qual)) (λ e r. makes_row e at (meanings.ProcType r count first))) }
+    ensures { Declares (S.state scopes.old) (S.state scopes.new) made.old made.new site.now result
+        (nameless proc_type_kind at ∷ []) IsBehind (λ c.
+        make_then c (only_gives (result_type c qual)) (λ e r. makes_row e at (meanings.ProcType r count first))) }
 {
     let of = analysed!(result_in(scopes, site, qual, made));
     let meaning = RowMeaning::ProcType(of, count, first);
@@ -65,10 +67,12 @@ pub(crate) fn proc_in<S: Scopes>(
     qual: Option<Qual>,
     made: &mut Made,
 ) -> Result<Ask<Place>, Memory>
-    requires making { IsMaking (S.state scopes.old).frame site.now made.old (form_shapes at (proc_type formals.now qual)) }
+    requires making { IsMaking (S.state scopes.old).frame site.now made.old
+        (form_shapes at (proc_type formals.now qual)) }
     requires formals { AreReadFormals site.now.texts.now.names formals.now }
     requires read { IsReadQualOption site.now.texts.now.names qual }
-    ensures { Declares (S.state scopes.old) (S.state scopes.new) made.old made.new site.now result (form_shapes at (proc_type formals.now qual)) IsBehind (λ c. form_rows c at (proc_type formals.now qual)) }
+    ensures { Declares (S.state scopes.old) (S.state scopes.new) made.old made.new site.now result
+        (form_shapes at (proc_type formals.now qual)) IsBehind (λ c. form_rows c at (proc_type formals.now qual)) }
 {
     let first = next_row(made);
     let count = formals.len() as u32;

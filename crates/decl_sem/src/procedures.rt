@@ -34,7 +34,8 @@ fn named_proc<S: Scopes>(
     requires making { IsMaking (S.state scopes.now).frame site.now made.old (named proc_kind name ∷ []) }
     requires read { IsReadName site.now.texts.now.names name }
     requires of { IsBehind (S.state scopes.now).frame (next_ordinal made.old) of }
-    ensures { Declares (S.state scopes.now) (S.state scopes.now) made.old made.new site.now (known_of result) (named proc_kind name ∷ []) IsBehind (λ c. makes_named c name.name name.at (meanings.Proc of number scope)) }
+    ensures { Declares (S.state scopes.now) (S.state scopes.now) made.old made.new site.now (known_of result)
+        (named proc_kind name ∷ []) IsBehind (λ c. makes_named c name.name name.at (meanings.Proc of number scope)) }
 {
     let meaning = RowMeaning::Proc(of, number, scope);
     name_row(scopes, site, made, name, meaning)
@@ -51,10 +52,15 @@ fn typed_proc<S: Scopes>(
     number: u32,
     scope: u32,
 ) -> Result<Ask<Place>, Memory>
-    requires making { IsMaking (S.state scopes.old).frame site.now made.old (nameless proc_type_kind heading.now.name.at ∷ named proc_kind heading.now.name ∷ []) }
+    requires making { IsMaking (S.state scopes.old).frame site.now made.old
+        (nameless proc_type_kind heading.now.name.at ∷ named proc_kind heading.now.name ∷ []) }
     requires read { IsReadHeading site.now.texts.now.names (heading_view heading.now) }
     requires first { first ≤ next_ordinal made.old }
-    ensures { Declares (S.state scopes.old) (S.state scopes.new) made.old made.new site.now result (nameless proc_type_kind heading.now.name.at ∷ named proc_kind heading.now.name ∷ []) IsBehind (λ c. make_then c (make_then c (only_gives (result_type c heading.now.result)) (λ e r. makes_row e heading.now.name.at (meanings.ProcType r count first))) (λ f t. makes_named f heading.now.name.name heading.now.name.at (meanings.Proc t number scope))) }
+    ensures { Declares (S.state scopes.old) (S.state scopes.new) made.old made.new site.now result
+        (nameless proc_type_kind heading.now.name.at ∷ named proc_kind heading.now.name ∷ []) IsBehind
+        (λ c. make_then c (make_then c (only_gives (result_type c heading.now.result))
+        (λ e r. makes_row e heading.now.name.at (meanings.ProcType r count first)))
+        (λ f t. makes_named f heading.now.name.name heading.now.name.at (meanings.Proc t number scope))) }
 {
     let name = heading.name;
     match proc_row(scopes, site, name.at, first, count, heading.result, made) {
@@ -77,11 +83,15 @@ pub(crate) fn proc_rows<S: Scopes>(
     procedures: u32,
     made: &mut Made,
 ) -> Result<Ask<Option<HeadingNote>>, Memory>
-    requires making { IsMaking (S.state scopes.old).frame site.now made.old (flat_map section_shapes (heading_view heading.now).sections ++ nameless proc_type_kind heading.now.name.at ∷ named proc_kind heading.now.name ∷ []) }
+    requires making { IsMaking (S.state scopes.old).frame site.now made.old
+        (flat_map section_shapes (heading_view heading.now).sections ++ nameless proc_type_kind heading.now.name.at
+        ∷ named proc_kind heading.now.name ∷ []) }
     requires begun { made.old.rows.items ≡ [] }
     requires read { IsReadHeading site.now.texts.now.names (heading_view heading.now) }
     requires number { procedures ≡ length (filter is_proc (S.state scopes.old).frame.entered) }
-    ensures { Declares (S.state scopes.old) (S.state scopes.new) made.old made.new site.now result (flat_map section_shapes (heading_view heading.now).sections ++ nameless proc_type_kind heading.now.name.at ∷ named proc_kind heading.now.name ∷ []) IsAny (λ c. spec_rows c kind (heading_view heading.now) stream) }
+    ensures { Declares (S.state scopes.old) (S.state scopes.new) made.old made.new site.now result
+        (flat_map section_shapes (heading_view heading.now).sections ++ nameless proc_type_kind heading.now.name.at
+        ∷ named proc_kind heading.now.name ∷ []) IsAny (λ c. spec_rows c kind (heading_view heading.now) stream) }
 {
     let first = next_row(made);
     let number = proc_number(kind, stream, site.around.module, procedures);

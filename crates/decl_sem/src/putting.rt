@@ -19,7 +19,8 @@ pub(crate) fn plain_row<S: Scopes>(
 ) -> Result<Place, Memory>
     requires making { IsMaking (S.state _scopes.now).frame site.now made.old (nameless (kind_number meaning) at ∷ []) }
     requires meaning { IsNewMeaning (S.state _scopes.now).frame site.now (next_ordinal made.old) meaning }
-    ensures { Declares (S.state _scopes.now) (S.state _scopes.now) made.old made.new site.now (known_of result) (nameless (kind_number meaning) at ∷ []) IsBehind (λ c. spec_row c at meaning) }
+    ensures { Declares (S.state _scopes.now) (S.state _scopes.now) made.old made.new site.now (known_of result)
+        (nameless (kind_number meaning) at ∷ []) IsBehind (λ c. spec_row c at meaning) }
 {
     put_plain(site, made, at, meaning)
 }
@@ -35,7 +36,8 @@ pub(crate) fn name_row<S: Scopes>(
     requires making { IsMaking (S.state _scopes.now).frame site.now made.old (named (kind_number meaning) ident ∷ []) }
     requires read { IsReadName site.now.texts.now.names ident }
     requires meaning { IsNewMeaning (S.state _scopes.now).frame site.now (next_ordinal made.old) meaning }
-    ensures { Declares (S.state _scopes.now) (S.state _scopes.now) made.old made.new site.now (known_of result) (named (kind_number meaning) ident ∷ []) IsBehind (λ c. spec_named c ident.name ident.at meaning) }
+    ensures { Declares (S.state _scopes.now) (S.state _scopes.now) made.old made.new site.now (known_of result)
+        (named (kind_number meaning) ident ∷ []) IsBehind (λ c. spec_named c ident.name ident.at meaning) }
 {
     put_named(site, made, ident, meaning)
 }

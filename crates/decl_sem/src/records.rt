@@ -20,8 +20,8 @@ use crate::making::{Made, put_plain};
 use case_labels::{Coverage, Covered, case_labels};
 use m2_base::{Ask, Ident, Label, Memory, Place, Qual, RowMeaning, Scopes, Site};
 
-/// Where the variants behind a tag stand: the ordinal of their record's row, the offset at which each begins, and the type of
-/// the tag.
+/// Where the variants behind a tag stand: the ordinal of their record's row, the offset at which each begins, and the
+/// type of the tag.
 #[derive(Clone, Copy)]
 pub(crate) struct Variants {
     pub(crate) own: u32,
@@ -44,7 +44,8 @@ pub(crate) fn begin_variants<S: Scopes>(
     requires offset { offset ≤ most_cells + 1 }
     requires tag { IsReadOption site.now.texts.now.names tag }
     requires read { IsReadQual site.now.texts.now.names of }
-    ensures { Declares (S.state scopes.old) (S.state scopes.new) made.old made.new site.now result (tag_shapes tag) (AreVariantsOf own) (λ c. tag_made c own offset tag of) }
+    ensures { Declares (S.state scopes.old) (S.state scopes.new) made.old made.new site.now result (tag_shapes tag)
+        (AreVariantsOf own) (λ c. tag_made c own offset tag of) }
 {
     let typ = analysed!(tag_in(scopes, site, of, made));
     let begin = put!(put_tag(scopes, site, made, own, typ, offset, tag));
@@ -55,8 +56,8 @@ pub(crate) fn begin_variants<S: Scopes>(
     }))
 }
 
-/// The labels of one variant, beside the type of its tag, some of whose values earlier variants cover. The value is what
-/// is covered with them.
+/// The labels of one variant, beside the type of its tag, some of whose values earlier variants cover. The value is
+/// what is covered with them.
 pub(crate) fn labels_in<S: Scopes>(
     scopes: &mut S,
     site: &Site,
@@ -75,8 +76,8 @@ pub(crate) fn labels_in<S: Scopes>(
     Ok(Ask::Known(found.covered))
 }
 
-/// The row of a record whose first row has this ordinal and whose fields end at this offset. It has at least one cell, and
-/// one of too many is refused.
+/// The row of a record whose first row has this ordinal and whose fields end at this offset. It has at least one cell,
+/// and one of too many is refused.
 pub(crate) fn put_record(
     site: &Site,
     at: u32,
@@ -86,7 +87,8 @@ pub(crate) fn put_record(
 ) -> Result<Place, Memory>
     requires room { next_ordinal made.old < 2 ^ 32 }
     requires first { first ≤ next_ordinal made.old }
-    ensures { (a : State) → IsMaking a.frame site.now made.old (nameless record_kind at ∷ []) → Declares a a made.old made.new site.now (known_of result) (nameless record_kind at ∷ []) IsBehind (λ c. record_row c at first end) }
+    ensures { (a : State) → IsMaking a.frame site.now made.old (nameless record_kind at ∷ []) → Declares a a made.old
+        made.new site.now (known_of result) (nameless record_kind at ∷ []) IsBehind (λ c. record_row c at first end) }
 {
     let size = end.max(1);
     let row = put!(put_plain(site, made, at, RowMeaning::Record(first, size)));

@@ -27,9 +27,11 @@ pub(crate) fn put_parameters<S: Scopes>(
     of: Place,
     names: &[Ident],
 ) -> Result<(), Memory>
-    requires making { IsMaking (S.state scopes.now).frame site.now made.old (map (λ i. nameless param_kind i.at) names.now) }
+    requires making { IsMaking (S.state scopes.now).frame site.now made.old
+        (map (λ i. nameless param_kind i.at) names.now) }
     requires of { IsBehind (S.state scopes.now).frame (next_ordinal made.old) of }
-    ensures { Declares (S.state scopes.now) (S.state scopes.now) made.old made.new site.now (known_of result) (map (λ i. nameless param_kind i.at) names.now) IsAny (λ c. spec_params c own by_ref of names.now) }
+    ensures { Declares (S.state scopes.now) (S.state scopes.now) made.old made.new site.now (known_of result)
+        (map (λ i. nameless param_kind i.at) names.now) IsAny (λ c. spec_params c own by_ref of names.now) }
 {
     for name in names {
         let meaning = RowMeaning::Param(of, by_ref, own);
@@ -52,7 +54,8 @@ pub(crate) fn put_open<S: Scopes>(
 ) -> Result<Place, Memory>
     requires making { IsMaking (S.state scopes.now).frame site.now made.old (open_shapes is_open qual) }
     requires of { IsBehind (S.state scopes.now).frame (next_ordinal made.old) of }
-    ensures { Declares (S.state scopes.now) (S.state scopes.now) made.old made.new site.now (known_of result) (open_shapes is_open qual) IsBehind (λ c. spec_open c qual.first.at is_open of) }
+    ensures { Declares (S.state scopes.now) (S.state scopes.now) made.old made.new site.now (known_of result)
+        (open_shapes is_open qual) IsBehind (λ c. spec_open c qual.first.at is_open of) }
 {
     if is_open {
         plain_row(scopes, site, made, qual.first.at, RowMeaning::OpenArray(of))
@@ -71,7 +74,8 @@ pub(crate) fn parameter_type<S: Scopes>(
 ) -> Result<Ask<Place>, Memory>
     requires making { IsMaking (S.state scopes.old).frame site.now made.old (open_shapes is_open qual) }
     requires read { IsReadQual site.now.texts.now.names qual }
-    ensures { Declares (S.state scopes.old) (S.state scopes.new) made.old made.new site.now result (open_shapes is_open qual) IsBehind (λ c. spec_type c is_open qual) }
+    ensures { Declares (S.state scopes.old) (S.state scopes.new) made.old made.new site.now result
+        (open_shapes is_open qual) IsBehind (λ c. spec_type c is_open qual) }
 {
     match type_of_qual(scopes, site, qual, &mut made.notes) {
         Ok(Ask::Known(of)) => {
@@ -93,9 +97,13 @@ fn section_in<S: Scopes>(
     own: u32,
     section: &Section,
 ) -> Result<Ask<()>, Memory>
-    requires making { IsMaking (S.state scopes.old).frame site.now made.old (section_shapes (section_view section.now)) }
+    requires making { IsMaking (S.state scopes.old).frame site.now made.old
+        (section_shapes (section_view section.now)) }
     requires read { IsReadSection site.now.texts.now.names (section_view section.now) }
-    ensures { Declares (S.state scopes.old) (S.state scopes.new) made.old made.new site.now result (section_shapes (section_view section.now)) IsAny (λ c. make_then c (spec_type c section.now.is_open section.now.of) (λ d t. spec_params d own section.now.by_ref t section.now.names.items)) }
+    ensures { Declares (S.state scopes.old) (S.state scopes.new) made.old made.new site.now result
+        (section_shapes (section_view section.now)) IsAny
+        (λ c. make_then c (spec_type c section.now.is_open section.now.of)
+        (λ d t. spec_params d own section.now.by_ref t section.now.names.items)) }
 {
     match parameter_type(scopes, site, made, section.is_open, section.of) {
         Ok(Ask::Known(of)) => {
@@ -117,9 +125,12 @@ pub(crate) fn sections_rows<S: Scopes>(
     own: u32,
     sections: &[Section],
 ) -> Result<Ask<()>, Memory>
-    requires making { IsMaking (S.state scopes.old).frame site.now made.old (flat_map section_shapes (map section_view sections.now)) }
+    requires making { IsMaking (S.state scopes.old).frame site.now made.old
+        (flat_map section_shapes (map section_view sections.now)) }
     requires read { Each (IsReadSection site.now.texts.now.names) (map section_view sections.now) }
-    ensures { Declares (S.state scopes.old) (S.state scopes.new) made.old made.new site.now result (flat_map section_shapes (map section_view sections.now)) IsAny (λ c. spec_sections c own (map section_view sections.now)) }
+    ensures { Declares (S.state scopes.old) (S.state scopes.new) made.old made.new site.now result
+        (flat_map section_shapes (map section_view sections.now)) IsAny
+        (λ c. spec_sections c own (map section_view sections.now)) }
 {
     for section in sections {
         analysed!(section_in(scopes, site, made, own, section));

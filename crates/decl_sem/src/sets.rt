@@ -50,7 +50,9 @@ pub(crate) fn keep_or_refuse(
     of: Place,
     made: &mut Made,
 ) -> Result<Place, Memory>
-    ensures { (a : State) → IsMaking a.frame site.now made.old [] → IsBehind a.frame (next_ordinal made.old) of → Declares a a made.old made.new site.now (known_of result) [] IsBehind (λ c. only_gives (if keep then gives of else refuses c at wrong_index broken)) }
+    ensures { (a : State) → IsMaking a.frame site.now made.old [] → IsBehind a.frame (next_ordinal made.old) of
+        → Declares a a made.old made.new site.now (known_of result) [] IsBehind
+        (λ c. only_gives (if keep then gives of else refuses c at wrong_index broken)) }
 {
     if keep {
         return Ok(of);
@@ -69,7 +71,8 @@ fn checked_base<S: Scopes>(
 ) -> Result<Ask<Place>, Memory>
     requires making { IsMaking (S.state scopes.old).frame site.now made.old [] }
     requires there { IsBehind (S.state scopes.old).frame (next_ordinal made.old) of }
-    ensures { Declares (S.state scopes.old) (S.state scopes.new) made.old made.new site.now result [] IsBehind (λ c. only_gives (spec_base c at of)) }
+    ensures { Declares (S.state scopes.old) (S.state scopes.new) made.old made.new site.now result [] IsBehind
+        (λ c. only_gives (spec_base c at of)) }
 {
     let stood = asked!(stand_in(scopes, site, made, of));
     let keep = may_be_base(stood);
@@ -88,7 +91,9 @@ pub(crate) fn make_set<S: Scopes>(
 ) -> Result<Ask<Place>, Memory>
     requires making { IsMaking (S.state scopes.old).frame site.now made.old (nameless set_kind at ∷ []) }
     requires there { IsBehind (S.state scopes.old).frame (next_ordinal made.old) of }
-    ensures { Declares (S.state scopes.old) (S.state scopes.new) made.old made.new site.now result (nameless set_kind at ∷ []) IsBehind (λ c. make_then c (only_gives (spec_base c base_at of)) (λ e base. makes_row e at (meanings.Set base))) }
+    ensures { Declares (S.state scopes.old) (S.state scopes.new) made.old made.new site.now result
+        (nameless set_kind at ∷ []) IsBehind
+        (λ c. make_then c (only_gives (spec_base c base_at of)) (λ e base. makes_row e at (meanings.Set base))) }
 {
     let base = analysed!(checked_base(scopes, site, base_at, of, made));
     let set = put!(put_plain(site, made, at, RowMeaning::Set(base)));

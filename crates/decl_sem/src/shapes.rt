@@ -2,10 +2,13 @@
 ghost use Rattle.std.specs.Prelude.{◌≡◌, [], ◌∷◌, ◌++◌, ◌+◌, ◌<◌, ◌^◌, flat_map, length, map, option_map, IfOk, OnOk};
 ghost use Rattle.m2_base.specs.Statics.Items.{decl_item, heading_item, import_item, type_item, proc_item};
 ghost use Rattle.m2_base.specs.Statics.Layouts.{names_of_item};
-ghost use Rattle.m2_base.specs.Statics.Shapes.{Shape as PlainShape, named, nameless, open_shapes, formal_shapes, tag_shapes, type_shapes, field_shapes, fields_shapes, arm_shapes, own_section_shapes, section_shapes, item_shapes};
+ghost use Rattle.m2_base.specs.Statics.Shapes.{Shape as PlainShape, named, nameless, open_shapes, formal_shapes};
+ghost use Rattle.m2_base.specs.Statics.Shapes.{tag_shapes, type_shapes, field_shapes, fields_shapes, arm_shapes};
+ghost use Rattle.m2_base.specs.Statics.Shapes.{own_section_shapes, section_shapes, item_shapes};
 ghost use Rattle.m2_base.specs.Trees.{field_lists};
 ghost use Rattle.decl_sem.specs.Shapes.{arrays_of, shape_view};
-ghost use Rattle.m2_base.specs.Views.{type_view, field_list_view, variant_arm_view, section_view, heading_view, decl_view};
+ghost use Rattle.m2_base.specs.Views.{type_view, field_list_view, variant_arm_view, section_view, heading_view};
+ghost use Rattle.m2_base.specs.Views.{decl_view};
 
 use crate::kinds;
 use m2_base::{
@@ -275,7 +278,8 @@ pub(crate) fn count_fields(alloc: Global, fields: &[FieldList]) -> Result<usize,
 
 /// The variables of a heading's parameters, in the procedure's own scope.
 fn put_own_sections(shapes: &mut Shapes, sections: &[Section]) -> Result<(), Memory>
-    ensures { OnOk result (shapes.new ≡ shapes.old ++ flat_map (λ s. own_section_shapes (section_view s)) sections.now) }
+    ensures { OnOk result
+        (shapes.new ≡ shapes.old ++ flat_map (λ s. own_section_shapes (section_view s)) sections.now) }
 {
     for section in sections {
         put_open(shapes, section.is_open, &section.of)?;
@@ -327,7 +331,8 @@ pub(crate) fn put_import(
 
 /// The rows of a type and its name; an opaque type has a row of its own.
 fn put_type_item(shapes: &mut Shapes, name: &Ident, typ: &Option<TypeExpr>) -> Result<(), Memory>
-    ensures { OnOk result (shapes.new ≡ shapes.old ++ item_shapes (type_item name.now (option_map type_view typ.now))) }
+    ensures { OnOk result
+        (shapes.new ≡ shapes.old ++ item_shapes (type_item name.now (option_map type_view typ.now))) }
 {
     match typ {
         Some(typ) => put_type(shapes, typ)?,

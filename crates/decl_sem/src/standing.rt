@@ -44,7 +44,8 @@ pub(crate) fn meaning_in<S: Scopes>(
     ensures reads { Reads (S.state scopes.old) (S.state scopes.new) }
     ensures waits { WhereWaiting result (λ head. Waits (S.state scopes.old) (S.state scopes.new) head) }
     ensures told { WhereMaking (S.state scopes.old).frame made.now (λ hand.
-        WhereKnown result (λ meaning. meaning ≡ spec_meaning_at (scene_of (S.state scopes.old).frame hand site.now.around.now) of)) }
+        WhereKnown result
+        (λ meaning. meaning ≡ spec_meaning_at (scene_of (S.state scopes.old).frame hand site.now.around.now) of)) }
 {
     if is_held(site, made, of) {
         return Ask::Known(held_meaning(made, of));

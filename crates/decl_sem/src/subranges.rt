@@ -7,7 +7,8 @@ ghost use Rattle.m2_base.specs.States.{Waits};
 ghost use Rattle.m2_base.specs.Statics.Constants.{constant_of};
 ghost use Rattle.m2_base.specs.Statics.Operands.{char_or_same};
 ghost use Rattle.m2_base.specs.Statics.Shapes.{form_shapes, nameless};
-ghost use Rattle.m2_base.specs.Statics.Subranges.{is_broken_base, named_base as spec_named, of_bounds as spec_of, of_ordinals, subrange_of as spec_subrange, subrange_row};
+ghost use Rattle.m2_base.specs.Statics.Subranges.{is_broken_base, named_base as spec_named, of_bounds as spec_of};
+ghost use Rattle.m2_base.specs.Statics.Subranges.{of_ordinals, subrange_of as spec_subrange, subrange_row};
 ghost use Rattle.m2_base.specs.Statics.TypeRows.{form_rows};
 ghost use Rattle.m2_base.specs.Statics.Types.{stands_for};
 ghost use Rattle.m2_base.specs.Statics.ReadTrees.{IsReadExpr, IsReadQualOption};
@@ -18,7 +19,8 @@ ghost use Rattle.const_eval.specs.Sites.{IsOperand};
 ghost use Rattle.type_rules.specs.Asks.{Reads, WhereKnown, WhereWaiting};
 ghost use Rattle.type_rules.specs.Scenes.{IsThere, WhereTold};
 ghost use Rattle.type_rules.specs.Sites.{SuitsSite, context_of};
-ghost use Rattle.decl_sem.specs.Bounds.{AreBounds, IsChoice, IsEnd, IsEndOf, IsVerdict, bounds_view, chosen, given_by, kept};
+ghost use Rattle.decl_sem.specs.Bounds.{AreBounds, IsChoice, IsEnd, IsEndOf, IsVerdict, bounds_view, chosen, given_by};
+ghost use Rattle.decl_sem.specs.Bounds.{kept};
 ghost use Rattle.decl_sem.specs.Pieces.{Declares, IsBehind, IsMaking, known_of};
 
 use crate::bounds::{Bounds, Choice, End, Verdict, are_within, choose, judge, note_verdict};
@@ -37,7 +39,8 @@ fn base_in<S: Scopes>(scopes: &mut S, site: &Site, base: Option<Place>) -> Ask<O
     ensures reads { Reads (S.state scopes.old) (S.state scopes.new) }
     ensures waits { WhereWaiting result (λ head. Waits (S.state scopes.old) (S.state scopes.new) head) }
     ensures told { WhereTold (S.state scopes.old).frame (λ made.
-        WhereKnown result (λ named. let c = context_of (S.state scopes.old).frame made site.now in named ≡ option_map (stands_for c.scene) base)) }
+        WhereKnown result (λ named. let c = context_of (S.state scopes.old).frame made site.now in
+        named ≡ option_map (stands_for c.scene) base)) }
     ensures there { WhereKnown result (λ named. IfSome named (λ of. IsThere (S.state scopes.old).frame of)) }
 {
     match base {
@@ -79,10 +82,13 @@ fn ends_of<S: Scopes>(scopes: &mut S, site: &Site, low: Operand, high: Operand) 
     ensures reads { Reads (S.state scopes.old) (S.state scopes.new) }
     ensures waits { WhereWaiting result (λ head. Waits (S.state scopes.old) (S.state scopes.new) head) }
     ensures low { WhereTold (S.state scopes.old).frame (λ made.
-        WhereKnown result (λ ends. let c = context_of (S.state scopes.old).frame made site.now in IsEndOf c (char_or_same c.source low) ends.0)) }
+        WhereKnown result (λ ends. let c = context_of (S.state scopes.old).frame made site.now in
+        IsEndOf c (char_or_same c.source low) ends.0)) }
     ensures high { WhereTold (S.state scopes.old).frame (λ made.
-        WhereKnown result (λ ends. let c = context_of (S.state scopes.old).frame made site.now in IsEndOf c (char_or_same c.source high) ends.1)) }
-    ensures there { WhereKnown result (λ ends. IsEnd (S.state scopes.old).frame ends.0 × IsEnd (S.state scopes.old).frame ends.1) }
+        WhereKnown result (λ ends. let c = context_of (S.state scopes.old).frame made site.now in
+        IsEndOf c (char_or_same c.source high) ends.1)) }
+    ensures there { WhereKnown result
+        (λ ends. IsEnd (S.state scopes.old).frame ends.0 × IsEnd (S.state scopes.old).frame ends.1) }
 {
     let first = known!(end_of(scopes, site, char_of_string(site, low)));
     let last = known!(end_of(scopes, site, char_of_string(site, high)));
@@ -105,7 +111,10 @@ fn choice_of<S: Scopes>(
     ensures reads { Reads (S.state scopes.old) (S.state scopes.new) }
     ensures waits { WhereWaiting result (λ head. Waits (S.state scopes.old) (S.state scopes.new) head) }
     ensures told { WhereTold (S.state scopes.old).frame (λ made.
-        WhereKnown result (λ choice. (low_at high_at : ℕ) → let c = context_of (S.state scopes.old).frame made site.now in chosen c low_at high_at choice ≡ (if is_broken_base c base then gives None else of_ordinals c base low_at high_at (char_or_same c.source low) (char_or_same c.source high)))) }
+        WhereKnown result
+        (λ choice. (low_at high_at : ℕ) → let c = context_of (S.state scopes.old).frame made site.now in
+        chosen c low_at high_at choice ≡ (if is_broken_base c base then gives None
+        else of_ordinals c base low_at high_at (char_or_same c.source low) (char_or_same c.source high)))) }
     ensures there { WhereKnown result (λ choice. IsChoice (S.state scopes.old).frame choice) }
 {
     let named = known!(base_in(scopes, site, base));
@@ -121,7 +130,9 @@ fn verdict_on<S: Scopes>(scopes: &mut S, site: &Site, choice: Choice) -> Ask<Ver
     ensures reads { Reads (S.state scopes.old) (S.state scopes.new) }
     ensures waits { WhereWaiting result (λ head. Waits (S.state scopes.old) (S.state scopes.new) head) }
     ensures told { WhereTold (S.state scopes.old).frame (λ made.
-        WhereKnown result (λ verdict. (low_at high_at : ℕ) → let c = context_of (S.state scopes.old).frame made site.now in given_by c low_at high_at verdict ≡ kept (chosen c low_at high_at choice))) }
+        WhereKnown result
+        (λ verdict. (low_at high_at : ℕ) → let c = context_of (S.state scopes.old).frame made site.now in
+        given_by c low_at high_at verdict ≡ kept (chosen c low_at high_at choice))) }
     ensures there { WhereKnown result (λ verdict. IsVerdict (S.state scopes.old).frame verdict) }
 {
     match choice {
@@ -151,7 +162,9 @@ fn verdict_of<S: Scopes>(
     ensures reads { Reads (S.state scopes.old) (S.state scopes.new) }
     ensures waits { WhereWaiting result (λ head. Waits (S.state scopes.old) (S.state scopes.new) head) }
     ensures told { WhereTold (S.state scopes.old).frame (λ made.
-        WhereKnown result (λ verdict. (low_at high_at : ℕ) → let c = context_of (S.state scopes.old).frame made site.now in given_by c low_at high_at verdict ≡ kept (spec_of c base low_at high_at (Some low) (Some high)))) }
+        WhereKnown result
+        (λ verdict. (low_at high_at : ℕ) → let c = context_of (S.state scopes.old).frame made site.now in
+        given_by c low_at high_at verdict ≡ kept (spec_of c base low_at high_at (Some low) (Some high)))) }
     ensures there { WhereKnown result (λ verdict. IsVerdict (S.state scopes.old).frame verdict) }
 {
     let choice = known!(choice_of(scopes, site, base, low, high));
@@ -173,7 +186,9 @@ fn of_constants<S: Scopes>(
     requires base { IfSome base (λ of. IsThere (S.state scopes.old).frame of) }
     requires low { IsOperand (S.state scopes.old).frame low }
     requires high { IsOperand (S.state scopes.old).frame high }
-    ensures { Analysed (S.state scopes.old) (S.state scopes.new) notes.old notes.new site.now result (λ f given. IfSome given (λ bounds. AreBounds f bounds)) (λ c. kept (spec_of c base low_at high_at (Some low) (Some high))) }
+    ensures { Analysed (S.state scopes.old) (S.state scopes.new) notes.old notes.new site.now result
+        (λ f given. IfSome given (λ bounds. AreBounds f bounds))
+        (λ c. kept (spec_of c base low_at high_at (Some low) (Some high))) }
 {
     let verdict = asked!(verdict_of(scopes, site, base, low, high));
     let bounds = put!(note_verdict(site, low_at, high_at, verdict, notes));
@@ -195,7 +210,8 @@ fn of_bounds<S: Scopes>(
     requires base { IfSome base (λ of. IsThere (S.state scopes.old).frame of) }
     requires low { IfSome low (λ x. IsOperand (S.state scopes.old).frame x) }
     requires high { IfSome high (λ x. IsOperand (S.state scopes.old).frame x) }
-    ensures { Analysed (S.state scopes.old) (S.state scopes.new) notes.old notes.new site.now result (λ f given. IfSome given (λ bounds. AreBounds f bounds)) (λ c. kept (spec_of c base low_at high_at low high)) }
+    ensures { Analysed (S.state scopes.old) (S.state scopes.new) notes.old notes.new site.now result
+        (λ f given. IfSome given (λ bounds. AreBounds f bounds)) (λ c. kept (spec_of c base low_at high_at low high)) }
 {
     match (low, high) {
         (Some(low), Some(high)) => {
@@ -219,7 +235,9 @@ fn with_high<S: Scopes>(
     requires base { IfSome base (λ of. IsThere (S.state scopes.old).frame of) }
     requires low { IfSome low (λ x. IsOperand (S.state scopes.old).frame x) }
     requires read { IsReadExpr site.now.texts.now.names (expr_view high.now) }
-    ensures { Analysed (S.state scopes.old) (S.state scopes.new) notes.old notes.new site.now result (λ f given. IfSome given (λ bounds. AreBounds f bounds)) (λ c. kept (and_then (constant_of c (expr_view high.now)) (λ y. spec_of c base low_at high.now.at low y))) }
+    ensures { Analysed (S.state scopes.old) (S.state scopes.new) notes.old notes.new site.now result
+        (λ f given. IfSome given (λ bounds. AreBounds f bounds))
+        (λ c. kept (and_then (constant_of c (expr_view high.now)) (λ y. spec_of c base low_at high.now.at low y))) }
 {
     let last = analysed!(constant(scopes, site, high, notes));
     of_bounds(scopes, site, base, low_at, low, high.at, last, notes)
@@ -238,7 +256,10 @@ fn with_low<S: Scopes>(
     requires base { IfSome base (λ of. IsThere (S.state scopes.old).frame of) }
     requires low { IsReadExpr site.now.texts.now.names (expr_view low.now) }
     requires high { IsReadExpr site.now.texts.now.names (expr_view high.now) }
-    ensures { Analysed (S.state scopes.old) (S.state scopes.new) notes.old notes.new site.now result (λ f given. IfSome given (λ bounds. AreBounds f bounds)) (λ c. kept (and_then (constant_of c (expr_view low.now)) (λ x. and_then (constant_of c (expr_view high.now)) (λ y. spec_of c base low.now.at high.now.at x y)))) }
+    ensures { Analysed (S.state scopes.old) (S.state scopes.new) notes.old notes.new site.now result
+        (λ f given. IfSome given (λ bounds. AreBounds f bounds))
+        (λ c. kept (and_then (constant_of c (expr_view low.now))
+        (λ x. and_then (constant_of c (expr_view high.now)) (λ y. spec_of c base low.now.at high.now.at x y)))) }
 {
     let first = analysed!(constant(scopes, site, low, notes));
     with_high(scopes, site, base, low.at, first, high, notes)
@@ -253,7 +274,8 @@ fn named_base<S: Scopes>(
 ) -> Result<Ask<Option<Place>>, Memory>
     requires suits { SuitsSite (S.state scopes.old).frame site.now }
     requires read { IsReadQualOption site.now.texts.now.names base }
-    ensures { Analysed (S.state scopes.old) (S.state scopes.new) notes.old notes.new site.now result (λ f named. IfSome named (λ of. IsThere f of)) (λ c. spec_named c base) }
+    ensures { Analysed (S.state scopes.old) (S.state scopes.new) notes.old notes.new site.now result
+        (λ f named. IfSome named (λ of. IsThere f of)) (λ c. spec_named c base) }
 {
     let Some(qual) = base else {
         return Ok(Ask::Known(None));
@@ -275,7 +297,9 @@ fn bounds_in<S: Scopes>(
     requires base { IsReadQualOption site.now.texts.now.names base }
     requires low { IsReadExpr site.now.texts.now.names (expr_view low.now) }
     requires high { IsReadExpr site.now.texts.now.names (expr_view high.now) }
-    ensures { Analysed (S.state scopes.old) (S.state scopes.new) notes.old notes.new site.now result (λ f given. IfSome given (λ bounds. AreBounds f bounds)) (λ c. kept (spec_subrange c base (expr_view low.now) (expr_view high.now))) }
+    ensures { Analysed (S.state scopes.old) (S.state scopes.new) notes.old notes.new site.now result
+        (λ f given. IfSome given (λ bounds. AreBounds f bounds))
+        (λ c. kept (spec_subrange c base (expr_view low.now) (expr_view high.now))) }
 {
     let named = analysed!(named_base(scopes, site, base, notes));
     with_low(scopes, site, named, low, high, notes)
@@ -291,7 +315,8 @@ fn put_bounds<S: Scopes>(
 ) -> Result<Place, Memory>
     requires making { IsMaking (S.state scopes.now).frame site.now made.old (nameless subrange_kind at ∷ []) }
     requires bounds { AreBounds (S.state scopes.now).frame bounds }
-    ensures { Declares (S.state scopes.now) (S.state scopes.now) made.old made.new site.now (known_of result) (nameless subrange_kind at ∷ []) IsBehind (λ c. subrange_row c at (Some (bounds_view bounds))) }
+    ensures { Declares (S.state scopes.now) (S.state scopes.now) made.old made.new site.now (known_of result)
+        (nameless subrange_kind at ∷ []) IsBehind (λ c. subrange_row c at (Some (bounds_view bounds))) }
 {
     let base = small_place(bounds.base);
     let meaning = RowMeaning::Subrange(base, bounds.low, bounds.high);
@@ -301,7 +326,8 @@ fn put_bounds<S: Scopes>(
 /// The row of a wrong subrange, which is in error.
 fn put_wrong<S: Scopes>(scopes: &S, site: &Site, at: u32, made: &mut Made) -> Result<Place, Memory>
     requires making { IsMaking (S.state scopes.now).frame site.now made.old (nameless subrange_kind at ∷ []) }
-    ensures { Declares (S.state scopes.now) (S.state scopes.now) made.old made.new site.now (known_of result) (nameless subrange_kind at ∷ []) IsBehind (λ c. subrange_row c at None) }
+    ensures { Declares (S.state scopes.now) (S.state scopes.now) made.old made.new site.now (known_of result)
+        (nameless subrange_kind at ∷ []) IsBehind (λ c. subrange_row c at None) }
 {
     let meaning = RowMeaning::Subrange(BROKEN, 0, 0);
     put!(plain_row(scopes, site, made, at, meaning));
@@ -318,7 +344,8 @@ fn put_subrange<S: Scopes>(
 ) -> Result<Place, Memory>
     requires making { IsMaking (S.state scopes.now).frame site.now made.old (nameless subrange_kind at ∷ []) }
     requires bounds { IfSome bounds (λ b. AreBounds (S.state scopes.now).frame b) }
-    ensures { Declares (S.state scopes.now) (S.state scopes.now) made.old made.new site.now (known_of result) (nameless subrange_kind at ∷ []) IsBehind (λ c. subrange_row c at (option_map bounds_view bounds)) }
+    ensures { Declares (S.state scopes.now) (S.state scopes.now) made.old made.new site.now (known_of result)
+        (nameless subrange_kind at ∷ []) IsBehind (λ c. subrange_row c at (option_map bounds_view bounds)) }
 {
     match bounds {
         Some(bounds) => put_bounds(scopes, site, at, bounds, made),
@@ -340,7 +367,9 @@ pub(crate) fn subrange_in<S: Scopes>(
     requires base { IsReadQualOption site.now.texts.now.names base }
     requires low { IsReadExpr site.now.texts.now.names (expr_view low.now) }
     requires high { IsReadExpr site.now.texts.now.names (expr_view high.now) }
-    ensures { Declares (S.state scopes.old) (S.state scopes.new) made.old made.new site.now result (form_shapes at (sub_type base (expr_view low.now) (expr_view high.now))) IsBehind (λ c. form_rows c at (sub_type base (expr_view low.now) (expr_view high.now))) }
+    ensures { Declares (S.state scopes.old) (S.state scopes.new) made.old made.new site.now result
+        (form_shapes at (sub_type base (expr_view low.now) (expr_view high.now))) IsBehind
+        (λ c. form_rows c at (sub_type base (expr_view low.now) (expr_view high.now))) }
 {
     let bounds = analysed!(bounds_in(scopes, site, base, low, high, &mut made.notes));
     let of = put!(put_subrange(scopes, site, at, bounds, made));

@@ -1,5 +1,6 @@
 //! What a pointer points to. A name alone that the block declares may be declared later: the layout says where.
-ghost use Rattle.std.specs.Prelude.{◌≡◌, ◌∷◌, ◌<◌, [], ℕ, Some, None, if◌then◌else◌, ◌&&◌, is_none, length, not, option_map};
+ghost use Rattle.std.specs.Prelude.{◌≡◌, ◌∷◌, ◌<◌, [], ℕ, Some, None, if◌then◌else◌, ◌&&◌, is_none, length, not};
+ghost use Rattle.std.specs.Prelude.{option_map};
 ghost use Rattle.std.specs.Option.{IfSome};
 ghost use Rattle.m2_base.specs.Asks.{IfKnown};
 ghost use Rattle.m2_base.specs.Rows.{HasSmallNumbers, alias_kind, at_place, pointer_kind, row_meaning};
@@ -10,7 +11,9 @@ ghost use Rattle.m2_base.specs.Statics.Diagnostics.{not_a_type};
 ghost use Rattle.m2_base.specs.Statics.Lookup.{entry_at};
 ghost use Rattle.m2_base.specs.Statics.Makes.{makes_row, only_gives};
 ghost use Rattle.m2_base.specs.Statics.Shapes.{nameless, type_shapes};
-ghost use Rattle.m2_base.specs.Statics.Targets.{entry_target, imported_target as spec_imported, layout_target as spec_layout, target_by_name, target_name as spec_name};
+ghost use Rattle.m2_base.specs.Statics.Targets.{entry_target, imported_target as spec_imported};
+ghost use Rattle.m2_base.specs.Statics.Targets.{layout_target as spec_layout, target_by_name};
+ghost use Rattle.m2_base.specs.Statics.Targets.{target_name as spec_name};
 ghost use Rattle.m2_base.specs.Statics.Uses.{followed};
 ghost use Rattle.m2_base.specs.Views.{type_view};
 ghost use Rattle.m2_base.specs.declared.rows.RowMeaning.TheVariants as meanings;
@@ -38,7 +41,8 @@ type Entry = (Place, Row);
 
 /// A name that stands alone and is no standard one.
 fn name_alone(qual: Qual) -> Option<Ident>
-    ensures { result ≡ (if is_none qual.second && not (spec_is_standard qual.first.name) then Some qual.first else None) }
+    ensures { result
+        ≡ (if is_none qual.second && not (spec_is_standard qual.first.name) then Some qual.first else None) }
 {
     let alone = qual.second.is_none();
     let standard = is_standard(qual.first.name);
@@ -68,7 +72,8 @@ fn target_name(typ: &TypeExpr) -> Option<Ident>
 
 /// What the layout has under the name alone after POINTER TO, with the name's token.
 fn laid_target(site: &Site, typ: &TypeExpr) -> Option<(u32, Named)>
-    ensures told { (c : Context) → c.layout ≡ site.now.layout.now → target_by_name c (spec_name c (type_view typ.now)) ≡ option_map (λ laid. spec_layout c laid.0 laid.1) result }
+    ensures told { (c : Context) → c.layout ≡ site.now.layout.now → target_by_name c (spec_name c (type_view typ.now))
+        ≡ option_map (λ laid. spec_layout c laid.0 laid.1) result }
     ensures plain { IfSome result (λ _. type_shapes (type_view typ.now) ≡ []) }
     ensures first { IfSome result (λ laid. IsFirst site.now.layout.now laid.1) }
 {
@@ -104,7 +109,8 @@ enum Laid {
 /// What a row of this kind is as a target.
 fn laid_as(kind: u8) -> Laid
     ensures alias { HasItsKind result kind }
-    ensures target { (c : Context) (at : ℕ) (n : Entries) → n.kind ≡ kind → spec_layout c at n ≡ laid_target_of c at (at_place c.scene.block.scope n.ordinal) result }
+    ensures target { (c : Context) (at : ℕ) (n : Entries) → n.kind ≡ kind
+        → spec_layout c at n ≡ laid_target_of c at (at_place c.scene.block.scope n.ordinal) result }
 {
     match kind {
         TYPE_NAME => Laid::TypeName,
@@ -121,7 +127,8 @@ fn aliased<S: Scopes>(scopes: &mut S, site: &Site, place: Place) -> Ask<Entry>
     ensures reads { Reads (S.state scopes.old) (S.state scopes.new) }
     ensures waits { WhereWaiting result (λ head. Waits (S.state scopes.old) (S.state scopes.new) head) }
     ensures told { WhereTold (S.state scopes.old).frame (λ made.
-        WhereKnown result (λ entry. let scene = scene_of (S.state scopes.old).frame made site.now.around.now in entry ≡ followed scene (entry_at scene place))) }
+        WhereKnown result (λ entry. let scene = scene_of (S.state scopes.old).frame made site.now.around.now in
+        entry ≡ followed scene (entry_at scene place))) }
     ensures row { WhereKnown result (λ entry. IsRowOf (S.state scopes.old).frame entry.0 entry.1) }
 {
     let row = known!(row_at(scopes, site.around, place));
@@ -131,7 +138,8 @@ fn aliased<S: Scopes>(scopes: &mut S, site: &Site, place: Place) -> Ask<Entry>
 /// The target of an entry; a name that is no type's is refused.
 fn target_of_entry(site: &Site, at: u32, entry: Entry, notes: &mut Notes) -> Result<Place, Memory>
     requires { HasSmallNumbers (row_meaning entry.1) }
-    ensures { (a : State) → SuitsSite a.frame site.now → IsThere a.frame entry.0 → Analysed a a notes.old notes.new site.now (known_of result) IsTarget (λ c. entry_target c at entry) }
+    ensures { (a : State) → SuitsSite a.frame site.now → IsThere a.frame entry.0
+        → Analysed a a notes.old notes.new site.now (known_of result) IsTarget (λ c. entry_target c at entry) }
 {
     let place = small_place(entry.0);
     match imported_target(place, read_row(&entry.1)) {
@@ -153,7 +161,8 @@ fn alias_target<S: Scopes>(
 ) -> Result<Ask<Place>, Memory>
     requires suits { SuitsSite (S.state scopes.old).frame site.now }
     requires there { IsThere (S.state scopes.old).frame place }
-    ensures { Analysed (S.state scopes.old) (S.state scopes.new) notes.old notes.new site.now result IsTarget (λ c. entry_target c at (followed c.scene (entry_at c.scene place))) }
+    ensures { Analysed (S.state scopes.old) (S.state scopes.new) notes.old notes.new site.now result IsTarget
+        (λ c. entry_target c at (followed c.scene (entry_at c.scene place))) }
 {
     let entry = asked!(aliased(scopes, site, place));
     let of = put!(target_of_entry(site, at, entry, notes));
@@ -162,7 +171,8 @@ fn alias_target<S: Scopes>(
 
 /// A name that is no type's is refused.
 fn refused_target(site: &Site, at: u32, notes: &mut Notes) -> Result<Place, Memory>
-    ensures { (a : State) → SuitsSite a.frame site.now → Analysed a a notes.old notes.new site.now (known_of result) IsTarget (λ c. refuses c at not_a_type broken) }
+    ensures { (a : State) → SuitsSite a.frame site.now
+        → Analysed a a notes.old notes.new site.now (known_of result) IsTarget (λ c. refuses c at not_a_type broken) }
 {
     put!(refuse(site, at, Diagnostic::NotAType, notes));
     Ok(BROKEN)
@@ -187,7 +197,8 @@ fn layout_target<S: Scopes>(
 ) -> Result<Ask<Place>, Memory>
     requires suits { SuitsSite (S.state scopes.old).frame site.now }
     requires entered { named.kind ≡ alias_kind → named.ordinal < length (S.state scopes.old).frame.entered }
-    ensures { Analysed (S.state scopes.old) (S.state scopes.new) notes.old notes.new site.now result IsTarget (λ c. spec_layout c at named) }
+    ensures { Analysed (S.state scopes.old) (S.state scopes.new) notes.old notes.new site.now result IsTarget
+        (λ c. spec_layout c at named) }
 {
     let place = own_place(site, named.ordinal);
     match laid_as(named.kind) {
@@ -200,8 +211,8 @@ fn layout_target<S: Scopes>(
     }
 }
 
-/// What a pointer points to by the layout; none where the layout doesn't say it. An alias stands in an import, and so before the
-/// item of the pointer.
+/// What a pointer points to by the layout; none where the layout doesn't say it. An alias stands in an import, and so
+/// before the item of the pointer.
 pub(crate) fn target_in<S: Scopes>(
     scopes: &mut S,
     site: &Site,
@@ -210,7 +221,8 @@ pub(crate) fn target_in<S: Scopes>(
 ) -> Result<Ask<Option<Place>>, Memory>
     requires making { IsMaking (S.state scopes.old).frame site.now made.old [] }
     requires aliases { AreAliasesBefore site.now.layout.now made.old.first }
-    ensures target { Declares (S.state scopes.old) (S.state scopes.new) made.old made.new site.now result [] IsOptionTarget (λ c. only_gives (optional (target_by_name c (spec_name c (type_view typ.now))))) }
+    ensures target { Declares (S.state scopes.old) (S.state scopes.new) made.old made.new site.now result []
+        IsOptionTarget (λ c. only_gives (optional (target_by_name c (spec_name c (type_view typ.now))))) }
     ensures plain { IfKnown result (λ target. IfSome target (λ _. type_shapes (type_view typ.now) ≡ [])) }
 {
     let Some((at, named)) = laid_target(site, typ) else {
@@ -230,7 +242,8 @@ pub(crate) fn pointer_row<S: Scopes>(
 ) -> Result<Ask<Place>, Memory>
     requires making { IsMaking (S.state scopes.now).frame site.now made.old (nameless pointer_kind at ∷ []) }
     requires target { IsTarget (S.state scopes.now).frame of }
-    ensures { Declares (S.state scopes.now) (S.state scopes.now) made.old made.new site.now result (nameless pointer_kind at ∷ []) IsBehind (λ c. makes_row c at (meanings.Pointer of)) }
+    ensures { Declares (S.state scopes.now) (S.state scopes.now) made.old made.new site.now result
+        (nameless pointer_kind at ∷ []) IsBehind (λ c. makes_row c at (meanings.Pointer of)) }
 {
     match plain_row(scopes, site, made, at, RowMeaning::Pointer(of)) {
         Ok(place) => Ok(Ask::Known(place)),

@@ -26,9 +26,12 @@ fn declared_type<S: Scopes>(
     typ: &Option<TypeExpr>,
     made: &mut Made,
 ) -> Result<Ask<Place>, Memory>
-    requires making { IsMaking (S.state scopes.old).frame site.now made.old (type_item_shapes name (option_map type_view typ.now)) }
+    requires making { IsMaking (S.state scopes.old).frame site.now made.old
+        (type_item_shapes name (option_map type_view typ.now)) }
     requires read { IsReadTypeOption site.now.texts.now.names (option_map type_view typ.now) }
-    ensures { Declares (S.state scopes.old) (S.state scopes.new) made.old made.new site.now result (type_item_shapes name (option_map type_view typ.now)) IsBehind (λ c. spec_declared c name (option_map type_view typ.now)) }
+    ensures { Declares (S.state scopes.old) (S.state scopes.new) made.old made.new site.now result
+        (type_item_shapes name (option_map type_view typ.now)) IsBehind
+        (λ c. spec_declared c name (option_map type_view typ.now)) }
 {
     match typ {
         Some(typ) => type_in(alloc, scopes, site, typ, made),
@@ -50,7 +53,8 @@ fn put_type_name<S: Scopes>(
     requires making { IsMaking (S.state scopes.now).frame site.now made.old (named type_name_kind name ∷ []) }
     requires read { IsReadName site.now.texts.now.names name }
     requires of { IsBehind (S.state scopes.now).frame (next_ordinal made.old) of }
-    ensures { Declares (S.state scopes.now) (S.state scopes.now) made.old made.new site.now (known_of result) (named type_name_kind name ∷ []) IsBehind (λ c. spec_named c name.name name.at (TypeName of)) }
+    ensures { Declares (S.state scopes.now) (S.state scopes.now) made.old made.new site.now (known_of result)
+        (named type_name_kind name ∷ []) IsBehind (λ c. spec_named c name.name name.at (TypeName of)) }
 {
     name_row(scopes, site, made, name, RowMeaning::TypeName(of))
 }
@@ -64,10 +68,13 @@ pub(crate) fn type_name_rows<S: Scopes>(
     typ: &Option<TypeExpr>,
     made: &mut Made,
 ) -> Result<Ask<Place>, Memory>
-    requires making { IsMaking (S.state scopes.old).frame site.now made.old (type_item_shapes name (option_map type_view typ.now) ++ named type_name_kind name ∷ []) }
+    requires making { IsMaking (S.state scopes.old).frame site.now made.old
+        (type_item_shapes name (option_map type_view typ.now) ++ named type_name_kind name ∷ []) }
     requires read { IsReadTypeOption site.now.texts.now.names (option_map type_view typ.now) }
     requires named { IsReadName site.now.texts.now.names name }
-    ensures { Declares (S.state scopes.old) (S.state scopes.new) made.old made.new site.now result (type_item_shapes name (option_map type_view typ.now) ++ named type_name_kind name ∷ []) IsBehind (λ c. spec_rows c name (option_map type_view typ.now)) }
+    ensures { Declares (S.state scopes.old) (S.state scopes.new) made.old made.new site.now result
+        (type_item_shapes name (option_map type_view typ.now) ++ named type_name_kind name ∷ []) IsBehind
+        (λ c. spec_rows c name (option_map type_view typ.now)) }
 {
     match declared_type(alloc, scopes, site, name, typ, made) {
         Ok(Ask::Known(of)) => match put_type_name(scopes, site, made, name, of) {

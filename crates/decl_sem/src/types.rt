@@ -2,16 +2,19 @@
 ghost use Rattle.std.specs.Prelude.{[], length, map, ◌≤◌, ◌+◌};
 ghost use Rattle.m2_base.specs.Statics.Cells.{most_cells};
 ghost use Rattle.m2_base.specs.Statics.Makes.{only_gives};
-ghost use Rattle.m2_base.specs.Statics.Shapes.{arms_shapes, field_shapes, fields_shapes, form_shapes, type_shapes, types_shapes};
+ghost use Rattle.m2_base.specs.Statics.Shapes.{arms_shapes, field_shapes, fields_shapes, form_shapes, type_shapes};
+ghost use Rattle.m2_base.specs.Statics.Shapes.{types_shapes};
 ghost use Rattle.m2_base.specs.Statics.TypeNames.{type_of_qual as spec_type_of};
-ghost use Rattle.m2_base.specs.Statics.TypeRows.{arms_rows, field_list_rows, fields_rows, form_rows, index_rows, type_rows};
+ghost use Rattle.m2_base.specs.Statics.TypeRows.{arms_rows, field_list_rows, fields_rows, form_rows, index_rows};
+ghost use Rattle.m2_base.specs.Statics.TypeRows.{type_rows};
 ghost use Rattle.m2_base.specs.Trees.{array_type, field_lists, record_type, type_exprs, variant_arms};
 ghost use Rattle.m2_base.specs.Views.{field_list_view, type_view, variant_arm_view};
 ghost use Rattle.decl_sem.specs.ArrayRows.{AreIndexes, index_row, listed};
 ghost use Rattle.decl_sem.specs.Pieces.{Declares, IsBehind, IsMaking};
 ghost use Rattle.decl_sem.specs.Making.{next_ordinal};
 ghost use Rattle.decl_sem.specs.Records.{AreVariants, IsOffset, IsOwner, behind_tag_rows, behind_tag_shapes};
-ghost use Rattle.m2_base.specs.Statics.ReadTrees.{AreReadArms, AreReadFields, AreReadTypes, IsReadField, IsReadQual, IsReadType};
+ghost use Rattle.m2_base.specs.Statics.ReadTrees.{AreReadArms, AreReadFields, AreReadTypes, IsReadField, IsReadQual};
+ghost use Rattle.m2_base.specs.Statics.ReadTrees.{IsReadType};
 
 use crate::arrays::{checked_index, put_arrays};
 use crate::enumerations::make_enumeration;
@@ -37,7 +40,8 @@ pub(crate) fn name_in<S: Scopes>(
 ) -> Result<Ask<Place>, Memory>
     requires making { IsMaking (S.state scopes.old).frame site.now made.old [] }
     requires read { IsReadQual site.now.texts.now.names qual }
-    ensures { Declares (S.state scopes.old) (S.state scopes.new) made.old made.new site.now result [] IsBehind (λ c. only_gives (spec_type_of c qual)) }
+    ensures { Declares (S.state scopes.old) (S.state scopes.new) made.old made.new site.now result [] IsBehind
+        (λ c. only_gives (spec_type_of c qual)) }
 {
     let named = analysed!(type_of_qual(scopes, site, qual, &mut made.notes));
     let of = small_place(named);
@@ -55,7 +59,8 @@ pub(crate) fn type_in<S: Scopes>(
 ) -> Result<Ask<Place>, Memory>
     requires making { IsMaking (S.state scopes.old).frame site.now made.old (type_shapes (type_view typ.now)) }
     requires read { IsReadType site.now.texts.now.names (type_view typ.now) }
-    ensures { Declares (S.state scopes.old) (S.state scopes.new) made.old made.new site.now result (type_shapes (type_view typ.now)) IsBehind (λ c. type_rows c (type_view typ.now)) }
+    ensures { Declares (S.state scopes.old) (S.state scopes.new) made.old made.new site.now result
+        (type_shapes (type_view typ.now)) IsBehind (λ c. type_rows c (type_view typ.now)) }
 {
     match &typ.form {
         TypeForm::Named(qual) => name_in(scopes, site, *qual, made),
@@ -97,7 +102,8 @@ fn index_in<S: Scopes>(
 ) -> Result<Ask<Place>, Memory>
     requires making { IsMaking (S.state scopes.old).frame site.now made.old (type_shapes (type_view typ.now)) }
     requires read { IsReadType site.now.texts.now.names (type_view typ.now) }
-    ensures { Declares (S.state scopes.old) (S.state scopes.new) made.old made.new site.now result (type_shapes (type_view typ.now)) IsBehind (λ c. index_row c (type_view typ.now)) }
+    ensures { Declares (S.state scopes.old) (S.state scopes.new) made.old made.new site.now result
+        (type_shapes (type_view typ.now)) IsBehind (λ c. index_row c (type_view typ.now)) }
 {
     let of = analysed!(type_in(alloc, scopes, site, typ, made));
     checked_index(scopes, site, typ.at, of, made)
@@ -112,9 +118,12 @@ fn indexes_in<S: Scopes>(
     types: &[TypeExpr],
     made: &mut Made,
 ) -> Result<Ask<Vec<Place>>, Memory>
-    requires making { IsMaking (S.state scopes.old).frame site.now made.old (types_shapes (type_exprs (map type_view types.now))) }
+    requires making { IsMaking (S.state scopes.old).frame site.now made.old
+        (types_shapes (type_exprs (map type_view types.now))) }
     requires read { AreReadTypes site.now.texts.now.names (type_exprs (map type_view types.now)) }
-    ensures { Declares (S.state scopes.old) (S.state scopes.new) made.old made.new site.now (listed result) (types_shapes (type_exprs (map type_view types.now))) (AreIndexes (length types.now)) (λ c. index_rows c (type_exprs (map type_view types.now))) }
+    ensures { Declares (S.state scopes.old) (S.state scopes.new) made.old made.new site.now (listed result)
+        (types_shapes (type_exprs (map type_view types.now))) (AreIndexes (length types.now))
+        (λ c. index_rows c (type_exprs (map type_view types.now))) }
 {
     let mut indexes = Vec::new(alloc);
     for typ in types {
@@ -135,10 +144,13 @@ fn array_in<S: Scopes>(
     of: &TypeExpr,
     made: &mut Made,
 ) -> Result<Ask<Place>, Memory>
-    requires making { IsMaking (S.state scopes.old).frame site.now made.old (form_shapes at (array_type (type_exprs (map type_view index.now)) (type_view of.now))) }
+    requires making { IsMaking (S.state scopes.old).frame site.now made.old
+        (form_shapes at (array_type (type_exprs (map type_view index.now)) (type_view of.now))) }
     requires indexes { AreReadTypes site.now.texts.now.names (type_exprs (map type_view index.now)) }
     requires of { IsReadType site.now.texts.now.names (type_view of.now) }
-    ensures { Declares (S.state scopes.old) (S.state scopes.new) made.old made.new site.now result (form_shapes at (array_type (type_exprs (map type_view index.now)) (type_view of.now))) IsBehind (λ c. form_rows c at (array_type (type_exprs (map type_view index.now)) (type_view of.now))) }
+    ensures { Declares (S.state scopes.old) (S.state scopes.new) made.old made.new site.now result
+        (form_shapes at (array_type (type_exprs (map type_view index.now)) (type_view of.now))) IsBehind
+        (λ c. form_rows c at (array_type (type_exprs (map type_view index.now)) (type_view of.now))) }
 {
     let indexes = analysed!(indexes_in(alloc, scopes, site, index, made));
     let elem = analysed!(type_in(alloc, scopes, site, of, made));
@@ -155,9 +167,12 @@ fn record_in<S: Scopes>(
     fields: &[FieldList],
     made: &mut Made,
 ) -> Result<Ask<Place>, Memory>
-    requires making { IsMaking (S.state scopes.old).frame site.now made.old (form_shapes at (record_type (field_lists (map field_list_view fields.now)))) }
+    requires making { IsMaking (S.state scopes.old).frame site.now made.old
+        (form_shapes at (record_type (field_lists (map field_list_view fields.now)))) }
     requires read { AreReadFields site.now.texts.now.names (field_lists (map field_list_view fields.now)) }
-    ensures { Declares (S.state scopes.old) (S.state scopes.new) made.old made.new site.now result (form_shapes at (record_type (field_lists (map field_list_view fields.now)))) IsBehind (λ c. form_rows c at (record_type (field_lists (map field_list_view fields.now)))) }
+    ensures { Declares (S.state scopes.old) (S.state scopes.new) made.old made.new site.now result
+        (form_shapes at (record_type (field_lists (map field_list_view fields.now)))) IsBehind
+        (λ c. form_rows c at (record_type (field_lists (map field_list_view fields.now)))) }
 {
     let first = next_row(made);
     let rows = put!(count_fields(alloc, fields));
@@ -167,8 +182,8 @@ fn record_in<S: Scopes>(
     Ok(Ask::Known(row))
 }
 
-/// Makes the rows of fields from this offset on, of the record whose row has this ordinal. The value is the offset behind
-/// them.
+/// Makes the rows of fields from this offset on, of the record whose row has this ordinal. The value is the offset
+/// behind them.
 #[cycle(types)]
 fn fields_in<S: Scopes>(
     alloc: Global,
@@ -179,11 +194,14 @@ fn fields_in<S: Scopes>(
     fields: &[FieldList],
     made: &mut Made,
 ) -> Result<Ask<u32>, Memory>
-    requires making { IsMaking (S.state scopes.old).frame site.now made.old (fields_shapes (field_lists (map field_list_view fields.now))) }
+    requires making { IsMaking (S.state scopes.old).frame site.now made.old
+        (fields_shapes (field_lists (map field_list_view fields.now))) }
     requires owner { IsOwner site.now made.old (fields_shapes (field_lists (map field_list_view fields.now))) own }
     requires offset { offset ≤ most_cells + 1 }
     requires read { AreReadFields site.now.texts.now.names (field_lists (map field_list_view fields.now)) }
-    ensures { Declares (S.state scopes.old) (S.state scopes.new) made.old made.new site.now result (fields_shapes (field_lists (map field_list_view fields.now))) IsOffset (λ c. fields_rows c own offset (field_lists (map field_list_view fields.now))) }
+    ensures { Declares (S.state scopes.old) (S.state scopes.new) made.old made.new site.now result
+        (fields_shapes (field_lists (map field_list_view fields.now))) IsOffset
+        (λ c. fields_rows c own offset (field_lists (map field_list_view fields.now))) }
 {
     let mut end = offset;
     for list in fields {
@@ -207,7 +225,9 @@ fn field_list_in<S: Scopes>(
     requires owner { IsOwner site.now made.old (field_shapes (field_list_view list.now)) own }
     requires offset { offset ≤ most_cells + 1 }
     requires read { IsReadField site.now.texts.now.names (field_list_view list.now) }
-    ensures { Declares (S.state scopes.old) (S.state scopes.new) made.old made.new site.now result (field_shapes (field_list_view list.now)) IsOffset (λ c. field_list_rows c own offset (field_list_view list.now)) }
+    ensures { Declares (S.state scopes.old) (S.state scopes.new) made.old made.new site.now result
+        (field_shapes (field_list_view list.now)) IsOffset
+        (λ c. field_list_rows c own offset (field_list_view list.now)) }
 {
     match list {
         FieldList::Plain { names, typ } => {
@@ -226,7 +246,8 @@ fn field_list_in<S: Scopes>(
     }
 }
 
-/// Makes the rows of the variants behind a tag, and of what stands after ELSE. The value is the greatest offset behind one.
+/// Makes the rows of the variants behind a tag, and of what stands after ELSE.
+/// The value is the greatest offset behind one.
 #[cycle(types)]
 fn variants_in<S: Scopes>(
     alloc: Global,
@@ -237,12 +258,17 @@ fn variants_in<S: Scopes>(
     other: &[FieldList],
     made: &mut Made,
 ) -> Result<Ask<u32>, Memory>
-    requires making { IsMaking (S.state scopes.old).frame site.now made.old (behind_tag_shapes (variant_arms (map variant_arm_view arms.now)) (field_lists (map field_list_view other.now))) }
-    requires owner { IsOwner site.now made.old (behind_tag_shapes (variant_arms (map variant_arm_view arms.now)) (field_lists (map field_list_view other.now))) variants.own }
+    requires making { IsMaking (S.state scopes.old).frame site.now made.old (behind_tag_shapes
+        (variant_arms (map variant_arm_view arms.now)) (field_lists (map field_list_view other.now))) }
+    requires owner { IsOwner site.now made.old (behind_tag_shapes (variant_arms (map variant_arm_view arms.now))
+        (field_lists (map field_list_view other.now))) variants.own }
     requires variants { AreVariants (S.state scopes.old).frame (next_ordinal made.old) variants }
     requires arms { AreReadArms site.now.texts.now.names (variant_arms (map variant_arm_view arms.now)) }
     requires other { AreReadFields site.now.texts.now.names (field_lists (map field_list_view other.now)) }
-    ensures { Declares (S.state scopes.old) (S.state scopes.new) made.old made.new site.now result (behind_tag_shapes (variant_arms (map variant_arm_view arms.now)) (field_lists (map field_list_view other.now))) IsOffset (λ c. behind_tag_rows c variants (variant_arms (map variant_arm_view arms.now)) (field_lists (map field_list_view other.now))) }
+    ensures { Declares (S.state scopes.old) (S.state scopes.new) made.old made.new site.now result
+        (behind_tag_shapes (variant_arms (map variant_arm_view arms.now))
+        (field_lists (map field_list_view other.now))) IsOffset (λ c. behind_tag_rows c variants
+        (variant_arms (map variant_arm_view arms.now)) (field_lists (map field_list_view other.now))) }
 {
     let Variants { own, offset, .. } = variants;
     let end = analysed!(arms_in(alloc, scopes, site, variants, arms, made));
@@ -260,11 +286,15 @@ fn arms_in<S: Scopes>(
     arms: &[VariantArm],
     made: &mut Made,
 ) -> Result<Ask<u32>, Memory>
-    requires making { IsMaking (S.state scopes.old).frame site.now made.old (arms_shapes (variant_arms (map variant_arm_view arms.now))) }
-    requires owner { IsOwner site.now made.old (arms_shapes (variant_arms (map variant_arm_view arms.now))) variants.own }
+    requires making { IsMaking (S.state scopes.old).frame site.now made.old
+        (arms_shapes (variant_arms (map variant_arm_view arms.now))) }
+    requires owner { IsOwner site.now made.old (arms_shapes (variant_arms (map variant_arm_view arms.now)))
+        variants.own }
     requires variants { AreVariants (S.state scopes.old).frame (next_ordinal made.old) variants }
     requires read { AreReadArms site.now.texts.now.names (variant_arms (map variant_arm_view arms.now)) }
-    ensures { Declares (S.state scopes.old) (S.state scopes.new) made.old made.new site.now result (arms_shapes (variant_arms (map variant_arm_view arms.now))) IsOffset (λ c. arms_rows c variants.own variants.offset variants.tag [] variants.offset (variant_arms (map variant_arm_view arms.now))) }
+    ensures { Declares (S.state scopes.old) (S.state scopes.new) made.old made.new site.now result
+        (arms_shapes (variant_arms (map variant_arm_view arms.now))) IsOffset (λ c. arms_rows c variants.own
+        variants.offset variants.tag [] variants.offset (variant_arms (map variant_arm_view arms.now))) }
 {
     let Variants { own, offset, tag } = variants;
     let mut covered = Covered::new(alloc);

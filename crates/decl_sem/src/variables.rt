@@ -28,8 +28,10 @@ use type_rules::size_of;
 /// The row of a type, where it is in hand.
 fn row_in_hand(site: &Site, made: &Made, of: Place) -> Option<Row>
     ensures own { IfSome result (λ row. of.scope ≡ site.now.around.now.scope) }
-    ensures found { IfSome result (λ row. (made.now.first ≤ of.ordinal) × (slice_get made.now.rows.items (of.ordinal - made.now.first) ≡ Some row)) }
-    ensures before { result ≡ None → of.scope ≡ site.now.around.now.scope → of.ordinal < next_ordinal made.now → of.ordinal < made.now.first }
+    ensures found { IfSome result (λ row.
+        (made.now.first ≤ of.ordinal) × (slice_get made.now.rows.items (of.ordinal - made.now.first) ≡ Some row)) }
+    ensures before { result ≡ None → of.scope ≡ site.now.around.now.scope → of.ordinal < next_ordinal made.now
+        → of.ordinal < made.now.first }
 {
     if of.scope != site.around.scope || of.ordinal < made.first {
         return None;
@@ -56,8 +58,9 @@ pub(crate) fn cells_of<S: Scopes>(scopes: &mut S, site: &Site, made: &Made, of: 
     requires of { IsBehind (S.state scopes.old).frame (next_ordinal made.now) of }
     ensures reads { Reads (S.state scopes.old) (S.state scopes.new) }
     ensures waits { WhereWaiting result (λ head. Waits (S.state scopes.old) (S.state scopes.new) head) }
-    ensures told { WhereMaking (S.state scopes.old).frame made.now (λ hand. WhereKnown result (λ size. (more : List PlainRow) → Each (λ r. NamesNoType (row_meaning r)) more →
-        size ≡ spec_size (context_of (S.state scopes.old).frame (holding hand more) site.now).scene of)) }
+    ensures told { WhereMaking (S.state scopes.old).frame made.now (λ hand.
+        WhereKnown result (λ size. (more : List PlainRow) → Each (λ r. NamesNoType (row_meaning r)) more
+        → size ≡ spec_size (context_of (S.state scopes.old).frame (holding hand more) site.now).scene of)) }
     ensures small { WhereKnown result (λ size. size < 2 ^ 32) }
 {
     match row_in_hand(site, made, of) {
@@ -81,7 +84,8 @@ fn put_variables<S: Scopes>(
     requires read { AreReadNames site.now.texts.now.names names.now }
     requires size { size < 2 ^ 32 }
     requires cell { cell ≤ most_cells + 1 }
-    ensures { Declares (S.state scopes.now) (S.state scopes.now) made.old made.new site.now (known_of result) (map (named var_kind) names.now) IsCell (λ c. sized_rows c of size cell names.now) }
+    ensures { Declares (S.state scopes.now) (S.state scopes.now) made.old made.new site.now (known_of result)
+        (map (named var_kind) names.now) IsCell (λ c. sized_rows c of size cell names.now) }
 {
     let mut next = cell;
     for name in names {
@@ -107,7 +111,8 @@ fn put_of<S: Scopes>(
     requires of { IsBehind (S.state scopes.old).frame (next_ordinal made.old) of }
     requires read { AreReadNames site.now.texts.now.names names.now }
     requires cell { cell ≤ most_cells + 1 }
-    ensures { Declares (S.state scopes.old) (S.state scopes.new) made.old made.new site.now result (map (named var_kind) names.now) IsCell (λ c. spec_vars c of cell names.now) }
+    ensures { Declares (S.state scopes.old) (S.state scopes.new) made.old made.new site.now result
+        (map (named var_kind) names.now) IsCell (λ c. spec_vars c of cell names.now) }
 {
     match cells_of(scopes, site, made, of) {
         Ask::Known(size) => match put_variables(scopes, site, made, of, size, cell, names) {
@@ -128,11 +133,14 @@ pub(crate) fn vars_rows<S: Scopes>(
     cell: u32,
     made: &mut Made,
 ) -> Result<Ask<u32>, Memory>
-    requires making { IsMaking (S.state scopes.old).frame site.now made.old (type_shapes (type_view typ.now) ++ map (named var_kind) names.now) }
+    requires making { IsMaking (S.state scopes.old).frame site.now made.old
+        (type_shapes (type_view typ.now) ++ map (named var_kind) names.now) }
     requires read { IsReadType site.now.texts.now.names (type_view typ.now) }
     requires named { AreReadNames site.now.texts.now.names names.now }
     requires cell { cell ≤ most_cells + 1 }
-    ensures { Declares (S.state scopes.old) (S.state scopes.new) made.old made.new site.now result (type_shapes (type_view typ.now) ++ map (named var_kind) names.now) IsCell (λ c. spec_all c names.now (type_view typ.now) cell) }
+    ensures { Declares (S.state scopes.old) (S.state scopes.new) made.old made.new site.now result
+        (type_shapes (type_view typ.now) ++ map (named var_kind) names.now) IsCell
+        (λ c. spec_all c names.now (type_view typ.now) cell) }
 {
     match type_in(alloc, scopes, site, typ, made) {
         Ok(Ask::Known(of)) => put_of(scopes, site, made, of, cell, names),
