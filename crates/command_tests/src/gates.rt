@@ -5,8 +5,8 @@ use std::sync::atomic::{AtomicU64, Ordering};
 /// How often a call that waits looks at most.
 const LOOKS: u32 = 300_000_000;
 
-/// Holds the first call for stream 2 in which it is further than at the start until stream 3 has had such a call, and the other way
-/// round.
+/// Holds the first call for stream 2 in which it is further than at the start until stream 3 has had such a call, and
+/// the other way round.
 #[derive(Drop)]
 pub(crate) struct Meeting {
     /// The number of the worker that came for stream 2, and 1 more, or 0.

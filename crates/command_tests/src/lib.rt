@@ -1,4 +1,5 @@
-//! Tests of what a command line does, and of the shelves, sinks and sources that it works on: those of `m2_io` and `m2c_top`.
+//! Tests of what a command line does, and of the shelves, sinks and sources that it works on:
+//! those of `m2_io` and `m2c_top`.
 #![tactic(auto)]
 
 #[cfg(test)]

@@ -1,4 +1,5 @@
-//! Commands over texts in memory, by hand: words that are none, calls of a shelf or a sink that fail, and a text at its limit.
+//! Commands over texts in memory, by hand: words that are none, calls of a shelf or a sink that fail,
+//! and a text at its limit.
 use m2_io::{MemShelf, MemSink, MemSource, NoGate};
 use m2c_top::m2c;
 use std::alloc::{AllocError, Global};

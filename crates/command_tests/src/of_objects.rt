@@ -1,4 +1,5 @@
-//! Running and dumping over objects in memory, by hand: calls of a shelf, a source or a sink that fail, and objects that don't fit.
+//! Running and dumping over objects in memory, by hand: calls of a shelf, a source or a sink that fail,
+//! and objects that don't fit.
 use m2_io::{MemShelf, MemSink, MemSource, NoGate, Source};
 use m2c_top::m2c;
 use std::alloc::{AllocError, Global};

@@ -20,12 +20,14 @@ use Rattle.stmt_sem.specs.Tokens.{block_tokens}
 
 -- no block has a diagnostic
 abbrev pub NoneIsNoted : UnitTrees → Type 0
-NoneIsNoted u = EachBlock (λ before b. block_diags u.source before (unit_rows u) b ≡ []) u.source (standard_rows ∷ []) (blocks_of u)
+NoneIsNoted u = EachBlock (λ before b. block_diags u.source before (unit_rows u) b ≡ []) u.source
+    (standard_rows ∷ []) (blocks_of u)
 
 -- the code of each block of the main text is valid
 abbrev pub IsCodeValid : UnitTrees → Type 0
 IsCodeValid u =
-    EachBlock (λ before b. home_of u ≤ b.block.scope → IsValidCode (unit_world u) (b.block.scope - home_of u) (procedure_of (block_code u.source before (unit_rows u) b)))
+    EachBlock (λ before b. home_of u ≤ b.block.scope → IsValidCode (unit_world u) (b.block.scope - home_of u)
+    (procedure_of (block_code u.source before (unit_rows u) b)))
     u.source (standard_rows ∷ []) (blocks_of u)
 
 -- the laws on the trees that the texts spell

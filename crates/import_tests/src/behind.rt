@@ -1,7 +1,7 @@
 //! What comes behind gathering: the laws on units hold of each unit that is whole.
 //!
-//! That this function is proved is the test: what `gather` ensures meets the premises of each law, and no caller adds one. What
-//! else comes behind gathering, from the cut to merging, `compile_command` calls.
+//! That this function is proved is the test: what `gather` ensures meets the premises of each law, and no caller adds
+//! one. What else comes behind gathering, from the cut to merging, `compile_command` calls.
 ghost use Rattle.std.specs.Prelude.{◌≤◌, [], IfSome, length};
 ghost use Rattle.def_import.specs.Answers.{IsWhole};
 ghost use Rattle.def_import.specs.Outcomes.{IsGatheredFrom};

@@ -4,7 +4,8 @@ use std::fmt;
 use std::fmt::Write;
 use std::str::FromStr;
 
-/// What a text is made of. Each is made of pieces that are numbered from 0, and the last is cut off where the text ends.
+/// What a text is made of. Each is made of pieces that are numbered from 0,
+/// and the last is cut off where the text ends.
 #[derive(Clone, Copy, Debug, PartialEq, Eq)]
 pub enum Kind {
     /// Procedures in ordinary layout, with 201 different names.

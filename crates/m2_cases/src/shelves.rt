@@ -81,7 +81,8 @@ fn lines_in(alloc: Global, gathered: Result<Gathered, GatherFault>) -> Result<St
     }
 }
 
-/// Whether gathering is ended by this call of the shelf, which fails as the call behind it does. That one must be left.
+/// Whether gathering is ended by this call of the shelf, which fails as the call behind it does.
+/// That one must be left.
 fn is_ended_by(alloc: Global, case: &Case, call: u32) -> Result<bool> {
     let fails = vec![in alloc; call, call.saturating_add(1)]?;
     let mut shelf = MemShelf::new(case.files(alloc)?, fails, 0);

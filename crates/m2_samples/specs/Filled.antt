@@ -1,5 +1,6 @@
 -- The scopes of a sample, when a block's scope has all its rows.
-use Rattle.std.specs.Prelude.{◌≡◌, ℕ, zero, suc, ◌-◌, ◌+◌, ◌<◌, ◌≤◌, true, false, List, [], ◌∷◌, None, filter, flat_map, length, map, slice_index, take}
+use Rattle.std.specs.Prelude.{◌≡◌, ℕ, zero, suc, ◌-◌, ◌+◌, ◌<◌, ◌≤◌, true, false, List, [], ◌∷◌, None, filter}
+use Rattle.std.specs.Prelude.{flat_map, length, map, slice_index, take}
 use Rattle.m2_base.specs.Lists.{Each}
 use Rattle.m2_base.specs.Rows.{row_meaning}
 use Rattle.m2_base.specs.States.{Frame}
@@ -31,7 +32,8 @@ chain_at (suc (suc n)) = 3 ∷ 2 ∷ 1 ∷ []
 
 -- what surrounds the block
 abbrev pub around_at : (level : ℕ) → Around
-around_at n = record { scope = scope_at n; text = 0; level = scope_at n - 1; «module» = 1; own = None; chain = chain_at n }
+around_at n =
+    record { scope = scope_at n; text = 0; level = scope_at n - 1; «module» = 1; own = None; chain = chain_at n }
 
 -- the scopes fill this scope of the unit, and it is complete
 pub record IsFull (f : Frame) (u : UnitTexts) (scope : ℕ) : Type 0 where
@@ -52,8 +54,8 @@ pub record IsBlock (u : UnitTexts) (tree : Stream) (a : Around) (l : Layout) : T
 abbrev pub row_count : Stream → ℕ
 row_count tree = length (flat_map item_shapes (items_of tree))
 
--- So many declarations of a tree are analysed, in a scope with room for the rows of all: the rows that they make are entered, as
--- the layout gives them, and none of them is a procedure's; the next free cell is this.
+-- So many declarations of a tree are analysed, in a scope with room for the rows of all: the rows that they make are
+-- entered, as the layout gives them, and none of them is a procedure's; the next free cell is this.
 pub record HasDeclared (f : Frame) (u : UnitTexts) (tree : Stream) (count cell : ℕ) : Type 0 where
   pub texts : f.setting.texts ≡ u
   pub fills : f.setting.fills ≡ 1

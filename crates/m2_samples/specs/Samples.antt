@@ -1,4 +1,5 @@
--- A module that is analysed in a unit without finished rows: the unit's text begins with a fault, and the module's follows.
+-- A module that is analysed in a unit without finished rows: the unit's text begins with a fault,
+-- and the module's follows.
 use Rattle.std.specs.Prelude.{◌≡◌, List, [], ◌∷◌, map}
 use Rattle.m2_base.specs.Finished.{main_tokens}
 use Rattle.m2_base.specs.Lists.{Each}

@@ -119,11 +119,14 @@ fn declare_item<S: Scopes>(
     cell: u32,
     made: &mut Made,
 ) -> Result<u32, Memory>
-    requires block { IsBlock block.now.sample.now.texts (stream_view block.now.sample.now.tree) block.now.around.now block.now.layout.now }
+    requires block { IsBlock block.now.sample.now.texts (stream_view block.now.sample.now.tree) block.now.around.now
+        block.now.layout.now }
     requires few { spec_count (stream_view block.now.sample.now.tree) + MOST_BROUGHT ≤ 2 ^ 31 }
     requires here { slice_get block.now.sample.now.tree.decls.items number ≡ Some declaration.now }
-    requires declared { HasDeclared (S.state scopes.old).frame block.now.sample.now.texts (stream_view block.now.sample.now.tree) number cell }
-    ensures { IfOk result (λ next. HasDeclared (S.state scopes.new).frame block.now.sample.now.texts (stream_view block.now.sample.now.tree) (number + 1) next) }
+    requires declared { HasDeclared (S.state scopes.old).frame block.now.sample.now.texts
+        (stream_view block.now.sample.now.tree) number cell }
+    ensures { IfOk result (λ next. HasDeclared (S.state scopes.new).frame block.now.sample.now.texts
+        (stream_view block.now.sample.now.tree) (number + 1) next) }
 {
     let alloc = *made.rows.allocator();
     let site = block.site(Some(number));
@@ -140,10 +143,13 @@ fn declare_item<S: Scopes>(
 
 /// Analyses all declarations, one after another, and gives the next free cell.
 fn declare_items<S: Scopes>(scopes: &mut S, block: &Block, made: &mut Made) -> Result<u32, Memory>
-    requires block { IsBlock block.now.sample.now.texts (stream_view block.now.sample.now.tree) block.now.around.now block.now.layout.now }
+    requires block { IsBlock block.now.sample.now.texts (stream_view block.now.sample.now.tree) block.now.around.now
+        block.now.layout.now }
     requires few { spec_count (stream_view block.now.sample.now.tree) + MOST_BROUGHT ≤ 2 ^ 31 }
-    requires begun { HasDeclared (S.state scopes.old).frame block.now.sample.now.texts (stream_view block.now.sample.now.tree) 0 0 }
-    ensures { IfOk result (λ cell. HasDeclared (S.state scopes.new).frame block.now.sample.now.texts (stream_view block.now.sample.now.tree) (length block.now.sample.now.tree.decls.items) cell) }
+    requires begun { HasDeclared (S.state scopes.old).frame block.now.sample.now.texts
+        (stream_view block.now.sample.now.tree) 0 0 }
+    ensures { IfOk result (λ cell. HasDeclared (S.state scopes.new).frame block.now.sample.now.texts
+        (stream_view block.now.sample.now.tree) (length block.now.sample.now.tree.decls.items) cell) }
 {
     let mut cell = 0;
     for (index, declaration) in block.sample.tree.decls.iter().enumerate() {
@@ -155,16 +161,18 @@ fn declare_items<S: Scopes>(scopes: &mut S, block: &Block, made: &mut Made) -> R
     Ok(cell)
 }
 
-/// Analyses all declarations of a block, enters the rows that they make into its scope, and marks it as complete. What they
-/// make is kept.
+/// Analyses all declarations of a block, enters the rows that they make into its scope, and marks it as complete. What
+/// they make is kept.
 pub fn declare_block<S: Scopes>(
     scopes: &mut S,
     block: &Block,
     made: &mut Made,
 ) -> Result<(), Memory>
-    requires block { IsBlock block.now.sample.now.texts (stream_view block.now.sample.now.tree) block.now.around.now block.now.layout.now }
+    requires block { IsBlock block.now.sample.now.texts (stream_view block.now.sample.now.tree) block.now.around.now
+        block.now.layout.now }
     requires few { spec_count (stream_view block.now.sample.now.tree) + MOST_BROUGHT ≤ 2 ^ 31 }
-    requires begun { HasDeclared (S.state scopes.old).frame block.now.sample.now.texts (stream_view block.now.sample.now.tree) 0 0 }
+    requires begun { HasDeclared (S.state scopes.old).frame block.now.sample.now.texts
+        (stream_view block.now.sample.now.tree) 0 0 }
     ensures { OnOk result (IsFull (S.state scopes.new).frame block.now.sample.now.texts 1) }
 {
     let cell = declare_items(scopes, block, made)?;
@@ -175,7 +183,8 @@ pub fn declare_block<S: Scopes>(
 
 /// The scopes of a sample, once all its declarations are analysed. What they make is kept.
 pub fn scopes<'a>(block: &Block<'a>, made: &mut Made) -> Result<PlainScopes<'a>, Memory>
-    requires { IsBlock block.now.sample.now.texts (stream_view block.now.sample.now.tree) block.now.around.now block.now.layout.now }
+    requires { IsBlock block.now.sample.now.texts (stream_view block.now.sample.now.tree) block.now.around.now
+        block.now.layout.now }
     ensures { IfOk result (λ scopes. IsFull (state_of scopes).frame block.now.sample.now.texts 1) }
 {
     let alloc = *made.rows.allocator();

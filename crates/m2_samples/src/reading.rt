@@ -11,8 +11,8 @@ use m2_lex::lone_text;
 use m2_parse::{parse_stream, values_fit};
 use std::alloc::Global;
 
-/// A module that is analysed. Its unit's text has a fault before it, so that no rows are the unit's in the end, and any may be
-/// entered.
+/// A module that is analysed. Its unit's text has a fault before it, so that no rows are the unit's in the end, and
+/// any may be entered.
 #[derive(Drop)]
 pub struct Sample {
     pub texts: Texts,

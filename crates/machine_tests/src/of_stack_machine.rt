@@ -1,5 +1,5 @@
-//! Runs of programs of one object that were worked by hand, in pieces, with few cells, and where a call of the sink or the source
-//! fails.
+//! Runs of programs of one object that were worked by hand, in pieces, with few cells, and where a call of the sink or
+//! the source fails.
 mod worked;
 
 use self::worked::WORKED;
@@ -10,8 +10,8 @@ use std::alloc::Global;
 use std::process::Abort;
 use std::test::Fail;
 
-/// A number, an object, the cells and the steps that it has, its input; how it ends, what it has printed, and what is left of
-/// the input.
+/// A number, an object, the cells and the steps that it has, its input; how it ends, what it has printed, and what is
+/// left of the input.
 type Row = (
     u32,
     &'static [u8],
@@ -69,7 +69,8 @@ fn end_of(
     End::StepsSpent
 }
 
-/// Asserts that a row runs as it says, with so many steps at a time and a sink that takes at most so many bytes at a time.
+/// Asserts that a row runs as it says, with so many steps at a time and a sink that takes
+/// at most so many bytes at a time.
 fn runs_so(
     rt: &impl Abort,
     alloc: Global,

@@ -78,8 +78,8 @@ fn all_coded(
         .collect(alloc)
 }
 
-/// The outputs of a unit's streams with the code of this object. The unit must have its main text alone; the object must have its
-/// name, no definition, no imports, and a procedure for each stream.
+/// The outputs of a unit's streams with the code of this object. The unit must have its main text alone; the object
+/// must have its name, no definition, no imports, and a procedure for each stream.
 pub fn with_code(
     alloc: Global,
     texts: &Texts,

@@ -7,7 +7,8 @@ use crate::countdown::Countdown;
 use m2_base::Memory;
 use std::alloc::Global;
 
-/// What jobs come: so many, each of so many turns, and for which other one each has to wait (0, and past the end, for none).
+/// What jobs come: so many, each of so many turns, and for which other one each has to wait (0, and past the end,
+/// for none).
 #[derive(Clone, Copy)]
 pub struct Start<'s> {
     pub count: u32,

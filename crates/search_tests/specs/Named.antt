@@ -30,7 +30,8 @@ pub record IsTable (t : ScopeTable) (u : UnitTexts) (room : ℕ) : Type 0 where
   pub many : scopes (key_of t) ≡ 4
   pub area : mid (key_of t) 1 ≡ base (key_of t) 1 + 8 * room
 
--- Scope 1 is filled, in a unit with at least so many names and no finished rows: it has so many rows, and room for so many.
+-- Scope 1 is filled, in a unit with at least so many names and no finished rows: it has so many rows,
+-- and room for so many.
 pub record HasNamed (st : State) (names room many : ℕ) : Type 0 where
   pub there : names ≤ length (texts_of st).names
   pub none : WhereFinished (texts_of st) (λ tables. ⊥)

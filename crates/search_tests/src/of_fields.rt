@@ -35,7 +35,8 @@ fn record_row(first: u32) -> Row
     write_row(0, 1, RowMeaning::Record(first, 1))
 }
 
-/// A handle that has filled scope 1 with two records of one field each, under the same name; none where the unit lacks it.
+/// A handle that has filled scope 1 with two records of one field each, under the same name;
+/// none where the unit lacks it.
 fn with_records<'t>(
     table: &'t ScopeTable,
     sample: &'t Sample,

@@ -31,8 +31,8 @@ fn enter_all(alloc: Global, filler: &mut Filler) -> Result<(), Memory> {
     Ok(())
 }
 
-/// Enters all rows, and marks the scope as complete even if there is no memory for them, so that who waits for it comes to an
-/// end.
+/// Enters all rows, and marks the scope as complete even if there is no memory for them, so that who waits for it
+/// comes to an end.
 fn fill<'t>(alloc: Global, mut filler: Filler<'t>) -> Result<SeatScopes<'t>, Memory> {
     let entered = enter_all(alloc, &mut filler);
     let filled = filler.complete();

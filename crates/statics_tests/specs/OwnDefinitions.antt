@@ -1,11 +1,13 @@
--- Implementation modules with their definitions, whose diagnostics and rows are worked out by hand. Both modules are called A,
--- and their names stand at token 2.
+-- Implementation modules with their definitions, whose diagnostics and rows are worked out by hand. Both modules are
+-- called A, and their names stand at token 2.
 use Rattle.std.specs.Prelude.{ℕ, ◌+◌, Bool, true, false, List, [], ◌∷◌, ◌++◌, Option, Some, None, codes, map}
 use Rattle.m2_base.specs.Names.{standard_names}
 use Rattle.m2_base.specs.Rows.{row_of}
 use Rattle.m2_base.specs.Standard.{integer}
 use Rattle.m2_base.specs.Statics.Blocks.{UnitTrees}
-use Rattle.m2_base.specs.Trees.{Decl, Heading, Section, Stream, TypeExpr, TypeForm, named_type, no_fields, more_fields, no_statements, plain_fields, pointer_type, proc_decl, proc_type, record_type, type_decl, type_expr, vars_decl}
+use Rattle.m2_base.specs.Trees.{Decl, Heading, Section, Stream, TypeExpr, TypeForm, named_type, no_fields, more_fields}
+use Rattle.m2_base.specs.Trees.{no_statements, plain_fields, pointer_type, proc_decl, proc_type, record_type}
+use Rattle.m2_base.specs.Trees.{type_decl, type_expr, vars_decl}
 use Rattle.m2_base.specs.declared.notes.Diag.{Diag}
 use Rattle.m2_base.specs.declared.rows.Mode.TheVariants.{Plain}
 use Rattle.m2_base.specs.declared.rows.Row.{Row}
@@ -31,13 +33,15 @@ abbrev named : (name at : ℕ) → TypeExpr
 named name at = type_expr at (named_type (type_name name at))
 
 abbrev parameter : (by_ref : Bool) → (name of at : ℕ) → Section
-parameter by_ref name of at = record { by_ref = by_ref; names = ident name at ∷ []; is_open = false; of = type_name of (at + 2) }
+parameter by_ref name of at =
+    record { by_ref = by_ref; names = ident name at ∷ []; is_open = false; of = type_name of (at + 2) }
 
 -- PROCEDURE F( .. ) .. ; at this token
 abbrev heading : (at : ℕ) → List Section → Option Qual → Heading
 heading at sections result = record { name = ident 30 at; sections = sections; result = result }
 
-abbrev tree_of : StreamKind → (implementation : Bool) → Option Ident → Option Heading → List Decl → (close : Ident) → Stream
+abbrev tree_of : StreamKind → (implementation : Bool) → Option Ident → Option Heading → List Decl → (close : Ident)
+    → Stream
 tree_of kind implementation name heading decls close =
     record {
       kind = kind;
@@ -101,9 +105,11 @@ given_as_variable = unit opaque (vars_decl (ident 29 5 ∷ []) (named 3 7) ∷ [
 -- ---- headings
 
 -- PROCEDURE F( .. ) .. ; in the definition, and in the module after these declarations, at token 20
-abbrev headings : (definition : List Section) → Option Qual → (before : List Decl) → (given : List Section) → Option Qual → UnitTrees
+abbrev headings : (definition : List Section) → Option Qual → (before : List Decl) → (given : List Section)
+    → Option Qual → UnitTrees
 headings sections result before given of =
-    unit (proc_decl (heading 5 sections result) 0 ∷ []) (before ++ proc_decl (heading 20 given of) 3 ∷ []) (heading 20 given of ∷ [])
+    unit (proc_decl (heading 5 sections result) 0 ∷ []) (before ++ proc_decl (heading 20 given of) 3 ∷ [])
+    (heading 20 given of ∷ [])
 
 -- F(x: INTEGER), and the module leaves F out
 abbrev pub heading_left_out : UnitTrees
@@ -111,7 +117,8 @@ heading_left_out = unit (proc_decl (heading 5 (parameter false 31 1 7 ∷ []) No
 
 -- F(x: INTEGER), and the module has a variable F
 abbrev pub heading_as_variable : UnitTrees
-heading_as_variable = unit (proc_decl (heading 5 (parameter false 31 1 7 ∷ []) None) 0 ∷ []) (vars_decl (ident 30 5 ∷ []) (named 3 7) ∷ []) []
+heading_as_variable = unit
+    (proc_decl (heading 5 (parameter false 31 1 7 ∷ []) None) 0 ∷ []) (vars_decl (ident 30 5 ∷ []) (named 3 7) ∷ []) []
 
 -- F(x: INTEGER) by F(y: INTEGER)
 abbrev pub other_name : UnitTrees
@@ -135,7 +142,8 @@ other_type = headings (parameter false 31 1 7 ∷ []) None [] (parameter false 3
 
 -- F(x: INTEGER) by F(x: I) after TYPE I = INTEGER
 abbrev pub type_by_another_name : UnitTrees
-type_by_another_name = headings (parameter false 31 1 7 ∷ []) None (type_decl (ident 33 5) (Some (named 1 7)) ∷ []) (parameter false 31 33 22 ∷ []) None
+type_by_another_name = headings (parameter false 31 1 7 ∷ []) None
+    (type_decl (ident 33 5) (Some (named 1 7)) ∷ []) (parameter false 31 33 22 ∷ []) None
 
 -- F(): INTEGER by F(): CHAR
 abbrev pub other_result : UnitTrees
@@ -156,13 +164,15 @@ opaque_parameter given =
 abbrev pub both_wrong : UnitTrees
 both_wrong =
     unit (type_decl (ident 29 5) None ∷ proc_decl (heading 8 (parameter false 31 1 10 ∷ []) None) 0 ∷ [])
-    (proc_decl (heading 20 (parameter true 31 1 23 ∷ []) None) 3 ∷ []) (heading 20 (parameter true 31 1 23 ∷ []) None ∷ [])
+    (proc_decl (heading 20 (parameter true 31 1 23 ∷ []) None) 3 ∷ []) (heading 20 (parameter true 31 1 23 ∷ []) None
+    ∷ [])
 
 -- ---- variables
 
 -- VAR x, y: INTEGER; in the definition, and VAR x: INTEGER; in the module
 abbrev pub variable_again : UnitTrees
-variable_again = unit (vars_decl (ident 31 5 ∷ ident 32 7 ∷ []) (named 1 9) ∷ []) (vars_decl (ident 31 5 ∷ []) (named 1 7) ∷ []) []
+variable_again =
+    unit (vars_decl (ident 31 5 ∷ ident 32 7 ∷ []) (named 1 9) ∷ []) (vars_decl (ident 31 5 ∷ []) (named 1 7) ∷ []) []
 
 -- its cell is behind those of the definition's variables
 abbrev pub variable_row : Row

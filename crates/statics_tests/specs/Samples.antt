@@ -30,7 +30,8 @@ main_block = record { scope = 1; text = 0; level = 0; «module» = 1; own = None
 abbrev pub first_frame : Frame
 first_frame = (state_of (started empty_unit (37 ∷ 0 ∷ []))).frame
 
--- the rows of VAR InOut: ARRAY BOOLEAN, [1..3] OF RECORD MIN, MAX: INTEGER; VAL: RECORD MAX: CHAR; ODD: BOOLEAN END END
+-- the rows of VAR InOut: ARRAY BOOLEAN, [1..3] OF RECORD MIN, MAX: INTEGER; VAL: RECORD MAX: CHAR; ODD:
+-- BOOLEAN END END
 abbrev pub entered_rows : List Row
 entered_rows =
     row_of 0 6 (Subrange cardinal (pos 1) (pos 3))

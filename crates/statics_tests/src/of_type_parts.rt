@@ -1,5 +1,6 @@
 //! The parts of the types that a module declares: its rows are entered, as
-//! `VAR InOut: ARRAY BOOLEAN, [1..3] OF RECORD MIN, MAX: INTEGER; VAL: RECORD MAX: CHAR; ODD: BOOLEAN END END;` makes them.
+//! `VAR InOut: ARRAY BOOLEAN, [1..3] OF RECORD MIN, MAX: INTEGER; VAL: RECORD MAX: CHAR; ODD: BOOLEAN END END;` makes
+//! them.
 ghost use Rattle.std.specs.Prelude.{◌≡◌, IfOk};
 ghost use Rattle.type_rules.specs.Scenes.{IsThere};
 ghost use Rattle.scope_core.specs.PlainScopes.{state_of};
@@ -124,7 +125,8 @@ fn found(
     }
 }
 
-/// Of a field its type, its offset, the ordinal of its record and its name; of an array its index type, its element type and its cells.
+/// Of a field its type, its offset, the ordinal of its record and its name; of an array its index type,
+/// its element type and its cells.
 const PARTS: [(Part, Option<RowMeaning>); 14] = [
     (
         Part::Field(OUTER, MIN),

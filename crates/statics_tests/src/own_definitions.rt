@@ -1,10 +1,15 @@
-//! Implementation modules with their definitions: what the static rules note of them, each the contract of a function that
-//! does nothing.
+//! Implementation modules with their definitions: what the static rules note of them, each the contract of a function
+//! that does nothing.
 ghost use Rattle.std.specs.Prelude.{◌≡◌, ◌∷◌, []};
 ghost use Rattle.m2_base.specs.Statics.UnitNotes.{declaration_diags};
 ghost use Rattle.m2_base.specs.Statics.UnitRows.{unit_rows};
 ghost use Rattle.m2_base.specs.Tables.{rows_at};
-ghost use Rattle.statics_tests.specs.OwnDefinitions.{at, both_wrong, given_as_pointer, given_as_procedure, given_as_record, given_as_scalar, given_as_variable, heading_as_variable, heading_left_out, no_result_given, none_given, one_more, opaque_parameter, other_mode, other_name, other_result, other_type, type_by_another_name, type_left_out, variable_again, variable_row};
+ghost use Rattle.statics_tests.specs.OwnDefinitions.{at, both_wrong, given_as_pointer, given_as_procedure};
+ghost use Rattle.statics_tests.specs.OwnDefinitions.{given_as_record, given_as_scalar, given_as_variable};
+ghost use Rattle.statics_tests.specs.OwnDefinitions.{heading_as_variable, heading_left_out, no_result_given};
+ghost use Rattle.statics_tests.specs.OwnDefinitions.{none_given, one_more, opaque_parameter, other_mode, other_name};
+ghost use Rattle.statics_tests.specs.OwnDefinitions.{other_result, other_type, type_by_another_name, type_left_out};
+ghost use Rattle.statics_tests.specs.OwnDefinitions.{variable_again, variable_row};
 
 /// An opaque type is implemented by a scalar, a set or a pointer that the module declares under its name.
 pub fn opaque_types()

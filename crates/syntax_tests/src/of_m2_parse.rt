@@ -143,8 +143,8 @@ fn bracketed(alloc: Global, brackets: u32, closed: bool) -> Result<Vec<Token>, A
 /// The number of the first bracket.
 const FIRST_BRACKET: u32 = 6;
 
-/// How many brackets, whether they are closed, and the answer. The statement is one level, and so are each bracket and the
-/// number.
+/// How many brackets, whether they are closed, and the answer. The statement is one level, and so are each bracket and
+/// the number.
 type Nested = (u32, bool, Answer);
 
 const NESTED: [Nested; 5] = [

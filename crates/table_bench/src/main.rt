@@ -1,10 +1,10 @@
 //! How long do the calls of the shared tables take, by the number of rows?
 //!
-//! `table_bench store ROWS` times rows without names, of eight words each, that are put into a scope one after another;
-//! `table_bench put ROWS` rows with names, each of which gets its cell and is shown before the next; `table_bench load ROWS`
-//! the load of so many rows; `table_bench search ROWS` a search of each of so many names by the index; and `table_bench open
-//! ROWS` the opening of a table with room for so many. The times are those of the processor. With no words a small run of each
-//! part prints its counts alone, which are the same at every run.
+//! `table_bench store ROWS` times rows without names, of eight words each, that are put into a scope one after
+//! another; `table_bench put ROWS` rows with names, each of which gets its cell and is shown before the next;
+//! `table_bench load ROWS` the load of so many rows; `table_bench search ROWS` a search of each of so many names by
+//! the index; and `table_bench open ROWS` the opening of a table with room for so many. The times are those of the
+//! processor. With no words a small run of each part prints its counts alone, which are the same at every run.
 #![tactic(auto)]
 
 mod command;

@@ -28,7 +28,8 @@ pub record IsConstant (names : ℕ) (r : Row) : Type 0 where
 -- the names of the rows ascend up to this one, but for rows without a name
 pub record Ascend (last : ℕ) (rows : List Row) : Type 0 where
   pub upto : (k : ℕ) (r : Row) → slice_get rows k ≡ Some r → r.name ≤ last
-  pub up : (i j : ℕ) (x y : Row) → i < j → slice_get rows i ≡ Some x → slice_get rows j ≡ Some y → y.name ≢ 0 → x.name < y.name
+  pub up : (i j : ℕ) (x y : Row) → i < j → slice_get rows i ≡ Some x → slice_get rows j ≡ Some y → y.name ≢ 0
+      → x.name < y.name
 
 -- A view fills scope j with such rows: their names ascend up to `last`, and there is room for `left` more.
 pub record IsFilling (a : About) (v : View) (j last left : ℕ) : Type 0 where

@@ -6,8 +6,8 @@ use Rattle.scope_table.specs.Seats.{key_of, IsFirst}
 use Rattle.scope_table.specs.declared.table.ScopeTable.{ScopeTable}
 use Rattle.table_samples.specs.declared.opening.Opened.{Opened}
 
--- the table has three scopes, of which scope 1 has room for so many rows and scope 2 for two, and these are their seats as it is
--- opened
+-- the table has three scopes, of which scope 1 has room for so many rows and scope 2 for two, and these are their
+-- seats as it is opened
 pub record HasOpened (o : Opened) (texts : UnitTexts) (rows : ℕ) : Type 0 where
   pub texts_are : texts_in (key_of o.table) ≡ texts
   pub three : scopes (key_of o.table) ≡ 3

@@ -69,8 +69,8 @@ impl<'t> Filler<'t> {
         }
     }
 
-    /// Puts a constant, and its cell if it has a name. It answers whether it has: there is room, the unit has the name, names
-    /// ascend, and the value is a constant's.
+    /// Puts a constant, and its cell if it has a name. It answers whether it has: there is room, the unit has the
+    /// name, names ascend, and the value is a constant's.
     pub fn put(&mut self, name: u32, at: u32, value: i64) -> bool {
         if self.left == 0 || !has_name(self.texts, name) || !may_follow(name, self.last) {
             return false;

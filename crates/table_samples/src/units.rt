@@ -20,8 +20,8 @@ const END: Token = Token {
     column: 1,
 };
 
-/// A unit whose text has no token but its end, so that no rows are finished ones. It has the names that every unit begins
-/// with, and then n0, n1 and so on, so many of them: n0 has the number `FIRST_NAME`.
+/// A unit whose text has no token but its end, so that no rows are finished ones. It has the names that every unit
+/// begins with, and then n0, n1 and so on, so many of them: n0 has the number `FIRST_NAME`.
 pub fn unit(alloc: Global, names: u32) -> Result<Texts, Memory>
     ensures { IfOk result (λ texts. IsUnread texts) }
 {

@@ -35,7 +35,8 @@ fn head(scope: u32, count: u32, complete: bool) -> Head {
     }
 }
 
-/// The seats are those of the scopes, in order, and the cells are the least power of 2 that is more than twice the rows.
+/// The seats are those of the scopes, in order, and the cells are the least power of 2
+/// that is more than twice the rows.
 #[test]
 fn opens(rt: HostRuntime) -> Result<(), Fail> {
     let alloc = rt.alloc();
@@ -151,7 +152,8 @@ fn put_by_hand(table: &ScopeTable, seat: &mut TableSeat) -> Option<[u32; 2]>
         .map(|second| [first, second])
 }
 
-/// A row and its cell are put by hand: the names 31 and 36 have cell 1 of 8 as their home. Others see the cell, but no row.
+/// A row and its cell are put by hand: the names 31 and 36 have cell 1 of 8 as their home. Others see the cell,
+/// but no row.
 #[test]
 fn puts(rt: HostRuntime) -> Result<(), Fail> {
     let alloc = rt.alloc();

@@ -27,8 +27,8 @@ fn put_all(filler: &mut Filler) -> bool {
     true
 }
 
-/// Puts all constants, and answers whether they were put. The scope is marked as complete even if not, so that who looks at it
-/// comes to an end.
+/// Puts all constants, and answers whether they were put. The scope is marked as complete even if not, so that who
+/// looks at it comes to an end.
 fn fill(mut filler: Filler) -> bool {
     let all_put = put_all(&mut filler);
     let _seat = filler.seal();
@@ -63,8 +63,8 @@ fn are_next(rows: &[Row], first: u32) -> bool {
     true
 }
 
-/// Looks at scope 1 until it is complete: how many rows it has then, where each row that was seen is the one that was put there,
-/// and the rows never became fewer.
+/// Looks at scope 1 until it is complete: how many rows it has then, where each row that was seen is the one that was
+/// put there, and the rows never became fewer.
 fn watch(alloc: Global, mut reader: Reader) -> Result<Option<u32>, Memory> {
     let mut seen = 0;
     for _ in 0..u64::MAX {

@@ -51,7 +51,8 @@ pub fn outputs(alloc: Global, texts: &Texts, order: &[u32]) -> Option<Vec<Output
 /// What a unit comes to, with turns in this order.
 pub fn merged(alloc: Global, texts: &Texts, order: &[u32]) -> Option<Merged>
     requires { IsWhole texts.now }
-    ensures { IfSome result (λ merged. (front : TextOf → Front) → laws.IsWhole front texts.now → IsOutcome front texts.now (outcome_view merged)) }
+    ensures { IfSome result (λ merged.
+        (front : TextOf → Front) → laws.IsWhole front texts.now → IsOutcome front texts.now (outcome_view merged)) }
 {
     let _main = texts.main();
     outputs_can_be_merged();

@@ -1,6 +1,7 @@
 //! What comes behind gathering: the streams of a whole unit are worked through by workers.
 //!
-//! That this function is proved is the test: what `gather` and `cut` ensure meets each condition, and no caller adds a premise.
+//! That this function is proved is the test: what `gather` and `cut` ensure meets each condition,
+//! and no caller adds a premise.
 ghost use Rattle.std.specs.Prelude.{◌≤◌, ◌<◌, IfSome};
 ghost use Rattle.def_import.specs.Answers.{IsWhole};
 ghost use Rattle.merge_laws.specs.Outputs.{AreOutputs};
