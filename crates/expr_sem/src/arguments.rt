@@ -25,7 +25,7 @@ use crate::fitting::fitted_code;
 use crate::fragments::{Fragment, Fragments};
 use crate::refusals::refused;
 use crate::standard_functions::{has_small_ordinal, high_code};
-use crate::values::{as_value, assigned_to, characters, string_value};
+use crate::values::{as_value, characters, string_value};
 use code_form::Instr;
 use const_eval::{is_bad, is_broken, is_in_error};
 use m2_base::{Ask, Diagnostic, Memory, Notes, Operand, Place, RowMeaning, Scopes, Site};
@@ -83,16 +83,7 @@ impl<S: Scopes> Coder<'_, '_, S> {
         ensures keeps { Keeps self.old self.new }
         ensures codes { Codes S.state self.old self.new result IsArgument argument_in (λ c. spec_value c of x.at (coded_in (nodes_of self.old) x.coded)) }
     {
-        let refusal = Diagnostic::NotAssignable;
-        let taken = analysed!(assigned_to(
-            self.scopes,
-            self.site,
-            of,
-            x.at,
-            refusal,
-            x.coded,
-            self.notes
-        ));
+        let taken = analysed!(self.assigned_to(of, Diagnostic::NotAssignable, x));
         match taken.operand {
             Operand::InError => Ok(Ask::Known(None)),
             Operand::StringConstant(name, _) => {
@@ -270,7 +261,7 @@ impl<S: Scopes> Coder<'_, '_, S> {
     }
 
     /// The code of an argument beside its parameter, where neither is in error.
-    pub fn argument(
+    pub(crate) fn argument(
         &mut self,
         p: Parameter,
         at: u32,

@@ -79,6 +79,13 @@ struct Wording {
     count: usize,
 }
 
+/// How what is called suits a call: whether it gives a value, and whether it takes so many arguments.
+#[derive(Clone, Copy, Debug, PartialEq, Eq)]
+struct Suiting {
+    gives_value: bool,
+    is_count: bool,
+}
+
 /// What is refused as a call: it calls nothing.
 fn refused_call(
     site: &Site,
@@ -104,15 +111,16 @@ fn is_same_truth(x: bool, y: bool) -> bool
 fn allowed(
     site: &Site,
     call: Wording,
-    gives_value: bool,
-    is_count: bool,
+    suiting: Suiting,
     what: Callable,
     notes: &mut Notes,
 ) -> Result<Ask<Callable>, Memory>
-    ensures { (state : State) (nodes : List Node) → IsCallable state.frame nodes what → Coding state state notes.old notes.new nodes nodes site.now result IsCallable called_in (λ c. spec_allowed c call.at call.is_wanted gives_value is_count (called_in nodes what)) }
+    ensures { (state : State) (nodes : List Node) → IsCallable state.frame nodes what
+        → Coding state state notes.old notes.new nodes nodes site.now result IsCallable called_in
+        (λ c. spec_allowed c call.at call.is_wanted suiting.gives_value suiting.is_count (called_in nodes what)) }
 {
-    if is_same_truth(call.is_wanted, gives_value) {
-        if is_count {
+    if is_same_truth(call.is_wanted, suiting.gives_value) {
+        if suiting.is_count {
             Ok(Ask::Known(what))
         } else {
             refused_call(site, call.at, Diagnostic::WrongCount, notes)
@@ -132,15 +140,11 @@ fn called_standard(
     ensures { (state : State) (nodes : List Node) (code : Part) → Coding state state notes.old notes.new nodes nodes site.now result IsCallable called_in (λ c. called_by c call.is_wanted call.at call.count code (operands.StandardProcedure name)) }
 {
     let f = standard_procedure(name);
-    let is_count = takes_count(f, call.count);
-    allowed(
-        site,
-        call,
-        is_function(f),
-        is_count,
-        Callable::Standard(f),
-        notes,
-    )
+    let suiting = Suiting {
+        gives_value: is_function(f),
+        is_count: takes_count(f, call.count),
+    };
+    allowed(site, call, suiting, Callable::Standard(f), notes)
 }
 
 /// How many static links lead from a block to the frame that encloses a procedure of a scope; none for one of a module.
@@ -183,25 +187,28 @@ fn procedure_callable(around: &Around, signature: Signature, target: Option<Targ
 }
 
 impl<S: Scopes> Coder<'_, '_, S> {
-    /// A call of a procedure, by its name, its type and its number.
+    /// A call of a procedure of this name.
     fn called_procedure(
         &mut self,
         call: Wording,
         name: u32,
-        of: Place,
-        number: u32,
+        named: Target,
     ) -> Result<Ask<Callable>, Memory>
         requires suits { SuitsPlace S.state self.old }
-        requires of { IsThere (frame_of S.state self.old) of }
+        requires named { IsThere (frame_of S.state self.old) named.of }
         ensures keeps { Keeps self.old self.new }
-        ensures codes { Codes S.state self.old self.new result IsCallable called_in (λ c. allowed_by_type c call.at call.is_wanted call.count of (of_target c.scene of (spec_target c.scene name of number))) }
+        ensures codes { Codes S.state self.old self.new result IsCallable called_in
+            (λ c. allowed_by_type c call.at call.is_wanted call.count named.of
+            (of_target c.scene named.of (spec_target c.scene name named.of named.number))) }
     {
-        let signature = analysed!(signature_of(self.scopes, self.site, of));
-        let target = analysed!(target_of_procedure(self.scopes, self.site, name, of, number));
-        let gives_value = signature.gives_value();
-        let is_count = signature.takes(call.count);
+        let signature = analysed!(signature_of(self.scopes, self.site, named.of));
+        let target = analysed!(target_of_procedure(self.scopes, self.site, name, named));
+        let suiting = Suiting {
+            gives_value: signature.gives_value(),
+            is_count: signature.takes(call.count),
+        };
         let what = procedure_callable(self.site.around, signature, target);
-        allowed(self.site, call, gives_value, is_count, what, self.notes)
+        allowed(self.site, call, suiting, what, self.notes)
     }
 }
 
@@ -268,8 +275,10 @@ impl<S: Scopes> Coder<'_, '_, S> {
         ensures keeps { Keeps self.old self.new }
         ensures codes { Codes S.state self.old self.new result IsCallable called_in (λ c. variable_allowed c call.at call.is_wanted call.count (part (nodes_of self.old) code) (map parameter_view signature.params.items) signature.result) }
     {
-        let gives_value = signature.gives_value();
-        let is_count = signature.takes(call.count);
+        let suiting = Suiting {
+            gives_value: signature.gives_value(),
+            is_count: signature.takes(call.count),
+        };
         let what = analysed!(variable_callable(
             self.scopes,
             self.site,
@@ -277,7 +286,7 @@ impl<S: Scopes> Coder<'_, '_, S> {
             code,
             self.fragments
         ));
-        allowed(self.site, call, gives_value, is_count, what, self.notes)
+        allowed(self.site, call, suiting, what, self.notes)
     }
 
     /// A call of a procedure variable whose type has this form.
@@ -332,7 +341,7 @@ impl<S: Scopes> Coder<'_, '_, S> {
         match x.operand {
             Operand::StandardProcedure(name) => called_standard(self.site, call, name, self.notes),
             Operand::Procedure(name, of, number, _) => {
-                self.called_procedure(call, name, of, number)
+                self.called_procedure(call, name, Target { of, number })
             }
             Operand::Variable(of) => self.called_variable(call, of, x.code),
             Operand::ModuleName(_) => refused_call(
@@ -348,7 +357,7 @@ impl<S: Scopes> Coder<'_, '_, S> {
 
     /// What a call with so many arguments calls. `is_wanted` tells whether it stands where a value is wanted; `at` is the
     /// designator's first token.
-    pub fn called(
+    pub(crate) fn called(
         &mut self,
         is_wanted: bool,
         at: u32,
@@ -473,7 +482,7 @@ impl<S: Scopes> Coder<'_, '_, S> {
     }
 
     /// The call, once its arguments are there. Without one of them it is in error, and so it is where the result's type is.
-    pub fn call_coded(
+    pub(crate) fn call_coded(
         &mut self,
         callee: &Callee,
         args: Option<Fragment>,

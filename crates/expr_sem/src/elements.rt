@@ -31,7 +31,7 @@ use crate::coded::{Coded, Placed};
 use crate::coder::Coder;
 use crate::fragments::{Fragment, Fragments};
 use crate::refusals::refused;
-use crate::values::{assigned_to, value_code};
+use crate::values::value_code;
 use code_form::Instr;
 use const_eval::{is_bad, is_broken};
 use m2_base::{
@@ -107,7 +107,12 @@ impl<S: Scopes> Coder<'_, '_, S> {
     }
 
     /// What a pointer points to. `first` is the designator's first token, `at` the arrow.
-    pub fn select_target(&mut self, first: u32, at: u32, x: Coded) -> Result<Ask<Coded>, Memory>
+    pub(crate) fn select_target(
+        &mut self,
+        first: u32,
+        at: u32,
+        x: Coded,
+    ) -> Result<Ask<Coded>, Memory>
         requires suits { SuitsPlace S.state self.old }
         requires x { IsCoded (frame_of S.state self.old) (nodes_of self.old) x }
         ensures keeps { Keeps self.old self.new }
@@ -365,16 +370,7 @@ impl<S: Scopes> Coder<'_, '_, S> {
         ensures keeps { Keeps self.old self.new }
         ensures codes { Codes S.state self.old self.new result IsCoded coded_in (λ c. and_then (spec_assigned c indices index.at not_assignable (coded_in (nodes_of self.old) index.coded)) (spec_of_array c (coded_in (nodes_of self.old) x) indices of)) }
     {
-        let refusal = Diagnostic::NotAssignable;
-        let taken = analysed!(assigned_to(
-            self.scopes,
-            self.site,
-            indices,
-            index.at,
-            refusal,
-            index.coded,
-            self.notes
-        ));
+        let taken = analysed!(self.assigned_to(indices, Diagnostic::NotAssignable, index));
         self.element_of_array(indices, of, taken, x)
     }
 
@@ -388,16 +384,7 @@ impl<S: Scopes> Coder<'_, '_, S> {
         ensures keeps { Keeps self.old self.new }
         ensures codes { Codes S.state self.old self.new result IsCoded coded_in (λ c. and_then (spec_assigned c cardinal index.at not_assignable (coded_in (nodes_of self.old) index.coded)) (spec_of_open c (coded_in (nodes_of self.old) x) of)) }
     {
-        let refusal = Diagnostic::NotAssignable;
-        let taken = analysed!(assigned_to(
-            self.scopes,
-            self.site,
-            CARDINAL,
-            index.at,
-            refusal,
-            index.coded,
-            self.notes
-        ));
+        let taken = analysed!(self.assigned_to(CARDINAL, Diagnostic::NotAssignable, index));
         self.element_of_open(of, taken, x)
     }
 
@@ -427,7 +414,7 @@ impl<S: Scopes> Coder<'_, '_, S> {
     }
 
     /// The element of an array by one index. `first` is the designator's first token, `at` the bracket.
-    pub fn select_element(
+    pub(crate) fn select_element(
         &mut self,
         first: u32,
         at: u32,

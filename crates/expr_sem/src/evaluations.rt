@@ -3,7 +3,6 @@ ghost use Rattle.std.specs.Prelude.{◌≡◌, List, Some};
 ghost use Rattle.std.specs.Option.{IfSome};
 ghost use Rattle.m2_base.specs.Asks.{IfKnown, IfWaits};
 ghost use Rattle.m2_base.specs.Gives.{gives};
-ghost use Rattle.m2_base.specs.Lists.{Each};
 ghost use Rattle.m2_base.specs.States.{Frame};
 ghost use Rattle.m2_base.specs.Statics.ReadTrees.{IsReadDesignator, IsReadExpr};
 ghost use Rattle.m2_base.specs.Views.{designator_view, expr_view};
@@ -16,7 +15,6 @@ ghost use Rattle.expr_sem.specs.Expressions.{designated as spec_designated, valu
 ghost use Rattle.expr_sem.specs.Fragments.{AreSound, IsIn, part};
 ghost use Rattle.expr_sem.specs.Pieces.{Appended};
 ghost use Rattle.expr_sem.specs.declared.fragments.Node.{Node};
-ghost use Rattle.type_rules.specs.Scenes.{IsThere};
 ghost use Rattle.type_rules.specs.Sites.{SuitsSite};
 
 use crate::coded::Coded;
@@ -119,8 +117,11 @@ fn appended(
 }
 
 impl<S: Scopes> Coder<'_, '_, S> {
-    /// The code of an expression's value, appended to a piece.
-    fn append_value(&mut self, e: &Expr, piece: &mut Piece) -> Result<Ask<Option<Operand>>, Memory>
+    /// The code of an expression's value is appended to a piece of a block's code, and its operand is what comes out:
+    /// none where the expression is in error, and then the piece is as it was. Where the answer isn't known yet, and
+    /// where memory is wanted, the piece has what it had before. Fragments that are `sound` know the lengths of their
+    /// codes, as those of a new `Fragments` do and all that are made of them.
+    pub fn value(&mut self, e: &Expr, piece: &mut Piece) -> Result<Ask<Option<Operand>>, Memory>
         requires suits { SuitsPlace S.state self.old }
         requires withs { SeesWiths S.state self.old }
         requires sound { AreSound (nodes_of self.old) }
@@ -132,8 +133,9 @@ impl<S: Scopes> Coder<'_, '_, S> {
         appended(self.fragments, made, self.withs, piece)
     }
 
-    /// The code of what a designator stands for, appended to a piece.
-    fn append_address(
+    /// The code of what a designator stands for is appended to a piece of a block's code: of a variable it gives the
+    /// address. The operand is what comes out, as of `value`.
+    pub fn address(
         &mut self,
         of: &Designator,
         piece: &mut Piece,
@@ -148,57 +150,4 @@ impl<S: Scopes> Coder<'_, '_, S> {
         let made = analysed!(self.address_made(of));
         appended(self.fragments, made, self.withs, piece)
     }
-}
-
-/// The code of an expression's value is appended to a piece of a block's code, and its operand is what comes out: none where
-/// the expression is in error, and then the piece is as it was. Where the answer isn't known yet, and where memory is wanted,
-/// the piece has what it had before.
-pub fn value<S: Scopes>(
-    scopes: &mut S,
-    site: &Site,
-    withs: &[With],
-    e: &Expr,
-    piece: &mut Piece,
-    notes: &mut Notes,
-) -> Result<Ask<Option<Operand>>, Memory>
-    requires suits { SuitsSite (S.state scopes.old).frame site.now }
-    requires withs { Each (λ w. IsThere (S.state scopes.old).frame w.of) withs.now }
-    requires read { IsReadExpr site.now.texts.now.names (expr_view e.now) }
-    ensures { Evaluates (S.state scopes.old) (S.state scopes.new) notes.old notes.new piece.old piece.new withs.now site.now result (λ c x. spec_code c x) (λ c. spec_value c (with_types withs.now) (expr_view e.now)) }
-{
-    let mut fragments = Fragments::new(*piece.steps.allocator());
-    let mut coder = Coder {
-        scopes,
-        site,
-        withs,
-        fragments: &mut fragments,
-        notes,
-    };
-    coder.append_value(e, piece)
-}
-
-/// The code of what a designator stands for is appended to a piece of a block's code: of a variable it gives the address. The
-/// operand is what comes out, as of `value`.
-pub fn address<S: Scopes>(
-    scopes: &mut S,
-    site: &Site,
-    withs: &[With],
-    of: &Designator,
-    piece: &mut Piece,
-    notes: &mut Notes,
-) -> Result<Ask<Option<Operand>>, Memory>
-    requires suits { SuitsSite (S.state scopes.old).frame site.now }
-    requires withs { Each (λ w. IsThere (S.state scopes.old).frame w.of) withs.now }
-    requires read { IsReadDesignator site.now.texts.now.names (designator_view of.now) }
-    ensures { Evaluates (S.state scopes.old) (S.state scopes.new) notes.old notes.new piece.old piece.new withs.now site.now result (λ c x. x.code) (λ c. spec_designated c (with_types withs.now) (designator_view of.now)) }
-{
-    let mut fragments = Fragments::new(*piece.steps.allocator());
-    let mut coder = Coder {
-        scopes,
-        site,
-        withs,
-        fragments: &mut fragments,
-        notes,
-    };
-    coder.append_address(of, piece)
 }

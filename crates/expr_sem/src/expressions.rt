@@ -7,29 +7,26 @@ ghost use Rattle.m2_base.specs.Views.{designator_view, expr_view, label_view, ne
 ghost use Rattle.expr_sem.specs.Coders.{Codes, Keeps, SeesWiths, SuitsPlace, frame_of, names_of, nodes_of};
 ghost use Rattle.expr_sem.specs.ArgumentCodes.{IsArgument, argument_in, parameter_view};
 ghost use Rattle.expr_sem.specs.Callees.{IsCallable, IsCallee, called_in};
-ghost use Rattle.expr_sem.specs.Codings.{Coding, IsCoded, coded_in, with_types};
+ghost use Rattle.expr_sem.specs.Codings.{IsCoded, coded_in, with_types};
 ghost use Rattle.expr_sem.specs.ExpressionParts.{IsPlace, called_as as spec_called_as, called_with as spec_called_with, first_argument as spec_first, index as spec_index, lacking as spec_lacking, member as spec_member, next_passed as spec_next, place_in, procedure as spec_procedure, range_to as spec_range, second_argument as spec_second, set_of as spec_set, type_before as spec_type};
 ghost use Rattle.expr_sem.specs.Expressions.{call_alone as spec_alone, continued as spec_continued, designated as spec_designated, element as spec_element, elements as spec_elements, expression as spec_expression, followed as spec_followed, indexed as spec_indexed, looked_at as spec_looked, passed as spec_passed, selected as spec_selected, selector as spec_selector, standard as spec_standard, value as spec_value};
 ghost use Rattle.expr_sem.specs.Fragments.{part};
 ghost use Rattle.expr_sem.specs.SetCodings.{AreElements, elements_in};
 ghost use Rattle.type_rules.specs.Scenes.{IsThere};
-ghost use Rattle.type_rules.specs.Sites.{SuitsSite};
 
 use crate::argument_codes::{all_passed, behind_first, joined};
 use crate::arguments::Parameter;
 use crate::calls::{Callable, Callee};
 use crate::coded::{Coded, Placed};
 use crate::coder::Coder;
-use crate::fragments::{Fragment, Fragments};
+use crate::fragments::Fragment;
 use crate::leaves::type_noted;
-use crate::pieces::With;
-use crate::set_elements::{Elements, add_element, add_range, element_coded, set_coded, set_start};
+use crate::set_elements::{Elements, set_coded, set_start};
 use crate::standard_procedures::of_no_argument;
 use crate::values::as_value;
 use const_eval::string_constant;
 use m2_base::{
-    Ask, Builtin, Designator, Expr, ExprForm, Label, Memory, Next, Notes, Operand, Place, Scopes,
-    Selector, Site,
+    Ask, Builtin, Designator, Expr, ExprForm, Label, Memory, Next, Operand, Place, Scopes, Selector,
 };
 use type_rules::{BITSET, CHARACTER, WHOLE};
 
@@ -202,7 +199,7 @@ impl<S: Scopes> Coder<'_, '_, S> {
     {
         let low = analysed!(self.member(base, &label.low));
         match &label.high {
-            None => add_element(self.scopes, self.site, es, low, self.fragments),
+            None => self.add_element(es, low),
             Some(high) => self.range_to(base, es, low, high),
         }
     }
@@ -226,7 +223,7 @@ impl<S: Scopes> Coder<'_, '_, S> {
         ensures codes { Codes S.state self.old self.new result AreElements elements_in (λ c. spec_range c (with_types self.old.withs.now) base (elements_in (nodes_of self.old) es) (coded_in (nodes_of self.old) low) (expr_view high.now)) }
     {
         let high = analysed!(self.member(base, high));
-        add_range(self.scopes, self.site, es, low, high, self.fragments)
+        self.add_range(es, low, high)
     }
 
     /// An expression as it is taken into a set.
@@ -239,8 +236,8 @@ impl<S: Scopes> Coder<'_, '_, S> {
         ensures keeps { Keeps self.old self.new }
         ensures codes { Codes S.state self.old self.new result IsCoded coded_in (λ c. spec_member c (with_types self.old.withs.now) base (expr_view e.now)) }
     {
-        let x = analysed!(self.value_of(e));
-        element_coded(self.scopes, self.site, base, e.at, x, self.notes)
+        let coded = analysed!(self.value_of(e));
+        self.element_coded(base, Placed { at: e.at, coded })
     }
 
     /// Arguments of what isn't called, for their own diagnostics.
@@ -522,81 +519,4 @@ impl<S: Scopes> Coder<'_, '_, S> {
         };
         self.called_with(false, target, args)
     }
-}
-
-/// What an expression stands for where a value is wanted; a type alone, say, is refused at its first token. The code is
-/// the operand's own, of a variable its address: `value_code` goes on from there. It waits for names and types.
-pub fn value_of<S: Scopes>(
-    scopes: &mut S,
-    site: &Site,
-    withs: &[With],
-    e: &Expr,
-    fragments: &mut Fragments,
-    notes: &mut Notes,
-) -> Result<Ask<Coded>, Memory>
-    requires suits { SuitsSite (S.state scopes.old).frame site.now }
-    requires withs { Each (λ w. IsThere (S.state scopes.old).frame w.of) withs.now }
-    requires read { IsReadExpr site.now.texts.now.names (expr_view e.now) }
-    ensures { Coding (S.state scopes.old) (S.state scopes.new) notes.old notes.new fragments.old.nodes.items fragments.new.nodes.items site.now result IsCoded coded_in (λ c. spec_value c (with_types withs.now) (expr_view e.now)) }
-{
-    let mut coder = Coder {
-        scopes,
-        site,
-        withs,
-        fragments,
-        notes,
-    };
-    coder.value_of(e)
-}
-
-/// What a designator stands for within the open WITHs: its name, and then what each selector selects of that. The code
-/// of a variable leaves its address, all else has none. It waits for names and types.
-pub fn designated<S: Scopes>(
-    scopes: &mut S,
-    site: &Site,
-    withs: &[With],
-    of: &Designator,
-    fragments: &mut Fragments,
-    notes: &mut Notes,
-) -> Result<Ask<Coded>, Memory>
-    requires suits { SuitsSite (S.state scopes.old).frame site.now }
-    requires withs { Each (λ w. IsThere (S.state scopes.old).frame w.of) withs.now }
-    requires read { IsReadDesignator site.now.texts.now.names (designator_view of.now) }
-    ensures { Coding (S.state scopes.old) (S.state scopes.new) notes.old notes.new fragments.old.nodes.items fragments.new.nodes.items site.now result IsCoded coded_in (λ c. spec_designated c (with_types withs.now) (designator_view of.now)) }
-{
-    let mut coder = Coder {
-        scopes,
-        site,
-        withs,
-        fragments,
-        notes,
-    };
-    coder.designated(of)
-}
-
-/// A call that stands as a statement: its code computes the arguments, calls, and leaves the stack as it was. What
-/// gives a value, or takes another number of arguments, is refused at its first token. It waits for names and types.
-pub fn call_alone<S: Scopes>(
-    scopes: &mut S,
-    site: &Site,
-    withs: &[With],
-    to: &Designator,
-    args: &[Expr],
-    fragments: &mut Fragments,
-    notes: &mut Notes,
-) -> Result<Ask<Coded>, Memory>
-    requires suits { SuitsSite (S.state scopes.old).frame site.now }
-    requires withs { Each (λ w. IsThere (S.state scopes.old).frame w.of) withs.now }
-    requires to { IsReadDesignator site.now.texts.now.names (designator_view to.now) }
-    requires args { AreReadExprs site.now.texts.now.names (exprs (map expr_view args.now)) }
-    ensures { Coding (S.state scopes.old) (S.state scopes.new) notes.old notes.new fragments.old.nodes.items fragments.new.nodes.items site.now result IsCoded coded_in (λ c. spec_alone c (with_types withs.now) (designator_view to.now) (exprs (map expr_view args.now))) }
-{
-    let mut coder = Coder {
-        scopes,
-        site,
-        withs,
-        fragments,
-        notes,
-    };
-    coder.call_alone(to, args)
 }

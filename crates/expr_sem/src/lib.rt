@@ -3,26 +3,31 @@
 //! The words are those of Wirth's report and of the machine's instructions (`code_form`). What an expression stands for
 //! is said by the static rules (`m2_base`'s `specs/Statics`); here its code stands beside it. A part of code is a
 //! function of where it stands (`specs/Parts`). `specs/Expressions` goes over the trees; each rule of the language has
-//! a file of its own below it. `value` and `address` append to a piece of a block's code what an expression or a
-//! designator becomes, or wait (the record `Evaluates`, `specs/Evaluations`); statements, which put more code round it,
-//! take the functions below them, which make fragments (the record `Coding`, `specs/Codings`).
+//! a file of its own below it.
 //!
-//! These are handed the scopes, which are asked for rows; the site with its names, its block and its text; the open
-//! WITHs, the innermost first; the fragments made so far; and the notes. Where the answer is known the fragments have
-//! the nodes that it is made of, and the notes what is wrong and what each name was found to stand for, in text order.
-//! An answer waits for a name or a type where its row is of a scope before the own one that isn't complete and doesn't
-//! have it yet. Then, and where memory is wanted, fragments and notes may have more than before: the caller lets go of
-//! both, and asks again later.
+//! A `Coder` makes the code. It is lent the scopes, which it asks for rows; the site with its names, its block and
+//! its text; the open WITHs, the innermost first; the fragments made so far; and the notes. Its `value` and `address`
+//! append to a piece of a block's code what an expression or a designator becomes, or wait (the record `Evaluates`,
+//! `specs/Evaluations`). Statements, which put more code round it, take `value_of`, `designated`, `call_alone` and
+//! `assigned_to`, which make fragments: `Codes` (`specs/Coders`) says of the coder before and after what the record
+//! `Coding` (`specs/Codings`) says of its parts, and `Keeps` that it still works on what it was lent. What loads,
+//! fits or finds one value alone, as `value_code`, `fitted_code` and `entry_coded`, is handed the scopes, the site
+//! and the fragments.
+//!
+//! Where the answer is known the fragments have the nodes that it is made of, and the notes what is wrong and what
+//! each name was found to stand for, in text order. An answer waits for a name or a type where its row is of a scope
+//! before the own one that isn't complete and doesn't have it yet. Then, and where memory is wanted, fragments and
+//! notes may have more than before: the caller lets go of both, and asks again later.
 //!
 //! # From `y := x + 1` to its instructions
 //!
 //! x and y are INTEGER variables of a module, in its cells 0 and 1, and the statement stands in its body, where each
-//! begins with no fragments. stmt_sem's `assign_statement` goes over the left side first (`assigned`, `variable`):
+//! begins with no fragments. stmt_sem's `assign_statement` goes over the left side first (`variable`): the coder's
 //! `designated` finds the row of y, whose address `entry_coded` makes, and `as_variable` lets it pass. The right side
-//! is for `value_of` (`assigned_value`): `designated` gives x, again by its address, and 1 is a constant without code.
+//! is for the coder's `value_of`: `designated` gives x, again by its address, and 1 is a constant without code.
 //! `two_coded` asks const_eval's `operated`: beside an INTEGER 1 is an INTEGER, and their sum is a computed one. So
 //! both values are made (`value_code`), and behind them `Add`, of which `side_of` gives the side, 0. In the end
-//! stmt_sem's `assignment` asks whether y takes the sum (`assigned_to`), has it fitted to the type of y
+//! stmt_sem's `assignment` asks whether y takes the sum (the coder's `assigned_to`), has it fitted to the type of y
 //! (`fitted_code`), and stores it (`store_code`). The fragments are, in the order in which they are made:
 //!
 //! | Node | Form | What it stands for | Made by |
@@ -120,9 +125,8 @@ pub use answers::answered;
 pub use appending::{append_all, capped_sum, push_instr};
 pub use chains::{instr_behind, pair};
 pub use coded::{Coded, Placed};
+pub use coder::Coder;
 pub use elements::cells_of;
-pub use evaluations::{address, value};
-pub use expressions::{call_alone, designated, value_of};
 pub use fitting::fitted_code;
 pub use fragments::{Connective, Form, Fragment, Fragments, Node};
 pub use laws::{
@@ -133,8 +137,7 @@ pub use operators::{made, side_of};
 pub use pieces::{Piece, With, append};
 pub use record_fields::field_of_withs;
 pub use refusals::refused;
-pub use set_elements::{Elements, add_element, add_range, element_coded, set_coded, set_start};
 pub use steps::Step;
-pub use values::{assigned_to, characters, is_structured, value_code};
+pub use values::{characters, is_structured, value_code};
 pub use variable_arguments::as_variable;
 pub use variables::entry_coded;

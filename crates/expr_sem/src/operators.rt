@@ -164,7 +164,12 @@ fn decide(
 impl<S: Scopes> Coder<'_, '_, S> {
     /// NOT, plus or minus, at the token `op_at`, before an operand: what const_eval's `applied_one` gives, and unless that
     /// is constant the operand's value and then `Not`, nothing, or `Neg`. It waits for the operand's type.
-    pub fn one_coded(&mut self, op: Operator, op_at: u32, x: Coded) -> Result<Ask<Coded>, Memory>
+    pub(crate) fn one_coded(
+        &mut self,
+        op: Operator,
+        op_at: u32,
+        x: Coded,
+    ) -> Result<Ask<Coded>, Memory>
         requires suits { SuitsPlace S.state self.old }
         requires x { IsCoded (frame_of S.state self.old) (nodes_of self.old) x }
         ensures keeps { Keeps self.old self.new }
@@ -247,7 +252,7 @@ impl<S: Scopes> Coder<'_, '_, S> {
     /// An operator, at the token `op_at`, between two operands: what const_eval's `operated` gives, and unless that is
     /// constant the left value, the right one, and the instruction. By the report p OR q means "if p then TRUE, otherwise
     /// q": there, and with AND, a jump skips the right value where the left one decides. It waits for both types.
-    pub fn two_coded(
+    pub(crate) fn two_coded(
         &mut self,
         op: Operator,
         op_at: u32,

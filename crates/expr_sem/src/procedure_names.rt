@@ -134,26 +134,26 @@ fn own_target<S: Scopes>(scopes: &mut S, site: &Site, name: u32) -> Ask<Option<T
     Ask::Known(target_of_entry(entry))
 }
 
-/// A procedure by its name, its type and its number. A heading of the own definition is the module's own procedure of that
-/// name, if there is one; any other procedure is itself. Only statements name procedures, and each procedure has a name:
-/// otherwise the error is that memory is wanted, which comes about in no module.
+/// The procedure that code names for one of this name. A heading of the own definition is the module's own procedure
+/// of that name, if there is one; any other procedure is itself. Only statements name procedures, and each procedure
+/// has a name: otherwise the error is that memory is wanted, which comes about in no module.
 pub fn target_of_procedure<S: Scopes>(
     scopes: &mut S,
     site: &Site,
     name: u32,
-    of: Place,
-    number: u32,
+    named: Target,
 ) -> Result<Ask<Option<Target>>, Memory>
     requires suits { SuitsSite (S.state scopes.old).frame site.now }
-    requires of { IsThere (S.state scopes.old).frame of }
+    requires named { IsThere (S.state scopes.old).frame named.of }
     ensures reads { Reads (S.state scopes.old) (S.state scopes.new) }
     ensures waits { IfWaits result (λ head. Waits (S.state scopes.old) (S.state scopes.new) head) }
     ensures told { WhereTold (S.state scopes.old).frame (λ made.
-        IfKnown result (λ given. option_map target_view given ≡ spec_target (scene_of (S.state scopes.old).frame made site.now.around.now) name of number)) }
+        IfKnown result (λ given. option_map target_view given
+        ≡ spec_target (scene_of (S.state scopes.old).frame made site.now.around.now) name named.of named.number)) }
     ensures there { IfKnown result (λ given. IfSome given (λ target. IsThere (S.state scopes.old).frame target.of)) }
 {
-    if !is_own_definition(site.around.own, of.scope) {
-        return Ok(Ask::Known(Some(Target { of, number })));
+    if !is_own_definition(site.around.own, named.of.scope) {
+        return Ok(Ask::Known(Some(named)));
     }
     if name == 0 || site.item.is_some() {
         return Err(Memory);
@@ -177,14 +177,15 @@ pub fn procedure_code<S: Scopes>(
     scopes: &mut S,
     site: &Site,
     name: u32,
-    of: Place,
-    number: u32,
+    named: Target,
     fragments: &mut Fragments,
 ) -> Result<Ask<Fragment>, Memory>
     requires suits { SuitsSite (S.state scopes.old).frame site.now }
-    requires of { IsThere (S.state scopes.old).frame of }
-    ensures { (notes : Notes) → Coding (S.state scopes.old) (S.state scopes.new) notes notes fragments.old.nodes.items fragments.new.nodes.items site.now result IsFragment part (λ c. gives (spec_code c.scene (spec_target c.scene name of number))) }
+    requires named { IsThere (S.state scopes.old).frame named.of }
+    ensures { (notes : Notes) → Coding (S.state scopes.old) (S.state scopes.new) notes notes
+        fragments.old.nodes.items fragments.new.nodes.items site.now result IsFragment part
+        (λ c. gives (spec_code c.scene (spec_target c.scene name named.of named.number))) }
 {
-    let target = analysed!(target_of_procedure(scopes, site, name, of, number));
+    let target = analysed!(target_of_procedure(scopes, site, name, named));
     answered(fragments.one(instr_of_target(site.around, target)))
 }

@@ -168,7 +168,7 @@ impl<S: Scopes> Coder<'_, '_, S> {
     }
 
     /// A name where a designator begins: a field of an open WITH's record, the innermost first, or what the name is bound to.
-    pub fn name_coded(&mut self, ident: Ident) -> Result<Ask<Coded>, Memory>
+    pub(crate) fn name_coded(&mut self, ident: Ident) -> Result<Ask<Coded>, Memory>
         requires suits { SuitsPlace S.state self.old }
         requires withs { SeesWiths S.state self.old }
         requires named { ident.name ≢ 0 }
@@ -217,7 +217,7 @@ impl<S: Scopes> Coder<'_, '_, S> {
     }
 
     /// What a name behind a point selects. `first` is the designator's first token, `at` the point.
-    pub fn select_field(
+    pub(crate) fn select_field(
         &mut self,
         first: u32,
         at: u32,

@@ -7,23 +7,27 @@ ghost use Rattle.m2_base.specs.declared.notes.Notes.{Notes as NotesOf};
 ghost use Rattle.m2_base.specs.declared.sites.Site.{Site as SiteOf};
 ghost use Rattle.const_eval.specs.Sites.{IsOperand};
 ghost use Rattle.expr_sem.specs.Coded.{value_code as spec_value};
+ghost use Rattle.expr_sem.specs.Coders.{Codes, Keeps, SuitsPlace, frame_of, nodes_of};
 ghost use Rattle.expr_sem.specs.Codings.{Coding, IsCoded, IsFragment, coded_in};
 ghost use Rattle.expr_sem.specs.Fragments.{IsIn, IsMade, part};
 ghost use Rattle.expr_sem.specs.Parts.{plain, ◌⨟◌};
 ghost use Rattle.expr_sem.specs.SetCodings.{AreElements, elements_in};
-ghost use Rattle.expr_sem.specs.SetElements.{add_element as spec_element, add_range as spec_range, element_as as spec_as, element_coded as spec_coded, no_elements_yet, set_coded as spec_set};
+ghost use Rattle.expr_sem.specs.SetElements.{add_element as spec_element, add_range as spec_range};
+ghost use Rattle.expr_sem.specs.SetElements.{element_as as spec_as, element_coded as spec_coded};
+ghost use Rattle.expr_sem.specs.SetElements.{no_elements_yet, set_coded as spec_set};
 ghost use Rattle.expr_sem.specs.declared.fragments.Node.{Node};
 ghost use Rattle.type_rules.specs.Asks.{Reads, WhereKnown, WhereWaiting};
 ghost use Rattle.type_rules.specs.Scenes.{IsThere, WhereTold};
 ghost use Rattle.type_rules.specs.Sites.{SuitsSite, context_of};
 
 use crate::chains::{after_both, pair};
-use crate::coded::Coded;
+use crate::coded::{Coded, Placed};
+use crate::coder::Coder;
 use crate::fragments::{Fragment, Fragments};
 use crate::values::value_code;
 use code_form::Instr;
 use const_eval::{Argument, no_elements, set_base, taken, with_elements};
-use m2_base::{Ask, Memory, Notes, Operand, Place, Scopes, Site};
+use m2_base::{Ask, Memory, Operand, Place, Scopes, Site};
 
 /// What the elements make so far: the set by the static rule, and the code that adds each of them to the set on the stack.
 #[derive(Clone, Copy, Debug, PartialEq, Eq)]
@@ -67,27 +71,25 @@ fn element_as(x: Coded, operand: Operand) -> Coded
     }
 }
 
-/// An element of a set, or an end of a range, whose first token is `at`, as it is taken into a set with this base: what
-/// const_eval's `taken` gives of its operand, with the operand's own code still. It waits for the rows of both types.
-pub fn element_coded<S: Scopes>(
-    scopes: &mut S,
-    site: &Site,
-    base: Place,
-    at: u32,
-    x: Coded,
-    notes: &mut Notes,
-) -> Result<Ask<Coded>, Memory>
-    requires suits { SuitsSite (S.state scopes.old).frame site.now }
-    requires base { IsThere (S.state scopes.old).frame base }
-    requires x { IsOperand (S.state scopes.old).frame x.operand }
-    ensures { (nodes : List Node) → IsCoded (S.state scopes.old).frame nodes x → Coding (S.state scopes.old) (S.state scopes.new) notes.old notes.new nodes nodes site.now result IsCoded coded_in (λ c. spec_coded c base at (coded_in nodes x)) }
-{
-    let element = Argument {
-        at,
-        operand: x.operand,
-    };
-    let operand = analysed!(taken(scopes, site, base, element, notes));
-    Ok(Ask::Known(element_as(x, operand)))
+impl<S: Scopes> Coder<'_, '_, S> {
+    /// An element of a set, or an end of a range, as it is taken into a set with this base: what const_eval's `taken`
+    /// gives of its operand, with the operand's own code still. It waits for the rows of both types.
+    pub(crate) fn element_coded(&mut self, base: Place, x: Placed) -> Result<Ask<Coded>, Memory>
+        requires suits { SuitsPlace S.state self.old }
+        requires base { IsThere (frame_of S.state self.old) base }
+        requires x { IsCoded (frame_of S.state self.old) (nodes_of self.old) x.coded }
+        ensures keeps { Keeps self.old self.new }
+        ensures fragments { self.new.fragments.now ≡ self.old.fragments.now }
+        ensures codes { Codes S.state self.old self.new result IsCoded coded_in
+            (λ c. spec_coded c base x.at (coded_in (nodes_of self.old) x.coded)) }
+    {
+        let element = Argument {
+            at: x.at,
+            operand: x.coded.operand,
+        };
+        let operand = analysed!(taken(self.scopes, self.site, base, element, self.notes));
+        Ok(Ask::Known(element_as(x.coded, operand)))
+    }
 }
 
 /// Two codes, and then an instruction that makes a set of what they leave, which is added.
@@ -105,42 +107,40 @@ fn joined(
     after_both(fragments, x, y, last)
 }
 
-/// The code of a set, and then that of an element, which is added.
-fn element_code<S: Scopes>(
-    scopes: &mut S,
-    site: &Site,
-    set: Fragment,
-    x: Coded,
-    fragments: &mut Fragments,
-) -> Result<Ask<Fragment>, Memory>
-    requires suits { SuitsSite (S.state scopes.old).frame site.now }
-    requires set { IsIn fragments.old.nodes.items set }
-    requires x { IsCoded (S.state scopes.old).frame fragments.old.nodes.items x }
-    ensures { (notes : NotesOf) → Coding (S.state scopes.old) (S.state scopes.new) notes notes fragments.old.nodes.items fragments.new.nodes.items site.now result IsFragment part (λ c. gives (part fragments.old.nodes.items set ⨟ spec_value c (coded_in fragments.old.nodes.items x) ⨟ plain (Instr.Bit ∷ Instr.Union ∷ []))) }
-{
-    let value = analysed!(value_code(scopes, site, x, fragments));
-    let code = joined(fragments, set, value, Instr::Bit)?;
-    Ok(Ask::Known(code))
-}
+impl<S: Scopes> Coder<'_, '_, S> {
+    /// The code of a set, and then that of an element, which is added.
+    fn element_code(&mut self, set: Fragment, x: Coded) -> Result<Ask<Fragment>, Memory>
+        requires suits { SuitsPlace S.state self.old }
+        requires set { IsIn (nodes_of self.old) set }
+        requires x { IsCoded (frame_of S.state self.old) (nodes_of self.old) x }
+        ensures keeps { Keeps self.old self.new }
+        ensures notes { self.new.notes.now ≡ self.old.notes.now }
+        ensures codes { Codes S.state self.old self.new result IsFragment part
+            (λ c. gives (part (nodes_of self.old) set ⨟ spec_value c (coded_in (nodes_of self.old) x)
+            ⨟ plain (Instr.Bit ∷ Instr.Union ∷ []))) }
+    {
+        let value = analysed!(value_code(self.scopes, self.site, x, self.fragments));
+        let code = joined(self.fragments, set, value, Instr::Bit)?;
+        Ok(Ask::Known(code))
+    }
 
-/// The elements so far, and one more that `element_coded` took. Behind their code, which leaves the set on the stack,
-/// come the element's value, `Bit` and `Union`, which leave it there too. It waits as the element's `value_code` does.
-#[tactic(auto, using(const_eval::proofs::TypesThere::there))]
-pub fn add_element<S: Scopes>(
-    scopes: &mut S,
-    site: &Site,
-    es: Elements,
-    x: Coded,
-    fragments: &mut Fragments,
-) -> Result<Ask<Elements>, Memory>
-    requires suits { SuitsSite (S.state scopes.old).frame site.now }
-    requires es { AreElements (S.state scopes.old).frame fragments.old.nodes.items es }
-    requires x { IsCoded (S.state scopes.old).frame fragments.old.nodes.items x }
-    ensures { (notes : NotesOf) → Coding (S.state scopes.old) (S.state scopes.new) notes notes fragments.old.nodes.items fragments.new.nodes.items site.now result AreElements elements_in (λ c. gives (spec_element c (elements_in fragments.old.nodes.items es) (coded_in fragments.old.nodes.items x))) }
-{
-    let set = with_elements(es.set, x.operand, x.operand);
-    let code = analysed!(element_code(scopes, site, es.code, x, fragments));
-    Ok(Ask::Known(Elements { set, code }))
+    /// The elements so far, and one more that `element_coded` took. Behind their code, which leaves the set on the
+    /// stack, come the element's value, `Bit` and `Union`, which leave it there too. It waits as the element's
+    /// `value_code` does.
+    #[tactic(auto, using(const_eval::proofs::TypesThere::there))]
+    pub(crate) fn add_element(&mut self, es: Elements, x: Coded) -> Result<Ask<Elements>, Memory>
+        requires suits { SuitsPlace S.state self.old }
+        requires es { AreElements (frame_of S.state self.old) (nodes_of self.old) es }
+        requires x { IsCoded (frame_of S.state self.old) (nodes_of self.old) x }
+        ensures keeps { Keeps self.old self.new }
+        ensures notes { self.new.notes.now ≡ self.old.notes.now }
+        ensures codes { Codes S.state self.old self.new result AreElements elements_in
+            (λ c. gives (spec_element c (elements_in (nodes_of self.old) es) (coded_in (nodes_of self.old) x))) }
+    {
+        let set = with_elements(es.set, x.operand, x.operand);
+        let code = analysed!(self.element_code(es.code, x));
+        Ok(Ask::Known(Elements { set, code }))
+    }
 }
 
 /// The code of a set, then the bounds of a range, whose elements are added.
@@ -159,65 +159,69 @@ fn with_span(
     fragments.then(set, rest)
 }
 
-/// The codes of a set and of a bound, and then that of the other bound, and the elements are added.
-fn high_code<S: Scopes>(
-    scopes: &mut S,
-    site: &Site,
-    set: Fragment,
-    low: Fragment,
-    y: Coded,
-    fragments: &mut Fragments,
-) -> Result<Ask<Fragment>, Memory>
-    requires suits { SuitsSite (S.state scopes.old).frame site.now }
-    requires set { IsIn fragments.old.nodes.items set }
-    requires low { IsIn fragments.old.nodes.items low }
-    requires y { IsCoded (S.state scopes.old).frame fragments.old.nodes.items y }
-    ensures { (notes : NotesOf) → Coding (S.state scopes.old) (S.state scopes.new) notes notes fragments.old.nodes.items fragments.new.nodes.items site.now result IsFragment part (λ c. gives (part fragments.old.nodes.items set ⨟ part fragments.old.nodes.items low ⨟ spec_value c (coded_in fragments.old.nodes.items y) ⨟ plain (Instr.Span ∷ Instr.Union ∷ []))) }
-{
-    let high = analysed!(value_code(scopes, site, y, fragments));
-    let code = with_span(fragments, set, low, high)?;
-    Ok(Ask::Known(code))
-}
+impl<S: Scopes> Coder<'_, '_, S> {
+    /// The codes of a set and of a bound, and then that of the other bound, and the elements are added.
+    fn upper_code(
+        &mut self,
+        set: Fragment,
+        low: Fragment,
+        y: Coded,
+    ) -> Result<Ask<Fragment>, Memory>
+        requires suits { SuitsPlace S.state self.old }
+        requires set { IsIn (nodes_of self.old) set }
+        requires low { IsIn (nodes_of self.old) low }
+        requires y { IsCoded (frame_of S.state self.old) (nodes_of self.old) y }
+        ensures keeps { Keeps self.old self.new }
+        ensures notes { self.new.notes.now ≡ self.old.notes.now }
+        ensures codes { Codes S.state self.old self.new result IsFragment part
+            (λ c. gives (part (nodes_of self.old) set ⨟ part (nodes_of self.old) low
+            ⨟ spec_value c (coded_in (nodes_of self.old) y) ⨟ plain (Instr.Span ∷ Instr.Union ∷ []))) }
+    {
+        let high = analysed!(value_code(self.scopes, self.site, y, self.fragments));
+        let code = with_span(self.fragments, set, low, high)?;
+        Ok(Ask::Known(code))
+    }
 
-/// The code of a set, and then those of the bounds of a range, whose elements are added.
-fn range_code<S: Scopes>(
-    scopes: &mut S,
-    site: &Site,
-    set: Fragment,
-    x: Coded,
-    y: Coded,
-    fragments: &mut Fragments,
-) -> Result<Ask<Fragment>, Memory>
-    requires suits { SuitsSite (S.state scopes.old).frame site.now }
-    requires set { IsIn fragments.old.nodes.items set }
-    requires x { IsCoded (S.state scopes.old).frame fragments.old.nodes.items x }
-    requires y { IsCoded (S.state scopes.old).frame fragments.old.nodes.items y }
-    ensures { (notes : NotesOf) → Coding (S.state scopes.old) (S.state scopes.new) notes notes fragments.old.nodes.items fragments.new.nodes.items site.now result IsFragment part (λ c. gives (part fragments.old.nodes.items set ⨟ spec_value c (coded_in fragments.old.nodes.items x) ⨟ spec_value c (coded_in fragments.old.nodes.items y) ⨟ plain (Instr.Span ∷ Instr.Union ∷ []))) }
-{
-    let low = analysed!(value_code(scopes, site, x, fragments));
-    high_code(scopes, site, set, low, y, fragments)
-}
+    /// The code of a set, and then those of the bounds of a range, whose elements are added.
+    fn range_code(&mut self, set: Fragment, x: Coded, y: Coded) -> Result<Ask<Fragment>, Memory>
+        requires suits { SuitsPlace S.state self.old }
+        requires set { IsIn (nodes_of self.old) set }
+        requires x { IsCoded (frame_of S.state self.old) (nodes_of self.old) x }
+        requires y { IsCoded (frame_of S.state self.old) (nodes_of self.old) y }
+        ensures keeps { Keeps self.old self.new }
+        ensures notes { self.new.notes.now ≡ self.old.notes.now }
+        ensures codes { Codes S.state self.old self.new result IsFragment part
+            (λ c. gives (part (nodes_of self.old) set ⨟ spec_value c (coded_in (nodes_of self.old) x)
+            ⨟ spec_value c (coded_in (nodes_of self.old) y) ⨟ plain (Instr.Span ∷ Instr.Union ∷ []))) }
+    {
+        let low = analysed!(value_code(self.scopes, self.site, x, self.fragments));
+        self.upper_code(set, low, y)
+    }
 
-/// The elements so far, and those from `x` to `y`, which `element_coded` took; none where `x` is above `y`. Behind the
-/// code come both values, `Span` and `Union`, which leave the set on the stack. It waits as `value_code` does.
-#[tactic(auto, using(const_eval::proofs::TypesThere::there))]
-pub fn add_range<S: Scopes>(
-    scopes: &mut S,
-    site: &Site,
-    es: Elements,
-    x: Coded,
-    y: Coded,
-    fragments: &mut Fragments,
-) -> Result<Ask<Elements>, Memory>
-    requires suits { SuitsSite (S.state scopes.old).frame site.now }
-    requires es { AreElements (S.state scopes.old).frame fragments.old.nodes.items es }
-    requires x { IsCoded (S.state scopes.old).frame fragments.old.nodes.items x }
-    requires y { IsCoded (S.state scopes.old).frame fragments.old.nodes.items y }
-    ensures { (notes : NotesOf) → Coding (S.state scopes.old) (S.state scopes.new) notes notes fragments.old.nodes.items fragments.new.nodes.items site.now result AreElements elements_in (λ c. gives (spec_range c (elements_in fragments.old.nodes.items es) (coded_in fragments.old.nodes.items x) (coded_in fragments.old.nodes.items y))) }
-{
-    let set = with_elements(es.set, x.operand, y.operand);
-    let code = analysed!(range_code(scopes, site, es.code, x, y, fragments));
-    Ok(Ask::Known(Elements { set, code }))
+    /// The elements so far, and those from `x` to `y`, which `element_coded` took; none where `x` is above `y`.
+    /// Behind the code come both values, `Span` and `Union`, which leave the set on the stack. It waits as
+    /// `value_code` does.
+    #[tactic(auto, using(const_eval::proofs::TypesThere::there))]
+    pub(crate) fn add_range(
+        &mut self,
+        es: Elements,
+        x: Coded,
+        y: Coded,
+    ) -> Result<Ask<Elements>, Memory>
+        requires suits { SuitsPlace S.state self.old }
+        requires es { AreElements (frame_of S.state self.old) (nodes_of self.old) es }
+        requires x { IsCoded (frame_of S.state self.old) (nodes_of self.old) x }
+        requires y { IsCoded (frame_of S.state self.old) (nodes_of self.old) y }
+        ensures keeps { Keeps self.old self.new }
+        ensures notes { self.new.notes.now ≡ self.old.notes.now }
+        ensures codes { Codes S.state self.old self.new result AreElements elements_in
+            (λ c. gives (spec_range c (elements_in (nodes_of self.old) es)
+            (coded_in (nodes_of self.old) x) (coded_in (nodes_of self.old) y))) }
+    {
+        let set = with_elements(es.set, x.operand, y.operand);
+        let code = analysed!(self.range_code(es.code, x, y));
+        Ok(Ask::Known(Elements { set, code }))
+    }
 }
 
 /// The empty set, and then the code that adds the elements.

@@ -177,7 +177,7 @@ impl<S: Scopes> Coder<'_, '_, S> {
     }
 
     /// INCL or EXCL of a set and an element, unless one of them is in error.
-    pub fn included(&mut self, f: Builtin, x: Coded, e: Coded) -> Result<Ask<Coded>, Memory>
+    pub(crate) fn included(&mut self, f: Builtin, x: Coded, e: Coded) -> Result<Ask<Coded>, Memory>
         requires suits { SuitsPlace S.state self.old }
         requires x { IsCoded (frame_of S.state self.old) (nodes_of self.old) x }
         requires e { IsCoded (frame_of S.state self.old) (nodes_of self.old) e }

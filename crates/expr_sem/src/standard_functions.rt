@@ -291,7 +291,12 @@ impl<S: Scopes> Coder<'_, '_, S> {
     }
 
     /// A function of one argument; of other standard procedures nobody asks.
-    pub fn function_of_one(&mut self, f: Builtin, at: u32, x: Coded) -> Result<Ask<Coded>, Memory>
+    pub(crate) fn function_of_one(
+        &mut self,
+        f: Builtin,
+        at: u32,
+        x: Coded,
+    ) -> Result<Ask<Coded>, Memory>
         requires suits { SuitsPlace S.state self.old }
         requires x { IsCoded (frame_of S.state self.old) (nodes_of self.old) x }
         ensures keeps { Keeps self.old self.new }
@@ -330,7 +335,7 @@ impl<S: Scopes> Coder<'_, '_, S> {
     }
 
     /// VAL, of a type and a value.
-    pub fn value_of_type(&mut self, of: Placed, x: Placed) -> Result<Ask<Coded>, Memory>
+    pub(crate) fn value_of_type(&mut self, of: Placed, x: Placed) -> Result<Ask<Coded>, Memory>
         requires suits { SuitsPlace S.state self.old }
         requires of { IsCoded (frame_of S.state self.old) (nodes_of self.old) of.coded }
         requires x { IsCoded (frame_of S.state self.old) (nodes_of self.old) x.coded }

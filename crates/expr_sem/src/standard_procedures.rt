@@ -124,7 +124,12 @@ impl<S: Scopes> Coder<'_, '_, S> {
     }
 
     /// A standard procedure of one argument.
-    pub fn of_one_argument(&mut self, f: Builtin, at: u32, x: Coded) -> Result<Ask<Coded>, Memory>
+    pub(crate) fn of_one_argument(
+        &mut self,
+        f: Builtin,
+        at: u32,
+        x: Coded,
+    ) -> Result<Ask<Coded>, Memory>
         requires suits { SuitsPlace S.state self.old }
         requires x { IsCoded (frame_of S.state self.old) (nodes_of self.old) x }
         ensures keeps { Keeps self.old self.new }
@@ -140,7 +145,12 @@ impl<S: Scopes> Coder<'_, '_, S> {
     }
 
     /// The first of two arguments, before the second is looked at.
-    pub fn first_of_two(&mut self, f: Builtin, at: u32, x: Coded) -> Result<Ask<Coded>, Memory>
+    pub(crate) fn first_of_two(
+        &mut self,
+        f: Builtin,
+        at: u32,
+        x: Coded,
+    ) -> Result<Ask<Coded>, Memory>
         requires suits { SuitsPlace S.state self.old }
         requires x { IsCoded (frame_of S.state self.old) (nodes_of self.old) x }
         ensures keeps { Keeps self.old self.new }
@@ -204,7 +214,7 @@ impl<S: Scopes> Coder<'_, '_, S> {
     }
 
     /// A standard procedure of two arguments, of which the first is as `first_of_two` gives it; of others nobody asks.
-    pub fn of_two_arguments(
+    pub(crate) fn of_two_arguments(
         &mut self,
         f: Builtin,
         x: Placed,

@@ -178,7 +178,7 @@ pub fn either_bad(x: Operand, n: Operand) -> bool
 
 impl<S: Scopes> Coder<'_, '_, S> {
     /// INC or DEC of a variable by a number, unless one of them is in error.
-    pub fn stepped(&mut self, f: Builtin, x: Coded, n: Coded) -> Result<Ask<Coded>, Memory>
+    pub(crate) fn stepped(&mut self, f: Builtin, x: Coded, n: Coded) -> Result<Ask<Coded>, Memory>
         requires suits { SuitsPlace S.state self.old }
         requires x { IsCoded (frame_of S.state self.old) (nodes_of self.old) x }
         requires n { IsCoded (frame_of S.state self.old) (nodes_of self.old) n }

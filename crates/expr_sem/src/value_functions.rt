@@ -268,7 +268,7 @@ impl<S: Scopes> Coder<'_, '_, S> {
     }
 
     /// A rule on an argument, of which a value is wanted.
-    pub fn on_value(&mut self, rule: Rule, at: u32, x: Coded) -> Result<Ask<Coded>, Memory>
+    pub(crate) fn on_value(&mut self, rule: Rule, at: u32, x: Coded) -> Result<Ask<Coded>, Memory>
         requires suits { SuitsPlace S.state self.old }
         requires rule { IsRuleHere (frame_of S.state self.old) rule }
         requires x { IsCoded (frame_of S.state self.old) (nodes_of self.old) x }

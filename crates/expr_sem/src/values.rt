@@ -7,8 +7,8 @@ ghost use Rattle.m2_base.specs.Statics.Operands.{characters_of as spec_character
 ghost use Rattle.m2_base.specs.Statics.Ranges.{range};
 ghost use Rattle.m2_base.specs.declared.notes.Notes.{Notes as NotesOf};
 ghost use Rattle.m2_base.specs.declared.operands.Operand.TheVariants as OperandOf;
-ghost use Rattle.const_eval.specs.Sites.{IsOperand};
 ghost use Rattle.expr_sem.specs.Coded.{characters as spec_characters, is_structured as spec_structured, value_by, value_code as spec_value_code};
+ghost use Rattle.expr_sem.specs.Coders.{Codes, Keeps, SuitsPlace, frame_of, nodes_of};
 ghost use Rattle.expr_sem.specs.Codings.{Coding, IsCoded, IsFragment, coded_in};
 ghost use Rattle.expr_sem.specs.Fragments.{IsIn, IsMade, part};
 ghost use Rattle.expr_sem.specs.Parts.{text as spec_text};
@@ -22,9 +22,10 @@ ghost use Rattle.type_rules.specs.Sites.{SuitsSite};
 use crate::answers::answered;
 use crate::chains::instr_behind;
 use crate::coded::{Coded, Placed};
+use crate::coder::Coder;
 use crate::fragments::{Fragment, Fragments};
 use crate::levels::level_of;
-use crate::procedure_names::procedure_code;
+use crate::procedure_names::{Target, procedure_code};
 use crate::refusals::refused;
 use crate::takings::{Taking, taking_of};
 use code_form::Instr;
@@ -129,7 +130,7 @@ pub fn value_code<S: Scopes>(
         Operand::StringConstant(name, _) => answered(string_value(site, name, fragments)),
         Operand::Variable(of) => variable_value(scopes, site, of, x.code, fragments),
         Operand::Procedure(name, of, number, _) => {
-            procedure_code(scopes, site, name, of, number, fragments)
+            procedure_code(scopes, site, name, Target { of, number }, fragments)
         }
         _ => Ok(Ask::Known(x.code)),
     }
@@ -194,37 +195,33 @@ pub fn in_range<S: Scopes>(
     }
 }
 
-/// A value that a variable of a type takes, as it is taken: it must be assignable, or else is refused with this diagnostic,
-/// and a constant must lie in the type's range.
-pub fn assigned_to<S: Scopes>(
-    scopes: &mut S,
-    site: &Site,
-    to: Place,
-    at: u32,
-    refusal: Diagnostic,
-    x: Coded,
-    notes: &mut Notes,
-) -> Result<Ask<Coded>, Memory>
-    requires suits { SuitsSite (S.state scopes.old).frame site.now }
-    requires to { IsThere (S.state scopes.old).frame to }
-    requires x { IsOperand (S.state scopes.old).frame x.operand }
-    ensures { (nodes : List Node) → IsCoded (S.state scopes.old).frame nodes x → Coding (S.state scopes.old) (S.state scopes.new) notes.old notes.new nodes nodes site.now result IsCoded coded_in (λ c. spec_assigned_to c to at (code_of refusal) (coded_in nodes x)) }
-{
-    match taking_of(scopes, site, to, x.operand) {
-        Ask::Known(Taking::PassedOver) => Ok(Ask::Known(Coded::in_error())),
-        Ask::Known(Taking::Refused) => refused(site, at, refusal, notes),
-        Ask::Known(Taking::Taken(operand)) => {
-            in_range(
-                scopes,
-                site,
-                to,
-                Placed {
-                    at,
-                    coded: x.taken(operand),
-                },
-                notes,
-            )
+impl<S: Scopes> Coder<'_, '_, S> {
+    /// A value that a variable of a type takes, as it is taken: it must be assignable, or else is refused with this
+    /// diagnostic at its first token, and a constant must lie in the type's range. It makes no code, and waits for
+    /// the rows of both types.
+    pub fn assigned_to(
+        &mut self,
+        to: Place,
+        refusal: Diagnostic,
+        x: Placed,
+    ) -> Result<Ask<Coded>, Memory>
+        requires suits { SuitsPlace S.state self.old }
+        requires to { IsThere (frame_of S.state self.old) to }
+        requires x { IsCoded (frame_of S.state self.old) (nodes_of self.old) x.coded }
+        ensures keeps { Keeps self.old self.new }
+        ensures fragments { self.new.fragments.now ≡ self.old.fragments.now }
+        ensures codes { Codes S.state self.old self.new result IsCoded coded_in
+            (λ c. spec_assigned_to c to x.at (code_of refusal) (coded_in (nodes_of self.old) x.coded)) }
+    {
+        match taking_of(self.scopes, self.site, to, x.coded.operand) {
+            Ask::Known(Taking::PassedOver) => Ok(Ask::Known(Coded::in_error())),
+            Ask::Known(Taking::Refused) => refused(self.site, x.at, refusal, self.notes),
+            Ask::Known(Taking::Taken(operand)) => {
+                let coded = x.coded.taken(operand);
+                let taken = Placed { at: x.at, coded };
+                in_range(self.scopes, self.site, to, taken, self.notes)
+            }
+            Ask::DontKnowYet(head) => Ok(Ask::DontKnowYet(head)),
         }
-        Ask::DontKnowYet(head) => Ok(Ask::DontKnowYet(head)),
     }
 }

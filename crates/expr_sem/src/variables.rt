@@ -86,25 +86,6 @@ fn open_array(
     }
 }
 
-/// A variable, by its mode and the offset of its cell.
-fn variable(
-    site: &Site,
-    scope: u32,
-    mode: Mode,
-    offset: u32,
-    of: Place,
-    fragments: &mut Fragments,
-) -> Result<Ask<Coded>, Memory>
-    ensures { (state : State) (notes : Notes) (t : Place) → IsThere state.frame of → Coding state state notes notes fragments.old.nodes.items fragments.new.nodes.items site.now result IsCoded coded_in (λ c. gives (spec_with c.scene.block scope (Var t mode offset) (Variable of))) }
-{
-    let cell = cell_instr(site.around, scope, offset);
-    match mode {
-        Mode::Plain => variable_at(of, fragments.one(cell)),
-        Mode::ByAddress => variable_at(of, pair(cell, Instr::Load, fragments)),
-        Mode::Open => open_array(site, scope, offset, of, fragments),
-    }
-}
-
 /// A variable of this type, with the address that the row's meaning tells of, if it does.
 fn variable_by(
     site: &Site,
@@ -113,11 +94,18 @@ fn variable_by(
     of: Place,
     fragments: &mut Fragments,
 ) -> Result<Ask<Coded>, Memory>
-    ensures { (state : State) (notes : Notes) → IsThere state.frame of → Coding state state notes notes fragments.old.nodes.items fragments.new.nodes.items site.now result IsCoded coded_in (λ c. gives (spec_with c.scene.block scope meaning (Variable of))) }
+    ensures { (state : State) (notes : Notes) → IsThere state.frame of
+        → Coding state state notes notes fragments.old.nodes.items fragments.new.nodes.items site.now result
+        IsCoded coded_in (λ c. gives (spec_with c.scene.block scope meaning (Variable of))) }
 {
-    match meaning {
-        RowMeaning::Var(_, mode, offset) => variable(site, scope, mode, offset, of, fragments),
-        _ => Ok(Ask::Known(Coded::bare(Operand::Variable(of)))),
+    let RowMeaning::Var(_, mode, offset) = meaning else {
+        return Ok(Ask::Known(Coded::bare(Operand::Variable(of))));
+    };
+    let cell = cell_instr(site.around, scope, offset);
+    match mode {
+        Mode::Plain => variable_at(of, fragments.one(cell)),
+        Mode::ByAddress => variable_at(of, pair(cell, Instr::Load, fragments)),
+        Mode::Open => open_array(site, scope, offset, of, fragments),
     }
 }
 

@@ -6,4 +6,4 @@ use Rattle.expr_sem.proofs.calls.called_standard.Goals as goal
 pub returns : goal.returns
 returns c state nodes code =
     described c.allowed.result (c.allowed.ensures state nodes tt)
-    (λ k. standard_allowed k c.args.call.at c.args.call.is_wanted c.args.call.count c.standard_procedure-f.result (builtin_of c.args.name) c.is_function.result c.takes_count-is_count.result c.is_function.ensures c.takes_count-is_count.ensures c.standard_procedure-f.ensures)
+    (λ k. standard_allowed k c.args.call.at c.args.call.is_wanted c.args.call.count c.standard_procedure-f.result (builtin_of c.args.name) c.is_function.result c.takes_count.result c.is_function.ensures c.takes_count.ensures c.standard_procedure-f.ensures)

@@ -12,7 +12,7 @@ pub returns : goal.returns
 returns g c n =
     let f = (g.S.Scopes.state c.args.scopes.now).frame in
     let a = c.args.site.now.around.now in
-    made_told n c.one.result c.answered.result (λ k. spec_code k.scene (target_of_procedure k.scene c.args.name c.args.of c.args.number)) c.answered.ensures
+    made_told n c.one.result c.answered.result (λ k. spec_code k.scene (target_of_procedure k.scene c.args.name c.args.named.of c.args.named.number)) c.answered.ensures
     c.in-Ok.ensures.reads c.one.ensures.made
     (λ made in_hand told. c.instr_of_target.ensures (rows_of f made) ∙ ap (spec_code (scene_of f made a))
-    (subst (λ (x : Ask (Option Target)). IfKnown (Ok x) (λ t. option_map target_view t ≡ target_of_procedure (scene_of f made a) c.args.name c.args.of c.args.number)) c.in-Known.is (c.in-Ok.ensures.told made in_hand told)))
+    (subst (λ (x : Ask (Option Target)). IfKnown (Ok x) (λ t. option_map target_view t ≡ target_of_procedure (scene_of f made a) c.args.name c.args.named.of c.args.named.number)) c.in-Known.is (c.in-Ok.ensures.told made in_hand told)))

@@ -86,12 +86,12 @@ pub member-element_coded-requires-clause-base : goal.member-element_coded-requir
 member-element_coded-requires-clause-base g t c = there_after (rw c.in-Known.is at c.in-Ok.ensures.codes) c.args.base c.requires.base
 
 pub member-element_coded-requires-clause-x : goal.member-element_coded-requires-clause-x
-member-element_coded-requires-clause-x g t c = (stands_after (rw c.in-Known.is at c.in-Ok.ensures.codes)).operand
+member-element_coded-requires-clause-x g t c = stands_after (rw c.in-Known.is at c.in-Ok.ensures.codes)
 
 pub member-returns-clause-codes : goal.member-returns-clause-codes
 member-returns-clause-codes g t c =
     let one = (rw c.in-Known.is at c.in-Ok.ensures.codes) in
-    let two = (rw c.value_of.ensures.keeps.site at (c.element_coded.ensures c.value_of.new.self.fragments.now.nodes.items (stands_after one))) in
+    let two = (rw c.value_of.ensures.keeps.site at c.element_coded.ensures.codes) in
     described c.element_coded.result (coding_after (λ k. value k (with_types c.args.self.now.withs.now) (expr_view c.args.e.now)) (λ v k. element_coded k c.args.base c.args.e.now.at v) c.element_coded.result one two) (λ k. ap (λ (at : ℕ). and_then (value k (with_types c.args.self.now.withs.now) (expr_view c.args.e.now)) (λ v. element_coded k c.args.base at v)) (sym (at_seen c.args.e.now)))
 
 pub followed-value_of-requires : goal.followed-value_of-requires
@@ -215,7 +215,7 @@ element-returns-in-None-clause-codes g t c =
     let one = (rw c.in-Known.is at c.in-Ok.ensures.codes) in
     let es = elements_in c.args.self.now.fragments.now.nodes.items c.args.es in
     let low = coded_in c.member.new.self.fragments.now.nodes.items c.in-Known.value in
-    described c.add_element.result (coding_after (λ k. member k (with_types c.args.self.now.withs.now) c.args.base (expr_view (out-Label c.args.label.now).low)) (λ o k. gives (add_element k es o)) c.add_element.result one (described c.add_element.result ((rw c.member.ensures.keeps.site at (c.add_element.ensures c.member.new.self.notes.now))) (λ k. ap (λ (u : sets.Elements). gives (add_element k u low)) (elements_later one.grows c.args.es c.requires.es)))) (λ k. one_label_given k (with_types c.args.self.now.withs.now) c.args.base es (expr_view (out-Label c.args.label.now).low)
+    described c.add_element.result (coding_after (λ k. member k (with_types c.args.self.now.withs.now) c.args.base (expr_view (out-Label c.args.label.now).low)) (λ o k. gives (add_element k es o)) c.add_element.result one (described c.add_element.result ((rw c.member.ensures.keeps.site at c.add_element.ensures.codes)) (λ k. ap (λ (u : sets.Elements). gives (add_element k u low)) (elements_later one.grows c.args.es c.requires.es)))) (λ k. one_label_given k (with_types c.args.self.now.withs.now) c.args.base es (expr_view (out-Label c.args.label.now).low)
     ∙ ap (element k (with_types c.args.self.now.withs.now) c.args.base es) (sym (label_seen c.args.label.now ∙ ap (λ h. label_with (expr_view (out-Label c.args.label.now).low) (option_map expr_view h)) c.in-None.is)))
 
 pub element-returns-in-Some-clause-codes : goal.element-returns-in-Some-clause-codes
@@ -255,7 +255,7 @@ range_to-returns-clause-codes g t c =
     let es = elements_in c.args.self.now.fragments.now.nodes.items c.args.es in
     let low = coded_in c.args.self.now.fragments.now.nodes.items c.args.low in
     let high = coded_in c.member.new.self.fragments.now.nodes.items c.in-Known.value in
-    coding_after (λ k. member k (with_types c.args.self.now.withs.now) c.args.base (expr_view c.args.high.now)) (λ p k. gives (add_range k es low p)) c.add_range.result one (described c.add_range.result ((rw c.member.ensures.keeps.site at (c.add_range.ensures c.member.new.self.notes.now))) (λ k. ap (λ (u : sets.Elements). gives (add_range k u (coded_in c.member.new.self.fragments.now.nodes.items c.args.low) high)) (elements_later one.grows c.args.es c.requires.es) ∙ ap (λ (l : code.Coded). gives (add_range k es l high)) (coded_later one.grows c.args.low c.requires.low)))
+    coding_after (λ k. member k (with_types c.args.self.now.withs.now) c.args.base (expr_view c.args.high.now)) (λ p k. gives (add_range k es low p)) c.add_range.result one (described c.add_range.result ((rw c.member.ensures.keeps.site at c.add_range.ensures.codes)) (λ k. ap (λ (u : sets.Elements). gives (add_range k u (coded_in c.member.new.self.fragments.now.nodes.items c.args.low) high)) (elements_later one.grows c.args.es c.requires.es) ∙ ap (λ (l : code.Coded). gives (add_range k es l high)) (coded_later one.grows c.args.low c.requires.low)))
 
 pub designated-name_coded-requires-clause-named : goal.designated-name_coded-requires-clause-named
 designated-name_coded-requires-clause-named g t c = (designator_read c.args.self.now.site.now.texts.now.names c.args.of.now c.requires.read).0

@@ -25,4 +25,4 @@ returns-clause-codes g c =
     let first = rw c.in-Known.is at c.in-Ok.ensures c.args.self.now.notes.now in
     coding_after (λ k. gives (variable_called k.scene ps r (part ns c.args.code))) (λ v k. allowed_by k call.at call.is_wanted call.count ps r v) c.allowed.result first
     (described c.allowed.result (c.allowed.ensures (g.S.Scopes.state c.variable_callable.new.scopes) ms (holds_after first (λ (e : Frame). IsCallable e ms c.in-Known.value) first.there))
-    (λ k. parts_allowed k call.at call.is_wanted call.count ps r c.gives_value-gives_value.result c.takes-is_count.result (called_in ms c.in-Known.value) (called_in ms c.in-Known.value) c.gives_value-gives_value.ensures c.takes-is_count.ensures refl))
+    (λ k. parts_allowed k call.at call.is_wanted call.count ps r c.gives_value.result c.takes.result (called_in ms c.in-Known.value) (called_in ms c.in-Known.value) c.gives_value.ensures c.takes.ensures refl))

@@ -36,11 +36,11 @@ returns-clause-codes g c =
     let second = c.in-Ok-target_of_procedure.ensures in
     let there = stays_read (λ (e : Frame). IsSignature e c.in-Known.value) (Reads-trans first.reads second.reads) (rw c.in-Known.is at first.there) in
     after_question c.allowed.result first.reads
-    (after_question {h = λ k. allowed_by k call.at call.is_wanted call.count ps r (target_called k.scene ps r (spec_target k.scene c.args.name c.args.of c.args.number))} c.allowed.result second.reads
+    (after_question {h = λ k. allowed_by k call.at call.is_wanted call.count ps r (target_called k.scene ps r (spec_target k.scene c.args.name c.args.named.of c.args.named.number))} c.allowed.result second.reads
     (c.allowed.ensures (g.S.Scopes.state c.target_of_procedure.new.scopes) nodes (c.procedure_callable-what.ensures.there (g.S.Scopes.state c.target_of_procedure.new.scopes).frame nodes there))
     (λ made in_hand told. let k = context_of mid made s in
-    parts_allowed k call.at call.is_wanted call.count ps r c.gives_value-gives_value.result c.takes-is_count.result (called_in nodes c.procedure_callable-what.result) (target_called k.scene ps r (spec_target k.scene c.args.name c.args.of c.args.number)) c.gives_value-gives_value.ensures c.takes-is_count.ensures
+    parts_allowed k call.at call.is_wanted call.count ps r c.gives_value.result c.takes.result (called_in nodes c.procedure_callable-what.result) (target_called k.scene ps r (spec_target k.scene c.args.name c.args.named.of c.args.named.number)) c.gives_value.ensures c.takes.ensures
     (c.procedure_callable-what.ensures.told (rows_of mid made) nodes ∙ ap (target_called k.scene ps r) (rw c.in-Known-asked.is at second.told made in_hand told))))
     (λ made in_hand told. let k = context_of f made s in
     let signed = rw c.in-Known.is at first.told made in_hand told in
-    type_allowed k call.at call.is_wanted call.count ps r c.args.of (spec_target k.scene c.args.name c.args.of c.args.number) signed.params signed.result)
+    type_allowed k call.at call.is_wanted call.count ps r c.args.named.of (spec_target k.scene c.args.name c.args.named.of c.args.named.number) signed.params signed.result)

@@ -3,7 +3,7 @@ use Rattle.expr_sem.specs.Codings.{with_types}
 use Rattle.expr_sem.proofs.Causes.{value-refused}
 use Rattle.expr_sem.proofs.RefusedLaw.{value-quiet}
 use Rattle.expr_sem.proofs.Evaluating.{evaluated_there, evaluates, evaluates_later, evaluates_none, same_piece, sound_from_none}
-use Rattle.expr_sem.proofs.coder.Coder.append_value.Goals as goal
+use Rattle.expr_sem.proofs.coder.Coder.value.Goals as goal
 
 pub returns-in-DontKnowYet-clause-codes : goal.returns-in-DontKnowYet-clause-codes
 returns-in-DontKnowYet-clause-codes g c = evaluates_later c.args.piece.now c.args.piece.now c.args.self.now.withs.now (rw c.in-DontKnowYet.is at c.in-Ok.ensures.codes) (same_piece c.args.piece.now)
