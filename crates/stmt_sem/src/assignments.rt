@@ -18,8 +18,8 @@ use crate::walker::Walker;
 use code_form::Instr;
 use const_eval::is_bad;
 use expr_sem::{
-    Coded, Fragment, Fragments, Placed, answered, assigned_to, cells_of, characters, fitted_code,
-    instr_behind, is_structured, value_code,
+    Coded, Fragment, Fragments, Placed, answered, cells_of, characters, fitted_code, instr_behind,
+    is_structured, value_code,
 };
 use m2_base::{Ask, Diagnostic, Memory, Operand, Scopes, Site};
 use type_rules::operand_type;
@@ -134,16 +134,7 @@ impl<S: Scopes> Walker<'_, S> {
             return Ok(Ask::Known(Fragment::Nothing));
         }
         let of = operand_type(&to.operand);
-        let refusal = Diagnostic::NotAssignable;
-        let value = analysed!(assigned_to(
-            self.scopes,
-            stand.site,
-            of,
-            x.at,
-            refusal,
-            x.coded,
-            self.notes
-        ));
+        let value = analysed!(self.assigned_to(stand, of, Diagnostic::NotAssignable, x));
         store_code(
             self.scopes,
             stand.site,

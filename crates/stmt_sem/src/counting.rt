@@ -34,8 +34,7 @@ use crate::walker::Walker;
 use code_form::Instr;
 use const_eval::{constant, is_bad};
 use expr_sem::{
-    Coded, Fragment, Fragments, answered, assigned_to, fitted_code, instr_behind, pair, side_of,
-    value_of,
+    Coded, Fragment, Fragments, Placed, answered, fitted_code, instr_behind, pair, side_of,
 };
 use m2_base::{Ask, Diagnostic, Expr, Memory, Notes, Operand, Place, Scopes, Site};
 use type_rules::{WHOLE, base_of, is_integer_or_cardinal, operand_type};
@@ -64,27 +63,13 @@ impl<S: Scopes> Walker<'_, S> {
         ensures nodes { KeepsNodes self.old self.new }
         ensures codes { Codes S.state self.old self.new stand.now result IsCoded coded_in (λ s. and_then (value_at s (expr_view e.now)) (bound_value s.context (coded_in (nodes_of self.old) x) (expr_at (expr_view e.now)))) }
     {
-        let v = analysed!(value_of(
-            self.scopes,
-            stand.site,
-            stand.withs,
-            e,
-            &mut self.flows.fragments,
-            self.notes
-        ));
+        let coded = analysed!(self.value_of(stand, e));
         if is_bad(x.operand) {
             return Ok(Ask::Known(Coded::in_error()));
         }
         let of = operand_type(&x.operand);
-        assigned_to(
-            self.scopes,
-            stand.site,
-            of,
-            e.at,
-            Diagnostic::NotAssignable,
-            v,
-            self.notes,
-        )
+        let value = Placed { at: e.at, coded };
+        self.assigned_to(stand, of, Diagnostic::NotAssignable, value)
     }
 }
 

@@ -47,6 +47,7 @@ mod block_pieces;
 mod bodies;
 mod cases;
 mod code_appending;
+mod coders;
 mod control_variables;
 mod counting;
 mod flow_appending;

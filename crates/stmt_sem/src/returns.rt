@@ -20,7 +20,7 @@ use crate::stands::Stand;
 use crate::walker::Walker;
 use code_form::Instr;
 use const_eval::is_bad;
-use expr_sem::{Coded, Fragment, Fragments, Placed, Step, answered, assigned_to, fitted_code};
+use expr_sem::{Coded, Fragment, Fragments, Placed, Step, answered, fitted_code};
 use m2_base::{Ask, Diagnostic, Memory, Notes, Place, Scopes, Site};
 
 /// The end of a procedure that has no result.
@@ -114,16 +114,7 @@ impl<S: Scopes> Walker<'_, S> {
         ensures nodes { KeepsNodes self.old self.new }
         ensures codes { Codes S.state self.old self.new stand.now result IsFragment part (λ s. and_then (spec_assigned s.context of x.at not_assignable (coded_in (nodes_of self.old) x.coded)) (λ v. gives (spec_returned s.context of v))) }
     {
-        let refusal = Diagnostic::NotAssignable;
-        let value = analysed!(assigned_to(
-            self.scopes,
-            stand.site,
-            of,
-            x.at,
-            refusal,
-            x.coded,
-            self.notes
-        ));
+        let value = analysed!(self.assigned_to(stand, of, Diagnostic::NotAssignable, x));
         returned(
             self.scopes,
             stand.site,

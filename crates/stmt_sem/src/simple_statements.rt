@@ -23,7 +23,7 @@ use crate::flows::{Code, Flow, Flows};
 use crate::refusals::noted;
 use crate::stands::Stand;
 use crate::walker::Walker;
-use expr_sem::{Placed, value_of};
+use expr_sem::Placed;
 use m2_base::{Ask, Designator, Diagnostic, Expr, Memory, Notes, Scopes};
 
 impl<S: Scopes> Walker<'_, S> {
@@ -42,14 +42,7 @@ impl<S: Scopes> Walker<'_, S> {
         ensures walks { Walks S.state self.old self.new stand.now result IsFlow flow_in (λ s. form_of s (assign_form (designator_view to.now) (expr_view value.now))) }
     {
         let variable = analysed!(self.variable(stand, to));
-        let coded = analysed!(value_of(
-            self.scopes,
-            stand.site,
-            stand.withs,
-            value,
-            &mut self.flows.fragments,
-            self.notes
-        ));
+        let coded = analysed!(self.value_of(stand, value));
         let x = Placed {
             at: value.at,
             coded,

@@ -18,7 +18,7 @@ use crate::returns::return_alone;
 use crate::stands::Stand;
 use crate::walker::Walker;
 use crate::withs::record_variable;
-use expr_sem::{Coded, Fragment, Placed, as_variable, call_alone, designated, value_of};
+use expr_sem::{Coded, Fragment, Placed, as_variable};
 use m2_base::{Ask, Designator, Expr, Memory, Scopes};
 
 impl<S: Scopes> Walker<'_, S> {
@@ -30,14 +30,7 @@ impl<S: Scopes> Walker<'_, S> {
         ensures nodes { KeepsNodes self.old self.new }
         ensures codes { Codes S.state self.old self.new stand.now result IsCoded coded_in (λ s. spec_variable s (designator_view of.now)) }
     {
-        let x = analysed!(designated(
-            self.scopes,
-            stand.site,
-            stand.withs,
-            of,
-            &mut self.flows.fragments,
-            self.notes
-        ));
+        let x = analysed!(self.designated(stand, of));
         as_variable(stand.site, of.first.at, x, self.notes)
     }
 
@@ -49,14 +42,7 @@ impl<S: Scopes> Walker<'_, S> {
         ensures nodes { KeepsNodes self.old self.new }
         ensures codes { Codes S.state self.old self.new stand.now result IsFragment part (λ s. spec_test s (expr_view e.now)) }
     {
-        let coded = analysed!(value_of(
-            self.scopes,
-            stand.site,
-            stand.withs,
-            e,
-            &mut self.flows.fragments,
-            self.notes
-        ));
+        let coded = analysed!(self.value_of(stand, e));
         let x = Placed { at: e.at, coded };
         self.test_code(stand, x)
     }
@@ -75,15 +61,7 @@ impl<S: Scopes> Walker<'_, S> {
         ensures nodes { KeepsNodes self.old self.new }
         ensures codes { Codes S.state self.old self.new stand.now result IsFragment part (λ s. spec_called s (designator_view of.now) (exprs (map expr_view args.now))) }
     {
-        let x = analysed!(call_alone(
-            self.scopes,
-            stand.site,
-            stand.withs,
-            of,
-            args,
-            &mut self.flows.fragments,
-            self.notes
-        ));
+        let x = analysed!(self.call_alone(stand, of, args));
         Ok(Ask::Known(code_unless_bad(x)))
     }
 
@@ -109,14 +87,7 @@ impl<S: Scopes> Walker<'_, S> {
                 self.notes,
             ),
             Some(e) => {
-                let coded = analysed!(value_of(
-                    self.scopes,
-                    stand.site,
-                    stand.withs,
-                    e,
-                    &mut self.flows.fragments,
-                    self.notes
-                ));
+                let coded = analysed!(self.value_of(stand, e));
                 let x = Placed { at: e.at, coded };
                 self.return_value(stand, at, x)
             }
@@ -149,14 +120,7 @@ impl<S: Scopes> Walker<'_, S> {
         ensures nodes { KeepsNodes self.old self.new }
         ensures codes { Codes S.state self.old self.new stand.now result IsSelector selector_in (λ s. spec_selector s (expr_view e.now)) }
     {
-        let coded = analysed!(value_of(
-            self.scopes,
-            stand.site,
-            stand.withs,
-            e,
-            &mut self.flows.fragments,
-            self.notes
-        ));
+        let coded = analysed!(self.value_of(stand, e));
         let x = Placed { at: e.at, coded };
         self.typed_selector(stand, x)
     }

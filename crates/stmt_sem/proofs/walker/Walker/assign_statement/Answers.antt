@@ -6,7 +6,7 @@ use Rattle.const_eval.proofs.ReadParts.{at_seen}
 use Rattle.expr_sem.specs.Coded as code
 use Rattle.expr_sem.specs.Codings.{coded_in, with_types}
 use Rattle.expr_sem.specs.Expressions.{value}
-use Rattle.expr_sem.proofs.Onwards.{coded_after, suits_after}
+use Rattle.expr_sem.proofs.Onwards.{coded_after}
 use Rattle.expr_sem.proofs.Operating.{coded_later}
 use Rattle.expr_sem.proofs.Walking.{stands_after}
 use Rattle.stmt_sem.specs.Assignments.{assignment}
@@ -14,11 +14,10 @@ use Rattle.stmt_sem.specs.Flows.{straight}
 use Rattle.stmt_sem.specs.Stands.{stand_in}
 use Rattle.stmt_sem.specs.Stated.{answer_of}
 use Rattle.stmt_sem.specs.Statements.{variable}
-use Rattle.stmt_sem.specs.declared.flows.Flows.{Flows}
 use Rattle.stmt_sem.proofs.Flowed.{by_answer, described, flowing_after, made_after, unknown, unknown_after, unmade, unmade_after}
 use Rattle.stmt_sem.proofs.FlowsBehind.{stand_on, unknown_behind, unmade_behind}
 use Rattle.stmt_sem.proofs.FlowsKept.{Grows-trans}
-use Rattle.stmt_sem.proofs.Walked.{of_code, of_part}
+use Rattle.stmt_sem.proofs.Walked.{of_part}
 use Rattle.m2_base.proofs.Kept.{Works-trans}
 use Rattle.stmt_sem.proofs.walker.Walker.assign_statement.Goals as goal
 
@@ -28,43 +27,43 @@ returns-in-DontKnowYet-clause-walks g c = unknown (of_part c.args.self.now.flows
 pub returns-in-Err-clause-walks : goal.returns-in-Err-clause-walks
 returns-in-Err-clause-walks g c = unmade (of_part c.args.self.now.flows.now c.variable.new.self.flows.now _ c.in-Err.ensures.codes c.variable.ensures.nodes) _
 
-pub value_of-requires-clause-suits : goal.value_of-requires-clause-suits
-value_of-requires-clause-suits g c = suits_after (rw c.in-Known.is at c.in-Ok.ensures.codes) c.requires.stand.suits
+pub value_of-requires-clause-stand : goal.value_of-requires-clause-stand
+value_of-requires-clause-stand g c = stand_on (rw c.in-Known.is at c.in-Ok.ensures.codes) c.args.stand.now c.requires.stand
 
 pub returns-in-DontKnowYet-asked-clause-walks : goal.returns-in-DontKnowYet-asked-clause-walks
 returns-in-DontKnowYet-asked-clause-walks g c =
     let one = of_part c.args.self.now.flows.now c.variable.new.self.flows.now _ (rw c.in-Known.is at c.in-Ok.ensures.codes) c.variable.ensures.nodes in
-    unknown_after one (of_code c.variable.new.self.flows.now c.value_of.new.fragments _ (rw c.in-DontKnowYet-asked.is at c.in-Ok-value_of.ensures))
+    unknown_after one (of_part c.variable.new.self.flows.now c.value_of.new.self.flows.now _ (rw c.in-DontKnowYet-asked.is at c.in-Ok-value_of.ensures.codes) c.value_of.ensures.nodes)
 
 pub returns-in-Err-value_of-clause-walks : goal.returns-in-Err-value_of-clause-walks
 returns-in-Err-value_of-clause-walks g c =
     let one = of_part c.args.self.now.flows.now c.variable.new.self.flows.now _ (rw c.in-Known.is at c.in-Ok.ensures.codes) c.variable.ensures.nodes in
-    unmade_after one (of_code c.variable.new.self.flows.now c.value_of.new.fragments _ c.in-Err-value_of.ensures) _
+    unmade_after one (of_part c.variable.new.self.flows.now c.value_of.new.self.flows.now _ c.in-Err-value_of.ensures.codes c.value_of.ensures.nodes) _
 
 pub assignment-requires-clause-stand : goal.assignment-requires-clause-stand
 assignment-requires-clause-stand g c =
-    stand_on (rw c.in-Known-asked.is at c.in-Ok-value_of.ensures) c.args.stand.now (stand_on (rw c.in-Known.is at c.in-Ok.ensures.codes) c.args.stand.now c.requires.stand)
+    stand_on (rw c.in-Known-asked.is at c.in-Ok-value_of.ensures.codes) c.args.stand.now (stand_on (rw c.in-Known.is at c.in-Ok.ensures.codes) c.args.stand.now c.requires.stand)
 
 pub assignment-requires-clause-to : goal.assignment-requires-clause-to
-assignment-requires-clause-to g c = coded_after (rw c.in-Known-asked.is at c.in-Ok-value_of.ensures) c.in-Known.value (stands_after (rw c.in-Known.is at c.in-Ok.ensures.codes))
+assignment-requires-clause-to g c = coded_after (rw c.in-Known-asked.is at c.in-Ok-value_of.ensures.codes) c.in-Known.value (stands_after (rw c.in-Known.is at c.in-Ok.ensures.codes))
 
 pub assignment-requires-clause-x : goal.assignment-requires-clause-x
-assignment-requires-clause-x g c = stands_after (rw c.in-Known-asked.is at c.in-Ok-value_of.ensures)
+assignment-requires-clause-x g c = stands_after (rw c.in-Known-asked.is at c.in-Ok-value_of.ensures.codes)
 
 pub returns-in-DontKnowYet-asked-2-clause-walks : goal.returns-in-DontKnowYet-asked-2-clause-walks
 returns-in-DontKnowYet-asked-2-clause-walks g c =
     let fs1 = c.variable.new.self.flows.now in
-    let fs2 : Flows = record { fragments = c.value_of.new.fragments; nodes = fs1.nodes } in
+    let fs2 = c.value_of.new.self.flows.now in
     let one = of_part c.args.self.now.flows.now fs1 _ (rw c.in-Known.is at c.in-Ok.ensures.codes) c.variable.ensures.nodes in
-    let two = of_code fs1 c.value_of.new.fragments _ (rw c.in-Known-asked.is at c.in-Ok-value_of.ensures) in
+    let two = of_part fs1 fs2 _ (rw c.in-Known-asked.is at c.in-Ok-value_of.ensures.codes) c.value_of.ensures.nodes in
     unknown_behind (Works-trans one.works two.works) (Grows-trans one.grows two.grows) (of_part fs2 c.assignment.new.self.flows.now _ (rw c.in-DontKnowYet-asked-2.is at c.in-Ok-assignment.ensures.codes) c.assignment.ensures.nodes)
 
 pub returns-in-Err-assignment-clause-walks : goal.returns-in-Err-assignment-clause-walks
 returns-in-Err-assignment-clause-walks g c =
     let fs1 = c.variable.new.self.flows.now in
-    let fs2 : Flows = record { fragments = c.value_of.new.fragments; nodes = fs1.nodes } in
+    let fs2 = c.value_of.new.self.flows.now in
     let one = of_part c.args.self.now.flows.now fs1 _ (rw c.in-Known.is at c.in-Ok.ensures.codes) c.variable.ensures.nodes in
-    let two = of_code fs1 c.value_of.new.fragments _ (rw c.in-Known-asked.is at c.in-Ok-value_of.ensures) in
+    let two = of_part fs1 fs2 _ (rw c.in-Known-asked.is at c.in-Ok-value_of.ensures.codes) c.value_of.ensures.nodes in
     unmade_behind (Works-trans one.works two.works) (Grows-trans one.grows two.grows) (of_part fs2 c.assignment.new.self.flows.now _ c.in-Err-assignment.ensures.codes c.assignment.ensures.nodes) _
 
 pub returns-clause-walks : goal.returns-clause-walks
@@ -75,13 +74,13 @@ returns-clause-walks g c =
     let at = expr_at (expr_view e) in
     let ws = with_types s.withs.now in
     let fs1 = c.variable.new.self.flows.now in
-    let fs2 : Flows = record { fragments = c.value_of.new.fragments; nodes = fs1.nodes } in
+    let fs2 = c.value_of.new.self.flows.now in
     let to = coded_in fs1.fragments.nodes.items c.in-Known.value in
-    let x = coded_in c.value_of.new.fragments.nodes.items c.in-Known-asked.value in
+    let x = coded_in fs2.fragments.nodes.items c.in-Known-asked.value in
     let first = rw c.in-Known.is at c.in-Ok.ensures.codes in
-    let second = rw c.in-Known-asked.is at c.in-Ok-value_of.ensures in
+    let second = rw c.in-Known-asked.is at c.in-Ok-value_of.ensures.codes in
     let one = of_part c.args.self.now.flows.now fs1 _ first c.variable.ensures.nodes in
-    let two = of_code fs1 c.value_of.new.fragments _ second in
+    let two = of_part fs1 fs2 _ second c.value_of.ensures.nodes in
     let three = described _ (of_part fs2 c.assignment.new.self.flows.now _ (rw c.in-Known-asked-2.is at c.in-Ok-assignment.ensures.codes) c.assignment.ensures.nodes)
     (λ k. ap (λ (u : code.Coded). assignment k u e.at x) (coded_later second.grows c.in-Known.value first.there) ∙ ap (λ (n : ℕ). assignment k to n x) (sym (at_seen e))) in
     let r = answer_of c.straight.result in

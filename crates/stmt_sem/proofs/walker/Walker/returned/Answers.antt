@@ -22,9 +22,9 @@ returns-in-Known-clause-codes g c =
     let e = c.in-Some.e in
     let s = c.args.stand.now in
     let ws = with_types s.withs.now in
-    described c.return_value.result (coding_after (λ k. value k ws (expr_view e)) (λ x k. return_value k c.args.at s.result e.at x) c.return_value.result (rw c.in-Known.is at c.in-Ok.ensures) c.return_value.ensures.codes)
+    described c.return_value.result (coding_after (λ k. value k ws (expr_view e)) (λ x k. return_value k c.args.at s.result e.at x) c.return_value.result (rw c.in-Known.is at c.in-Ok.ensures.codes) c.return_value.ensures.codes)
     (λ k. ap (λ (at : ℕ). and_then (value k ws (expr_view e)) (λ x. return_value k c.args.at s.result at x)) (sym (at_seen e))
     ∙ ap (λ (v : Option Expr). return_of (stand_in k s) c.args.at (option_map expr_view v)) (sym c.in-Some.is))
 
 pub return_value-requires-clause-stand : goal.return_value-requires-clause-stand
-return_value-requires-clause-stand g c = stand_on (rw c.in-Known.is at c.in-Ok.ensures) c.args.stand.now c.requires.stand
+return_value-requires-clause-stand g c = stand_on (rw c.in-Known.is at c.in-Ok.ensures.codes) c.args.stand.now c.requires.stand

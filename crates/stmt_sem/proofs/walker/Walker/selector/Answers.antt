@@ -12,21 +12,21 @@ use Rattle.stmt_sem.proofs.FlowsBehind.{stand_on}
 use Rattle.stmt_sem.proofs.walker.Walker.selector.Goals as goal
 
 pub returns-in-DontKnowYet-clause-codes : goal.returns-in-DontKnowYet-clause-codes
-returns-in-DontKnowYet-clause-codes g c = unknown (rw c.in-DontKnowYet.is at c.in-Ok.ensures)
+returns-in-DontKnowYet-clause-codes g c = unknown (rw c.in-DontKnowYet.is at c.in-Ok.ensures.codes)
 
 pub returns-in-Err-clause-codes : goal.returns-in-Err-clause-codes
-returns-in-Err-clause-codes g c = unmade c.in-Err.ensures _
+returns-in-Err-clause-codes g c = unmade c.in-Err.ensures.codes _
 
 pub typed_selector-requires-clause-stand : goal.typed_selector-requires-clause-stand
-typed_selector-requires-clause-stand g c = stand_on (rw c.in-Known.is at c.in-Ok.ensures) c.args.stand.now c.requires.stand
+typed_selector-requires-clause-stand g c = stand_on (rw c.in-Known.is at c.in-Ok.ensures.codes) c.args.stand.now c.requires.stand
 
 pub typed_selector-requires-clause-x : goal.typed_selector-requires-clause-x
-typed_selector-requires-clause-x g c = stands_after (rw c.in-Known.is at c.in-Ok.ensures)
+typed_selector-requires-clause-x g c = stands_after (rw c.in-Known.is at c.in-Ok.ensures.codes)
 
 pub returns-clause-codes : goal.returns-clause-codes
 returns-clause-codes g c =
     let e = c.args.e.now in
     let s = c.args.stand.now in
     let ws = with_types c.args.stand.now.withs.now in
-    described c.typed_selector.result (coding_after (λ k. value k ws (expr_view e)) (λ x k. typed_selector (stand_in k s) e.at x) c.typed_selector.result (rw c.in-Known.is at c.in-Ok.ensures) c.typed_selector.ensures.codes)
+    described c.typed_selector.result (coding_after (λ k. value k ws (expr_view e)) (λ x k. typed_selector (stand_in k s) e.at x) c.typed_selector.result (rw c.in-Known.is at c.in-Ok.ensures.codes) c.typed_selector.ensures.codes)
     (λ k. ap (λ (at : ℕ). and_then (value k ws (expr_view e)) (λ x. typed_selector (stand_in k s) at x)) (sym (at_seen e)))
