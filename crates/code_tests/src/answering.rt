@@ -5,6 +5,8 @@ ghost use Rattle.m2_base.specs.Lists.{Each};
 ghost use Rattle.m2_base.specs.Statics.ReadTrees.{AreReadExprs, IsReadDesignator, IsReadExpr};
 ghost use Rattle.m2_base.specs.Trees.{exprs};
 ghost use Rattle.m2_base.specs.Views.{designator_view, expr_view, stream_view};
+ghost use Rattle.expr_sem.specs.Coders.{Keeps, SeesWiths, SuitsPlace, frame_of, names_of, nodes_of};
+ghost use Rattle.expr_sem.specs.Fragments.{AreSound};
 ghost use Rattle.scope_core.specs.PlainScopes.{state_of};
 ghost use Rattle.type_rules.specs.Scenes.{IsThere};
 ghost use Rattle.type_rules.specs.Sites.{SuitsSite};
@@ -12,7 +14,7 @@ ghost use Rattle.m2_samples.specs.Filled.{IsFull, around_at, scope_at};
 ghost use Rattle.m2_samples.specs.Samples.{IsSample};
 
 use code_form::{Instr, encode};
-use expr_sem::{Fragments, Piece, Step, With, address, append, call_alone, value};
+use expr_sem::{Coder, Fragments, Piece, Step, With, append};
 use m2_base::{Ask, Designator, Expr, ExprForm, Memory, Notes, Operand, Site};
 use m2_samples::Block;
 use scope_core::PlainScopes;
@@ -45,25 +47,22 @@ pub(crate) fn no_code(alloc: Global) -> Piece {
 
 /// Appends the code of a call as a statement.
 fn called(
-    scopes: &mut PlainScopes,
-    site: &Site,
-    withs: &[With],
+    coder: &mut Coder<'_, '_, PlainScopes>,
     to: &Designator,
     args: &[Expr],
     piece: &mut Piece,
 ) -> Result<bool, Memory>
-    requires suits { SuitsSite (state_of scopes.old).frame site.now }
-    requires withs { Each (λ w. IsThere (state_of scopes.old).frame w.of) withs.now }
-    requires to { IsReadDesignator site.now.texts.now.names (designator_view to.now) }
-    requires args { AreReadExprs site.now.texts.now.names (exprs (map expr_view args.now)) }
-    ensures { (state_of scopes.new).frame ≡ (state_of scopes.old).frame }
+    requires suits { SuitsPlace state_of coder.old }
+    requires withs { SeesWiths state_of coder.old }
+    requires sound { AreSound (nodes_of coder.old) }
+    requires to { IsReadDesignator (names_of coder.old) (designator_view to.now) }
+    requires args { AreReadExprs (names_of coder.old) (exprs (map expr_view args.now)) }
+    ensures keeps { Keeps coder.old coder.new }
+    ensures frame { frame_of state_of coder.new ≡ frame_of state_of coder.old }
 {
-    let alloc = *piece.steps.allocator();
-    let mut fragments = Fragments::new(alloc);
-    let mut notes = Notes::new(alloc);
-    match call_alone(scopes, site, withs, to, args, &mut fragments, &mut notes)? {
+    match coder.call_alone(to, args)? {
         Ask::Known(x) if x.operand != Operand::InError => {
-            append(&fragments, x.code, withs, piece)?;
+            append(coder.fragments, x.code, coder.withs, piece)?;
             Ok(true)
         }
         _ => Ok(false),
@@ -90,15 +89,20 @@ fn asked_at(
     requires read { IsReadExpr site.now.texts.now.names (expr_view e.now) }
     ensures { (state_of scopes.new).frame ≡ (state_of scopes.old).frame }
 {
-    let mut notes = Notes::new(*piece.steps.allocator());
+    let alloc = *piece.steps.allocator();
+    let mut fragments = Fragments::new(alloc);
+    let mut notes = Notes::new(alloc);
+    let mut coder = Coder {
+        scopes,
+        site,
+        withs,
+        fragments: &mut fragments,
+        notes: &mut notes,
+    };
     let known = match (question, &e.form) {
-        (Question::Value, _) => is_known(value(scopes, site, withs, e, piece, &mut notes)?),
-        (Question::Address, ExprForm::Name(of)) => {
-            is_known(address(scopes, site, withs, of, piece, &mut notes)?)
-        }
-        (Question::Call, ExprForm::Call { to, args }) => {
-            called(scopes, site, withs, to, args, piece)?
-        }
+        (Question::Value, _) => is_known(coder.value(e, piece)?),
+        (Question::Address, ExprForm::Name(of)) => is_known(coder.address(of, piece)?),
+        (Question::Call, ExprForm::Call { to, args }) => called(&mut coder, to, args, piece)?,
         _ => false,
     };
     if known { Ok(()) } else { Err(Memory) }
