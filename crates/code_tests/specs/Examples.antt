@@ -6,7 +6,10 @@ use Rattle.m2_base.specs.Statics.BlockRows.{declare_block}
 use Rattle.m2_base.specs.Statics.Blocks.{BlockTree, UnitTrees, blocks_of}
 use Rattle.m2_base.specs.Statics.Contexts.{Source}
 use Rattle.m2_base.specs.Statics.UnitRows.{unit_rows}
-use Rattle.m2_base.specs.Trees.{Decl, Designator, Expr, Heading, Section, Statement, Statements, Stream, assign_form, call_form, call_statement, designator, expr, more_exprs, more_statements, name_form, named_type, no_exprs, no_selectors, no_statements, number_form, proc_decl, return_form, statement, type_decl, type_expr, vars_decl}
+use Rattle.m2_base.specs.Trees.{Decl, Designator, Expr, Heading, Section, Statement, Statements, Stream, assign_form}
+use Rattle.m2_base.specs.Trees.{call_form, call_statement, designator, expr, more_exprs, more_statements, name_form}
+use Rattle.m2_base.specs.Trees.{named_type, no_exprs, no_selectors, no_statements, number_form, proc_decl, return_form}
+use Rattle.m2_base.specs.Trees.{statement, type_decl, type_expr, vars_decl}
 use Rattle.m2_base.specs.declared.notes.Diag.{Diag}
 use Rattle.m2_base.specs.declared.rows.Row.{Row}
 use Rattle.m2_base.specs.declared.trees.Ident.{Ident}
@@ -18,7 +21,8 @@ use Rattle.stmt_sem.specs.BlockCode.{block_diags}
 abbrev pub noted_from : Source → (before all : List (List Row)) → List BlockTree → List Diag
 noted_from source before all [] = []
 noted_from source before all (b ∷ blocks) =
-    block_diags source before all b ++ noted_from source (before ++ (declare_block source before b).rows ∷ []) all blocks
+    block_diags source before all b
+    ++ noted_from source (before ++ (declare_block source before b).rows ∷ []) all blocks
 
 -- the diagnostics of a unit's blocks
 abbrev pub noted : UnitTrees → List Diag
@@ -59,7 +63,8 @@ own_name_main =
       name = Some (ident 28 1);
       imports = [];
       heading = None;
-      decls = type_decl (ident 29 4) (Some (type_expr 6 (named_type (type_name 3 6)))) ∷ proc_decl own_name_heading 2 ∷ [];
+      decls = type_decl (ident 29 4) (Some (type_expr 6 (named_type (type_name 3 6)))) ∷ proc_decl own_name_heading 2
+          ∷ [];
       body = no_statements;
       close = ident 28 27;
     }
@@ -121,7 +126,10 @@ implementation_of decls body =
 abbrev lacking : List Section → (result : Option Qual) → List Decl → Statements → UnitTrees
 lacking sections result decls body =
     record {
-      source = record { spellings = standard_names ++ codes "A" ∷ codes "F" ∷ codes "x" ∷ codes "y" ∷ []; definitions = record { name = 28; text = 1 } ∷ [] };
+      source = record {
+        spellings = standard_names ++ codes "A" ∷ codes "F" ∷ codes "x" ∷ codes "y" ∷ [];
+        definitions = record { name = 28; text = 1 } ∷ [];
+      };
       own = Some 1;
       definitions = definition_of sections result ∷ [];
       main = implementation_of decls body ∷ [];
@@ -137,14 +145,17 @@ variable_x = vars_decl (ident 30 5 ∷ []) (type_expr 7 (named_type (type_name 1
 
 -- with F(x: INTEGER), the call F(TRUE)
 abbrev pub wrong_value : UnitTrees
-wrong_value = lacking (integers (ident 30 7 ∷ [])) None [] (just (statement 5 (call_statement (variable 29 5) (more_exprs (named 7 7) no_exprs))))
+wrong_value = lacking (integers (ident 30 7 ∷ [])) None []
+    (just (statement 5 (call_statement (variable 29 5) (more_exprs (named 7 7) no_exprs))))
 
 -- with F(x, y: INTEGER): INTEGER, the assignment x := F(INTEGER, ABS)
 abbrev pub no_values : UnitTrees
 no_values =
     lacking (integers (ident 30 7 ∷ ident 31 8 ∷ [])) (Some (type_name 1 12)) variable_x
-    (just (statement 10 (assign_form (variable 30 10) (expr 12 (call_form (variable 29 12) (more_exprs (named 1 14) (more_exprs (named 10 16) no_exprs)))))))
+    (just (statement 10 (assign_form (variable 30 10)
+    (expr 12 (call_form (variable 29 12) (more_exprs (named 1 14) (more_exprs (named 10 16) no_exprs)))))))
 
 -- with F(): CHAR, the assignment x := F() to a variable of type INTEGER
 abbrev pub no_result : UnitTrees
-no_result = lacking [] (Some (type_name 3 9)) variable_x (just (statement 10 (assign_form (variable 30 10) (expr 12 (call_form (variable 29 12) no_exprs)))))
+no_result = lacking [] (Some (type_name 3 9)) variable_x
+    (just (statement 10 (assign_form (variable 30 10) (expr 12 (call_form (variable 29 12) no_exprs)))))

@@ -6,7 +6,8 @@ use Rattle.m2_base.specs.Tables.{no_rows, table_at}
 use Rattle.m2_base.specs.Units.{UnitTexts}
 use Rattle.m2_base.specs.declared.rows.Mode.TheVariants.{ByAddress, Open, Plain}
 use Rattle.m2_base.specs.declared.rows.Row.{Row}
-use Rattle.m2_base.specs.declared.rows.RowMeaning.TheVariants.{Array, Field, OpenArray, Param, Proc, ProcType, Record, Subrange, Var}
+use Rattle.m2_base.specs.declared.rows.RowMeaning.TheVariants.{Array, Field, OpenArray, Param, Proc, ProcType, Record}
+use Rattle.m2_base.specs.declared.rows.RowMeaning.TheVariants.{Subrange, Var}
 use Rattle.scope_core.specs.PlainScopes as scopes
 
 -- ** Rows that are entered
@@ -76,7 +77,8 @@ outer_rows =
 abbrev pub inner_rows : List Row
 inner_rows = row_of 46 1 (Var integer Plain 0) ∷ row_of 47 1 (Var integer ByAddress 1) ∷ []
 
--- The scopes fill this scope of the unit with these rows, and it is complete or not. The scopes behind it have no rows yet.
+-- The scopes fill this scope of the unit with these rows, and it is complete or not.
+-- The scopes behind it have no rows yet.
 pub record IsAt (p : scopes.Plain) (u : UnitTexts) (scope : ℕ) (rows : List Row) (is_done : Bool) : Type 0 where
   pub texts : p.texts ≡ u
   pub areas : p.areas ≡ 37 ∷ 32 ∷ 9 ∷ 2 ∷ []

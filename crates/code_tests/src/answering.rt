@@ -1,9 +1,12 @@
-//! What an expression or a designator answers: its code in hexadecimal, its data, and the greatest height of the stack.
+//! What an expression or a designator answers: its code in hexadecimal, its data,
+//! and the greatest height of the stack.
 ghost use Rattle.std.specs.Prelude.{◌≡◌, map};
 ghost use Rattle.m2_base.specs.Lists.{Each};
 ghost use Rattle.m2_base.specs.Statics.ReadTrees.{AreReadExprs, IsReadDesignator, IsReadExpr};
 ghost use Rattle.m2_base.specs.Trees.{exprs};
 ghost use Rattle.m2_base.specs.Views.{designator_view, expr_view, stream_view};
+ghost use Rattle.expr_sem.specs.Coders.{Keeps, SeesWiths, SuitsPlace, frame_of, names_of, nodes_of};
+ghost use Rattle.expr_sem.specs.Fragments.{AreSound};
 ghost use Rattle.scope_core.specs.PlainScopes.{state_of};
 ghost use Rattle.type_rules.specs.Scenes.{IsThere};
 ghost use Rattle.type_rules.specs.Sites.{SuitsSite};
@@ -11,7 +14,7 @@ ghost use Rattle.m2_samples.specs.Filled.{IsFull, around_at, scope_at};
 ghost use Rattle.m2_samples.specs.Samples.{IsSample};
 
 use code_form::encode;
-use expr_sem::{Fragments, Piece, Step, With, address, append, call_alone, value};
+use expr_sem::{Coder, Fragments, Piece, Step, With, append};
 use m2_base::{Ask, Designator, Expr, ExprForm, Memory, Notes, Operand, Site};
 use m2_samples::Block;
 use scope_core::PlainScopes;
@@ -39,25 +42,22 @@ pub(crate) fn no_code(alloc: Global) -> Piece {
 
 /// Appends the code of a call as a statement.
 fn called(
-    scopes: &mut PlainScopes,
-    site: &Site,
-    withs: &[With],
+    coder: &mut Coder<'_, '_, PlainScopes>,
     to: &Designator,
     args: &[Expr],
     piece: &mut Piece,
 ) -> Result<bool, Memory>
-    requires suits { SuitsSite (state_of scopes.old).frame site.now }
-    requires withs { Each (λ w. IsThere (state_of scopes.old).frame w.of) withs.now }
-    requires to { IsReadDesignator site.now.texts.now.names (designator_view to.now) }
-    requires args { AreReadExprs site.now.texts.now.names (exprs (map expr_view args.now)) }
-    ensures { (state_of scopes.new).frame ≡ (state_of scopes.old).frame }
+    requires suits { SuitsPlace state_of coder.old }
+    requires withs { SeesWiths state_of coder.old }
+    requires sound { AreSound (nodes_of coder.old) }
+    requires to { IsReadDesignator (names_of coder.old) (designator_view to.now) }
+    requires args { AreReadExprs (names_of coder.old) (exprs (map expr_view args.now)) }
+    ensures keeps { Keeps coder.old coder.new }
+    ensures frame { frame_of state_of coder.new ≡ frame_of state_of coder.old }
 {
-    let alloc = *piece.steps.allocator();
-    let mut fragments = Fragments::new(alloc);
-    let mut notes = Notes::new(alloc);
-    match call_alone(scopes, site, withs, to, args, &mut fragments, &mut notes)? {
+    match coder.call_alone(to, args)? {
         Ask::Known(x) if x.operand != Operand::InError => {
-            append(&fragments, x.code, withs, piece)?;
+            append(coder.fragments, x.code, coder.withs, piece)?;
             Ok(true)
         }
         _ => Ok(false),
@@ -69,8 +69,8 @@ fn is_known(answer: Ask<Option<Operand>>) -> bool {
     matches!(answer, Ask::Known(Some(_)))
 }
 
-/// Appends the code of an expression's value, or that of the designator or the call as a statement which the expression is, at a
-/// place that suits the scopes. What isn't known or is in error finds no memory.
+/// Appends the code of an expression's value, or that of the designator or the call as a statement which the
+/// expression is, at a place that suits the scopes. What isn't known or is in error finds no memory.
 fn asked_at(
     scopes: &mut PlainScopes,
     site: &Site,
@@ -84,15 +84,20 @@ fn asked_at(
     requires read { IsReadExpr site.now.texts.now.names (expr_view e.now) }
     ensures { (state_of scopes.new).frame ≡ (state_of scopes.old).frame }
 {
-    let mut notes = Notes::new(*piece.steps.allocator());
+    let alloc = *piece.steps.allocator();
+    let mut fragments = Fragments::new(alloc);
+    let mut notes = Notes::new(alloc);
+    let mut coder = Coder {
+        scopes,
+        site,
+        withs,
+        fragments: &mut fragments,
+        notes: &mut notes,
+    };
     let known = match (question, &e.form) {
-        (Question::Value, _) => is_known(value(scopes, site, withs, e, piece, &mut notes)?),
-        (Question::Address, ExprForm::Name(of)) => {
-            is_known(address(scopes, site, withs, of, piece, &mut notes)?)
-        }
-        (Question::Call, ExprForm::Call { to, args }) => {
-            called(scopes, site, withs, to, args, piece)?
-        }
+        (Question::Value, _) => is_known(coder.value(e, piece)?),
+        (Question::Address, ExprForm::Name(of)) => is_known(coder.address(of, piece)?),
+        (Question::Call, ExprForm::Call { to, args }) => called(&mut coder, to, args, piece)?,
         _ => false,
     };
     if known { Ok(()) } else { Err(Memory) }
@@ -154,7 +159,8 @@ fn hexadecimal(alloc: Global, bytes: &[u8]) -> Result<String, AllocError> {
     Ok(digits)
 }
 
-/// A piece as the tables have it: its code, its data where it has some, and the greatest height, which not all rows have.
+/// A piece as the tables have it: its code, its data where it has some, and the greatest height,
+/// which not all rows have.
 pub(crate) fn answer(alloc: Global, piece: &Piece, has_height: bool) -> Result<String, Fail> {
     let code = encoded(alloc, &piece.steps)?;
     let mut answer = hexadecimal(alloc, &code)?;

@@ -1,4 +1,5 @@
-//! Tests of the calls by which expressions become code: those of `expr_sem`; and units of which what is noted is worked out by hand.
+//! Tests of the calls by which expressions become code: those of `expr_sem`;
+//! and units of which what is noted is worked out by hand.
 #![tactic(auto)]
 
 #[cfg(test)]

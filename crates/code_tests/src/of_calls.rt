@@ -1,5 +1,5 @@
-//! Calls, open arrays and variables of other levels, with the code that the language's tables give by hand. The rows are entered
-//! as these declarations make them, where `value` is a constant whose expression is analysed:
+//! Calls, open arrays and variables of other levels, with the code that the language's tables give by hand. The rows
+//! are entered as these declarations make them, where `value` is a constant whose expression is analysed:
 //! `VAR a: ARRAY [0..3] OF INTEGER; s: ARRAY [0..4] OF CHAR; x: INTEGER; c: CARDINAL; p: PROCEDURE (INTEGER): INTEGER;`
 //! `PROCEDURE S(t: ARRAY OF INTEGER; VAR u: ARRAY OF INTEGER): CARDINAL; VAR y: INTEGER;`
 //! `PROCEDURE G(n: INTEGER; VAR r: INTEGER): INTEGER; END G; END S;`

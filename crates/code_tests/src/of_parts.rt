@@ -15,11 +15,11 @@ use crate::constants::constant;
 use crate::entering::{ARRAY, LAST, RECORD, scopes};
 use code_form::Instr;
 use expr_sem::{
-    Coded, Connective, Fragment, Fragments, Piece, With, answered, append, append_all, as_variable,
-    assigned_to, capped_sum, cells_of, characters, code_is_short, diagnostics_leave_nothing,
-    entry_coded, errors_have_a_cause, errors_have_no_code, field_of_withs, fitted_code,
-    heights_are_right, instr_behind, is_structured, operands_are_known, pair, push_instr, refused,
-    side_of, value_code, value_of,
+    Coded, Coder, Connective, Fragment, Fragments, Piece, Placed, With, answered, append,
+    append_all, as_variable, capped_sum, cells_of, characters, code_is_short,
+    diagnostics_leave_nothing, entry_coded, errors_have_a_cause, errors_have_no_code,
+    field_of_withs, fitted_code, heights_are_right, instr_behind, is_structured,
+    operands_are_known, pair, push_instr, refused, side_of, value_code,
 };
 use m2_base::{Ask, Diagnostic, Expr, Memory, Notes, Operand, Place, Site};
 use m2_samples::{Block, around, layout_of, read};
@@ -33,10 +33,12 @@ const TEXT: &str =
     "! MODULE M; CONST names = a + s + x + c + p + F + S + W + K + w + f + g + t + u + y + G + \
     n + r; value = x; END M.";
 
-/// Of a value: the length of its code, as it is and fitted to CARDINAL, and the value as one that is assigned to INTEGER.
+/// Of a value: the length of its code, as it is and fitted to CARDINAL,
+/// and the value as one that is assigned to INTEGER.
 type ValueParts = (u64, u64, Operand);
 
-/// Of rows: whether a type is structured, its cells and the kind of its numbers; what a row stands for; the number of a WITH.
+/// Of rows: whether a type is structured, its cells and the kind of its numbers; what a row stands for;
+/// the number of a WITH.
 type RowParts = ((bool, u32, u8), Operand, Option<usize>);
 
 /// Of a site: the characters of a name, what is refused with its diagnostic, and a variable.
@@ -65,7 +67,14 @@ fn coded(
     ensures coded { IfOk result (λ x. IsCoded (state_of scopes.old).frame fragments.new.nodes.items x) }
 {
     let mut notes = Notes::new(*fragments.nodes.allocator());
-    match value_of(scopes, site, &[], e, fragments, &mut notes) {
+    let mut coder = Coder {
+        scopes,
+        site,
+        withs: &[],
+        fragments,
+        notes: &mut notes,
+    };
+    match coder.value_of(e) {
         Ok(Ask::Known(x)) => Ok(x),
         _ => Err(Memory),
     }
@@ -121,9 +130,18 @@ fn assigned(
 {
     let mut fragments = Fragments::new(alloc);
     let mut notes = Notes::new(alloc);
-    let x = coded(scopes, site, e, &mut fragments)?;
-    let refusal = Diagnostic::NotAssignable;
-    match assigned_to(scopes, site, to, 1, refusal, x, &mut notes) {
+    let x = Placed {
+        at: 1,
+        coded: coded(scopes, site, e, &mut fragments)?,
+    };
+    let mut coder = Coder {
+        scopes,
+        site,
+        withs: &[],
+        fragments: &mut fragments,
+        notes: &mut notes,
+    };
+    match coder.assigned_to(to, Diagnostic::NotAssignable, x) {
         Ok(Ask::Known(x)) => Ok((x.operand, notes.diags.len())),
         _ => Err(Memory),
     }
