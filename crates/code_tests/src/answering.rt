@@ -1,5 +1,6 @@
 //! What an expression or a designator answers: its code in hexadecimal, its data, and the greatest height of the stack.
-ghost use Rattle.std.specs.Prelude.{◌≡◌, map};
+ghost use Rattle.std.specs.Prelude.{◌≡◌, ◌≤ℤ◌, pos, negsuc, true, map};
+ghost use Rattle.code_form.specs.Instructions.{IsInstr};
 ghost use Rattle.m2_base.specs.Lists.{Each};
 ghost use Rattle.m2_base.specs.Statics.ReadTrees.{AreReadExprs, IsReadDesignator, IsReadExpr};
 ghost use Rattle.m2_base.specs.Trees.{exprs};
@@ -10,7 +11,7 @@ ghost use Rattle.type_rules.specs.Sites.{SuitsSite};
 ghost use Rattle.m2_samples.specs.Filled.{IsFull, around_at, scope_at};
 ghost use Rattle.m2_samples.specs.Samples.{IsSample};
 
-use code_form::encode;
+use code_form::{Instr, encode};
 use expr_sem::{Fragments, Piece, Step, With, address, append, call_alone, value};
 use m2_base::{Ask, Designator, Expr, ExprForm, Memory, Notes, Operand, Site};
 use m2_samples::Block;
@@ -18,6 +19,11 @@ use scope_core::PlainScopes;
 use std::alloc::{AllocError, Global};
 use std::fmt::Write;
 use std::test::Fail;
+
+/// The values that an instruction can have.
+const LEAST: i64 = -2_147_483_648;
+
+const GREATEST: i64 = 4_294_967_295;
 
 /// What is asked of a tree.
 #[derive(Clone, Copy, Debug, PartialEq, Eq)]
@@ -120,11 +126,39 @@ pub(crate) fn asked(
     asked_at(scopes, &site, withs, question, e, piece)
 }
 
+/// Whether a value can be an operand.
+fn is_value(value: i64) -> bool
+    ensures low { result ≡ true → negsuc 2147483647 ≤ℤ value }
+    ensures high { result ≡ true → value ≤ℤ pos 4294967295 }
+{
+    LEAST <= value && value <= GREATEST
+}
+
+/// Whether all operands are in their ranges.
+fn is_in_range(instr: Instr) -> bool
+    ensures { result ≡ true → IsInstr instr }
+{
+    match instr {
+        Instr::Push(value) => is_value(value),
+        Instr::More(change) => is_value(change),
+        Instr::Index(low, _, _) => is_value(low),
+        Instr::Check(low, high) => is_value(low) && is_value(high),
+        Instr::Add(kind) => kind < 2,
+        Instr::Sub(kind) => kind < 2,
+        Instr::Mul(kind) => kind < 2,
+        Instr::Div(kind) => kind < 2,
+        Instr::Mod(kind) => kind < 2,
+        Instr::Trap(code) => code == 7 || code == 8,
+        Instr::New(cells) => cells >= 1,
+        _ => true,
+    }
+}
+
 /// The bytes of instructions one after another.
 pub(crate) fn encoded(alloc: Global, steps: &[Step]) -> Result<Vec<u8>, Memory> {
     let mut code = Vec::new(alloc);
     for step in steps {
-        if !step.instr.has_valid_operands() {
+        if !is_in_range(step.instr) {
             return Err(Memory);
         }
         encode(&step.instr, &mut code)?;
