@@ -167,7 +167,10 @@ impl Fragments {
     {
         let address = Instr::Local(0, 0).size();
         let moved = Instr::Str(0).size() + Instr::Move(size).size();
-        self.push(Form::StringCopy(size, characters), address + moved + address)
+        self.push(
+            Form::StringCopy(size, characters),
+            address + moved + address,
+        )
     }
 
     /// The address of the record of an open WITH, of which 0 is the innermost.
