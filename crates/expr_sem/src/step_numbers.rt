@@ -1,18 +1,11 @@
 //! The number by which INC or DEC changes a variable.
-ghost use Rattle.std.specs.Prelude.{◌≡◌, List, if◌then◌else◌};
+ghost use Rattle.std.specs.Prelude.{◌≡◌, List};
 ghost use Rattle.m2_base.specs.Rows.{is_same_place};
-ghost use Rattle.m2_base.specs.Standard.{cardinal};
-ghost use Rattle.m2_base.specs.States.{Frame, Waits};
-ghost use Rattle.m2_base.specs.Statics.Compatible.{is_integer_or_cardinal as spec_number};
-ghost use Rattle.m2_base.specs.Statics.Contexts.{refuse};
-ghost use Rattle.m2_base.specs.Statics.Diagnostics.{wrong_argument};
-ghost use Rattle.m2_base.specs.Statics.Operands.{operand_type as spec_type};
+ghost use Rattle.m2_base.specs.States.{Waits};
 ghost use Rattle.m2_base.specs.Statics.Types.{base_of as spec_base};
 ghost use Rattle.const_eval.specs.Sites.{IsOperand};
-ghost use Rattle.expr_sem.specs.Coded.{in_error};
 ghost use Rattle.expr_sem.specs.Codings.{Coding, IsCoded, coded_in};
-ghost use Rattle.expr_sem.specs.StandardProcedures.{beside, is_step as spec_is_step, number_of_type as spec_of_type, step_number as spec_step_number, step_type as spec_step_type};
-ghost use Rattle.expr_sem.specs.Values.{in_range as spec_in_range};
+ghost use Rattle.expr_sem.specs.StandardProcedures.{is_step as spec_is_step, step_number as spec_step_number, step_type as spec_step_type};
 ghost use Rattle.expr_sem.specs.declared.fragments.Node.{Node};
 ghost use Rattle.type_rules.specs.Asks.{Reads, WhereKnown, WhereWaiting};
 ghost use Rattle.type_rules.specs.Scenes.{IsThere, Suits, WhereTold, scene_of};
@@ -25,19 +18,8 @@ use crate::values::{as_value, in_range};
 use m2_base::{Around, Ask, Diagnostic, Memory, Notes, Operand, Place, Scopes, Site};
 use type_rules::{CARDINAL, WHOLE, base_of, is_integer_or_cardinal, operand_type};
 
-/// A base that is a type of numbers, or else CARDINAL.
-fn number_or_cardinal(base: Place) -> Place
-    ensures told { result ≡ (if spec_number base then base else cardinal) }
-    ensures there { (f : Frame) → IsThere f base → IsThere f cardinal → IsThere f result }
-{
-    if is_integer_or_cardinal(base) {
-        base
-    } else {
-        CARDINAL
-    }
-}
-
-/// The type of the number by which a variable of a type is changed.
+/// The type of the number by which a variable of a type is changed: its base, where that is a type of numbers, or else
+/// CARDINAL.
 #[tactic(auto, using(type_rules::proofs::Reading::reading, const_eval::proofs::TypesThere::there))]
 fn step_type<S: Scopes>(scopes: &mut S, site: &Site, of: Place) -> Ask<Place>
     requires suits { SuitsSite (S.state scopes.old).frame site.now }
@@ -49,7 +31,11 @@ fn step_type<S: Scopes>(scopes: &mut S, site: &Site, of: Place) -> Ask<Place>
     ensures there { WhereKnown result (λ want. IsThere (S.state scopes.old).frame want) }
 {
     let base = known!(base_of(scopes, site.around, of));
-    Ask::Known(number_or_cardinal(base))
+    if is_integer_or_cardinal(base) {
+        Ask::Known(base)
+    } else {
+        Ask::Known(CARDINAL)
+    }
 }
 
 /// Whether a type has this base.
@@ -87,63 +73,8 @@ fn is_step<S: Scopes>(scopes: &mut S, site: &Site, want: Place, operand: Operand
     }
 }
 
-/// A number of this type; a constant is in its range.
-fn number_of_type<S: Scopes>(
-    scopes: &mut S,
-    site: &Site,
-    want: Place,
-    n: Placed,
-    notes: &mut Notes,
-) -> Result<Ask<Coded>, Memory>
-    requires suits { SuitsSite (S.state scopes.old).frame site.now }
-    requires want { IsThere (S.state scopes.old).frame want }
-    requires n { IsOperand (S.state scopes.old).frame n.coded.operand }
-    ensures { (nodes : List Node) → IsCoded (S.state scopes.old).frame nodes n.coded → Coding (S.state scopes.old) (S.state scopes.new) notes.old notes.new nodes nodes site.now result IsCoded coded_in (λ c. spec_of_type c n.at want (coded_in nodes n.coded)) }
-{
-    if asked!(is_step(scopes, site, want, n.coded.operand)) {
-        in_range(scopes, site, want, n, notes)
-    } else {
-        refused(site, n.at, Diagnostic::WrongArgument, notes)
-    }
-}
-
-/// A number by which a variable of this type is changed.
-fn number_for<S: Scopes>(
-    scopes: &mut S,
-    site: &Site,
-    of: Place,
-    n: Placed,
-    notes: &mut Notes,
-) -> Result<Ask<Coded>, Memory>
-    requires suits { SuitsSite (S.state scopes.old).frame site.now }
-    requires of { IsThere (S.state scopes.old).frame of }
-    requires n { IsOperand (S.state scopes.old).frame n.coded.operand }
-    ensures { (nodes : List Node) → IsCoded (S.state scopes.old).frame nodes n.coded → Coding (S.state scopes.old) (S.state scopes.new) notes.old notes.new nodes nodes site.now result IsCoded coded_in (λ c. spec_of_type c n.at (spec_step_type c.scene of) (coded_in nodes n.coded)) }
-{
-    let want = asked!(step_type(scopes, site, of));
-    number_of_type(scopes, site, want, n, notes)
-}
-
-/// A number beside the variable of its call, where neither is in error.
-fn number_beside<S: Scopes>(
-    scopes: &mut S,
-    site: &Site,
-    x: Coded,
-    n: Placed,
-    notes: &mut Notes,
-) -> Result<Ask<Coded>, Memory>
-    requires suits { SuitsSite (S.state scopes.old).frame site.now }
-    requires x { IsOperand (S.state scopes.old).frame x.operand }
-    requires n { IsOperand (S.state scopes.old).frame n.coded.operand }
-    ensures { (nodes : List Node) → IsCoded (S.state scopes.old).frame nodes n.coded → Coding (S.state scopes.old) (S.state scopes.new) notes.old notes.new nodes nodes site.now result IsCoded coded_in (λ c. beside (coded_in nodes x) (spec_of_type c n.at (spec_step_type c.scene (spec_type x.operand))) (coded_in nodes n.coded)) }
-{
-    if either_bad(x.operand, n.coded.operand) {
-        return Ok(Ask::Known(Coded::in_error()));
-    }
-    number_for(scopes, site, operand_type(&x.operand), n, notes)
-}
-
-/// The number by which a variable is changed.
+/// The number by which a variable is changed: a value of the type that `step_type` gives, or a whole constant, and a constant
+/// is in the range of that type. What it is wanted for and what it is may be in error; then so is the number.
 pub fn step_number<S: Scopes>(
     scopes: &mut S,
     site: &Site,
@@ -157,5 +88,14 @@ pub fn step_number<S: Scopes>(
     ensures { (nodes : List Node) → IsCoded (S.state scopes.old).frame nodes n.coded → Coding (S.state scopes.old) (S.state scopes.new) notes.old notes.new nodes nodes site.now result IsCoded coded_in (λ c. spec_step_number c (coded_in nodes x) n.at (coded_in nodes n.coded)) }
 {
     let v = analysed!(as_value(site, n.at, n.coded, notes));
-    number_beside(scopes, site, x, Placed { at: n.at, coded: v }, notes)
+    if either_bad(x.operand, v.operand) {
+        return Ok(Ask::Known(Coded::in_error()));
+    }
+    let want = asked!(step_type(scopes, site, operand_type(&x.operand)));
+    let holds = asked!(is_step(scopes, site, want, v.operand));
+    if holds {
+        in_range(scopes, site, want, Placed { at: n.at, coded: v }, notes)
+    } else {
+        refused(site, n.at, Diagnostic::WrongArgument, notes)
+    }
 }
