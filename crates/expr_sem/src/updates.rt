@@ -1,18 +1,15 @@
 //! Variables that a standard procedure changes: the change of INC and DEC, and that of INCL and EXCL.
-ghost use Rattle.std.specs.Prelude.{◌≡◌, ◌∷◌, ◌||◌, [], Some, option_map};
+ghost use Rattle.std.specs.Prelude.{◌≡◌, ◌||◌, Some, option_map};
 ghost use Rattle.m2_base.specs.Gives.{gives};
 ghost use Rattle.m2_base.specs.States.{Waits};
-ghost use Rattle.m2_base.specs.Statics.Operands.{is_bad as spec_bad, operand_type as spec_type};
+ghost use Rattle.m2_base.specs.Statics.Operands.{is_bad as spec_bad};
 ghost use Rattle.m2_base.specs.Statics.Ranges.{range};
-ghost use Rattle.m2_base.specs.declared.notes.Notes.{Notes as NotesOf};
-ghost use Rattle.code_form.specs.declared.instr.Instr.TheVariants as instrs;
 ghost use Rattle.expr_sem.specs.Coders.{Codes, Keeps, SuitsPlace, frame_of, nodes_of};
-ghost use Rattle.expr_sem.specs.Coded.{coded, value_code as spec_value_code};
-ghost use Rattle.expr_sem.specs.Codings.{Coding, IsCoded, coded_in};
+ghost use Rattle.expr_sem.specs.Codings.{IsCoded, coded_in};
 ghost use Rattle.expr_sem.specs.Fitting.{check_of};
 ghost use Rattle.expr_sem.specs.Fragments.{IsIn, IsMade, part};
-ghost use Rattle.expr_sem.specs.Parts.{plain, ◌⨟◌};
-ghost use Rattle.expr_sem.specs.StandardProcedures.{counting_range as spec_counting, no_value, step_instr as spec_step_instr, step_instrs as spec_step_instrs, stepped as spec_stepped, update};
+ghost use Rattle.expr_sem.specs.Parts.{plain};
+ghost use Rattle.expr_sem.specs.StandardProcedures.{counting_range as spec_counting, step_instr as spec_step_instr, step_instrs as spec_step_instrs, stepped as spec_stepped};
 ghost use Rattle.expr_sem.specs.Updates.{instrs_of, second_of, updated_by};
 ghost use Rattle.type_rules.specs.Asks.{Reads, WhereKnown, WhereWaiting};
 ghost use Rattle.type_rules.specs.Scenes.{IsThere, WhereTold};
@@ -54,22 +51,7 @@ impl Change {
     }
 }
 
-/// A number, behind the value of the variable whose address is on the stack.
-fn behind_value(
-    number: Fragment,
-    rest: Fragment,
-    fragments: &mut Fragments,
-) -> Result<Fragment, Memory>
-    requires number { IsIn fragments.old.nodes.items number }
-    requires rest { IsIn fragments.old.nodes.items rest }
-    ensures { IsMade fragments.old.nodes.items fragments.new.nodes.items result (plain (instrs.Dup ∷ instrs.Load ∷ []) ⨟ part fragments.old.nodes.items number ⨟ part fragments.old.nodes.items rest) }
-{
-    let loaded = pair(Instr::Dup, Instr::Load, fragments)?;
-    let changed = fragments.then(number, rest)?;
-    fragments.then(loaded, changed)
-}
-
-/// A variable changed by a number.
+/// A variable changed by a number: its address twice, the value that is there, the number and the change, and then `Store`.
 pub fn updated(
     variable: Fragment,
     number: Fragment,
@@ -82,7 +64,9 @@ pub fn updated(
 {
     let change = change.code(fragments)?;
     let stored = instr_behind(change, Instr::Store, fragments)?;
-    let rest = behind_value(number, stored, fragments)?;
+    let loaded = pair(Instr::Dup, Instr::Load, fragments)?;
+    let changed = fragments.then(number, stored)?;
+    let rest = fragments.then(loaded, changed)?;
     fragments.then(variable, rest)
 }
 
@@ -135,40 +119,6 @@ fn step_change<S: Scopes>(scopes: &mut S, site: &Site, f: Builtin, of: Place) ->
     })
 }
 
-impl<S: Scopes> Coder<'_, '_, S> {
-    /// A variable of a type, changed by INC or DEC by a number.
-    fn step_code(
-        &mut self,
-        f: Builtin,
-        of: Place,
-        variable: Fragment,
-        number: Fragment,
-    ) -> Result<Ask<Coded>, Memory>
-        requires suits { SuitsPlace S.state self.old }
-        requires of { IsThere (frame_of S.state self.old) of }
-        requires variable { IsIn (nodes_of self.old) variable }
-        requires number { IsIn (nodes_of self.old) number }
-        ensures keeps { Keeps self.old self.new }
-        ensures codes { Codes S.state self.old self.new result IsCoded coded_in (λ c. gives (coded no_value (updated_by (part (nodes_of self.old) variable) (part (nodes_of self.old) number) (spec_step_instrs c.scene f of)))) }
-    {
-        let change = asked!(step_change(self.scopes, self.site, f, of));
-        let code = updated(variable, number, change, self.fragments)?;
-        Ok(Ask::Known(Coded::new(NO_VALUE, code)))
-    }
-
-    /// INC or DEC of a variable by a number, neither of which is in error.
-    fn step_by(&mut self, f: Builtin, x: Coded, n: Coded) -> Result<Ask<Coded>, Memory>
-        requires suits { SuitsPlace S.state self.old }
-        requires x { IsCoded (frame_of S.state self.old) (nodes_of self.old) x }
-        requires n { IsCoded (frame_of S.state self.old) (nodes_of self.old) n }
-        ensures keeps { Keeps self.old self.new }
-        ensures codes { Codes S.state self.old self.new result IsCoded coded_in (λ c. gives (update (coded_in (nodes_of self.old) x) (spec_value_code c (coded_in (nodes_of self.old) n)) (spec_step_instrs c.scene f (spec_type x.operand)))) }
-    {
-        let number = analysed!(value_code(self.scopes, self.site, n, self.fragments));
-        self.step_code(f, operand_type(&x.operand), x.code, number)
-    }
-}
-
 /// Whether one of two operands takes part in no further check.
 pub fn either_bad(x: Operand, n: Operand) -> bool
     ensures { result ≡ (spec_bad x || spec_bad n) }
@@ -188,6 +138,10 @@ impl<S: Scopes> Coder<'_, '_, S> {
         if either_bad(x.operand, n.operand) {
             return Ok(Ask::Known(Coded::in_error()));
         }
-        self.step_by(f, x, n)
+        let number = analysed!(value_code(self.scopes, self.site, n, self.fragments));
+        let of = operand_type(&x.operand);
+        let change = asked!(step_change(self.scopes, self.site, f, of));
+        let code = updated(x.code, number, change, self.fragments)?;
+        Ok(Ask::Known(Coded::new(NO_VALUE, code)))
     }
 }
