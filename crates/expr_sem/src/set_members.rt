@@ -1,24 +1,12 @@
 //! The element of INCL or EXCL, and how it changes a set.
-ghost use Rattle.std.specs.Prelude.{◌≡◌, List, if◌then◌else◌};
-ghost use Rattle.std.specs.Option.{IfSome};
+ghost use Rattle.std.specs.Prelude.{◌≡◌, List};
 ghost use Rattle.m2_base.specs.Gives.{gives};
-ghost use Rattle.m2_base.specs.Statics.Assignable.{taken_into};
-ghost use Rattle.m2_base.specs.Statics.Compatible.{is_compatible};
-ghost use Rattle.m2_base.specs.Statics.Contexts.{refuse};
-ghost use Rattle.m2_base.specs.Statics.Diagnostics.{wrong_argument};
-ghost use Rattle.m2_base.specs.Statics.Operands.{operand_type as spec_type};
-ghost use Rattle.m2_base.specs.Statics.Sets.{set_base as spec_base};
-ghost use Rattle.m2_base.specs.declared.notes.Notes.{Notes as NotesOf};
-ghost use Rattle.m2_base.specs.declared.operands.Operand.TheVariants as operands;
 ghost use Rattle.const_eval.specs.Sites.{IsOperand};
 ghost use Rattle.expr_sem.specs.Coders.{Codes, Keeps, SuitsPlace, frame_of, nodes_of};
-ghost use Rattle.expr_sem.specs.Coded.{in_error, taken};
 ghost use Rattle.expr_sem.specs.Codings.{Coding, IsCoded, coded_in};
-ghost use Rattle.expr_sem.specs.Fitting.{fitted_code as spec_fitted};
-ghost use Rattle.expr_sem.specs.SetMembers.{member_by};
-ghost use Rattle.expr_sem.specs.StandardProcedures.{beside, element_of_base as spec_element, included as spec_included, member_instrs, set_member as spec_member, update};
+ghost use Rattle.expr_sem.specs.StandardProcedures.{element_of_base as spec_element, included as spec_included};
+ghost use Rattle.expr_sem.specs.StandardProcedures.{member_instrs, set_member as spec_member};
 ghost use Rattle.expr_sem.specs.Updates.{instrs_of};
-ghost use Rattle.expr_sem.specs.Values.{in_range as spec_in_range};
 ghost use Rattle.expr_sem.specs.declared.fragments.Node.{Node};
 ghost use Rattle.type_rules.specs.Scenes.{IsThere};
 ghost use Rattle.type_rules.specs.Sites.{SuitsSite};
@@ -33,28 +21,6 @@ use code_form::Instr;
 use const_eval::{compatible_pair, is_broken, set_base};
 use m2_base::{Ask, Builtin, Diagnostic, Memory, Notes, Operand, Place, Scopes, Site};
 use type_rules::operand_type;
-
-/// An element for a set with this base, which isn't in error.
-fn compatible_member<S: Scopes>(
-    scopes: &mut S,
-    site: &Site,
-    base: Place,
-    v: Placed,
-    notes: &mut Notes,
-) -> Result<Ask<Coded>, Memory>
-    requires suits { SuitsSite (S.state scopes.old).frame site.now }
-    requires base { IsThere (S.state scopes.old).frame base }
-    requires v { IsOperand (S.state scopes.old).frame v.coded.operand }
-    ensures { (nodes : List Node) → IsCoded (S.state scopes.old).frame nodes v.coded → Coding (S.state scopes.old) (S.state scopes.new) notes.old notes.new nodes nodes site.now result IsCoded coded_in (λ c. if is_compatible c.scene v.coded.operand (operands.Computed base) then spec_in_range c v.at base (taken (taken_into c.source c.scene base v.coded.operand) (coded_in nodes v.coded)) else refuse c v.at wrong_argument in_error) }
-{
-    match asked!(compatible_pair(scopes, site, v.coded.operand, Operand::Computed(base))) {
-        Some((operand, _)) => {
-            let coded = v.coded.taken(operand);
-            in_range(scopes, site, base, Placed { at: v.at, coded }, notes)
-        }
-        None => refused(site, v.at, Diagnostic::WrongArgument, notes),
-    }
-}
 
 /// An element for a set with this base: compatible with it, and a constant in its range.
 fn element_of_base<S: Scopes>(
@@ -73,43 +39,13 @@ fn element_of_base<S: Scopes>(
     if broken {
         return Ok(Ask::Known(Coded::in_error()));
     }
-    compatible_member(scopes, site, base, v, notes)
-}
-
-/// An element for a set of this type.
-fn member_of<S: Scopes>(
-    scopes: &mut S,
-    site: &Site,
-    of: Place,
-    v: Placed,
-    notes: &mut Notes,
-) -> Result<Ask<Coded>, Memory>
-    requires suits { SuitsSite (S.state scopes.old).frame site.now }
-    requires of { IsThere (S.state scopes.old).frame of }
-    requires v { IsOperand (S.state scopes.old).frame v.coded.operand }
-    ensures { (nodes : List Node) → IsCoded (S.state scopes.old).frame nodes v.coded → Coding (S.state scopes.old) (S.state scopes.new) notes.old notes.new nodes nodes site.now result IsCoded coded_in (λ c. spec_element c v.at (spec_base c of) (coded_in nodes v.coded)) }
-{
-    let base = asked!(set_base(scopes, site, of));
-    element_of_base(scopes, site, base, v, notes)
-}
-
-/// An element beside the set of its call, where neither is in error.
-fn member_beside<S: Scopes>(
-    scopes: &mut S,
-    site: &Site,
-    x: Coded,
-    v: Placed,
-    notes: &mut Notes,
-) -> Result<Ask<Coded>, Memory>
-    requires suits { SuitsSite (S.state scopes.old).frame site.now }
-    requires x { IsOperand (S.state scopes.old).frame x.operand }
-    requires v { IsOperand (S.state scopes.old).frame v.coded.operand }
-    ensures { (nodes : List Node) → IsCoded (S.state scopes.old).frame nodes v.coded → Coding (S.state scopes.old) (S.state scopes.new) notes.old notes.new nodes nodes site.now result IsCoded coded_in (λ c. beside (coded_in nodes x) (spec_element c v.at (spec_base c (spec_type x.operand))) (coded_in nodes v.coded)) }
-{
-    if either_bad(x.operand, v.coded.operand) {
-        return Ok(Ask::Known(Coded::in_error()));
+    match asked!(compatible_pair(scopes, site, v.coded.operand, Operand::Computed(base))) {
+        Some((operand, _)) => {
+            let coded = v.coded.taken(operand);
+            in_range(scopes, site, base, Placed { at: v.at, coded }, notes)
+        }
+        None => refused(site, v.at, Diagnostic::WrongArgument, notes),
     }
-    member_of(scopes, site, operand_type(&x.operand), v, notes)
 }
 
 /// The element by which a set is changed.
@@ -126,7 +62,11 @@ pub fn set_member<S: Scopes>(
     ensures { (nodes : List Node) → IsCoded (S.state scopes.old).frame nodes e.coded → Coding (S.state scopes.old) (S.state scopes.new) notes.old notes.new nodes nodes site.now result IsCoded coded_in (λ c. spec_member c (coded_in nodes x) e.at (coded_in nodes e.coded)) }
 {
     let v = analysed!(as_value(site, e.at, e.coded, notes));
-    member_beside(scopes, site, x, Placed { at: e.at, coded: v }, notes)
+    if either_bad(x.operand, v.operand) {
+        return Ok(Ask::Known(Coded::in_error()));
+    }
+    let base = asked!(set_base(scopes, site, operand_type(&x.operand)));
+    element_of_base(scopes, site, base, Placed { at: e.at, coded: v }, notes)
 }
 
 /// The change of INCL, and of EXCL.
@@ -144,38 +84,6 @@ fn member_change(f: Builtin) -> Change
 }
 
 impl<S: Scopes> Coder<'_, '_, S> {
-    /// A set with this base, changed by INCL or EXCL by an element.
-    fn changed_by(
-        &mut self,
-        f: Builtin,
-        base: Place,
-        x: Coded,
-        e: Coded,
-    ) -> Result<Ask<Coded>, Memory>
-        requires suits { SuitsPlace S.state self.old }
-        requires base { IsThere (frame_of S.state self.old) base }
-        requires x { IsCoded (frame_of S.state self.old) (nodes_of self.old) x }
-        requires e { IsCoded (frame_of S.state self.old) (nodes_of self.old) e }
-        ensures keeps { Keeps self.old self.new }
-        ensures codes { Codes S.state self.old self.new result IsCoded coded_in (λ c. gives (update (coded_in (nodes_of self.old) x) (spec_fitted c base (coded_in (nodes_of self.old) e)) (member_instrs f))) }
-    {
-        let element = analysed!(fitted_code(self.scopes, self.site, base, e, self.fragments));
-        let code = updated(x.code, element, member_change(f), self.fragments)?;
-        Ok(Ask::Known(Coded::new(NO_VALUE, code)))
-    }
-
-    /// INCL or EXCL of a set and an element, neither of which is in error.
-    fn included_by(&mut self, f: Builtin, x: Coded, e: Coded) -> Result<Ask<Coded>, Memory>
-        requires suits { SuitsPlace S.state self.old }
-        requires x { IsCoded (frame_of S.state self.old) (nodes_of self.old) x }
-        requires e { IsCoded (frame_of S.state self.old) (nodes_of self.old) e }
-        ensures keeps { Keeps self.old self.new }
-        ensures codes { Codes S.state self.old self.new result IsCoded coded_in (λ c. gives (update (coded_in (nodes_of self.old) x) (spec_fitted c (spec_base c (spec_type x.operand)) (coded_in (nodes_of self.old) e)) (member_instrs f))) }
-    {
-        let base = asked!(set_base(self.scopes, self.site, operand_type(&x.operand)));
-        self.changed_by(f, base, x, e)
-    }
-
     /// INCL or EXCL of a set and an element, unless one of them is in error.
     pub(crate) fn included(&mut self, f: Builtin, x: Coded, e: Coded) -> Result<Ask<Coded>, Memory>
         requires suits { SuitsPlace S.state self.old }
@@ -187,6 +95,9 @@ impl<S: Scopes> Coder<'_, '_, S> {
         if either_bad(x.operand, e.operand) {
             return Ok(Ask::Known(Coded::in_error()));
         }
-        self.included_by(f, x, e)
+        let base = asked!(set_base(self.scopes, self.site, operand_type(&x.operand)));
+        let element = analysed!(fitted_code(self.scopes, self.site, base, e, self.fragments));
+        let code = updated(x.code, element, member_change(f), self.fragments)?;
+        Ok(Ask::Known(Coded::new(NO_VALUE, code)))
     }
 }
