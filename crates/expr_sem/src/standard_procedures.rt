@@ -1,15 +1,18 @@
 //! The standard procedures that give no value, and how many arguments each standard procedure takes.
-ghost use Rattle.std.specs.Prelude.{◌≡◌, ◌∷◌, []};
+ghost use Rattle.std.specs.Prelude.{◌≡◌};
 ghost use Rattle.m2_base.specs.Gives.{and_then, gives};
 ghost use Rattle.m2_base.specs.States.{State};
 ghost use Rattle.m2_base.specs.declared.notes.Notes.{Notes as NotesOf};
 ghost use Rattle.m2_base.specs.declared.sites.Site.{Site as SiteOf};
-ghost use Rattle.code_form.specs.declared.instr.Instr.TheVariants as instrs;
 ghost use Rattle.expr_sem.specs.Coders.{Codes, Keeps, SuitsPlace, frame_of, nodes_of};
 ghost use Rattle.expr_sem.specs.Coded.{coded};
 ghost use Rattle.expr_sem.specs.Codings.{Coding, IsCoded, coded_in};
-ghost use Rattle.expr_sem.specs.Parts.{plain};
-ghost use Rattle.expr_sem.specs.StandardProcedures.{disposed as spec_disposed, first_of_two as spec_first, included as spec_included, is_function as spec_function, new_room as spec_new, no_value, of_no_argument as spec_none, of_one_argument as spec_one, of_two_arguments as spec_two, one, ordinal_variable, pointer_variable, set_member as spec_member, step_number as spec_number, stepped as spec_stepped, takes_count as spec_count};
+ghost use Rattle.expr_sem.specs.StandardProcedures.{first_of_two as spec_first, included as spec_included};
+ghost use Rattle.expr_sem.specs.StandardProcedures.{is_function as spec_function, of_no_argument as spec_none};
+ghost use Rattle.expr_sem.specs.StandardProcedures.{of_one_argument as spec_one, of_two_arguments as spec_two, one};
+ghost use Rattle.expr_sem.specs.StandardProcedures.{ordinal_variable, set_member as spec_member};
+ghost use Rattle.expr_sem.specs.StandardProcedures.{step_number as spec_number, stepped as spec_stepped};
+ghost use Rattle.expr_sem.specs.StandardProcedures.{takes_count as spec_count};
 ghost use Rattle.type_rules.specs.Sites.{SuitsSite};
 
 use crate::coded::{Coded, Placed};
@@ -21,7 +24,7 @@ use crate::step_numbers::step_number;
 use crate::updates::NO_VALUE;
 use crate::variable_arguments::{Wanted, variable_argument};
 use code_form::Instr;
-use m2_base::{Ask, Builtin, Memory, Notes, Operand, Scopes, Site};
+use m2_base::{Ask, Builtin, Memory, Operand, Scopes};
 use type_rules::WHOLE;
 
 /// The standard procedure takes so many arguments.
@@ -52,20 +55,15 @@ pub fn is_function(f: Builtin) -> bool
     )
 }
 
-/// HALT.
-fn halted(fragments: &mut Fragments) -> Result<Ask<Coded>, Memory>
-    ensures { (state : State) (notes : NotesOf) (site : SiteOf) → SuitsSite state.frame site → Coding state state notes notes fragments.old.nodes.items fragments.new.nodes.items site result IsCoded coded_in (λ c. gives (coded no_value (plain (instrs.Halt ∷ [])))) }
-{
-    let code = fragments.one(Instr::Halt)?;
-    Ok(Ask::Known(Coded::new(NO_VALUE, code)))
-}
-
 /// A standard procedure without arguments; of others than HALT nobody asks.
 pub fn of_no_argument(f: Builtin, fragments: &mut Fragments) -> Result<Ask<Coded>, Memory>
     ensures { (state : State) (notes : NotesOf) (site : SiteOf) → SuitsSite state.frame site → Coding state state notes notes fragments.old.nodes.items fragments.new.nodes.items site result IsCoded coded_in (λ c. gives (spec_none f)) }
 {
     match f {
-        Builtin::Halt => halted(fragments),
+        Builtin::Halt => {
+            let code = fragments.one(Instr::Halt)?;
+            Ok(Ask::Known(Coded::new(NO_VALUE, code)))
+        }
         _ => Ok(Ask::Known(Coded::in_error())),
     }
 }
@@ -89,40 +87,6 @@ impl<S: Scopes> Coder<'_, '_, S> {
         self.stepped(f, v, one)
     }
 
-    /// NEW.
-    fn new_argument(&mut self, at: u32, x: Coded) -> Result<Ask<Coded>, Memory>
-        requires suits { SuitsPlace S.state self.old }
-        requires x { IsCoded (frame_of S.state self.old) (nodes_of self.old) x }
-        ensures keeps { Keeps self.old self.new }
-        ensures codes { Codes S.state self.old self.new result IsCoded coded_in (λ c. and_then (pointer_variable c at (coded_in (nodes_of self.old) x)) (λ v. gives (spec_new c v))) }
-    {
-        let v = analysed!(variable_argument(
-            self.scopes,
-            self.site,
-            Wanted::Pointer,
-            Placed { at, coded: x },
-            self.notes
-        ));
-        new_room(self.scopes, self.site, v, self.fragments)
-    }
-
-    /// DISPOSE.
-    fn disposed_argument(&mut self, at: u32, x: Coded) -> Result<Ask<Coded>, Memory>
-        requires suits { SuitsPlace S.state self.old }
-        requires x { IsCoded (frame_of S.state self.old) (nodes_of self.old) x }
-        ensures keeps { Keeps self.old self.new }
-        ensures codes { Codes S.state self.old self.new result IsCoded coded_in (λ c. and_then (pointer_variable c at (coded_in (nodes_of self.old) x)) (λ v. gives (spec_disposed v))) }
-    {
-        let v = analysed!(variable_argument(
-            self.scopes,
-            self.site,
-            Wanted::Pointer,
-            Placed { at, coded: x },
-            self.notes
-        ));
-        disposed(v, self.fragments)
-    }
-
     /// A standard procedure of one argument.
     pub(crate) fn of_one_argument(
         &mut self,
@@ -138,8 +102,28 @@ impl<S: Scopes> Coder<'_, '_, S> {
         match f {
             Builtin::Inc => self.stepped_by_one(Builtin::Inc, at, x),
             Builtin::Dec => self.stepped_by_one(Builtin::Dec, at, x),
-            Builtin::New => self.new_argument(at, x),
-            Builtin::Dispose => self.disposed_argument(at, x),
+            Builtin::New => {
+                let argument = Placed { at, coded: x };
+                let v = analysed!(variable_argument(
+                    self.scopes,
+                    self.site,
+                    Wanted::Pointer,
+                    argument,
+                    self.notes
+                ));
+                new_room(self.scopes, self.site, v, self.fragments)
+            }
+            Builtin::Dispose => {
+                let argument = Placed { at, coded: x };
+                let v = analysed!(variable_argument(
+                    self.scopes,
+                    self.site,
+                    Wanted::Pointer,
+                    argument,
+                    self.notes
+                ));
+                disposed(v, self.fragments)
+            }
             _ => self.function_of_one(f, at, x),
         }
     }

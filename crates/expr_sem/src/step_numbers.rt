@@ -5,7 +5,8 @@ ghost use Rattle.m2_base.specs.States.{Waits};
 ghost use Rattle.m2_base.specs.Statics.Types.{base_of as spec_base};
 ghost use Rattle.const_eval.specs.Sites.{IsOperand};
 ghost use Rattle.expr_sem.specs.Codings.{Coding, IsCoded, coded_in};
-ghost use Rattle.expr_sem.specs.StandardProcedures.{is_step as spec_is_step, step_number as spec_step_number, step_type as spec_step_type};
+ghost use Rattle.expr_sem.specs.StandardProcedures.{is_step as spec_is_step, step_number as spec_step_number};
+ghost use Rattle.expr_sem.specs.StandardProcedures.{step_type as spec_step_type};
 ghost use Rattle.expr_sem.specs.declared.fragments.Node.{Node};
 ghost use Rattle.type_rules.specs.Asks.{Reads, WhereKnown, WhereWaiting};
 ghost use Rattle.type_rules.specs.Scenes.{IsThere, Suits, WhereTold, scene_of};
@@ -73,8 +74,9 @@ fn is_step<S: Scopes>(scopes: &mut S, site: &Site, want: Place, operand: Operand
     }
 }
 
-/// The number by which a variable is changed: a value of the type that `step_type` gives, or a whole constant, and a constant
-/// is in the range of that type. What it is wanted for and what it is may be in error; then so is the number.
+/// The number by which a variable is changed: of the type that `step_type` gives, or a whole constant, and a constant
+/// lies in the range of that type. Where the variable or the number is in error, nothing more is noted, and the
+/// number is in error.
 pub fn step_number<S: Scopes>(
     scopes: &mut S,
     site: &Site,

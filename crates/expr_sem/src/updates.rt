@@ -9,7 +9,8 @@ ghost use Rattle.expr_sem.specs.Codings.{IsCoded, coded_in};
 ghost use Rattle.expr_sem.specs.Fitting.{check_of};
 ghost use Rattle.expr_sem.specs.Fragments.{IsIn, IsMade, part};
 ghost use Rattle.expr_sem.specs.Parts.{plain};
-ghost use Rattle.expr_sem.specs.StandardProcedures.{counting_range as spec_counting, step_instr as spec_step_instr, step_instrs as spec_step_instrs, stepped as spec_stepped};
+ghost use Rattle.expr_sem.specs.StandardProcedures.{counting_range as spec_counting, step_instr as spec_step_instr};
+ghost use Rattle.expr_sem.specs.StandardProcedures.{step_instrs as spec_step_instrs, stepped as spec_stepped};
 ghost use Rattle.expr_sem.specs.Updates.{instrs_of, second_of, updated_by};
 ghost use Rattle.type_rules.specs.Asks.{Reads, WhereKnown, WhereWaiting};
 ghost use Rattle.type_rules.specs.Scenes.{IsThere, WhereTold};
@@ -51,7 +52,8 @@ impl Change {
     }
 }
 
-/// A variable changed by a number: its address twice, the value that is there, the number and the change, and then `Store`.
+/// A variable changed by a number: its address twice, then the value that is there, the number and the change, and
+/// `Store`.
 pub fn updated(
     variable: Fragment,
     number: Fragment,

@@ -1,12 +1,14 @@
 use Rattle.std.proofs.Common.{◌≡◌, ℕ, ap, sym, refl}
+use Rattle.m2_base.specs.Gives.{gives}
 use Rattle.m2_base.specs.Statics.Contexts.{Context}
 use Rattle.m2_base.specs.declared.builtins.Builtin.{Builtin}
 use Rattle.m2_base.specs.declared.builtins.Builtin.TheVariants.{Dec, Dispose, Inc, New}
 use Rattle.expr_sem.specs.Coded.{Coded}
 use Rattle.expr_sem.specs.Codings.{coded_in}
 use Rattle.expr_sem.specs.StandardFunctions.{function_of_one}
-use Rattle.expr_sem.specs.StandardProcedures.{of_one_argument}
-use Rattle.expr_sem.proofs.Operating.{described}
+use Rattle.expr_sem.specs.StandardProcedures.{disposed, new_room, of_one_argument, pointer_variable}
+use Rattle.expr_sem.proofs.Onwards.{coded_after, suits_after}
+use Rattle.expr_sem.proofs.Operating.{coding_after, described, unknown, unmade}
 use Rattle.expr_sem.proofs.coder.Coder.of_one_argument.Goals as goal
 
 a_function : (c : Context) (f : Builtin) (at : ℕ) (x : Coded) → (f ≡ Inc → ⊥) → (f ≡ Dec → ⊥) → (f ≡ New → ⊥) → (f ≡ Dispose → ⊥) → function_of_one c f at x ≡ of_one_argument c f at x
@@ -29,10 +31,47 @@ returns-in_default-clause-codes g c =
     described c.function_of_one.result c.function_of_one.ensures.codes
     (λ k. a_function k c.args.f c.args.at (coded_in c.args.self.now.fragments.now.nodes.items c.args.x) c.in_default.not-Inc c.in_default.not-Dec c.in_default.not-New c.in_default.not-Dispose)
 
-pub returns-in-New-clause-codes : goal.returns-in-New-clause-codes
-returns-in-New-clause-codes g c =
-    described c.new_argument.result c.new_argument.ensures.codes (λ k. ap (λ (f : Builtin). of_one_argument k f c.args.at (coded_in c.args.self.now.fragments.now.nodes.items c.args.x)) (sym c.in-New.is))
+pub variable_argument-requires-clause-x : goal.variable_argument-requires-clause-x
+variable_argument-requires-clause-x g c = (c.args.self.now.fragments.now.nodes.items, c.requires.x)
 
-pub returns-in-Dispose-clause-codes : goal.returns-in-Dispose-clause-codes
-returns-in-Dispose-clause-codes g c =
-    described c.disposed_argument.result c.disposed_argument.ensures.codes (λ k. ap (λ (f : Builtin). of_one_argument k f c.args.at (coded_in c.args.self.now.fragments.now.nodes.items c.args.x)) (sym c.in-Dispose.is))
+pub returns-in-DontKnowYet-clause-codes : goal.returns-in-DontKnowYet-clause-codes
+returns-in-DontKnowYet-clause-codes g c = unknown (rw c.in-DontKnowYet.is at c.in-Ok.ensures c.args.self.now.fragments.now.nodes.items c.requires.x)
+
+pub returns-in-Err-clause-codes : goal.returns-in-Err-clause-codes
+returns-in-Err-clause-codes g c = unmade (c.in-Err.ensures c.args.self.now.fragments.now.nodes.items c.requires.x) _
+
+pub new_room-requires-clause-suits : goal.new_room-requires-clause-suits
+new_room-requires-clause-suits g c = suits_after (c.in-Ok.ensures c.args.self.now.fragments.now.nodes.items c.requires.x) c.requires.suits
+
+pub new_room-requires-clause-x : goal.new_room-requires-clause-x
+new_room-requires-clause-x g c =
+    let first = rw c.in-Known.is at c.in-Ok.ensures c.args.self.now.fragments.now.nodes.items c.requires.x in
+    coded_after first c.in-Known.value first.there
+
+pub returns-in-Known-clause-codes : goal.returns-in-Known-clause-codes
+returns-in-Known-clause-codes g c =
+    let ns = c.args.self.now.fragments.now.nodes.items in
+    described c.new_room.result
+    (coding_after (λ k. pointer_variable k c.args.at (coded_in ns c.args.x)) (λ v k. gives (new_room k v)) c.new_room.result (rw c.in-Known.is at c.in-Ok.ensures ns c.requires.x) (c.new_room.ensures c.variable_argument.new.notes))
+    (λ k. ap (λ (f : Builtin). of_one_argument k f c.args.at (coded_in ns c.args.x)) (sym c.in-New.is))
+
+pub variable_argument-requires-in-Dispose-clause-x : goal.variable_argument-requires-in-Dispose-clause-x
+variable_argument-requires-in-Dispose-clause-x g c = (c.args.self.now.fragments.now.nodes.items, c.requires.x)
+
+pub returns-in-DontKnowYet-asked-clause-codes : goal.returns-in-DontKnowYet-asked-clause-codes
+returns-in-DontKnowYet-asked-clause-codes g c = unknown (rw c.in-DontKnowYet-asked.is at c.in-Ok-variable_argument.ensures c.args.self.now.fragments.now.nodes.items c.requires.x)
+
+pub returns-in-Err-variable_argument-clause-codes : goal.returns-in-Err-variable_argument-clause-codes
+returns-in-Err-variable_argument-clause-codes g c = unmade (c.in-Err-variable_argument.ensures c.args.self.now.fragments.now.nodes.items c.requires.x) _
+
+pub disposed-requires : goal.disposed-requires
+disposed-requires g c = (rw c.in-Known-asked.is at c.in-Ok-variable_argument.ensures c.args.self.now.fragments.now.nodes.items c.requires.x).there.code
+
+pub returns-in-Known-asked-clause-codes : goal.returns-in-Known-asked-clause-codes
+returns-in-Known-asked-clause-codes g c =
+    let ns = c.args.self.now.fragments.now.nodes.items in
+    let first = rw c.in-Known-asked.is at c.in-Ok-variable_argument.ensures ns c.requires.x in
+    described c.disposed.result
+    (coding_after (λ k. pointer_variable k c.args.at (coded_in ns c.args.x)) (λ v k. gives (disposed v)) c.disposed.result first
+    (c.disposed.ensures (g.S.Scopes.state c.variable_argument-in-Dispose.new.scopes) c.variable_argument-in-Dispose.new.notes c.args.self.now.site.now (suits_after first c.requires.suits)))
+    (λ k. ap (λ (f : Builtin). of_one_argument k f c.args.at (coded_in ns c.args.x)) (sym c.in-Dispose.is))
