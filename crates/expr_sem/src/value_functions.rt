@@ -1,24 +1,23 @@
 //! The standard functions of values: the static rule, and the code that each makes of the value.
-ghost use Rattle.std.specs.Prelude.{◌≡◌, None};
+ghost use Rattle.std.specs.Prelude.{◌≡◌};
 ghost use Rattle.std.specs.Option.{IfSome};
 ghost use Rattle.m2_base.specs.Gives.{gives};
 ghost use Rattle.m2_base.specs.Standard.{broken, cardinal, character};
 ghost use Rattle.m2_base.specs.States.{Frame, Waits};
-ghost use Rattle.m2_base.specs.declared.notes.Notes.{Notes as NotesOf};
 ghost use Rattle.const_eval.specs.Analyses.{Analysed};
 ghost use Rattle.const_eval.specs.Sites.{IsOperand};
 ghost use Rattle.expr_sem.specs.Coders.{Codes, Keeps, SuitsPlace, frame_of, nodes_of};
-ghost use Rattle.expr_sem.specs.Codings.{Coding, IsCoded, IsFragment, coded_in};
+ghost use Rattle.expr_sem.specs.Codings.{IsCoded, IsFragment, coded_in};
 ghost use Rattle.expr_sem.specs.Fragments.{IsIn, IsMade, part};
-ghost use Rattle.expr_sem.specs.Operators.{made as spec_made};
 ghost use Rattle.expr_sem.specs.Parts.{plain, ◌⨟◌};
-ghost use Rattle.expr_sem.specs.StandardFunctions.{magnitude as spec_magnitude, named_type as spec_named, on_value as spec_on_value};
-ghost use Rattle.expr_sem.specs.ValueFunctions.{IsRuleHere, code_of, code_to, ending as spec_ending, function_ending as spec_function_ending, function_target as spec_function_target, instrs_of, rule_of, target_of as spec_target, under};
-ghost use Rattle.expr_sem.specs.declared.value_functions.Ending.TheVariants as endings;
+ghost use Rattle.expr_sem.specs.StandardFunctions.{on_value as spec_on_value};
+ghost use Rattle.expr_sem.specs.ValueFunctions.{IsRuleHere, code_of, ending as spec_ending, instrs_of, rule_of};
+ghost use Rattle.expr_sem.specs.ValueFunctions.{target_of as spec_target};
 ghost use Rattle.type_rules.specs.Asks.{Reads, WhereKnown, WhereWaiting};
 ghost use Rattle.type_rules.specs.Scenes.{IsThere, WhereTold};
 ghost use Rattle.type_rules.specs.Sites.{SuitsSite, context_of};
 
+use crate::answers::answered;
 use crate::chains::{instr_behind, pair};
 use crate::coded::Coded;
 use crate::coder::Coder;
@@ -39,37 +38,21 @@ pub enum Rule {
     Val(Argument),
 }
 
-/// The type that an operand names.
-fn named_type(operand: Operand) -> Place
-    ensures told { result ≡ spec_named operand }
-    ensures there { (f : Frame) → IsThere f broken → IsOperand f operand → IsThere f result }
-{
-    match operand {
-        Operand::NamedType(of) => of,
-        _ => BROKEN,
-    }
-}
-
-/// The type that a function makes its argument one of.
-fn function_target(function: ValueFunction) -> Option<Place>
-    ensures told { result ≡ spec_function_target function }
-    ensures there { (f : Frame) → IsThere f character → IsThere f cardinal → IfSome result (λ of. IsThere f of) }
-{
-    match function {
-        ValueFunction::Chr => Some(CHARACTER),
-        ValueFunction::Ord => Some(CARDINAL),
-        _ => None,
-    }
-}
-
 /// The type that the value becomes one of.
 fn target_of(rule: Rule) -> Option<Place>
     ensures told { result ≡ spec_target rule }
     ensures there { (f : Frame) → IsThere f character → IsThere f cardinal → IsThere f broken → IsRuleHere f rule → IfSome result (λ of. IsThere f of) }
 {
     match rule {
-        Rule::Function(function) => function_target(function),
-        Rule::Val(of) => Some(named_type(of.operand)),
+        Rule::Function(function) => match function {
+            ValueFunction::Chr => Some(CHARACTER),
+            ValueFunction::Ord => Some(CARDINAL),
+            _ => None,
+        },
+        Rule::Val(of) => match of.operand {
+            Operand::NamedType(of) => Some(of),
+            _ => Some(BROKEN),
+        },
     }
 }
 
@@ -102,47 +85,6 @@ pub enum Ending {
     Oddness(u8),
 }
 
-/// The ending of ABS.
-#[tactic(auto, using(type_rules::proofs::Reading::reading))]
-fn magnitude<S: Scopes>(scopes: &mut S, site: &Site, of: Place) -> Ask<Ending>
-    requires suits { SuitsSite (S.state scopes.old).frame site.now }
-    requires of { IsThere (S.state scopes.old).frame of }
-    ensures reads { Reads (S.state scopes.old) (S.state scopes.new) }
-    ensures waits { WhereWaiting result (λ head. Waits (S.state scopes.old) (S.state scopes.new) head) }
-    ensures told { WhereTold (S.state scopes.old).frame (λ made.
-        WhereKnown result (λ ending. instrs_of ending ≡ spec_magnitude (context_of (S.state scopes.old).frame made site.now).scene of)) }
-{
-    let base = known!(base_of(scopes, site.around, of));
-    if base == INTEGER {
-        Ask::Known(Ending::Magnitude)
-    } else {
-        Ask::Known(Ending::Nothing)
-    }
-}
-
-/// The ending of a function.
-#[tactic(auto, using(type_rules::proofs::Reading::reading))]
-fn function_ending<S: Scopes>(
-    scopes: &mut S,
-    site: &Site,
-    function: ValueFunction,
-    of: Place,
-) -> Ask<Ending>
-    requires suits { SuitsSite (S.state scopes.old).frame site.now }
-    requires of { IsThere (S.state scopes.old).frame of }
-    ensures reads { Reads (S.state scopes.old) (S.state scopes.new) }
-    ensures waits { WhereWaiting result (λ head. Waits (S.state scopes.old) (S.state scopes.new) head) }
-    ensures told { WhereTold (S.state scopes.old).frame (λ made.
-        WhereKnown result (λ ending. instrs_of ending ≡ spec_function_ending (context_of (S.state scopes.old).frame made site.now).scene of function)) }
-{
-    match function {
-        ValueFunction::Abs => magnitude(scopes, site, of),
-        ValueFunction::Cap => Ask::Known(Ending::Capital),
-        ValueFunction::Odd => { Ask::Known(Ending::Oddness(known!(side_of(scopes, site, of)))) }
-        _ => Ask::Known(Ending::Nothing),
-    }
-}
-
 /// The ending of a rule; a value that is fitted has none.
 #[tactic(auto, using(type_rules::proofs::Reading::reading))]
 fn ending_of<S: Scopes>(scopes: &mut S, site: &Site, rule: Rule, of: Place) -> Ask<Ending>
@@ -154,27 +96,21 @@ fn ending_of<S: Scopes>(scopes: &mut S, site: &Site, rule: Rule, of: Place) -> A
         WhereKnown result (λ ending. instrs_of ending ≡ spec_ending (context_of (S.state scopes.old).frame made site.now).scene of rule)) }
 {
     match rule {
-        Rule::Function(function) => function_ending(scopes, site, function, of),
+        Rule::Function(function) => match function {
+            ValueFunction::Abs => {
+                let base = known!(base_of(scopes, site.around, of));
+                if base == INTEGER {
+                    Ask::Known(Ending::Magnitude)
+                } else {
+                    Ask::Known(Ending::Nothing)
+                }
+            }
+            ValueFunction::Cap => Ask::Known(Ending::Capital),
+            ValueFunction::Odd => { Ask::Known(Ending::Oddness(known!(side_of(scopes, site, of)))) }
+            _ => Ask::Known(Ending::Nothing),
+        },
         Rule::Val(_) => Ask::Known(Ending::Nothing),
     }
-}
-
-/// The test whether the remainder by 2 is 1.
-fn oddness(side: u8, fragments: &mut Fragments) -> Result<Fragment, Memory>
-    ensures { IsMade fragments.old.nodes.items fragments.new.nodes.items result (plain (instrs_of (endings.Oddness side))) }
-{
-    let remainder = pair(Instr::Push(2), Instr::Mod(side), fragments)?;
-    let is_one = pair(Instr::Push(1), Instr::Eq, fragments)?;
-    fragments.then(remainder, is_one)
-}
-
-/// A value with the test whether the remainder by 2 is 1.
-fn odd_behind(value: Fragment, side: u8, fragments: &mut Fragments) -> Result<Fragment, Memory>
-    requires value { IsIn fragments.old.nodes.items value }
-    ensures { IsMade fragments.old.nodes.items fragments.new.nodes.items result (part fragments.old.nodes.items value ⨟ plain (instrs_of (endings.Oddness side))) }
-{
-    let test = oddness(side, fragments)?;
-    fragments.then(value, test)
 }
 
 /// A value with its ending.
@@ -190,35 +126,16 @@ fn with_ending(
         Ending::Nothing => fragments.then(value, Fragment::Nothing),
         Ending::Magnitude => instr_behind(value, Instr::Abs, fragments),
         Ending::Capital => instr_behind(value, Instr::Cap, fragments),
-        Ending::Oddness(side) => odd_behind(value, side, fragments),
+        Ending::Oddness(side) => {
+            let remainder = pair(Instr::Push(2), Instr::Mod(side), fragments)?;
+            let is_one = pair(Instr::Push(1), Instr::Eq, fragments)?;
+            let test = fragments.then(remainder, is_one)?;
+            fragments.then(value, test)
+        }
     }
 }
 
 impl<S: Scopes> Coder<'_, '_, S> {
-    /// A value of a type with the ending of a rule.
-    fn ended(&mut self, rule: Rule, of: Place, value: Fragment) -> Result<Ask<Fragment>, Memory>
-        requires suits { SuitsPlace S.state self.old }
-        requires of { IsThere (frame_of S.state self.old) of }
-        requires value { IsIn (nodes_of self.old) value }
-        ensures keeps { Keeps self.old self.new }
-        ensures codes { Codes S.state self.old self.new result IsFragment part (λ c. gives (part (nodes_of self.old) value ⨟ plain (spec_ending c.scene of rule))) }
-    {
-        let after = asked!(ending_of(self.scopes, self.site, rule, of));
-        let code = with_ending(value, after, self.fragments)?;
-        Ok(Ask::Known(code))
-    }
-
-    /// The code of a value, and the ending of a rule behind it.
-    fn ended_code(&mut self, rule: Rule, v: Coded) -> Result<Ask<Fragment>, Memory>
-        requires suits { SuitsPlace S.state self.old }
-        requires v { IsCoded (frame_of S.state self.old) (nodes_of self.old) v }
-        ensures keeps { Keeps self.old self.new }
-        ensures codes { Codes S.state self.old self.new result IsFragment part (λ c. gives (code_to c rule (coded_in (nodes_of self.old) v) None)) }
-    {
-        let value = analysed!(value_code(self.scopes, self.site, v, self.fragments));
-        self.ended(rule, operand_type(&v.operand), value)
-    }
-
     /// The code of a value under a rule.
     fn rule_code(&mut self, rule: Rule, v: Coded) -> Result<Ask<Fragment>, Memory>
         requires suits { SuitsPlace S.state self.old }
@@ -229,42 +146,13 @@ impl<S: Scopes> Coder<'_, '_, S> {
     {
         match target_of(rule) {
             Some(to) => fitted_code(self.scopes, self.site, to, v, self.fragments),
-            None => self.ended_code(rule, v),
+            None => {
+                let value = analysed!(value_code(self.scopes, self.site, v, self.fragments));
+                let of = operand_type(&v.operand);
+                let after = asked!(ending_of(self.scopes, self.site, rule, of));
+                answered(with_ending(value, after, self.fragments))
+            }
         }
-    }
-
-    /// What a rule gives of a value, with its code.
-    fn with_code(&mut self, rule: Rule, given: Operand, v: Coded) -> Result<Ask<Coded>, Memory>
-        requires suits { SuitsPlace S.state self.old }
-        requires rule { IsRuleHere (frame_of S.state self.old) rule }
-        requires given { IsOperand (frame_of S.state self.old) given }
-        requires v { IsCoded (frame_of S.state self.old) (nodes_of self.old) v }
-        ensures keeps { Keeps self.old self.new }
-        ensures codes { Codes S.state self.old self.new result IsCoded coded_in (λ c. gives (spec_made given (code_of c rule (coded_in (nodes_of self.old) v)))) }
-    {
-        let code = analysed!(self.rule_code(rule, v));
-        Ok(Ask::Known(made(given, code)))
-    }
-
-    /// A rule on what stands for a value.
-    fn value_under(&mut self, rule: Rule, at: u32, v: Coded) -> Result<Ask<Coded>, Memory>
-        requires suits { SuitsPlace S.state self.old }
-        requires rule { IsRuleHere (frame_of S.state self.old) rule }
-        requires v { IsCoded (frame_of S.state self.old) (nodes_of self.old) v }
-        ensures keeps { Keeps self.old self.new }
-        ensures codes { Codes S.state self.old self.new result IsCoded coded_in (λ c. under c rule at (coded_in (nodes_of self.old) v)) }
-    {
-        let given = analysed!(rule_noted(
-            self.scopes,
-            self.site,
-            rule,
-            Argument {
-                at,
-                operand: v.operand
-            },
-            self.notes
-        ));
-        self.with_code(rule, given, v)
     }
 
     /// A rule on an argument, of which a value is wanted.
@@ -276,6 +164,12 @@ impl<S: Scopes> Coder<'_, '_, S> {
         ensures codes { Codes S.state self.old self.new result IsCoded coded_in (λ c. spec_on_value c at (coded_in (nodes_of self.old) x) (rule_of c rule at) (code_of c rule)) }
     {
         let v = analysed!(as_value(self.site, at, x, self.notes));
-        self.value_under(rule, at, v)
+        let argument = Argument {
+            at,
+            operand: v.operand,
+        };
+        let given = analysed!(rule_noted(self.scopes, self.site, rule, argument, self.notes));
+        let code = analysed!(self.rule_code(rule, v));
+        Ok(Ask::Known(made(given, code)))
     }
 }
