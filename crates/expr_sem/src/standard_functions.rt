@@ -1,32 +1,28 @@
 //! The code of the standard functions. What a function gives is the static rule's; where that is constant there is no code.
-ghost use Rattle.std.specs.Prelude.{◌≡◌, ◌<◌, ◌^◌, List, if◌then◌else◌, option_map, pos};
+ghost use Rattle.std.specs.Prelude.{◌≡◌, ◌<◌, ◌^◌, List, option_map};
 ghost use Rattle.std.specs.Option.{IfSome};
 ghost use Rattle.m2_base.specs.Gives.{and_then, gives};
 ghost use Rattle.m2_base.specs.Rows.{IsValue};
 ghost use Rattle.m2_base.specs.Standard.{cardinal};
-ghost use Rattle.m2_base.specs.States.{State};
 ghost use Rattle.m2_base.specs.Statics.Ranges.{range};
-ghost use Rattle.m2_base.specs.Statics.Types.{is_broken as spec_broken};
 ghost use Rattle.m2_base.specs.declared.notes.Notes.{Notes as NotesOf};
 ghost use Rattle.m2_base.specs.declared.operands.Operand.TheVariants as operands;
-ghost use Rattle.m2_base.specs.declared.sites.Site.{Site as SiteOf};
-ghost use Rattle.code_form.specs.declared.instr.Instr.TheVariants as instrs;
 ghost use Rattle.const_eval.specs.Calls.{of_type, of_value as spec_of_value};
 ghost use Rattle.const_eval.specs.Sites.{IsOperand};
 ghost use Rattle.const_eval.specs.declared.calls.TypeFunction.TheVariants as functions;
 ghost use Rattle.expr_sem.specs.Coders.{Codes, Keeps, SuitsPlace, frame_of, nodes_of};
-ghost use Rattle.expr_sem.specs.Coded.{bare, coded, in_error};
-ghost use Rattle.expr_sem.specs.Codings.{Coding, IsCoded, IsFragment, coded_in, high_in};
-ghost use Rattle.expr_sem.specs.Fragments.{IsIn, part};
+ghost use Rattle.expr_sem.specs.Coded.{bare, coded};
+ghost use Rattle.expr_sem.specs.Codings.{Coding, IsCoded, IsFragment, coded_in};
+ghost use Rattle.expr_sem.specs.Fragments.{part};
 ghost use Rattle.expr_sem.specs.Kinds.{IsKindHere};
 ghost use Rattle.expr_sem.specs.Operators.{made as spec_made};
 ghost use Rattle.expr_sem.specs.StandardFunctions.{as_variable as spec_variable, function_of_one as spec_one, high_code as spec_high, high_of as spec_high_of, high_of_range as spec_range, high_of_variable as spec_high_variable, on_value as spec_on_value, size_code as spec_size, value_of_type as spec_value};
-ghost use Rattle.expr_sem.specs.ValueFunctions.{code_of, pushed_high, pushed_size};
+ghost use Rattle.expr_sem.specs.ValueFunctions.{code_of};
 ghost use Rattle.expr_sem.specs.declared.fragments.Node.{Node};
 ghost use Rattle.expr_sem.specs.declared.value_functions.Rule.TheVariants as rules;
-ghost use Rattle.type_rules.specs.Scenes.{IsThere};
 ghost use Rattle.type_rules.specs.Sites.{SuitsSite};
 
+use crate::answers::answered;
 use crate::coded::{Coded, Placed};
 use crate::coder::Coder;
 use crate::elements::high_or_none;
@@ -51,41 +47,6 @@ fn high_of_range(ends: Option<(i64, i64)>) -> i64
     }
 }
 
-/// How far a range reaches above its low end, pushed.
-fn push_high(ends: Option<(i64, i64)>) -> Instr
-    requires { IfSome ends (λ ends. IsValue ends.0 × IsValue ends.1) }
-    ensures { result ≡ instrs.Push (spec_range (option_map (λ ends. range ends.0 ends.1) ends)) }
-{
-    Instr::Push(high_of_range(ends))
-}
-
-/// The number of elements less 1 of an array with this index type.
-fn index_high<S: Scopes>(
-    scopes: &mut S,
-    site: &Site,
-    index: Place,
-    fragments: &mut Fragments,
-) -> Result<Ask<Fragment>, Memory>
-    requires suits { SuitsSite (S.state scopes.old).frame site.now }
-    requires index { IsThere (S.state scopes.old).frame index }
-    ensures { (notes : NotesOf) → Coding (S.state scopes.old) (S.state scopes.new) notes notes fragments.old.nodes.items fragments.new.nodes.items site.now result IsFragment part (λ c. gives (pushed_high c.scene index)) }
-{
-    let ends = asked!(range_of(scopes, site.around, index));
-    let code = fragments.one(push_high(ends))?;
-    Ok(Ask::Known(code))
-}
-
-/// The number of elements less 1 of an open array, as its code says; of anything else nobody asks.
-fn open_high(x: Coded, fragments: &mut Fragments) -> Result<Ask<Fragment>, Memory>
-    requires { IfSome x.high (λ fragment. IsIn fragments.old.nodes.items fragment) }
-    ensures { (state : State) (notes : NotesOf) (site : SiteOf) → Coding state state notes notes fragments.old.nodes.items fragments.new.nodes.items site result IsFragment part (λ c. gives (high_in fragments.old.nodes.items x.high)) }
-{
-    match high_or_none(x.high, fragments) {
-        Ok(code) => Ok(Ask::Known(code)),
-        Err(memory) => Err(memory),
-    }
-}
-
 /// The number of elements less 1 of an array variable, by the meaning of its type.
 pub fn high_code<S: Scopes>(
     scopes: &mut S,
@@ -100,8 +61,11 @@ pub fn high_code<S: Scopes>(
     ensures { (notes : NotesOf) → Coding (S.state scopes.old) (S.state scopes.new) notes notes fragments.old.nodes.items fragments.new.nodes.items site.now result IsFragment part (λ c. gives (spec_high c.scene (coded_in fragments.old.nodes.items x) kind)) }
 {
     match kind {
-        RowMeaning::Array(index, _, _) => index_high(scopes, site, index, fragments),
-        _ => open_high(x, fragments),
+        RowMeaning::Array(index, _, _) => {
+            let ends = asked!(range_of(scopes, site.around, index));
+            answered(fragments.one(Instr::Push(high_of_range(ends))))
+        }
+        _ => answered(high_or_none(x.high, fragments)),
     }
 }
 
@@ -123,27 +87,6 @@ fn high_computed<S: Scopes>(
 }
 
 impl<S: Scopes> Coder<'_, '_, S> {
-    /// HIGH of an array variable with this index type, unless that is in error.
-    fn high_of_array(
-        &mut self,
-        x: Coded,
-        index: Place,
-        kind: RowMeaning,
-    ) -> Result<Ask<Coded>, Memory>
-        requires suits { SuitsPlace S.state self.old }
-        requires x { IsCoded (frame_of S.state self.old) (nodes_of self.old) x }
-        requires index { IsThere (frame_of S.state self.old) index }
-        requires kind { IsKindHere (frame_of S.state self.old) kind }
-        ensures keeps { Keeps self.old self.new }
-        ensures codes { Codes S.state self.old self.new result IsCoded coded_in (λ c. if spec_broken c.scene index then gives in_error else gives (coded (operands.Computed cardinal) (spec_high c.scene (coded_in (nodes_of self.old) x) kind))) }
-    {
-        let broken = asked!(is_broken(self.scopes, self.site.around, index));
-        if broken {
-            return Ok(Ask::Known(Coded::in_error()));
-        }
-        high_computed(self.scopes, self.site, x, kind, self.fragments)
-    }
-
     /// HIGH of a variable, by the meaning of its type.
     fn high_of(&mut self, at: u32, x: Coded, kind: RowMeaning) -> Result<Ask<Coded>, Memory>
         requires suits { SuitsPlace S.state self.old }
@@ -153,7 +96,12 @@ impl<S: Scopes> Coder<'_, '_, S> {
         ensures codes { Codes S.state self.old self.new result IsCoded coded_in (λ c. spec_high_of c at (coded_in (nodes_of self.old) x) kind) }
     {
         match kind {
-            RowMeaning::Array(index, _, _) => self.high_of_array(x, index, kind),
+            RowMeaning::Array(index, _, _) => {
+                if asked!(is_broken(self.scopes, self.site.around, index)) {
+                    return Ok(Ask::Known(Coded::in_error()));
+                }
+                high_computed(self.scopes, self.site, x, kind, self.fragments)
+            }
             RowMeaning::OpenArray(_) => high_computed(
                 self.scopes,
                 self.site,
@@ -172,21 +120,6 @@ pub fn has_small_ordinal(place: Place)
 {}
 
 impl<S: Scopes> Coder<'_, '_, S> {
-    /// HIGH of an argument that was a variable, or is in error.
-    fn high_of_variable(&mut self, at: u32, x: Coded) -> Result<Ask<Coded>, Memory>
-        requires suits { SuitsPlace S.state self.old }
-        requires x { IsCoded (frame_of S.state self.old) (nodes_of self.old) x }
-        ensures keeps { Keeps self.old self.new }
-        ensures codes { Codes S.state self.old self.new result IsCoded coded_in (λ c. spec_high_variable c at (coded_in (nodes_of self.old) x)) }
-    {
-        if is_bad(x.operand) {
-            return Ok(Ask::Known(Coded::in_error()));
-        }
-        let (place, kind) = asked!(stand(self.scopes, self.site.around, operand_type(&x.operand)));
-        has_small_ordinal(place);
-        self.high_of(at, x, kind)
-    }
-
     /// HIGH.
     fn high(&mut self, at: u32, x: Coded) -> Result<Ask<Coded>, Memory>
         requires suits { SuitsPlace S.state self.old }
@@ -195,49 +128,13 @@ impl<S: Scopes> Coder<'_, '_, S> {
         ensures codes { Codes S.state self.old self.new result IsCoded coded_in (λ c. and_then (spec_variable c at (coded_in (nodes_of self.old) x)) (spec_high_variable c at)) }
     {
         let v = analysed!(as_variable(self.site, at, x, self.notes));
-        self.high_of_variable(at, v)
+        if is_bad(v.operand) {
+            return Ok(Ask::Known(Coded::in_error()));
+        }
+        let (place, kind) = asked!(stand(self.scopes, self.site.around, operand_type(&v.operand)));
+        has_small_ordinal(place);
+        self.high_of(at, v, kind)
     }
-}
-
-/// A size, pushed.
-fn push_size(size: u64) -> Instr
-    requires { size < 2 ^ 32 }
-    ensures { result ≡ instrs.Push (pos size) }
-{
-    Instr::Push(size as i64)
-}
-
-/// The code of SIZE of a variable of this type.
-fn size_code<S: Scopes>(
-    scopes: &mut S,
-    site: &Site,
-    of: Place,
-    fragments: &mut Fragments,
-) -> Result<Ask<Fragment>, Memory>
-    requires suits { SuitsSite (S.state scopes.old).frame site.now }
-    requires of { IsThere (S.state scopes.old).frame of }
-    ensures { (notes : NotesOf) → Coding (S.state scopes.old) (S.state scopes.new) notes notes fragments.old.nodes.items fragments.new.nodes.items site.now result IsFragment part (λ c. gives (pushed_size c.scene of)) }
-{
-    let size = asked!(size_of(scopes, site.around, of));
-    let code = fragments.one(push_size(size))?;
-    Ok(Ask::Known(code))
-}
-
-/// What SIZE gives of an operand, with its code.
-fn size_made<S: Scopes>(
-    scopes: &mut S,
-    site: &Site,
-    given: Operand,
-    x: Coded,
-    fragments: &mut Fragments,
-) -> Result<Ask<Coded>, Memory>
-    requires suits { SuitsSite (S.state scopes.old).frame site.now }
-    requires given { IsOperand (S.state scopes.old).frame given }
-    requires x { IsCoded (S.state scopes.old).frame fragments.old.nodes.items x }
-    ensures { (notes : NotesOf) → Coding (S.state scopes.old) (S.state scopes.new) notes notes fragments.old.nodes.items fragments.new.nodes.items site.now result IsCoded coded_in (λ c. gives (spec_made given (spec_size c (coded_in fragments.old.nodes.items x)))) }
-{
-    let code = analysed!(size_code(scopes, site, operand_type(&x.operand), fragments));
-    Ok(Ask::Known(made(given, code)))
 }
 
 impl<S: Scopes> Coder<'_, '_, S> {
@@ -259,7 +156,9 @@ impl<S: Scopes> Coder<'_, '_, S> {
             argument,
             self.notes
         ));
-        size_made(self.scopes, self.site, given, x, self.fragments)
+        let size = asked!(size_of(self.scopes, self.site.around, operand_type(&x.operand)));
+        let code = self.fragments.one(Instr::Push(size as i64))?;
+        Ok(Ask::Known(made(given, code)))
     }
 }
 
