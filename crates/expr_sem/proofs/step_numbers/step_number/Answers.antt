@@ -9,7 +9,7 @@ use Rattle.m2_base.specs.declared.rows.Place.{Place}
 use Rattle.const_eval.specs.Sites.{IsOperand}
 use Rattle.const_eval.proofs.TypesThere.{type_there}
 use Rattle.type_rules.specs.Scenes.{IsThere}
-use Rattle.type_rules.specs.Sites.{SuitsSite, context_of}
+use Rattle.type_rules.specs.Sites.{context_of}
 use Rattle.expr_sem.specs.Coded.{in_error}
 use Rattle.expr_sem.specs.Codings.{IsCoded, coded_in}
 use Rattle.expr_sem.specs.StandardProcedures.{beside, number_of_type, step_type}

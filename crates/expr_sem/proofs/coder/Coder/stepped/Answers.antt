@@ -14,7 +14,7 @@ use Rattle.expr_sem.specs.Fragments.{part}
 use Rattle.expr_sem.specs.Parts.{Part}
 use Rattle.expr_sem.specs.StandardProcedures.{no_value, step_instrs, update}
 use Rattle.expr_sem.specs.Updates.{instrs_of, updated_by}
-use Rattle.expr_sem.proofs.Following.{by_coding, by_question, followed_by, holds, still_in, then_full, then_waits}
+use Rattle.expr_sem.proofs.Following.{by_coding, by_question, followed_by, then_full, then_waits}
 use Rattle.expr_sem.proofs.Making.{after_question}
 use Rattle.expr_sem.proofs.Onwards.{holds_after, in_after, suits_after}
 use Rattle.expr_sem.proofs.Operating.{coding_after, described, unknown, unmade, value_grown}
