@@ -1,9 +1,7 @@
 //! When a value is checked against the range of a type.
 ghost use Rattle.std.specs.Prelude.{◌≡◌, option_map};
 ghost use Rattle.m2_base.specs.Gives.{gives};
-ghost use Rattle.m2_base.specs.States.{Waits};
 ghost use Rattle.m2_base.specs.Statics.Ranges.{range};
-ghost use Rattle.m2_base.specs.Statics.Types.{range_of as spec_range};
 ghost use Rattle.m2_base.specs.declared.notes.Notes.{Notes};
 ghost use Rattle.const_eval.specs.Sites.{IsOperand};
 ghost use Rattle.expr_sem.specs.Codings.{Coding, IsCoded, IsFragment, coded_in};
@@ -11,8 +9,7 @@ ghost use Rattle.expr_sem.specs.Fitting.{check_of as spec_check_of, fit_check as
 ghost use Rattle.expr_sem.specs.Fragments.{IsMade, part};
 ghost use Rattle.expr_sem.specs.Parts.{plain};
 ghost use Rattle.expr_sem.specs.RangeChecks.{checks_of};
-ghost use Rattle.type_rules.specs.Asks.{Reads, WhereKnown, WhereWaiting};
-ghost use Rattle.type_rules.specs.Scenes.{IsThere, Suits, WhereTold, scene_of};
+ghost use Rattle.type_rules.specs.Scenes.{IsThere};
 ghost use Rattle.type_rules.specs.Sites.{SuitsSite};
 
 use crate::answers::answered;
@@ -20,7 +17,7 @@ use crate::coded::Coded;
 use crate::fragments::{Fragment, Fragments};
 use crate::values::value_code;
 use code_form::Instr;
-use m2_base::{Around, Ask, Memory, Operand, Place, Scopes, Site};
+use m2_base::{Ask, Memory, Operand, Place, Scopes, Site};
 use type_rules::range_of;
 
 /// The range against which a value of the first range is checked: the second, where the first isn't within it.
@@ -44,27 +41,6 @@ fn check(ends: Option<(i64, i64)>, fragments: &mut Fragments) -> Result<Fragment
     }
 }
 
-/// The range against which a value of one type is checked that is to be of another.
-#[tactic(auto, using(type_rules::proofs::Reading::reading))]
-fn range_to_check<S: Scopes>(
-    scopes: &mut S,
-    around: &Around,
-    from: Place,
-    to: Place,
-) -> Ask<Option<(i64, i64)>>
-    requires suits { Suits (S.state scopes.old).frame around.now }
-    requires from { IsThere (S.state scopes.old).frame from }
-    requires to { IsThere (S.state scopes.old).frame to }
-    ensures reads { Reads (S.state scopes.old) (S.state scopes.new) }
-    ensures waits { WhereWaiting result (λ head. Waits (S.state scopes.old) (S.state scopes.new) head) }
-    ensures told { WhereTold (S.state scopes.old).frame (λ made.
-        WhereKnown result (λ ends. let scene = scene_of (S.state scopes.old).frame made around.now in checks_of ends ≡ spec_check_of (spec_range scene from) (spec_range scene to))) }
-{
-    let values = known!(range_of(scopes, around, from));
-    let wanted = known!(range_of(scopes, around, to));
-    Ask::Known(ends_to_check(values, wanted))
-}
-
 /// The check behind a value of one type that is to be of another.
 fn fit_check<S: Scopes>(
     scopes: &mut S,
@@ -78,10 +54,9 @@ fn fit_check<S: Scopes>(
     requires to { IsThere (S.state scopes.old).frame to }
     ensures { (notes : Notes) → Coding (S.state scopes.old) (S.state scopes.new) notes notes fragments.old.nodes.items fragments.new.nodes.items site.now result IsFragment part (λ c. gives (spec_fit_check c.scene from to)) }
 {
-    match range_to_check(scopes, site.around, from, to) {
-        Ask::Known(ends) => answered(check(ends, fragments)),
-        Ask::DontKnowYet(head) => Ok(Ask::DontKnowYet(head)),
-    }
+    let values = asked!(range_of(scopes, site.around, from));
+    let wanted = asked!(range_of(scopes, site.around, to));
+    answered(check(ends_to_check(values, wanted), fragments))
 }
 
 /// The check behind an operand that is to be of a type. A constant was looked at already, and a procedure has no range.
