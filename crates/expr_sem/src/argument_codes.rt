@@ -1,5 +1,5 @@
 //! The code of the arguments of a call, one behind another.
-ghost use Rattle.std.specs.Prelude.{◌≡◌, List, Some, map};
+ghost use Rattle.std.specs.Prelude.{◌≡◌, List, map};
 ghost use Rattle.m2_base.specs.Gives.{gives};
 ghost use Rattle.m2_base.specs.States.{Frame, State};
 ghost use Rattle.m2_base.specs.declared.notes.Notes.{Notes as NotesOf};
@@ -8,7 +8,6 @@ ghost use Rattle.expr_sem.specs.ArgumentCodes.{IsArgument, argument_in, paramete
 ghost use Rattle.expr_sem.specs.Arguments.{after_argument};
 ghost use Rattle.expr_sem.specs.Codings.{Coding};
 ghost use Rattle.expr_sem.specs.ExpressionParts.{all_passed as spec_all, behind_first as spec_behind};
-ghost use Rattle.expr_sem.specs.Fragments.{part};
 ghost use Rattle.expr_sem.specs.declared.fragments.Node.{Node};
 
 use crate::arguments::Parameter;
@@ -36,23 +35,6 @@ pub(crate) fn all_passed(params: &[Parameter], code: Option<Fragment>) -> Option
     }
 }
 
-/// A fragment and the code of an argument behind it.
-fn behind_fragment(
-    first: Fragment,
-    argument: Option<Fragment>,
-    fragments: &mut Fragments,
-) -> Result<Ask<Option<Fragment>>, Memory>
-    ensures { (state : State) (notes : NotesOf) (site : SiteOf) → Coding state state notes notes fragments.old.nodes.items fragments.new.nodes.items site result IsArgument argument_in (λ c. gives (after_argument (Some (part fragments.old.nodes.items first)) (argument_in fragments.old.nodes.items argument))) }
-{
-    match argument {
-        None => Ok(Ask::Known(None)),
-        Some(last) => {
-            let both = fragments.then(first, last)?;
-            Ok(Ask::Known(Some(both)))
-        }
-    }
-}
-
 /// The code of the arguments so far, and that of a further one behind it.
 pub(crate) fn joined(
     code: Option<Fragment>,
@@ -61,8 +43,12 @@ pub(crate) fn joined(
 ) -> Result<Ask<Option<Fragment>>, Memory>
     ensures { (state : State) (notes : NotesOf) (site : SiteOf) → Coding state state notes notes fragments.old.nodes.items fragments.new.nodes.items site result IsArgument argument_in (λ c. gives (after_argument (argument_in fragments.old.nodes.items code) (argument_in fragments.old.nodes.items argument))) }
 {
-    match code {
-        None => Ok(Ask::Known(None)),
-        Some(first) => behind_fragment(first, argument, fragments),
-    }
+    let Some(first) = code else {
+        return Ok(Ask::Known(None));
+    };
+    let Some(last) = argument else {
+        return Ok(Ask::Known(None));
+    };
+    let both = fragments.then(first, last)?;
+    Ok(Ask::Known(Some(both)))
 }
