@@ -1,19 +1,13 @@
 //! NEW and DISPOSE of a pointer.
-ghost use Rattle.std.specs.Prelude.{◌≡◌, ◌∷◌, [], None, pos, true};
+ghost use Rattle.std.specs.Prelude.{◌≡◌, true};
 ghost use Rattle.m2_base.specs.Gives.{gives};
 ghost use Rattle.m2_base.specs.States.{State, Waits};
-ghost use Rattle.m2_base.specs.Statics.Operands.{operand_type as spec_type};
 ghost use Rattle.m2_base.specs.Statics.TypeParts.{target_of as spec_target};
-ghost use Rattle.m2_base.specs.Statics.Types.{size_of as spec_size};
 ghost use Rattle.m2_base.specs.declared.notes.Notes.{Notes as NotesOf};
 ghost use Rattle.m2_base.specs.declared.sites.Site.{Site as SiteOf};
-ghost use Rattle.code_form.specs.declared.instr.Instr.TheVariants as instrs;
-ghost use Rattle.expr_sem.specs.Coded.{coded};
 ghost use Rattle.expr_sem.specs.Codings.{Coding, IsCoded, coded_in};
-ghost use Rattle.expr_sem.specs.Fragments.{IsIn, part};
-ghost use Rattle.expr_sem.specs.Parts.{plain, ◌⨟◌};
-ghost use Rattle.expr_sem.specs.Rooms.{room_at, room_of as spec_room};
-ghost use Rattle.expr_sem.specs.StandardProcedures.{disposed as spec_disposed, new_room as spec_new, no_value};
+ghost use Rattle.expr_sem.specs.Fragments.{IsIn};
+ghost use Rattle.expr_sem.specs.StandardProcedures.{disposed as spec_disposed, new_room as spec_new};
 ghost use Rattle.type_rules.specs.Asks.{Reads, WhereKnown, WhereWaiting};
 ghost use Rattle.type_rules.specs.Scenes.{IsThere, Suits, WhereTold, scene_of};
 ghost use Rattle.type_rules.specs.Sites.{SuitsSite};
@@ -21,7 +15,7 @@ ghost use Rattle.type_rules.specs.Sites.{SuitsSite};
 use crate::chains::{instr_behind, pair};
 use crate::coded::Coded;
 use crate::elements::{cells_of, target_named};
-use crate::fragments::{Fragment, Fragments};
+use crate::fragments::Fragments;
 use crate::updates::NO_VALUE;
 use code_form::Instr;
 use const_eval::{is_bad, is_broken};
@@ -47,60 +41,6 @@ fn target_of<S: Scopes>(scopes: &mut S, around: &Around, of: Place) -> Ask<Place
     }
 }
 
-/// Room for a variable of this type, for the pointer at this address.
-fn room_made<S: Scopes>(
-    scopes: &mut S,
-    site: &Site,
-    of: Place,
-    pointer: Fragment,
-    fragments: &mut Fragments,
-) -> Result<Ask<Coded>, Memory>
-    requires suits { SuitsSite (S.state scopes.old).frame site.now }
-    requires of { IsThere (S.state scopes.old).frame of }
-    requires pointer { IsIn fragments.old.nodes.items pointer }
-    ensures { (notes : NotesOf) → Coding (S.state scopes.old) (S.state scopes.new) notes notes fragments.old.nodes.items fragments.new.nodes.items site.now result IsCoded coded_in (λ c. gives (room_at (part fragments.old.nodes.items pointer) (spec_size c.scene of))) }
-{
-    let size = asked!(cells_of(scopes, site.around, of));
-    let code = instr_behind(pointer, Instr::New(size), fragments)?;
-    Ok(Ask::Known(Coded::new(NO_VALUE, code)))
-}
-
-/// Room for a variable of this type, unless that is in error.
-fn room_of<S: Scopes>(
-    scopes: &mut S,
-    site: &Site,
-    of: Place,
-    pointer: Fragment,
-    fragments: &mut Fragments,
-) -> Result<Ask<Coded>, Memory>
-    requires suits { SuitsSite (S.state scopes.old).frame site.now }
-    requires of { IsThere (S.state scopes.old).frame of }
-    requires pointer { IsIn fragments.old.nodes.items pointer }
-    ensures { (notes : NotesOf) → Coding (S.state scopes.old) (S.state scopes.new) notes notes fragments.old.nodes.items fragments.new.nodes.items site.now result IsCoded coded_in (λ c. gives (spec_room c.scene (part fragments.old.nodes.items pointer) of)) }
-{
-    let broken = asked!(is_broken(scopes, site.around, of));
-    if broken {
-        return Ok(Ask::Known(Coded::in_error()));
-    }
-    room_made(scopes, site, of, pointer, fragments)
-}
-
-/// NEW of a pointer that isn't in error.
-fn pointed_room<S: Scopes>(
-    scopes: &mut S,
-    site: &Site,
-    x: Coded,
-    fragments: &mut Fragments,
-) -> Result<Ask<Coded>, Memory>
-    requires suits { SuitsSite (S.state scopes.old).frame site.now }
-    requires item { site.now.item ≡ None }
-    requires x { IsCoded (S.state scopes.old).frame fragments.old.nodes.items x }
-    ensures { (notes : NotesOf) → Coding (S.state scopes.old) (S.state scopes.new) notes notes fragments.old.nodes.items fragments.new.nodes.items site.now result IsCoded coded_in (λ c. gives (spec_room c.scene (part fragments.old.nodes.items x.code) (spec_target c.scene (spec_type x.operand)))) }
-{
-    let of = asked!(target_of(scopes, site.around, operand_type(&x.operand)));
-    room_of(scopes, site, of, x.code, fragments)
-}
-
 /// NEW of a pointer, unless it is in error or what it points to is. Only statements ask for it; elsewhere the error is that
 /// memory is wanted, which comes about in no module.
 pub fn new_room<S: Scopes>(
@@ -119,16 +59,12 @@ pub fn new_room<S: Scopes>(
     if site.item.is_some() {
         return Err(Memory);
     }
-    pointed_room(scopes, site, x, fragments)
-}
-
-/// The pointer at this address is NIL then.
-fn emptied(pointer: Fragment, fragments: &mut Fragments) -> Result<Ask<Coded>, Memory>
-    requires pointer { IsIn fragments.old.nodes.items pointer }
-    ensures { (state : State) (notes : NotesOf) (site : SiteOf) → SuitsSite state.frame site → Coding state state notes notes fragments.old.nodes.items fragments.new.nodes.items site result IsCoded coded_in (λ c. gives (coded no_value (part fragments.old.nodes.items pointer ⨟ plain (instrs.Push (pos 0) ∷ instrs.Store ∷ [])))) }
-{
-    let stored = pair(Instr::Push(0), Instr::Store, fragments)?;
-    let code = fragments.then(pointer, stored)?;
+    let of = asked!(target_of(scopes, site.around, operand_type(&x.operand)));
+    if asked!(is_broken(scopes, site.around, of)) {
+        return Ok(Ask::Known(Coded::in_error()));
+    }
+    let size = asked!(cells_of(scopes, site.around, of));
+    let code = instr_behind(x.code, Instr::New(size), fragments)?;
     Ok(Ask::Known(Coded::new(NO_VALUE, code)))
 }
 
@@ -140,5 +76,7 @@ pub fn disposed(x: Coded, fragments: &mut Fragments) -> Result<Ask<Coded>, Memor
     if is_bad(x.operand) {
         return Ok(Ask::Known(Coded::in_error()));
     }
-    emptied(x.code, fragments)
+    let stored = pair(Instr::Push(0), Instr::Store, fragments)?;
+    let code = fragments.then(x.code, stored)?;
+    Ok(Ask::Known(Coded::new(NO_VALUE, code)))
 }
