@@ -1,14 +1,9 @@
 //! Arguments of standard procedures that must be variables.
-ghost use Rattle.std.specs.Prelude.{◌≡◌, List, if◌then◌else◌};
-ghost use Rattle.m2_base.specs.Gives.{gives};
+ghost use Rattle.std.specs.Prelude.{◌≡◌, List};
 ghost use Rattle.m2_base.specs.States.{State, Waits};
-ghost use Rattle.m2_base.specs.Statics.Contexts.{refuse};
-ghost use Rattle.m2_base.specs.Statics.Diagnostics.{wrong_argument};
-ghost use Rattle.const_eval.specs.Sites.{IsOperand};
-ghost use Rattle.expr_sem.specs.Coded.{in_error};
 ghost use Rattle.expr_sem.specs.Codings.{Coding, IsCoded, coded_in};
 ghost use Rattle.expr_sem.specs.StandardFunctions.{as_variable as spec_variable};
-ghost use Rattle.expr_sem.specs.StandardProcedures.{variable_argument as spec_argument, variable_where as spec_where};
+ghost use Rattle.expr_sem.specs.StandardProcedures.{variable_argument as spec_argument};
 ghost use Rattle.expr_sem.specs.VariableArguments.{is_wanted as spec_wanted};
 ghost use Rattle.expr_sem.specs.declared.fragments.Node.{Node};
 ghost use Rattle.type_rules.specs.Asks.{Reads, WhereKnown, WhereWaiting};
@@ -65,42 +60,6 @@ fn is_wanted<S: Scopes>(scopes: &mut S, site: &Site, wanted: Wanted, of: Place) 
     }
 }
 
-/// A variable whose type is as wanted, or what is refused otherwise.
-fn wanted_or_refused(
-    site: &Site,
-    at: u32,
-    holds: bool,
-    x: Coded,
-    notes: &mut Notes,
-) -> Result<Ask<Coded>, Memory>
-    ensures { (state : State) (nodes : List Node) → IsCoded state.frame nodes x → Coding state state notes.old notes.new nodes nodes site.now result IsCoded coded_in (λ c. if holds then gives (coded_in nodes x) else refuse c at wrong_argument in_error) }
-{
-    if holds {
-        Ok(Ask::Known(x))
-    } else {
-        refused(site, at, Diagnostic::WrongArgument, notes)
-    }
-}
-
-/// An argument that is a variable, or in error, whose type must be as wanted.
-fn variable_where<S: Scopes>(
-    scopes: &mut S,
-    site: &Site,
-    wanted: Wanted,
-    x: Placed,
-    notes: &mut Notes,
-) -> Result<Ask<Coded>, Memory>
-    requires suits { SuitsSite (S.state scopes.old).frame site.now }
-    requires x { IsOperand (S.state scopes.old).frame x.coded.operand }
-    ensures { (nodes : List Node) → IsCoded (S.state scopes.old).frame nodes x.coded → Coding (S.state scopes.old) (S.state scopes.new) notes.old notes.new nodes nodes site.now result IsCoded coded_in (λ c. spec_where c x.at (spec_wanted c.scene wanted) (coded_in nodes x.coded)) }
-{
-    if is_bad(x.coded.operand) {
-        return Ok(Ask::Known(x.coded));
-    }
-    let holds = asked!(is_wanted(scopes, site, wanted, operand_type(&x.coded.operand)));
-    wanted_or_refused(site, x.at, holds, x.coded, notes)
-}
-
 /// An argument that must be a variable whose type is as wanted.
 pub fn variable_argument<S: Scopes>(
     scopes: &mut S,
@@ -114,5 +73,11 @@ pub fn variable_argument<S: Scopes>(
     ensures { (nodes : List Node) → IsCoded (S.state scopes.old).frame nodes x.coded → Coding (S.state scopes.old) (S.state scopes.new) notes.old notes.new nodes nodes site.now result IsCoded coded_in (λ c. spec_argument c x.at (spec_wanted c.scene wanted) (coded_in nodes x.coded)) }
 {
     let v = analysed!(as_variable(site, x.at, x.coded, notes));
-    variable_where(scopes, site, wanted, Placed { at: x.at, coded: v }, notes)
+    if is_bad(v.operand) {
+        return Ok(Ask::Known(v));
+    }
+    if asked!(is_wanted(scopes, site, wanted, operand_type(&v.operand))) {
+        return Ok(Ask::Known(v));
+    }
+    refused(site, x.at, Diagnostic::WrongArgument, notes)
 }
