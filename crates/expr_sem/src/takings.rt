@@ -1,20 +1,16 @@
 //! What becomes of a value for a variable of a type.
-ghost use Rattle.std.specs.Prelude.{◌≡◌, ◌&&◌, ◌||◌, if◌then◌else◌};
-ghost use Rattle.m2_base.specs.Rows.{is_same_place};
-ghost use Rattle.m2_base.specs.Standard.{character};
-ghost use Rattle.m2_base.specs.States.{Frame, Waits};
+ghost use Rattle.std.specs.Prelude.{◌≡◌, ◌||◌};
+ghost use Rattle.m2_base.specs.States.{Waits};
 ghost use Rattle.m2_base.specs.Statics.Assignable.{taken_into as spec_taken_into};
-ghost use Rattle.m2_base.specs.Statics.Contexts.{Source};
-ghost use Rattle.m2_base.specs.Statics.Operands.{char_or_same as spec_char_or_same, is_string as spec_string};
 ghost use Rattle.m2_base.specs.Statics.Types.{is_broken as spec_broken, kind_of};
-ghost use Rattle.const_eval.specs.Sites.{IsNamed, IsOperand};
+ghost use Rattle.const_eval.specs.Sites.{IsOperand};
 ghost use Rattle.expr_sem.specs.Takings.{IsTaking, taken_or_refused as spec_taken_or_refused, taking as spec_taking};
 ghost use Rattle.expr_sem.specs.Values.{has_broken_part as spec_broken_part, is_passed_over as spec_passed_over};
 ghost use Rattle.type_rules.specs.Asks.{Reads, WhereKnown, WhereWaiting};
 ghost use Rattle.type_rules.specs.Scenes.{IsThere, Suits, WhereTold, scene_of};
 ghost use Rattle.type_rules.specs.Sites.{SuitsSite, context_of};
 
-use const_eval::{char_of_string, is_broken};
+use const_eval::{char_of_string, is_bad, is_broken};
 use m2_base::{Around, Ask, Operand, Place, RowMeaning, Scopes, Site};
 use type_rules::{CHARACTER, assignable, base_of, is_one_char, is_string, stand};
 
@@ -63,31 +59,6 @@ fn has_broken_part<S: Scopes>(scopes: &mut S, around: &Around, of: Place) -> Ask
     }
 }
 
-/// Whether nothing is said of any value for a variable of a type, or of a string for it.
-#[tactic(auto, using(type_rules::proofs::Reading::reading))]
-fn is_type_passed_over<S: Scopes>(
-    scopes: &mut S,
-    around: &Around,
-    to: Place,
-    operand: Operand,
-) -> Ask<bool>
-    requires suits { Suits (S.state scopes.old).frame around.now }
-    requires to { IsThere (S.state scopes.old).frame to }
-    ensures reads { Reads (S.state scopes.old) (S.state scopes.new) }
-    ensures waits { WhereWaiting result (λ head. Waits (S.state scopes.old) (S.state scopes.new) head) }
-    ensures told { WhereTold (S.state scopes.old).frame (λ made.
-        WhereKnown result (λ holds. let scene = scene_of (S.state scopes.old).frame made around.now in holds ≡ (spec_broken scene to || (spec_string operand && spec_broken_part scene (kind_of scene to))))) }
-{
-    if known!(is_broken(scopes, around, to)) {
-        return Ask::Known(true);
-    }
-    if is_string(&operand) {
-        has_broken_part(scopes, around, to)
-    } else {
-        Ask::Known(false)
-    }
-}
-
 /// Whether nothing is said of a value for a variable of a type: one of them is in error.
 #[tactic(auto, using(type_rules::proofs::Reading::reading))]
 fn is_passed_over<S: Scopes>(
@@ -103,22 +74,16 @@ fn is_passed_over<S: Scopes>(
     ensures told { WhereTold (S.state scopes.old).frame (λ made.
         WhereKnown result (λ holds. holds ≡ spec_passed_over (scene_of (S.state scopes.old).frame made around.now) to operand)) }
 {
-    if matches!(operand, Operand::InError | Operand::NotConstant) {
+    if is_bad(operand) {
         return Ask::Known(true);
     }
-    is_type_passed_over(scopes, around, to, operand)
-}
-
-/// A string of one character for a variable with this base: for a CHAR it is one.
-fn taken_by_base(site: &Site, base: Place, operand: Operand) -> Operand
-    requires named { IsNamed site.now.texts.now.names operand }
-    ensures told { (source : Source) → source.spellings ≡ site.now.texts.now.names → result ≡ (if is_same_place base character then spec_char_or_same source operand else operand) }
-    ensures there { (f : Frame) → IsThere f character → IsOperand f operand → IsOperand f result }
-{
-    if base == CHARACTER {
-        char_of_string(site, operand)
+    if known!(is_broken(scopes, around, to)) {
+        return Ask::Known(true);
+    }
+    if is_string(&operand) {
+        has_broken_part(scopes, around, to)
     } else {
-        operand
+        Ask::Known(false)
     }
 }
 
@@ -138,7 +103,11 @@ fn taken_into<S: Scopes>(scopes: &mut S, site: &Site, to: Place, operand: Operan
         return Ask::Known(operand);
     }
     let base = known!(base_of(scopes, site.around, to));
-    Ask::Known(taken_by_base(site, base, operand))
+    if base == CHARACTER {
+        Ask::Known(char_of_string(site, operand))
+    } else {
+        Ask::Known(operand)
+    }
 }
 
 /// What a variable of a type takes, of what isn't passed over.
