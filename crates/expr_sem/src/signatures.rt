@@ -1,9 +1,8 @@
 //! The parameters and the result of a procedure type, and the cells of arguments.
-ghost use Rattle.std.specs.Prelude.{◌≡◌, ◌+◌, ◌==◌, [], None, if◌then◌else◌, IfOk, is_some, length, map};
-ghost use Rattle.std.specs.Option.{IfSome};
+ghost use Rattle.std.specs.Prelude.{◌≡◌, ◌+◌, ◌==◌, [], if◌then◌else◌, IfOk, is_some, length, map};
 ghost use Rattle.m2_base.specs.Asks.{IfKnown, IfWaits};
 ghost use Rattle.m2_base.specs.Lists.{Each};
-ghost use Rattle.m2_base.specs.States.{Frame, Waits};
+ghost use Rattle.m2_base.specs.States.{Waits};
 ghost use Rattle.expr_sem.specs.ArgumentCodes.{parameter_view};
 ghost use Rattle.expr_sem.specs.Calls.{cells_of_all as spec_cells, result_cells as spec_result};
 ghost use Rattle.expr_sem.specs.Signatures.{IsSignature, IsSignatureBy, IsSignatureOf};
@@ -96,18 +95,6 @@ pub fn signature_by<S: Scopes>(
     Ok(Ask::Known(Signature { params, result }))
 }
 
-/// No parameters and no result.
-fn no_signature(site: &Site) -> Signature
-    ensures params { map parameter_view result.params.items ≡ [] }
-    ensures none { result.result ≡ None }
-    ensures there { (f : Frame) → IsSignature f result }
-{
-    Signature {
-        params: no_parameters(site.texts),
-        result: None,
-    }
-}
-
 /// The parameters and the result of a procedure type. What is none has none.
 #[tactic(auto, using(type_rules::proofs::Reading::reading))]
 pub fn signature_of<S: Scopes>(
@@ -125,7 +112,10 @@ pub fn signature_of<S: Scopes>(
 {
     match form_of(scopes, site.around, of) {
         Ask::Known(Some(form)) => signature_by(scopes, site, form),
-        Ask::Known(None) => Ok(Ask::Known(no_signature(site))),
+        Ask::Known(None) => Ok(Ask::Known(Signature {
+            params: no_parameters(site.texts),
+            result: None,
+        })),
         Ask::DontKnowYet(head) => Ok(Ask::DontKnowYet(head)),
     }
 }

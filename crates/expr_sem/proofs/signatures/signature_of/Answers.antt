@@ -1,6 +1,8 @@
-use Rattle.std.proofs.Common.{◌∙◌, sym}
+use Rattle.std.proofs.Common.{◌∙◌, List, ap, sym, map}
 use Rattle.type_rules.specs.Scenes.{scene_of}
 use Rattle.m2_base.specs.Statics.Types.{kind_of, stands_for}
+use Rattle.expr_sem.specs.ArgumentCodes.{parameter_view}
+use Rattle.expr_sem.specs.declared.arguments.Parameter.{Parameter}
 use Rattle.expr_sem.proofs.CallCases.{no_parameters, no_result, signature_told}
 use Rattle.expr_sem.proofs.signatures.signature_of.Goals as goal
 
@@ -14,4 +16,7 @@ returns-in-Known-None-clause-told g c made in_hand told =
     let scene = scene_of (g.S.Scopes.state c.args.scopes.now).frame made c.args.site.now.around.now in
     let asked = c.in-Known-None in
     let none = sym asked.field-0-is ∙ asked.ensures.told made in_hand told in
-    record { params = c.no_signature.ensures.params ∙ no_parameters scene (stands_for scene c.args.of) (kind_of scene c.args.of) none; result = c.no_signature.ensures.none ∙ no_result (stands_for scene c.args.of) (kind_of scene c.args.of) none }
+    record {
+      params = ap (λ (l : List Parameter). map parameter_view l) c.no_parameters.ensures ∙ no_parameters scene (stands_for scene c.args.of) (kind_of scene c.args.of) none;
+      result = no_result (stands_for scene c.args.of) (kind_of scene c.args.of) none;
+    }
