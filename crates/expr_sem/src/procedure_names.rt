@@ -1,5 +1,5 @@
 //! Which procedure the code names where a procedure is called or is a value.
-ghost use Rattle.std.specs.Prelude.{◌≡◌, ◌≢◌, [], ◌∷◌, List, None, option_map};
+ghost use Rattle.std.specs.Prelude.{◌≡◌, ◌≢◌, None, option_map};
 ghost use Rattle.std.specs.Option.{IfSome};
 ghost use Rattle.m2_base.specs.Asks.{IfKnown, IfWaits};
 ghost use Rattle.m2_base.specs.Gives.{gives};
@@ -7,10 +7,8 @@ ghost use Rattle.m2_base.specs.States.{Frame, Waits};
 ghost use Rattle.m2_base.specs.Rows.{HasSmallNumbers, row_meaning};
 ghost use Rattle.m2_base.specs.Statics.Lookup.{entry_in};
 ghost use Rattle.m2_base.specs.declared.notes.Notes.{Notes};
-ghost use Rattle.m2_base.specs.declared.rows.Row.{Row as RowOf};
 ghost use Rattle.expr_sem.specs.Codings.{Coding, IsFragment};
 ghost use Rattle.expr_sem.specs.Fragments.{part};
-ghost use Rattle.expr_sem.specs.Parts.{plain};
 ghost use Rattle.expr_sem.specs.ProcedureNames.{import_number as spec_import_number, import_of_target as spec_import, is_foreign as spec_foreign, is_own as spec_own, is_own_definition as spec_own_definition, procedure_code as spec_code, target_by as spec_by, target_of_entry as spec_of_entry, target_of_procedure as spec_target};
 ghost use Rattle.expr_sem.specs.Targets.{target_view};
 ghost use Rattle.type_rules.specs.Asks.{Reads, WhereKnown, WhereWaiting};
@@ -161,16 +159,6 @@ pub fn target_of_procedure<S: Scopes>(
     Ok(own_target(scopes, site, name))
 }
 
-/// The instruction for a procedure value.
-fn instr_of_target(around: &Around, target: Option<Target>) -> Instr
-    ensures { (tables : List (List RowOf)) → plain (result ∷ []) ≡ spec_code (record { block = block_of around.now; tables = tables }) (option_map target_view target) }
-{
-    match target {
-        Some(target) => Instr::Proc(import_of_target(around, target), target.number),
-        None => Instr::Proc(0, 0),
-    }
-}
-
 /// The code of a procedure as a value. Where the module lacks the procedure, its definition isn't implemented, which is
 /// refused elsewhere.
 pub fn procedure_code<S: Scopes>(
@@ -186,6 +174,11 @@ pub fn procedure_code<S: Scopes>(
         fragments.old.nodes.items fragments.new.nodes.items site.now result IsFragment part
         (λ c. gives (spec_code c.scene (spec_target c.scene name named.of named.number))) }
 {
-    let target = analysed!(target_of_procedure(scopes, site, name, named));
-    answered(fragments.one(instr_of_target(site.around, target)))
+    match analysed!(target_of_procedure(scopes, site, name, named)) {
+        Some(target) => {
+            let import = import_of_target(site.around, target);
+            answered(fragments.one(Instr::Proc(import, target.number)))
+        }
+        None => answered(fragments.one(Instr::Proc(0, 0))),
+    }
 }
