@@ -1,19 +1,13 @@
 //! Where a variable is.
-ghost use Rattle.std.specs.Prelude.{◌≡◌, ◌+◌, ◌∷◌, []};
+ghost use Rattle.std.specs.Prelude.{◌≡◌};
 ghost use Rattle.std.specs.Option.{IfSome};
 ghost use Rattle.m2_base.specs.Gives.{gives};
 ghost use Rattle.m2_base.specs.States.{State};
 ghost use Rattle.m2_base.specs.declared.notes.Notes.{Notes};
-ghost use Rattle.m2_base.specs.declared.operands.Operand.TheVariants.{Variable};
-ghost use Rattle.m2_base.specs.declared.rows.Mode.TheVariants.{Open};
-ghost use Rattle.m2_base.specs.declared.rows.RowMeaning.TheVariants.{Var};
-ghost use Rattle.m2_base.specs.declared.sites.Site.{Site as SiteOf};
-ghost use Rattle.code_form.specs.declared.instr.Instr.TheVariants.{Load};
-ghost use Rattle.type_rules.specs.Scenes.{IsRowOf, IsThere, block_of};
+ghost use Rattle.type_rules.specs.Scenes.{IsRowOf, block_of};
 ghost use Rattle.type_rules.specs.Sites.{SuitsSite};
 ghost use Rattle.const_eval.specs.Sites.{IsOperand};
 ghost use Rattle.expr_sem.specs.Codings.{Coding, IsCoded, coded_in};
-ghost use Rattle.expr_sem.specs.Parts.{plain};
 ghost use Rattle.expr_sem.specs.Variables.{cell_instr as spec_cell, entry_coded as spec_entry, links_out as spec_links, with_address as spec_with};
 
 use crate::addressed::{open_at, variable_at};
@@ -46,69 +40,6 @@ pub fn cell_instr(around: &Around, scope: u32, offset: u32) -> Instr
     Instr::Local(links_out(around, scope), offset)
 }
 
-/// The offset of the next cell; none where there is no further one.
-fn next_cell(offset: u32) -> Option<u32>
-    ensures { IfSome result (λ next. next ≡ offset + 1) }
-{
-    offset.checked_add(1)
-}
-
-/// An open array of this type, by its two cells: the first has its address, and the second the number of its elements less 1.
-fn open_cells(
-    of: Place,
-    first: Instr,
-    second: Instr,
-    fragments: &mut Fragments,
-) -> Result<Ask<Coded>, Memory>
-    ensures { (state : State) (notes : Notes) (s : SiteOf) → IsThere state.frame of → Coding state state notes notes fragments.old.nodes.items fragments.new.nodes.items s result IsCoded coded_in (λ c. gives (record { operand = Variable of; code = plain (first ∷ Load ∷ []); high = plain (second ∷ Load ∷ []) })) }
-{
-    let high = pair(second, Instr::Load, fragments)?;
-    open_at(of, high, pair(first, Instr::Load, fragments))
-}
-
-/// An open array, by the offset of its first cell: that has its address, and the next one the number of its elements less 1.
-fn open_array(
-    site: &Site,
-    scope: u32,
-    offset: u32,
-    of: Place,
-    fragments: &mut Fragments,
-) -> Result<Ask<Coded>, Memory>
-    ensures { (state : State) (notes : Notes) (t : Place) → IsThere state.frame of → Coding state state notes notes fragments.old.nodes.items fragments.new.nodes.items site.now result IsCoded coded_in (λ c. gives (spec_with c.scene.block scope (Var t Open offset) (Variable of))) }
-{
-    match next_cell(offset) {
-        Some(next) => {
-            let first = cell_instr(site.around, scope, offset);
-            let second = cell_instr(site.around, scope, next);
-            open_cells(of, first, second, fragments)
-        }
-        None => Err(Memory),
-    }
-}
-
-/// A variable of this type, with the address that the row's meaning tells of, if it does.
-fn variable_by(
-    site: &Site,
-    scope: u32,
-    meaning: RowMeaning,
-    of: Place,
-    fragments: &mut Fragments,
-) -> Result<Ask<Coded>, Memory>
-    ensures { (state : State) (notes : Notes) → IsThere state.frame of
-        → Coding state state notes notes fragments.old.nodes.items fragments.new.nodes.items site.now result
-        IsCoded coded_in (λ c. gives (spec_with c.scene.block scope meaning (Variable of))) }
-{
-    let RowMeaning::Var(_, mode, offset) = meaning else {
-        return Ok(Ask::Known(Coded::bare(Operand::Variable(of))));
-    };
-    let cell = cell_instr(site.around, scope, offset);
-    match mode {
-        Mode::Plain => variable_at(of, fragments.one(cell)),
-        Mode::ByAddress => variable_at(of, pair(cell, Instr::Load, fragments)),
-        Mode::Open => open_array(site, scope, offset, of, fragments),
-    }
-}
-
 /// An operand with the address of the variable that the row's meaning tells of. What is no variable has none, nor has a
 /// variable in error.
 fn with_address(
@@ -120,9 +51,24 @@ fn with_address(
 ) -> Result<Ask<Coded>, Memory>
     ensures { (state : State) (notes : Notes) → IsOperand state.frame operand → Coding state state notes notes fragments.old.nodes.items fragments.new.nodes.items site.now result IsCoded coded_in (λ c. gives (spec_with c.scene.block scope meaning operand)) }
 {
-    match operand {
-        Operand::Variable(of) => variable_by(site, scope, meaning, of, fragments),
-        _ => Ok(Ask::Known(Coded::bare(operand))),
+    let Operand::Variable(of) = operand else {
+        return Ok(Ask::Known(Coded::bare(operand)));
+    };
+    let RowMeaning::Var(_, mode, offset) = meaning else {
+        return Ok(Ask::Known(Coded::bare(operand)));
+    };
+    let cell = cell_instr(site.around, scope, offset);
+    match mode {
+        Mode::Plain => variable_at(of, fragments.one(cell)),
+        Mode::ByAddress => variable_at(of, pair(cell, Instr::Load, fragments)),
+        Mode::Open => {
+            let Some(next) = offset.checked_add(1) else {
+                return Err(Memory);
+            };
+            let second = cell_instr(site.around, scope, next);
+            let high = pair(second, Instr::Load, fragments)?;
+            open_at(of, high, pair(cell, Instr::Load, fragments))
+        }
     }
 }
 

@@ -1,16 +1,69 @@
-use Rattle.std.proofs.Common.{◌∙◌, ap, sym}
-use Rattle.m2_base.specs.Gives.{gives}
+use Rattle.std.proofs.Common.{◌∙◌, ◌∷◌, [], ap, sym}
+use Rattle.m2_base.specs.Gives.{Gives, gives}
+use Rattle.m2_base.specs.declared.operands.Operand.TheVariants.{Variable}
+use Rattle.m2_base.specs.declared.rows.RowMeaning.TheVariants.{Var}
+use Rattle.code_form.specs.declared.instr.Instr.{Instr}
+use Rattle.code_form.specs.declared.instr.Instr.TheVariants.{Load}
+use Rattle.type_rules.proofs.Reading.{Reads-refl}
+use Rattle.type_rules.specs.Scenes.{block_of}
+use Rattle.expr_sem.specs.Coded.{Coded, coded}
 use Rattle.expr_sem.specs.Codings.{IsCoded, coded_in}
-use Rattle.expr_sem.specs.Variables.{with_address}
-use Rattle.expr_sem.proofs.Operating.{described, value_alone}
-use Rattle.expr_sem.proofs.Selecting.{with_other}
+use Rattle.expr_sem.specs.Parts.{plain}
+use Rattle.expr_sem.specs.Variables.{cell_instr, with_address}
+use Rattle.expr_sem.proofs.Making.{question_failed}
+use Rattle.expr_sem.proofs.Operating.{described_there, value_alone}
+use Rattle.expr_sem.proofs.Selecting.{coding_full, with_no_var, with_other}
 use Rattle.expr_sem.proofs.variables.with_address.Goals as goal
-
-pub returns-in-Variable : goal.returns-in-Variable
-returns-in-Variable c state notes there =
-    described c.variable_by.result (c.variable_by.ensures state notes (rw c.in-Variable.is at there)) (λ k. ap (λ o. gives (with_address k.scene.block c.args.scope c.args.meaning o)) (sym c.in-Variable.is))
 
 pub returns-in_default : goal.returns-in_default
 returns-in_default c state notes there =
     value_alone state notes _ _ c.bare.result IsCoded coded_in (λ k. with_address k.scene.block c.args.scope c.args.meaning c.args.operand) (c.bare.ensures.there state.frame c.args.fragments.now.nodes.items there)
     (λ k. c.bare.ensures.told c.args.fragments.now.nodes.items ∙ with_other k.scene.block c.args.scope c.args.meaning c.args.operand c.in_default.not-Variable)
+
+pub returns-in_default-meaning : goal.returns-in_default-meaning
+returns-in_default-meaning c state notes there =
+    value_alone state notes _ _ c.bare-in_default-meaning.result IsCoded coded_in (λ k. with_address k.scene.block c.args.scope c.args.meaning c.args.operand) (c.bare-in_default-meaning.ensures.there state.frame c.args.fragments.now.nodes.items (rw c.in-Variable.is at there))
+    (λ k. c.bare-in_default-meaning.ensures.told c.args.fragments.now.nodes.items ∙ with_no_var k.scene.block c.args.scope c.args.meaning c.in-Variable.of c.in_default-meaning.not-Var
+    ∙ ap (λ o. with_address k.scene.block c.args.scope c.args.meaning o) (sym c.in-Variable.is))
+
+pub returns-in-Plain : goal.returns-in-Plain
+returns-in-Plain c state notes there =
+    let b = block_of c.args.site.now.around.now in
+    let t = c.in-Var.field-0 in
+    let u = c.in-Variable.of in
+    described_there c.variable_at.result (c.variable_at.ensures state notes c.args.site.now _ _ _ (rw c.in-Variable.is at there) c.one.ensures.made)
+    (λ made. ap (λ i. gives (coded (Variable u) (plain (i ∷ [])))) c.cell_instr-cell.ensures
+    ∙ ap (λ m. gives (with_address b c.args.scope (Var t m c.in-Var.offset) (Variable u))) (sym c.in-Plain.is)
+    ∙ ap (λ m. gives (with_address b c.args.scope m (Variable u))) (sym c.in-Var.is)
+    ∙ ap (λ o. gives (with_address b c.args.scope c.args.meaning o)) (sym c.in-Variable.is))
+
+pub returns-in-ByAddress : goal.returns-in-ByAddress
+returns-in-ByAddress c state notes there =
+    let b = block_of c.args.site.now.around.now in
+    let t = c.in-Var.field-0 in
+    let u = c.in-Variable.of in
+    described_there c.variable_at-in-ByAddress.result (c.variable_at-in-ByAddress.ensures state notes c.args.site.now _ _ _ (rw c.in-Variable.is at there) c.pair.ensures)
+    (λ made. ap (λ i. gives (coded (Variable u) (plain (i ∷ Load ∷ [])))) c.cell_instr-cell.ensures
+    ∙ ap (λ m. gives (with_address b c.args.scope (Var t m c.in-Var.offset) (Variable u))) (sym c.in-ByAddress.is)
+    ∙ ap (λ m. gives (with_address b c.args.scope m (Variable u))) (sym c.in-Var.is)
+    ∙ ap (λ o. gives (with_address b c.args.scope c.args.meaning o)) (sym c.in-Variable.is))
+
+pub returns-in_default-checked_add : goal.returns-in_default-checked_add
+returns-in_default-checked_add c state notes there = question_failed notes _ (Reads-refl state) _
+
+pub returns-in_err-high-in-Open : goal.returns-in_err-high-in-Open
+returns-in_err-high-in-Open c state notes there = coding_full state notes c.args.site.now c.from_residual.result c.from_residual.ensures.0 c.in_err-high-in-Open.ensures
+
+pub returns-in_ok-high-in-Open : goal.returns-in_ok-high-in-Open
+returns-in_ok-high-in-Open c state notes there =
+    let b = block_of c.args.site.now.around.now in
+    let t = c.in-Var.field-0 in
+    let u = c.in-Variable.of in
+    let h = c.in_ok-high-in-Open.ensures in
+    let cells : Instr → Instr → Gives Coded = (λ i j. gives (record { operand = Variable u; code = plain (i ∷ Load ∷ []); high = plain (j ∷ Load ∷ []) })) in
+    described_there c.open_at.result (c.open_at.ensures state notes c.args.site.now _ _ _ _ _ (rw c.in-Variable.is at there) h.grows h.made c.pair-in-Open-2.ensures)
+    (λ made. ap (λ i. cells i c.cell_instr-second.result) c.cell_instr-cell.ensures
+    ∙ ap (λ i. cells (cell_instr b c.args.scope c.in-Var.offset) i) (c.cell_instr-second.ensures ∙ ap (λ o. cell_instr b c.args.scope o) c.in-Some.ensures.1)
+    ∙ ap (λ m. gives (with_address b c.args.scope (Var t m c.in-Var.offset) (Variable u))) (sym c.in-Open.is)
+    ∙ ap (λ m. gives (with_address b c.args.scope m (Variable u))) (sym c.in-Var.is)
+    ∙ ap (λ o. gives (with_address b c.args.scope c.args.meaning o)) (sym c.in-Variable.is))
