@@ -1,24 +1,19 @@
 //! Names where a designator begins, and names behind a point.
-ghost use Rattle.std.specs.Prelude.{◌≡◌, ◌≢◌, ◌<◌, if◌then◌else◌};
+ghost use Rattle.std.specs.Prelude.{◌≡◌, ◌≢◌, ◌<◌};
 ghost use Rattle.std.specs.Option.{IfSome};
 ghost use Rattle.m2_base.specs.Gives.{and_then, gives};
 ghost use Rattle.m2_base.specs.Lists.{Each};
 ghost use Rattle.m2_base.specs.Rows.{row_meaning};
 ghost use Rattle.m2_base.specs.States.{Waits, fills_of};
-ghost use Rattle.m2_base.specs.Statics.TypeParts.{field_of as spec_field_of};
-ghost use Rattle.m2_base.specs.Statics.Types.{is_broken as spec_broken, kind_of};
+ghost use Rattle.m2_base.specs.Statics.Types.{kind_of};
 ghost use Rattle.m2_base.specs.Statics.Uses.{use_of};
-ghost use Rattle.m2_base.specs.declared.notes.Notes.{Notes as NotesOf};
-ghost use Rattle.m2_base.specs.declared.operands.Operand.TheVariants.{Variable};
 ghost use Rattle.type_rules.specs.Asks.{Reads, WhereKnown, WhereWaiting};
 ghost use Rattle.type_rules.specs.Scenes.{IsThere, Suits, WhereTold, scene_of};
-ghost use Rattle.type_rules.specs.Sites.{SuitsSite};
 ghost use Rattle.expr_sem.specs.Coders.{Codes, Keeps, SeesWiths, SuitsPlace, frame_of, nodes_of};
-ghost use Rattle.expr_sem.specs.Coded.{coded, in_error as spec_in_error};
-ghost use Rattle.expr_sem.specs.Codings.{Coding, IsCoded, coded_in, with_types};
+ghost use Rattle.expr_sem.specs.Codings.{IsCoded, coded_in, with_types};
 ghost use Rattle.expr_sem.specs.Fragments.{IsIn, IsMade, part};
-ghost use Rattle.expr_sem.specs.Parts.{◌⨟◌, with_record as spec_record};
-ghost use Rattle.expr_sem.specs.RecordFields.{field_coded as spec_field_coded, found_field as spec_found, name_coded as spec_name, of_record as spec_of_record, offset_code as spec_offset, select_field as spec_field};
+ghost use Rattle.expr_sem.specs.Parts.{◌⨟◌};
+ghost use Rattle.expr_sem.specs.RecordFields.{field_coded as spec_field_coded, name_coded as spec_name, of_record as spec_of_record, offset_code as spec_offset, select_field as spec_field};
 ghost use Rattle.expr_sem.specs.Selections.{IsField, with_number as spec_number};
 ghost use Rattle.expr_sem.specs.Variables.{entry_coded as spec_entry};
 
@@ -32,45 +27,23 @@ use crate::variables::entry_coded;
 use code_form::Instr;
 use const_eval::is_broken;
 use m2_base::{
-    Around, Ask, Diagnostic, Ident, Memory, Notes, Operand, Place, Row, RowMeaning, Scopes, Site,
-    read_row,
+    Around, Ask, Diagnostic, Ident, Memory, Operand, Place, Row, RowMeaning, Scopes, read_row,
 };
 use type_rules::{field_of, stand, use_name};
 
-/// The code of so many cells behind an address; an offset of 0 is left out.
-fn offset_code(offset: u32, fragments: &mut Fragments) -> Result<Fragment, Memory>
-    ensures { IsMade fragments.old.nodes.items fragments.new.nodes.items result (spec_offset offset) }
-{
-    if offset == 0 {
-        return Ok(Fragment::Nothing);
-    }
-    fragments.one(Instr::Offset(offset))
-}
-
-/// The address of so many cells behind the one that this code gives.
+/// The address of so many cells behind the one that this code gives; an offset of 0 is left out.
 fn code_behind(code: Fragment, offset: u32, fragments: &mut Fragments) -> Result<Fragment, Memory>
     requires there { IsIn fragments.old.nodes.items code }
     ensures { IsMade fragments.old.nodes.items fragments.new.nodes.items result (part fragments.old.nodes.items code ⨟ spec_offset offset) }
 {
-    let behind = offset_code(offset, fragments)?;
+    if offset == 0 {
+        return fragments.then(code, Fragment::Nothing);
+    }
+    let behind = fragments.one(Instr::Offset(offset))?;
     fragments.then(code, behind)
 }
 
 impl<S: Scopes> Coder<'_, '_, S> {
-    /// A field of this type and offset, in the record whose address this code gives; in error where the type is.
-    fn field_at(&mut self, of: Place, offset: u32, code: Fragment) -> Result<Ask<Coded>, Memory>
-        requires suits { SuitsPlace S.state self.old }
-        requires of { IsThere (frame_of S.state self.old) of }
-        requires code { IsIn (nodes_of self.old) code }
-        ensures keeps { Keeps self.old self.new }
-        ensures codes { Codes S.state self.old self.new result IsCoded coded_in (λ c. gives (if spec_broken c.scene of then spec_in_error else coded (Variable of) (part (nodes_of self.old) code ⨟ spec_offset offset))) }
-    {
-        if asked!(is_broken(self.scopes, self.site.around, of)) {
-            return Ok(Ask::Known(Coded::in_error()));
-        }
-        variable_at(of, code_behind(code, offset, self.fragments))
-    }
-
     /// The field of this row, in the record whose address this code gives.
     fn field_coded(&mut self, field: Row, code: Fragment) -> Result<Ask<Coded>, Memory>
         requires suits { SuitsPlace S.state self.old }
@@ -79,10 +52,13 @@ impl<S: Scopes> Coder<'_, '_, S> {
         ensures keeps { Keeps self.old self.new }
         ensures codes { Codes S.state self.old self.new result IsCoded coded_in (λ c. gives (spec_field_coded c.scene (part (nodes_of self.old) code) field)) }
     {
-        match read_row(&field) {
-            RowMeaning::Field(of, offset, _, _) => self.field_at(of, offset, code),
-            _ => Ok(Ask::Known(Coded::in_error())),
+        let RowMeaning::Field(of, offset, _, _) = read_row(&field) else {
+            return Ok(Ask::Known(Coded::in_error()));
+        };
+        if asked!(is_broken(self.scopes, self.site.around, of)) {
+            return Ok(Ask::Known(Coded::in_error()));
         }
+        variable_at(of, code_behind(code, offset, self.fragments))
     }
 }
 
@@ -109,42 +85,6 @@ pub fn field_of_withs<S: Scopes>(
         }
     }
     Ask::Known(None)
-}
-
-/// A number, where it has 32 bits.
-fn small_number(number: usize) -> Option<u32>
-    ensures { IfSome result (λ small. small ≡ number) }
-{
-    u32::try_from(number).ok()
-}
-
-impl<S: Scopes> Coder<'_, '_, S> {
-    /// The field of this row, in the record of the open WITH of this number.
-    fn field_of_record(&mut self, number: u32, field: Row) -> Result<Ask<Coded>, Memory>
-        requires suits { SuitsPlace S.state self.old }
-        requires field { IsField (frame_of S.state self.old) (row_meaning field) }
-        ensures keeps { Keeps self.old self.new }
-        ensures codes { Codes S.state self.old self.new result IsCoded coded_in (λ c. gives (spec_field_coded c.scene (spec_record number) field)) }
-    {
-        match self.fragments.with_record(number) {
-            Ok(record) => self.field_coded(field, record),
-            Err(memory) => Err(memory),
-        }
-    }
-
-    /// The field of this row, in the record of the open WITH of this number, which has no more than 32 bits: else the error is
-    /// that memory is wanted, which comes about in no module.
-    fn field_of_with(&mut self, number: usize, field: Row) -> Result<Ask<Coded>, Memory>
-        requires suits { SuitsPlace S.state self.old }
-        requires field { IsField (frame_of S.state self.old) (row_meaning field) }
-        ensures keeps { Keeps self.old self.new }
-        ensures codes { Codes S.state self.old self.new result IsCoded coded_in (λ c. gives (spec_field_coded c.scene (spec_record number) field)) }
-    {
-        match small_number(number) {
-            Some(small) => self.field_of_record(small, field),
-            None => Err(Memory),
-        }
-    }
 }
 
 impl<S: Scopes> Coder<'_, '_, S> {
@@ -176,26 +116,20 @@ impl<S: Scopes> Coder<'_, '_, S> {
         ensures codes { Codes S.state self.old self.new result IsCoded coded_in (λ c. spec_name c (with_types self.old.withs.now) ident) }
     {
         match asked!(field_of_withs(self.scopes, self.site.around, self.withs, ident.name)) {
-            Some(found) => self.field_of_with(found.0, found.1),
+            Some((number, field)) => {
+                let Ok(number) = u32::try_from(number) else {
+                    return Err(Memory);
+                };
+                match self.fragments.with_record(number) {
+                    Ok(record) => self.field_coded(field, record),
+                    Err(memory) => Err(memory),
+                }
+            }
             None => self.name_used(None, ident),
         }
     }
 
-    /// The field of a name in a record of this type, whose address this code gives.
-    fn found_field(&mut self, of: Place, ident: Ident, code: Fragment) -> Result<Ask<Coded>, Memory>
-        requires suits { SuitsPlace S.state self.old }
-        requires of { IsThere (frame_of S.state self.old) of }
-        requires code { IsIn (nodes_of self.old) code }
-        ensures keeps { Keeps self.old self.new }
-        ensures codes { Codes S.state self.old self.new result IsCoded coded_in (λ c. spec_found c (part (nodes_of self.old) code) ident (spec_field_of c.scene of ident.name)) }
-    {
-        match asked!(field_of(self.scopes, self.site.around, of, ident.name)) {
-            Some(field) => self.field_coded(field, code),
-            None => refused(self.site, ident.at, Diagnostic::NoSuchField, self.notes),
-        }
-    }
-
-    /// The field of a variable of this type, whose address this code gives.
+    /// The field of a name in a variable of this type, whose address this code gives.
     fn of_record(
         &mut self,
         at: u32,
@@ -210,9 +144,12 @@ impl<S: Scopes> Coder<'_, '_, S> {
         ensures codes { Codes S.state self.old self.new result IsCoded coded_in (λ c. spec_of_record c at (part (nodes_of self.old) code) ident of (kind_of c.scene of)) }
     {
         let (_, meaning) = asked!(stand(self.scopes, self.site.around, of));
-        match meaning {
-            RowMeaning::Record(..) => self.found_field(of, ident, code),
-            _ => refused(self.site, at, Diagnostic::NotARecord, self.notes),
+        let RowMeaning::Record(..) = meaning else {
+            return refused(self.site, at, Diagnostic::NotARecord, self.notes);
+        };
+        match asked!(field_of(self.scopes, self.site.around, of, ident.name)) {
+            Some(field) => self.field_coded(field, code),
+            None => refused(self.site, ident.at, Diagnostic::NoSuchField, self.notes),
         }
     }
 
