@@ -24,7 +24,7 @@ use crate::flows::{Arm, Code, Flow, Flows};
 use crate::simple_statements::{exit_statement, no_case_else};
 use crate::stands::Stand;
 use crate::walker::Walker;
-use case_labels::{Covered, case_labels};
+use case_labels::{Coverage, Covered, case_labels};
 use const_eval::is_bad;
 use expr_sem::Coded;
 use m2_base::{
@@ -226,13 +226,11 @@ impl<S: Scopes> Walker<'_, S> {
         ensures keeps { Keeps self.old self.new }
         ensures walks { Walks S.state self.old self.new stand.now result IsCase case_in (λ s. case_flow s of covered (case_arm_view arm.now)) }
     {
-        let alloc = *self.flows.nodes.allocator();
+        let coverage = Coverage { of, covered };
         let labels = analysed!(case_labels(
-            alloc,
             self.scopes,
             stand.site,
-            of,
-            covered,
+            coverage,
             &arm.labels,
             self.notes
         ));
